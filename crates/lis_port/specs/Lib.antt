@@ -1,0 +1,2 @@
+-- What a read gives and a write takes.
+pub mod Port

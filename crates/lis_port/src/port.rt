@@ -1,0 +1,67 @@
+//! The two ports: a source of bytes and a sink for bytes.
+
+ghost use Rattle.std.specs.Prelude.{◌≡◌, ℕ, ◌+◌, ◌<◌, ◌≤◌, ◌==◌, ◌↔◌, Bool, List, Option, IfOk, is_err, length, IsTrue};
+ghost use Rattle.std.specs.Io.KnownBytes.{ReadConsumes, WriteAppends};
+
+/// A read or a write that failed. Nothing is tried again.
+#[derive(Debug, Clone, Copy, PartialEq, Eq)]
+pub struct Failed;
+
+/// Gives bytes in order.
+pub trait Source {
+    // The bytes that reads will give from here on, where they are known.
+    ghost left: { Self → Option (List ℕ) };
+
+    // The calls of `read` so far.
+    ghost made: { Self → ℕ };
+
+    // Whether the last call of `read` failed, and whether it told the end; both false before the first.
+    ghost failed: { Self → Bool };
+
+    ghost ended: { Self → Bool };
+
+    /// Fills the front of `buffer` and answers how many bytes it gave; 0 is the end.
+    /// Where it failed no byte is lost.
+    fn read(&mut self, buffer: &mut [u8]) -> Result<usize, Failed>
+        requires room { 0 < length buffer.old }
+        requires countable { made self.old < 4294967295 }
+        ensures bound { IfOk result (λ n. n ≤ length buffer.new) }
+        ensures bytes { ReadConsumes (left self.old) (left self.new) result buffer.new }
+        ensures made { made self.new ≡ made self.old + 1 }
+        ensures failed { failed self.new ≡ is_err result }
+        ensures ended { IsTrue (ended self.new) ↔ (result ≡ Ok 0) };
+
+    /// The calls of `read` so far.
+    fn made(&self) -> u32
+        ensures { result ≡ made self.now };
+
+    /// Whether the last call of `read` failed.
+    fn failed(&self) -> bool
+        ensures { result ≡ failed self.now };
+
+    /// Whether the last call of `read` told the end.
+    fn ended(&self) -> bool
+        ensures { result ≡ ended self.now };
+}
+
+/// Takes bytes in order.
+pub trait Sink {
+    // The bytes that it has taken, where they are known.
+    ghost taken: { Self → Option (List ℕ) };
+
+    // Whether the last call of `write` failed; false before the first.
+    ghost failed: { Self → Bool };
+
+    /// Takes bytes from the front of `bytes` and answers how many, at least one.
+    /// Where it failed it took none.
+    fn write(&mut self, bytes: &[u8]) -> Result<usize, Failed>
+        requires { 0 < length bytes.now }
+        ensures some { IfOk result (λ n. 0 < n) }
+        ensures bound { IfOk result (λ n. n ≤ length bytes.now) }
+        ensures bytes { WriteAppends (taken self.old) (taken self.new) result bytes.now }
+        ensures failed { failed self.new ≡ is_err result };
+
+    /// Whether the last call of `write` failed.
+    fn failed(&self) -> bool
+        ensures { result ≡ failed self.now };
+}

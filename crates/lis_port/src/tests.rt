@@ -1,0 +1,78 @@
+use super::*;
+use std::test::Fail;
+
+const HEADER_FRAME: [u8; 13] = [
+    0x02, 0x31, 0x48, 0x7c, 0x5c, 0x5e, 0x26, 0x0d, 0x03, 0x45, 0x35, 0x0d, 0x0a,
+];
+
+#[test]
+fn a_cut_source_gives_its_steps_and_then_the_end(rt: HostRuntime) -> Result<(), Fail> {
+    let mut source = Cut::new(&HEADER_FRAME, 5, Then::End);
+    let mut buffer = [0; 8];
+    assert_eq!(rt; source.made(), 0);
+    assert!(rt; !source.ended());
+    assert_eq!(rt; source.read(&mut buffer), Ok(5));
+    assert_eq!(rt; buffer, [0x02, 0x31, 0x48, 0x7c, 0x5c, 0, 0, 0]);
+    assert_eq!(rt; source.read(&mut buffer), Ok(5));
+    assert_eq!(rt; source.read(&mut buffer), Ok(3));
+    assert_eq!(rt; source.read(&mut buffer), Ok(0));
+    assert!(rt; source.ended());
+    assert!(rt; !source.failed());
+    assert_eq!(rt; source.made(), 4);
+    Ok(())
+}
+
+#[test]
+fn a_cut_source_fails_or_goes_on_behind_its_bytes(rt: HostRuntime) -> Result<(), Fail> {
+    let mut buffer = [0; 8];
+    let mut failing = Cut::new(b"ab", 5, Then::Fail);
+    assert_eq!(rt; failing.read(&mut buffer), Ok(2));
+    assert_eq!(rt; failing.read(&mut buffer), Err(Failed));
+    assert!(rt; failing.failed());
+    assert!(rt; !failing.ended());
+    let mut again = Cut::new(b"", 5, Then::Again(5));
+    assert_eq!(rt; again.read(&mut buffer), Ok(1));
+    assert_eq!(rt; again.read(&mut buffer), Ok(1));
+    assert_eq!(rt; buffer[0], 5);
+    Ok(())
+}
+
+#[test]
+fn a_slow_sink_takes_its_steps_and_then_fails(rt: HostRuntime) -> Result<(), Fail> {
+    let mut sink = Slow::new(2, 1);
+    assert_eq!(rt; sink.write(b"abc"), Ok(1));
+    assert!(rt; !sink.failed());
+    assert_eq!(rt; sink.write(b"abc"), Ok(1));
+    assert_eq!(rt; sink.write(b"abc"), Err(Failed));
+    assert!(rt; sink.failed());
+    assert_eq!(rt; sink.took(), b"aa".as_slice());
+    Ok(())
+}
+
+#[test]
+fn a_reader_and_a_writer_serve_as_ports(rt: HostRuntime) -> Result<(), Fail> {
+    let mut source = Reading::new(HEADER_FRAME.as_slice());
+    let mut buffer = [0; 8];
+    assert_eq!(rt; source.read(&mut buffer), Ok(8));
+    assert!(rt; !source.ended());
+    assert_eq!(rt; source.made(), 1);
+    assert_eq!(rt;
+        source.into_inner(),
+        [0x03, 0x45, 0x35, 0x0d, 0x0a].as_slice()
+    );
+    let mut nothing = Reading::new(b"".as_slice());
+    assert_eq!(rt; nothing.read(&mut buffer), Ok(0));
+    assert!(rt; nothing.ended());
+    assert!(rt; !nothing.failed());
+
+    let mut sink = Writing::new(Vec::new(rt.alloc()));
+    assert_eq!(rt; sink.write(b"abc"), Ok(3));
+    assert!(rt; !sink.failed());
+    assert_eq!(rt; sink.into_inner().as_slice(), b"abc".as_slice());
+    let mut full_buffer = [0; 2];
+    let mut full = Writing::new(full_buffer.as_mut_slice());
+    assert_eq!(rt; full.write(b"abc"), Ok(2));
+    assert_eq!(rt; full.write(b"c"), Err(Failed));
+    assert!(rt; full.failed());
+    Ok(())
+}
