@@ -1,5 +1,5 @@
 -- A frame: its parts, its checksum and its spelling (LIS01-A2, 6.3).
-use Rattle.std.specs.Prelude.{◌≡◌, ℕ, ◌+◌, ◌*◌, ◌-◌, ◌%◌, ◌≤◌, Bool, List, [], ◌∷◌, ◌++◌, Option, None, Some, if◌then◌else◌, nat_le, ◌&&◌, sum}
+use Rattle.std.specs.Prelude.{◌≡◌, ℕ, ◌+◌, ◌*◌, ◌-◌, ◌/◌, ◌%◌, ◌≤◌, Bool, List, [], ◌∷◌, ◌++◌, Option, None, Some, if◌then◌else◌, nat_lt, nat_le, ◌&&◌, sum}
 use Rattle.lis_frame.specs.declared.control.TheConstants.{STX, ETX, ETB, CR, LF}
 use Rattle.lis_frame.specs.Text.{IsText}
 
@@ -54,3 +54,10 @@ pub record IsFrame (limit : ℕ) (bytes : List ℕ) (frame : FrameContent) : Typ
   pub low : ℕ
   pub digits : IsDigits high low (checksum frame)
   pub spelling : bytes ≡ spelled frame high low
+
+-- the bytes of a frame as they are written: its digits in upper case
+abbrev pub upper_digit : ℕ → ℕ
+upper_digit n = if nat_lt n 10 then 48 + n else 55 + n
+
+unfoldable pub frame_bytes : FrameContent → List ℕ
+frame_bytes frame = spelled frame (upper_digit (checksum frame / 16)) (upper_digit (checksum frame % 16))

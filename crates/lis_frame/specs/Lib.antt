@@ -4,4 +4,7 @@ pub mod Text
 pub mod Frame
 pub mod Stretch
 pub mod Stream
+pub mod Scanner
+pub mod Kept
 pub mod Pieces
+pub mod Laws

@@ -21,3 +21,8 @@ pub record IsText (limit : ℕ) (bytes : List ℕ) : Type 0 where
 -- what is wrong with a text: its length is told before a byte of it
 abbrev pub text_fault : ℕ → List ℕ → Option TextFault
 text_fault limit bytes = if nat_lt limit (length bytes) then Some TooLong else option_map Forbidden (first_forbidden bytes)
+
+-- the same with one more byte at this place
+abbrev pub first_place : Option ℕ → ℕ → ℕ → Option ℕ
+first_place None byte place = if is_forbidden byte then Some place else None
+first_place (Some found) byte place = Some found

@@ -1,4 +1,7 @@
-//! A frame: number, whether it is the last of its message, text.
+//! A frame: its number, whether it is the last of its message, and its text.
+
+ghost use Rattle.std.specs.Prelude.{◌≡◌, ◌≤◌, ◌<◌, MatchOption};
+ghost use Rattle.lis_frame.specs.Frame.{IsContent};
 
 use crate::text::TextOf;
 use std::marker::Model;
@@ -18,7 +21,7 @@ pub enum FrameFault {
     Sum,
 }
 
-/// A frame with at most `N` bytes of text.
+/// A frame with at most `N` bytes of text (LIS01-A2, 6.3).
 #[derive(Drop)]
 pub struct FrameOf<const N: usize> {
     number: u8,
@@ -39,3 +42,49 @@ impl<const N: usize> Model for FrameOf<N> {
 
 /// A frame with the usual limit.
 pub type Frame = FrameOf<240>;
+
+impl<const N: usize> FrameOf<N> {
+    /// The frame of a number, whether it is the last of its message, and a text; none where the
+    /// number is over 7.
+    pub fn new(number: u8, last: bool, text: TextOf<N>) -> Option<Self>
+        ensures { MatchOption result (7 < number)
+            (λ frame. (number ≤ 7) × (frame ≡ record { number = number; last = last; text = text.entry })) }
+    {
+        if number > 7 {
+            return None;
+        }
+        Some(FrameOf::of_parts(number, last, text))
+    }
+
+    /// The frame of these parts.
+    pub(crate) fn of_parts(number: u8, last: bool, text: TextOf<N>) -> Self
+        requires { number ≤ 7 }
+        ensures { result ≡ record { number = number; last = last; text = text.entry } }
+    {
+        // That the text is one is known from its bytes.
+        let _ = text.as_slice();
+        FrameOf { number, last, text }
+    }
+
+    /// The number, from 0 to 7.
+    pub fn number(&self) -> u8
+        ensures value { result ≡ self.now.number }
+        ensures content { IsContent N self.now }
+    {
+        self.number
+    }
+
+    /// Whether the frame is the last of its message.
+    pub fn is_last(&self) -> bool
+        ensures { result ≡ self.now.last }
+    {
+        self.last
+    }
+
+    /// The text.
+    pub fn text(&self) -> &TextOf<N>
+        ensures { result.now ≡ self.now.text }
+    {
+        &self.text
+    }
+}

@@ -1,8 +1,8 @@
 //! The text of a frame.
 
-ghost use Rattle.std.specs.Prelude.{◌≡◌, ℕ, List, MatchResult, None, Some};
+ghost use Rattle.std.specs.Prelude.{◌≡◌, ◌≤◌, None, Some, MatchResult, length};
 ghost use Rattle.lis_frame.specs.Limit.{IsLimit};
-ghost use Rattle.lis_frame.specs.Text.{IsText, text_fault};
+ghost use Rattle.lis_frame.specs.Text.{IsText, first_forbidden, is_forbidden, text_fault};
 
 use arrayvec::ArrayVec;
 use std::marker::Model;
@@ -16,7 +16,7 @@ pub enum TextFault {
     Forbidden(usize),
 }
 
-/// The text of one frame: at most `N` bytes, none of them forbidden.
+/// The text of one frame: at most `N` bytes, none of them forbidden (LIS01-A2, 6.3 and 6.5).
 #[derive(Drop)]
 pub struct TextOf<const N: usize> {
     bytes: ArrayVec<u8, N>,
@@ -36,3 +36,63 @@ impl<const N: usize> Model for TextOf<N> {
 
 /// The text of a frame with the usual limit.
 pub type Text = TextOf<240>;
+
+impl<const N: usize> TextOf<N> {
+    /// The text of these bytes. Its length is tested first, then its bytes from the front.
+    pub fn from_slice(bytes: &[u8]) -> Result<Self, TextFault>
+        requires { IsLimit N }
+        ensures { MatchResult result (λ text. (text ≡ bytes.now) × (text_fault N bytes.now ≡ None))
+            (λ fault. text_fault N bytes.now ≡ Some fault) }
+    {
+        examine(bytes, N)?;
+        Ok(TextOf::copied(bytes))
+    }
+
+    /// The text of bytes that were examined.
+    pub(crate) fn copied(bytes: &[u8]) -> Self
+        requires limit { IsLimit N }
+        requires text { IsText N bytes.now }
+        ensures { result ≡ bytes.now }
+    {
+        let mut text = ArrayVec::new();
+        let _ = text.try_extend_from_slice(bytes);
+        TextOf { bytes: text }
+    }
+
+    /// The bytes of the text.
+    pub fn as_slice(&self) -> &[u8]
+        ensures value { result.now ≡ self.now }
+        ensures limit { IsLimit N }
+        ensures text { IsText N result.now }
+    {
+        self.bytes.as_slice()
+    }
+}
+
+/// Whether no text may hold this byte: SOH to ACK, LF, and DLE to ETB.
+pub(crate) fn is_forbidden(byte: u8) -> bool
+    ensures { result ≡ is_forbidden byte }
+{
+    matches!(byte, 1..=6 | 10 | 16..=23)
+}
+
+/// The place of the first forbidden byte, from 0.
+pub(crate) fn first_forbidden(bytes: &[u8]) -> Option<usize>
+    ensures { result ≡ first_forbidden bytes.now }
+{
+    bytes.iter().position(|byte| is_forbidden(*byte))
+}
+
+/// Whether bytes are a text of at most `limit` bytes; if not, why.
+pub(crate) fn examine(bytes: &[u8], limit: usize) -> Result<(), TextFault>
+    ensures { MatchResult result (λ _. text_fault limit bytes.now ≡ None)
+        (λ fault. text_fault limit bytes.now ≡ Some fault) }
+{
+    if bytes.len() > limit {
+        return Err(TextFault::TooLong);
+    }
+    match first_forbidden(bytes) {
+        None => Ok(()),
+        Some(place) => Err(TextFault::Forbidden(place)),
+    }
+}

@@ -1,0 +1,126 @@
+-- The signals of a stream: they don't depend on its cut, and the bytes of a frame are heard as that frame.
+use Rattle.std.proofs.Common.{◌≡◌, ℕ, ◌+◌, ◌/◌, ◌%◌, ◌<◌, Bool, true, false, List, [], ◌∷◌, ◌++◌, Option, None, Some, refl, ap, sym, ◌∙◌, subst, arith, cond, append-nil, append_assoc}
+use Rattle.std.specs.Prelude.{◌==◌, ◌||◌}
+use Rattle.std.specs.List.{position_from}
+use Rattle.std.proofs.lemmas.Bool.Decides.{nat_tests}
+use Rattle.lis_frame.specs.declared.control.TheConstants.{STX, EOT, ENQ, CR, LF}
+use Rattle.lis_frame.specs.declared.scanner.SignalOf.{SignalOf}
+use Rattle.lis_frame.specs.declared.scanner.SignalOf.TheVariants.{Good}
+use Rattle.lis_frame.specs.Text.{is_forbidden}
+use Rattle.lis_frame.specs.Frame.{FrameContent, IsContent, IsFrame, number_byte, end_byte, checksum, upper_digit, frame_bytes}
+use Rattle.lis_frame.specs.Stretch.{stretch_of}
+use Rattle.lis_frame.specs.Stream.{look_back, open_stretch, read_stretch, signal_after, with_signal, signals_after, stream_with}
+use Rattle.lis_frame.proofs.FrameLaws.{only, IsFrame-frame_bytes}
+use Rattle.lis_frame.proofs.ScannerLemmas.{look_back-push}
+
+-- a stream read in two parts gives the signals of the first part and then those of the second
+pub signals_after-append :
+    (limit : ℕ) (xs ys past : List ℕ) →
+    signals_after limit past (xs ++ ys) ≡ signals_after limit past xs ++ signals_after limit (stream_with past xs) ys
+signals_after-append limit [] ys past = refl
+signals_after-append limit (b ∷ xs) ys past = by (signal_after limit past b) (signals_after-append limit xs ys (b ∷ past))
+  where
+    by :
+        (signal : Option (SignalOf limit)) →
+        signals_after limit (b ∷ past) (xs ++ ys) ≡ signals_after limit (b ∷ past) xs ++ signals_after limit (stream_with (b ∷ past) xs) ys →
+        with_signal signal (signals_after limit (b ∷ past) (xs ++ ys))
+        ≡ with_signal signal (signals_after limit (b ∷ past) xs) ++ signals_after limit (stream_with (b ∷ past) xs) ys
+    by None later = later
+    by (Some signal) later = ap (λ rest. signal ∷ rest) later
+
+-- a byte that is none of STX, EOT, ENQ and LF
+record IsPlain (b : ℕ) : Type 0 where
+  no_start : (b == STX) ≡ false
+  no_stop : (b == EOT || b == ENQ || b == LF) ≡ false
+  no_enquiry : (b == ENQ) ≡ false
+  no_ending : (b == EOT) ≡ false
+  no_line_feed : (b == LF) ≡ false
+
+AllPlain : List ℕ → Type 0
+AllPlain [] = Unit {0}
+AllPlain (b ∷ bytes) = IsPlain b × AllPlain bytes
+
+-- plain bytes give no signal
+signals-plain : (limit : ℕ) (bytes past : List ℕ) → AllPlain bytes → signals_after limit past bytes ≡ []
+unfolding AllPlain signal_after
+signals-plain limit [] past plain = refl
+signals-plain limit (b ∷ bytes) past plain =
+    rw (plain.0.no_enquiry, plain.0.no_ending, plain.0.no_line_feed) (signals-plain limit bytes (b ∷ past) plain.1)
+
+-- and go on with an open stretch
+open-plain : (bytes past s : List ℕ) → AllPlain bytes → look_back past [] ≡ Some s → look_back (stream_with past bytes) [] ≡ Some (s ++ bytes)
+unfolding AllPlain
+open-plain [] past s plain e = rw (append-nil s) e
+open-plain (b ∷ bytes) past s plain e =
+    let one : look_back (b ∷ past) [] ≡ Some (s ++ b ∷ []) = rw (plain.0.no_start, plain.0.no_stop, look_back-push past [] b, e) refl in
+    rw (append_assoc s (b ∷ []) bytes) at (open-plain bytes (b ∷ past) (s ++ b ∷ []) plain.1 one)
+
+-- plain bytes between STX and LF are heard as the stretch that they are
+signals-stretch :
+    (limit : ℕ) (past s : List ℕ) → AllPlain s → signals_after limit past (STX ∷ (s ++ LF ∷ [])) ≡ read_stretch limit s ∷ []
+unfolding signal_after open_stretch
+signals-stretch limit past s plain =
+    let opened : look_back (stream_with (STX ∷ past) s) [] ≡ Some s = open-plain s (STX ∷ past) [] plain refl in
+    signals_after-append limit s (LF ∷ []) (STX ∷ past)
+    ∙ rw (signals-plain limit s (STX ∷ past) plain, opened) refl
+
+plain_if_allowed : (b : ℕ) → is_forbidden b ≡ false → IsPlain b
+plain_if_allowed b h =
+    record {
+      no_start = grind (arith, nat_tests);
+      no_stop = grind (arith, nat_tests);
+      no_enquiry = grind (arith, nat_tests);
+      no_ending = grind (arith, nat_tests);
+      no_line_feed = grind (arith, nat_tests);
+    }
+
+AllPlain-text : (i : ℕ) (text rest : List ℕ) → position_from is_forbidden i text ≡ None → AllPlain rest → AllPlain (text ++ rest)
+unfolding AllPlain
+AllPlain-text i [] rest clean plain = plain
+AllPlain-text i (b ∷ text) rest clean plain = by (is_forbidden b) refl clean (λ later. AllPlain-text (i + 1) text rest later plain)
+  where
+    by :
+        (test : Bool) → is_forbidden b ≡ test → cond test (Some i) (position_from is_forbidden (i + 1) text) ≡ None →
+        (position_from is_forbidden (i + 1) text ≡ None → AllPlain (text ++ rest)) → AllPlain (b ∷ (text ++ rest))
+    by true e clean later = cc
+    by false e clean later = (plain_if_allowed b e, later clean)
+
+allowed_digit : (n : ℕ) → n < 16 → is_forbidden (upper_digit n) ≡ false
+allowed_digit n h = grind (arith, nat_tests)
+
+plain_end : (last : Bool) → IsPlain (end_byte last)
+plain_end true = record { no_start = refl; no_stop = refl; no_enquiry = refl; no_ending = refl; no_line_feed = refl }
+plain_end false = record { no_start = refl; no_stop = refl; no_enquiry = refl; no_ending = refl; no_line_feed = refl }
+
+-- the bytes of a frame between its STX and its LF
+inside_of : FrameContent → List ℕ
+inside_of frame =
+    stretch_of (number_byte frame.number) frame.text (end_byte frame.last) (upper_digit (checksum frame / 16)) (upper_digit (checksum frame % 16)) CR
+
+frame_bytes-inside : (frame : FrameContent) → frame_bytes frame ≡ STX ∷ (inside_of frame ++ LF ∷ [])
+unfolding frame_bytes inside_of
+frame_bytes-inside frame =
+    ap (λ (xs : List ℕ). STX ∷ number_byte frame.number ∷ xs)
+    (sym (append_assoc frame.text (end_byte frame.last ∷ upper_digit (checksum frame / 16) ∷ upper_digit (checksum frame % 16) ∷ CR ∷ []) (LF ∷ [])))
+
+AllPlain-inside_of : (limit : ℕ) (frame : FrameContent) → IsContent limit frame → AllPlain (inside_of frame)
+unfolding AllPlain inside_of
+AllPlain-inside_of limit frame content = (
+  plain_if_allowed (number_byte frame.number) (grind (arith, nat_tests, content.number_in_range)),
+  AllPlain-text 0 frame.text _ content.is_text.clean (
+    plain_end frame.last,
+    (
+      plain_if_allowed _ (allowed_digit (checksum frame / 16) (omega arith)),
+      (plain_if_allowed _ (allowed_digit (checksum frame % 16) (omega arith)), (plain_if_allowed CR refl, tt)),
+    ),
+  ),
+)
+
+-- the bytes of a frame are heard as that frame, whatever came before them
+pub signals-frame_bytes :
+    (limit : ℕ) (past : List ℕ) (frame : FrameContent) → IsContent limit frame → signals_after limit past (frame_bytes frame) ≡ Good frame ∷ []
+signals-frame_bytes limit past frame content =
+    let is_frame : IsFrame limit (STX ∷ (inside_of frame ++ LF ∷ [])) frame =
+    subst (λ (bytes : List ℕ). IsFrame limit bytes frame) (frame_bytes-inside frame) (IsFrame-frame_bytes limit frame content) in
+    let read = only limit (inside_of frame) frame is_frame in
+    rw (frame_bytes-inside frame, signals-stretch limit past (inside_of frame) (AllPlain-inside_of limit frame content), read.0) (ap (λ f. Good f ∷ []) (sym read.1))

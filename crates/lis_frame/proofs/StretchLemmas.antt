@@ -1,0 +1,133 @@
+-- A stretch of five bytes or more and its parts.
+use Rattle.std.proofs.Common.{◌≡◌, ℕ, ◌+◌, ◌-◌, ◌%◌, ◌≤◌, ◌<◌, Bool, true, false, List, [], ◌∷◌, ◌++◌, Option, None, Some, length, take, drop, get_or, refl, ap, arith, sym, ◌∙◌, suc, length-drop, add-zero}
+use Rattle.std.proofs.lemmas.List.{get_or-append-add, get_or-drop, length-append, take-append-drop}
+use Rattle.std.proofs.Math.Seq.{take-append_seam}
+use Rattle.std.specs.Prelude.{◌==◌, ◌&&◌, ◌||◌, nat_lt, nat_le, slice_index}
+use Rattle.std.proofs.lemmas.Bool.Decides.{nat_tests}
+use Rattle.std.specs.List.{sum}
+use Rattle.lis_frame.specs.declared.control.TheConstants.{ETX, ETB, CR}
+use Rattle.lis_frame.specs.declared.frame.FrameFault.{FrameFault}
+use Rattle.lis_frame.specs.declared.frame.FrameFault.TheVariants.{TooLong, Shape}
+use Rattle.lis_frame.specs.Frame.{number_byte, end_byte, digit_value}
+use Rattle.lis_frame.specs.Text.{first_forbidden}
+use Rattle.lis_frame.specs.Stretch.{stretch_of, text_of, end_of, content_of, digits_value, is_number_byte, pair_value, is_value, first_fault, stretch_fault}
+
+-- the first fault behind the length, by the parts and what is known of the text: its first forbidden byte and
+-- its sum with the number
+abbrev pub parts_fault : ℕ → Option ℕ → ℕ → ℕ → ℕ → ℕ → ℕ → Option FrameFault
+parts_fault number forbidden total end high low close =
+    first_fault false (close == CR && (end == ETX || end == ETB)) (nat_le 48 number && nat_le number 55) forbidden
+    (is_value (pair_value (digit_value high) (digit_value low)) ((total + end) % 256))
+
+-- the sum is asked for only in a stretch of the right shape with a number
+first_fault-sum :
+    (shaped numbered : Bool) (forbidden : Option ℕ) (a b : Bool) → (shaped ≡ true → numbered ≡ true → a ≡ b) →
+    first_fault false shaped numbered forbidden a ≡ first_fault false shaped numbered forbidden b
+first_fault-sum false numbered forbidden a b same = refl
+first_fault-sum true false forbidden a b same = refl
+first_fault-sum true true (Some place) a b same = refl
+first_fault-sum true true None a b same = ap (first_fault false true true None) (same refl refl)
+
+pub number_byte-back : (number : ℕ) → is_number_byte number ≡ true → number_byte (number - 48) ≡ number
+number_byte-back number h = grind (arith, nat_tests)
+
+pub end_byte-back : (close end : ℕ) → (close == CR && (end == ETX || end == ETB)) ≡ true → end_byte (end == ETX) ≡ end
+end_byte-back close end h = grind (arith, nat_tests)
+
+sum_mod : (number text total end : ℕ) → total ≡ (number + text) % 256 → (number + text + end) % 256 ≡ (total + end) % 256
+sum_mod number text total end e = rw e (omega arith)
+
+module _ (number : ℕ) (text : List ℕ) (end high low close : ℕ) where
+  pub length-stretch_of : length (stretch_of number text end high low close) ≡ length text + 5
+  length-stretch_of = omega (arith, length-append text (end ∷ high ∷ low ∷ close ∷ []))
+
+  -- the part at a place behind the text
+  at_behind : (k n : ℕ) → n ≡ suc (length text + k) → get_or (stretch_of number text end high low close) n 0 ≡ get_or (end ∷ high ∷ low ∷ close ∷ []) k 0
+  at_behind k n e = rw e (get_or-append-add text (end ∷ high ∷ low ∷ close ∷ []) k 0)
+
+  pub text_of-stretch_of : text_of (stretch_of number text end high low close) ≡ text
+  text_of-stretch_of =
+      let e : length (stretch_of number text end high low close) - 5 ≡ length text = omega (arith, length-stretch_of) in
+      rw e (take-append_seam text (end ∷ high ∷ low ∷ close ∷ []))
+
+  pub end_of-stretch_of : end_of (stretch_of number text end high low close) ≡ end
+  end_of-stretch_of = at_behind 0 _ (omega (arith, length-stretch_of))
+
+  pub digits_value-stretch_of : digits_value (stretch_of number text end high low close) ≡ pair_value (digit_value high) (digit_value low)
+  digits_value-stretch_of =
+      let h : get_or (stretch_of number text end high low close) (length (stretch_of number text end high low close) - 3) 0 ≡ high = at_behind 1 _ (omega (arith, length-stretch_of)) in
+      let l : get_or (stretch_of number text end high low close) (length (stretch_of number text end high low close) - 2) 0 ≡ low = at_behind 2 _ (omega (arith, length-stretch_of)) in
+      rw (h, l) refl
+
+  pub close-stretch_of : slice_index (stretch_of number text end high low close) (length (stretch_of number text end high low close) - 1) ≡ close
+  close-stretch_of = at_behind 3 _ (omega (arith, length-stretch_of))
+
+  pub content_of-stretch_of :
+      content_of (stretch_of number text end high low close) ≡ record { number = number - 48; last = end == ETX; text = text }
+  content_of-stretch_of = rw (end_of-stretch_of, text_of-stretch_of) refl
+
+  -- the first fault of a stretch that is not too long, by its parts
+  pub stretch_fault-stretch_of :
+      (limit : ℕ) → length text ≤ limit →
+      stretch_fault limit (stretch_of number text end high low close)
+      ≡ first_fault false (close == CR && (end == ETX || end == ETB)) (is_number_byte number) (first_forbidden text)
+      (is_value (pair_value (digit_value high) (digit_value low)) ((number_byte (number - 48) + sum text + end_byte (end == ETX)) % 256))
+  unfolding stretch_fault
+  stretch_fault-stretch_of limit short =
+      let in_limit : nat_lt (limit + 5) (length (stretch_of number text end high low close)) ≡ false =
+      grind (arith, nat_tests, length-stretch_of) in
+      let five : nat_le 5 (length (stretch_of number text end high low close)) ≡ true = grind (arith, nat_tests, length-stretch_of) in
+      rw (in_limit, five, close-stretch_of, end_of-stretch_of, digits_value-stretch_of, text_of-stretch_of) refl
+
+  -- the same where the parts came with what is known of the text
+  pub stretch_fault-parts :
+      (limit total : ℕ) → length text ≤ limit → total ≡ (number + sum text) % 256 →
+      stretch_fault limit (stretch_of number text end high low close) ≡ parts_fault number (first_forbidden text) total end high low close
+  stretch_fault-parts limit total short summed =
+      stretch_fault-stretch_of limit short
+      ∙ first_fault-sum _ _ _ _ _
+      (λ shaped numbered.
+      let e : (number_byte (number - 48) + sum text + end_byte (end == ETX)) % 256 ≡ (total + end) % 256 =
+      rw (number_byte-back number numbered, end_byte-back close end shaped) (sum_mod number (sum text) total end summed) in
+      ap (is_value (pair_value (digit_value high) (digit_value low))) e)
+
+four_items : (xs : List ℕ) → length xs ≡ 4 → get_or xs 0 0 ∷ get_or xs 1 0 ∷ get_or xs 2 0 ∷ get_or xs 3 0 ∷ [] ≡ xs
+four_items [] h = cc
+four_items (a ∷ []) h = cc
+four_items (a ∷ b ∷ []) h = cc
+four_items (a ∷ b ∷ c ∷ []) h = cc
+four_items (a ∷ b ∷ c ∷ d ∷ []) h = refl
+four_items (a ∷ b ∷ c ∷ d ∷ e ∷ xs) h = absurd (omega arith)
+
+-- behind the number: text, and the last four bytes
+split_last_four :
+    (xs : List ℕ) (m : ℕ) → m + 4 ≡ length xs →
+    take m xs ++ (get_or xs m 0 ∷ get_or xs (m + 1) 0 ∷ get_or xs (m + 2) 0 ∷ get_or xs (m + 3) 0 ∷ []) ≡ xs
+split_last_four xs m e =
+    let four : length (drop m xs) ≡ 4 = rw (length-drop m xs) (omega arith) in
+    let items : get_or xs m 0 ∷ get_or xs (m + 1) 0 ∷ get_or xs (m + 2) 0 ∷ get_or xs (m + 3) 0 ∷ [] ≡ drop m xs =
+    simp (get_or-drop, add-zero) at (four_items (drop m xs) four) in
+    rw items (take-append-drop m xs)
+
+-- a stretch of five bytes or more is its parts, whose places the equations give
+pub stretch_parts :
+    (s : List ℕ) (m i j k l : ℕ) → m + 5 ≡ length s → i ≡ m + 1 → j ≡ m + 2 → k ≡ m + 3 → l ≡ m + 4 →
+    s ≡ stretch_of (get_or s 0 0) (take m (drop 1 s)) (get_or s i 0) (get_or s j 0) (get_or s k 0) (get_or s l 0)
+stretch_parts [] m i j k l h a b c d = absurd (omega arith)
+stretch_parts (x ∷ xs) m i j k l h a b c d =
+    let i' : i ≡ suc m = omega arith in
+    let j' : j ≡ suc (m + 1) = omega arith in
+    let k' : k ≡ suc (m + 2) = omega arith in
+    let l' : l ≡ suc (m + 3) = omega arith in
+    rw (i', j', k', l') (ap (λ (ys : List ℕ). x ∷ ys) (sym (split_last_four xs m (omega arith))))
+
+pub stretch_fault-long : (limit : ℕ) (s : List ℕ) → limit + 5 < length s → stretch_fault limit s ≡ Some TooLong
+unfolding stretch_fault
+stretch_fault-long limit s h = let long : nat_lt (limit + 5) (length s) ≡ true = grind (arith, nat_tests) in rw long refl
+
+pub stretch_fault-few : (limit : ℕ) (s : List ℕ) → length s ≤ limit + 5 → length s < 5 → stretch_fault limit s ≡ Some Shape
+unfolding stretch_fault
+stretch_fault-few limit s h few =
+    let short : nat_lt (limit + 5) (length s) ≡ false = grind (arith, nat_tests) in
+    let shapeless : nat_le 5 (length s) ≡ false = grind (arith, nat_tests) in
+    rw (short, shapeless) refl
