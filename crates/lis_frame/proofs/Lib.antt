@@ -1,6 +1,7 @@
 mod DefinitionRows
 pub mod FrameLaws
 pub mod KeptLemmas
+pub mod PieceLaws
 pub mod ScannerLemmas
 pub mod StreamLaws
 pub mod StretchLemmas

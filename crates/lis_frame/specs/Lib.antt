@@ -8,3 +8,4 @@ pub mod Scanner
 pub mod Kept
 pub mod Pieces
 pub mod Laws
+pub mod Texts

@@ -26,3 +26,10 @@ text_fault limit bytes = if nat_lt limit (length bytes) then Some TooLong else o
 abbrev pub first_place : Option ℕ → ℕ → ℕ → Option ℕ
 first_place None byte place = if is_forbidden byte then Some place else None
 first_place (Some found) byte place = Some found
+
+-- the greatest length of a link text, and the greatest number of texts of a session
+abbrev pub longest_text : ℕ
+longest_text = 1048576
+
+abbrev pub most_texts : ℕ
+most_texts = 65536

@@ -159,7 +159,7 @@ fn is_value(digits: Option<u8>, value: u8) -> bool
 }
 
 /// The sum of the number and the text, modulo 256.
-fn total_of(number: u8, text: &[u8]) -> u8
+pub(crate) fn total_of(number: u8, text: &[u8]) -> u8
     ensures { result ≡ (number + sum text.now) % 256 }
 {
     let mut total = number;

@@ -9,7 +9,7 @@ ghost use Rattle.lis_frame.specs.Scanner.{within, with_byte, ended_held};
 use crate::frame::FrameFault;
 use crate::read::Parts;
 use crate::scanner::SignalOf;
-use crate::text::is_forbidden;
+use crate::text::{append, is_forbidden};
 use arrayvec::ArrayVec;
 use std::marker::Model;
 
@@ -161,6 +161,6 @@ fn copied<const N: usize>(bytes: &ArrayVec<u8, N>) -> ArrayVec<u8, N>
     ensures { result ≡ bytes.now }
 {
     let mut copy = ArrayVec::new();
-    let _ = copy.try_extend_from_slice(bytes.as_slice());
+    append(&mut copy, bytes.as_slice());
     copy
 }

@@ -1,6 +1,7 @@
 //! The text of a frame.
 
-ghost use Rattle.std.specs.Prelude.{◌≡◌, ◌≤◌, None, Some, MatchResult, length};
+ghost use Rattle.std.specs.Prelude.{◌≡◌, ◌+◌, ◌≤◌, ◌++◌, None, Some, MatchResult, length};
+ghost use Rattle.arrayvec.specs.ArrayVec.{array_vec_len};
 ghost use Rattle.lis_frame.specs.Limit.{IsLimit};
 ghost use Rattle.lis_frame.specs.Text.{IsText, first_forbidden, is_forbidden, text_fault};
 
@@ -55,7 +56,7 @@ impl<const N: usize> TextOf<N> {
         ensures { result ≡ bytes.now }
     {
         let mut text = ArrayVec::new();
-        let _ = text.try_extend_from_slice(bytes);
+        append(&mut text, bytes);
         TextOf { bytes: text }
     }
 
@@ -95,4 +96,12 @@ pub(crate) fn examine(bytes: &[u8], limit: usize) -> Result<(), TextFault>
         None => Ok(()),
         Some(place) => Err(TextFault::Forbidden(place)),
     }
+}
+
+/// Puts bytes behind those of a buffer that has room.
+pub(crate) fn append<const B: usize>(buffer: &mut ArrayVec<u8, B>, bytes: &[u8])
+    requires { array_vec_len buffer.old + length bytes.now ≤ B }
+    ensures { buffer.new.items ≡ buffer.old.items ++ bytes.now }
+{
+    let _ = buffer.try_extend_from_slice(bytes);
 }

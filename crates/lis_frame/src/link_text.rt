@@ -1,0 +1,108 @@
+//! What a session carries: link texts, each a message of the layer above or a part of one.
+
+ghost use Rattle.std.specs.Prelude.{◌≡◌, ◌==◌, ◌≤◌, ◌++◌, ◌∷◌, [], None, Some, MatchResult, IfErr, OnOk, length, slice_get};
+ghost use Rattle.std.specs.Option.{option_copied};
+ghost use Rattle.lis_frame.specs.Text.{text_fault, longest_text};
+ghost use Rattle.lis_frame.specs.Texts.{IsTextRefused};
+
+use crate::list::List;
+use crate::text::{TextFault, examine};
+use std::alloc::Global;
+use std::marker::Model;
+
+/// The most bytes that a link text has.
+pub const LONGEST_TEXT: usize = 1_048_576;
+
+/// The most texts that a session has.
+pub const MOST_TEXTS: usize = 65_536;
+
+/// A text that frames carry over the link, in pieces.
+pub type LinkText = List<u8>;
+
+/// Whether bytes are a link text: their number is tested first, then each byte from the front.
+pub fn check_text(bytes: &[u8]) -> Result<(), TextFault>
+    ensures { MatchResult result (λ _. text_fault longest_text bytes.now ≡ None)
+        (λ fault. text_fault longest_text bytes.now ≡ Some fault) }
+{
+    examine(bytes, LONGEST_TEXT)
+}
+
+/// The texts of a session, at most 65,536.
+#[derive(Drop)]
+pub struct Texts {
+    texts: List<LinkText>,
+}
+
+impl Model for Texts {
+    ghost use Rattle.std.specs.Prelude.{ℕ, ◌≤◌, List, length};
+
+    ghost Value = { List (List ℕ) };
+
+    ghost view = { λ t. t.texts };
+
+    ghost invariant = { λ t. length t.texts ≤ 65536 };
+}
+
+/// Why a text was not put to the others; it comes back.
+#[derive(Drop)]
+pub enum TextRefused {
+    /// There are as many texts as a session has.
+    Full(LinkText),
+    /// Memory was refused.
+    OutOfMemory(LinkText),
+}
+
+impl Texts {
+    /// No text. It reserves nothing.
+    pub fn new(alloc: Global) -> Self
+        ensures { result ≡ [] }
+    {
+        Texts {
+            texts: List::new(alloc),
+        }
+    }
+
+    /// Puts a text at the end. That there are as many as a session has is told before any want of
+    /// memory; in both cases the text comes back, and the texts are as before.
+    pub fn push(&mut self, text: LinkText) -> Result<(), TextRefused>
+        ensures ok { OnOk result (self.new ≡ self.old ++ text ∷ []) }
+        ensures err { IfErr result (λ refused. IsTextRefused self.old text refused × (self.new ≡ self.old)) }
+    {
+        if self.texts.len() >= MOST_TEXTS {
+            return Err(TextRefused::Full(text));
+        }
+        match self.texts.push(text) {
+            Ok(()) => Ok(()),
+            Err(refused) => Err(TextRefused::OutOfMemory(refused.value)),
+        }
+    }
+
+    /// The number of texts.
+    pub fn len(&self) -> usize
+        ensures value { result ≡ length self.now }
+        ensures bound { result ≤ 65536 }
+    {
+        self.texts.len()
+    }
+
+    /// Whether there is no text.
+    pub fn is_empty(&self) -> bool
+        ensures { result ≡ (length self.now == 0) }
+    {
+        self.texts.is_empty()
+    }
+
+    /// The text at a place, from 0.
+    pub fn get(&self, place: usize) -> Option<&LinkText>
+        ensures { option_copied result ≡ slice_get self.now place }
+    {
+        self.texts.get(place)
+    }
+
+    /// The texts, as a slice.
+    pub fn as_slice(&self) -> &[LinkText]
+        ensures { result.now ≡ self.now }
+    {
+        self.texts.as_slice()
+    }
+}
