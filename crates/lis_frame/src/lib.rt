@@ -10,6 +10,8 @@ mod read;
 pub mod scanner;
 pub mod split;
 mod stretch;
+#[cfg(test)]
+mod tests;
 pub mod text;
 mod write;
 
