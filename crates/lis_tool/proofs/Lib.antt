@@ -1,0 +1,4 @@
+pub mod Digits
+pub mod PutLaws
+pub mod RunLaws
+pub mod ShowLaws

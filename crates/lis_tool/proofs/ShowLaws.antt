@@ -1,0 +1,34 @@
+-- The lines of signals, one after the other.
+use Rattle.std.proofs.Common.{◌≡◌, ℕ, List, [], ◌∷◌, ◌++◌, Option, None, Some, refl, ap, sym, ◌∙◌, append-nil, append_assoc, length}
+use Rattle.lis_frame.specs.declared.scanner.SignalOf.{SignalOf}
+use Rattle.lis_frame.specs.Stream.{with_signal, signals_after, stream_with}
+use Rattle.lis_frame.proofs.StreamLaws.{signals_after-append}
+use Rattle.lis_tool.specs.Show.{signal_line, signal_lines}
+
+-- the line of a byte's signal, and then the lines of what follows
+pub signal_lines-with :
+    {limit : ℕ} (o : Option (SignalOf limit)) (rest : List (SignalOf limit)) →
+    signal_lines (with_signal o rest) ≡ signal_lines (with_signal o []) ++ signal_lines rest
+signal_lines-with None rest = refl
+signal_lines-with (Some signal) rest = ap (λ (l : List ℕ). l ++ signal_lines rest) (sym (append-nil (signal_line signal)))
+
+pub signal_lines-append :
+    {limit : ℕ} (xs ys : List (SignalOf limit)) → signal_lines (xs ++ ys) ≡ signal_lines xs ++ signal_lines ys
+signal_lines-append [] ys = refl
+signal_lines-append (signal ∷ xs) ys =
+    ap (λ (l : List ℕ). signal_line signal ++ l) (signal_lines-append xs ys) ∙ sym (append_assoc (signal_line signal) (signal_lines xs) (signal_lines ys))
+
+-- the lines of a stream read in two parts
+pub lines-append :
+    (limit : ℕ) (past xs ys : List ℕ) →
+    signal_lines (signals_after limit past (xs ++ ys))
+    ≡ signal_lines (signals_after limit past xs) ++ signal_lines (signals_after limit (stream_with past xs) ys)
+lines-append limit past xs ys = ap signal_lines (signals_after-append limit xs ys past) ∙ signal_lines-append (signals_after limit past xs) _
+
+pub stream_with-append : (past xs ys : List ℕ) → stream_with past (xs ++ ys) ≡ stream_with (stream_with past xs) ys
+stream_with-append past [] ys = refl
+stream_with-append past (b ∷ xs) ys = stream_with-append (b ∷ past) xs ys
+
+pub no_lines : (limit : ℕ) (past bytes : List ℕ) → length bytes ≡ 0 → length (signal_lines (signals_after limit past bytes)) ≡ 0
+no_lines limit past [] none = refl
+no_lines limit past (b ∷ bytes) none = cc

@@ -1,0 +1,17 @@
+//! What the program `lislink` does with its input, over sources and sinks that contracts can speak of.
+#![tactic(auto)]
+
+pub mod commands;
+pub mod fault;
+mod output;
+pub mod report;
+pub mod show;
+#[cfg(test)]
+mod tests;
+pub mod words;
+
+pub use commands::Command;
+pub use fault::ToolFault;
+pub use report::Report;
+pub use show::{run_show, run_show_of};
+pub use words::command;
