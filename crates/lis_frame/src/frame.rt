@@ -66,6 +66,13 @@ impl<const N: usize> FrameOf<N> {
         FrameOf { number, last, text }
     }
 
+    /// The same frame.
+    pub fn copy(&self) -> Self
+        ensures { result ≡ self.now }
+    {
+        FrameOf::of_parts(self.number, self.last, self.text.copy())
+    }
+
     /// The number, from 0 to 7.
     pub fn number(&self) -> u8
         ensures value { result ≡ self.now.number }

@@ -60,6 +60,13 @@ impl<const N: usize> TextOf<N> {
         TextOf { bytes: text }
     }
 
+    /// The same text.
+    pub fn copy(&self) -> Self
+        ensures { result ≡ self.now }
+    {
+        TextOf::copied(self.bytes.as_slice())
+    }
+
     /// The bytes of the text.
     pub fn as_slice(&self) -> &[u8]
         ensures value { result.now ≡ self.now }

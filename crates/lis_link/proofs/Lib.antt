@@ -1,0 +1,2 @@
+-- What follows of the definitions of the two ends.
+pub mod JoiningLaws

@@ -1,0 +1,4 @@
+-- The two ends of the link, each as a table of steps over plain states, and how frames join to texts.
+pub mod Joining
+pub mod Sender
+pub mod Receiver

@@ -1,0 +1,128 @@
+-- The receiving end: its state, and the table of its steps (LIS01-A2, 6.3 to 6.6).
+use Rattle.std.specs.Prelude.{ℕ, ◌+◌, ◌%◌, Bool, true, false, not, List, [], ◌∷◌, ◌++◌, length, Option, None, Some, if◌then◌else◌, nat_lt, ◌==◌, ◌&&◌}
+use Rattle.lis_frame.specs.declared.control.TheConstants.{ENQ, ACK, NAK}
+use Rattle.lis_frame.specs.declared.scanner.SignalOf.{SignalOf}
+use Rattle.lis_frame.specs.declared.scanner.SignalOf.TheVariants.{Enq, Eot, Good, Bad}
+use Rattle.lis_frame.specs.Frame.{FrameContent}
+use Rattle.lis_frame.specs.Stream.{signal_after}
+use Rattle.lis_link.specs.declared.receiver.Readiness.{Readiness}
+use Rattle.lis_link.specs.declared.receiver.Readiness.TheVariants.{Ready, Busy, Contending}
+use Rattle.lis_link.specs.declared.receiver.Note.{Note}
+use Rattle.lis_link.specs.declared.receiver.Note.TheVariants.{Quiet, Opened, NotReady, Ended, Accepted, Duplicate, OutOfTurn, Refused, NoRoom, TooLong, TooMany, TimedOut}
+use Rattle.lis_frame.specs.Text.{longest_text}
+use Rattle.lis_link.specs.Joining.{completed, rest}
+
+-- a receiver: whether the line is open, the frames accepted since it was last opened, how it answers ENQ,
+-- whether it has room, and the stream of its bytes since it was made or restarted, newest first
+pub record ReceiverState : Type 0 where
+  pub is_open : Bool
+  pub accepted : List FrameContent
+  pub readiness : Readiness
+  pub room : Bool
+  pub past : List ℕ
+
+-- a step: the reply, the text handed out, the note, the frame taken, and the state after it
+pub record ReceiverStep : Type 0 where
+  pub reply : Option ℕ
+  pub message : Option (List ℕ)
+  pub note : Note
+  pub taken : Option FrameContent
+  pub after : ReceiverState
+
+-- a step that hands nothing out
+abbrev pub answers : Option ℕ → Note → ReceiverState → ReceiverStep
+answers reply note after = record { reply = reply; message = None; note = note; taken = None; after = after }
+
+-- a new receiver: neutral, ready, with room
+abbrev pub new_receiver : ReceiverState
+new_receiver = record { is_open = false; accepted = []; readiness = Ready; room = true; past = [] }
+
+-- the text held while the line is open
+abbrev pub held_text : ReceiverState → List ℕ
+held_text r = rest [] r.accepted
+
+-- the greatest number of frames that a receiver counts in a session
+abbrev pub most_frames : ℕ
+most_frames = 4294967295
+
+-- an ENQ is answered by the readiness, in whatever state
+abbrev pub bid_with : Readiness → ReceiverState → ReceiverStep
+bid_with Ready r = answers (Some ACK) Opened (record r { is_open = true; accepted = [] })
+bid_with Busy r = answers (Some NAK) NotReady (record r { is_open = false })
+bid_with Contending r = answers (Some ENQ) NotReady (record r { is_open = false; readiness = Ready })
+
+-- what is found of a good frame while the line is open: the first line of the table that fits
+abbrev pub judged : ReceiverState → FrameContent → Note
+judged r frame =
+    if nat_lt 0 (length r.accepted) && frame.number == length r.accepted % 8 then Duplicate frame.number
+    else if not (frame.number == (length r.accepted + 1) % 8) then OutOfTurn frame.number
+    else if not r.room then NoRoom
+    else if length r.accepted == most_frames then TooMany
+    else if nat_lt longest_text (length (held_text r) + length frame.text) then TooLong
+    else Accepted frame.number
+
+-- the step by what was found: an accepted frame is taken, a repeated one acknowledged, any other refused
+abbrev pub on_judged : ReceiverState → FrameContent → Note → ReceiverStep
+on_judged r frame (Accepted number) =
+    record {
+      reply = Some ACK;
+      message = completed (held_text r) frame;
+      note = Accepted number;
+      taken = Some frame;
+      after = record r { accepted = r.accepted ++ frame ∷ [] };
+    }
+on_judged r frame (Duplicate number) = answers (Some ACK) (Duplicate number) r
+on_judged r frame note = answers (Some NAK) note r
+
+-- a signal that is no ENQ, while the line is open
+abbrev pub heard_open : {limit : ℕ} → SignalOf limit → ReceiverState → ReceiverStep
+heard_open Enq r = bid_with r.readiness r
+heard_open Eot r = answers None Ended (record r { is_open = false })
+heard_open (Good frame) r = on_judged r frame (judged r frame)
+heard_open (Bad fault) r = answers (Some NAK) (Refused fault) r
+
+-- while it isn't
+abbrev pub heard_neutral : {limit : ℕ} → SignalOf limit → ReceiverState → ReceiverStep
+heard_neutral Enq r = bid_with r.readiness r
+heard_neutral Eot r = answers None Quiet r
+heard_neutral (Good frame) r = answers None Quiet r
+heard_neutral (Bad fault) r = answers None Quiet r
+
+abbrev pub heard_by : {limit : ℕ} → Bool → SignalOf limit → ReceiverState → ReceiverStep
+heard_by true signal r = heard_open signal r
+heard_by false signal r = heard_neutral signal r
+
+-- a byte by the signal that it gives, if it gives one
+abbrev pub heard : {limit : ℕ} → Option (SignalOf limit) → ReceiverState → ReceiverStep
+heard None r = answers None Quiet r
+heard (Some signal) r = heard_by r.is_open signal r
+
+abbrev pub on_byte : ℕ → ℕ → ReceiverState → ReceiverStep
+on_byte limit b r = heard (signal_after limit r.past b) (record r { past = b ∷ r.past })
+
+-- the receiver's timer runs out
+abbrev pub timer_by : Bool → ReceiverState → ReceiverStep
+timer_by true r = answers None TimedOut (record r { is_open = false })
+timer_by false r = answers None Quiet r
+
+abbrev pub on_receiver_timer : ReceiverState → ReceiverStep
+on_receiver_timer r = timer_by r.is_open r
+
+-- how ENQ will be answered, and whether there is room for another frame
+abbrev pub with_readiness : Readiness → ReceiverState → ReceiverState
+with_readiness readiness r = record r { readiness = readiness }
+
+abbrev pub with_room : Bool → ReceiverState → ReceiverState
+with_room room r = record r { room = room }
+
+-- a restart: neutral, ready, with room, and no byte heard yet
+abbrev pub receiver_restarted : ReceiverState → ReceiverState
+receiver_restarted r = record r { is_open = false; readiness = Ready; room = true; past = [] }
+
+-- how many bytes are held
+abbrev pub held_length_by : Bool → ReceiverState → ℕ
+held_length_by true r = length (held_text r)
+held_length_by false r = 0
+
+abbrev pub held_length : ReceiverState → ℕ
+held_length r = held_length_by r.is_open r

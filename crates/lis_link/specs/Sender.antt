@@ -1,0 +1,125 @@
+-- The sending end: its state, and the table of its steps (LIS01-A2, 6.3 to 6.6).
+use Rattle.std.specs.Prelude.{ℕ, ◌+◌, List, [], ◌∷◌, drop, Option, None, Some, if◌then◌else◌, nat_lt, ◌==◌, ◌||◌}
+use Rattle.lis_frame.specs.declared.control.TheConstants.{EOT, ENQ, ACK}
+use Rattle.lis_frame.specs.declared.text.TextFault.{TextFault}
+use Rattle.lis_frame.specs.Text.{text_fault, longest_text}
+use Rattle.lis_frame.specs.Frame.{FrameContent}
+use Rattle.lis_frame.specs.Pieces.{session_frames}
+use Rattle.lis_link.specs.declared.sender.Phase.{Phase}
+use Rattle.lis_link.specs.declared.sender.Phase.TheVariants.{Neutral, AwaitLine, Busy, Contention, AwaitReply}
+use Rattle.lis_link.specs.declared.sender.Outcome.{Outcome}
+use Rattle.lis_link.specs.declared.sender.Outcome.TheVariants.{Done, TimedOut, SixTries, Restarted}
+use Rattle.lis_link.specs.declared.sender.StartFault.{StartFault}
+use Rattle.lis_link.specs.declared.sender.StartFault.TheVariants.{InSession, NoText, BadText}
+use Rattle.lis_link.specs.declared.sender.EmitOf.{EmitOf}
+use Rattle.lis_link.specs.declared.sender.EmitOf.TheVariants.{Nothing, Enq, Eot, Nak, Frame}
+
+-- a sender: the frames of its session, how many of them are acknowledged, the phase,
+-- how often the present frame was sent, and how the last session ended
+pub record SenderState : Type 0 where
+  pub frames : List FrameContent
+  pub acknowledged : ℕ
+  pub phase : Phase
+  pub tries : ℕ
+  pub outcome : Option Outcome
+
+-- a step: what goes on the link, and the state after it
+pub record SenderStep (limit : ℕ) : Type 0 where
+  pub emit : EmitOf limit
+  pub after : SenderState
+
+abbrev pub gives : {limit : ℕ} → EmitOf limit → SenderState → SenderStep limit
+gives emit after = record { emit = emit; after = after }
+
+-- a sender that was never started
+abbrev pub new_sender : SenderState
+new_sender = record { frames = []; acknowledged = 0; phase = Neutral; tries = 0; outcome = None }
+
+-- the times that a frame is sent before its session is given up
+abbrev pub most_tries : ℕ
+most_tries = 6
+
+-- the session ends with EOT
+abbrev pub ends : {limit : ℕ} → Outcome → SenderState → SenderStep limit
+ends outcome s = gives Eot (record s { phase = Neutral; outcome = Some outcome })
+
+-- the first of the frames that are left is sent for the first time; where none is left, the session is done
+abbrev pub sends : {limit : ℕ} → List FrameContent → SenderState → SenderStep limit
+sends [] s = ends Done s
+sends (frame ∷ frames) s = gives (Frame frame) (record s { phase = AwaitReply; tries = 1 })
+
+-- the same frame is sent again, or given up
+abbrev pub sends_again : {limit : ℕ} → List FrameContent → SenderState → SenderStep limit
+sends_again [] s = gives Nothing s
+sends_again (frame ∷ frames) s =
+    if nat_lt s.tries most_tries then gives (Frame frame) (record s { tries = s.tries + 1 }) else ends SixTries s
+
+-- the present frame is accepted
+abbrev pub is_accepted : {limit : ℕ} → SenderState → SenderStep limit
+is_accepted s = sends (drop (s.acknowledged + 1) s.frames) (record s { acknowledged = s.acknowledged + 1 })
+
+-- a reply byte, by phases
+abbrev pub reply_in : {limit : ℕ} → Phase → ℕ → SenderState → SenderStep limit
+reply_in Neutral b s = if b == ENQ then gives Nak s else gives Nothing s
+reply_in AwaitLine b s =
+    if b == ACK then sends s.frames s
+    else if b == ENQ then gives Nothing (record s { phase = Contention })
+    else gives Nothing (record s { phase = Busy })
+reply_in Busy b s = gives Nothing s
+reply_in Contention b s = gives Nothing s
+reply_in AwaitReply b s =
+    if b == ACK || b == EOT then is_accepted s else sends_again (drop s.acknowledged s.frames) s
+
+abbrev pub on_reply : {limit : ℕ} → ℕ → SenderState → SenderStep limit
+on_reply b s = reply_in s.phase b s
+
+-- the timer runs out, by phases
+abbrev pub timer_in : {limit : ℕ} → Phase → SenderState → SenderStep limit
+timer_in Neutral s = gives Nothing s
+timer_in AwaitLine s = ends TimedOut s
+timer_in Busy s = gives Enq (record s { phase = AwaitLine })
+timer_in Contention s = gives Enq (record s { phase = AwaitLine })
+timer_in AwaitReply s = ends TimedOut s
+
+abbrev pub on_sender_timer : {limit : ℕ} → SenderState → SenderStep limit
+on_sender_timer s = timer_in s.phase s
+
+-- the sender is restarted, by phases
+abbrev pub restart_in : Phase → SenderState → SenderState
+restart_in Neutral s = s
+restart_in AwaitLine s = record s { phase = Neutral; outcome = Some Restarted }
+restart_in Busy s = record s { phase = Neutral; outcome = Some Restarted }
+restart_in Contention s = record s { phase = Neutral; outcome = Some Restarted }
+restart_in AwaitReply s = record s { phase = Neutral; outcome = Some Restarted }
+
+abbrev pub sender_restarted : SenderState → SenderState
+sender_restarted s = restart_in s.phase s
+
+-- the first text that is no link text, counted from a place on
+abbrev pub bad_text_or : Option TextFault → ℕ → Option StartFault → Option StartFault
+bad_text_or None index later = later
+bad_text_or (Some fault) index later = Some (BadText index fault)
+
+abbrev pub bad_text : ℕ → List (List ℕ) → Option StartFault
+bad_text index [] = None
+bad_text index (text ∷ texts) = bad_text_or (text_fault longest_text text) index (bad_text (index + 1) texts)
+
+abbrev pub bad_texts : List (List ℕ) → Option StartFault
+bad_texts [] = Some NoText
+bad_texts (text ∷ texts) = bad_text 0 (text ∷ texts)
+
+abbrev pub start_fault_in : Phase → List (List ℕ) → Option StartFault
+start_fault_in Neutral texts = bad_texts texts
+start_fault_in AwaitLine texts = Some InSession
+start_fault_in Busy texts = Some InSession
+start_fault_in Contention texts = Some InSession
+start_fault_in AwaitReply texts = Some InSession
+
+-- why a start is refused, if it is
+abbrev pub start_fault : SenderState → List (List ℕ) → Option StartFault
+start_fault s texts = start_fault_in s.phase texts
+
+-- the sender after a start that is not refused; ENQ goes on the link
+abbrev pub started : ℕ → List (List ℕ) → SenderState
+started limit texts =
+    record { frames = session_frames limit texts; acknowledged = 0; phase = AwaitLine; tries = 0; outcome = None }

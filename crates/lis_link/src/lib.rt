@@ -1,0 +1,5 @@
+//! The two ends of the data link of LIS01-A2: the sender and the receiver, as machines without a clock.
+#![tactic(auto)]
+
+pub mod receiver;
+pub mod sender;

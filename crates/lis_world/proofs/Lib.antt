@@ -1,0 +1,18 @@
+-- Why the world is safe: an invariant that joins both ends and the link.
+pub mod SessionLemmas
+pub mod Invariant
+pub mod Leaving
+pub mod Hearing
+pub mod Cutting
+pub mod Arrival
+pub mod BadHeard
+pub mod Delivery
+pub mod Base
+pub mod Sending
+pub mod Replies
+pub mod Timers
+pub mod Starting
+pub mod Safety
+pub mod Fitting
+pub mod Rounds
+pub mod Carrying

@@ -1,0 +1,7 @@
+-- The link between the two ends, what can happen on it, and what is safe.
+pub mod Unit
+pub mod Session
+pub mod World
+pub mod Steps
+pub mod Safe
+pub mod Progress

@@ -1,0 +1,41 @@
+//! What can happen on the link.
+
+use lis_frame::{LinkText, List, Texts};
+
+/// One event. Where it isn't allowed, it does nothing.
+#[derive(Drop)]
+pub enum Event {
+    /// The sender starts a session with these texts; not allowed where the start is refused.
+    Start(Texts),
+    /// The front unit comes to the receiver.
+    Deliver,
+    /// The front unit comes to the receiver while it has no room.
+    DeliverNoRoom,
+    /// These bytes come in the front unit's place; allowed where the receiver notices.
+    Damage(LinkText),
+    /// The front unit is lost.
+    Lose,
+    /// The front reply comes to the sender.
+    Reply,
+    /// This byte, which is neither ACK nor EOT, comes in the front reply's place.
+    DamageReply(u8),
+    /// The front reply is lost.
+    LoseReply,
+    /// The sender's timer runs out: no reply to a unit on its way comes any more.
+    SenderTimer,
+    /// The receiver's timer runs out.
+    ReceiverTimer,
+    /// The sender is restarted.
+    RestartSender,
+    /// The receiver is restarted.
+    RestartReceiver,
+    /// The receiver answers ENQ with ACK from now on.
+    Ready,
+    /// The receiver answers ENQ with NAK from now on.
+    Busy,
+    /// The receiver answers the next ENQ with ENQ.
+    Contending,
+}
+
+/// Events, in their order.
+pub type Events = List<Event>;
