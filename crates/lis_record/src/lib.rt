@@ -1,0 +1,17 @@
+//! Records of a laboratory message (LIS02-A2): delimiters, escapes, fields, and how they are read and
+//! written.
+#![tactic(auto)]
+
+pub mod delimiting;
+pub mod faults;
+pub mod kinds;
+pub mod parts;
+pub mod records;
+pub mod symbols;
+
+pub use delimiting::{DelimiterFault, Delimiters};
+pub use faults::{DelimiterPartFault, RecordFault, WriteFault};
+pub use kinds::Kind;
+pub use parts::{Component, Field, Repeat};
+pub use records::{RECORD_LIMIT, Record};
+pub use symbols::Sym;
