@@ -1,6 +1,7 @@
 pub mod Delimiters
 pub mod Escapes
 pub mod Faults
+pub mod FrontReading
 pub mod Kinds
 pub mod Relation
 pub mod Shape
