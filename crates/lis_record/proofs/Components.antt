@@ -19,7 +19,7 @@ use Rattle.lis_record.specs.Shape.{Symbols}
 
 -- ---- no escape holds an escape byte
 
-test_false : (a b : ℕ) → a ≢ b → (a == b) ≡ false
+pub test_false : (a b : ℕ) → a ≢ b → (a == b) ≡ false
 test_false a b h = grind (arith, nat_tests)
 
 -- a punctuation byte is no letter of an escape
@@ -32,7 +32,7 @@ is_hex_digit-punctuation : (byte : ℕ) → is_punctuation byte ≡ true → is_
 unfolding is_punctuation
 is_hex_digit-punctuation byte h = grind (arith, nat_tests)
 
-some_none : {X : Type 0} (x : X) → (o : Option X) → o ≡ Some x → o ≡ None → ⊥
+pub some_none : {X : Type 0} (x : X) → (o : Option X) → o ≡ Some x → o ≡ None → ⊥
 some_none x o h k = cc
 
 Lacks-letter : (d : DelimiterBytes) → IsDelimiters d → (letter : ℕ) (symbols : Symbols) → letter_escape d letter ≡ Some symbols → letter ≢ d.escape
@@ -76,10 +76,10 @@ Lacks-inside d good (letter ∷ digit ∷ digits) symbols h =
           cc none
     ]
 
-ltb-past : (m n : ℕ) → n ≤ m → ltb m n ≡ false
+pub ltb-past : (m n : ℕ) → n ≤ m → ltb m n ≡ false
 ltb-past m n h = grind (arith, nat_tests)
 
-ltb_tells : (m n : ℕ) → ((ltb m n ≡ true) × (m < n)) ⊎ ((ltb m n ≡ false) × (n ≤ m))
+pub ltb_tells : (m n : ℕ) → ((ltb m n ≡ true) × (m < n)) ⊎ ((ltb m n ≡ false) × (n ≤ m))
 ltb_tells m n = elim (cases_lt m n) [ inl below ↦ inl (lt-ltb m n below, below) | inr past ↦ inr (ltb-past m n past, past) ]
 
 -- ---- where an escape ends
@@ -121,7 +121,7 @@ split_at_first mark (x ∷ xs) h =
           rw (other.0, one-add, add-one) (ap (λ (l : List ℕ). x ∷ l) (more ∙ ap (λ (k : ℕ). take n xs ++ mark ∷ drop k xs) (add-one n)))
     ]
 
-option_map-some : {X Y : Type 0} (f : X → Y) (o : Option X) (y : Y) → option_map f o ≡ Some y → (x : X) × (o ≡ Some x) × (f x ≡ y)
+pub option_map-some : {X Y : Type 0} (f : X → Y) (o : Option X) (y : Y) → option_map f o ≡ Some y → (x : X) × (o ≡ Some x) × (f x ≡ y)
 option_map-some f None y h = cc
 option_map-some f (Some x) y h = (x, refl, cc)
 
@@ -182,7 +182,7 @@ symbols_of-lone d text h = rw (eq-eqb d.escape d.escape refl, h) refl
 
 -- ---- the relation and the function agree
 
-escape_cases : {X : Type 0} (o : Option X) → (o ≡ None) ⊎ ((x : X) × (o ≡ Some x))
+pub escape_cases : {X : Type 0} (o : Option X) → (o ≡ None) ⊎ ((x : X) × (o ≡ Some x))
 escape_cases None = inl refl
 escape_cases (Some x) = inr (x, refl)
 

@@ -1,3 +1,4 @@
 pub mod Components
+pub mod FaultLaws
 pub mod Joins
 pub mod RecordTexts

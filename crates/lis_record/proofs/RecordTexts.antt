@@ -69,3 +69,31 @@ IsRecord-one d good text r s h g =
     append_cancel_left (declared_part d s.kind) h.fields_text g.fields_text (rw same_kind at behind) in
     same_content r s same_kind
     (fields_of-AreFieldTexts d good h.fields_text r.fields h.fields_are ∙ ap (fields_of d) same_rest ∙ sym (fields_of-AreFieldTexts d good g.fields_text s.fields g.fields_are))
+
+-- a text's letter tells its kind, whatever the delimiters
+pub IsRecord-kind : (d e : DelimiterBytes) (text : List ℕ) (r s : RecordContent) → IsRecord d text r → IsRecord e text s → r.kind ≡ s.kind
+IsRecord-kind d e text r s h g =
+    let both : h.letter ∷ (declared_part d r.kind ++ h.fields_text) ≡ g.letter ∷ (declared_part e s.kind ++ g.fields_text) = sym h.whole ∙ g.whole in
+    let letters : h.letter ≡ g.letter = cc in
+    same_some r.kind s.kind (sym h.kind_is ∙ ap kind_of letters ∙ g.kind_is)
+
+same_delimiters : (d e : DelimiterBytes) → d.field ≡ e.field → d.repeat ≡ e.repeat → d.component ≡ e.component → d.escape ≡ e.escape → d ≡ e
+same_delimiters d e fields repeats components escapes =
+    let f : ℕ → ℕ → ℕ → ℕ → DelimiterBytes = λ a b c g. record { field = a; repeat = b; component = c; escape = g } in
+    ap (λ (a : ℕ). f a d.repeat d.component d.escape) fields ∙ ap (λ (b : ℕ). f e.field b d.component d.escape) repeats
+    ∙ ap (λ (c : ℕ). f e.field e.repeat c d.escape) components ∙ ap (f e.field e.repeat e.component) escapes
+
+-- a header's text has one set of delimiters and one record
+pub IsRecord-header_one : (d e : DelimiterBytes) → IsDelimiters d → (text : List ℕ) (r s : RecordContent) → r.kind ≡ kinds.H
+    → IsRecord d text r → IsRecord e text s → (d ≡ e) × (r ≡ s)
+IsRecord-header_one d e good text r s is_header h g =
+    let other_header : s.kind ≡ kinds.H = sym (IsRecord-kind d e text r s h g) ∙ is_header in
+    let left : text ≡ h.letter ∷ d.field ∷ d.repeat ∷ d.component ∷ d.escape ∷ h.fields_text = h.whole ∙ ap (λ (k : Kind). h.letter ∷ declared_part d k ++ h.fields_text) is_header in
+    let right : text ≡ g.letter ∷ e.field ∷ e.repeat ∷ e.component ∷ e.escape ∷ g.fields_text = g.whole ∙ ap (λ (k : Kind). g.letter ∷ declared_part e k ++ g.fields_text) other_header in
+    let both : h.letter ∷ d.field ∷ d.repeat ∷ d.component ∷ d.escape ∷ h.fields_text ≡ g.letter ∷ e.field ∷ e.repeat ∷ e.component ∷ e.escape ∷ g.fields_text = sym left ∙ right in
+    let fields : d.field ≡ e.field = cc in
+    let repeats : d.repeat ≡ e.repeat = cc in
+    let components : d.component ≡ e.component = cc in
+    let escapes : d.escape ≡ e.escape = cc in
+    let same : d ≡ e = same_delimiters d e fields repeats components escapes in
+    (same, IsRecord-one d good text r s h (subst (λ (x : DelimiterBytes). IsRecord x text s) (sym same) g))
