@@ -1,19 +1,17 @@
 -- A component's text: the relation by cases, and reading from the front.
-use Rattle.std.proofs.Common.{◌≡◌, ◌≢◌, ℕ, zero, suc, ◌+◌, ◌-◌, ◌<◌, ◌≤◌, ◌==◌, Bool, true, false, not, cond, ltb, eqb, ◌⊎◌, inl, inr, List, [], ◌∷◌, ◌++◌, map, length, take, drop, Option, Some, None, Result, Ok, Err, refl, sym, ap, ◌∙◌, subst, eq-eqb, length-append, option_map, one-add, arith, rules, IsTrue, append_assoc, add-one}
-use Rattle.std.proofs.lemmas.Grind.{common_steps}
+use Rattle.std.proofs.Common.{◌≡◌, ◌≢◌, ℕ, zero, suc, ◌+◌, ◌<◌, ◌≤◌, ◌==◌, true, false, ltb, ◌⊎◌, inl, inr, List, [], ◌∷◌, ◌++◌, length, take, drop, Option, Some, None, Result, Ok, Err, refl, sym, ap, ◌∙◌, eq-eqb, length-append, option_map, one-add, arith, add-one}
 use Rattle.std.proofs.lemmas.Bool.Decides.{nat_tests, eqb_tells}
-use Rattle.std.proofs.lemmas.Bool.{cases_eq, cases_lt, eqb-true, lt-ltb}
+use Rattle.std.proofs.lemmas.Bool.{cases_eq, cases_lt, lt-ltb}
 use Rattle.hex.proofs.HexLemmas.{decode_of-ok}
-use Rattle.std.proofs.lemmas.List.{take_at, drop_at, drop_more, take-append-drop}
-use Rattle.std.proofs.lemmas.List.Elements.{All-head, All-tail, All-cons, All-nil, All-weaker, All-append}
-use Rattle.std.specs.List.{All, AllPass, position_or_len, prefix_len}
-use Rattle.hex.specs.Hex.{decode_of, is_hex_digit, hex_digit_value}
+use Rattle.std.proofs.lemmas.List.{take_at}
+use Rattle.std.proofs.lemmas.List.Elements.{All-head, All-tail, All-cons, All-nil, All-weaker}
+use Rattle.std.specs.List.{AllPass, position_or_len}
+use Rattle.hex.specs.Hex.{decode_of, is_hex_digit}
 use Rattle.hex.specs.declared.error.FromHexError.{FromHexError}
-use Rattle.lis_record.specs.declared.symbols.Sym.{Sym}
-use Rattle.lis_record.specs.declared.symbols.Sym.TheVariants.{Char, Raw, On, Off}
+use Rattle.lis_record.specs.declared.symbols.Sym.TheVariants.{Char}
 use Rattle.lis_record.specs.Delimiters.{DelimiterBytes, IsDelimiters, is_punctuation}
 use Rattle.lis_record.specs.Escapes.{IsComponent, nothing, plain, escape, lone, BeginsEscape, escape_of, letter_escape, raw_symbols}
-use Rattle.lis_record.specs.FrontReading.{escape_at, symbols_after, symbols_behind, symbols_of}
+use Rattle.lis_record.specs.FrontReading.{escape_at, symbols_after, symbols_of}
 use Rattle.lis_record.specs.Relation.{Lacks}
 use Rattle.lis_record.specs.Shape.{Symbols}
 
@@ -44,9 +42,9 @@ Lacks-letter d good letter symbols h e =
 Lacks-digits : (byte : ℕ) → is_punctuation byte ≡ true → (digits : List ℕ) → AllPass is_hex_digit digits → Lacks byte digits
 Lacks-digits byte h digits all =
     All-weaker (λ c. is_hex_digit c ≡ true) (λ c. c ≢ byte) (λ c digit e.
-      let no : is_hex_digit byte ≡ false = is_hex_digit-punctuation byte h in
-      let yes : is_hex_digit byte ≡ true = rw (← e) digit in
-      cc) digits all
+    let no : is_hex_digit byte ≡ false = is_hex_digit-punctuation byte h in
+    let yes : is_hex_digit byte ≡ true = rw (← e) digit in
+    cc) digits all
 
 raw_symbols-ok : (r : Result (List ℕ) FromHexError) (symbols : Symbols) → raw_symbols r ≡ Some symbols → (bytes : List ℕ) × (r ≡ Ok bytes)
 raw_symbols-ok (Ok bytes) symbols h = (bytes, refl)

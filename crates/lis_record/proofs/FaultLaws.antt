@@ -1,26 +1,24 @@
 -- A text is a record exactly where none of the faults stands.
-use Rattle.std.proofs.Common.{◌≡◌, ◌≢◌, ℕ, zero, suc, ◌+◌, ◌<◌, ◌≤◌, ◌==◌, Bool, true, false, not, ◌||◌, cond, ltb, List, [], ◌∷◌, ◌++◌, map, length, Option, Some, None, option_map, refl, sym, ap, ◌∙◌, subst, eq-eqb, arith, get_or, inl, inr, ◌⊎◌}
+use Rattle.std.proofs.Common.{◌≡◌, ◌≢◌, ℕ, ◌≤◌, ◌==◌, Bool, true, false, not, ◌||◌, cond, ltb, List, [], ◌∷◌, ◌++◌, length, Option, Some, None, option_map, refl, sym, ap, ◌∙◌, eq-eqb, arith, get_or, inl, inr}
 use Rattle.std.specs.Option.{option_or}
-use Rattle.std.specs.List.{All, AllPass, position, position_or_len, flat_map}
-use Rattle.std.proofs.lemmas.List.Sums.{fails_before_first, passes_at_first, position_or_len_is, prefix_len-le-length}
+use Rattle.std.specs.List.{AllPass, position, position_or_len, flat_map}
+use Rattle.std.proofs.lemmas.List.Sums.{fails_before_first, position_or_len_is}
 use Rattle.std.proofs.lemmas.Bool.Decides.{eqb_tells, nat_tests}
 use Rattle.lis_record.specs.declared.kinds.Kind.{Kind}
 use Rattle.lis_record.specs.declared.kinds.Kind.TheVariants as kinds
-use Rattle.lis_record.specs.declared.faults.DelimiterPartFault.{DelimiterPartFault}
 use Rattle.lis_record.specs.declared.faults.DelimiterPartFault.TheVariants.{Trailing}
-use Rattle.lis_record.specs.declared.faults.RecordFault.{RecordFault}
 use Rattle.lis_record.specs.declared.faults.RecordFault.TheVariants as record_faults
 use Rattle.lis_record.specs.declared.records.TheConstants.{RECORD_LIMIT}
 use Rattle.lis_record.specs.Delimiters.{DelimiterBytes, IsDelimiters, delimiter_fault, delimiter_list, is_punctuation, repeated_from}
 use Rattle.lis_record.specs.declared.delimiting.DelimiterFault.TheVariants.{NotPunctuation, Repeated}
 use Rattle.std.proofs.lemmas.List.Elements.{All-cons, All-nil}
-use Rattle.lis_record.specs.Faults.{delimiter_part_fault, header_fault, is_header_kind, is_other_kind, record_fault, second_byte_fault, text_fault, trailing_fault}
+use Rattle.lis_record.specs.Faults.{delimiter_part_fault, header_fault, is_other_kind, record_fault, second_byte_fault, text_fault, trailing_fault}
 use Rattle.lis_record.specs.FrontReading.{fields_of}
 use Rattle.lis_record.specs.Kinds.{kind_of}
 use Rattle.lis_record.specs.Relation.{AreFieldTexts, IsRecord, declared_part}
 use Rattle.lis_record.specs.Shape.{RecordContent}
 use Rattle.lis_record.specs.Text.{IsText, is_text_byte, bad_byte_place}
-use Rattle.lis_record.proofs.Components.{escape_cases, ltb-past, ltb_tells, test_false}
+use Rattle.lis_record.proofs.Components.{ltb-past, ltb_tells, test_false}
 use Rattle.lis_record.proofs.RecordTexts.{AreFieldTexts-fields_of, AreFieldTexts-none}
 
 not-false : (b : Bool) → not b ≡ false → b ≡ true
@@ -33,11 +31,11 @@ not-true false h = cc
 
 -- ---- the first of two faults
 
-option_or-none : {X : Type 0} (o p : Option X) → option_or o p ≡ None → (o ≡ None) × (p ≡ None)
+pub option_or-none : {X : Type 0} (o p : Option X) → option_or o p ≡ None → (o ≡ None) × (p ≡ None)
 option_or-none None p h = (refl, h)
 option_or-none (Some x) p h = cc
 
-option_map-none : {X Y : Type 0} (f : X → Y) (o : Option X) → option_map f o ≡ None → o ≡ None
+pub option_map-none : {X Y : Type 0} (f : X → Y) (o : Option X) → option_map f o ≡ None → o ≡ None
 option_map-none f None h = refl
 option_map-none f (Some x) h = cc
 
@@ -45,7 +43,7 @@ cond_none : {X : Type 0} (b : Bool) (x : X) → cond b None (Some x) ≡ None �
 cond_none true x h = refl
 cond_none false x h = cc
 
-none_cond : {X : Type 0} (b : Bool) (x : X) → cond b (Some x) None ≡ None → b ≡ false
+pub none_cond : {X : Type 0} (b : Bool) (x : X) → cond b (Some x) None ≡ None → b ≡ false
 none_cond true x h = cc
 none_cond false x h = refl
 

@@ -1,4 +1,5 @@
 pub mod Components
 pub mod FaultLaws
 pub mod Joins
+pub mod ReadBack
 pub mod RecordTexts

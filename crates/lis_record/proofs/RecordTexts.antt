@@ -1,16 +1,16 @@
 -- A text is one record at most, and what reading from the front gives is that record.
-use Rattle.std.proofs.Common.{◌≡◌, ◌≢◌, ℕ, zero, suc, ◌+◌, ◌<◌, ◌≤◌, ◌==◌, Bool, true, false, cond, List, [], ◌∷◌, ◌++◌, map, length, Option, Some, None, refl, sym, ap, ◌∙◌, subst, arith}
+use Rattle.std.proofs.Common.{◌≡◌, ℕ, ◌<◌, List, [], ◌∷◌, ◌++◌, map, length, Some, refl, sym, ap, ◌∙◌, subst, arith}
 use Rattle.std.proofs.lemmas.List.{append_cancel_left}
 use Rattle.std.proofs.lemmas.List.Splits.{join_with_byte-slice_split}
-use Rattle.std.specs.List.{All, AllZip, flat_map, join_with_byte}
+use Rattle.std.specs.List.{All, flat_map, join_with_byte}
 use Rattle.lis_record.specs.declared.kinds.Kind.{Kind}
 use Rattle.lis_record.specs.declared.kinds.Kind.TheVariants as kinds
-use Rattle.lis_record.specs.Delimiters.{DelimiterBytes, IsDelimiters, delimiter_list}
+use Rattle.lis_record.specs.Delimiters.{DelimiterBytes, IsDelimiters}
 use Rattle.lis_record.specs.FrontReading.{parts_of, symbols_of, components_of, repeats_of, fields_of}
 use Rattle.lis_record.specs.Kinds.{kind_of}
-use Rattle.lis_record.specs.Relation.{AreFieldTexts, IsField, IsJoined, IsRecord, IsRepeat, Lacks, declared_part}
+use Rattle.lis_record.specs.Relation.{AreFieldTexts, IsField, IsRecord, IsRepeat, Lacks, declared_part}
 use Rattle.lis_record.specs.Escapes.{IsComponent}
-use Rattle.lis_record.specs.Shape.{Components, Fields, Repeats, RecordContent, Symbols}
+use Rattle.lis_record.specs.Shape.{Components, Fields, Repeats, RecordContent}
 use Rattle.lis_record.proofs.Components.{IsComponent-symbols_of, symbols_of-IsComponent}
 use Rattle.lis_record.proofs.Joins.{AllZip-map, map-AllZip, IsJoined-map, map-IsJoined, flat_map-join, parts_of-apart, parts_of-join, parts_of-some}
 

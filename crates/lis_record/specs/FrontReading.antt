@@ -1,7 +1,6 @@
 -- Reading a text from its front, once: the same symbols, components, repeats and fields as the relation has.
-use Rattle.std.specs.Prelude.{ℕ, zero, suc, ◌+◌, ◌==◌, nat_lt, cond, if◌then◌else◌, List, [], ◌∷◌, ◌++◌, map, take, length, Option, Some, None, option_map, unwrap_or}
+use Rattle.std.specs.Prelude.{ℕ, zero, suc, ◌+◌, ◌==◌, nat_lt, cond, if◌then◌else◌, List, [], ◌∷◌, ◌++◌, map, take, length, Option, Some, None, option_map}
 use Rattle.std.specs.List.{position_or_len, slice_split}
-use Rattle.lis_record.specs.declared.kinds.Kind.{Kind}
 use Rattle.lis_record.specs.declared.symbols.Sym.{Sym}
 use Rattle.lis_record.specs.declared.symbols.Sym.TheVariants.{Char}
 use Rattle.lis_record.specs.Delimiters.{DelimiterBytes}
