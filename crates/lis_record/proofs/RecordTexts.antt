@@ -1,5 +1,5 @@
 -- A text is one record at most, and what reading from the front gives is that record.
-use Rattle.std.proofs.Common.{◌≡◌, ℕ, ◌<◌, List, [], ◌∷◌, ◌++◌, map, length, Some, refl, sym, ap, ◌∙◌, subst, arith}
+use Rattle.std.proofs.Common.{◌≡◌, ◌≢◌, ℕ, true, ◌<◌, List, [], ◌∷◌, ◌++◌, map, length, Some, refl, sym, ap, ◌∙◌, subst, arith}
 use Rattle.std.proofs.lemmas.List.{append_cancel_left}
 use Rattle.std.proofs.lemmas.List.Splits.{join_with_byte-slice_split}
 use Rattle.std.specs.List.{All, flat_map, join_with_byte}
@@ -11,6 +11,9 @@ use Rattle.lis_record.specs.Kinds.{kind_of}
 use Rattle.lis_record.specs.Relation.{AreFieldTexts, IsField, IsRecord, IsRepeat, Lacks, declared_part}
 use Rattle.lis_record.specs.Escapes.{IsComponent}
 use Rattle.lis_record.specs.Shape.{Components, Fields, Repeats, RecordContent}
+use Rattle.lis_record.specs.Text.{IsText, is_text_byte}
+use Rattle.std.proofs.lemmas.Bool.Decides.{nat_tests}
+use Rattle.std.proofs.lemmas.List.Elements.{All-weaker}
 use Rattle.lis_record.proofs.Components.{IsComponent-symbols_of, symbols_of-IsComponent}
 use Rattle.lis_record.proofs.Joins.{AllZip-map, map-AllZip, IsJoined-map, map-IsJoined, flat_map-join, parts_of-apart, parts_of-join, parts_of-some}
 
@@ -97,3 +100,11 @@ IsRecord-header_one d e good text r s is_header h g =
     let escapes : d.escape ≡ e.escape = cc in
     let same : d ≡ e = same_delimiters d e fields repeats components escapes in
     (same, IsRecord-one d good text r s h (subst (λ (x : DelimiterBytes). IsRecord x text s) (sym same) g))
+
+CR_is_no_text : (byte : ℕ) → is_text_byte byte ≡ true → byte ≢ 13
+unfolding is_text_byte
+CR_is_no_text byte h same = grind (arith, nat_tests)
+
+-- no CR stands in a text
+pub Lacks-CR : (text : List ℕ) → IsText text → Lacks 13 text
+Lacks-CR text h = All-weaker (λ byte. is_text_byte byte ≡ true) (λ byte. byte ≢ 13) CR_is_no_text text h

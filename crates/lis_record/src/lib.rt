@@ -5,6 +5,7 @@
 pub mod delimiting;
 pub mod faults;
 pub mod kinds;
+pub mod laws;
 pub mod parts;
 pub mod records;
 pub mod symbols;
