@@ -1,4 +1,5 @@
 -- A component's text: the relation by cases, and reading from the front.
+use Rattle.lis_record.specs.declared.symbols.Sym.{Sym}
 use Rattle.std.proofs.Common.{◌≡◌, ◌≢◌, ℕ, zero, suc, ◌+◌, ◌<◌, ◌≤◌, ◌==◌, true, false, ltb, ◌⊎◌, inl, inr, List, [], ◌∷◌, ◌++◌, length, take, drop, Option, Some, None, Result, Ok, Err, refl, sym, ap, ◌∙◌, eq-eqb, length-append, option_map, one-add, arith, add-one}
 use Rattle.std.proofs.lemmas.Bool.Decides.{nat_tests, eqb_tells}
 use Rattle.std.proofs.lemmas.Bool.{cases_eq, cases_lt, lt-ltb}
@@ -10,7 +11,7 @@ use Rattle.hex.specs.Hex.{decode_of, is_hex_digit}
 use Rattle.hex.specs.declared.error.FromHexError.{FromHexError}
 use Rattle.lis_record.specs.declared.symbols.Sym.TheVariants.{Char}
 use Rattle.lis_record.specs.Delimiters.{DelimiterBytes, IsDelimiters, is_punctuation}
-use Rattle.lis_record.specs.Escapes.{IsComponent, nothing, plain, escape, lone, BeginsEscape, escape_of, letter_escape, raw_symbols}
+use Rattle.lis_record.specs.Escapes.{IsComponent, nothing, plain, escape, lone, BeginsEscape, escape_of, letter_symbol, raw_symbols}
 use Rattle.lis_record.specs.FrontReading.{escape_at, symbols_after, symbols_of}
 use Rattle.lis_record.specs.Relation.{Lacks}
 use Rattle.lis_record.specs.Shape.{Symbols}
@@ -21,9 +22,9 @@ pub test_false : (a b : ℕ) → a ≢ b → (a == b) ≡ false
 test_false a b h = grind (arith, nat_tests)
 
 -- a punctuation byte is no letter of an escape
-letter_escape-punctuation : (d : DelimiterBytes) (byte : ℕ) → is_punctuation byte ≡ true → letter_escape d byte ≡ None
+letter_symbol-punctuation : (d : DelimiterBytes) (byte : ℕ) → is_punctuation byte ≡ true → letter_symbol d byte ≡ None
 unfolding is_punctuation
-letter_escape-punctuation d byte h = grind (arith, nat_tests)
+letter_symbol-punctuation d byte h = grind (arith, nat_tests)
 
 -- nor a hexadecimal digit
 is_hex_digit-punctuation : (byte : ℕ) → is_punctuation byte ≡ true → is_hex_digit byte ≡ false
@@ -33,10 +34,14 @@ is_hex_digit-punctuation byte h = grind (arith, nat_tests)
 pub some_none : {X : Type 0} (x : X) → (o : Option X) → o ≡ Some x → o ≡ None → ⊥
 some_none x o h k = cc
 
-Lacks-letter : (d : DelimiterBytes) → IsDelimiters d → (letter : ℕ) (symbols : Symbols) → letter_escape d letter ≡ Some symbols → letter ≢ d.escape
-Lacks-letter d good letter symbols h e =
-    some_none symbols (letter_escape d letter) h
-    (letter_escape-punctuation d letter (rw e good.escape_is))
+pub option_map-some : {X Y : Type 0} (f : X → Y) (o : Option X) (y : Y) → option_map f o ≡ Some y → (x : X) × (o ≡ Some x) × (f x ≡ y)
+option_map-some f None y h = cc
+option_map-some f (Some x) y h = (x, refl, cc)
+
+Lacks-letter : (d : DelimiterBytes) → IsDelimiters d → (letter : ℕ) (symbol : Sym) → letter_symbol d letter ≡ Some symbol → letter ≢ d.escape
+Lacks-letter d good letter symbol h e =
+    some_none symbol (letter_symbol d letter) h
+    (letter_symbol-punctuation d letter (rw e good.escape_is))
 
 -- digits hold no punctuation byte
 Lacks-digits : (byte : ℕ) → is_punctuation byte ≡ true → (digits : List ℕ) → AllPass is_hex_digit digits → Lacks byte digits
@@ -59,7 +64,8 @@ pub Lacks-inside : (d : DelimiterBytes) → IsDelimiters d → (inside : List �
 unfolding escape_of
 Lacks-inside d good [] symbols h = cc
 Lacks-inside d good (letter ∷ []) symbols h =
-    All-cons (λ c. c ≢ d.escape) letter [] (Lacks-letter d good letter symbols h) (All-nil (λ c. c ≢ d.escape))
+    let one = option_map-some (λ (symbol : Sym). symbol ∷ []) (letter_symbol d letter) symbols h in
+    All-cons (λ c. c ≢ d.escape) letter [] (Lacks-letter d good letter one.0 one.1) (All-nil (λ c. c ≢ d.escape))
 Lacks-inside d good (letter ∷ digit ∷ digits) symbols h =
     elim (cases_eq letter 88) [
       | inl e ↦
@@ -118,10 +124,6 @@ split_at_first mark (x ∷ xs) h =
           let more = split_at_first mark xs within in
           rw (other.0, one-add, add-one) (ap (λ (l : List ℕ). x ∷ l) (more ∙ ap (λ (k : ℕ). take n xs ++ mark ∷ drop k xs) (add-one n)))
     ]
-
-pub option_map-some : {X Y : Type 0} (f : X → Y) (o : Option X) (y : Y) → option_map f o ≡ Some y → (x : X) × (o ≡ Some x) × (f x ≡ y)
-option_map-some f None y h = cc
-option_map-some f (Some x) y h = (x, refl, cc)
 
 -- what is found is an escape that begins
 pub record BegunAt (d : DelimiterBytes) (text : List ℕ) (found : Symbols × ℕ) : Type 0 where

@@ -9,7 +9,7 @@ use Rattle.lis_record.specs.declared.kinds.Kind.TheVariants as kinds
 use Rattle.lis_record.specs.declared.faults.DelimiterPartFault.TheVariants.{Trailing}
 use Rattle.lis_record.specs.declared.faults.RecordFault.TheVariants as record_faults
 use Rattle.lis_record.specs.declared.records.TheConstants.{RECORD_LIMIT}
-use Rattle.lis_record.specs.Delimiters.{DelimiterBytes, IsDelimiters, delimiter_fault, delimiter_list, is_punctuation, repeated_from}
+use Rattle.lis_record.specs.Delimiters.{DelimiterBytes, IsDelimiters, delimiter_fault, delimiter_list, delimiters_of, is_punctuation, repeated_from}
 use Rattle.lis_record.specs.declared.delimiting.DelimiterFault.TheVariants.{NotPunctuation, Repeated}
 use Rattle.std.proofs.lemmas.List.Elements.{All-cons, All-nil}
 use Rattle.lis_record.specs.Faults.{delimiter_part_fault, header_fault, is_other_kind, record_fault, second_byte_fault, text_fault, trailing_fault}
@@ -158,10 +158,6 @@ record_fault-IsRecord d text content other h =
 
 -- ---- headers
 
--- the four bytes behind a header's letter, as delimiters
-abbrev pub declared_as : ℕ → ℕ → ℕ → ℕ → DelimiterBytes
-declared_as f r c e = record { field = f; repeat = r; component = c; escape = e }
-
 cond_none_both : {X : Type 0} (b : Bool) (x : X) (o : Option X) → cond b (Some x) o ≡ None → (b ≡ false) × (o ≡ None)
 cond_none_both true x o h = cc
 cond_none_both false x o h = (refl, h)
@@ -196,9 +192,9 @@ repeated_from-AreDistinct : (f r c e : ℕ) → AreDistinct f r c e → repeated
 repeated_from-AreDistinct f r c e h =
     rw (test_false f r h.field_repeat, test_false r c h.repeat_component, test_false f c h.field_component, test_false c e h.component_escape, test_false r e h.repeat_escape, test_false f e h.field_escape) refl
 
-pub IsDelimiters-declared_as : (f r c e : ℕ) → delimiter_fault (f ∷ r ∷ c ∷ e ∷ []) ≡ None → IsDelimiters (declared_as f r c e)
+pub IsDelimiters-delimiters_of : (f r c e : ℕ) → delimiter_fault (f ∷ r ∷ c ∷ e ∷ []) ≡ None → IsDelimiters (delimiters_of f r c e)
 unfolding delimiter_fault
-IsDelimiters-declared_as f r c e h =
+IsDelimiters-delimiters_of f r c e h =
     let bytes = f ∷ r ∷ c ∷ e ∷ [] in
     let both = option_or-none (option_map NotPunctuation (position (λ b. not (is_punctuation b)) bytes)) (option_map Repeated (repeated_from [] 0 bytes)) h in
     let marks = AllPass-position is_punctuation bytes (option_map-none NotPunctuation (position (λ b. not (is_punctuation b)) bytes) both.0) in
@@ -246,16 +242,16 @@ trailing_byte-field field (first ∷ others) h byte rest e =
 -- a text in which no fault stands is a header, under the delimiters that it declares
 pub IsRecord-header : (letter f r c e : ℕ) (bytes : List ℕ) → kind_of letter ≡ Some kinds.H → delimiter_fault (f ∷ r ∷ c ∷ e ∷ []) ≡ None → trailing_fault f bytes ≡ None
     → text_fault (letter ∷ f ∷ r ∷ c ∷ e ∷ bytes) ≡ None
-    → IsRecord (declared_as f r c e) (letter ∷ f ∷ r ∷ c ∷ e ∷ bytes) (record { kind = kinds.H; fields = fields_of (declared_as f r c e) bytes })
+    → IsRecord (delimiters_of f r c e) (letter ∷ f ∷ r ∷ c ∷ e ∷ bytes) (record { kind = kinds.H; fields = fields_of (delimiters_of f r c e) bytes })
 IsRecord-header letter f r c e bytes letter_is marks trailing texts =
-    let d = declared_as f r c e in
+    let d = delimiters_of f r c e in
     let fine = text_fault-none (letter ∷ f ∷ r ∷ c ∷ e ∷ bytes) texts in
     record {
       letter = letter;
       fields_text = bytes;
       whole = refl;
       kind_is = letter_is;
-      fields_are = AreFieldTexts-behind d (IsDelimiters-declared_as f r c e marks) bytes (trailing_byte-field f bytes trailing);
+      fields_are = AreFieldTexts-behind d (IsDelimiters-delimiters_of f r c e marks) bytes (trailing_byte-field f bytes trailing);
       is_text = fine.0;
       short = fine.1;
     }

@@ -13,10 +13,10 @@ use Rattle.lis_record.specs.declared.symbols.Sym.{Sym}
 use Rattle.lis_record.specs.declared.symbols.Sym.TheVariants.{Char, Raw, On, Off}
 use Rattle.lis_record.specs.Delimiters.{DelimiterBytes, IsDelimiters, is_punctuation}
 use Rattle.lis_record.specs.Escapes.{IsComponent, escape, escape_of, nothing, plain, raw_symbols}
-use Rattle.lis_record.specs.Faults.{check_fault, first_number, is_text_component, is_text_field, is_text_repeat, is_text_symbol, long_fault}
+use Rattle.lis_record.specs.Faults.{check_fault, is_text_component, is_text_field, is_text_repeat, is_text_symbol, long_fault}
 use Rattle.lis_record.specs.Kinds.{kind_of, letter_of}
 use Rattle.lis_record.specs.Relation.{AreFieldTexts, IsField, IsRecord, IsRepeat, Lacks, declared_part}
-use Rattle.lis_record.specs.Shape.{AreSymbols, Components, Fields, IsFieldShape, IsRecordShape, IsRepeatShape, IsSymbol, RecordContent, Repeats, Symbols}
+use Rattle.lis_record.specs.Shape.{first_number, AreSymbols, Components, Fields, IsFieldShape, IsRecordShape, IsRepeatShape, IsSymbol, RecordContent, Repeats, Symbols}
 use Rattle.lis_record.specs.Spelling.{letter_spelling, spelled, spelled_component, spelled_field, spelled_repeat, spelled_symbol}
 use Rattle.lis_record.specs.Text.{IsText, is_text_byte}
 use Rattle.lis_record.specs.declared.records.TheConstants.{RECORD_LIMIT}

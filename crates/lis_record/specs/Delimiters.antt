@@ -30,6 +30,10 @@ pub record IsDelimiters (d : DelimiterBytes) : Type 0 where
   pub repeat_escape : d.repeat ≢ d.escape
   pub component_escape : d.component ≢ d.escape
 
+-- four bytes, in the order of a header
+abbrev pub delimiters_of : ℕ → ℕ → ℕ → ℕ → DelimiterBytes
+delimiters_of f r c e = record { field = f; repeat = r; component = c; escape = e }
+
 -- as a header declares them
 abbrev pub delimiter_list : DelimiterBytes → List ℕ
 delimiter_list d = d.field ∷ d.repeat ∷ d.component ∷ d.escape ∷ []

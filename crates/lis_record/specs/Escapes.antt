@@ -1,20 +1,21 @@
 -- Escapes, and the relation between a text and the parts of a record (LIS02-A2, Delimiters).
-use Rattle.std.specs.Prelude.{◌≡◌, ◌≢◌, ℕ, ◌==◌, if◌then◌else◌, List, [], ◌∷◌, ◌++◌, map, Option, Some, None, Result, Ok, Err}
+use Rattle.lis_record.specs.declared.symbols.Sym.{Sym}
+use Rattle.std.specs.Prelude.{◌≡◌, ◌≢◌, ℕ, ◌==◌, if◌then◌else◌, List, [], ◌∷◌, ◌++◌, map, Option, Some, None, option_map, Result, Ok, Err}
 use Rattle.hex.specs.Hex.{decode_of}
 use Rattle.hex.specs.declared.error.FromHexError.{FromHexError}
 use Rattle.lis_record.specs.declared.symbols.Sym.TheVariants.{Char, Raw, On, Off}
 use Rattle.lis_record.specs.Delimiters.{DelimiterBytes}
 use Rattle.lis_record.specs.Shape.{Symbols}
 
--- an escape of one letter: H, N, F, S, R or E
-abbrev pub letter_escape : DelimiterBytes → ℕ → Option Symbols
-letter_escape d letter =
-    if letter == 72 then Some (On ∷ [])
-    else if letter == 78 then Some (Off ∷ [])
-    else if letter == 70 then Some (Char d.field ∷ [])
-    else if letter == 83 then Some (Char d.component ∷ [])
-    else if letter == 82 then Some (Char d.repeat ∷ [])
-    else if letter == 69 then Some (Char d.escape ∷ [])
+-- the symbol of an escape of one letter: H, N, F, S, R or E
+abbrev pub letter_symbol : DelimiterBytes → ℕ → Option Sym
+letter_symbol d letter =
+    if letter == 72 then Some On
+    else if letter == 78 then Some Off
+    else if letter == 70 then Some (Char d.field)
+    else if letter == 83 then Some (Char d.component)
+    else if letter == 82 then Some (Char d.repeat)
+    else if letter == 69 then Some (Char d.escape)
     else None
 
 -- the bytes of pairs of hexadecimal digits, in either case
@@ -26,7 +27,7 @@ raw_symbols (Err fault) = None
 -- pairs of hexadecimal digits.
 unfoldable pub escape_of : DelimiterBytes → List ℕ → Option Symbols
 escape_of d [] = None
-escape_of d (letter ∷ []) = letter_escape d letter
+escape_of d (letter ∷ []) = option_map (λ symbol. symbol ∷ []) (letter_symbol d letter)
 escape_of d (letter ∷ digit ∷ digits) = if letter == 88 then raw_symbols (decode_of (digit ∷ digits)) else None
 
 -- an escape begins behind an escape byte that this text follows

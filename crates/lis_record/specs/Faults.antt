@@ -1,5 +1,5 @@
 -- The first fault of a text that is no record, and of a record that is not written.
-use Rattle.std.specs.Prelude.{ℕ, ◌+◌, ◌==◌, nat_lt, Bool, true, false, not, if◌then◌else◌, List, [], ◌∷◌, length, Option, Some, None, option_map, position}
+use Rattle.std.specs.Prelude.{◌≡◌, ◌⊎◌, ℕ, ◌+◌, ◌==◌, nat_lt, Bool, true, false, not, if◌then◌else◌, List, [], ◌∷◌, length, Option, Some, None, option_map, position}
 use Rattle.std.specs.List.{list_all}
 use Rattle.std.specs.Option.{option_or}
 use Rattle.lis_record.specs.declared.faults.DelimiterPartFault.{DelimiterPartFault}
@@ -15,7 +15,7 @@ use Rattle.lis_record.specs.declared.symbols.Sym.{Sym}
 use Rattle.lis_record.specs.declared.symbols.Sym.TheVariants.{Char}
 use Rattle.lis_record.specs.Delimiters.{DelimiterBytes, delimiter_fault}
 use Rattle.lis_record.specs.Kinds.{kind_of}
-use Rattle.lis_record.specs.Shape.{Symbols, Components, Repeats, RecordContent}
+use Rattle.lis_record.specs.Shape.{Symbols, Components, Repeats, RecordContent, first_number}
 use Rattle.lis_record.specs.Spelling.{spelled, spelled_field}
 use Rattle.lis_record.specs.Text.{is_text_byte, bad_byte_place}
 
@@ -71,6 +71,10 @@ header_fault (letter ∷ bytes) =
     option_or (if is_header_kind (kind_of letter) then None else Some (record_faults.UnknownKind letter))
     (option_or (option_map record_faults.DelimiterPart (delimiter_part_fault bytes)) (text_fault (letter ∷ bytes)))
 
+-- an error tells the first fault, or want of memory where no fault stands
+abbrev pub TellsFault : RecordFault → Option RecordFault → Type 0
+TellsFault error fault = (fault ≡ Some error) ⊎ ((error ≡ record_faults.OutOfMemory) × (fault ≡ None))
+
 -- ---- writing
 
 -- whether what a symbol carries as a character is a text byte
@@ -86,11 +90,6 @@ is_text_repeat components = list_all is_text_component components
 
 abbrev pub is_text_field : Repeats → Bool
 is_text_field repeats = list_all is_text_repeat repeats
-
--- The letter is field 1, so the first field after it has number 2; in a header the delimiters are field 2.
-abbrev pub first_number : Kind → ℕ
-first_number kinds.H = 3
-first_number _ = 2
 
 -- the number of the first field with a character that is no text byte
 abbrev pub bad_field_number : RecordContent → Option ℕ

@@ -1,10 +1,14 @@
 -- Reading a text from its front, once: the same symbols, components, repeats and fields as the relation has.
-use Rattle.std.specs.Prelude.{ℕ, zero, suc, ◌+◌, ◌==◌, nat_lt, cond, if◌then◌else◌, List, [], ◌∷◌, ◌++◌, map, take, length, Option, Some, None, option_map}
+use Rattle.lis_record.specs.declared.kinds.Kind.{Kind}
+use Rattle.std.specs.Prelude.{◌≡◌, ◌≢◌, ℕ, zero, suc, ◌+◌, ◌==◌, nat_lt, cond, if◌then◌else◌, List, [], ◌∷◌, ◌++◌, map, take, length, Option, Some, None, option_map}
 use Rattle.std.specs.List.{position_or_len, slice_split}
 use Rattle.lis_record.specs.declared.symbols.Sym.{Sym}
 use Rattle.lis_record.specs.declared.symbols.Sym.TheVariants.{Char}
 use Rattle.lis_record.specs.Delimiters.{DelimiterBytes}
 use Rattle.lis_record.specs.Escapes.{escape_of}
+use Rattle.lis_record.specs.declared.kinds.Kind.TheVariants as kinds
+use Rattle.lis_record.specs.Faults.{second_byte_fault, text_fault}
+use Rattle.lis_record.specs.Kinds.{kind_of}
 use Rattle.lis_record.specs.Shape.{Symbols, Components, Repeats, Fields}
 
 -- the parts of a text round a byte
@@ -39,7 +43,25 @@ components_of d text = map (symbols_of d) (parts_of d.component text)
 abbrev pub repeats_of : DelimiterBytes → List ℕ → Repeats
 repeats_of d text = map (components_of d) (parts_of d.repeat text)
 
+-- the parts behind a first byte, which is a delimiter
+abbrev pub parts_behind : ℕ → List ℕ → List (List ℕ)
+parts_behind byte [] = []
+parts_behind byte (delimiter ∷ bytes) = parts_of byte bytes
+
 -- the fields of what follows a record's letter, or a header's delimiters
 abbrev pub fields_of : DelimiterBytes → List ℕ → Fields
-fields_of d [] = []
-fields_of d (delimiter ∷ bytes) = map (repeats_of d) (parts_of d.field bytes)
+fields_of d text = map (repeats_of d) (parts_behind d.field text)
+
+-- symbols, and behind them what an escape means
+abbrev pub with_escape : Symbols → Option Symbols → Symbols
+with_escape symbols None = symbols
+with_escape symbols (Some meant) = symbols ++ meant
+
+-- A text without fault opens with the letter of a record other than a header, and its fields follow.
+pub record OpensRecord (d : DelimiterBytes) (text : List ℕ) (kind : Kind) (rest : List ℕ) : Type 0 where
+  pub letter : ℕ
+  pub whole : text ≡ letter ∷ rest
+  pub kind_is : kind_of letter ≡ Some kind
+  pub other : kind ≢ kinds.H
+  pub second : second_byte_fault d rest ≡ None
+  pub texts : text_fault text ≡ None

@@ -1,9 +1,10 @@
 -- What contracts see of components, repeats, fields and records, and what each value of those types keeps.
-use Rattle.std.specs.Prelude.{◌<◌, List, length}
+use Rattle.std.specs.Prelude.{◌<◌, List, length, ℕ, ◌-◌, nat_lt, if◌then◌else◌, slice_get, Option, None}
 use Rattle.std.specs.List.{All}
 use Rattle.lis_record.specs.declared.symbols.Sym.{Sym}
 use Rattle.lis_record.specs.declared.symbols.Sym.TheVariants.{Char, Raw, On, Off}
 use Rattle.lis_record.specs.declared.kinds.Kind.{Kind}
+use Rattle.lis_record.specs.declared.kinds.Kind.TheVariants as kinds
 
 -- a component: its symbols
 abbrev pub Symbols : Type 0
@@ -52,3 +53,13 @@ AreFields fields = All IsFieldShape fields
 -- each part of a record is as its type allows
 abbrev pub IsRecordShape : RecordContent → Type 0
 IsRecordShape content = AreFields content.fields
+
+-- The letter is field 1, so the first field after it has number 2. In a header the delimiters are field 2.
+abbrev pub first_number : Kind → ℕ
+first_number kinds.H = 3
+first_number _ = 2
+
+-- the field of a number
+abbrev pub field_at : RecordContent → ℕ → Option Repeats
+field_at content number =
+    if nat_lt number (first_number content.kind) then None else slice_get content.fields (number - first_number content.kind)
