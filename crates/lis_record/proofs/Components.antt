@@ -18,6 +18,9 @@ use Rattle.lis_record.specs.Shape.{Symbols}
 
 -- ---- no escape holds an escape byte
 
+pub differ : (a b : ℕ) → (a == b) ≡ false → a ≢ b
+differ a b h same = elim (eqb_tells a b) [ inl test ↦ cc (h, test.0) | inr other ↦ other.1 same ]
+
 pub test_false : (a b : ℕ) → a ≢ b → (a == b) ≡ false
 test_false a b h = grind (arith, nat_tests)
 

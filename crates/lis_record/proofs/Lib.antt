@@ -1,5 +1,6 @@
 pub mod Components
 pub mod FaultLaws
 pub mod Joins
+pub mod Places
 pub mod ReadBack
 pub mod RecordTexts

@@ -3,12 +3,14 @@
 #![tactic(auto)]
 
 pub mod delimiting;
+mod escapes;
 pub mod faults;
 pub mod kinds;
 pub mod laws;
 pub mod parts;
 pub mod records;
 pub mod symbols;
+mod texts;
 
 pub use delimiting::{DelimiterFault, Delimiters};
 pub use faults::{DelimiterPartFault, RecordFault, WriteFault};
