@@ -8,6 +8,7 @@ pub mod faults;
 pub mod kinds;
 pub mod laws;
 pub mod parts;
+mod reading;
 pub mod records;
 pub mod symbols;
 mod texts;
