@@ -1,18 +1,21 @@
 -- A text is a record exactly where none of the faults stands.
-use Rattle.std.proofs.Common.{◌≡◌, ◌≢◌, ℕ, ◌≤◌, ◌==◌, Bool, true, false, not, ◌||◌, cond, ltb, List, [], ◌∷◌, ◌++◌, length, Option, Some, None, option_map, refl, sym, ap, ◌∙◌, eq-eqb, arith, get_or, inl, inr}
+use Rattle.lis_record.specs.declared.faults.RecordFault.{RecordFault}
+use Rattle.lis_record.specs.declared.faults.DelimiterPartFault.{DelimiterPartFault}
+use Rattle.lis_record.specs.declared.delimiting.DelimiterFault.{DelimiterFault}
+use Rattle.std.proofs.Common.{◌≡◌, ◌≢◌, ℕ, ◌≤◌, ◌==◌, Bool, true, false, not, ◌||◌, cond, ltb, List, [], ◌∷◌, ◌++◌, length, Option, Some, None, option_map, refl, sym, ap, ◌∙◌, eq-eqb, arith, get_or, inl, inr, drop, ◌<◌}
 use Rattle.std.specs.Option.{option_or}
 use Rattle.std.specs.List.{AllPass, position, position_or_len, flat_map}
 use Rattle.std.proofs.lemmas.List.Sums.{fails_before_first, position_or_len_is}
 use Rattle.std.proofs.lemmas.Bool.Decides.{eqb_tells, nat_tests}
 use Rattle.lis_record.specs.declared.kinds.Kind.{Kind}
 use Rattle.lis_record.specs.declared.kinds.Kind.TheVariants as kinds
-use Rattle.lis_record.specs.declared.faults.DelimiterPartFault.TheVariants.{Trailing}
+use Rattle.lis_record.specs.declared.faults.DelimiterPartFault.TheVariants.{Trailing, Short, Fault}
 use Rattle.lis_record.specs.declared.faults.RecordFault.TheVariants as record_faults
 use Rattle.lis_record.specs.declared.records.TheConstants.{RECORD_LIMIT}
 use Rattle.lis_record.specs.Delimiters.{DelimiterBytes, IsDelimiters, delimiter_fault, delimiter_list, delimiters_of, is_punctuation, repeated_from}
 use Rattle.lis_record.specs.declared.delimiting.DelimiterFault.TheVariants.{NotPunctuation, Repeated}
 use Rattle.std.proofs.lemmas.List.Elements.{All-cons, All-nil}
-use Rattle.lis_record.specs.Faults.{delimiter_part_fault, header_fault, is_other_kind, record_fault, second_byte_fault, text_fault, trailing_fault}
+use Rattle.lis_record.specs.Faults.{delimiter_part_fault, header_fault, is_other_kind, record_fault, text_fault, trailing_byte, is_header_kind}
 use Rattle.lis_record.specs.FrontReading.{fields_of}
 use Rattle.lis_record.specs.Kinds.{kind_of}
 use Rattle.lis_record.specs.Relation.{AreFieldTexts, IsRecord, declared_part}
@@ -118,18 +121,18 @@ AreFieldTexts-behind : (d : DelimiterBytes) → IsDelimiters d → (bytes : List
 AreFieldTexts-behind d good [] h = AreFieldTexts-none d good
 AreFieldTexts-behind d good (byte ∷ rest) h = rw (h byte rest refl) (AreFieldTexts-fields_of d good rest)
 
-second_byte-field : (d : DelimiterBytes) (bytes : List ℕ) → second_byte_fault d bytes ≡ None → (byte : ℕ) (rest : List ℕ) → bytes ≡ byte ∷ rest → byte ≡ d.field
-second_byte-field d [] h byte rest e = cc
-second_byte-field d (first ∷ others) h byte rest e =
+trailing_byte-field : (field : ℕ) (bytes : List ℕ) → trailing_byte field bytes ≡ None → (byte : ℕ) (rest : List ℕ) → bytes ≡ byte ∷ rest → byte ≡ field
+trailing_byte-field field [] h byte rest e = cc
+trailing_byte-field field (first ∷ others) h byte rest e =
     let same : first ≡ byte = cc in
-    elim (eqb_tells first d.field) [
-      | inl field ↦ sym same ∙ field.1
-      | inr other ↦ let g : Some (record_faults.UnknownKind first) ≡ None = rw other.0 at h in cc
+    elim (eqb_tells first field) [
+      | inl is ↦ sym same ∙ is.1
+      | inr other ↦ let g : Some first ≡ None = rw other.0 at h in cc
     ]
 
 -- a text in which no fault stands is a record
 pub IsRecord-fields_of : (d : DelimiterBytes) → IsDelimiters d → (letter : ℕ) (bytes : List ℕ) (kind : Kind) → kind_of letter ≡ Some kind → kind ≢ kinds.H
-    → second_byte_fault d bytes ≡ None → text_fault (letter ∷ bytes) ≡ None → IsRecord d (letter ∷ bytes) (record { kind = kind; fields = fields_of d bytes })
+    → trailing_byte d.field bytes ≡ None → text_fault (letter ∷ bytes) ≡ None → IsRecord d (letter ∷ bytes) (record { kind = kind; fields = fields_of d bytes })
 IsRecord-fields_of d good letter bytes kind letter_is other second texts =
     let fine = text_fault-none (letter ∷ bytes) texts in
     record {
@@ -137,13 +140,13 @@ IsRecord-fields_of d good letter bytes kind letter_is other second texts =
       fields_text = bytes;
       whole = ap (λ (l : List ℕ). letter ∷ l ++ bytes) (sym (declared_part-other d kind other));
       kind_is = letter_is;
-      fields_are = AreFieldTexts-behind d good bytes (second_byte-field d bytes second);
+      fields_are = AreFieldTexts-behind d good bytes (trailing_byte-field d.field bytes second);
       is_text = fine.0;
       short = fine.1;
     }
 
--- behind the letter of a record stands nothing, or a field delimiter
-fields_text-first : (d : DelimiterBytes) (parts : List (List ℕ)) → second_byte_fault d (flat_map (λ part. d.field ∷ part) parts) ≡ None
+-- fields begin with a field delimiter
+fields_text-first : (d : DelimiterBytes) (parts : List (List ℕ)) → trailing_byte d.field (flat_map (λ part. d.field ∷ part) parts) ≡ None
 fields_text-first d [] = refl
 fields_text-first d (part ∷ parts) = rw (eq-eqb d.field d.field refl) refl
 
@@ -152,7 +155,7 @@ pub record_fault-IsRecord : (d : DelimiterBytes) (text : List ℕ) (content : Re
 unfolding record_fault
 record_fault-IsRecord d text content other h =
     let bare : text ≡ h.letter ∷ h.fields_text = h.whole ∙ ap (λ (l : List ℕ). h.letter ∷ l ++ h.fields_text) (declared_part-other d content.kind other) in
-    let second : second_byte_fault d h.fields_text ≡ None = ap (second_byte_fault d) h.fields_are.joined ∙ fields_text-first d h.fields_are.parts in
+    let second : trailing_byte d.field h.fields_text ≡ None = ap (trailing_byte d.field) h.fields_are.joined ∙ fields_text-first d h.fields_are.parts in
     let texts : text_fault (h.letter ∷ h.fields_text) ≡ None = rw bare at (none-text_fault text h.is_text h.short) in
     rw (bare, h.kind_is, is_other_kind-other content.kind other, second, texts) refl
 
@@ -230,17 +233,8 @@ delimiter_fault-IsDelimiters d good =
     let second = repeated_from-AreDistinct d.field d.repeat d.component d.escape apart in
     ap (λ o. option_or (option_map NotPunctuation o) (option_map Repeated (repeated_from [] 0 (delimiter_list d)))) first ∙ ap (option_map Repeated) second
 
-trailing_byte-field : (field : ℕ) (bytes : List ℕ) → trailing_fault field bytes ≡ None → (byte : ℕ) (rest : List ℕ) → bytes ≡ byte ∷ rest → byte ≡ field
-trailing_byte-field field [] h byte rest e = cc
-trailing_byte-field field (first ∷ others) h byte rest e =
-    let same : first ≡ byte = cc in
-    elim (eqb_tells first field) [
-      | inl is ↦ sym same ∙ is.1
-      | inr other ↦ let g : Some (Trailing first) ≡ None = rw other.0 at h in cc
-    ]
-
 -- a text in which no fault stands is a header, under the delimiters that it declares
-pub IsRecord-header : (letter f r c e : ℕ) (bytes : List ℕ) → kind_of letter ≡ Some kinds.H → delimiter_fault (f ∷ r ∷ c ∷ e ∷ []) ≡ None → trailing_fault f bytes ≡ None
+pub IsRecord-header : (letter f r c e : ℕ) (bytes : List ℕ) → kind_of letter ≡ Some kinds.H → delimiter_fault (f ∷ r ∷ c ∷ e ∷ []) ≡ None → trailing_byte f bytes ≡ None
     → text_fault (letter ∷ f ∷ r ∷ c ∷ e ∷ bytes) ≡ None
     → IsRecord (delimiters_of f r c e) (letter ∷ f ∷ r ∷ c ∷ e ∷ bytes) (record { kind = kinds.H; fields = fields_of (delimiters_of f r c e) bytes })
 IsRecord-header letter f r c e bytes letter_is marks trailing texts =
@@ -256,10 +250,6 @@ IsRecord-header letter f r c e bytes letter_is marks trailing texts =
       short = fine.1;
     }
 
-trailing_text-first : (d : DelimiterBytes) (parts : List (List ℕ)) → trailing_fault d.field (flat_map (λ part. d.field ∷ part) parts) ≡ None
-trailing_text-first d [] = refl
-trailing_text-first d (part ∷ parts) = rw (eq-eqb d.field d.field refl) refl
-
 -- a header's text by its parts
 pub header_text : (d : DelimiterBytes) (text : List ℕ) (content : RecordContent) → content.kind ≡ kinds.H → (h : IsRecord d text content)
     → text ≡ h.letter ∷ d.field ∷ d.repeat ∷ d.component ∷ d.escape ∷ h.fields_text
@@ -272,6 +262,74 @@ header_fault-IsRecord d good text content is_header h =
     let parts = header_text d text content is_header h in
     let letter : kind_of h.letter ≡ Some kinds.H = h.kind_is ∙ ap Some is_header in
     let marks : delimiter_fault (d.field ∷ d.repeat ∷ d.component ∷ d.escape ∷ []) ≡ None = delimiter_fault-IsDelimiters d good in
-    let trailing : trailing_fault d.field h.fields_text ≡ None = ap (trailing_fault d.field) h.fields_are.joined ∙ trailing_text-first d h.fields_are.parts in
+    let trailing : trailing_byte d.field h.fields_text ≡ None = ap (trailing_byte d.field) h.fields_are.joined ∙ fields_text-first d h.fields_are.parts in
     let texts : text_fault (h.letter ∷ d.field ∷ d.repeat ∷ d.component ∷ d.escape ∷ h.fields_text) ≡ None = rw parts at (none-text_fault text h.is_text h.short) in
     rw (parts, letter, marks, trailing, texts) refl
+
+-- ---- the first fault of a text, as the code finds it
+
+pub record_fault-empty : (d : DelimiterBytes) (text : List ℕ) → length text ≡ 0 → record_fault d text ≡ Some record_faults.Empty
+unfolding record_fault
+record_fault-empty d [] h = refl
+record_fault-empty d (letter ∷ bytes) h = absurd (omega arith)
+
+pub record_fault-kind : (d : DelimiterBytes) (text : List ℕ) (letter : ℕ) (bytes : List ℕ) → text ≡ letter ∷ bytes → is_other_kind (kind_of letter) ≡ false
+    → record_fault d text ≡ Some (record_faults.UnknownKind letter)
+unfolding record_fault
+record_fault-kind d text letter bytes e h = rw (e, h) refl
+
+pub record_fault-trailing : (d : DelimiterBytes) (text : List ℕ) (letter : ℕ) (bytes : List ℕ) (byte : ℕ) → text ≡ letter ∷ bytes → is_other_kind (kind_of letter) ≡ true
+    → trailing_byte d.field bytes ≡ Some byte → record_fault d text ≡ Some (record_faults.UnknownKind byte)
+unfolding record_fault
+record_fault-trailing d text letter bytes byte e h t = rw (e, h, t) refl
+
+pub record_fault-text : (d : DelimiterBytes) (text : List ℕ) (letter : ℕ) (bytes : List ℕ) (fault : RecordFault) → text ≡ letter ∷ bytes → is_other_kind (kind_of letter) ≡ true
+    → trailing_byte d.field bytes ≡ None → text_fault text ≡ Some fault → record_fault d text ≡ Some fault
+unfolding record_fault
+record_fault-text d text letter bytes fault e h t f = let g : text_fault (letter ∷ bytes) ≡ Some fault = rw e at f in rw (e, h, t, g) refl
+
+pub header_fault-empty : (text : List ℕ) → length text ≡ 0 → header_fault text ≡ Some record_faults.Empty
+unfolding header_fault
+header_fault-empty [] h = refl
+header_fault-empty (letter ∷ bytes) h = absurd (omega arith)
+
+pub header_fault-kind : (text : List ℕ) (letter : ℕ) (bytes : List ℕ) → text ≡ letter ∷ bytes → is_header_kind (kind_of letter) ≡ false
+    → header_fault text ≡ Some (record_faults.UnknownKind letter)
+unfolding header_fault
+header_fault-kind text letter bytes e h = rw (e, h) refl
+
+pub header_fault-part : (text : List ℕ) (letter : ℕ) (bytes : List ℕ) (fault : DelimiterPartFault) → text ≡ letter ∷ bytes → is_header_kind (kind_of letter) ≡ true
+    → delimiter_part_fault bytes ≡ Some fault → header_fault text ≡ Some (record_faults.DelimiterPart fault)
+unfolding header_fault
+header_fault-part text letter bytes fault e h p = rw (e, h, p) refl
+
+pub header_fault-text : (text : List ℕ) (letter : ℕ) (bytes : List ℕ) (fault : RecordFault) → text ≡ letter ∷ bytes → is_header_kind (kind_of letter) ≡ true
+    → delimiter_part_fault bytes ≡ None → text_fault text ≡ Some fault → header_fault text ≡ Some fault
+unfolding header_fault
+header_fault-text text letter bytes fault e h p f = let g : text_fault (letter ∷ bytes) ≡ Some fault = rw e at f in rw (e, h, p, g) refl
+
+pub delimiter_part_fault-short : (text : List ℕ) → length text < 4 → delimiter_part_fault text ≡ Some Short
+unfolding delimiter_part_fault
+delimiter_part_fault-short [] h = refl
+delimiter_part_fault-short (f ∷ []) h = refl
+delimiter_part_fault-short (f ∷ r ∷ []) h = refl
+delimiter_part_fault-short (f ∷ r ∷ c ∷ []) h = refl
+delimiter_part_fault-short (f ∷ r ∷ c ∷ e ∷ bytes) h = absurd (omega arith)
+
+pub delimiter_part_fault-marks : (text : List ℕ) (f r c e : ℕ) (bytes : List ℕ) (fault : DelimiterFault) → text ≡ f ∷ r ∷ c ∷ e ∷ bytes → delimiter_fault (f ∷ r ∷ c ∷ e ∷ []) ≡ Some fault
+    → delimiter_part_fault text ≡ Some (Fault fault)
+unfolding delimiter_part_fault
+delimiter_part_fault-marks text f r c e bytes fault whole h = rw (whole, h) refl
+
+pub delimiter_part_fault-trailing : (text : List ℕ) (f r c e : ℕ) (bytes : List ℕ) (o : Option ℕ) → text ≡ f ∷ r ∷ c ∷ e ∷ bytes → delimiter_fault (f ∷ r ∷ c ∷ e ∷ []) ≡ None
+    → trailing_byte f bytes ≡ o → delimiter_part_fault text ≡ option_map Trailing o
+unfolding delimiter_part_fault
+delimiter_part_fault-trailing text f r c e bytes o whole h t = rw (whole, h, t) refl
+
+-- a text of four bytes and more, byte by byte
+pub four_bytes : (text : List ℕ) → 4 ≤ length text → text ≡ get_or text 0 0 ∷ get_or text 1 0 ∷ get_or text 2 0 ∷ get_or text 3 0 ∷ drop 4 text
+four_bytes [] h = absurd (omega arith)
+four_bytes (f ∷ []) h = absurd (omega arith)
+four_bytes (f ∷ r ∷ []) h = absurd (omega arith)
+four_bytes (f ∷ r ∷ c ∷ []) h = absurd (omega arith)
+four_bytes (f ∷ r ∷ c ∷ e ∷ bytes) h = refl

@@ -1,6 +1,7 @@
 pub mod Components
 pub mod FaultLaws
 pub mod Joins
+pub mod Opening
 pub mod Places
 pub mod ReadBack
 pub mod RecordTexts

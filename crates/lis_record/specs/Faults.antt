@@ -38,22 +38,17 @@ is_other_kind None = false
 is_other_kind (Some kinds.H) = false
 is_other_kind _ = true
 
--- a byte that follows the letter, and isn't the field delimiter
-abbrev pub second_byte_fault : DelimiterBytes → List ℕ → Option RecordFault
-second_byte_fault d [] = None
-second_byte_fault d (byte ∷ bytes) = if byte == d.field then None else Some (record_faults.UnknownKind byte)
+-- a first byte other than the field delimiter
+abbrev pub trailing_byte : ℕ → List ℕ → Option ℕ
+trailing_byte field [] = None
+trailing_byte field (byte ∷ bytes) = if byte == field then None else Some byte
 
 -- the first fault of a text as a record other than a header
 unfoldable pub record_fault : DelimiterBytes → List ℕ → Option RecordFault
 record_fault d [] = Some record_faults.Empty
 record_fault d (letter ∷ bytes) =
     option_or (if is_other_kind (kind_of letter) then None else Some (record_faults.UnknownKind letter))
-    (option_or (second_byte_fault d bytes) (text_fault (letter ∷ bytes)))
-
--- a byte that follows a header's delimiters, and isn't the field delimiter
-abbrev pub trailing_fault : ℕ → List ℕ → Option DelimiterPartFault
-trailing_fault field [] = None
-trailing_fault field (byte ∷ bytes) = if byte == field then None else Some (Trailing byte)
+    (option_or (option_map record_faults.UnknownKind (trailing_byte d.field bytes)) (text_fault (letter ∷ bytes)))
 
 -- the first fault of what follows a header's letter
 unfoldable pub delimiter_part_fault : List ℕ → Option DelimiterPartFault
@@ -62,7 +57,7 @@ delimiter_part_fault (f ∷ []) = Some Short
 delimiter_part_fault (f ∷ r ∷ []) = Some Short
 delimiter_part_fault (f ∷ r ∷ c ∷ []) = Some Short
 delimiter_part_fault (f ∷ r ∷ c ∷ e ∷ bytes) =
-    option_or (option_map Fault (delimiter_fault (f ∷ r ∷ c ∷ e ∷ []))) (trailing_fault f bytes)
+    option_or (option_map Fault (delimiter_fault (f ∷ r ∷ c ∷ e ∷ []))) (option_map Trailing (trailing_byte f bytes))
 
 -- the first fault of a text as a header
 unfoldable pub header_fault : List ℕ → Option RecordFault

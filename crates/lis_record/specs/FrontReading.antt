@@ -4,10 +4,10 @@ use Rattle.std.specs.Prelude.{◌≡◌, ◌≢◌, ℕ, zero, suc, ◌+◌, ◌
 use Rattle.std.specs.List.{position_or_len, slice_split}
 use Rattle.lis_record.specs.declared.symbols.Sym.{Sym}
 use Rattle.lis_record.specs.declared.symbols.Sym.TheVariants.{Char}
-use Rattle.lis_record.specs.Delimiters.{DelimiterBytes}
+use Rattle.lis_record.specs.Delimiters.{DelimiterBytes, IsDelimiters, delimiter_list}
 use Rattle.lis_record.specs.Escapes.{escape_of}
 use Rattle.lis_record.specs.declared.kinds.Kind.TheVariants as kinds
-use Rattle.lis_record.specs.Faults.{second_byte_fault, text_fault}
+use Rattle.lis_record.specs.Faults.{text_fault, trailing_byte}
 use Rattle.lis_record.specs.Kinds.{kind_of}
 use Rattle.lis_record.specs.Shape.{Symbols, Components, Repeats, Fields}
 
@@ -63,5 +63,20 @@ pub record OpensRecord (d : DelimiterBytes) (text : List ℕ) (kind : Kind) (res
   pub whole : text ≡ letter ∷ rest
   pub kind_is : kind_of letter ≡ Some kind
   pub other : kind ≢ kinds.H
-  pub second : second_byte_fault d rest ≡ None
+  pub second : trailing_byte d.field rest ≡ None
+  pub texts : text_fault text ≡ None
+
+-- Behind a header's letter stand delimiters, and then nothing or the field delimiter.
+pub record DeclaresDelimiters (text : List ℕ) (d : DelimiterBytes) (rest : List ℕ) : Type 0 where
+  pub whole : text ≡ delimiter_list d ++ rest
+  pub marks : IsDelimiters d
+  pub trailing : trailing_byte d.field rest ≡ None
+
+-- A text without fault opens with a header's letter and delimiters, and its fields follow.
+pub record OpensHeader (text : List ℕ) (d : DelimiterBytes) (rest : List ℕ) : Type 0 where
+  pub letter : ℕ
+  pub part : List ℕ
+  pub whole : text ≡ letter ∷ part
+  pub kind_is : kind_of letter ≡ Some kinds.H
+  pub declares : DeclaresDelimiters part d rest
   pub texts : text_fault text ≡ None

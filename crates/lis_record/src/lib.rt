@@ -17,5 +17,6 @@ pub use delimiting::{DelimiterFault, Delimiters};
 pub use faults::{DelimiterPartFault, RecordFault, WriteFault};
 pub use kinds::Kind;
 pub use parts::{Component, Field, Repeat};
+pub use reading::{read_header, read_record};
 pub use records::{RECORD_LIMIT, Record};
 pub use symbols::Sym;
