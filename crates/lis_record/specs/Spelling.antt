@@ -1,5 +1,5 @@
 -- How records are written (LIS02-A2, Delimiters).
-use Rattle.std.specs.Prelude.{ℕ, ◌==◌, if◌then◌else◌, List, [], ◌∷◌, ◌++◌, map}
+use Rattle.std.specs.Prelude.{ℕ, ◌==◌, if◌then◌else◌, List, [], ◌∷◌, ◌++◌, map, Option, Some, None}
 use Rattle.std.specs.List.{flat_map, join_with_byte}
 use Rattle.hex.specs.Hex.{encode_lower}
 use Rattle.lis_record.specs.declared.symbols.Sym.{Sym}
@@ -13,15 +13,24 @@ use Rattle.lis_record.specs.Shape.{Symbols, Components, Repeats, RecordContent}
 abbrev pub letter_spelling : DelimiterBytes → ℕ → List ℕ
 letter_spelling d letter = d.escape ∷ letter ∷ d.escape ∷ []
 
+-- the letter of the escape that a delimiter is written as
+abbrev pub delimiter_letter : DelimiterBytes → ℕ → Option ℕ
+delimiter_letter d byte =
+    if byte == d.field then Some 70
+    else if byte == d.component then Some 83
+    else if byte == d.repeat then Some 82
+    else if byte == d.escape then Some 69
+    else None
+
+-- an escape, or the byte itself
+abbrev pub char_spelling : DelimiterBytes → ℕ → Option ℕ → List ℕ
+char_spelling d byte (Some letter) = letter_spelling d letter
+char_spelling d byte None = byte ∷ []
+
 -- A delimiter is written as an escape with its letter, F, S, R or E. A raw byte is an escape of its own,
 -- X and two lower-case digits. H begins highlighting, and N ends it.
 unfoldable pub spelled_symbol : DelimiterBytes → Sym → List ℕ
-spelled_symbol d (Char byte) =
-    if byte == d.field then letter_spelling d 70
-    else if byte == d.component then letter_spelling d 83
-    else if byte == d.repeat then letter_spelling d 82
-    else if byte == d.escape then letter_spelling d 69
-    else byte ∷ []
+spelled_symbol d (Char byte) = char_spelling d byte (delimiter_letter d byte)
 spelled_symbol d (Raw byte) = d.escape ∷ 88 ∷ encode_lower (byte ∷ []) ++ d.escape ∷ []
 spelled_symbol d On = letter_spelling d 72
 spelled_symbol d Off = letter_spelling d 78

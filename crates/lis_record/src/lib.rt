@@ -2,6 +2,7 @@
 //! written.
 #![tactic(auto)]
 
+mod chunk;
 pub mod delimiting;
 mod escapes;
 pub mod faults;
