@@ -5,3 +5,4 @@ pub mod Opening
 pub mod Places
 pub mod ReadBack
 pub mod RecordTexts
+pub mod Steps

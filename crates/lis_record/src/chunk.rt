@@ -1,7 +1,7 @@
 //! A fixed buffer that a record goes through on its way to a sink.
 
 ghost use Rattle.std.specs.Prelude.{◌≡◌, ◌+◌, ◌<◌, ◌≤◌, ◌++◌, ◌∷◌, [], ◌==◌, length};
-ghost use Rattle.lis_record.specs.Spelling.{delimiter_letter, letter_spelling, spelled_symbol};
+ghost use Rattle.lis_record.specs.Spelling.{delimiter_letter, letter_spelling, spelled_component, spelled_symbol};
 ghost use Rattle.lis_record.specs.declared.symbols.Sym.TheVariants.{Char, Raw};
 
 use std::marker::Model;
@@ -28,6 +28,9 @@ fn delimiter_letter(delimiters: Delimiters, byte: u8) -> Option<u8>
 
 // The most bytes of a chunk.
 pub(crate) const CHUNK: usize = 256;
+
+// The most bytes that a symbol is written as.
+pub(crate) const LONGEST_SYMBOL: usize = 5;
 
 // The first bytes of a fixed buffer.
 pub(crate) struct Chunk {
@@ -135,7 +138,8 @@ impl Chunk {
     #[tactic(auto, unfolding(crate::specs::Spelling::spelled_symbol))]
     pub(crate) fn push_symbol(&mut self, delimiters: Delimiters, symbol: Sym)
         requires { length self.old + 5 ≤ 256 }
-        ensures { self.new ≡ self.old ++ spelled_symbol delimiters symbol }
+        ensures after { self.new ≡ self.old ++ spelled_symbol delimiters symbol }
+        ensures more { length self.old < length self.new }
     {
         match symbol {
             Sym::Char(byte) => self.push_char(delimiters, byte),
@@ -143,5 +147,27 @@ impl Chunk {
             Sym::On => self.push_letter(delimiters, b'H'),
             Sym::Off => self.push_letter(delimiters, b'N'),
         }
+    }
+
+    // Puts the spellings of symbols at the end, as many as find room, and answers the rest.
+    pub(crate) fn push_symbols<'a>(
+        &mut self,
+        delimiters: Delimiters,
+        symbols: &'a [Sym],
+    ) -> &'a [Sym]
+        requires { length self.old + 5 ≤ 256 }
+        ensures same { self.new ++ spelled_component delimiters result.now
+            ≡ self.old ++ spelled_component delimiters symbols.now }
+        ensures more { 0 < length symbols.now → length self.old < length self.new }
+    {
+        let mut rest = symbols;
+        while let Some((symbol, others)) = rest.split_first() {
+            if self.len() > CHUNK - LONGEST_SYMBOL {
+                return rest;
+            }
+            self.push_symbol(delimiters, *symbol);
+            rest = others;
+        }
+        rest
     }
 }

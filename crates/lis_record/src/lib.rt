@@ -3,6 +3,7 @@
 #![tactic(auto)]
 
 mod chunk;
+mod cursor;
 pub mod delimiting;
 mod escapes;
 pub mod faults;
