@@ -5,4 +5,5 @@ pub mod Opening
 pub mod Places
 pub mod ReadBack
 pub mod RecordTexts
+pub mod Sinks
 pub mod Steps

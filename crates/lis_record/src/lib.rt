@@ -14,6 +14,7 @@ mod reading;
 pub mod records;
 pub mod symbols;
 mod texts;
+mod writing;
 
 pub use delimiting::{DelimiterFault, Delimiters};
 pub use faults::{DelimiterPartFault, RecordFault, WriteFault};
