@@ -7,3 +7,4 @@ pub mod ReadBack
 pub mod RecordTexts
 pub mod Sinks
 pub mod Steps
+pub mod WriteLaws

@@ -111,6 +111,13 @@ impl Delimiters {
         }
     }
 
+    // Any delimiters are distinct punctuation bytes.
+    pub(crate) fn known(self)
+        ensures { IsDelimiters self }
+    {
+        let _ = self.field;
+    }
+
     /// The byte before each field.
     pub fn field(self) -> u8
         ensures byte { result ≡ self.field }

@@ -23,3 +23,4 @@ pub use parts::{Component, Field, Repeat};
 pub use reading::{read_header, read_record};
 pub use records::{RECORD_LIMIT, Record};
 pub use symbols::Sym;
+pub use writing::{check_record, put_field, write_field, write_record, write_record_from};
