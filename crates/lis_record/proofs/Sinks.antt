@@ -55,9 +55,9 @@ WrittenOn-more old mid new bytes rest others count within is taken more left siz
     record {
       rest = left ∙ ap (drop count) is ∙ drop-drop count n bytes ∙ ap (λ (k : ℕ). drop k bytes) (sym place);
       taken =
-        let both : take (length bytes - length others) bytes ≡ take n bytes ++ take count rest =
-        ap (λ (k : ℕ). take k bytes) place ∙ take-split n count bytes ∙ ap (λ (l : List ℕ). take n bytes ++ take count l) (sym is) in
-        rw both (Appends-then old mid new (take n bytes) (take count rest) taken more);
+          let both : take (length bytes - length others) bytes ≡ take n bytes ++ take count rest =
+          ap (λ (k : ℕ). take k bytes) place ∙ take-split n count bytes ∙ ap (λ (l : List ℕ). take n bytes ++ take count l) (sym is) in
+          rw both (Appends-then old mid new (take n bytes) (take count rest) taken more);
     }
 
 -- ---- chunk after chunk

@@ -4,10 +4,9 @@ ghost use Rattle.std.specs.Prelude.{◌≡◌, ◌+◌, ◌<◌, ◌≤◌, ◌+
 ghost use Rattle.lis_record.specs.Spelling.{delimiter_letter, letter_spelling, spelled_component, spelled_symbol};
 ghost use Rattle.lis_record.specs.declared.symbols.Sym.TheVariants.{Char, Raw};
 
-use std::marker::Model;
-
 use crate::delimiting::Delimiters;
 use crate::symbols::Sym;
+use std::marker::Model;
 
 // The letter of the escape that a delimiter is written as.
 fn delimiter_letter(delimiters: Delimiters, byte: u8) -> Option<u8>

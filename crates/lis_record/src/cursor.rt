@@ -5,12 +5,11 @@ ghost use Rattle.lis_record.specs.Delimiters.{DelimiterBytes};
 ghost use Rattle.lis_record.specs.Remaining.{more_components, more_fields, more_repeats, remaining};
 ghost use Rattle.lis_record.specs.Spelling.{spelled_component, spelled_field, spelled_repeat};
 
-use std::marker::Model;
-
 use crate::chunk::{CHUNK, Chunk, LONGEST_SYMBOL};
 use crate::delimiting::Delimiters;
 use crate::parts::{Component, Field, Repeat};
 use crate::symbols::Sym;
+use std::marker::Model;
 
 // The rest of a component, the components behind it in its repeat, the repeats behind that in its field,
 // the fields behind that, and the bytes that end it all.
@@ -34,7 +33,14 @@ impl<'a> Model for Cursor<'a> {
 
 impl Drop for Cursor<'_> {
     fn drop(self) {
-        let Cursor { delimiters: _, symbols: _, components: _, repeats: _, fields: _, end: _ } = self;
+        let Cursor {
+            delimiters: _,
+            symbols: _,
+            components: _,
+            repeats: _,
+            fields: _,
+            end: _,
+        } = self;
     }
 }
 

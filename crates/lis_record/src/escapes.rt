@@ -7,14 +7,12 @@ ghost use Rattle.lis_record.specs.Delimiters.{DelimiterBytes};
 ghost use Rattle.lis_record.specs.Escapes.{escape_of, letter_symbol, raw_symbols};
 ghost use Rattle.lis_record.specs.FrontReading.{symbols_of, with_escape};
 
-use std::alloc::{AllocError, Global};
-
-use hex::FromHexError;
-
 use crate::delimiting::Delimiters;
 use crate::parts::Component;
 use crate::symbols::Sym;
 use crate::texts::place_of;
+use hex::FromHexError;
+use std::alloc::{AllocError, Global};
 
 // The symbol of an escape of one letter.
 fn letter_symbol(delimiters: Delimiters, letter: u8) -> Option<Sym>
@@ -42,7 +40,11 @@ fn push_bytes(component: &mut Component, bytes: &[u8]) -> Result<(), AllocError>
 }
 
 // Puts what an escape of one letter means at the end of the component; false where it is none.
-fn push_letter(delimiters: Delimiters, component: &mut Component, letter: u8) -> Result<bool, AllocError>
+fn push_letter(
+    delimiters: Delimiters,
+    component: &mut Component,
+    letter: u8,
+) -> Result<bool, AllocError>
     ensures found { IfOk result (λ found. found ≡ is_some (option_map (λ symbol. symbol ∷ []) (letter_symbol delimiters letter))) }
     ensures after { IfOk result (λ _. component.new ≡ with_escape component.old (option_map (λ symbol. symbol ∷ []) (letter_symbol delimiters letter))) }
 {

@@ -14,8 +14,7 @@ pub fn read_back()
         → check_fault d content ≡ None → IsRecord d (spelled d content) content }
     ensures alone { (d : DelimiterBytes) (content other : RecordContent) → IsDelimiters d → IsRecordShape content
         → check_fault d content ≡ None → IsRecord d (spelled d content) other → other ≡ content }
-{
-}
+{}
 
 /// A text is one record at most, and its letter tells the kind. A header's text has one set of delimiters.
 pub fn one_record()
@@ -25,5 +24,4 @@ pub fn one_record()
         → IsRecord d text r → IsRecord e text s → r.kind ≡ s.kind }
     ensures header { (d e : DelimiterBytes) (text : List ℕ) (r s : RecordContent) → IsDelimiters d → r.kind ≡ kinds.H
         → IsRecord d text r → IsRecord e text s → (d ≡ e) × (r ≡ s) }
-{
-}
+{}

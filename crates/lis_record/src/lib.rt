@@ -4,15 +4,17 @@
 
 mod chunk;
 mod cursor;
-pub mod delimiting;
+mod delimiting;
 mod escapes;
-pub mod faults;
-pub mod kinds;
+mod faults;
+mod kinds;
 pub mod laws;
-pub mod parts;
+mod parts;
 mod reading;
-pub mod records;
-pub mod symbols;
+mod records;
+mod symbols;
+#[cfg(test)]
+mod tests;
 mod texts;
 mod writing;
 

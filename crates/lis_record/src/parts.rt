@@ -4,10 +4,9 @@ ghost use Rattle.std.specs.Prelude.{◌≡◌, ◌++◌, ◌∷◌, [], length, 
 ghost use Rattle.std.specs.Option.{option_copied};
 ghost use Rattle.lis_record.specs.Shape.{AreSymbols, IsFieldShape, IsRepeatShape, IsSymbol};
 
+use crate::symbols::Sym;
 use std::alloc::{AllocFailed, Global};
 use std::marker::Model;
-
-use crate::symbols::Sym;
 
 /// A list of symbols.
 #[derive(Debug, Drop)]

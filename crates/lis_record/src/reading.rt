@@ -10,8 +10,6 @@ ghost use Rattle.lis_record.specs.declared.kinds.Kind.TheVariants as kinds;
 ghost use Rattle.lis_record.specs.declared.faults.RecordFault.TheVariants.{OutOfMemory};
 ghost use Rattle.lis_record.specs.Kinds.{kind_of};
 
-use std::alloc::{AllocError, Global};
-
 use crate::delimiting::Delimiters;
 use crate::escapes::read_component;
 use crate::faults::{DelimiterPartFault, RecordFault};
@@ -19,6 +17,7 @@ use crate::kinds::Kind;
 use crate::parts::{Field, Repeat};
 use crate::records::{RECORD_LIMIT, Record};
 use crate::texts::{bad_byte_place, first_part};
+use std::alloc::{AllocError, Global};
 
 // A byte that is no text byte, else too many bytes.
 #[tactic(auto, unfolding(crate::specs::Faults::text_fault))]
@@ -122,11 +121,7 @@ fn open_header(text: &[u8]) -> Result<(Delimiters, &[u8]), RecordFault>
 }
 
 // Reads a repeat, component by component.
-fn read_repeat(
-    alloc: Global,
-    delimiters: Delimiters,
-    text: &[u8],
-) -> Result<Repeat, AllocError>
+fn read_repeat(alloc: Global, delimiters: Delimiters, text: &[u8]) -> Result<Repeat, AllocError>
     ensures { IfOk result (λ repeat. repeat ≡ components_of delimiters text.now) }
 {
     let (part, mut rest) = first_part(text, delimiters.component());

@@ -4,11 +4,10 @@ ghost use Rattle.std.specs.Prelude.{◌≡◌, ◌++◌, ◌∷◌, [], length, 
 ghost use Rattle.std.specs.Option.{option_copied};
 ghost use Rattle.lis_record.specs.Shape.{AreFields, IsRecordShape, field_at, first_number};
 
-use std::alloc::{AllocFailed, Global};
-use std::marker::Model;
-
 use crate::kinds::Kind;
 use crate::parts::Field;
+use std::alloc::{AllocFailed, Global};
+use std::marker::Model;
 
 /// The most bytes that a record has, without its CR.
 pub const RECORD_LIMIT: usize = 65_536;
@@ -71,7 +70,8 @@ impl Record {
     pub fn field(&self, number: usize) -> Option<&Field>
         ensures { option_copied result ≡ field_at self.now number }
     {
-        self.fields.get(number.checked_sub(self.kind.first_number())?)
+        self.fields
+            .get(number.checked_sub(self.kind.first_number())?)
     }
 
     // The fields, for writing.

@@ -9,8 +9,6 @@ ghost use Rattle.lis_record.specs.Spelling.{spelled, spelled_field, written};
 ghost use Rattle.lis_record.specs.Kinds.{letter_of};
 ghost use Rattle.lis_record.specs.Writing.{Sent, Wrote, WroteAny, is_io};
 
-use lis_port::Sink;
-
 use crate::chunk::Chunk;
 use crate::cursor::Cursor;
 use crate::delimiting::Delimiters;
@@ -20,6 +18,7 @@ use crate::parts::{Component, Field, Repeat};
 use crate::records::{RECORD_LIMIT, Record};
 use crate::symbols::Sym;
 use crate::texts::is_text_byte;
+use lis_port::Sink;
 
 // Writes all of the bytes; else how many the sink took before it failed.
 fn write_all<W: Sink>(sink: &mut W, bytes: &[u8]) -> Result<(), usize>
@@ -119,13 +118,19 @@ fn is_text_symbol(symbol: &Sym) -> bool
 fn is_text_component(component: &Component) -> bool
     ensures { result ≡ is_text_component component.now }
 {
-    component.as_slice().iter().all(|symbol| is_text_symbol(symbol))
+    component
+        .as_slice()
+        .iter()
+        .all(|symbol| is_text_symbol(symbol))
 }
 
 fn is_text_repeat(repeat: &Repeat) -> bool
     ensures { result ≡ is_text_repeat repeat.now }
 {
-    repeat.as_slice().iter().all(|component| is_text_component(component))
+    repeat
+        .as_slice()
+        .iter()
+        .all(|component| is_text_component(component))
 }
 
 fn is_text_field(field: &Field) -> bool

@@ -22,8 +22,8 @@ loop-chunk-preserved g c =
       within = omega arith;
       filled = c.fill.ensures.done;
       goes_on = λ new r h. i.goes_on new r
-      (Sent-more c.loop-chunk.passed c.saturating_add-passed.result (drop c.loop-chunk.left c.loop-chunk.chunk) c.loop-chunk.cursor (g.W.Sink.taken c.loop-chunk.sink) (g.W.Sink.taken c.write_all.new.sink) new r
-      (rw bytes at c.saturating_add-passed.ensures) (rw bytes at c.in_default.ensures.ok) (rw same at h));
+          (Sent-more c.loop-chunk.passed c.saturating_add-passed.result (drop c.loop-chunk.left c.loop-chunk.chunk) c.loop-chunk.cursor (g.W.Sink.taken c.loop-chunk.sink) (g.W.Sink.taken c.write_all.new.sink) new r
+          (rw bytes at c.saturating_add-passed.ensures) (rw bytes at c.in_default.ensures.ok) (rw same at h));
     }
 
 pub returns-clause-sent : goal.returns-clause-sent

@@ -37,6 +37,6 @@ pub returns-clause-done : goal.returns-clause-done
 returns-clause-done c = λ _.
     let i = c.self.inside in (
       sym c.self.view_is ∙ nothing_left i.delimiters i.symbols.now i.components.now i.repeats.now i.fields.now i.end.now
-      (eqb-true (length i.symbols.now) 0 (sym c.is_empty.ensures ∙ c.if-not-is_empty.false)) c.in_default.ensures.cases c.in_default-split_first.ensures.cases c.in_default-split_first-2.ensures.cases c.in_default-split_first-3.ensures.cases,
+          (eqb-true (length i.symbols.now) 0 (sym c.is_empty.ensures ∙ c.if-not-is_empty.false)) c.in_default.ensures.cases c.in_default-split_first.ensures.cases c.in_default-split_first-2.ensures.cases c.in_default-split_first-3.ensures.cases,
       refl,
     )
