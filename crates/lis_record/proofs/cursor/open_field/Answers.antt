@@ -1,4 +1,4 @@
-use Rattle.std.proofs.Common.{◌≡◌, sym, ◌∙◌}
+use Rattle.std.proofs.Common.{sym, ◌∙◌}
 use Rattle.lis_record.proofs.Steps.{spelled_field-first}
 use Rattle.lis_record.proofs.cursor.open_field.Goals as goal
 

@@ -1,5 +1,4 @@
-use Rattle.std.proofs.Common.{◌≡◌, sym, ◌∙◌, ap, ◌∷◌}
-use Rattle.lis_record.specs.Shape.{Components}
+use Rattle.std.proofs.Common.{sym, ◌∙◌, ap, ◌∷◌}
 use Rattle.lis_record.proofs.Steps.{spelled_repeat-first}
 use Rattle.lis_record.proofs.cursor.open_repeat.Goals as goal
 

@@ -1,4 +1,4 @@
-use Rattle.std.proofs.Common.{◌≡◌, ◌≢◌, ℕ, sym, ◌∙◌, ap, List, [], ◌∷◌, ◌++◌, length, append-nil, refl}
+use Rattle.std.proofs.Common.{◌≢◌, ℕ, sym, ◌∙◌, ap, List, ◌∷◌, ◌++◌, append-nil}
 use Rattle.std.proofs.lemmas.List.{nil_from_length}
 use Rattle.lis_record.specs.declared.symbols.Sym.TheVariants.{Char}
 use Rattle.lis_record.specs.FrontReading.{symbols_after, symbols_of}

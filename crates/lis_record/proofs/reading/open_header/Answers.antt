@@ -1,4 +1,4 @@
-use Rattle.std.proofs.Common.{◌≡◌, ◌∙◌, sym}
+use Rattle.std.proofs.Common.{◌∙◌, sym}
 use Rattle.lis_record.proofs.FaultLaws.{header_fault-empty, header_fault-kind, header_fault-part, header_fault-text}
 use Rattle.lis_record.proofs.Opening.{delimiter_part_fault-declares}
 use Rattle.lis_record.proofs.reading.open_header.Goals as goal

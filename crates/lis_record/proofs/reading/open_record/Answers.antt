@@ -1,5 +1,5 @@
-use Rattle.std.proofs.Common.{◌≡◌, ◌∙◌, sym}
-use Rattle.lis_record.proofs.FaultLaws.{other_than_header, record_fault-empty, record_fault-kind, record_fault-text, record_fault-trailing}
+use Rattle.std.proofs.Common.{◌∙◌, sym}
+use Rattle.lis_record.proofs.FaultLaws.{record_fault-empty, record_fault-kind, record_fault-text, record_fault-trailing}
 use Rattle.lis_record.proofs.reading.open_record.Goals as goal
 
 pub returns-in_default-clause-opened : goal.returns-in_default-clause-opened

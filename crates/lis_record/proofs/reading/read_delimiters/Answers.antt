@@ -1,4 +1,4 @@
-use Rattle.std.proofs.Common.{◌≡◌, ◌∙◌, sym, ap, Some, arith}
+use Rattle.std.proofs.Common.{◌∙◌, sym, Some, arith}
 use Rattle.lis_record.proofs.FaultLaws.{delimiter_part_fault-marks, delimiter_part_fault-short, delimiter_part_fault-trailing, four_bytes}
 use Rattle.std.proofs.lemmas.List.{take_rest}
 use Rattle.lis_record.proofs.reading.read_delimiters.Goals as goal

@@ -1,4 +1,4 @@
-use Rattle.std.proofs.Common.{◌≡◌, ℕ, ◌∙◌, ap, Option, length, unwrap_or}
+use Rattle.std.proofs.Common.{ℕ, ◌∙◌, ap, Option, length, unwrap_or}
 use Rattle.lis_record.proofs.Places.{parts_of-first}
 use Rattle.lis_record.proofs.texts.first_part.Goals as goal
 

@@ -1,4 +1,4 @@
-use Rattle.std.proofs.Common.{◌≡◌, ◌∙◌, sym, append-nil}
+use Rattle.std.proofs.Common.{◌∙◌, sym, append-nil}
 use Rattle.lis_record.specs.Spelling.{spelled}
 use Rattle.lis_record.proofs.ReadBack.{IsRecord-spelled}
 use Rattle.lis_record.proofs.WriteLaws.{check_fault-char, check_fault-long, check_fault-none, within_false, within_true}

@@ -1,4 +1,4 @@
-use Rattle.std.proofs.Common.{◌≡◌, ◌<◌, ◌∙◌, ap, ◌++◌, length, arith}
+use Rattle.std.proofs.Common.{◌<◌, length, arith}
 use Rattle.lis_record.proofs.Sinks.{pass_step}
 use Rattle.lis_record.proofs.writing.pass_over.Goals as goal
 

@@ -1,4 +1,4 @@
-use Rattle.std.proofs.Common.{◌≡◌, ◌<◌, ◌∙◌, sym, ap, List, [], ◌++◌, length, drop, take, Ok, Err, arith}
+use Rattle.std.proofs.Common.{◌∙◌, sym, length, drop, Ok, Err, arith}
 use Rattle.std.proofs.lemmas.Bool.{eqb-true}
 use Rattle.lis_record.proofs.Sinks.{Appends-nothing, Sent-more, Sent-part}
 use Rattle.lis_record.proofs.writing.send.Goals as goal

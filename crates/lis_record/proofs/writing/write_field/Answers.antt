@@ -1,4 +1,4 @@
-use Rattle.std.proofs.Common.{◌≡◌, ◌∙◌, sym}
+use Rattle.std.proofs.Common.{◌∙◌, sym}
 use Rattle.lis_record.specs.Faults.{field_char_fault, field_fault}
 use Rattle.lis_record.specs.Spelling.{spelled_field}
 use Rattle.lis_record.proofs.Sinks.{Keeps-same}

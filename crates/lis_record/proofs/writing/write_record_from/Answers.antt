@@ -1,4 +1,4 @@
-use Rattle.std.proofs.Common.{◌≡◌, ◌∙◌, sym, ap, drop}
+use Rattle.std.proofs.Common.{◌∙◌, ap, drop}
 use Rattle.lis_record.specs.Faults.{check_fault}
 use Rattle.lis_record.specs.Spelling.{written}
 use Rattle.lis_record.proofs.WriteLaws.{Wrote-failed, Wrote-refused, is_io-refused, short-written}

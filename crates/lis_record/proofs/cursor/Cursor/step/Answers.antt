@@ -1,4 +1,4 @@
-use Rattle.std.proofs.Common.{◌≡◌, sym, ◌∙◌, length, refl}
+use Rattle.std.proofs.Common.{sym, ◌∙◌, length, refl}
 use Rattle.std.proofs.lemmas.Bool.{eqb-true}
 use Rattle.lis_record.proofs.Steps.{component_case, end_case, field_case, nothing_left, repeat_case, symbols_case}
 use Rattle.lis_record.proofs.cursor.Cursor.step.Goals as goal

@@ -1,4 +1,4 @@
-use Rattle.std.proofs.Common.{◌≡◌, sym, ◌∙◌, None, refl}
+use Rattle.std.proofs.Common.{sym, ◌∙◌, refl}
 use Rattle.lis_record.specs.Delimiters.{delimiters_of}
 use Rattle.lis_record.proofs.Components.{some_none}
 use Rattle.lis_record.proofs.FaultLaws.{IsDelimiters-delimiters_of, delimiter_fault-IsDelimiters}
