@@ -1,0 +1,98 @@
+-- What a sink takes, one write after another.
+use Rattle.std.proofs.Math.Seq.{drop-append-add}
+use Rattle.std.proofs.Common.{◌≡◌, ℕ, zero, suc, ◌+◌, ◌-◌, ◌^◌, ◌<◌, ◌≤◌, min, List, [], ◌∷◌, ◌++◌, length, take, drop, Option, Some, None, Result, Ok, Err, refl, sym, ap, ◌∙◌, append-nil, append_assoc, length-append, zero-add, arith}
+use Rattle.std.proofs.lemmas.List.{drop_at, take_at, drop-drop, drop_all, take-append-le}
+use Rattle.std.specs.Io.KnownBytes.{Appends, Keeps}
+use Rattle.lis_record.specs.Writing.{Sent}
+
+take-nil : {A : Type 0} (k : ℕ) → take {A = A} k [] ≡ []
+take-nil zero = refl
+take-nil (suc k) = refl
+
+pub take-split : {A : Type 0} (n m : ℕ) (xs : List A) → take (n + m) xs ≡ take n xs ++ take m (drop n xs)
+take-split zero m xs = rw zero-add refl
+take-split (suc n) m [] = take-nil (suc n + m) ∙ sym (take-nil m)
+take-split {A} (suc n) m (x ∷ xs) =
+    let e : suc n + m ≡ suc (n + m) = omega arith in
+    ap (λ (k : ℕ). take k (x ∷ xs)) e ∙ ap (λ (l : List A). x ∷ l) (take-split n m xs)
+
+sum_told : (passed size count later told top : ℕ) → later ≡ min (passed + size) top → told ≡ min (later + count) top → told ≡ min (passed + (size + count)) top
+sum_told passed size count later told top e h = omega arith
+
+-- known bytes stay
+pub Keeps-same : (old : Option (List ℕ)) → Keeps old old
+Keeps-same None = tt
+Keeps-same (Some xs) = refl
+
+pub Appends-none : (old : Option (List ℕ)) → Appends old old []
+Appends-none None = tt
+Appends-none (Some xs) = sym (append-nil xs)
+
+-- one write, and then another
+pub Appends-then : (old mid new : Option (List ℕ)) (xs ys : List ℕ) → Appends old mid xs → Appends mid new ys → Appends old new (xs ++ ys)
+Appends-then None mid new xs ys h g = tt
+Appends-then (Some a) None new xs ys h g = absurd h
+Appends-then (Some a) (Some b) None xs ys h g = absurd g
+Appends-then (Some a) (Some b) (Some c) xs ys h g = g ∙ ap (λ (l : List ℕ). l ++ ys) h ∙ append_assoc a xs ys
+
+pub Appends-keeps : (old mid new : Option (List ℕ)) (xs : List ℕ) → Appends old mid xs → Keeps mid new → Appends old new xs
+Appends-keeps None mid new xs h g = tt
+Appends-keeps (Some a) None new xs h g = absurd h
+Appends-keeps (Some a) (Some b) None xs h g = absurd g
+Appends-keeps (Some a) (Some b) (Some c) xs h g = g ∙ h
+
+-- a write took some of the rest
+pub record WrittenOn (old new : Option (List ℕ)) (bytes others : List ℕ) : Type 0 where
+  pub rest : others ≡ drop (length bytes - length others) bytes
+  pub taken : Appends old new (take (length bytes - length others) bytes)
+
+pub WrittenOn-more : (old mid new : Option (List ℕ)) (bytes rest others : List ℕ) (count : ℕ) → length rest ≤ length bytes
+    → rest ≡ drop (length bytes - length rest) bytes → Appends old mid (take (length bytes - length rest) bytes)
+    → Appends mid new (take count rest) → others ≡ drop count rest → length others + count ≡ length rest → WrittenOn old new bytes others
+WrittenOn-more old mid new bytes rest others count within is taken more left size =
+    let n = length bytes - length rest in
+    let place : length bytes - length others ≡ n + count = omega arith in
+    record {
+      rest = left ∙ ap (drop count) is ∙ drop-drop count n bytes ∙ ap (λ (k : ℕ). drop k bytes) (sym place);
+      taken =
+          let both : take (length bytes - length others) bytes ≡ take n bytes ++ take count rest =
+          ap (λ (k : ℕ). take k bytes) place ∙ take-split n count bytes ∙ ap (λ (l : List ℕ). take n bytes ++ take count l) (sym is) in
+          rw both (Appends-then old mid new (take n bytes) (take count rest) taken more);
+    }
+
+-- ---- chunk after chunk
+
+-- bytes went out whole, and more follow
+pub Sent-more : (passed later : ℕ) (bytes rest : List ℕ) (old mid new : Option (List ℕ)) (r : Result Unit ℕ) → later ≡ min (passed + length bytes) (2 ^ 64 - 1)
+    → Appends old mid bytes → Sent later rest mid new r → Sent passed (bytes ++ rest) old new r
+Sent-more passed later bytes rest old mid new (Ok done) e h g = Appends-then old mid new bytes rest h g
+Sent-more passed later bytes rest old mid new (Err told) e h (count, is_told, short, more) =
+    let size = length-append bytes rest in
+    let front : take (length bytes + count) (bytes ++ rest) ≡ bytes ++ take count rest =
+    take-split (length bytes) count (bytes ++ rest) ∙ rw (take_at bytes rest (length bytes) refl, drop_at bytes rest (length bytes) refl) refl in (
+      length bytes + count,
+      sum_told passed (length bytes) count later told (2 ^ 64 - 1) e is_told,
+      omega (arith, size),
+      rw front (Appends-then old mid new bytes (take count rest) h more),
+    )
+
+-- the sink failed in these bytes
+pub Sent-part : (passed told count : ℕ) (bytes rest : List ℕ) (old new : Option (List ℕ)) → told ≡ min (passed + count) (2 ^ 64 - 1) → count < length bytes
+    → Appends old new (take count bytes) → Sent passed (bytes ++ rest) old new (Err told)
+Sent-part passed told count bytes rest old new is_told short taken =
+    let size = length-append bytes rest in (count, is_told, omega (arith, size), rw (take-append-le count bytes rest (omega arith)) taken)
+
+-- nothing is left
+pub Appends-nothing : (old : Option (List ℕ)) (chunk cursor : List ℕ) (left : ℕ) → length chunk ≡ 0 → cursor ≡ [] → Appends old old (drop left chunk ++ cursor)
+Appends-nothing old chunk cursor left none done =
+    let e : drop left chunk ++ cursor ≡ [] = rw (drop_all left chunk (omega arith), done) refl in rw e (Appends-none old)
+
+-- a chunk is passed over, and the next one filled
+pub pass_step : (chunk cursor filled after all : List ℕ) (left : ℕ) → length chunk < left → filled ++ after ≡ cursor → drop left (chunk ++ cursor) ≡ all
+    → left ≤ length (chunk ++ cursor) → (drop (left - length chunk) (filled ++ after) ≡ all) × (left - length chunk ≤ length (filled ++ after))
+pass_step chunk cursor filled after all left past same rest within =
+    let size = length-append chunk cursor in
+    let place : length chunk + (left - length chunk) ≡ left = omega arith in
+    let seam : drop left (chunk ++ cursor) ≡ drop (left - length chunk) cursor =
+    ap (λ (k : ℕ). drop k (chunk ++ cursor)) (sym place) ∙ drop-append-add chunk cursor (left - length chunk) in
+    rw same (sym seam ∙ rest, omega (arith, size))

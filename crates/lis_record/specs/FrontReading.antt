@@ -1,0 +1,82 @@
+-- Reading a text from its front, once: the same symbols, components, repeats and fields as the relation has.
+use Rattle.lis_record.specs.declared.kinds.Kind.{Kind}
+use Rattle.std.specs.Prelude.{◌≡◌, ◌≢◌, ℕ, zero, suc, ◌+◌, ◌==◌, nat_lt, cond, if◌then◌else◌, List, [], ◌∷◌, ◌++◌, map, take, length, Option, Some, None, option_map}
+use Rattle.std.specs.List.{position_or_len, slice_split}
+use Rattle.lis_record.specs.declared.symbols.Sym.{Sym}
+use Rattle.lis_record.specs.declared.symbols.Sym.TheVariants.{Char}
+use Rattle.lis_record.specs.Delimiters.{DelimiterBytes, IsDelimiters, delimiter_list}
+use Rattle.lis_record.specs.Escapes.{escape_of}
+use Rattle.lis_record.specs.declared.kinds.Kind.TheVariants as kinds
+use Rattle.lis_record.specs.Faults.{text_fault, trailing_byte}
+use Rattle.lis_record.specs.Kinds.{kind_of}
+use Rattle.lis_record.specs.Shape.{Symbols, Components, Repeats, Fields}
+
+-- the parts of a text round a byte
+abbrev pub parts_of : ℕ → List ℕ → List (List ℕ)
+parts_of byte text = slice_split (λ b. b == byte) text
+
+-- The escape behind an escape byte that this text follows: what it means, and how many bytes it takes.
+-- It ends at the next escape byte.
+unfoldable pub escape_at : DelimiterBytes → List ℕ → Option (Symbols × ℕ)
+escape_at d text =
+    let n = position_or_len (λ b. b == d.escape) text in
+    if nat_lt n (length text) then option_map (λ symbols. (symbols, n + 1)) (escape_of d (take n text)) else None
+
+-- what an escape means and what stands behind it; where there is none, the escape byte is itself
+abbrev pub symbols_behind : Option (Symbols × ℕ) → (ℕ → Symbols) → Sym → Symbols
+symbols_behind None others lone = lone ∷ others 0
+symbols_behind (Some escape) others lone = escape.0 ++ others escape.1
+
+-- the symbols of a component's text, without the bytes that are passed over first
+unfoldable pub symbols_after : DelimiterBytes → ℕ → List ℕ → Symbols
+symbols_after d passed [] = []
+symbols_after d (suc passed) (byte ∷ bytes) = symbols_after d passed bytes
+symbols_after d zero (byte ∷ bytes) =
+    cond (byte == d.escape) (symbols_behind (escape_at d bytes) (λ n. symbols_after d n bytes) (Char byte)) (Char byte ∷ symbols_after d 0 bytes)
+
+abbrev pub symbols_of : DelimiterBytes → List ℕ → Symbols
+symbols_of d text = symbols_after d 0 text
+
+abbrev pub components_of : DelimiterBytes → List ℕ → Components
+components_of d text = map (symbols_of d) (parts_of d.component text)
+
+abbrev pub repeats_of : DelimiterBytes → List ℕ → Repeats
+repeats_of d text = map (components_of d) (parts_of d.repeat text)
+
+-- the parts behind a first byte, which is a delimiter
+abbrev pub parts_behind : ℕ → List ℕ → List (List ℕ)
+parts_behind byte [] = []
+parts_behind byte (delimiter ∷ bytes) = parts_of byte bytes
+
+-- the fields of what follows a record's letter, or a header's delimiters
+abbrev pub fields_of : DelimiterBytes → List ℕ → Fields
+fields_of d text = map (repeats_of d) (parts_behind d.field text)
+
+-- symbols, and behind them what an escape means
+abbrev pub with_escape : Symbols → Option Symbols → Symbols
+with_escape symbols None = symbols
+with_escape symbols (Some meant) = symbols ++ meant
+
+-- A text without fault opens with the letter of a record other than a header, and its fields follow.
+pub record OpensRecord (d : DelimiterBytes) (text : List ℕ) (kind : Kind) (rest : List ℕ) : Type 0 where
+  pub letter : ℕ
+  pub whole : text ≡ letter ∷ rest
+  pub kind_is : kind_of letter ≡ Some kind
+  pub other : kind ≢ kinds.H
+  pub second : trailing_byte d.field rest ≡ None
+  pub texts : text_fault text ≡ None
+
+-- Behind a header's letter stand delimiters, and then nothing or the field delimiter.
+pub record DeclaresDelimiters (text : List ℕ) (d : DelimiterBytes) (rest : List ℕ) : Type 0 where
+  pub whole : text ≡ delimiter_list d ++ rest
+  pub marks : IsDelimiters d
+  pub trailing : trailing_byte d.field rest ≡ None
+
+-- A text without fault opens with a header's letter and delimiters, and its fields follow.
+pub record OpensHeader (text : List ℕ) (d : DelimiterBytes) (rest : List ℕ) : Type 0 where
+  pub letter : ℕ
+  pub part : List ℕ
+  pub whole : text ≡ letter ∷ part
+  pub kind_is : kind_of letter ≡ Some kinds.H
+  pub declares : DeclaresDelimiters part d rest
+  pub texts : text_fault text ≡ None

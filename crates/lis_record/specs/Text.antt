@@ -1,0 +1,16 @@
+-- The bytes of a record's text (LIS02-A2, Character Codes).
+use Rattle.std.specs.Prelude.{ℕ, ◌==◌, nat_le, Bool, not, ◌&&◌, ◌||◌, List, Option, position}
+use Rattle.std.specs.List.{AllPass}
+
+-- whether a byte may stand in a record: 7, 9, 11, 12, 32 to 126 and 128 to 254
+unfoldable pub is_text_byte : ℕ → Bool
+is_text_byte b =
+    b == 7 || b == 9 || b == 11 || b == 12 || (nat_le 32 b && nat_le b 126) || (nat_le 128 b && nat_le b 254)
+
+-- text bytes alone
+abbrev pub IsText : List ℕ → Type 0
+IsText bytes = AllPass is_text_byte bytes
+
+-- the place of the first byte that is no text byte
+abbrev pub bad_byte_place : List ℕ → Option ℕ
+bad_byte_place bytes = position (λ b. not (is_text_byte b)) bytes

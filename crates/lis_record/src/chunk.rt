@@ -1,0 +1,179 @@
+//! A fixed buffer that a record goes through on its way to a sink.
+
+ghost use Rattle.std.specs.Prelude.{◌≡◌, ◌+◌, ◌<◌, ◌≤◌, ◌++◌, ◌∷◌, [], ◌==◌, length};
+ghost use Rattle.lis_record.specs.Spelling.{delimiter_letter, letter_spelling, spelled_component, spelled_symbol};
+ghost use Rattle.lis_record.specs.declared.symbols.Sym.TheVariants.{Char, Raw};
+
+use crate::delimiting::Delimiters;
+use crate::symbols::Sym;
+use std::marker::Model;
+
+// The letter of the escape that a delimiter is written as.
+fn delimiter_letter(delimiters: Delimiters, byte: u8) -> Option<u8>
+    ensures { result ≡ delimiter_letter delimiters byte }
+{
+    if byte == delimiters.field() {
+        Some(b'F')
+    } else if byte == delimiters.component() {
+        Some(b'S')
+    } else if byte == delimiters.repeat() {
+        Some(b'R')
+    } else if byte == delimiters.escape() {
+        Some(b'E')
+    } else {
+        None
+    }
+}
+
+// The most bytes of a chunk.
+pub(crate) const CHUNK: usize = 256;
+
+// The most bytes that a symbol is written as.
+pub(crate) const LONGEST_SYMBOL: usize = 5;
+
+// The first bytes of a fixed buffer.
+pub(crate) struct Chunk {
+    bytes: [u8; CHUNK],
+    len: usize,
+}
+
+impl Model for Chunk {
+    ghost use Rattle.std.specs.Prelude.{ℕ, ◌≤◌, List, take};
+
+    ghost Value = { List ℕ };
+
+    ghost view = { λ c. take c.len c.bytes };
+
+    ghost invariant = { λ c. c.len ≤ 256 };
+}
+
+impl Drop for Chunk {
+    fn drop(self) {
+        let Chunk { bytes: _, len: _ } = self;
+    }
+}
+
+impl Chunk {
+    // An empty chunk.
+    pub(crate) fn new() -> Self
+        ensures { result ≡ [] }
+    {
+        Chunk {
+            bytes: [0; CHUNK],
+            len: 0,
+        }
+    }
+
+    // The number of bytes.
+    pub(crate) fn len(&self) -> usize
+        ensures len { result ≡ length self.now }
+        ensures bound { result ≤ 256 }
+    {
+        self.len
+    }
+
+    // Whether it has no byte.
+    pub(crate) fn is_empty(&self) -> bool
+        ensures { result ≡ (length self.now == 0) }
+    {
+        self.len() == 0
+    }
+
+    // The bytes.
+    pub(crate) fn as_slice(&self) -> &[u8]
+        ensures value { result.now ≡ self.now }
+        ensures bound { length result.now ≤ 256 }
+    {
+        &self.bytes[..self.len]
+    }
+
+    // Puts a byte at the end.
+    pub(crate) fn push(&mut self, byte: u8)
+        requires { length self.old < 256 }
+        ensures { self.new ≡ self.old ++ byte ∷ [] }
+    {
+        self.bytes[self.len] = byte;
+        self.len += 1;
+    }
+
+    // Drops all bytes.
+    pub(crate) fn clear(&mut self)
+        ensures { self.new ≡ [] }
+    {
+        self.len = 0;
+    }
+
+    // Puts an escape of one letter at the end.
+    fn push_letter(&mut self, delimiters: Delimiters, letter: u8)
+        requires { length self.old + 3 ≤ 256 }
+        ensures { self.new ≡ self.old ++ letter_spelling delimiters letter }
+    {
+        self.push(delimiters.escape());
+        self.push(letter);
+        self.push(delimiters.escape());
+    }
+
+    #[tactic(auto, unfolding(crate::specs::Spelling::spelled_symbol))]
+    // Puts a raw byte at the end, as an escape with two digits.
+    fn push_raw(&mut self, delimiters: Delimiters, byte: u8)
+        requires { length self.old + 5 ≤ 256 }
+        ensures { self.new ≡ self.old ++ spelled_symbol delimiters (Raw byte) }
+    {
+        let mut digits = [0; 2];
+        hex::encode_to_slice([byte].as_slice(), &mut digits).unwrap();
+        self.push(delimiters.escape());
+        self.push(b'X');
+        self.push(digits[0]);
+        self.push(digits[1]);
+        self.push(delimiters.escape());
+    }
+
+    // Puts a character at the end, a delimiter as an escape.
+    #[tactic(auto, unfolding(crate::specs::Spelling::spelled_symbol))]
+    fn push_char(&mut self, delimiters: Delimiters, byte: u8)
+        requires { length self.old + 5 ≤ 256 }
+        ensures { self.new ≡ self.old ++ spelled_symbol delimiters (Char byte) }
+    {
+        match delimiter_letter(delimiters, byte) {
+            Some(letter) => self.push_letter(delimiters, letter),
+            None => self.push(byte),
+        }
+    }
+
+    // Puts the spelling of a symbol at the end.
+    #[tactic(auto, unfolding(crate::specs::Spelling::spelled_symbol))]
+    pub(crate) fn push_symbol(&mut self, delimiters: Delimiters, symbol: Sym)
+        requires { length self.old + 5 ≤ 256 }
+        ensures after { self.new ≡ self.old ++ spelled_symbol delimiters symbol }
+        ensures more { length self.old < length self.new }
+    {
+        match symbol {
+            Sym::Char(byte) => self.push_char(delimiters, byte),
+            Sym::Raw(byte) => self.push_raw(delimiters, byte),
+            Sym::On => self.push_letter(delimiters, b'H'),
+            Sym::Off => self.push_letter(delimiters, b'N'),
+        }
+    }
+
+    // Puts the spellings of symbols at the end, as many as find room, and answers the rest.
+    pub(crate) fn push_symbols<'a>(
+        &mut self,
+        delimiters: Delimiters,
+        symbols: &'a [Sym],
+    ) -> &'a [Sym]
+        requires { length self.old + 5 ≤ 256 }
+        ensures same { self.new ++ spelled_component delimiters result.now
+            ≡ self.old ++ spelled_component delimiters symbols.now }
+        ensures more { 0 < length symbols.now → length self.old < length self.new }
+    {
+        let mut rest = symbols;
+        while let Some((symbol, others)) = rest.split_first() {
+            if self.len() > CHUNK - LONGEST_SYMBOL {
+                return rest;
+            }
+            self.push_symbol(delimiters, *symbol);
+            rest = others;
+        }
+        rest
+    }
+}

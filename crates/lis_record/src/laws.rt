@@ -1,0 +1,27 @@
+//! What holds of all records, over the definitions that the contracts cite.
+
+ghost use Rattle.std.specs.Prelude.{◌≡◌, ℕ, List, None};
+ghost use Rattle.lis_record.specs.Delimiters.{DelimiterBytes, IsDelimiters};
+ghost use Rattle.lis_record.specs.Faults.{check_fault, header_fault, record_fault};
+ghost use Rattle.lis_record.specs.Relation.{IsRecord, Lacks};
+ghost use Rattle.lis_record.specs.Shape.{IsRecordShape, RecordContent};
+ghost use Rattle.lis_record.specs.Spelling.{spelled};
+ghost use Rattle.lis_record.specs.declared.kinds.Kind.TheVariants as kinds;
+
+/// A record that can be written is read back: its spelling is a text of it, and of no other record.
+pub fn read_back()
+    ensures related { (d : DelimiterBytes) (content : RecordContent) → IsDelimiters d → IsRecordShape content
+        → check_fault d content ≡ None → IsRecord d (spelled d content) content }
+    ensures alone { (d : DelimiterBytes) (content other : RecordContent) → IsDelimiters d → IsRecordShape content
+        → check_fault d content ≡ None → IsRecord d (spelled d content) other → other ≡ content }
+{}
+
+/// A text is one record at most, and its letter tells the kind. A header's text has one set of delimiters.
+pub fn one_record()
+    ensures content { (d : DelimiterBytes) (text : List ℕ) (r s : RecordContent) → IsDelimiters d
+        → IsRecord d text r → IsRecord d text s → r ≡ s }
+    ensures kind { (d e : DelimiterBytes) (text : List ℕ) (r s : RecordContent)
+        → IsRecord d text r → IsRecord e text s → r.kind ≡ s.kind }
+    ensures header { (d e : DelimiterBytes) (text : List ℕ) (r s : RecordContent) → IsDelimiters d → r.kind ≡ kinds.H
+        → IsRecord d text r → IsRecord e text s → (d ≡ e) × (r ≡ s) }
+{}

@@ -1,0 +1,84 @@
+//! A record: its kind and its fields (LIS02-A2, Data Record Usage Overview).
+
+ghost use Rattle.std.specs.Prelude.{◌≡◌, ◌++◌, ◌∷◌, [], length, slice_get, IfErr, OnOk};
+ghost use Rattle.std.specs.Option.{option_copied};
+ghost use Rattle.lis_record.specs.Shape.{AreFields, IsRecordShape, field_at, first_number};
+
+use crate::kinds::Kind;
+use crate::parts::Field;
+use std::alloc::{AllocFailed, Global};
+use std::marker::Model;
+
+/// The most bytes that a record has, without its CR.
+pub const RECORD_LIMIT: usize = 65_536;
+
+/// A record: its kind and the fields after its letter, or after a header's delimiters.
+#[derive(Debug, Drop)]
+pub struct Record {
+    kind: Kind,
+    fields: Vec<Field>,
+}
+
+impl Model for Record {
+    ghost use Rattle.lis_record.specs.Shape.{RecordContent, AreFields};
+
+    ghost Value = { RecordContent };
+
+    ghost view = { λ r. record { kind = r.kind; fields = r.fields.items } };
+
+    ghost invariant = { λ r. AreFields r.fields.items };
+}
+
+impl Record {
+    /// A record of this kind without a field.
+    pub fn new(alloc: Global, kind: Kind) -> Self
+        ensures { result ≡ record { kind = kind; fields = [] } }
+    {
+        Record {
+            kind,
+            fields: Vec::new(alloc),
+        }
+    }
+
+    /// Puts a field at the end. Where memory is refused it comes back, and the record is as before.
+    pub fn push(&mut self, field: Field) -> Result<(), AllocFailed<Field>>
+        ensures ok { OnOk result (self.new ≡ record self.old { fields = self.old.fields ++ field ∷ [] }) }
+        ensures err { IfErr result (λ refused. (refused.value ≡ field) × (self.new ≡ self.old)) }
+    {
+        let _ = field.as_slice();
+        self.fields.push(field)
+    }
+
+    /// What the record tells.
+    pub fn kind(&self) -> Kind
+        ensures kind { result ≡ self.now.kind }
+        ensures shape { IsRecordShape self.now }
+    {
+        let _ = &self.fields;
+        self.kind
+    }
+
+    /// The number of fields after the letter, or after a header's delimiters.
+    pub fn len(&self) -> usize
+        ensures { result ≡ length self.now.fields }
+    {
+        self.fields.len()
+    }
+
+    /// The field of this number. The letter is field 1; in a header the delimiters are field 2. Both are
+    /// none of these fields, and nor is one past the last.
+    pub fn field(&self, number: usize) -> Option<&Field>
+        ensures { option_copied result ≡ field_at self.now number }
+    {
+        self.fields
+            .get(number.checked_sub(self.kind.first_number())?)
+    }
+
+    // The fields, for writing.
+    pub(crate) fn as_slice(&self) -> &[Field]
+        ensures value { result.now ≡ self.now.fields }
+        ensures shape { IsRecordShape self.now }
+    {
+        self.fields.as_slice()
+    }
+}

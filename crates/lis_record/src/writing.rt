@@ -1,0 +1,319 @@
+//! Writing records and fields to a sink, without memory (LIS02-A2, Delimiters).
+
+ghost use Rattle.std.specs.Prelude.{◌≡◌, ◌+◌, ◌<◌, ◌≤◌, ◌++◌, ◌∷◌, [], ◌↔◌, length, take, drop, false, not, is_err, IsTrue, IfErr, OnOk, MatchResult, option_map, position, None, Some};
+ghost use Rattle.std.specs.Io.KnownBytes.{Appends};
+ghost use Rattle.lis_record.specs.Faults.{bad_field_number, check_fault, field_char_fault, field_fault, is_text_component, is_text_field, is_text_repeat, is_text_symbol};
+ghost use Rattle.lis_record.specs.Relation.{IsRecord, declared_part};
+ghost use Rattle.lis_record.specs.Shape.{IsFieldShape, IsRecordShape, first_number};
+ghost use Rattle.lis_record.specs.Spelling.{spelled, spelled_field, written};
+ghost use Rattle.lis_record.specs.Kinds.{letter_of};
+ghost use Rattle.lis_record.specs.Writing.{Sent, Wrote, WroteAny, is_io};
+
+use crate::chunk::Chunk;
+use crate::cursor::Cursor;
+use crate::delimiting::Delimiters;
+use crate::faults::WriteFault;
+use crate::kinds::Kind;
+use crate::parts::{Component, Field, Repeat};
+use crate::records::{RECORD_LIMIT, Record};
+use crate::symbols::Sym;
+use crate::texts::is_text_byte;
+use lis_port::Sink;
+
+// Writes all of the bytes; else how many the sink took before it failed.
+fn write_all<W: Sink>(sink: &mut W, bytes: &[u8]) -> Result<(), usize>
+    requires { W.failed sink.old ≡ false }
+    ensures ok { OnOk result (Appends (W.taken sink.old) (W.taken sink.new) bytes.now) }
+    ensures err { IfErr result (λ count. (count < length bytes.now)
+        × Appends (W.taken sink.old) (W.taken sink.new) (take count bytes.now)) }
+    ensures failed { W.failed sink.new ≡ is_err result }
+{
+    let mut rest = bytes;
+    while !rest.is_empty() {
+        match sink.write(rest) {
+            Ok(count) => {
+                let (_, others) = rest.split_at(count);
+                rest = others;
+            }
+            Err(_failed) => return Err(bytes.len() - rest.len()),
+        }
+    }
+    Ok(())
+}
+
+// Writes the chunk from `left` on, and then what the cursor has; else how many bytes were passed, with
+// those that were passed before.
+fn send<W: Sink>(
+    sink: &mut W,
+    chunk: &mut Chunk,
+    cursor: &mut Cursor<'_>,
+    left: usize,
+    passed: u64,
+) -> Result<(), u64>
+    requires open_sink { W.failed sink.old ≡ false }
+    requires within { left ≤ length chunk.old }
+    requires filled { length chunk.old ≡ 0 → cursor.old ≡ [] }
+    ensures sent { Sent passed (drop left chunk.old ++ cursor.old) (W.taken sink.old) (W.taken sink.new) result }
+    ensures failed { W.failed sink.new ≡ is_err result }
+{
+    let mut left = left;
+    let mut passed = passed;
+    while !chunk.is_empty() {
+        let (_, bytes) = chunk.as_slice().split_at(left);
+        if let Err(count) = write_all(sink, bytes) {
+            return Err(passed.saturating_add(count as u64));
+        }
+        passed = passed.saturating_add(bytes.len() as u64);
+        left = 0;
+        chunk.clear();
+        cursor.fill(chunk);
+    }
+    Ok(())
+}
+
+// Passes over the first bytes of what is left, and answers how many of the chunk's are still to be passed.
+fn pass_over(chunk: &mut Chunk, cursor: &mut Cursor<'_>, skip: usize) -> usize
+    requires skip { skip ≤ length (chunk.old ++ cursor.old) }
+    requires filled { length chunk.old ≡ 0 → cursor.old ≡ [] }
+    ensures rest { drop result chunk.new ++ cursor.new ≡ drop skip (chunk.old ++ cursor.old) }
+    ensures within { result ≤ length chunk.new }
+    ensures filled { length chunk.new ≡ 0 → cursor.new ≡ [] }
+{
+    let mut left = skip;
+    while left > chunk.len() {
+        left -= chunk.len();
+        chunk.clear();
+        cursor.fill(chunk);
+    }
+    left
+}
+
+// Whether at most so many bytes are left.
+fn is_within(chunk: &mut Chunk, cursor: &mut Cursor<'_>, limit: usize) -> bool
+    requires { length chunk.old ≡ 0 → cursor.old ≡ [] }
+    ensures { IsTrue result ↔ (length (chunk.old ++ cursor.old) ≤ limit) }
+{
+    let mut room = limit;
+    while !chunk.is_empty() {
+        if chunk.len() > room {
+            return false;
+        }
+        room -= chunk.len();
+        chunk.clear();
+        cursor.fill(chunk);
+    }
+    true
+}
+
+// Whether what a symbol carries as a character is a text byte.
+fn is_text_symbol(symbol: &Sym) -> bool
+    ensures { result ≡ is_text_symbol symbol.now }
+{
+    match symbol {
+        Sym::Char(byte) => is_text_byte(*byte),
+        _ => true,
+    }
+}
+
+fn is_text_component(component: &Component) -> bool
+    ensures { result ≡ is_text_component component.now }
+{
+    component
+        .as_slice()
+        .iter()
+        .all(|symbol| is_text_symbol(symbol))
+}
+
+fn is_text_repeat(repeat: &Repeat) -> bool
+    ensures { result ≡ is_text_repeat repeat.now }
+{
+    repeat
+        .as_slice()
+        .iter()
+        .all(|component| is_text_component(component))
+}
+
+fn is_text_field(field: &Field) -> bool
+    ensures { result ≡ is_text_field field.now }
+{
+    field.as_slice().iter().all(|repeat| is_text_repeat(repeat))
+}
+
+// The place of the first field with a character that is no text byte.
+fn bad_field_place(fields: &[Field]) -> Option<usize>
+    ensures { result ≡ position (λ field. not (is_text_field field)) fields.now }
+{
+    fields.iter().position(|field| !is_text_field(field))
+}
+
+// The number of the first field with a character that is no text byte.
+fn bad_field_number(record: &Record) -> Option<usize>
+    ensures number { result ≡ bad_field_number record.now }
+    ensures shape { IsRecordShape record.now }
+{
+    let first = record.kind().first_number();
+    match bad_field_place(record.as_slice()) {
+        Some(place) => Some(place + first),
+        None => None,
+    }
+}
+
+// Puts what stands before a record's fields into the empty chunk, and fills it; the cursor has the rest.
+fn begin_record<'a>(
+    chunk: &mut Chunk,
+    delimiters: Delimiters,
+    record: &'a Record,
+    end: &'a [u8],
+) -> Cursor<'a>
+    requires { chunk.old ≡ [] }
+    ensures whole { chunk.new ++ result ≡ spelled delimiters record.now ++ end.now }
+    ensures filled { length chunk.new ≡ 0 → result ≡ [] }
+{
+    chunk.push(record.kind().letter());
+    push_declared(chunk, delimiters, record.kind());
+    let mut cursor = Cursor::of_fields(delimiters, record.as_slice(), end);
+    cursor.fill(chunk);
+    cursor
+}
+
+// Fills the empty chunk with a field; the cursor has the rest.
+fn begin_field<'a>(chunk: &mut Chunk, delimiters: Delimiters, field: &'a Field) -> Cursor<'a>
+    requires { chunk.old ≡ [] }
+    ensures whole { chunk.new ++ result ≡ spelled_field delimiters field.now }
+    ensures filled { length chunk.new ≡ 0 → result ≡ [] }
+{
+    let mut cursor = Cursor::of_field(delimiters, field);
+    cursor.fill(chunk);
+    cursor
+}
+
+// Puts what stands between a record's letter and its fields into the chunk.
+fn push_declared(chunk: &mut Chunk, delimiters: Delimiters, kind: Kind)
+    requires { length chunk.old ≤ 4 }
+    ensures { chunk.new ≡ chunk.old ++ declared_part delimiters kind }
+{
+    if let Kind::H = kind {
+        chunk.push(delimiters.field());
+        chunk.push(delimiters.repeat());
+        chunk.push(delimiters.component());
+        chunk.push(delimiters.escape());
+    }
+}
+
+/// Whether a record can be written: the fault that `write_record` tells before it writes.
+///
+/// `CharNotText(number)`, where the field of that number is the first with a `Char` that is no text byte;
+/// else `TooLong`, where the spelling has over 65,536 bytes. Never `Io`.
+pub fn check_record(delimiters: &Delimiters, record: &Record) -> Result<(), WriteFault>
+    ensures fault { MatchResult result
+        (λ _. check_fault delimiters.now record.now ≡ None)
+        (λ fault. check_fault delimiters.now record.now ≡ Some fault) }
+    // What can be written is a text of the record.
+    ensures related { OnOk result (IsRecord delimiters.now (spelled delimiters.now record.now) record.now) }
+{
+    delimiters.known();
+    if let Some(number) = bad_field_number(record) {
+        return Err(WriteFault::CharNotText(number));
+    }
+    let mut chunk = Chunk::new();
+    let mut cursor = begin_record(&mut chunk, *delimiters, record, &[]);
+    if !is_within(&mut chunk, &mut cursor, RECORD_LIMIT) {
+        return Err(WriteFault::TooLong);
+    }
+    Ok(())
+}
+
+/// Writes a record's spelling and CR, without the first `skip` bytes of these.
+///
+/// `CharNotText` and `TooLong` are those of `check_record`, and then nothing was written. On `Io(count)` the
+/// sink failed, and the first `count` bytes of the spelling and CR, those that were skipped among them, are out.
+pub fn write_record_from<W: Sink>(
+    sink: &mut W,
+    delimiters: &Delimiters,
+    record: &Record,
+    skip: u64,
+) -> Result<(), WriteFault>
+    requires open_sink { W.failed sink.old ≡ false }
+    requires skip { skip ≤ length (written delimiters.now record.now) }
+    ensures wrote { Wrote (check_fault delimiters.now record.now) skip (written delimiters.now record.now)
+        (W.taken sink.old) (W.taken sink.new) result }
+    ensures failed { W.failed sink.new ≡ is_io result }
+{
+    if let Err(fault) = check_record(delimiters, record) {
+        return Err(fault);
+    }
+    let mut chunk = Chunk::new();
+    let mut cursor = begin_record(&mut chunk, *delimiters, record, b"\r");
+    let left = pass_over(&mut chunk, &mut cursor, skip as usize);
+    match send(sink, &mut chunk, &mut cursor, left, skip) {
+        Ok(()) => Ok(()),
+        Err(count) => Err(WriteFault::Io(count)),
+    }
+}
+
+/// Writes a record's spelling and CR.
+///
+/// `CharNotText` and `TooLong` are those of `check_record`, and then nothing was written. On `Io(count)` the
+/// sink failed, and the first `count` bytes of the spelling and CR are out. Nothing is tried again.
+pub fn write_record<W: Sink>(
+    sink: &mut W,
+    delimiters: &Delimiters,
+    record: &Record,
+) -> Result<(), WriteFault>
+    requires { W.failed sink.old ≡ false }
+    ensures wrote { Wrote (check_fault delimiters.now record.now) 0 (written delimiters.now record.now)
+        (W.taken sink.old) (W.taken sink.new) result }
+    ensures failed { W.failed sink.new ≡ is_io result }
+{
+    write_record_from(sink, delimiters, record, 0)
+}
+
+/// Writes a field's spelling alone, of any length.
+///
+/// `CharNotText(0)`, where it has a `Char` that is no text byte: then nothing was written. On `Io(count)` the
+/// sink failed, and the first `count` bytes are out; the count stops at 18,446,744,073,709,551,615.
+pub fn put_field<W: Sink>(
+    sink: &mut W,
+    delimiters: &Delimiters,
+    field: &Field,
+) -> Result<(), WriteFault>
+    requires { W.failed sink.old ≡ false }
+    ensures wrote { WroteAny (field_char_fault field.now) (spelled_field delimiters.now field.now)
+        (W.taken sink.old) (W.taken sink.new) result }
+    ensures failed { W.failed sink.new ≡ is_io result }
+{
+    if !is_text_field(field) {
+        return Err(WriteFault::CharNotText(0));
+    }
+    let mut chunk = Chunk::new();
+    let mut cursor = begin_field(&mut chunk, *delimiters, field);
+    match send(sink, &mut chunk, &mut cursor, 0, 0) {
+        Ok(()) => Ok(()),
+        Err(count) => Err(WriteFault::Io(count)),
+    }
+}
+
+/// Writes a field's spelling alone.
+///
+/// `CharNotText(0)`, where it has a `Char` that is no text byte; else `TooLong`, where the spelling has over
+/// 65,536 bytes: then nothing was written. On `Io(count)` the sink failed, and the first `count` bytes are out.
+pub fn write_field<W: Sink>(
+    sink: &mut W,
+    delimiters: &Delimiters,
+    field: &Field,
+) -> Result<(), WriteFault>
+    requires { W.failed sink.old ≡ false }
+    ensures wrote { Wrote (field_fault delimiters.now field.now) 0 (spelled_field delimiters.now field.now)
+        (W.taken sink.old) (W.taken sink.new) result }
+    ensures failed { W.failed sink.new ≡ is_io result }
+{
+    if !is_text_field(field) {
+        return Err(WriteFault::CharNotText(0));
+    }
+    let mut chunk = Chunk::new();
+    let mut cursor = begin_field(&mut chunk, *delimiters, field);
+    if !is_within(&mut chunk, &mut cursor, RECORD_LIMIT) {
+        return Err(WriteFault::TooLong);
+    }
+    put_field(sink, delimiters, field)
+}
