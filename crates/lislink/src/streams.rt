@@ -5,13 +5,13 @@ use std::io::{self, BufReader, BufWriter, ErrorKind, Read, Write};
 
 /// Writes to a buffered writer that a reader flushes too.
 #[derive(Drop)]
-pub struct SharedWriter<'a, W: Write + Drop> {
+pub(crate) struct SharedWriter<'a, W: Write + Drop> {
     writer: &'a RefCell<BufWriter<W>>,
 }
 
 impl<'a, W: Write + Drop> SharedWriter<'a, W> {
     /// A writer to this buffer.
-    pub fn new(writer: &'a RefCell<BufWriter<W>>) -> Self {
+    pub(crate) fn new(writer: &'a RefCell<BufWriter<W>>) -> Self {
         SharedWriter { writer }
     }
 }
@@ -34,14 +34,14 @@ impl<W: Write + Drop> Write for SharedWriter<'_, W> {
 
 /// Reads from a buffered reader, and flushes what was written before each read that may wait.
 #[derive(Drop)]
-pub struct FlushingReader<'a, R: Read + Drop, W: Write + Drop> {
+pub(crate) struct FlushingReader<'a, R: Read + Drop, W: Write + Drop> {
     reader: BufReader<R>,
     writer: SharedWriter<'a, W>,
 }
 
 impl<'a, R: Read + Drop, W: Write + Drop> FlushingReader<'a, R, W> {
     /// A reader that flushes this writer.
-    pub fn new(reader: BufReader<R>, writer: &'a RefCell<BufWriter<W>>) -> Self {
+    pub(crate) fn new(reader: BufReader<R>, writer: &'a RefCell<BufWriter<W>>) -> Self {
         FlushingReader {
             reader,
             writer: SharedWriter::new(writer),
