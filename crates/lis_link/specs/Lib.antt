@@ -2,3 +2,5 @@
 pub mod Joining
 pub mod Sender
 pub mod Receiver
+pub mod Kept
+pub mod Stands

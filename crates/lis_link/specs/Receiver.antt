@@ -51,15 +51,19 @@ bid_with Ready r = answers (Some ACK) Opened (record r { is_open = true; accepte
 bid_with Busy r = answers (Some NAK) NotReady (record r { is_open = false })
 bid_with Contending r = answers (Some ENQ) NotReady (record r { is_open = false; readiness = Ready })
 
--- what is found of a good frame while the line is open: the first line of the table that fits
+-- what is found of a good frame while the line is open, by the numbers of accepted frames and held bytes,
+-- the room, and the frame's number and length: the first line of the table that fits
+abbrev pub judged_by : ℕ → ℕ → Bool → ℕ → ℕ → Note
+judged_by accepted held room number bytes =
+    if nat_lt 0 accepted && number == accepted % 8 then Duplicate number
+    else if not (number == (accepted + 1) % 8) then OutOfTurn number
+    else if not room then NoRoom
+    else if accepted == most_frames then TooMany
+    else if nat_lt longest_text (held + bytes) then TooLong
+    else Accepted number
+
 abbrev pub judged : ReceiverState → FrameContent → Note
-judged r frame =
-    if nat_lt 0 (length r.accepted) && frame.number == length r.accepted % 8 then Duplicate frame.number
-    else if not (frame.number == (length r.accepted + 1) % 8) then OutOfTurn frame.number
-    else if not r.room then NoRoom
-    else if length r.accepted == most_frames then TooMany
-    else if nat_lt longest_text (length (held_text r) + length frame.text) then TooLong
-    else Accepted frame.number
+judged r frame = judged_by (length r.accepted) (length (held_text r)) r.room frame.number (length frame.text)
 
 -- the step by what was found: an accepted frame is taken, a repeated one acknowledged, any other refused
 abbrev pub on_judged : ReceiverState → FrameContent → Note → ReceiverStep
