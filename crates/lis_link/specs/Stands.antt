@@ -1,13 +1,13 @@
 -- What a receiver of the program stands for: it counts the frames that it accepted and keeps the held text alone.
-use Rattle.std.specs.Prelude.{◌≡◌, ◌≢◌, ℕ, ◌+◌, ◌<◌, ◌≤◌, Bool, true, false, List, ◌∷◌, length, Option, None, Some}
-use Rattle.lis_frame.specs.declared.control.TheConstants.{NAK}
+use Rattle.std.specs.Prelude.{◌≡◌, ℕ, ◌+◌, ◌<◌, ◌≤◌, true, false, length, Option, None, Some}
+use Rattle.lis_frame.specs.declared.control.TheConstants.{ACK, NAK}
 use Rattle.lis_frame.specs.Frame.{FrameContent}
-use Rattle.lis_frame.specs.Scanner.{Held, StandsFor}
-use Rattle.lis_link.specs.declared.receiver.Readiness.{Readiness}
-use Rattle.lis_link.specs.declared.receiver.Note.TheVariants.{OutOfMemory}
+use Rattle.lis_frame.specs.Scanner.{StandsFor}
+use Rattle.lis_link.specs.declared.receiver.Note.TheVariants.{Accepted}
 use Rattle.lis_link.specs.declared.receiver.Step.{Step}
+use Rattle.lis_link.specs.Joining.{completed, held_after}
 use Rattle.lis_link.specs.Kept.{Kept}
-use Rattle.lis_link.specs.Receiver.{ReceiverState, ReceiverStep, held_text, on_byte}
+use Rattle.lis_link.specs.Receiver.{ReceiverState, ReceiverStep, held_text}
 
 -- a receiver that keeps this is in this state
 pub record IsIn (limit : ℕ) (kept : Kept) (r : ReceiverState) : Type 0 where
@@ -36,6 +36,7 @@ pub record IsRefused (limit spare : ℕ) (step : ReceiverStep) (r : ReceiverStat
   pub too_long : spare < length frame.text
   pub reply_is : result.reply ≡ Some NAK
   pub message_is : result.message ≡ None
+  pub spare_kept : spare ≤ new.spare
   pub state : IsIn limit new r
 
 -- the spare room after a step: an intermediate frame that was taken lowers it by at most its length, a last one may
@@ -43,3 +44,10 @@ pub record IsRefused (limit spare : ℕ) (step : ReceiverStep) (r : ReceiverStat
 abbrev pub SpareAfter : ℕ → ℕ → Option FrameContent → Type 0
 SpareAfter before after None = before ≤ after
 SpareAfter before after (Some frame) = frame.last ≡ false → before ≤ after + length frame.text
+
+-- a frame was taken: what is held and handed out, and that nothing else but the count has changed
+pub record IsTaken (old : Kept) (frame : FrameContent) (number : ℕ) (result : Step) (new : Kept) : Type 0 where
+  pub reply_is : result.reply ≡ Some ACK
+  pub message_is : result.message ≡ completed old.held frame
+  pub note_is : result.note ≡ Accepted number
+  pub new_is : new ≡ record old { accepted = old.accepted + 1; held = held_after old.held frame; spare = new.spare }

@@ -1,11 +1,14 @@
 //! The receiving end (LIS01-A2, 6.3 to 6.6).
 
-ghost use Rattle.std.specs.Prelude.{◌≡◌, ◌≢◌, ◌≤◌, ◌+◌, ◌∷◌, length, if◌then◌else◌, OnOk, OnErr, None};
+ghost use Rattle.std.specs.Prelude.{◌≡◌, ◌≢◌, ◌≤◌, ◌<◌, ◌+◌, ◌^◌, ◌∷◌, length, if◌then◌else◌, [], IsTrue, OnOk, OnErr, None, Some, false};
 ghost use Rattle.lis_frame.specs.Limit.{IsLimit};
 ghost use Rattle.lis_frame.specs.Text.{longest_text};
 ghost use Rattle.lis_frame.specs.Scanner.{StandsFor};
-ghost use Rattle.lis_link.specs.Receiver.{ReceiverState, new_receiver, bid_with, judged_by, judged, on_judged, heard_by, heard, on_byte, on_receiver_timer, receiver_restarted, with_readiness, with_room, held_length};
-ghost use Rattle.lis_link.specs.Stands.{IsIn, Makes, IsRefused, SpareAfter};
+ghost use Rattle.lis_link.specs.Receiver.{ReceiverState, new_receiver, bid_with, judged_by, judged, on_judged, found_reply, heard_by, heard, on_byte, on_receiver_timer, receiver_restarted, with_readiness, with_room, held_length};
+ghost use Rattle.lis_frame.specs.declared.scanner.SignalOf.TheVariants as Signals;
+ghost use Rattle.lis_frame.specs.declared.control.TheConstants.{NAK};
+ghost use Rattle.lis_link.specs.declared.receiver.Note.TheVariants as Notes;
+ghost use Rattle.lis_link.specs.Stands.{IsIn, Makes, IsRefused, IsTaken, SpareAfter};
 
 use lis_frame::control::{ACK, ENQ, NAK};
 use lis_frame::{FrameFault, FrameOf, LONGEST_TEXT, LinkText, List, ScannerOf, SignalOf};
@@ -153,7 +156,11 @@ impl<const N: usize> ReceiverOf<N> {
         ensures value { (r : ReceiverState) → IsIn N self.now r → result ≡ held_length r }
         ensures bound { result ≤ longest_text }
     {
-        if self.is_open { self.held.len() as u64 } else { 0 }
+        if self.is_open {
+            self.held.len() as u64
+        } else {
+            0
+        }
     }
 
     /// The scanner, which stands for the bytes since the receiver was made or restarted.
@@ -203,5 +210,190 @@ impl<const N: usize> ReceiverOf<N> {
         self.is_open = false;
         self.held.clear();
         Step::of(None, Note::TimedOut)
+    }
+
+    /// Makes room for `bytes` more bytes of held text, so that taking them takes no memory. Where
+    /// memory is refused the receiver is as before.
+    pub fn reserve(&mut self, bytes: u64) -> Result<(), AllocError>
+        requires { bytes ≤ longest_text }
+        ensures ok { OnOk result (bytes ≤ self.new.spare) }
+        ensures state { (r : ReceiverState) → IsIn N self.old r → IsIn N self.new r }
+        ensures spare { self.old.spare ≤ self.new.spare }
+    {
+        self.held.reserve(bytes as usize)
+    }
+
+    /// Hears one byte and answers it. A byte that gives no signal is quiet; ENQ, EOT and frames are
+    /// answered by the table of the receiver's steps.
+    ///
+    /// Whatever state the receiver stands for, the answer is that of the definition, and afterwards the
+    /// receiver stands for the state after the step. Only where a frame would be accepted whose text is
+    /// longer than the spare room may memory be refused instead; that is answered NAK, and but for the
+    /// byte heard the state is as before.
+    pub fn byte(&mut self, byte: u8) -> Step
+        ensures step { (r : ReceiverState) → IsIn N self.old r → result.note ≢ Notes.OutOfMemory →
+            Makes N (on_byte N byte r) result self.new }
+        ensures refused { (r : ReceiverState) → IsIn N self.old r → result.note ≡ Notes.OutOfMemory →
+            IsRefused N self.old.spare (on_byte N byte r) (record r { past = byte ∷ r.past }) result self.new }
+        ensures spare { (r : ReceiverState) → IsIn N self.old r → SpareAfter self.old.spare self.new.spare (on_byte N byte r).taken }
+    {
+        match self.scanner.push(byte) {
+            None => Step::of(None, Note::Quiet),
+            Some(signal) => self.hear(signal),
+        }
+    }
+
+    /// Answers a signal.
+    fn hear(&mut self, signal: SignalOf<N>) -> Step
+        ensures step { (r : ReceiverState) → IsIn N self.old r → result.note ≢ Notes.OutOfMemory →
+            Makes N (heard_by r.is_open signal.entry r) result self.new }
+        ensures refused { (r : ReceiverState) → IsIn N self.old r → result.note ≡ Notes.OutOfMemory →
+            IsRefused N self.old.spare (heard_by r.is_open signal.entry r) r result self.new }
+        ensures spare { (r : ReceiverState) → IsIn N self.old r → SpareAfter self.old.spare self.new.spare (heard_by r.is_open signal.entry r).taken }
+    {
+        match signal {
+            SignalOf::Enq => self.bid(),
+            SignalOf::Eot => self.end(),
+            SignalOf::Good(frame) => self.good(&frame),
+            SignalOf::Bad(fault) => self.bad(fault),
+        }
+    }
+
+    /// Answers ENQ, by the readiness.
+    fn bid(&mut self) -> Step
+        ensures step { (r : ReceiverState) → IsIn N self.old r → Makes N (bid_with r.readiness r) result self.new }
+        ensures note { result.note ≢ Notes.OutOfMemory }
+        ensures spare { self.old.spare ≤ self.new.spare }
+    {
+        self.held.clear();
+        match self.readiness {
+            Readiness::Ready => {
+                self.is_open = true;
+                self.accepted = 0;
+                Step::of(Some(ACK), Note::Opened)
+            }
+            Readiness::Busy => {
+                self.is_open = false;
+                Step::of(Some(NAK), Note::NotReady)
+            }
+            Readiness::Contending => {
+                self.is_open = false;
+                self.readiness = Readiness::Ready;
+                Step::of(Some(ENQ), Note::NotReady)
+            }
+        }
+    }
+
+    /// Hears EOT.
+    fn end(&mut self) -> Step
+        ensures step { (r : ReceiverState) → IsIn N self.old r → Makes N (heard_by {limit = N} r.is_open Signals.Eot r) result self.new }
+        ensures note { result.note ≢ Notes.OutOfMemory }
+        ensures spare { self.old.spare ≤ self.new.spare }
+    {
+        if !self.is_open {
+            return Step::of(None, Note::Quiet);
+        }
+        self.is_open = false;
+        self.held.clear();
+        Step::of(None, Note::Ended)
+    }
+
+    /// Answers bytes that are no frame.
+    fn bad(&mut self, fault: FrameFault) -> Step
+        ensures step { (r : ReceiverState) → IsIn N self.old r → Makes N (heard_by {limit = N} r.is_open (Signals.Bad fault) r) result self.new }
+        ensures note { result.note ≢ Notes.OutOfMemory }
+        ensures spare { self.old.spare ≤ self.new.spare }
+    {
+        if !self.is_open {
+            return Step::of(None, Note::Quiet);
+        }
+        Step::of(Some(NAK), Note::Refused(fault))
+    }
+
+    /// Answers a good frame.
+    fn good(&mut self, frame: &FrameOf<N>) -> Step
+        ensures step { (r : ReceiverState) → IsIn N self.old r → result.note ≢ Notes.OutOfMemory →
+            Makes N (heard_by {limit = N} r.is_open (Signals.Good frame.now) r) result self.new }
+        ensures refused { (r : ReceiverState) → IsIn N self.old r → result.note ≡ Notes.OutOfMemory →
+            IsRefused N self.old.spare (heard_by {limit = N} r.is_open (Signals.Good frame.now) r) r result self.new }
+        ensures spare { (r : ReceiverState) → IsIn N self.old r →
+            SpareAfter self.old.spare self.new.spare (heard_by {limit = N} r.is_open (Signals.Good frame.now) r).taken }
+    {
+        if !self.is_open {
+            return Step::of(None, Note::Quiet);
+        }
+        let note = self.judge(frame.number(), frame.text().as_slice().len());
+        if let Note::Accepted(number) = note {
+            return self.accept(frame, number);
+        }
+        Step::of(Some(found_reply(note)), note)
+    }
+
+    /// Takes a frame: its text is held or, behind the held text, handed out.
+    fn accept(&mut self, frame: &FrameOf<N>, number: u8) -> Step
+        requires open { IsTrue self.old.is_open }
+        requires countable { self.old.accepted < 4294967295 }
+        requires short { length self.old.held + length frame.now.text ≤ longest_text }
+        ensures taken { result.note ≢ Notes.OutOfMemory → IsTaken self.old frame.now number result self.new }
+        ensures refused { result.note ≡ Notes.OutOfMemory → (self.old.spare < length frame.now.text)
+            × (result.reply ≡ Some NAK) × (result.message ≡ None)
+            × (self.old.spare ≤ self.new.spare) × (self.new ≡ record self.old { spare = self.new.spare }) }
+        ensures spare { frame.now.last ≡ false → self.old.spare ≤ self.new.spare + length frame.now.text }
+    {
+        if let Err(_) = self.held.extend_from_slice(frame.text().as_slice()) {
+            return Step::of(Some(NAK), Note::OutOfMemory);
+        }
+        self.accepted += 1;
+        let message = if frame.is_last() {
+            Some(self.hand_out())
+        } else {
+            None
+        };
+        Step {
+            reply: Some(ACK),
+            message,
+            note: Note::Accepted(number),
+        }
+    }
+
+    /// Hands the held text out.
+    fn hand_out(&mut self) -> LinkText
+        ensures text { result ≡ self.old.held }
+        ensures state { self.new ≡ record self.old { held = []; spare = self.new.spare } }
+    {
+        let held = mem::replace(&mut self.held, Vec::new(self.alloc));
+        List::from_vec(held)
+    }
+
+    /// What is found of a frame with this number and so many bytes of text while the line is open: the
+    /// first that fits of the table.
+    fn judge(&self, number: u8, bytes: usize) -> Note
+        requires { bytes < 2 ^ 20 }
+        ensures value { result ≡ judged_by self.now.accepted (length self.now.held) self.now.room number bytes }
+    {
+        let number_due = (self.accepted + 1) % 8;
+        if self.accepted > 0 && u64::from(number) == self.accepted % 8 {
+            Note::Duplicate(number)
+        } else if u64::from(number) != number_due {
+            Note::OutOfTurn(number)
+        } else if !self.room {
+            Note::NoRoom
+        } else if self.accepted == MOST_FRAMES {
+            Note::TooMany
+        } else if self.held.len() + bytes > LONGEST_TEXT {
+            Note::TooLong
+        } else {
+            Note::Accepted(number)
+        }
+    }
+}
+
+/// The reply to what was found of a frame.
+fn found_reply(note: Note) -> u8
+    ensures { result ≡ found_reply note }
+{
+    match note {
+        Note::Accepted(_) | Note::Duplicate(_) => ACK,
+        _ => NAK,
     }
 }
