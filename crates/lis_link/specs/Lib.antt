@@ -4,3 +4,4 @@ pub mod Sender
 pub mod Receiver
 pub mod Kept
 pub mod Stands
+pub mod Queue

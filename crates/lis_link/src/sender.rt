@@ -1,7 +1,16 @@
 //! The sending end (LIS01-A2, 6.3 to 6.6).
 
-use lis_frame::frame::FrameOf;
-use lis_frame::text::TextFault;
+ghost use Rattle.std.specs.Prelude.{◌≡◌, ◌<◌, ◌≤◌, ◌+◌, length, drop, None, Some, MatchResult};
+ghost use Rattle.lis_frame.specs.Limit.{IsLimit};
+ghost use Rattle.lis_link.specs.declared.sender.EmitOf.TheVariants as Emits;
+ghost use Rattle.lis_link.specs.declared.sender.Phase.TheVariants as Phases;
+ghost use Rattle.lis_link.specs.Queue.{first_frame};
+ghost use Rattle.lis_link.specs.Sender.{SenderState, reply_in, new_sender, bad_text, start_fault, started, sends, is_accepted, sends_again, on_reply, on_sender_timer, sender_restarted};
+
+use crate::queue::QueueOf;
+use lis_frame::control::{ACK, ENQ, EOT};
+use lis_frame::{FrameOf, LinkText, TextFault, Texts, check_text};
+use std::marker::Model;
 
 /// Where the sender stands between two events.
 #[derive(Debug, Clone, Copy, PartialEq, Eq)]
@@ -59,3 +68,285 @@ pub enum EmitOf<const N: usize> {
 
 /// What the sender emits, with the usual limit on a frame's text.
 pub type Emit = EmitOf<240>;
+
+/// A start that was refused: why, and the texts.
+#[derive(Drop)]
+pub struct StartRefused {
+    pub texts: Texts,
+    pub fault: StartFault,
+}
+
+/// How often a frame is sent before its session is given up.
+const MOST_TRIES: u8 = 6;
+
+/// The sending end. It keeps the texts of its session and makes each frame when it is due; it takes
+/// no memory.
+#[derive(Drop)]
+pub struct SenderOf<const N: usize> {
+    queue: Option<QueueOf<N>>,
+    acknowledged: u64,
+    phase: Phase,
+    tries: u8,
+    outcome: Option<Outcome>,
+}
+
+impl<const N: usize> Model for SenderOf<N> {
+    ghost use Rattle.lis_link.specs.Sender.{SenderState};
+    ghost use Rattle.lis_link.specs.Queue.{frames_of, IsSender};
+
+    ghost Value = { SenderState };
+
+    ghost view = { λ s. record {
+      frames = frames_of N s.queue;
+      acknowledged = s.acknowledged;
+      phase = s.phase;
+      tries = s.tries;
+      outcome = s.outcome;
+    } };
+
+    ghost invariant = { λ s. IsSender N s.queue s.acknowledged s.phase s.tries };
+}
+
+/// A sender with the usual limit on a frame's text.
+pub type Sender = SenderOf<240>;
+
+impl<const N: usize> SenderOf<N> {
+    /// A sender that was never started.
+    pub fn new() -> Self
+        requires { IsLimit N }
+        ensures { result ≡ new_sender }
+    {
+        SenderOf {
+            queue: None,
+            acknowledged: 0,
+            phase: Phase::Neutral,
+            tries: 0,
+            outcome: None,
+        }
+    }
+
+    /// Where the sender stands.
+    pub fn phase(&self) -> Phase
+        ensures { result ≡ self.now.phase }
+    {
+        self.phase
+    }
+
+    /// How many frames of the session, or of the last one, are acknowledged.
+    pub fn acknowledged(&self) -> u64
+        ensures { result ≡ self.now.acknowledged }
+    {
+        self.acknowledged
+    }
+
+    /// How the last session ended; none before its end.
+    pub fn outcome(&self) -> Option<Outcome>
+        ensures { result ≡ self.now.outcome }
+    {
+        self.outcome
+    }
+
+    /// Starts a session with these texts: ENQ is emitted. A refused start gives the texts back, and the
+    /// sender is as before.
+    pub fn start(&mut self, texts: Texts) -> Result<EmitOf<N>, StartRefused>
+        ensures { MatchResult result
+            (λ emit. (start_fault self.old texts ≡ None) × (emit ≡ Emits.Enq) × (self.new ≡ started N texts))
+            (λ refused. (start_fault self.old texts ≡ Some refused.fault) × (refused.texts ≡ texts) × (self.new ≡ self.old)) }
+    {
+        if let Some(fault) = self.start_fault(&texts) {
+            return Err(StartRefused { texts, fault });
+        }
+        self.queue = Some(QueueOf::new(texts));
+        self.acknowledged = 0;
+        self.phase = Phase::AwaitLine;
+        self.tries = 0;
+        self.outcome = None;
+        Ok(EmitOf::Enq)
+    }
+
+    /// Why a start with these texts is refused.
+    fn start_fault(&self, texts: &Texts) -> Option<StartFault>
+        ensures { result ≡ start_fault self.now texts.now }
+    {
+        match self.phase {
+            Phase::Neutral => {}
+            _ => return Some(StartFault::InSession),
+        }
+        if texts.is_empty() {
+            return Some(StartFault::NoText);
+        }
+        bad_text(texts.as_slice())
+    }
+
+    /// A reply byte comes.
+    pub fn reply(&mut self, byte: u8) -> EmitOf<N>
+        ensures emit { result ≡ (on_reply {limit = N} byte self.old).emit }
+        ensures after { self.new ≡ (on_reply {limit = N} byte self.old).after }
+    {
+        match self.phase {
+            Phase::Neutral => {
+                if byte == ENQ {
+                    EmitOf::Nak
+                } else {
+                    EmitOf::Nothing
+                }
+            }
+            Phase::AwaitLine => self.line_reply(byte),
+            Phase::Busy => EmitOf::Nothing,
+            Phase::Contention => EmitOf::Nothing,
+            Phase::AwaitReply => {
+                if byte == ACK || byte == EOT {
+                    self.accepted()
+                } else {
+                    self.send_again()
+                }
+            }
+        }
+    }
+
+    /// The timer runs out.
+    pub fn timer(&mut self) -> EmitOf<N>
+        ensures emit { result ≡ (on_sender_timer {limit = N} self.old).emit }
+        ensures after { self.new ≡ (on_sender_timer {limit = N} self.old).after }
+    {
+        match self.phase {
+            Phase::Neutral => EmitOf::Nothing,
+            Phase::AwaitLine => self.end(Outcome::TimedOut),
+            Phase::Busy => self.ask_again(),
+            Phase::Contention => self.ask_again(),
+            Phase::AwaitReply => self.end(Outcome::TimedOut),
+        }
+    }
+
+    /// The session, if one goes on, is given up; nothing is emitted.
+    pub fn restart(&mut self)
+        ensures { self.new ≡ sender_restarted self.old }
+    {
+        match self.phase {
+            Phase::Neutral => {}
+            _ => {
+                self.phase = Phase::Neutral;
+                self.outcome = Some(Outcome::Restarted);
+            }
+        }
+    }
+
+    /// The session ends with EOT.
+    fn end(&mut self, outcome: Outcome) -> EmitOf<N>
+        ensures emit { result ≡ Emits.Eot }
+        ensures after { self.new ≡ record self.old { phase = Phases.Neutral; outcome = Some outcome } }
+    {
+        self.phase = Phase::Neutral;
+        self.outcome = Some(outcome);
+        EmitOf::Eot
+    }
+
+    /// ENQ is sent once more.
+    fn ask_again(&mut self) -> EmitOf<N>
+        requires { self.old.acknowledged ≡ 0 }
+        ensures emit { result ≡ Emits.Enq }
+        ensures after { self.new ≡ record self.old { phase = Phases.AwaitLine } }
+    {
+        self.phase = Phase::AwaitLine;
+        EmitOf::Enq
+    }
+
+    /// The reply to ENQ.
+    fn line_reply(&mut self, byte: u8) -> EmitOf<N>
+        requires { self.old.acknowledged ≡ 0 }
+        ensures emit { result ≡ (reply_in {limit = N} Phases.AwaitLine byte self.old).emit }
+        ensures after { self.new ≡ (reply_in {limit = N} Phases.AwaitLine byte self.old).after }
+    {
+        if byte == ACK {
+            return self.send();
+        }
+        self.phase = if byte == ENQ {
+            Phase::Contention
+        } else {
+            Phase::Busy
+        };
+        EmitOf::Nothing
+    }
+
+    /// The frame behind the acknowledged ones.
+    fn present(&self) -> Option<FrameOf<N>>
+        ensures { result ≡ first_frame (drop self.now.acknowledged self.now.frames) }
+    {
+        match &self.queue {
+            None => None,
+            Some(queue) => {
+                if queue.is_empty() {
+                    return None;
+                }
+                Some(queue.frame())
+            }
+        }
+    }
+
+    /// The frame behind the acknowledged ones is sent for the first time; where none is left, the
+    /// session is done.
+    fn send(&mut self) -> EmitOf<N>
+        ensures emit { result ≡ (sends {limit = N} (drop self.old.acknowledged self.old.frames) self.old).emit }
+        ensures after { self.new ≡ (sends {limit = N} (drop self.old.acknowledged self.old.frames) self.old).after }
+    {
+        match self.present() {
+            None => self.end(Outcome::Done),
+            Some(frame) => {
+                self.phase = Phase::AwaitReply;
+                self.tries = 1;
+                EmitOf::Frame(frame)
+            }
+        }
+    }
+
+    /// The present frame is accepted.
+    fn accepted(&mut self) -> EmitOf<N>
+        requires { self.old.acknowledged < length self.old.frames }
+        ensures emit { result ≡ (is_accepted {limit = N} self.old).emit }
+        ensures after { self.new ≡ (is_accepted {limit = N} self.old).after }
+    {
+        self.count_off();
+        self.send()
+    }
+
+    /// The present frame counts as acknowledged, and the sender is between two frames.
+    fn count_off(&mut self)
+        requires { self.old.acknowledged < length self.old.frames }
+        ensures { self.new ≡ record self.old { acknowledged = self.old.acknowledged + 1; phase = Phases.Neutral } }
+    {
+        let Some(queue) = &mut self.queue else {
+            unreachable!();
+        };
+        queue.advance();
+        self.acknowledged += 1;
+        self.phase = Phase::Neutral;
+    }
+
+    /// The present frame is sent again, or given up.
+    fn send_again(&mut self) -> EmitOf<N>
+        requires { self.old.phase ≡ Phases.AwaitReply }
+        ensures emit { result ≡ (sends_again {limit = N} (drop self.old.acknowledged self.old.frames) self.old).emit }
+        ensures after { self.new ≡ (sends_again {limit = N} (drop self.old.acknowledged self.old.frames) self.old).after }
+    {
+        let Some(frame) = self.present() else {
+            return EmitOf::Nothing;
+        };
+        if self.tries < MOST_TRIES {
+            self.tries += 1;
+            return EmitOf::Frame(frame);
+        }
+        self.end(Outcome::SixTries)
+    }
+}
+
+/// The first text that is no link text.
+fn bad_text(texts: &[LinkText]) -> Option<StartFault>
+    ensures { result ≡ bad_text 0 texts.now }
+{
+    for (index, text) in texts.iter().enumerate() {
+        if let Err(fault) = check_text(text.as_slice()) {
+            return Some(StartFault::BadText { index, fault });
+        }
+    }
+    None
+}

@@ -1,0 +1,51 @@
+-- How a sender's queue and its count go on together.
+use Rattle.std.proofs.Common.{◌≡◌, ℕ, ◌+◌, ◌<◌, ◌≤◌, List, length, drop, Some, refl, sym, ap, ◌∙◌, subst, arith}
+use Rattle.std.specs.Prelude.{All}
+use Rattle.std.proofs.lemmas.List.{drop-drop}
+use Rattle.lis_frame.specs.Limit.{IsLimit}
+use Rattle.lis_frame.specs.Pieces.{session_frames}
+use Rattle.lis_link.specs.declared.sender.Phase.{Phase}
+use Rattle.lis_link.specs.declared.sender.Phase.TheVariants.{Neutral, AwaitLine}
+use Rattle.lis_link.specs.Queue.{Queue, IsSender}
+use Rattle.lis_link.proofs.Counting.{few-session_frames}
+use Rattle.lis_link.proofs.StartLaws.{Faultless, texts-faultless}
+
+pub started_sender :
+    (limit : ℕ) (queue : Queue) (texts : List (List ℕ))
+    → IsLimit limit
+    → All Faultless texts
+    → length texts ≤ 65536
+    → queue.texts ≡ texts
+    → queue.left ≡ session_frames limit texts
+    → IsSender limit (Some queue) 0 AwaitLine 0
+started_sender limit queue texts is_limit faultless few texts_are left_is = record {
+  is_limit = is_limit;
+  stands = left_is ∙ ap (session_frames limit) (sym texts_are);
+  counted = omega arith;
+  few = subst (λ ts. length (session_frames limit ts) < 4294967295) (sym texts_are)
+      (few-session_frames limit texts is_limit (texts-faultless texts faultless) few);
+  fits = refl;
+  few_tries = omega arith;
+}
+
+pub advanced_sender :
+    (limit : ℕ) (queue next : Queue) (acknowledged : ℕ) (phase : Phase) (tries : ℕ)
+    → IsSender limit (Some queue) acknowledged phase tries
+    → acknowledged < length (session_frames limit queue.texts)
+    → next.texts ≡ queue.texts
+    → next.left ≡ drop 1 queue.left
+    → IsSender limit (Some next) (acknowledged + 1) Neutral tries
+advanced_sender limit queue next acknowledged phase tries h below texts_are left_is =
+    let frames = session_frames limit queue.texts in
+    let same : length (session_frames limit next.texts) ≡ length frames = ap (λ ts. length (session_frames limit ts)) texts_are in
+    let few = h.few in
+    record {
+      is_limit = h.is_limit;
+      stands =
+          left_is ∙ ap (drop 1) h.stands ∙ drop-drop 1 acknowledged frames
+          ∙ ap (λ ts. drop (acknowledged + 1) (session_frames limit ts)) (sym texts_are);
+      counted = omega arith;
+      few = omega arith;
+      fits = tt;
+      few_tries = h.few_tries;
+    }

@@ -1,0 +1,10 @@
+use Rattle.std.proofs.Common.{◌<◌, arith}
+use Rattle.lis_link.proofs.QueueLaws.{length-left}
+use Rattle.lis_link.proofs.queue.QueueOf.is_empty.Goals as goal
+
+pub returns : goal.returns
+returns g c =
+    let place = c.self.invariant in
+    let some : 0 < g.row.N = omega (arith, place.is_limit.at_least) in
+    rw (← c.self.view_is, c.len.ensures.value)
+    (length-left g.row.N c.self.inside.texts c.self.inside.index c.self.inside.offset c.self.inside.number some place.index_within place.offset_within)
