@@ -5,3 +5,4 @@ pub mod Receiver
 pub mod Kept
 pub mod Stands
 pub mod Queue
+pub mod Laws

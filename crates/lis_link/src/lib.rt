@@ -1,6 +1,12 @@
 //! The two ends of the data link of LIS01-A2: the sender and the receiver, as machines without a clock.
 #![tactic(auto)]
 
+pub mod laws;
 mod queue;
 pub mod receiver;
 pub mod sender;
+#[cfg(test)]
+mod tests;
+
+pub use receiver::{MOST_FRAMES, Note, Readiness, Receiver, ReceiverOf, Step};
+pub use sender::{Emit, EmitOf, Outcome, Phase, Sender, SenderOf, StartFault, StartRefused};

@@ -1,0 +1,13 @@
+//! Laws of the two ends, each the contract of a function that does nothing.
+
+ghost use Rattle.lis_link.specs.Laws.{ComesToRest, OpensWhenReady};
+
+/// There is no failed state: a restart, and two timers, make a sender neutral from any state.
+pub fn comes_to_rest()
+    ensures { ComesToRest }
+{}
+
+/// A receiver that is ready answers ENQ with ACK, whatever came before, and is open.
+pub fn opens_when_ready()
+    ensures { OpensWhenReady }
+{}

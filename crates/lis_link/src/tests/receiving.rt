@@ -1,0 +1,276 @@
+use crate::*;
+use lis_frame::FrameFault;
+use std::test::Fail;
+
+/// What the last byte of these is answered: the reply, the note and the length of the text handed out.
+fn last_step(receiver: &mut Receiver, bytes: &[u8]) -> (Option<u8>, Note, Option<usize>) {
+    let mut last = (None, Note::Quiet, None);
+    for byte in bytes {
+        let step = receiver.byte(*byte);
+        last = (step.reply, step.note, step.message.map(|text| text.len()));
+    }
+    last
+}
+
+const OPENED: (Option<u8>, Note, Option<usize>) = (Some(0x06), Note::Opened, None);
+
+/// A receiver whose line was just opened.
+fn opened(alloc: std::alloc::Global) -> Receiver {
+    let mut receiver = Receiver::new(alloc);
+    let _ = receiver.byte(0x05);
+    receiver
+}
+
+const EMPTY_ONE: &[u8] = b"\x021\x0334\r\n";
+
+#[test]
+fn frames_are_taken_in_turn(rt: HostRuntime) -> Result<(), Fail> {
+    let mut receiver = Receiver::new(rt.alloc());
+    assert_eq!(rt; last_step(&mut receiver, b"\x05"), OPENED);
+    assert_eq!(rt;
+        last_step(&mut receiver, b"\x022A\x0376\r\n"),
+        (Some(0x15), Note::OutOfTurn(2), None)
+    );
+    assert_eq!(rt; last_step(&mut receiver, b"\x05"), OPENED);
+    assert_eq!(rt;
+        last_step(&mut receiver, b"\x020\x0333\r\n"),
+        (Some(0x15), Note::OutOfTurn(0), None)
+    );
+    assert_eq!(rt;
+        last_step(&mut receiver, EMPTY_ONE),
+        (Some(0x06), Note::Accepted(1), Some(0))
+    );
+    assert_eq!(rt; receiver.accepted(), 1);
+    Ok(())
+}
+
+#[test]
+fn a_repeated_frame_is_taken_once(rt: HostRuntime) -> Result<(), Fail> {
+    let mut receiver = opened(rt.alloc());
+    let more = b"\x021A\x1789\r\n";
+    assert_eq!(rt;
+        last_step(&mut receiver, more),
+        (Some(0x06), Note::Accepted(1), None)
+    );
+    assert_eq!(rt;
+        last_step(&mut receiver, more),
+        (Some(0x06), Note::Duplicate(1), None)
+    );
+    assert_eq!(rt; receiver.held(), 1);
+    assert_eq!(rt;
+        last_step(&mut receiver, b"\x022A\x0376\r\n"),
+        (Some(0x06), Note::Accepted(2), Some(2))
+    );
+    // What is held is dropped where the line is opened anew.
+    assert_eq!(rt; last_step(&mut receiver, b"\x05"), OPENED);
+    assert_eq!(rt;
+        last_step(&mut receiver, more),
+        (Some(0x06), Note::Accepted(1), None)
+    );
+    assert_eq!(rt; last_step(&mut receiver, b"\x05"), OPENED);
+    assert_eq!(rt; receiver.accepted(), 0);
+    assert_eq!(rt;
+        last_step(&mut receiver, EMPTY_ONE),
+        (Some(0x06), Note::Accepted(1), Some(0))
+    );
+    Ok(())
+}
+
+#[test]
+fn a_line_that_is_not_open_is_quiet(rt: HostRuntime) -> Result<(), Fail> {
+    let mut receiver = Receiver::new(rt.alloc());
+    assert_eq!(rt;
+        last_step(&mut receiver, EMPTY_ONE),
+        (None, Note::Quiet, None)
+    );
+    assert_eq!(rt; receiver.accepted(), 0);
+    assert_eq!(rt; receiver.timer().note, Note::Quiet);
+    let mut receiver = opened(rt.alloc());
+    assert_eq!(rt;
+        last_step(&mut receiver, b"\x021A\x1789\r\n"),
+        (Some(0x06), Note::Accepted(1), None)
+    );
+    let step = receiver.timer();
+    assert_eq!(rt; (step.reply, step.note), (None, Note::TimedOut));
+    assert_eq!(rt; receiver.accepted(), 1);
+    assert!(rt; !receiver.is_open());
+    assert_eq!(rt; receiver.held(), 0);
+    Ok(())
+}
+
+#[test]
+fn readiness_answers_the_enquiry(rt: HostRuntime) -> Result<(), Fail> {
+    let mut receiver = Receiver::new(rt.alloc());
+    receiver.set_ready(Readiness::Contending);
+    assert_eq!(rt;
+        last_step(&mut receiver, b"\x05"),
+        (Some(0x05), Note::NotReady, None)
+    );
+    assert_eq!(rt; last_step(&mut receiver, b"\x05"), OPENED);
+    receiver.set_ready(Readiness::Busy);
+    assert_eq!(rt;
+        last_step(&mut receiver, b"\x05"),
+        (Some(0x15), Note::NotReady, None)
+    );
+    assert!(rt; !receiver.is_open());
+    receiver.restart();
+    assert_eq!(rt; last_step(&mut receiver, b"\x05"), OPENED);
+    Ok(())
+}
+
+#[test]
+fn bad_frames_are_refused(rt: HostRuntime) -> Result<(), Fail> {
+    let mut receiver = opened(rt.alloc());
+    // A torn frame and an EOT: no reply, the session ends.
+    assert_eq!(rt;
+        last_step(&mut receiver, b"\x021A\x03\x04"),
+        (None, Note::Ended, None)
+    );
+    // A torn frame and a whole one: one reply.
+    let mut receiver = opened(rt.alloc());
+    assert_eq!(rt;
+        last_step(&mut receiver, b"\x021A\x037"),
+        (None, Note::Quiet, None)
+    );
+    assert_eq!(rt;
+        last_step(&mut receiver, b"\x021A\x0375\r\n"),
+        (Some(0x06), Note::Accepted(1), Some(1))
+    );
+    assert_eq!(rt;
+        last_step(&mut receiver, b"\x02\n"),
+        (Some(0x15), Note::Refused(FrameFault::Shape), None)
+    );
+    // Ten thousand bytes between STX and LF: one reply.
+    assert_eq!(rt;
+        last_step(&mut receiver, b"\x02"),
+        (None, Note::Quiet, None)
+    );
+    for _ in 0..10_000 {
+        assert_eq!(rt; last_step(&mut receiver, b"A"), (None, Note::Quiet, None));
+    }
+    assert_eq!(rt;
+        last_step(&mut receiver, b"\n"),
+        (Some(0x15), Note::Refused(FrameFault::TooLong), None)
+    );
+    let mut receiver = opened(rt.alloc());
+    for _ in 0..1000 {
+        assert_eq!(rt;
+            last_step(&mut receiver, b"\x02"),
+            (None, Note::Quiet, None)
+        );
+    }
+    assert_eq!(rt;
+        last_step(&mut receiver, b"1\x0334\r\n"),
+        (Some(0x06), Note::Accepted(1), Some(0))
+    );
+    Ok(())
+}
+
+#[test]
+fn there_may_be_no_room(rt: HostRuntime) -> Result<(), Fail> {
+    let mut receiver = opened(rt.alloc());
+    receiver.set_room(false);
+    assert_eq!(rt;
+        last_step(&mut receiver, EMPTY_ONE),
+        (Some(0x15), Note::NoRoom, None)
+    );
+    receiver.set_room(true);
+    assert_eq!(rt;
+        last_step(&mut receiver, EMPTY_ONE),
+        (Some(0x06), Note::Accepted(1), Some(0))
+    );
+    Ok(())
+}
+
+#[test]
+fn each_byte_is_answered_neutral_and_open(rt: HostRuntime) -> Result<(), Fail> {
+    for byte in 0..=255u8 {
+        let mut neutral = Receiver::new(rt.alloc());
+        let want = if byte == 0x05 {
+            OPENED
+        } else {
+            (None, Note::Quiet, None)
+        };
+        assert_eq!(rt; last_step(&mut neutral, &[byte]), want);
+        let mut open = opened(rt.alloc());
+        let want = match byte {
+            0x05 => OPENED,
+            0x04 => (None, Note::Ended, None),
+            _ => (None, Note::Quiet, None),
+        };
+        assert_eq!(rt; last_step(&mut open, &[byte]), want);
+    }
+    Ok(())
+}
+
+/// Sends full intermediate frames of letters A in turn, from number 1 on, and answers for the last.
+fn fill(receiver: &mut Receiver, frames: usize) -> (Option<u8>, Note, Option<usize>) {
+    let mut last = (None, Note::Quiet, None);
+    for count in 0..frames {
+        let digit = ((count % 8 + 1) % 8) as u8;
+        // The sum of the digit 0, 240 letters A and ETB is 37; each digit adds one.
+        let low = 7 + digit;
+        let low = if low < 10 {
+            b'0' + low
+        } else {
+            b'A' + (low - 10)
+        };
+        let _ = last_step(receiver, &[0x02, b'0' + digit]);
+        let _ = last_step(receiver, &[0x41; 240]);
+        last = last_step(receiver, &[0x17, b'3', low, 0x0d, 0x0a]);
+    }
+    last
+}
+
+#[test]
+fn the_held_text_has_a_limit(rt: HostRuntime) -> Result<(), Fail> {
+    let mut receiver = opened(rt.alloc());
+    receiver.reserve(1_048_576)?;
+    assert_eq!(rt;
+        fill(&mut receiver, 4369),
+        (Some(0x06), Note::Accepted(1), None)
+    );
+    assert_eq!(rt; receiver.held(), 1_048_560);
+    let sixteen = b"\x022AAAAAAAAAAAAAAAA\x1759\r\n";
+    assert_eq!(rt;
+        last_step(&mut receiver, sixteen),
+        (Some(0x06), Note::Accepted(2), None)
+    );
+    assert_eq!(rt; receiver.held(), 1_048_576);
+    assert_eq!(rt;
+        last_step(&mut receiver, b"\x023A\x178B\r\n"),
+        (Some(0x15), Note::TooLong, None)
+    );
+    assert_eq!(rt; receiver.held(), 1_048_576);
+    let whole = (Some(0x06), Note::Accepted(3), Some(1_048_576));
+    assert_eq!(rt; last_step(&mut receiver, b"\x023\x0336\r\n"), whole);
+    Ok(())
+}
+
+#[test]
+fn a_frame_that_would_pass_the_limit_is_refused_again(rt: HostRuntime) -> Result<(), Fail> {
+    let mut receiver = opened(rt.alloc());
+    assert_eq!(rt;
+        fill(&mut receiver, 4369),
+        (Some(0x06), Note::Accepted(1), None)
+    );
+    let _ = last_step(&mut receiver, b"\x022");
+    let _ = last_step(&mut receiver, &[0x41; 240]);
+    assert_eq!(rt;
+        last_step(&mut receiver, b"\x1739\r\n"),
+        (Some(0x15), Note::TooLong, None)
+    );
+    let _ = last_step(&mut receiver, b"\x022");
+    let _ = last_step(&mut receiver, &[0x41; 240]);
+    assert_eq!(rt;
+        last_step(&mut receiver, b"\x1739\r\n"),
+        (Some(0x15), Note::TooLong, None)
+    );
+    assert_eq!(rt; receiver.held(), 1_048_560);
+    assert_eq!(rt;
+        last_step(&mut receiver, b"\x04"),
+        (None, Note::Ended, None)
+    );
+    assert_eq!(rt; receiver.held(), 0);
+    Ok(())
+}
