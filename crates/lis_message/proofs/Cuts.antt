@@ -1,0 +1,147 @@
+-- How a cut goes on with the next bytes.
+use Rattle.std.proofs.Common.{◌≡◌, ◌≢◌, ℕ, ◌+◌, ◌<◌, ◌≤◌, List, [], ◌∷◌, ◌++◌, length, Option, Some, None, refl, sym, ◌∙◌, ap, subst, append_assoc, arith}
+use Rattle.std.specs.Option.{option_to_list}
+use Rattle.std.specs.List.{AllByRecursion, AllZip, flat_map}
+use Rattle.std.proofs.lemmas.List.{append-nil}
+use Rattle.std.proofs.lemmas.Grind.{flat_map-append}
+use Rattle.lis_record.specs.declared.kinds.Kind.{Kind}
+use Rattle.lis_record.specs.declared.kinds.Kind.TheVariants as kinds
+use Rattle.lis_record.specs.declared.records.TheConstants.{RECORD_LIMIT}
+use Rattle.lis_record.specs.Delimiters.{DelimiterBytes, IsDelimiters}
+use Rattle.lis_record.specs.Relation.{IsRecord}
+use Rattle.lis_record.specs.Shape.{RecordContent}
+use Rattle.lis_message.specs.Begun.{Begun}
+use Rattle.lis_message.specs.Level.{Level, outside, closed, next_level, level_after, misplaced, StandsFrom}
+use Rattle.lis_message.specs.Stream.{line, ended, kinds_of, level_of, AreMessage, AreBegun, AreLeft, IsCut, LacksReturn}
+use Rattle.lis_message.specs.Taking.{begun_with, Taken, header, inner, closing}
+use Rattle.lis_message.specs.Tree.{MessageTree, IsTree, flatten}
+use Rattle.lis_message.proofs.Levels.{map_append, level_append, stands_append}
+use Rattle.lis_message.proofs.Lines.{lacks_append, ended_append}
+
+-- nothing is read of no bytes
+pub cut_start : IsCut [] [] None []
+cut_start = record { groups = []; texts = []; whole = refl; read = tt; begun = refl; lacks = tt; short = omega arith }
+
+-- bytes without CR are held
+pub cut_hold : (stream : List ℕ) (messages : List MessageTree) (left : Option Begun) (held bytes : List ℕ) → IsCut stream messages left held → LacksReturn bytes → length (held ++ bytes) ≤ RECORD_LIMIT
+    → IsCut (stream ++ bytes) messages left (held ++ bytes)
+cut_hold stream messages left held bytes c lacks short = record {
+  groups = c.groups;
+  texts = c.texts;
+  whole = ap (λ l. l ++ bytes) c.whole ∙ append_assoc (flat_map ended c.groups ++ ended c.texts) held bytes;
+  read = c.read;
+  begun = c.begun;
+  lacks = lacks_append held bytes c.lacks lacks;
+  short = short;
+}
+
+zip_push : {A B : Type 0} (R : A → B → Type 0) (xs : List A) (ys : List B) (x : A) (y : B) → AllZip R xs ys → R x y → AllZip R (xs ++ x ∷ []) (ys ++ y ∷ [])
+zip_push R [] [] x y z r = (r, tt)
+zip_push R [] (b ∷ ys) x y z r = absurd z
+zip_push R (a ∷ xs) [] x y z r = absurd z
+zip_push R (a ∷ xs) (b ∷ ys) x y z r = (z.0, zip_push R xs ys x y z.1 r)
+
+-- the stream with one more line, by its groups and texts
+line_more : (groups : List (List (List ℕ))) (texts : List (List ℕ)) (held : List ℕ)
+    → (flat_map ended groups ++ ended texts ++ held) ++ 13 ∷ [] ≡ flat_map ended groups ++ ended (texts ++ held ∷ []) ++ []
+line_more groups texts held = simp (flat_map-append, append_assoc, append-nil)
+
+line_closes : (groups : List (List (List ℕ))) (texts : List (List ℕ)) (held : List ℕ)
+    → (flat_map ended groups ++ ended texts ++ held) ++ 13 ∷ [] ≡ flat_map ended (groups ++ (texts ++ held ∷ []) ∷ []) ++ ended [] ++ []
+line_closes groups texts held = simp (flat_map-append, append_assoc, append-nil)
+
+header_open : (k : Kind) → k ≡ kinds.H → next_level outside k ≡ closed → ⊥
+header_open k h e = let f : next_level outside kinds.H ≡ closed = ap (next_level outside) (sym h) ∙ e in cc
+
+some_snoc : (rs : List RecordContent) (r : RecordContent) → rs ++ r ∷ [] ≢ []
+some_snoc [] r e = cc
+some_snoc (x ∷ rs) r e = cc
+
+-- a record that doesn't close a message leaves it open
+pub next_unclosed : (l : Level) (k : Kind) → l ≢ closed → k ≢ kinds.L → next_level l k ≢ closed
+next_unclosed l kinds.H u o e = cc
+next_unclosed l kinds.P u o e = cc
+next_unclosed l kinds.O u o e = cc
+next_unclosed l kinds.R u o e = u e
+next_unclosed l kinds.C u o e = u e
+next_unclosed l kinds.Q u o e = cc
+next_unclosed l kinds.M u o e = u e
+next_unclosed l kinds.S u o e = u e
+next_unclosed l kinds.L u o e = o refl
+
+pub level_more : (rs : List RecordContent) (r : RecordContent) → level_after outside (kinds_of (rs ++ r ∷ [])) ≡ next_level (level_after outside (kinds_of rs)) r.kind
+level_more rs r = ap (level_after outside) (map_append rs (r ∷ [])) ∙ level_append outside (kinds_of rs) (r.kind ∷ [])
+
+pub stands_more : (rs : List RecordContent) (r : RecordContent) → StandsFrom outside (kinds_of rs) → misplaced (level_after outside (kinds_of rs)) r.kind ≡ None → StandsFrom outside (kinds_of (rs ++ r ∷ []))
+stands_more rs r p q = subst (StandsFrom outside) (sym (map_append rs (r ∷ []))) (stands_append outside (kinds_of rs) (r.kind ∷ []) p (q, tt))
+
+cut_header : (stream : List ℕ) (messages : List MessageTree) (held : List ℕ) (c : IsCut stream messages None held) (d : DelimiterBytes) (r : RecordContent) → IsDelimiters d → IsRecord d held r → r.kind ≡ kinds.H
+    → IsCut (stream ++ 13 ∷ []) messages (begun_with d (r ∷ [])) []
+cut_header stream messages held c d r good is kind = record {
+  groups = c.groups;
+  texts = c.texts ++ held ∷ [];
+  whole = ap (λ l. l ++ 13 ∷ []) c.whole ∙ line_more c.groups c.texts held;
+  read = c.read;
+  begun = record {
+    delimiters = good;
+    some = some_snoc [] r;
+    each = subst (λ ts. AllZip (IsRecord d) (ts ++ held ∷ []) (r ∷ [])) (sym c.begun) (is, tt);
+    placed = (ap (misplaced outside) kind, tt);
+    unclosed = header_open r.kind kind;
+  };
+  lacks = tt;
+  short = omega arith;
+}
+
+cut_inner : (stream : List ℕ) (messages : List MessageTree) (held : List ℕ) (b : Begun) (c : IsCut stream messages (Some b) held) (r : RecordContent) → IsRecord b.delimiters held r
+    → misplaced (level_of (Some b)) r.kind ≡ None → r.kind ≢ kinds.L → IsCut (stream ++ 13 ∷ []) messages (begun_with b.delimiters (b.records ++ r ∷ [])) []
+cut_inner stream messages held b c r is placed open' = record {
+  groups = c.groups;
+  texts = c.texts ++ held ∷ [];
+  whole = ap (λ l. l ++ 13 ∷ []) c.whole ∙ line_more c.groups c.texts held;
+  read = c.read;
+  begun = record {
+    delimiters = c.begun.delimiters;
+    some = some_snoc b.records r;
+    each = zip_push (IsRecord b.delimiters) c.texts b.records held r c.begun.each is;
+    placed = stands_more b.records r c.begun.placed placed;
+    unclosed = subst (λ l. l ≢ closed) (sym (level_more b.records r)) (next_unclosed (level_of (Some b)) r.kind c.begun.unclosed open');
+  };
+  lacks = tt;
+  short = omega arith;
+}
+
+cut_closing : (stream : List ℕ) (messages : List MessageTree) (held : List ℕ) (b : Begun) (c : IsCut stream messages (Some b) held) (r : RecordContent) (m : MessageTree) → IsRecord b.delimiters held r
+    → IsTree m → m.delimiters ≡ b.delimiters → flatten m ≡ b.records ++ r ∷ [] → IsCut (stream ++ 13 ∷ []) (messages ++ m ∷ []) None []
+cut_closing stream messages held b c r m is tree marks records =
+    let each : AllZip (IsRecord b.delimiters) (c.texts ++ held ∷ []) (b.records ++ r ∷ []) = zip_push (IsRecord b.delimiters) c.texts b.records held r c.begun.each is in
+    record {
+      groups = c.groups ++ (c.texts ++ held ∷ []) ∷ [];
+      texts = [];
+      whole = ap (λ l. l ++ 13 ∷ []) c.whole ∙ line_closes c.groups c.texts held;
+      read = zip_push AreMessage c.groups messages (c.texts ++ held ∷ []) m c.read (record {
+        tree = tree;
+        each = subst (λ d. AllZip (IsRecord d) (c.texts ++ held ∷ []) (flatten m)) (sym marks) (subst (AllZip (IsRecord b.delimiters) (c.texts ++ held ∷ [])) (sym records) each);
+      });
+      begun = refl;
+      lacks = tt;
+      short = omega arith;
+    }
+
+-- the cut with the text that was held and its CR
+pub cut_taken : (stream : List ℕ) (messages : List MessageTree) (left : Option Begun) (held : List ℕ) (message : Option MessageTree) (next : Option Begun) → IsCut stream messages left held → Taken left held message next
+    → IsCut (stream ++ 13 ∷ []) (messages ++ option_to_list message) next []
+cut_taken stream messages left held message next c (header d r l good is kind m n) =
+    subst (λ (x : Option MessageTree). IsCut (stream ++ 13 ∷ []) (messages ++ option_to_list x) next []) (sym m)
+    (subst (λ (x : Option Begun). IsCut (stream ++ 13 ∷ []) (messages ++ []) x []) (sym n)
+    (subst (λ ms. IsCut (stream ++ 13 ∷ []) ms (begun_with d (r ∷ [])) []) (sym (append-nil messages))
+    (cut_header stream messages held (subst (λ (x : Option Begun). IsCut stream messages x held) l c) d r good is kind)))
+cut_taken stream messages left held message next c (inner b r l is placed open' m n) =
+    subst (λ (x : Option MessageTree). IsCut (stream ++ 13 ∷ []) (messages ++ option_to_list x) next []) (sym m)
+    (subst (λ (x : Option Begun). IsCut (stream ++ 13 ∷ []) (messages ++ []) x []) (sym n)
+    (subst (λ ms. IsCut (stream ++ 13 ∷ []) ms (begun_with b.delimiters (b.records ++ r ∷ [])) []) (sym (append-nil messages))
+    (cut_inner stream messages held b (subst (λ (x : Option Begun). IsCut stream messages x held) l c) r is placed open')))
+cut_taken stream messages left held message next c (closing b r t l is tree marks records m n) =
+    subst (λ (x : Option MessageTree). IsCut (stream ++ 13 ∷ []) (messages ++ option_to_list x) next []) (sym m)
+    (subst (λ (x : Option Begun). IsCut (stream ++ 13 ∷ []) (messages ++ t ∷ []) x []) (sym n)
+    (cut_closing stream messages held b (subst (λ (x : Option Begun). IsCut stream messages x held) l c) r t is tree marks records))

@@ -1,0 +1,132 @@
+-- Why a record text can't come next, in the order in which the reader finds out.
+use Rattle.std.proofs.Common.{◌≡◌, ◌≢◌, ℕ, ◌⊎◌, inl, inr, ⊎_elim, List, [], ◌∷◌, ◌++◌, Bool, true, false, Option, Some, None, refl, sym, ◌∙◌, ap, subst}
+use Rattle.std.specs.Prelude.{option_map, is_some}
+use Rattle.std.specs.Option.{option_or}
+use Rattle.lis_record.specs.declared.faults.RecordFault.{RecordFault}
+use Rattle.lis_record.specs.declared.faults.RecordFault.TheVariants as record_faults
+use Rattle.lis_record.specs.declared.kinds.Kind.{Kind}
+use Rattle.lis_record.specs.declared.kinds.Kind.TheVariants as kinds
+use Rattle.lis_record.specs.Faults.{TellsFault, header_fault, record_fault}
+use Rattle.lis_record.specs.Kinds.{kind_of}
+use Rattle.lis_record.specs.Relation.{IsRecord}
+use Rattle.lis_record.specs.Shape.{RecordContent}
+use Rattle.lis_record.proofs.FaultLaws.{record_fault-IsRecord}
+use Rattle.lis_message.specs.declared.fault.Reason.{Reason}
+use Rattle.lis_message.specs.declared.fault.Reason.TheVariants as reasons
+use Rattle.lis_message.specs.Begun.{Begun}
+use Rattle.lis_message.specs.Level.{misplaced}
+use Rattle.lis_message.specs.Stream.{kind_refusal, letter_refusal, level_of, refusal}
+use Rattle.lis_message.specs.Taking.{front_refusal, letter_front, reason_of}
+use Rattle.lis_message.proofs.Refusals.{refusal_at, refusal-header, refusal-other}
+
+-- ---- what the letter tells
+
+outside_letter : (letter : ℕ) (k : Option Kind) (text : List ℕ) (e : Reason) → letter_front false letter k ≡ Some e → letter_refusal None letter k text ≡ Some e
+unfolding kind_refusal
+outside_letter letter None text e h = h
+outside_letter letter (Some kinds.H) text e h = absurd cc
+outside_letter letter (Some kinds.P) text e h = h
+outside_letter letter (Some kinds.O) text e h = h
+outside_letter letter (Some kinds.R) text e h = h
+outside_letter letter (Some kinds.C) text e h = h
+outside_letter letter (Some kinds.Q) text e h = h
+outside_letter letter (Some kinds.M) text e h = h
+outside_letter letter (Some kinds.S) text e h = h
+outside_letter letter (Some kinds.L) text e h = h
+
+inside_letter : (b : Begun) (letter : ℕ) (k : Option Kind) (text : List ℕ) (e : Reason) → letter_front true letter k ≡ Some e → letter_refusal (Some b) letter k text ≡ Some e
+unfolding kind_refusal
+inside_letter b letter None text e h = h
+inside_letter b letter (Some kinds.H) text e h = h
+inside_letter b letter (Some kinds.P) text e h = absurd cc
+inside_letter b letter (Some kinds.O) text e h = absurd cc
+inside_letter b letter (Some kinds.R) text e h = absurd cc
+inside_letter b letter (Some kinds.C) text e h = absurd cc
+inside_letter b letter (Some kinds.Q) text e h = absurd cc
+inside_letter b letter (Some kinds.M) text e h = absurd cc
+inside_letter b letter (Some kinds.S) text e h = absurd cc
+inside_letter b letter (Some kinds.L) text e h = absurd cc
+
+-- what the letter tells is the first reason
+pub front_refused : (left : Option Begun) (text : List ℕ) (e : Reason) → front_refusal (is_some left) text ≡ Some e → refusal left text ≡ Some e
+unfolding refusal
+front_refused None [] e h = h
+front_refused None (letter ∷ bytes) e h = outside_letter letter (kind_of letter) (letter ∷ bytes) e h
+front_refused (Some b) [] e h = h
+front_refused (Some b) (letter ∷ bytes) e h = inside_letter b letter (kind_of letter) (letter ∷ bytes) e h
+
+outside_header : (letter : ℕ) (k : Option Kind) (text : List ℕ) → letter_front false letter k ≡ None → letter_refusal None letter k text ≡ kind_refusal None kinds.H text
+outside_header letter None text h = absurd cc
+outside_header letter (Some kinds.H) text h = refl
+outside_header letter (Some kinds.P) text h = absurd cc
+outside_header letter (Some kinds.O) text h = absurd cc
+outside_header letter (Some kinds.R) text h = absurd cc
+outside_header letter (Some kinds.C) text h = absurd cc
+outside_header letter (Some kinds.Q) text h = absurd cc
+outside_header letter (Some kinds.M) text h = absurd cc
+outside_header letter (Some kinds.S) text h = absurd cc
+outside_header letter (Some kinds.L) text h = absurd cc
+
+-- outside a message a text that may go on is told by a header's faults
+header_told : (text : List ℕ) → front_refusal false text ≡ None → refusal None text ≡ option_map reasons.BadRecord (header_fault text)
+unfolding refusal
+header_told [] h = absurd cc
+header_told (letter ∷ bytes) h = outside_header letter (kind_of letter) (letter ∷ bytes) h ∙ refusal-header (letter ∷ bytes)
+
+-- the kind of a text's letter, in a message
+record IsInner (b : Begun) (text : List ℕ) : Type 0 where
+  kind : Kind
+  other : kind ≢ kinds.H
+  told : refusal (Some b) text ≡ kind_refusal (Some b) kind text
+
+inside_kind : (b : Begun) (letter : ℕ) (k : Option Kind) (text : List ℕ) → letter_front true letter k ≡ None → refusal (Some b) text ≡ letter_refusal (Some b) letter k text → IsInner b text
+inside_kind b letter None text h e = absurd cc
+inside_kind b letter (Some kinds.H) text h e = absurd cc
+inside_kind b letter (Some kinds.P) text h e = record { kind = kinds.P; other = (λ x. cc); told = e }
+inside_kind b letter (Some kinds.O) text h e = record { kind = kinds.O; other = (λ x. cc); told = e }
+inside_kind b letter (Some kinds.R) text h e = record { kind = kinds.R; other = (λ x. cc); told = e }
+inside_kind b letter (Some kinds.C) text h e = record { kind = kinds.C; other = (λ x. cc); told = e }
+inside_kind b letter (Some kinds.Q) text h e = record { kind = kinds.Q; other = (λ x. cc); told = e }
+inside_kind b letter (Some kinds.M) text h e = record { kind = kinds.M; other = (λ x. cc); told = e }
+inside_kind b letter (Some kinds.S) text h e = record { kind = kinds.S; other = (λ x. cc); told = e }
+inside_kind b letter (Some kinds.L) text h e = record { kind = kinds.L; other = (λ x. cc); told = e }
+
+inner_told : (b : Begun) (text : List ℕ) → front_refusal true text ≡ None → IsInner b text
+unfolding refusal
+inner_told b [] h = absurd cc
+inner_told b (letter ∷ bytes) h = inside_kind b letter (kind_of letter) (letter ∷ bytes) h refl
+
+-- ---- what the text tells
+
+reason_cases : (e : RecordFault) → (reason_of e ≡ reasons.OutOfMemory) ⊎ (reason_of e ≡ reasons.BadRecord e)
+reason_cases record_faults.Empty = inr refl
+reason_cases (record_faults.UnknownKind b) = inr refl
+reason_cases (record_faults.DelimiterPart f) = inr refl
+reason_cases (record_faults.Byte n) = inr refl
+reason_cases record_faults.TooLong = inr refl
+reason_cases record_faults.OutOfMemory = inl refl
+
+-- a fault that reading tells, where a text's fault is its reason
+told_fault : (e : RecordFault) (fault : Option RecordFault) (reason : Reason) (why : Option Reason) → TellsFault e fault → reason ≡ reason_of e → (fault ≡ Some e → why ≡ Some (reasons.BadRecord e)) → (reason ≡ reasons.OutOfMemory) ⊎ (why ≡ Some reason)
+told_fault e fault reason why tells is goes =
+    ⊎_elim (λ (f : fault ≡ Some e).
+    ⊎_elim (λ (o : reason_of e ≡ reasons.OutOfMemory). inl (is ∙ o)) (λ (b : reason_of e ≡ reasons.BadRecord e). inr (goes f ∙ ap Some (sym (is ∙ b)))) (reason_cases e))
+    (λ (m : (e ≡ record_faults.OutOfMemory) × (fault ≡ None)). inl (is ∙ ap reason_of m.0)) tells
+
+pub header_refused : (text : List ℕ) (e : RecordFault) (reason : Reason) → front_refusal false text ≡ None → TellsFault e (header_fault text) → reason ≡ reason_of e → (reason ≡ reasons.OutOfMemory) ⊎ (refusal None text ≡ Some reason)
+header_refused text e reason front tells is =
+    told_fault e (header_fault text) reason (refusal None text) tells is (λ f. header_told text front ∙ ap (option_map reasons.BadRecord) f)
+
+pub inner_refused : (b : Begun) (text : List ℕ) (e : RecordFault) (reason : Reason) → front_refusal true text ≡ None → TellsFault e (record_fault b.delimiters text) → reason ≡ reason_of e → (reason ≡ reasons.OutOfMemory) ⊎ (refusal (Some b) text ≡ Some reason)
+inner_refused b text e reason front tells is =
+    let inner = inner_told b text front in
+    told_fault e (record_fault b.delimiters text) reason (refusal (Some b) text) tells is (λ f.
+    inner.told ∙ refusal-other b inner.kind text inner.other ∙ ap (λ x. option_or (option_map reasons.BadRecord x) (misplaced (level_of (Some b)) inner.kind)) f)
+
+-- where the text is a record, its place is what is left to tell
+pub place_refused : (b : Begun) (text : List ℕ) (r : RecordContent) (reason : Reason) → IsRecord b.delimiters text r → r.kind ≢ kinds.H → (reason ≡ reasons.OutOfMemory) ⊎ (misplaced (level_of (Some b)) r.kind ≡ Some reason)
+    → (reason ≡ reasons.OutOfMemory) ⊎ (refusal (Some b) text ≡ Some reason)
+place_refused b text r reason is other why =
+    ⊎_elim (λ (o : reason ≡ reasons.OutOfMemory). inl o)
+    (λ (m : misplaced (level_of (Some b)) r.kind ≡ Some reason). inr (refusal_at (Some b) b.delimiters text r is ∙ refusal-other b r.kind text other
+    ∙ ap (λ x. option_or (option_map reasons.BadRecord x) (misplaced (level_of (Some b)) r.kind)) (record_fault-IsRecord b.delimiters text r other is) ∙ m)) why

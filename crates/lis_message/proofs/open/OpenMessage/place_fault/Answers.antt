@@ -1,0 +1,12 @@
+use Rattle.std.proofs.Common.{◌≡◌, sym, ap, ◌∙◌}
+use Rattle.lis_message.specs.Begun.{Begun}
+use Rattle.lis_message.specs.Level.{misplaced, level_after, outside}
+use Rattle.lis_message.specs.Stream.{kinds_of}
+use Rattle.lis_message.proofs.Levels.{spine_leads}
+use Rattle.lis_message.proofs.open.OpenMessage.place_fault.Goals as goal
+
+pub returns : goal.returns
+returns c =
+    c.place_fault.ensures
+    ∙ ap (λ l. misplaced l c.args.kind) (sym (spine_leads c.self.inside.spine c.self.invariant.shape).arrives)
+    ∙ ap (λ (b : Begun). misplaced (level_after outside (kinds_of b.records)) c.args.kind) c.self.view_is

@@ -1,0 +1,70 @@
+-- What a message reader keeps of a stream, and what it answers to a piece of it.
+use Rattle.std.specs.Prelude.{◌≡◌, ℕ, List, [], ◌++◌, Option, Some, None, Result, Ok, Err, ◌⊎◌, ◌+◌}
+use Rattle.lis_message.specs.declared.fault.MessageFault.{MessageFault}
+use Rattle.lis_message.specs.declared.fault.Reason.TheVariants as reasons
+use Rattle.lis_message.specs.Begun.{Begun}
+use Rattle.lis_message.specs.Stream.{IsCut, IsRefused, count_of, capped}
+use Rattle.lis_message.specs.Tree.{MessageTree}
+
+-- what follows the whole messages of a stream: a message that isn't closed, and bytes of a record that isn't ended
+pub record Unended : Type 0 where
+  pub left : Option Begun
+  pub held : List ℕ
+
+-- the same of a reader, and the fault that it met
+pub record ReaderState : Type 0 where
+  pub left : Option Begun
+  pub held : List ℕ
+  pub fault : Option MessageFault
+
+-- These messages are read of a front of the stream.
+pub record IsFrontCut (stream : List ℕ) (messages : List MessageTree) : Type 0 where
+  pub front : List ℕ
+  pub more : List ℕ
+  pub left : Option Begun
+  pub held : List ℕ
+  pub whole : stream ≡ front ++ more
+  pub cut : IsCut front messages left held
+
+-- Memory is refused, or a record is.
+abbrev pub Stops : List ℕ → List MessageTree → MessageFault → Type 0
+Stops stream messages fault = ((fault.reason ≡ reasons.OutOfMemory) × IsFrontCut stream messages) ⊎ IsRefused stream messages fault
+
+-- These bytes lead from what is kept to what is kept then, and add to the messages, whatever came before.
+abbrev pub Goes : Unended → List MessageTree → List ℕ → Unended → List MessageTree → Type 0
+Goes before messages bytes after more =
+    (past : List ℕ) (base : List MessageTree) → IsCut past (base ++ messages) before.left before.held → IsCut (past ++ bytes) (base ++ more) after.left after.held
+
+-- The reading stops in these bytes, with these messages, whatever came before.
+abbrev pub StopsIn : Unended → List MessageTree → List ℕ → List MessageTree → MessageFault → Type 0
+StopsIn before messages bytes more fault =
+    (past : List ℕ) (base : List MessageTree) → IsCut past (base ++ messages) before.left before.held → Stops (past ++ bytes) (base ++ more) fault
+
+-- what a reader tells and keeps of a stream
+abbrev pub Reads : List ℕ → List MessageTree → ReaderState → Option MessageFault → Type 0
+Reads stream messages reader None = (reader.fault ≡ None) × IsCut stream messages reader.left reader.held
+Reads stream messages reader (Some fault) = (reader.fault ≡ Some fault) × Stops stream messages fault
+
+-- the place of the next record, from 1 for a header
+abbrev pub next_place : Option Begun → ℕ
+next_place left = capped (count_of left + 1)
+
+-- the answer at the end of the stream
+abbrev pub at_end : Option Begun → List ℕ → Result (Unit {0}) MessageFault
+at_end None [] = Ok tt
+at_end left held = Err (record { place = next_place left; reason = reasons.Unfinished })
+
+abbrev pub finished : ReaderState → Result (Unit {0}) MessageFault
+finished reader = elim reader.fault [ None ↦ at_end reader.left reader.held | Some fault ↦ Err fault ]
+
+-- These messages are read of the stream, and its end comes too early.
+pub record IsCutShort (stream : List ℕ) (messages : List MessageTree) (fault : MessageFault) : Type 0 where
+  pub left : Option Begun
+  pub held : List ℕ
+  pub cut : IsCut stream messages left held
+  pub why : at_end left held ≡ Err fault
+
+-- what is read of a stream that ends here
+abbrev pub ReadsWhole : List ℕ → List MessageTree → Option MessageFault → Type 0
+ReadsWhole stream messages None = IsCut stream messages None []
+ReadsWhole stream messages (Some fault) = Stops stream messages fault ⊎ IsCutShort stream messages fault

@@ -1,0 +1,12 @@
+-- Why a message has no texts.
+use Rattle.std.specs.Prelude.{◌≡◌, ◌<◌, ◌≤◌, length, Option, Some, None}
+use Rattle.lis_message.specs.declared.texts.TextsFault.{TextsFault}
+use Rattle.lis_message.specs.declared.texts.TextsFault.TheVariants.{BadRecord, TooMany, OutOfMemory}
+use Rattle.lis_message.specs.Tree.{MessageTree, flatten}
+use Rattle.lis_message.specs.Writing.{write_refusal}
+
+-- a record that can't be written, else too many records, else want of memory
+abbrev pub HasNoTexts : MessageTree → TextsFault → Type 0
+HasNoTexts message (BadRecord place fault) = write_refusal message ≡ Some (record { place = place; fault = fault })
+HasNoTexts message TooMany = (write_refusal message ≡ None) × (65536 < length (flatten message))
+HasNoTexts message OutOfMemory = (write_refusal message ≡ None) × (length (flatten message) ≤ 65536)

@@ -1,0 +1,50 @@
+//! What holds of all messages and streams, over the definitions that the contracts cite.
+ghost use Rattle.std.specs.Prelude.{◌≡◌, ℕ, List, [], Option, None};
+ghost use Rattle.std.specs.List.{AllByRecursion, flat_map};
+ghost use Rattle.lis_record.specs.declared.kinds.Kind.{Kind};
+ghost use Rattle.lis_record.specs.declared.kinds.Kind.TheVariants as kinds;
+ghost use Rattle.lis_record.specs.Delimiters.{DelimiterBytes};
+ghost use Rattle.lis_record.specs.Relation.{IsRecord};
+ghost use Rattle.lis_record.specs.Shape.{RecordContent};
+ghost use Rattle.lis_message.specs.declared.fault.MessageFault.{MessageFault};
+ghost use Rattle.lis_message.specs.Begun.{Begun};
+ghost use Rattle.lis_message.specs.Hierarchy.{IsViable};
+ghost use Rattle.lis_message.specs.Level.{StandsFrom, outside};
+ghost use Rattle.lis_message.specs.Stream.{IsCut, IsMessage, IsRefused};
+ghost use Rattle.lis_message.specs.Tree.{MessageTree, IsTree, flatten};
+ghost use Rattle.lis_message.specs.Writing.{message_bytes, IsWritable};
+
+/// Messages that can be written are read back: the bytes of one are that message, and those of several in a row are cut
+/// into them, with nothing left, and into nothing else.
+pub fn read_back()
+    ensures message { (m : MessageTree) → IsTree m → IsWritable m → IsMessage (message_bytes m) m }
+    ensures cut { (ms : List MessageTree) → AllByRecursion IsTree ms → AllByRecursion IsWritable ms
+        → IsCut (flat_map message_bytes ms) ms None [] }
+    ensures alone { (ms : List MessageTree) → AllByRecursion IsTree ms → AllByRecursion IsWritable ms
+        → (others : List MessageTree) (left : Option Begun) (held : List ℕ) → IsCut (flat_map message_bytes ms) others left held
+        → (others ≡ ms) × (left ≡ None) × (held ≡ []) }
+{}
+
+/// A stream is cut in one way at most, and one with a refused record in none; it is refused in one way at most. So it
+/// doesn't matter in which pieces it comes.
+pub fn one_cut()
+    ensures one { (stream : List ℕ) (m n : List MessageTree) (l k : Option Begun) (h g : List ℕ)
+        → IsCut stream m l h → IsCut stream n k g → (m ≡ n) × (l ≡ k) × (h ≡ g) }
+    ensures none { (stream : List ℕ) (m n : List MessageTree) (fault : MessageFault) (l : Option Begun) (h : List ℕ)
+        → IsRefused stream m fault → ¬ (IsCut stream n l h) }
+    ensures refusal { (stream : List ℕ) (m n : List MessageTree) (f g : MessageFault)
+        → IsRefused stream m f → IsRefused stream n g → (m ≡ n) × (f ≡ g) }
+{}
+
+/// A message is determined by its records and its delimiters, and those by its header's text.
+pub fn one_tree()
+    ensures tree { (m n : MessageTree) → IsTree m → IsTree n → m.delimiters ≡ n.delimiters → flatten m ≡ flatten n → m ≡ n }
+    ensures delimiters { (d e : DelimiterBytes) (text : List ℕ) (r s : RecordContent) → IsRecord d text r → IsRecord e text s
+        → r.kind ≡ kinds.H → s.kind ≡ kinds.H → d ≡ e }
+{}
+
+/// The hierarchy by the place of the next record is that in the standard's words.
+pub fn hierarchy()
+    ensures viable { (ks : List Kind) → StandsFrom outside ks → IsViable ks }
+    ensures stands { (ks : List Kind) → IsViable ks → StandsFrom outside ks }
+{}

@@ -1,0 +1,114 @@
+//! The link texts of a message, one for each record.
+ghost use Rattle.std.specs.Prelude.{◌≡◌, ◌≤◌, IfOk, IfErr, None, Some, false, length, map};
+ghost use Rattle.std.specs.List.{AllByRecursion, flat_map};
+ghost use Rattle.lis_frame.specs.Text.{longest_text, text_fault};
+ghost use Rattle.lis_record.specs.Faults.{check_fault};
+ghost use Rattle.lis_record.specs.Spelling.{written};
+ghost use Rattle.lis_message.specs.Texts.{HasNoTexts};
+ghost use Rattle.lis_message.specs.Writing.{AreWritable, message_bytes, message_texts_of};
+
+use crate::message::Message;
+use crate::walk::Walk;
+use crate::writer::check_records;
+use lis_frame::{LinkText, MOST_TEXTS, Texts};
+use lis_port::{Failed, Sink};
+use lis_record::{Delimiters, Record, WriteFault, write_record};
+use std::alloc::{AllocError, Global};
+
+/// Why a message has no texts.
+#[derive(Clone, Copy, Debug, PartialEq, Eq)]
+pub enum TextsFault {
+    /// The record at this place, from 1 for the header, can't be written.
+    BadRecord { place: u64, fault: WriteFault },
+    /// There are more than 65,536 records.
+    TooMany,
+    /// A growth was refused.
+    OutOfMemory,
+}
+
+/// A sink that keeps what it takes.
+#[derive(Drop)]
+struct TextSink {
+    text: LinkText,
+    failed: bool,
+}
+
+impl Sink for TextSink {
+    ghost taken = { λ s. Some s.text };
+
+    ghost failed = { λ s. s.failed };
+
+    fn write(&mut self, bytes: &[u8]) -> Result<usize, Failed> {
+        match self.text.extend(bytes) {
+            Ok(()) => {
+                self.failed = false;
+                Ok(bytes.len())
+            }
+            Err(_) => {
+                self.failed = true;
+                Err(Failed)
+            }
+        }
+    }
+
+    fn failed(&self) -> bool {
+        self.failed
+    }
+}
+
+/// A record's spelling and CR.
+fn text_of(alloc: Global, delimiters: Delimiters, entry: &Record) -> Result<LinkText, AllocError>
+    requires { check_fault delimiters entry.now ≡ None }
+    ensures { IfOk result (λ text. text ≡ written delimiters entry.now) }
+{
+    let mut sink = TextSink {
+        text: LinkText::new(alloc),
+        failed: false,
+    };
+    match write_record(&mut sink, &delimiters, entry) {
+        Ok(()) => {
+            let TextSink { text, failed: _ } = sink;
+            Ok(text)
+        }
+        Err(_) => Err(AllocError),
+    }
+}
+
+/// The texts of the records that are left, of which there are few enough.
+fn texts_of(alloc: Global, delimiters: Delimiters, walk: Walk<'_>) -> Result<Texts, AllocError>
+    requires writable { AreWritable delimiters walk }
+    ensures { IfOk result (λ texts. texts ≡ map (written delimiters) walk.entry) }
+{
+    let mut texts = Texts::new(alloc);
+    let mut walk = walk;
+    while let Some(entry) = walk.next() {
+        let text = text_of(alloc, delimiters, entry)?;
+        if texts.push(text).is_err() {
+            return Err(AllocError);
+        }
+    }
+    Ok(texts)
+}
+
+/// The link texts of a message: one for each record, its spelling and CR. All records are tested first, then their
+/// number.
+pub fn message_texts(alloc: Global, message: &Message) -> Result<Texts, TextsFault>
+    ensures ok { IfOk result (λ texts. texts ≡ message_texts_of message.now) }
+    ensures joined { IfOk result (λ texts. flat_map (λ text. text) texts ≡ message_bytes message.now) }
+    ensures sent { IfOk result (AllByRecursion (λ text. text_fault longest_text text ≡ None)) }
+    ensures err { IfErr result (HasNoTexts message.now) }
+{
+    if let Err(fault) = check_records(message.delimiters(), Walk::new(message)) {
+        return Err(TextsFault::BadRecord {
+            place: fault.place,
+            fault: fault.fault,
+        });
+    }
+    if message.len() > MOST_TEXTS as u64 {
+        return Err(TextsFault::TooMany);
+    }
+    match texts_of(alloc, message.delimiters(), Walk::new(message)) {
+        Ok(texts) => Ok(texts),
+        Err(_) => Err(TextsFault::OutOfMemory),
+    }
+}
