@@ -1,9 +1,8 @@
-//! The whole link: a sender, a receiver and what travels between them, event by event.
+//! The whole link: a sender, a receiver and what travels between them, event by event; and the laws
+//! over every list of events.
 #![tactic(auto)]
 
 pub mod event;
 pub mod laws;
-pub mod session;
 
 pub use event::{Event, Events};
-pub use session::{History, HistoryOf, Session, SessionOf};
