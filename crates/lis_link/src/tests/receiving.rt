@@ -274,3 +274,20 @@ fn a_frame_that_would_pass_the_limit_is_refused_again(rt: HostRuntime) -> Result
     assert_eq!(rt; receiver.held(), 0);
     Ok(())
 }
+
+/// Where memory is refused for a frame's text it is answered NAK and nothing has changed, and the
+/// same frame again is taken. (`rt try --test --fail-alloc 1` refuses it.)
+#[test]
+fn a_refused_growth_changes_nothing(rt: HostRuntime) -> Result<(), Fail> {
+    let mut receiver = opened(rt.alloc());
+    let mut step = last_step(&mut receiver, b"\x021A\x0375\r\n");
+    if step.1 == Note::OutOfMemory {
+        assert_eq!(rt; step, (Some(0x15), Note::OutOfMemory, None));
+        assert_eq!(rt; receiver.accepted(), 0);
+        assert_eq!(rt; receiver.held(), 0);
+        step = last_step(&mut receiver, b"\x021A\x0375\r\n");
+    }
+    assert_eq!(rt; step, (Some(0x06), Note::Accepted(1), Some(1)));
+    assert_eq!(rt; receiver.accepted(), 1);
+    Ok(())
+}
