@@ -1,4 +1,5 @@
 -- Why the world is safe: an invariant that joins both ends and the link.
+mod DefinitionRows
 pub mod SessionLemmas
 pub mod Invariant
 pub mod Leaving

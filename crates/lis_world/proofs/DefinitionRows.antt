@@ -1,0 +1,348 @@
+-- The definitions at lists of events whose outcomes are known from outside, by computation.
+use Rattle.std.proofs.Common.{◌≡◌, ℕ, zero, suc, List, [], ◌∷◌, ◌++◌, None, Some, refl, true, false, replicate}
+use Rattle.lis_frame.specs.Frame.{FrameContent, frame_bytes}
+use Rattle.lis_frame.specs.Stretch.{stretch_fault}
+use Rattle.lis_frame.specs.Stream.{signal_after, open_stretch}
+use Rattle.lis_frame.specs.Pieces.{session_frames, pieces}
+use Rattle.lis_link.specs.declared.sender.Outcome.TheVariants.{Done, TimedOut, Restarted}
+use Rattle.lis_world.specs.declared.event.Event.{Event}
+use Rattle.lis_world.specs.declared.event.Event.TheVariants.{Start, Deliver, DeliverNoRoom, Damage, Reply, DamageReply, SenderTimer, RestartSender, RestartReceiver, Contending}
+use Rattle.lis_world.specs.Steps.{world}
+
+one_letter : ℕ → FrameContent
+one_letter letter = record { number = 1; last = true; text = letter ∷ [] }
+
+no_session : (world 240 []).sessions ≡ []
+no_session = refl
+
+nothing_to_deliver : (world 240 (Deliver ∷ Deliver ∷ [])).sessions ≡ []
+nothing_to_deliver = refl
+
+-- the reply to the frame is damaged: the frame is sent again, found to be a duplicate, and acknowledged
+sent_again_and_taken_once_events : List Event
+sent_again_and_taken_once_events =
+    Start ((0x41 ∷ []) ∷ [])
+    ∷ Deliver
+    ∷ Reply
+    ∷ Deliver
+    ∷ DamageReply 0x7f
+    ∷ Deliver
+    ∷ Reply
+    ∷ Deliver
+    ∷ []
+
+sent_again_and_taken_once :
+    (world 240 sent_again_and_taken_once_events).sessions
+    ≡ record {
+      texts = (0x41 ∷ []) ∷ [];
+      sent = one_letter 0x41 ∷ [];
+      accepted = one_letter 0x41 ∷ [];
+      acknowledged = 1;
+      handed = (0x41 ∷ []) ∷ [];
+      outcome = Some Done;
+    }
+    ∷ []
+unfolding signal_after open_stretch stretch_fault session_frames pieces frame_bytes one_letter sent_again_and_taken_once_events
+sent_again_and_taken_once = refl
+
+-- the sender gives up before its frame has come: the frame counts for its own session, and its ACK comes too late
+late_frame_is_of_its_session_events : List Event
+late_frame_is_of_its_session_events =
+    Start ((0x41 ∷ []) ∷ [])
+    ∷ Deliver
+    ∷ Reply
+    ∷ SenderTimer
+    ∷ Start ((0x42 ∷ []) ∷ [])
+    ∷ Deliver
+    ∷ Deliver
+    ∷ Deliver
+    ∷ Reply
+    ∷ Deliver
+    ∷ Reply
+    ∷ Deliver
+    ∷ []
+
+late_frame_is_of_its_session :
+    (world 240 late_frame_is_of_its_session_events).sessions
+    ≡ record {
+      texts = (0x41 ∷ []) ∷ [];
+      sent = one_letter 0x41 ∷ [];
+      accepted = one_letter 0x41 ∷ [];
+      acknowledged = 0;
+      handed = (0x41 ∷ []) ∷ [];
+      outcome = Some TimedOut;
+    }
+    ∷ record {
+      texts = (0x42 ∷ []) ∷ [];
+      sent = one_letter 0x42 ∷ [];
+      accepted = one_letter 0x42 ∷ [];
+      acknowledged = 1;
+      handed = (0x42 ∷ []) ∷ [];
+      outcome = Some Done;
+    }
+    ∷ []
+unfolding signal_after open_stretch stretch_fault session_frames pieces frame_bytes one_letter late_frame_is_of_its_session_events
+late_frame_is_of_its_session = refl
+
+-- an ENQ can't be damaged to a bad frame, a frame can: it is refused and sent again
+damaged_frame_is_sent_again_events : List Event
+damaged_frame_is_sent_again_events =
+    Start ((0x41 ∷ []) ∷ [])
+    ∷ Damage (0x05 ∷ [])
+    ∷ Deliver
+    ∷ Reply
+    ∷ Damage (0x02 ∷ 0x31 ∷ 0x0a ∷ [])
+    ∷ Reply
+    ∷ Deliver
+    ∷ Reply
+    ∷ Deliver
+    ∷ []
+
+damaged_frame_is_sent_again :
+    (world 240 damaged_frame_is_sent_again_events).sessions
+    ≡ record {
+      texts = (0x41 ∷ []) ∷ [];
+      sent = one_letter 0x41 ∷ [];
+      accepted = one_letter 0x41 ∷ [];
+      acknowledged = 1;
+      handed = (0x41 ∷ []) ∷ [];
+      outcome = Some Done;
+    }
+    ∷ []
+unfolding signal_after open_stretch stretch_fault session_frames pieces frame_bytes one_letter damaged_frame_is_sent_again_events
+damaged_frame_is_sent_again = refl
+
+-- so the ENQ is delivered; the session goes on
+damage_of_an_enquiry_is_not_allowed_events : List Event
+damage_of_an_enquiry_is_not_allowed_events =
+    Start ((0x41 ∷ []) ∷ [])
+    ∷ Damage (0x02 ∷ 0x31 ∷ 0x0a ∷ [])
+    ∷ Deliver
+    ∷ []
+
+damage_of_an_enquiry_is_not_allowed :
+    (world 240 damage_of_an_enquiry_is_not_allowed_events).sessions
+    ≡ record {
+      texts = (0x41 ∷ []) ∷ [];
+      sent = [];
+      accepted = [];
+      acknowledged = 0;
+      handed = [];
+      outcome = None;
+    }
+    ∷ []
+unfolding signal_after open_stretch stretch_fault session_frames pieces frame_bytes one_letter damage_of_an_enquiry_is_not_allowed_events
+damage_of_an_enquiry_is_not_allowed = refl
+
+-- there is no room for the frame, and then there is
+no_room_is_answered_by_sending_again_events : List Event
+no_room_is_answered_by_sending_again_events =
+    Start ((0x41 ∷ []) ∷ [])
+    ∷ Deliver
+    ∷ Reply
+    ∷ DeliverNoRoom
+    ∷ Reply
+    ∷ Deliver
+    ∷ Reply
+    ∷ Deliver
+    ∷ []
+
+no_room_is_answered_by_sending_again :
+    (world 240 no_room_is_answered_by_sending_again_events).sessions
+    ≡ record {
+      texts = (0x41 ∷ []) ∷ [];
+      sent = one_letter 0x41 ∷ [];
+      accepted = one_letter 0x41 ∷ [];
+      acknowledged = 1;
+      handed = (0x41 ∷ []) ∷ [];
+      outcome = Some Done;
+    }
+    ∷ []
+unfolding signal_after open_stretch stretch_fault session_frames pieces frame_bytes one_letter no_room_is_answered_by_sending_again_events
+no_room_is_answered_by_sending_again = refl
+
+-- the receiver answers ENQ with ENQ; the sender waits, and asks again
+contention_ends_with_the_timer_events : List Event
+contention_ends_with_the_timer_events =
+    Contending
+    ∷ Start ((0x41 ∷ []) ∷ [])
+    ∷ Deliver
+    ∷ Reply
+    ∷ SenderTimer
+    ∷ Deliver
+    ∷ Reply
+    ∷ Deliver
+    ∷ Reply
+    ∷ Deliver
+    ∷ []
+
+contention_ends_with_the_timer :
+    (world 240 contention_ends_with_the_timer_events).sessions
+    ≡ record {
+      texts = (0x41 ∷ []) ∷ [];
+      sent = one_letter 0x41 ∷ [];
+      accepted = one_letter 0x41 ∷ [];
+      acknowledged = 1;
+      handed = (0x41 ∷ []) ∷ [];
+      outcome = Some Done;
+    }
+    ∷ []
+unfolding signal_after open_stretch stretch_fault session_frames pieces frame_bytes one_letter contention_ends_with_the_timer_events
+contention_ends_with_the_timer = refl
+
+-- the sender is restarted before the line is open: no late reply reaches it, and its next session is whole
+a_restarted_session_ends_events : List Event
+a_restarted_session_ends_events =
+    Start ((0x41 ∷ []) ∷ [])
+    ∷ Deliver
+    ∷ RestartSender
+    ∷ Reply
+    ∷ Start ((0x42 ∷ []) ∷ [])
+    ∷ Deliver
+    ∷ Reply
+    ∷ Deliver
+    ∷ Reply
+    ∷ Deliver
+    ∷ []
+
+a_restarted_session_ends :
+    (world 240 a_restarted_session_ends_events).sessions
+    ≡ record {
+      texts = (0x41 ∷ []) ∷ [];
+      sent = [];
+      accepted = [];
+      acknowledged = 0;
+      handed = [];
+      outcome = Some Restarted;
+    }
+    ∷ record {
+      texts = (0x42 ∷ []) ∷ [];
+      sent = one_letter 0x42 ∷ [];
+      accepted = one_letter 0x42 ∷ [];
+      acknowledged = 1;
+      handed = (0x42 ∷ []) ∷ [];
+      outcome = Some Done;
+    }
+    ∷ []
+unfolding signal_after open_stretch stretch_fault session_frames pieces frame_bytes one_letter a_restarted_session_ends_events
+a_restarted_session_ends = refl
+
+-- the frame of a session that was given up is taken, and the reply to it is dropped, in the next session too
+late_reply_never_comes_events : List Event
+late_reply_never_comes_events =
+    Start ((0x41 ∷ []) ∷ [])
+    ∷ Deliver
+    ∷ Reply
+    ∷ SenderTimer
+    ∷ Start ((0x42 ∷ []) ∷ [])
+    ∷ Deliver
+    ∷ Reply
+    ∷ []
+
+late_reply_never_comes :
+    (world 240 late_reply_never_comes_events).sessions
+    ≡ record {
+      texts = (0x41 ∷ []) ∷ [];
+      sent = one_letter 0x41 ∷ [];
+      accepted = one_letter 0x41 ∷ [];
+      acknowledged = 0;
+      handed = (0x41 ∷ []) ∷ [];
+      outcome = Some TimedOut;
+    }
+    ∷ record {
+      texts = (0x42 ∷ []) ∷ [];
+      sent = [];
+      accepted = [];
+      acknowledged = 0;
+      handed = [];
+      outcome = None;
+    }
+    ∷ []
+unfolding signal_after open_stretch stretch_fault session_frames pieces frame_bytes one_letter late_reply_never_comes_events
+late_reply_never_comes = refl
+
+-- the number of a frame that is sent again comes round to 0
+round_trips : ℕ → List Event
+round_trips zero = []
+round_trips (suc n) = Deliver ∷ Reply ∷ round_trips n
+
+nine_texts_events : List Event
+nine_texts_events =
+    Start (replicate 9 (0x41 ∷ []))
+    ∷ (round_trips 8 ++ Deliver ∷ DamageReply 0x7f ∷ Deliver ∷ Reply ∷ Deliver ∷ Reply ∷ Deliver ∷ [])
+
+numbered_letter : ℕ → FrameContent
+numbered_letter number = record { number = number; last = true; text = 0x41 ∷ [] }
+
+nine_frames : List FrameContent
+nine_frames =
+    numbered_letter 1
+    ∷ numbered_letter 2
+    ∷ numbered_letter 3
+    ∷ numbered_letter 4
+    ∷ numbered_letter 5
+    ∷ numbered_letter 6
+    ∷ numbered_letter 7
+    ∷ numbered_letter 0
+    ∷ numbered_letter 1
+    ∷ []
+
+numbers_come_round :
+    (world 240 nine_texts_events).sessions
+    ≡ record {
+      texts = replicate 9 (0x41 ∷ []);
+      sent = nine_frames;
+      accepted = nine_frames;
+      acknowledged = 9;
+      handed = replicate 9 (0x41 ∷ []);
+      outcome = Some Done;
+    }
+    ∷ []
+unfolding signal_after open_stretch stretch_fault session_frames pieces frame_bytes nine_texts_events round_trips nine_frames numbered_letter
+numbers_come_round = refl
+
+-- the receiver is restarted between two frames of a text: the second is not taken, and nothing is handed out
+restarted_receiver_events : List Event
+restarted_receiver_events =
+    Start (replicate 500 0x41 ∷ [])
+    ∷ Deliver
+    ∷ Reply
+    ∷ Deliver
+    ∷ Reply
+    ∷ RestartReceiver
+    ∷ Deliver
+    ∷ SenderTimer
+    ∷ Deliver
+    ∷ []
+
+restarted_receiver_hands_out_nothing :
+    (world 240 restarted_receiver_events).sessions
+    ≡ record {
+      texts = replicate 500 0x41 ∷ [];
+      sent =
+          record { number = 1; last = false; text = replicate 240 0x41 }
+          ∷ record { number = 2; last = false; text = replicate 240 0x41 }
+          ∷ [];
+      accepted = record { number = 1; last = false; text = replicate 240 0x41 } ∷ [];
+      acknowledged = 1;
+      handed = [];
+      outcome = Some TimedOut;
+    }
+    ∷ []
+unfolding signal_after open_stretch stretch_fault session_frames pieces frame_bytes restarted_receiver_events
+restarted_receiver_hands_out_nothing = refl
+
+-- with the long limit the same text is one frame, and the session is done before
+long_frame_hands_out :
+    (world 63993 restarted_receiver_events).sessions
+    ≡ record {
+      texts = replicate 500 0x41 ∷ [];
+      sent = record { number = 1; last = true; text = replicate 500 0x41 } ∷ [];
+      accepted = record { number = 1; last = true; text = replicate 500 0x41 } ∷ [];
+      acknowledged = 1;
+      handed = replicate 500 0x41 ∷ [];
+      outcome = Some Done;
+    }
+    ∷ []
+unfolding signal_after open_stretch stretch_fault session_frames pieces frame_bytes restarted_receiver_events
+long_frame_hands_out = refl
