@@ -1,3 +1,4 @@
+mod DefinitionRows
 pub mod Components
 pub mod FaultLaws
 pub mod Joins

@@ -1,0 +1,96 @@
+-- The definitions at texts and records whose reading is known from outside, by computation.
+use Rattle.std.proofs.Common.{◌≡◌, [], ◌∷◌, None, Some, refl}
+use Rattle.hex.specs.Hex.{encode_with, decode_pairs}
+use Rattle.lis_record.specs.declared.delimiting.DelimiterFault.TheVariants.{Repeated}
+use Rattle.lis_record.specs.declared.faults.DelimiterPartFault.TheVariants.{Short, Fault, Trailing}
+use Rattle.lis_record.specs.declared.faults.RecordFault.TheVariants.{Empty, UnknownKind, DelimiterPart, Byte}
+use Rattle.lis_record.specs.declared.faults.WriteFault.TheVariants.{CharNotText}
+use Rattle.lis_record.specs.declared.kinds.Kind.TheVariants as kinds
+use Rattle.lis_record.specs.declared.symbols.Sym.TheVariants.{Char, Raw}
+use Rattle.lis_record.specs.Delimiters.{DelimiterBytes, delimiters_of, delimiter_fault, is_punctuation}
+use Rattle.lis_record.specs.Escapes.{escape_of}
+use Rattle.lis_record.specs.Faults.{text_fault, record_fault, delimiter_part_fault, header_fault, check_fault}
+use Rattle.lis_record.specs.FrontReading.{escape_at, symbols_after, symbols_of}
+use Rattle.lis_record.specs.Kinds.{kind_of}
+use Rattle.lis_record.specs.Spelling.{spelled_symbol, spelled}
+use Rattle.lis_record.specs.Text.{is_text_byte}
+
+-- | \ ^ &
+usual : DelimiterBytes
+usual = delimiters_of 0x7c 0x5c 0x5e 0x26
+
+-- H|\^& and H||^& and H|\^ and H|\^&A and P|1
+usual_header_is_good : header_fault (0x48 ∷ 0x7c ∷ 0x5c ∷ 0x5e ∷ 0x26 ∷ []) ≡ None
+unfolding header_fault delimiter_part_fault text_fault delimiter_fault is_punctuation is_text_byte kind_of
+usual_header_is_good = refl
+
+repeated_delimiter : header_fault (0x48 ∷ 0x7c ∷ 0x7c ∷ 0x5e ∷ 0x26 ∷ []) ≡ Some (DelimiterPart (Fault (Repeated 1)))
+unfolding header_fault delimiter_part_fault text_fault delimiter_fault is_punctuation is_text_byte kind_of
+repeated_delimiter = refl
+
+short_delimiters : header_fault (0x48 ∷ 0x7c ∷ 0x5c ∷ 0x5e ∷ []) ≡ Some (DelimiterPart Short)
+unfolding header_fault delimiter_part_fault text_fault delimiter_fault is_punctuation is_text_byte kind_of
+short_delimiters = refl
+
+byte_behind_the_delimiters : header_fault (0x48 ∷ 0x7c ∷ 0x5c ∷ 0x5e ∷ 0x26 ∷ 0x41 ∷ []) ≡ Some (DelimiterPart (Trailing 0x41))
+unfolding header_fault delimiter_part_fault text_fault delimiter_fault is_punctuation is_text_byte kind_of
+byte_behind_the_delimiters = refl
+
+patient_is_no_header : header_fault (0x50 ∷ 0x7c ∷ 0x31 ∷ []) ≡ Some (UnknownKind 0x50)
+unfolding header_fault kind_of
+patient_is_no_header = refl
+
+-- nothing, and Lx, and P| with byte 7F
+nothing_is_no_record : record_fault usual [] ≡ Some Empty
+unfolding record_fault
+nothing_is_no_record = refl
+
+letter_without_delimiter : record_fault usual (0x4c ∷ 0x78 ∷ []) ≡ Some (UnknownKind 0x78)
+unfolding record_fault text_fault usual is_text_byte kind_of
+letter_without_delimiter = refl
+
+byte_that_is_no_text : record_fault usual (0x50 ∷ 0x7c ∷ 0x7f ∷ []) ≡ Some (Byte 2)
+unfolding record_fault text_fault usual is_text_byte kind_of
+byte_that_is_no_text = refl
+
+-- &X0D0a& and &X4& and S & S
+hexadecimal_escape : symbols_of usual (0x26 ∷ 0x58 ∷ 0x30 ∷ 0x44 ∷ 0x30 ∷ 0x61 ∷ 0x26 ∷ []) ≡ Raw 0x0d ∷ Raw 0x0a ∷ []
+unfolding symbols_after escape_at escape_of decode_pairs usual
+hexadecimal_escape = refl
+
+odd_digits_are_no_escape : symbols_of usual (0x26 ∷ 0x58 ∷ 0x34 ∷ 0x26 ∷ []) ≡ Char 0x26 ∷ Char 0x58 ∷ Char 0x34 ∷ Char 0x26 ∷ []
+unfolding symbols_after escape_at escape_of decode_pairs usual
+odd_digits_are_no_escape = refl
+
+lone_escape_byte : symbols_of usual (0x53 ∷ 0x26 ∷ 0x53 ∷ []) ≡ Char 0x53 ∷ Char 0x26 ∷ Char 0x53 ∷ []
+unfolding symbols_after escape_at escape_of usual
+lone_escape_byte = refl
+
+-- written, they are C|&X0d&&X0a& and S&E&S
+hexadecimal_escapes_written :
+    spelled usual (record { kind = kinds.C; fields = (((Raw 0x0d ∷ Raw 0x0a ∷ []) ∷ []) ∷ []) ∷ [] })
+    ≡ 0x43 ∷ 0x7c ∷ 0x26 ∷ 0x58 ∷ 0x30 ∷ 0x64 ∷ 0x26 ∷ 0x26 ∷ 0x58 ∷ 0x30 ∷ 0x61 ∷ 0x26 ∷ []
+unfolding spelled_symbol encode_with usual
+hexadecimal_escapes_written = refl
+
+escape_byte_written :
+    spelled usual (record { kind = kinds.C; fields = (((Char 0x53 ∷ Char 0x26 ∷ Char 0x53 ∷ []) ∷ []) ∷ []) ∷ [] })
+    ≡ 0x43 ∷ 0x7c ∷ 0x53 ∷ 0x26 ∷ 0x45 ∷ 0x26 ∷ 0x53 ∷ []
+unfolding spelled_symbol usual
+escape_byte_written = refl
+
+-- a record without a field, and one with an empty field
+no_field_written : spelled usual (record { kind = kinds.L; fields = [] }) ≡ 0x4c ∷ []
+unfolding usual
+no_field_written = refl
+
+empty_field_written : spelled usual (record { kind = kinds.L; fields = (([] ∷ []) ∷ []) ∷ [] }) ≡ 0x4c ∷ 0x7c ∷ []
+unfolding usual
+empty_field_written = refl
+
+-- field 4 holds CR
+bad_character :
+    check_fault usual (record { kind = kinds.P; fields = (((Char 0x31 ∷ []) ∷ []) ∷ []) ∷ (([] ∷ []) ∷ []) ∷ (((Char 0x0d ∷ []) ∷ []) ∷ []) ∷ [] })
+    ≡ Some (CharNotText 4)
+unfolding check_fault spelled_symbol usual is_text_byte
+bad_character = refl
