@@ -1,3 +1,4 @@
+mod DefinitionRows
 pub mod Appends
 pub mod Counting
 pub mod Cuts
