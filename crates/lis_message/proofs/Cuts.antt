@@ -1,7 +1,7 @@
 -- How a cut goes on with the next bytes.
-use Rattle.std.proofs.Common.{◌≡◌, ◌≢◌, ℕ, ◌+◌, ◌<◌, ◌≤◌, List, [], ◌∷◌, ◌++◌, length, Option, Some, None, refl, sym, ◌∙◌, ap, subst, append_assoc, arith}
+use Rattle.std.proofs.Common.{◌≡◌, ◌≢◌, ℕ, ◌≤◌, List, [], ◌∷◌, ◌++◌, length, Option, Some, None, refl, sym, ◌∙◌, ap, subst, append_assoc, arith}
 use Rattle.std.specs.Option.{option_to_list}
-use Rattle.std.specs.List.{AllByRecursion, AllZip, flat_map}
+use Rattle.std.specs.List.{AllZip, flat_map}
 use Rattle.std.proofs.lemmas.List.{append-nil}
 use Rattle.std.proofs.lemmas.Grind.{flat_map-append}
 use Rattle.lis_record.specs.declared.kinds.Kind.{Kind}
@@ -12,11 +12,11 @@ use Rattle.lis_record.specs.Relation.{IsRecord}
 use Rattle.lis_record.specs.Shape.{RecordContent}
 use Rattle.lis_message.specs.Begun.{Begun}
 use Rattle.lis_message.specs.Level.{Level, outside, closed, next_level, level_after, misplaced, StandsFrom}
-use Rattle.lis_message.specs.Stream.{line, ended, kinds_of, level_of, AreMessage, AreBegun, AreLeft, IsCut, LacksReturn}
+use Rattle.lis_message.specs.Stream.{ended, kinds_of, level_of, AreMessage, IsCut, LacksReturn}
 use Rattle.lis_message.specs.Taking.{begun_with, Taken, header, inner, closing}
 use Rattle.lis_message.specs.Tree.{MessageTree, IsTree, flatten}
 use Rattle.lis_message.proofs.Levels.{map_append, level_append, stands_append}
-use Rattle.lis_message.proofs.Lines.{lacks_append, ended_append}
+use Rattle.lis_message.proofs.Lines.{lacks_append}
 
 -- nothing is read of no bytes
 pub cut_start : IsCut [] [] None []

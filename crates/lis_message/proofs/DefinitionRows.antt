@@ -1,5 +1,5 @@
 -- The definitions at records whose place in a message is known from outside, by computation.
-use Rattle.std.proofs.Common.{◌≡◌, ℕ, List, [], ◌∷◌, ◌++◌, None, Some, refl}
+use Rattle.std.proofs.Common.{◌≡◌, [], ◌∷◌, None, Some, refl}
 use Rattle.lis_record.specs.declared.kinds.Kind.{Kind}
 use Rattle.lis_record.specs.declared.kinds.Kind.TheVariants as kinds
 use Rattle.lis_record.specs.declared.faults.RecordFault.TheVariants as record_faults
@@ -10,7 +10,6 @@ use Rattle.lis_record.specs.Kinds.{kind_of}
 use Rattle.lis_record.specs.Shape.{Symbols, RecordContent}
 use Rattle.lis_record.specs.Text.{is_text_byte}
 use Rattle.lis_message.specs.declared.fault.Reason.TheVariants as reasons
-use Rattle.lis_message.specs.Begun.{Begun}
 use Rattle.lis_message.specs.Findings.{findings_from}
 use Rattle.lis_message.specs.Level.{outside, closed, level_after, misplaced}
 use Rattle.lis_message.specs.Stream.{refusal, kind_refusal}

@@ -1,5 +1,5 @@
 -- Where the next record stands after the records of a tree's parts, and that each of these stands where it may.
-use Rattle.std.proofs.Common.{◌≡◌, List, [], ◌∷◌, ◌++◌, map, Option, None, Some, refl, sym, ◌∙◌, ap, subst}
+use Rattle.std.proofs.Common.{◌≡◌, List, [], ◌∷◌, ◌++◌, None, refl, sym, ◌∙◌, ap, subst}
 use Rattle.std.specs.List.{AllByRecursion, flat_map}
 use Rattle.lis_record.specs.declared.kinds.Kind.{Kind}
 use Rattle.lis_record.specs.declared.kinds.Kind.TheVariants as kinds
@@ -12,7 +12,7 @@ use Rattle.lis_message.specs.declared.spine.Spine.{Spine}
 use Rattle.lis_message.specs.declared.spine.Spine.TheVariants as spines
 use Rattle.lis_message.specs.Level.{Level, outside, in_header, in_patient, in_order, in_query, closed, next_level, level_after, misplaced, StandsFrom}
 use Rattle.lis_message.specs.Stream.{kinds_of}
-use Rattle.lis_message.specs.Tree.{MessageTree, noted_records, order_records, patient_records, group_records, flatten, IsNote, AreNotes, IsNoted, IsOrder, IsPatient, IsGroup, IsTree}
+use Rattle.lis_message.specs.Tree.{MessageTree, noted_records, order_records, patient_records, group_records, IsNote, AreNotes, IsNoted, IsOrder, IsPatient, IsGroup, IsTree}
 use Rattle.lis_message.specs.Spine.{front_records, spine_records, spine_level, IsFront, IsSpine}
 
 -- a run of kinds that all stand, and where it leads

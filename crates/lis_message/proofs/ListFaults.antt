@@ -1,5 +1,5 @@
 -- What goes on while the records of a list are taken, and why no message is made of them.
-use Rattle.std.proofs.Common.{◌≡◌, ◌≢◌, ℕ, suc, ◌+◌, List, [], ◌∷◌, ◌++◌, length, min, Option, Some, None, ◌⊎◌, inl, inr, ⊎_elim, refl, sym, ◌∙◌, ap, subst, append_assoc, arith, length-append}
+use Rattle.std.proofs.Common.{◌≡◌, ◌≢◌, suc, ◌+◌, List, [], ◌∷◌, ◌++◌, length, Option, Some, None, ◌⊎◌, inl, inr, ⊎_elim, refl, sym, ◌∙◌, ap, subst, append_assoc, arith, length-append}
 use Rattle.std.specs.List.{flat_map}
 use Rattle.std.specs.Option.{option_to_list}
 use Rattle.std.specs.Prelude.{MatchOption}
@@ -9,13 +9,12 @@ use Rattle.lis_record.specs.declared.kinds.Kind.TheVariants as kinds
 use Rattle.lis_record.specs.Delimiters.{DelimiterBytes}
 use Rattle.lis_record.specs.Shape.{RecordContent}
 use Rattle.lis_message.specs.declared.fault.MessageFault.{MessageFault}
-use Rattle.lis_message.specs.declared.fault.Reason.{Reason}
 use Rattle.lis_message.specs.declared.fault.Reason.TheVariants as reasons
 use Rattle.lis_message.specs.Begun.{Begun}
 use Rattle.lis_message.specs.Level.{Level, outside, closed, next_level, level_after, misplaced, StandsFrom}
 use Rattle.lis_message.specs.Stream.{kinds_of, level_of, capped, IsListFault, IsMisplacedAt, IsUnclosed}
 use Rattle.lis_message.specs.Tree.{MessageTree, IsTree, flatten, group_records}
-use Rattle.lis_message.proofs.Levels.{map_append, level_append, stands_append, stands_back, tree_leads, IsInside, inside_takes}
+use Rattle.lis_message.proofs.Levels.{map_append, stands_back, tree_leads, inside_takes}
 use Rattle.lis_message.proofs.Cuts.{next_unclosed, level_more, stands_more}
 
 -- the open message has the first records of the list, and these are left

@@ -1,10 +1,9 @@
 -- Messages that are written are read back.
-use Rattle.std.proofs.Common.{◌≡◌, ℕ, ◌≤◌, List, [], ◌∷◌, ◌++◌, map, Option, Some, None, Result, Ok, Err, ◌⊎◌, inl, inr, ⊎_elim, refl, sym, ◌∙◌, ap, subst, arith}
+use Rattle.std.proofs.Common.{◌≡◌, ℕ, List, [], ◌∷◌, ◌++◌, map, Option, Some, None, Result, Ok, Err, ⊎_elim, refl, sym, ◌∙◌, ap, arith}
 use Rattle.std.specs.List.{AllByRecursion, AllZip, flat_map}
 use Rattle.std.specs.Prelude.{MatchOption, OnOk}
 use Rattle.std.proofs.lemmas.List.{append-nil}
 use Rattle.lis_record.specs.Delimiters.{DelimiterBytes, IsDelimiters}
-use Rattle.lis_record.specs.Faults.{check_fault}
 use Rattle.lis_record.specs.Relation.{IsRecord}
 use Rattle.lis_record.specs.Shape.{RecordContent, IsRecordShape}
 use Rattle.lis_record.specs.Spelling.{spelled, written}

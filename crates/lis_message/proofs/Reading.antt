@@ -1,21 +1,20 @@
 -- The records of a stream read one by one: a machine over the texts. What it reads is the stream's one cut.
-use Rattle.std.proofs.Common.{◌≡◌, ◌≢◌, ℕ, ◌+◌, ◌<◌, ◌≤◌, ◌⊎◌, inl, inr, ⊎_elim, List, [], ◌∷◌, ◌++◌, length, map, Option, Some, None, refl, sym, ◌∙◌, ap, subst, append_assoc, arith}
-use Rattle.std.specs.List.{AllByRecursion, AllZip, flat_map}
+use Rattle.std.proofs.Common.{◌≡◌, ◌≢◌, ℕ, List, [], ◌∷◌, ◌++◌, Option, Some, None, refl, sym, ◌∙◌, ap, subst, append_assoc}
+use Rattle.std.specs.List.{AllZip, flat_map}
 use Rattle.std.proofs.lemmas.List.{append-nil}
 use Rattle.lis_record.specs.declared.kinds.Kind.{Kind}
 use Rattle.lis_record.specs.declared.kinds.Kind.TheVariants as kinds
 use Rattle.lis_record.specs.Delimiters.{DelimiterBytes, IsDelimiters, delimiter_list}
-use Rattle.lis_record.specs.Kinds.{kind_of}
 use Rattle.lis_record.specs.Relation.{IsRecord, declared_part}
 use Rattle.lis_record.specs.Shape.{RecordContent}
 use Rattle.lis_record.proofs.RecordTexts.{IsRecord-one}
 use Rattle.lis_message.specs.Begun.{Begun}
 use Rattle.lis_message.specs.Level.{Level, outside, in_header, in_patient, in_order, in_query, closed, next_level, level_after, misplaced, StandsFrom}
-use Rattle.lis_message.specs.Stream.{ended, kinds_of, level_of, AreMessage, AreBegun, AreLeft, IsCut, LacksReturn}
+use Rattle.lis_message.specs.Stream.{ended, kinds_of, level_of, AreMessage, AreLeft, IsCut, LacksReturn}
 use Rattle.lis_message.specs.Tree.{MessageTree, IsTree, flatten, group_records}
 use Rattle.lis_message.proofs.Flatten.{flatten_one}
-use Rattle.lis_message.proofs.Levels.{IsInside, map_append, level_append, stands_front, stands_back, tree_leads}
-use Rattle.lis_message.proofs.Lines.{AllLack, all_lack_append, text_lacks, lines_one, ended_append}
+use Rattle.lis_message.proofs.Levels.{IsInside, map_append, level_append, tree_leads}
+use Rattle.lis_message.proofs.Lines.{AllLack, text_lacks, lines_one, ended_append}
 
 -- the messages that are read, and what is left
 pub record State : Type 0 where

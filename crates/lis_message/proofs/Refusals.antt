@@ -1,14 +1,13 @@
 -- A stream with a refused record has no cut.
-use Rattle.std.proofs.Common.{◌≡◌, ◌≢◌, ℕ, ◌+◌, ◌<◌, ◌≤◌, ◌⊎◌, ⊎_elim, List, [], ◌∷◌, ◌++◌, length, Option, Some, None, refl, sym, ◌∙◌, ap, subst, append_assoc, arith, length-append}
+use Rattle.std.proofs.Common.{◌≡◌, ◌≢◌, ℕ, ◌+◌, ◌≤◌, ⊎_elim, List, [], ◌∷◌, ◌++◌, length, Option, Some, None, refl, sym, ◌∙◌, ap, subst, append_assoc, arith, length-append}
 use Rattle.std.proofs.lemmas.List.{append-nil}
 use Rattle.std.specs.Option.{option_or}
 use Rattle.std.specs.Prelude.{option_map}
 use Rattle.lis_record.specs.declared.kinds.Kind.{Kind}
 use Rattle.lis_record.specs.declared.kinds.Kind.TheVariants as kinds
 use Rattle.lis_record.specs.declared.records.TheConstants.{RECORD_LIMIT}
-use Rattle.lis_record.specs.Delimiters.{DelimiterBytes, IsDelimiters}
+use Rattle.lis_record.specs.Delimiters.{DelimiterBytes}
 use Rattle.lis_record.specs.Faults.{header_fault, record_fault}
-use Rattle.lis_record.specs.Kinds.{kind_of}
 use Rattle.lis_record.specs.Relation.{IsRecord, declared_part}
 use Rattle.lis_record.specs.Shape.{RecordContent}
 use Rattle.lis_record.proofs.FaultLaws.{header_fault-IsRecord, record_fault-IsRecord}
@@ -20,7 +19,7 @@ use Rattle.lis_message.specs.Level.{misplaced}
 use Rattle.lis_message.specs.Stream.{ended, level_of, kind_refusal, letter_refusal, refusal, IsCut, IsRefused, IsRefusedText, IsLongText, LacksReturn}
 use Rattle.lis_message.specs.Tree.{MessageTree}
 use Rattle.lis_message.proofs.Lines.{line_one, lines_front, longer_front, ended_cons, no_return_in}
-use Rattle.lis_message.proofs.Reading.{State, Step, StepFrom, Run, Heads, Adds, start, all_texts, cut_runs, cut_lines, run_lacks, run_one, run_split, step_lacks}
+use Rattle.lis_message.proofs.Reading.{State, Step, StepFrom, Run, start, all_texts, cut_runs, cut_lines, run_lacks, run_one, run_split, step_lacks}
 
 -- why a text that is some record can't come next is told by its kind
 pub refusal_at : (left : Option Begun) (d : DelimiterBytes) (text : List ℕ) (r : RecordContent) → IsRecord d text r → refusal left text ≡ kind_refusal left r.kind text

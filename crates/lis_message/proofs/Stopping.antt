@@ -1,15 +1,14 @@
 -- Where a stream is read, and where its reading stops.
-use Rattle.std.proofs.Common.{◌≡◌, ◌≢◌, ℕ, ◌+◌, ◌<◌, ◌≤◌, ◌⊎◌, inl, inr, ⊎_elim, List, [], ◌∷◌, ◌++◌, length, take, drop, Option, Some, None, refl, zero, suc, sym, ◌∙◌, ap, subst, append_assoc, arith, length-append, length-take}
+use Rattle.std.proofs.Common.{◌≡◌, ℕ, ◌+◌, ◌<◌, ◌≤◌, ◌⊎◌, inl, inr, ⊎_elim, List, [], ◌∷◌, ◌++◌, length, take, drop, Option, Some, refl, zero, suc, sym, ◌∙◌, ap, subst, append_assoc, arith, length-take}
 use Rattle.std.specs.Option.{option_to_list}
 use Rattle.std.specs.List.{flat_map}
 use Rattle.std.proofs.lemmas.List.{append-nil, take-append-drop}
 use Rattle.lis_record.specs.declared.records.TheConstants.{RECORD_LIMIT}
 use Rattle.lis_message.specs.declared.fault.MessageFault.{MessageFault}
-use Rattle.lis_message.specs.declared.fault.Reason.{Reason}
 use Rattle.lis_message.specs.declared.fault.Reason.TheVariants as reasons
 use Rattle.lis_message.specs.Begun.{Begun}
-use Rattle.lis_message.specs.Feeding.{Unended, Stops, Goes, StopsIn, IsFrontCut, next_place}
-use Rattle.lis_message.specs.Stream.{ended, refusal, IsCut, IsRefused, IsRefusedText, IsLongText, LacksReturn}
+use Rattle.lis_message.specs.Feeding.{Unended, Stops, Goes, StopsIn, next_place}
+use Rattle.lis_message.specs.Stream.{ended, refusal, IsCut, IsRefused, LacksReturn}
 use Rattle.lis_message.specs.Taking.{Taken}
 use Rattle.lis_message.specs.Tree.{MessageTree}
 use Rattle.lis_message.proofs.Cuts.{cut_hold, cut_taken}

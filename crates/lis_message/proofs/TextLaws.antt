@@ -1,11 +1,10 @@
 -- The texts of a message, joined, and each as a link text.
-use Rattle.std.proofs.Common.{◌≡◌, ℕ, ◌+◌, ◌≤◌, Bool, true, false, cond, List, [], ◌∷◌, ◌++◌, length, map, Option, Some, None, refl, sym, ◌∙◌, ap, arith, length-append}
+use Rattle.std.proofs.Common.{◌≡◌, ℕ, ◌+◌, ◌≤◌, true, false, cond, List, [], ◌∷◌, ◌++◌, length, map, Some, None, refl, ◌∙◌, ap, arith, length-append}
 use Rattle.std.specs.Prelude.{option_map, nat_lt, if◌then◌else◌}
 use Rattle.std.specs.List.{AllByRecursion, flat_map, position_from}
 use Rattle.std.proofs.lemmas.Bool.Decides.{nat_tests}
 use Rattle.std.proofs.lemmas.List.Elements.{recursion_from_All}
 use Rattle.lis_frame.specs.Text.{is_forbidden, longest_text, text_fault}
-use Rattle.lis_frame.specs.declared.text.TextFault.{TextFault}
 use Rattle.lis_frame.specs.declared.text.TextFault.TheVariants.{TooLong, Forbidden}
 use Rattle.lis_record.specs.Delimiters.{DelimiterBytes, IsDelimiters}
 use Rattle.lis_record.specs.Shape.{RecordContent, IsRecordShape}

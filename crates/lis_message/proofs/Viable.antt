@@ -3,7 +3,6 @@ use Rattle.std.proofs.Common.{◌≡◌, ◌≢◌, Bool, true, false, List, [],
 use Rattle.std.specs.Prelude.{if◌then◌else◌}
 use Rattle.std.specs.List.{AllByRecursion}
 use Rattle.std.specs.Option.{option_or}
-use Rattle.std.proofs.lemmas.List.{append-nil}
 use Rattle.lis_record.specs.declared.kinds.Kind.{Kind}
 use Rattle.lis_record.specs.declared.kinds.Kind.TheVariants as kinds
 use Rattle.lis_message.specs.Hierarchy.{last_of, is_group, is_group_or_order, HasParent, HasHeaderFirst, IsViable}

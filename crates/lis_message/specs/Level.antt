@@ -1,5 +1,5 @@
 -- The hierarchy of LIS02-A2's records as a machine that goes over their kinds.
-use Rattle.std.specs.Prelude.{◌≡◌, List, [], ◌∷◌, ◌++◌, Option, Some, None, fold, ⊤, map}
+use Rattle.std.specs.Prelude.{◌≡◌, List, [], ◌∷◌, Option, Some, None, ⊤}
 use Rattle.lis_record.specs.declared.kinds.Kind.{Kind}
 use Rattle.lis_record.specs.declared.kinds.Kind.TheVariants as kinds
 use Rattle.lis_message.specs.declared.fault.Reason.{Reason}

@@ -1,8 +1,8 @@
 -- What an open message keeps.
-use Rattle.std.specs.Prelude.{◌≡◌, ℕ, List, length}
+use Rattle.std.specs.Prelude.{◌≡◌, ℕ, length}
 use Rattle.std.specs.List.{AllByRecursion}
 use Rattle.lis_record.specs.Delimiters.{DelimiterBytes, IsDelimiters}
-use Rattle.lis_record.specs.Shape.{RecordContent, IsRecordShape}
+use Rattle.lis_record.specs.Shape.{IsRecordShape}
 use Rattle.lis_message.specs.Spine.{spine_records, IsSpine}
 use Rattle.lis_message.specs.Stream.{capped}
 use Rattle.lis_message.specs.declared.spine.Spine.{Spine}

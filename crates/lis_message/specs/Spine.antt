@@ -1,5 +1,5 @@
 -- A message that isn't whole yet: its records in order, and where the next one will stand.
-use Rattle.std.specs.Prelude.{◌≡◌, List, [], ◌∷◌, ◌++◌}
+use Rattle.std.specs.Prelude.{◌≡◌, List, ◌∷◌, ◌++◌}
 use Rattle.std.specs.List.{flat_map, AllByRecursion}
 use Rattle.lis_record.specs.declared.kinds.Kind.TheVariants as kinds
 use Rattle.lis_record.specs.Shape.{RecordContent}

@@ -6,7 +6,7 @@ use Rattle.lis_record.specs.declared.kinds.Kind.{Kind}
 use Rattle.lis_record.specs.declared.kinds.Kind.TheVariants as kinds
 use Rattle.lis_record.specs.declared.faults.RecordFault.TheVariants as record_faults
 use Rattle.lis_record.specs.declared.records.TheConstants.{RECORD_LIMIT}
-use Rattle.lis_record.specs.Delimiters.{DelimiterBytes, IsDelimiters}
+use Rattle.lis_record.specs.Delimiters.{IsDelimiters}
 use Rattle.lis_record.specs.Faults.{header_fault, record_fault}
 use Rattle.lis_record.specs.Kinds.{kind_of}
 use Rattle.lis_record.specs.Relation.{IsRecord}

@@ -1,5 +1,5 @@
 -- Why a message has no texts.
-use Rattle.std.specs.Prelude.{◌≡◌, ◌<◌, ◌≤◌, length, Option, Some, None}
+use Rattle.std.specs.Prelude.{◌≡◌, ◌<◌, ◌≤◌, length, Some, None}
 use Rattle.lis_message.specs.declared.texts.TextsFault.{TextsFault}
 use Rattle.lis_message.specs.declared.texts.TextsFault.TheVariants.{BadRecord, TooMany, OutOfMemory}
 use Rattle.lis_message.specs.Tree.{MessageTree, flatten}

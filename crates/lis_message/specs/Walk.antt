@@ -1,5 +1,5 @@
 -- What is left of a walk over a message's records.
-use Rattle.std.specs.Prelude.{List, [], ◌++◌, Option, map, option_map}
+use Rattle.std.specs.Prelude.{List, ◌++◌, Option}
 use Rattle.std.specs.List.{flat_map}
 use Rattle.std.specs.Option.{option_to_list}
 use Rattle.lis_record.specs.Shape.{RecordContent}

@@ -1,4 +1,4 @@
-use Rattle.std.proofs.Common.{◌≡◌, ◌+◌, ◌*◌, ◌^◌, ◌<◌, ◌≤◌, drop, sym, ◌∙◌, ap, arith}
+use Rattle.std.proofs.Common.{◌+◌, drop, sym, ◌∙◌, ap, arith}
 use Rattle.lis_message.specs.Numbers.{digits_from}
 use Rattle.lis_message.proofs.Counting.{at_symbol, digit_more, digits_in, no_digit, pow_more}
 use Rattle.lis_message.proofs.findings.component_number.Goals as goal

@@ -1,4 +1,4 @@
-use Rattle.std.proofs.Common.{◌≡◌, sym, ◌∙◌, ap}
+use Rattle.std.proofs.Common.{sym, ◌∙◌, ap}
 use Rattle.lis_record.specs.Shape.{field_at}
 use Rattle.lis_message.specs.Numbers.{expected_number, field_number, is_number, is_numbered}
 use Rattle.lis_message.specs.Stream.{capped}

@@ -1,4 +1,4 @@
-use Rattle.std.proofs.Common.{◌≡◌, ◌∷◌, ◌+◌, sym, ◌∙◌, ap, subst, arith}
+use Rattle.std.proofs.Common.{◌≡◌, ◌∷◌, ◌+◌, subst, arith}
 use Rattle.lis_record.specs.declared.kinds.Kind.{Kind}
 use Rattle.lis_message.specs.Findings.{findings_of}
 use Rattle.lis_message.specs.Numbers.{CountsOf}

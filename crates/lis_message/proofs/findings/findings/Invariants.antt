@@ -1,4 +1,4 @@
-use Rattle.std.proofs.Common.{◌≡◌, ℕ, ◌++◌, [], List, length}
+use Rattle.std.proofs.Common.{◌≡◌, ℕ, ◌++◌, List, length}
 use Rattle.lis_record.specs.declared.kinds.Kind.{Kind}
 use Rattle.lis_message.specs.Findings.{findings_from, findings_of}
 use Rattle.lis_message.specs.Numbers.{CountsOf}

@@ -1,4 +1,4 @@
-use Rattle.std.proofs.Common.{◌≡◌, subst}
+use Rattle.std.proofs.Common.{subst}
 use Rattle.lis_message.specs.Feeding.{ReadsWhole}
 use Rattle.lis_message.proofs.ReadBack.{reads_back}
 use Rattle.lis_message.proofs.reader.read_messages.Goals as goal

@@ -1,4 +1,4 @@
-use Rattle.std.proofs.Common.{◌≡◌, ℕ, List, [], ◌∷◌, ◌++◌, sym, ◌∙◌, ap, subst, append_assoc}
+use Rattle.std.proofs.Common.{◌≡◌, [], ◌∷◌, ◌++◌, sym, ◌∙◌, ap, subst, append_assoc}
 use Rattle.lis_message.specs.Feeding.{StopsIn}
 use Rattle.lis_message.proofs.Stopping.{goes_then, goes_stops}
 use Rattle.lis_message.proofs.reader.read_piece.Goals as goal

@@ -1,4 +1,4 @@
-use Rattle.std.proofs.Common.{◌≡◌, sym, ◌∙◌}
+use Rattle.std.proofs.Common.{sym}
 use Rattle.lis_message.proofs.Whole.{start_reads, whole_fault, whole_read, whole_short}
 use Rattle.lis_message.proofs.reader.read_whole.Goals as goal
 

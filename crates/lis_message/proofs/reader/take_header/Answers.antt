@@ -1,4 +1,4 @@
-use Rattle.std.proofs.Common.{◌≡◌, Some, refl, ap}
+use Rattle.std.proofs.Common.{Some, refl, ap}
 use Rattle.lis_message.specs.Taking.{header}
 use Rattle.lis_message.proofs.TakingLaws.{header_refused}
 use Rattle.lis_message.proofs.reader.take_header.Goals as goal

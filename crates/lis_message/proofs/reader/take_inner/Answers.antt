@@ -1,4 +1,4 @@
-use Rattle.std.proofs.Common.{◌≡◌, subst}
+use Rattle.std.proofs.Common.{subst}
 use Rattle.lis_record.specs.Faults.{TellsFault, record_fault}
 use Rattle.lis_record.specs.Relation.{IsRecord}
 use Rattle.lis_message.proofs.TakingLaws.{inner_refused, place_refused}

@@ -1,4 +1,4 @@
-use Rattle.std.proofs.Common.{◌≡◌, Some, refl, sym, ◌∙◌, ap}
+use Rattle.std.proofs.Common.{Some, refl, sym, ◌∙◌, ap}
 use Rattle.lis_message.specs.Level.{misplaced}
 use Rattle.lis_message.specs.Stream.{level_of}
 use Rattle.lis_message.specs.Taking.{inner, closing}

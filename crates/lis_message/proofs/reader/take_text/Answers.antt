@@ -1,4 +1,4 @@
-use Rattle.std.proofs.Common.{◌≡◌, inr, sym, ◌∙◌, ap}
+use Rattle.std.proofs.Common.{inr, sym, ◌∙◌, ap}
 use Rattle.lis_message.specs.Taking.{front_refusal}
 use Rattle.lis_message.proofs.TakingLaws.{front_refused}
 use Rattle.lis_message.proofs.reader.take_text.Goals as goal

@@ -1,4 +1,4 @@
-use Rattle.std.proofs.Common.{◌≡◌, ◌+◌, ap, length, arith}
+use Rattle.std.proofs.Common.{◌+◌, ap, length, arith}
 use Rattle.lis_message.proofs.walk.count.Goals as goal
 
 pub loop-entry-preserved : goal.loop-entry-preserved

@@ -1,4 +1,4 @@
-use Rattle.std.proofs.Common.{◌≡◌, ◌∷◌, ◌+◌, ◌≤◌, Err, sym, ◌∙◌, subst, arith}
+use Rattle.std.proofs.Common.{◌≡◌, ◌∷◌, ◌+◌, ◌≤◌, Err, sym, subst, arith}
 use Rattle.lis_message.specs.Stream.{capped}
 use Rattle.lis_message.specs.Writing.{AreWritable, WroteRecords, first_length}
 use Rattle.lis_message.proofs.WritingLaws.{wrote_step, wrote_stop}

@@ -1,6 +1,5 @@
-use Rattle.std.proofs.Common.{◌≡◌, ◌≢◌, ◌⊎◌, ◌∷◌, [], inr, refl, sym, ◌∙◌, ap, Some, None}
+use Rattle.std.proofs.Common.{◌≡◌, [], inr, refl, sym, ◌∙◌, ap, Some}
 use Rattle.std.proofs.lemmas.List.{nil_from_length}
-use Rattle.lis_record.specs.declared.kinds.Kind.TheVariants as kinds
 use Rattle.lis_message.specs.declared.fault.Reason.TheVariants as reasons
 use Rattle.lis_message.specs.Level.{misplaced}
 use Rattle.lis_message.specs.Stream.{level_of}

@@ -1,7 +1,5 @@
-use Rattle.std.proofs.Common.{◌≡◌, ◌≢◌, ◌++◌, length}
+use Rattle.std.proofs.Common.{length}
 use Rattle.std.specs.Vec.Iter.{into_iter_items}
-use Rattle.lis_message.specs.Level.{outside, closed, level_after, StandsFrom}
-use Rattle.lis_message.specs.Stream.{kinds_of}
 use Rattle.lis_message.proofs.ListFaults.{IsSoFar}
 use Rattle.lis_message.proofs.message.Message.from_records.Given as goal
 

@@ -1,4 +1,4 @@
-use Rattle.std.proofs.Common.{◌≡◌, sym, ap, ◌∙◌}
+use Rattle.std.proofs.Common.{sym, ap, ◌∙◌}
 use Rattle.lis_message.specs.Begun.{Begun}
 use Rattle.lis_message.specs.Level.{misplaced, level_after, outside}
 use Rattle.lis_message.specs.Stream.{kinds_of}

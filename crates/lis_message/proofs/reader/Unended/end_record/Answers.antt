@@ -1,4 +1,3 @@
-use Rattle.std.proofs.Common.{◌≡◌}
 use Rattle.lis_message.proofs.reader.Unended.end_record.Goals as goal
 
 pub returns-clause-ok : goal.returns-clause-ok
