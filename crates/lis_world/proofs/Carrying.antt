@@ -26,7 +26,7 @@ use Rattle.lis_world.proofs.Invariant.{IsSound, Holds}
 use Rattle.lis_world.proofs.Leaving.{heard_replies}
 use Rattle.lis_world.proofs.Hearing.{at_past}
 use Rattle.lis_world.proofs.BadHeard.{signals-bad_stretch}
-use Rattle.lis_world.proofs.Fitting.{few-session_frames}
+use Rattle.lis_link.proofs.Counting.{few-session_frames}
 use Rattle.lis_world.proofs.Starting.{can_start}
 use Rattle.lis_world.proofs.Sending.{zero_mute}
 use Rattle.lis_world.proofs.Safety.{event_holds, runs_hold, new_holds, whole_prefix, prefix_trans, hands_out_all_from_sound}

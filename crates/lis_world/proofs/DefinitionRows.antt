@@ -7,10 +7,26 @@ use Rattle.lis_frame.specs.Pieces.{session_frames, pieces}
 use Rattle.lis_link.specs.declared.sender.Outcome.TheVariants.{Done, TimedOut, Restarted}
 use Rattle.lis_world.specs.declared.event.Event.{Event}
 use Rattle.lis_world.specs.declared.event.Event.TheVariants.{Start, Deliver, DeliverNoRoom, Damage, Reply, DamageReply, SenderTimer, RestartSender, RestartReceiver, Contending}
+use Rattle.lis_world.specs.Session.{Session}
 use Rattle.lis_world.specs.Steps.{world}
 
 one_letter : ℕ → FrameContent
 one_letter letter = record { number = 1; last = true; text = letter ∷ [] }
+
+-- the session of this text: done, or given up after the frame was accepted
+done_letter : ℕ → Session
+done_letter letter =
+    record {
+      texts = (letter ∷ []) ∷ [];
+      sent = one_letter letter ∷ [];
+      accepted = one_letter letter ∷ [];
+      acknowledged = 1;
+      handed = (letter ∷ []) ∷ [];
+      outcome = Some Done;
+    }
+
+unheard_letter : ℕ → Session
+unheard_letter letter = record (done_letter letter) { acknowledged = 0; outcome = Some TimedOut }
 
 no_session : (world 240 []).sessions ≡ []
 no_session = refl
@@ -33,16 +49,9 @@ sent_again_and_taken_once_events =
 
 sent_again_and_taken_once :
     (world 240 sent_again_and_taken_once_events).sessions
-    ≡ record {
-      texts = (0x41 ∷ []) ∷ [];
-      sent = one_letter 0x41 ∷ [];
-      accepted = one_letter 0x41 ∷ [];
-      acknowledged = 1;
-      handed = (0x41 ∷ []) ∷ [];
-      outcome = Some Done;
-    }
+    ≡ done_letter 0x41
     ∷ []
-unfolding signal_after open_stretch stretch_fault session_frames pieces frame_bytes one_letter sent_again_and_taken_once_events
+unfolding signal_after open_stretch stretch_fault session_frames pieces frame_bytes one_letter done_letter unheard_letter sent_again_and_taken_once_events
 sent_again_and_taken_once = refl
 
 -- the sender gives up before its frame has come: the frame counts for its own session, and its ACK comes too late
@@ -64,24 +73,10 @@ late_frame_is_of_its_session_events =
 
 late_frame_is_of_its_session :
     (world 240 late_frame_is_of_its_session_events).sessions
-    ≡ record {
-      texts = (0x41 ∷ []) ∷ [];
-      sent = one_letter 0x41 ∷ [];
-      accepted = one_letter 0x41 ∷ [];
-      acknowledged = 0;
-      handed = (0x41 ∷ []) ∷ [];
-      outcome = Some TimedOut;
-    }
-    ∷ record {
-      texts = (0x42 ∷ []) ∷ [];
-      sent = one_letter 0x42 ∷ [];
-      accepted = one_letter 0x42 ∷ [];
-      acknowledged = 1;
-      handed = (0x42 ∷ []) ∷ [];
-      outcome = Some Done;
-    }
+    ≡ unheard_letter 0x41
+    ∷ done_letter 0x42
     ∷ []
-unfolding signal_after open_stretch stretch_fault session_frames pieces frame_bytes one_letter late_frame_is_of_its_session_events
+unfolding signal_after open_stretch stretch_fault session_frames pieces frame_bytes one_letter done_letter unheard_letter late_frame_is_of_its_session_events
 late_frame_is_of_its_session = refl
 
 -- an ENQ can't be damaged to a bad frame, a frame can: it is refused and sent again
@@ -100,16 +95,9 @@ damaged_frame_is_sent_again_events =
 
 damaged_frame_is_sent_again :
     (world 240 damaged_frame_is_sent_again_events).sessions
-    ≡ record {
-      texts = (0x41 ∷ []) ∷ [];
-      sent = one_letter 0x41 ∷ [];
-      accepted = one_letter 0x41 ∷ [];
-      acknowledged = 1;
-      handed = (0x41 ∷ []) ∷ [];
-      outcome = Some Done;
-    }
+    ≡ done_letter 0x41
     ∷ []
-unfolding signal_after open_stretch stretch_fault session_frames pieces frame_bytes one_letter damaged_frame_is_sent_again_events
+unfolding signal_after open_stretch stretch_fault session_frames pieces frame_bytes one_letter done_letter unheard_letter damaged_frame_is_sent_again_events
 damaged_frame_is_sent_again = refl
 
 -- so the ENQ is delivered; the session goes on
@@ -131,7 +119,7 @@ damage_of_an_enquiry_is_not_allowed :
       outcome = None;
     }
     ∷ []
-unfolding signal_after open_stretch stretch_fault session_frames pieces frame_bytes one_letter damage_of_an_enquiry_is_not_allowed_events
+unfolding signal_after open_stretch stretch_fault session_frames pieces frame_bytes one_letter done_letter unheard_letter damage_of_an_enquiry_is_not_allowed_events
 damage_of_an_enquiry_is_not_allowed = refl
 
 -- there is no room for the frame, and then there is
@@ -149,16 +137,9 @@ no_room_is_answered_by_sending_again_events =
 
 no_room_is_answered_by_sending_again :
     (world 240 no_room_is_answered_by_sending_again_events).sessions
-    ≡ record {
-      texts = (0x41 ∷ []) ∷ [];
-      sent = one_letter 0x41 ∷ [];
-      accepted = one_letter 0x41 ∷ [];
-      acknowledged = 1;
-      handed = (0x41 ∷ []) ∷ [];
-      outcome = Some Done;
-    }
+    ≡ done_letter 0x41
     ∷ []
-unfolding signal_after open_stretch stretch_fault session_frames pieces frame_bytes one_letter no_room_is_answered_by_sending_again_events
+unfolding signal_after open_stretch stretch_fault session_frames pieces frame_bytes one_letter done_letter unheard_letter no_room_is_answered_by_sending_again_events
 no_room_is_answered_by_sending_again = refl
 
 -- the receiver answers ENQ with ENQ; the sender waits, and asks again
@@ -178,16 +159,9 @@ contention_ends_with_the_timer_events =
 
 contention_ends_with_the_timer :
     (world 240 contention_ends_with_the_timer_events).sessions
-    ≡ record {
-      texts = (0x41 ∷ []) ∷ [];
-      sent = one_letter 0x41 ∷ [];
-      accepted = one_letter 0x41 ∷ [];
-      acknowledged = 1;
-      handed = (0x41 ∷ []) ∷ [];
-      outcome = Some Done;
-    }
+    ≡ done_letter 0x41
     ∷ []
-unfolding signal_after open_stretch stretch_fault session_frames pieces frame_bytes one_letter contention_ends_with_the_timer_events
+unfolding signal_after open_stretch stretch_fault session_frames pieces frame_bytes one_letter done_letter unheard_letter contention_ends_with_the_timer_events
 contention_ends_with_the_timer = refl
 
 -- the sender is restarted before the line is open: no late reply reaches it, and its next session is whole
@@ -215,16 +189,9 @@ a_restarted_session_ends :
       handed = [];
       outcome = Some Restarted;
     }
-    ∷ record {
-      texts = (0x42 ∷ []) ∷ [];
-      sent = one_letter 0x42 ∷ [];
-      accepted = one_letter 0x42 ∷ [];
-      acknowledged = 1;
-      handed = (0x42 ∷ []) ∷ [];
-      outcome = Some Done;
-    }
+    ∷ done_letter 0x42
     ∷ []
-unfolding signal_after open_stretch stretch_fault session_frames pieces frame_bytes one_letter a_restarted_session_ends_events
+unfolding signal_after open_stretch stretch_fault session_frames pieces frame_bytes one_letter done_letter unheard_letter a_restarted_session_ends_events
 a_restarted_session_ends = refl
 
 -- the frame of a session that was given up is taken, and the reply to it is dropped, in the next session too
@@ -241,14 +208,7 @@ late_reply_never_comes_events =
 
 late_reply_never_comes :
     (world 240 late_reply_never_comes_events).sessions
-    ≡ record {
-      texts = (0x41 ∷ []) ∷ [];
-      sent = one_letter 0x41 ∷ [];
-      accepted = one_letter 0x41 ∷ [];
-      acknowledged = 0;
-      handed = (0x41 ∷ []) ∷ [];
-      outcome = Some TimedOut;
-    }
+    ≡ unheard_letter 0x41
     ∷ record {
       texts = (0x42 ∷ []) ∷ [];
       sent = [];
@@ -258,7 +218,7 @@ late_reply_never_comes :
       outcome = None;
     }
     ∷ []
-unfolding signal_after open_stretch stretch_fault session_frames pieces frame_bytes one_letter late_reply_never_comes_events
+unfolding signal_after open_stretch stretch_fault session_frames pieces frame_bytes one_letter done_letter unheard_letter late_reply_never_comes_events
 late_reply_never_comes = refl
 
 -- the number of a frame that is sent again comes round to 0
