@@ -17,3 +17,4 @@ pub mod Safety
 pub mod Fitting
 pub mod Rounds
 pub mod Carrying
+pub mod PlayingLaws

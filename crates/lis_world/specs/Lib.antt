@@ -5,3 +5,5 @@ pub mod World
 pub mod Steps
 pub mod Safe
 pub mod Progress
+pub mod Loads
+pub mod Playing

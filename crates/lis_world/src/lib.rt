@@ -2,7 +2,14 @@
 //! over every list of events.
 #![tactic(auto)]
 
+mod desk;
 pub mod event;
 pub mod laws;
+pub mod playing;
+mod run;
+pub mod session;
+mod unit;
 
 pub use event::{Event, Events};
+pub use playing::{History, HistoryOf, PlayFault, play, play_of};
+pub use session::{Session, SessionOf};

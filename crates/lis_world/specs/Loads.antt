@@ -1,0 +1,10 @@
+-- The unit that the program sends.
+use Rattle.std.specs.Prelude.{ℕ}
+use Rattle.lis_world.specs.Unit.{Load, enquiry, ending, one_frame}
+use Rattle.lis_world.specs.declared.unit.LoadOf.{LoadOf}
+use Rattle.lis_world.specs.declared.unit.LoadOf.TheVariants as Loads
+
+abbrev pub load_of : {limit : ℕ} → LoadOf limit → Load
+load_of Loads.Enquiry = enquiry
+load_of Loads.Ending = ending
+load_of (Loads.Frame frame) = one_frame frame

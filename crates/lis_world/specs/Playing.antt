@@ -1,0 +1,141 @@
+-- What the program that plays events keeps.
+use Rattle.std.specs.Prelude.{◌≡◌, ℕ, Bool, true, false, List, length, [], ◌∷◌, ◌++◌, Option, Some}
+use Rattle.lis_frame.specs.declared.scanner.SignalOf.{SignalOf}
+use Rattle.lis_frame.specs.declared.scanner.SignalOf.TheVariants.{Good}
+use Rattle.lis_frame.specs.Frame.{FrameContent}
+use Rattle.lis_frame.specs.Scanner.{Held, StandsFor}
+use Rattle.lis_link.specs.Kept.{Kept}
+use Rattle.lis_link.specs.declared.receiver.Note.TheVariants.{Accepted}
+use Rattle.lis_link.specs.Receiver.{ReceiverState, ReceiverStep}
+use Rattle.lis_link.specs.Stands.{IsIn}
+use Rattle.lis_world.specs.Session.{Session, with_more, changed, sends_frame}
+use Rattle.lis_link.specs.declared.sender.Outcome.{Outcome}
+use Rattle.lis_link.specs.declared.sender.Phase.{Phase}
+use Rattle.lis_link.specs.declared.sender.Phase.TheVariants as Phases
+use Rattle.lis_link.specs.Sender.{SenderState}
+use Rattle.lis_world.specs.Unit.{Load, Travelling, one_frame}
+use Rattle.lis_world.specs.World.{World, Desk, hears}
+use Rattle.lis_world.specs.declared.event.Event.{Event}
+use Rattle.lis_world.specs.Steps.{is_noticed, runs}
+use Rattle.lis_frame.specs.Stream.{signals_after}
+
+-- the computer's side, with what the receiver keeps
+pub record KeptDesk : Type 0 where
+  pub receiver : Kept
+  pub opened : ℕ
+  pub sessions : List Session
+  pub replies : List ℕ
+
+-- with a state that the receiver is in
+abbrev pub desk_at : KeptDesk → ReceiverState → Desk
+desk_at kept r = record { receiver = r; opened = kept.opened; sessions = kept.sessions; replies = kept.replies }
+
+-- it is this one
+pub record IsDesk (limit : ℕ) (kept : KeptDesk) (desk : Desk) : Type 0 where
+  pub receiver_is : IsIn limit kept.receiver desk.receiver
+  pub desk_is : desk_at kept desk.receiver ≡ desk
+
+-- what is accepted is the frame that was heard
+pub record IsGood {limit : ℕ} (signal : Option (SignalOf limit)) (step : ReceiverStep) : Type 0 where
+  pub frame : FrameContent
+  pub signal_is : signal ≡ Some (Good frame)
+  pub taken_is : step.taken ≡ Some frame
+
+abbrev pub IsHeardAs : {limit : ℕ} → Option (SignalOf limit) → ReceiverStep → Type 0
+IsHeardAs signal step = (number : ℕ) → step.note ≡ Accepted number → IsGood signal step
+
+-- while bytes are heard: the rest, heard from here, leads to the same desk
+pub record IsHearing (limit session : ℕ) (kept : KeptDesk) (scanner : Held) (left : List ℕ) (goal : Desk) : Type 0 where
+  pub state : ReceiverState
+  pub is_in : IsIn limit kept.receiver state
+  pub stream : StandsFor limit scanner state.past
+  pub goes_on : hears limit session left (desk_at kept state) ≡ goal
+
+-- the session with a frame that was accepted, and the text handed out with it
+abbrev pub takes_frame : FrameContent → Option (List ℕ) → Session → Session
+takes_frame frame message x = record x { accepted = x.accepted ++ frame ∷ []; handed = with_more x.handed message }
+
+-- the session with a frame that was put on the link
+unfoldable pub sends : FrameContent → Session → Session
+sends frame x = sends_frame frame x
+
+-- the session with the sender's count and outcome
+abbrev pub follows_with : ℕ → Option Outcome → Session → Session
+follows_with acknowledged outcome x = record x { acknowledged = acknowledged; outcome = outcome }
+
+-- all that the program keeps
+pub record KeptWorld : Type 0 where
+  pub sender : SenderState
+  pub desk : KeptDesk
+  pub units : List Travelling
+  pub replies : List ℕ
+  pub mute : ℕ
+  pub current : ℕ
+
+-- with a state that the receiver is in
+abbrev pub world_at : KeptWorld → ReceiverState → World
+world_at kept r =
+    record {
+      sender = kept.sender;
+      receiver = r;
+      units = kept.units;
+      replies = kept.replies;
+      mute = kept.mute;
+      current = kept.current;
+      opened = kept.desk.opened;
+      sessions = kept.desk.sessions;
+    }
+
+-- it is this one
+pub record IsWorld (limit : ℕ) (kept : KeptWorld) (w : World) : Type 0 where
+  pub receiver_is : IsIn limit kept.desk.receiver w.receiver
+  pub world_is : world_at kept w.receiver ≡ w
+
+-- whether damage is noticed, where one bad frame was heard of it or none
+abbrev pub still_noticed : {limit : ℕ} → Bool → Load → List (SignalOf limit) → Bool
+still_noticed false load signals = is_noticed load signals
+still_noticed true load [] = true
+still_noticed true load (signal ∷ signals) = false
+
+-- while damage is heard
+pub record IsNoticing (limit : ℕ) (load : Load) (is_bad : Bool) (scanner : Held) (left : List ℕ) (goal : Bool) : Type 0 where
+  pub past : List ℕ
+  pub stream : StandsFor limit scanner past
+  pub goes_on : still_noticed is_bad load (signals_after limit past left) ≡ goal
+
+-- whether there is a unit, and damage in its place is noticed
+abbrev pub front_noticed : List Travelling → (Load → Bool) → Bool
+front_noticed [] notices = false
+front_noticed (front ∷ units) notices = notices front.load
+
+-- parts of an event, of what the program keeps
+abbrev pub kept_forgotten : KeptWorld → KeptWorld
+kept_forgotten kept = record kept { replies = []; mute = length kept.units }
+
+abbrev pub kept_given_up : Phase → KeptWorld → KeptWorld
+kept_given_up Phases.Neutral kept = kept
+kept_given_up Phases.AwaitLine kept = kept_forgotten kept
+kept_given_up Phases.Busy kept = kept
+kept_given_up Phases.Contention kept = kept
+kept_given_up Phases.AwaitReply kept = kept_forgotten kept
+
+abbrev pub kept_following : KeptWorld → KeptWorld
+kept_following kept =
+    record kept {
+      desk = record kept.desk { sessions = changed kept.current (follows_with kept.sender.acknowledged kept.sender.outcome) kept.desk.sessions };
+    }
+
+abbrev pub kept_with : Load → KeptWorld → KeptWorld
+kept_with load kept = record kept { units = kept.units ++ record { session = kept.current; load = load } ∷ [] }
+
+abbrev pub kept_sending : FrameContent → KeptWorld → KeptWorld
+kept_sending frame kept =
+    kept_with (one_frame frame) (record kept {
+      desk = record kept.desk { sessions = changed kept.current (sends frame) kept.desk.sessions };
+    })
+
+-- while events are played: those that are left, played from here, lead to the same world
+pub record IsPlaying (limit : ℕ) (kept : KeptWorld) (left : List Event) (goal : World) : Type 0 where
+  pub state : ReceiverState
+  pub is_in : IsIn limit kept.desk.receiver state
+  pub goes_on : runs limit left (world_at kept state) ≡ goal

@@ -1,0 +1,292 @@
+//! The computer's side of the link: the receiver, and the sessions that it takes frames for.
+
+ghost use Rattle.std.specs.Prelude.{◌≡◌, ◌≢◌, length, ◌∷◌, ◌++◌, [], OnOk, IfOk, Some, None, true, false};
+ghost use Rattle.lis_frame.specs.Limit.{IsLimit};
+ghost use Rattle.lis_frame.specs.Scanner.{StandsFor};
+ghost use Rattle.lis_link.specs.declared.receiver.Note.TheVariants as Notes;
+ghost use Rattle.lis_link.specs.Receiver.{ReceiverState, ReceiverStep, new_receiver, on_byte, on_receiver_timer, receiver_restarted, with_readiness, with_room};
+ghost use Rattle.lis_link.specs.Stands.{IsIn, IsStep};
+ghost use Rattle.lis_frame.specs.Stream.{signals_after};
+ghost use Rattle.lis_world.specs.Session.{changed};
+ghost use Rattle.lis_world.specs.Unit.{load_bytes};
+ghost use Rattle.lis_world.specs.Steps.{is_noticed, room_at};
+ghost use Rattle.lis_world.specs.World.{booked, hears};
+ghost use Rattle.lis_world.specs.Playing.{IsDesk, desk_at, IsHeardAs, takes_frame, follows_with, sends};
+
+use crate::session::SessionOf;
+use crate::unit::{LoadOf, TravellingOf};
+use arrayvec::ArrayVec;
+use lis_frame::control::{ENQ, EOT};
+use lis_frame::{FrameOf, LinkText, ScannerOf, SignalOf, frame_bytes_of};
+use lis_link::{Note, Outcome, Readiness, ReceiverOf, Step};
+use std::alloc::{AllocError, Global};
+use std::collections::VecDeque;
+use std::marker::Model;
+
+/// The receiver, the session whose ENQ last opened the line, the sessions, and the replies that the
+/// present unit has caused.
+#[derive(Drop)]
+pub(crate) struct DeskOf<const N: usize> {
+    receiver: Box<ReceiverOf<N>>,
+    opened: usize,
+    sessions: Vec<SessionOf<N>>,
+    caused: VecDeque<u8>,
+}
+
+impl<const N: usize> Model for DeskOf<N> {
+    ghost use Rattle.lis_frame.specs.Limit.{IsLimit};
+    ghost use Rattle.lis_world.specs.Playing.{KeptDesk};
+
+    ghost Value = { KeptDesk };
+
+    ghost view = { λ d. record {
+      receiver = d.receiver.value;
+      opened = d.opened;
+      sessions = d.sessions.items;
+      replies = d.caused.items;
+    } };
+
+    ghost invariant = { λ d. IsLimit N };
+}
+
+impl<const N: usize> DeskOf<N> {
+    /// A new receiver, and no session.
+    pub(crate) fn new(alloc: Global) -> Result<Self, AllocError>
+        requires { IsLimit N }
+        ensures { IfOk result (λ desk. IsDesk N desk (record { receiver = new_receiver; opened = 0; sessions = []; replies = [] })) }
+    {
+        let receiver = Box::new(alloc, ReceiverOf::new(alloc))?;
+        Ok(DeskOf {
+            receiver,
+            opened: 0,
+            sessions: Vec::new(alloc),
+            caused: VecDeque::new(alloc),
+        })
+    }
+
+    /// The receiver's timer runs out.
+    pub(crate) fn timer(&mut self)
+        ensures { (r : ReceiverState) → IsIn N self.old.receiver r →
+            IsDesk N self.new (record (desk_at self.old r) { receiver = (on_receiver_timer r).after }) }
+    {
+        self.receiver.timer();
+    }
+
+    /// The receiver is restarted.
+    pub(crate) fn restart(&mut self)
+        ensures { (r : ReceiverState) → IsIn N self.old.receiver r →
+            IsDesk N self.new (record (desk_at self.old r) { receiver = receiver_restarted r }) }
+    {
+        self.receiver.restart();
+    }
+
+    /// How the receiver answers ENQ from now on.
+    pub(crate) fn set_ready(&mut self, readiness: Readiness)
+        ensures { (r : ReceiverState) → IsIn N self.old.receiver r →
+            IsDesk N self.new (record (desk_at self.old r) { receiver = with_readiness readiness r }) }
+    {
+        self.receiver.set_ready(readiness);
+    }
+
+    /// Whether the receiver has room from now on.
+    pub(crate) fn set_room(&mut self, room: bool)
+        ensures { (r : ReceiverState) → IsIn N self.old.receiver r →
+            IsDesk N self.new (record (desk_at self.old r) { receiver = with_room room r }) }
+    {
+        self.receiver.set_room(room);
+    }
+
+    /// A unit comes; the replies that it causes are collected from none.
+    pub(crate) fn deliver(&mut self, unit: &TravellingOf<N>) -> Result<(), AllocError>
+        ensures { (r : ReceiverState) → IsIn N self.old.receiver r →
+            OnOk result (IsDesk N self.new
+            (hears N unit.now.session (load_bytes unit.now.load) (record (desk_at self.old r) { replies = [] }))) }
+    {
+        self.caused.clear();
+        match &unit.load {
+            LoadOf::Enquiry => self.hear(unit.session, &[ENQ]),
+            LoadOf::Ending => self.hear(unit.session, &[EOT]),
+            LoadOf::Frame(frame) => {
+                let bytes: ArrayVec<u8, 64_000> = frame_bytes_of(frame);
+                self.hear(unit.session, bytes.as_slice())
+            }
+        }
+    }
+
+    /// The same while the receiver has no room.
+    pub(crate) fn deliver_no_room(&mut self, unit: &TravellingOf<N>) -> Result<(), AllocError>
+        ensures { (r : ReceiverState) → IsIn N self.old.receiver r →
+            OnOk result (IsDesk N self.new (room_at true (hears N unit.now.session (load_bytes unit.now.load)
+            (room_at false (record (desk_at self.old r) { replies = [] }))))) }
+    {
+        self.set_room(false);
+        self.deliver(unit)?;
+        self.set_room(true);
+        Ok(())
+    }
+
+    /// These bytes come in the place of a unit of this session.
+    pub(crate) fn damage(&mut self, session: usize, bytes: &[u8]) -> Result<(), AllocError>
+        ensures { (r : ReceiverState) → IsIn N self.old.receiver r →
+            OnOk result (IsDesk N self.new (hears N session bytes.now (record (desk_at self.old r) { replies = [] }))) }
+    {
+        self.caused.clear();
+        self.hear(session, bytes)
+    }
+
+    /// Whether damage is noticed: what is heard of these bytes in this unit's place is nothing or, of a
+    /// frame, one bad frame.
+    pub(crate) fn notices(&self, unit: &TravellingOf<N>, bytes: &[u8]) -> bool
+        ensures { (r : ReceiverState) → IsIn N self.now.receiver r →
+            result ≡ is_noticed unit.now.load (signals_after N r.past bytes.now) }
+    {
+        let mut scanner = self.receiver.scanner().copy();
+        let mut is_bad = false;
+        for byte in bytes {
+            match scanner.push(*byte) {
+                None => {}
+                Some(SignalOf::Bad(_)) => {
+                    if is_bad || !unit.is_frame() {
+                        return false;
+                    }
+                    is_bad = true;
+                }
+                Some(_) => return false,
+            }
+        }
+        true
+    }
+
+    /// The replies that the unit has caused go behind those on the link.
+    pub(crate) fn answer(&mut self, replies: &mut VecDeque<u8>) -> Result<(), AllocError>
+        ensures { OnOk result ((replies.new.items ≡ replies.old.items ++ self.old.replies) × (self.new ≡ record self.old { replies = [] })) }
+    {
+        replies.append(&mut self.caused)
+    }
+
+    /// They are dropped.
+    pub(crate) fn keep_silent(&mut self)
+        ensures { self.new ≡ record self.old { replies = [] } }
+    {
+        self.caused.clear();
+    }
+
+    /// How many sessions there are.
+    pub(crate) fn sessions(&self) -> usize
+        ensures { result ≡ length self.now.sessions }
+    {
+        self.sessions.len()
+    }
+
+    /// A session begins.
+    pub(crate) fn begin(&mut self, session: SessionOf<N>) -> Result<(), AllocError>
+        ensures { OnOk result (self.new ≡ record self.old { sessions = self.old.sessions ++ session.entry ∷ [] }) }
+    {
+        self.sessions.push(session)?;
+        Ok(())
+    }
+
+    /// The sender of the session at this place has so many acknowledged frames, and this outcome.
+    pub(crate) fn follow(&mut self, place: usize, acknowledged: u64, outcome: Option<Outcome>)
+        ensures { self.new ≡ record self.old {
+          sessions = changed place (follows_with acknowledged outcome) self.old.sessions;
+        } }
+    {
+        if let Some(session) = self.sessions.get_mut(place) {
+            session.follow(acknowledged, outcome);
+        }
+    }
+
+    /// A frame of the session at this place was put on the link.
+    pub(crate) fn send(&mut self, place: usize, frame: &FrameOf<N>) -> Result<(), AllocError>
+        ensures { OnOk result (self.new ≡ record self.old { sessions = changed place (sends frame.now) self.old.sessions }) }
+    {
+        match self.sessions.get_mut(place) {
+            None => Ok(()),
+            Some(session) => session.send(frame),
+        }
+    }
+
+    /// The sessions.
+    pub(crate) fn into_sessions(self) -> Vec<SessionOf<N>>
+        ensures { result.items ≡ self.entry.sessions }
+    {
+        let DeskOf { sessions, .. } = self;
+        sessions
+    }
+
+    /// The bytes of a unit of this session come.
+    fn hear(&mut self, session: usize, bytes: &[u8]) -> Result<(), AllocError>
+        ensures { (r : ReceiverState) → IsIn N self.old.receiver r →
+            OnOk result (IsDesk N self.new (hears N session bytes.now (desk_at self.old r))) }
+    {
+        let mut scanner = self.receiver.scanner().copy();
+        for byte in bytes {
+            self.hear_byte(session, &mut scanner, *byte)?;
+        }
+        Ok(())
+    }
+
+    /// One byte comes; the scanner has read what the receiver has.
+    fn hear_byte(
+        &mut self,
+        session: usize,
+        scanner: &mut ScannerOf<N>,
+        byte: u8,
+    ) -> Result<(), AllocError>
+        ensures stream { (r : ReceiverState) → StandsFor N scanner.old r.past → StandsFor N scanner.new (byte ∷ r.past) }
+        ensures desk { (r : ReceiverState) → IsIn N self.old.receiver r → StandsFor N scanner.old r.past →
+            OnOk result (IsDesk N self.new (booked session (on_byte N byte r) (desk_at self.old r))) }
+    {
+        let signal = scanner.push(byte);
+        let step = self.receiver.byte(byte);
+        self.book(session, signal, step)
+    }
+
+    /// What the receiver answered to a signal is booked.
+    fn book(
+        &mut self,
+        session: usize,
+        signal: Option<SignalOf<N>>,
+        step: Step,
+    ) -> Result<(), AllocError>
+        ensures receiver { self.new.receiver ≡ self.old.receiver }
+        ensures memory { OnOk result (step.note ≢ Notes.OutOfMemory) }
+        ensures desk { (meant : ReceiverStep) (r : ReceiverState) → IsStep meant step → IsHeardAs signal.entry meant →
+            OnOk result (desk_at self.new r ≡ record (booked session meant (desk_at self.old r)) { receiver = r }) }
+    {
+        let Step {
+            reply,
+            message,
+            note,
+        } = step;
+        if let Some(byte) = reply {
+            self.caused.push_back(byte)?;
+        }
+        match note {
+            Note::OutOfMemory => return Err(AllocError),
+            Note::Opened => self.opened = session,
+            Note::Accepted(_) => {
+                if let Some(SignalOf::Good(frame)) = signal {
+                    self.take(frame, message)?;
+                }
+            }
+            _ => {}
+        }
+        Ok(())
+    }
+
+    /// The frame that was accepted, and the text that it completes, are booked to the session that
+    /// opened the line.
+    fn take(&mut self, frame: FrameOf<N>, message: Option<LinkText>) -> Result<(), AllocError>
+        ensures receiver { self.new.receiver ≡ self.old.receiver }
+        ensures desk { OnOk result (self.new ≡ record self.old {
+          sessions = changed self.old.opened (takes_frame frame.entry message) self.old.sessions;
+        }) }
+    {
+        match self.sessions.get_mut(self.opened) {
+            None => Ok(()),
+            Some(owner) => owner.take(frame, message),
+        }
+    }
+}
