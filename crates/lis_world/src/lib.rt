@@ -8,6 +8,8 @@ pub mod laws;
 pub mod playing;
 mod run;
 pub mod session;
+#[cfg(test)]
+mod tests;
 mod unit;
 
 pub use event::{Event, Events};

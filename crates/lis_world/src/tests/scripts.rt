@@ -1,0 +1,66 @@
+//! Lists of events, written as one letter each.
+
+use crate::*;
+use lis_frame::{LinkText, List, TextRefused, Texts};
+use std::alloc::Global;
+use std::test::Fail;
+
+/// One event, by its letter: `A` to `H` start a session of one text of that letter, `L` one of 500
+/// letters A, `N` one of nine texts A and `M` one of a text of 500 letters and one of none.
+pub(crate) fn event_of(alloc: Global, letter: u8) -> Result<Event, Fail> {
+    Ok(match letter {
+        b'A'..=b'H' => Event::Start(texts_of(alloc, letter, &[1])?),
+        b'L' => Event::Start(texts_of(alloc, b'A', &[500])?),
+        b'M' => Event::Start(texts_of(alloc, b'B', &[500, 0])?),
+        b'N' => Event::Start(texts_of(alloc, b'A', &[1; 9])?),
+        b'd' => Event::Deliver,
+        b'n' => Event::DeliverNoRoom,
+        b'1' => Event::Damage(bytes_of(alloc, &[0x05])?),
+        b'2' => Event::Damage(bytes_of(alloc, &[0x02, 0x31, 0x0a])?),
+        b'3' => Event::Damage(bytes_of(alloc, &[0x02, 0x31, 0x41, 0x03])?),
+        b'4' => Event::Damage(bytes_of(alloc, &[0x37, 0x35, 0x0d, 0x0a])?),
+        b'l' => Event::Lose,
+        b'r' => Event::Reply,
+        b'x' => Event::DamageReply(0x7f),
+        b'y' => Event::DamageReply(0x05),
+        b'z' => Event::DamageReply(0x06),
+        b'o' => Event::LoseReply,
+        b't' => Event::SenderTimer,
+        b'u' => Event::ReceiverTimer,
+        b's' => Event::RestartSender,
+        b'v' => Event::RestartReceiver,
+        b'+' => Event::Ready,
+        b'-' => Event::Busy,
+        b'*' => Event::Contending,
+        _ => return Err(Fail::new("no event has this letter")),
+    })
+}
+
+/// The events of such letters.
+pub(crate) fn events_of(alloc: Global, letters: &[u8]) -> Result<Events, Fail> {
+    let mut events = List::new(alloc);
+    for letter in letters {
+        events.push(event_of(alloc, *letter)?)?;
+    }
+    Ok(events)
+}
+
+pub(crate) fn bytes_of(alloc: Global, bytes: &[u8]) -> Result<LinkText, Fail> {
+    let mut text = List::new(alloc);
+    text.extend(bytes)?;
+    Ok(text)
+}
+
+/// Texts of so many of this letter each.
+fn texts_of(alloc: Global, letter: u8, counts: &[usize]) -> Result<Texts, Fail> {
+    let mut texts = Texts::new(alloc);
+    for count in counts {
+        let text = List::from_vec(vec![in alloc; letter; *count]?);
+        match texts.push(text) {
+            Ok(()) => {}
+            Err(TextRefused::Full(_)) => return Err(Fail::new("full")),
+            Err(TextRefused::OutOfMemory(_)) => return Err(Fail::new("memory")),
+        }
+    }
+    Ok(texts)
+}
