@@ -1,6 +1,6 @@
 //! Reading a frame from the bytes between its STX and its LF.
 
-ghost use Rattle.std.specs.Prelude.{◌≡◌, ◌+◌, ◌%◌, ◌≤◌, ◌<◌, ◌==◌, ◌&&◌, ◌||◌, false, List, [], ◌∷◌, ◌++◌, None, Some, Ok, IfOk, IfErr, IfNone, IfSome, MatchResult, length};
+ghost use Rattle.std.specs.Prelude.{◌≡◌, ◌+◌, ◌%◌, ◌≤◌, ◌<◌, ◌==◌, ◌&&◌, ◌||◌, false, [], ◌∷◌, ◌++◌, None, Some, Ok, IfOk, IfErr, IfNone, IfSome, MatchResult, length};
 ghost use Rattle.std.specs.List.{sum};
 ghost use Rattle.lis_frame.specs.Limit.{IsLimit};
 ghost use Rattle.lis_frame.specs.Frame.{FrameContent, IsFrame, digit_value};

@@ -1,6 +1,6 @@
 //! The frames of a session, made one at a time from its texts.
 
-ghost use Rattle.std.specs.Prelude.{◌≡◌, ◌<◌, ◌≤◌, ◌==◌, ◌∷◌, [], None, All, length, drop};
+ghost use Rattle.std.specs.Prelude.{◌≡◌, ◌<◌, ◌≤◌, ◌==◌, ◌∷◌, None, All, length, drop};
 ghost use Rattle.lis_frame.specs.Limit.{IsLimit};
 ghost use Rattle.lis_frame.specs.Text.{longest_text, text_fault};
 ghost use Rattle.lis_frame.specs.Pieces.{session_frames};

@@ -1,10 +1,10 @@
 //! The receiving end (LIS01-A2, 6.3 to 6.6).
 
-ghost use Rattle.std.specs.Prelude.{◌≡◌, ◌≢◌, ◌≤◌, ◌<◌, ◌+◌, ◌^◌, ◌∷◌, length, if◌then◌else◌, [], IsTrue, OnOk, OnErr, None, Some, false};
+ghost use Rattle.std.specs.Prelude.{◌≡◌, ◌≢◌, ◌≤◌, ◌<◌, ◌+◌, ◌^◌, ◌∷◌, length, [], IsTrue, OnOk, None, Some, false};
 ghost use Rattle.lis_frame.specs.Limit.{IsLimit};
 ghost use Rattle.lis_frame.specs.Text.{longest_text};
 ghost use Rattle.lis_frame.specs.Scanner.{StandsFor};
-ghost use Rattle.lis_link.specs.Receiver.{ReceiverState, new_receiver, bid_with, judged_by, judged, on_judged, found_reply, heard_by, heard, on_byte, on_receiver_timer, receiver_restarted, with_readiness, with_room, held_length};
+ghost use Rattle.lis_link.specs.Receiver.{ReceiverState, new_receiver, bid_with, judged_by, found_reply, heard_by, heard, on_byte, on_receiver_timer, receiver_restarted, with_readiness, with_room};
 ghost use Rattle.lis_frame.specs.declared.scanner.SignalOf.TheVariants as Signals;
 ghost use Rattle.lis_frame.specs.declared.control.TheConstants.{NAK};
 ghost use Rattle.lis_link.specs.declared.receiver.Note.TheVariants as Notes;
@@ -15,6 +15,8 @@ use lis_frame::{FrameFault, FrameOf, LONGEST_TEXT, LinkText, List, ScannerOf, Si
 use std::alloc::{AllocError, Global};
 use std::marker::Model;
 use std::mem;
+
+mod state;
 
 /// How the receiver answers an ENQ.
 #[derive(Debug, Clone, Copy, PartialEq, Eq)]
@@ -134,32 +136,6 @@ impl<const N: usize> ReceiverOf<N> {
             room: true,
             held: Vec::new(alloc),
             scanner: ScannerOf::new(),
-        }
-    }
-
-    /// Whether the line is open.
-    pub fn is_open(&self) -> bool
-        ensures { (r : ReceiverState) → IsIn N self.now r → result ≡ r.is_open }
-    {
-        self.is_open
-    }
-
-    /// How many frames were accepted since the line was last opened.
-    pub fn accepted(&self) -> u64
-        ensures { (r : ReceiverState) → IsIn N self.now r → result ≡ length r.accepted }
-    {
-        self.accepted
-    }
-
-    /// How many bytes are held for the text that isn't complete; none while the line isn't open.
-    pub fn held(&self) -> u64
-        ensures value { (r : ReceiverState) → IsIn N self.now r → result ≡ held_length r }
-        ensures bound { result ≤ longest_text }
-    {
-        if self.is_open {
-            self.held.len() as u64
-        } else {
-            0
         }
     }
 

@@ -1,6 +1,6 @@
 //! The sending end (LIS01-A2, 6.3 to 6.6).
 
-ghost use Rattle.std.specs.Prelude.{◌≡◌, ◌<◌, ◌≤◌, ◌+◌, length, drop, None, Some, MatchResult};
+ghost use Rattle.std.specs.Prelude.{◌≡◌, ◌<◌, ◌+◌, length, drop, None, Some, MatchResult};
 ghost use Rattle.lis_frame.specs.Limit.{IsLimit};
 ghost use Rattle.lis_link.specs.declared.sender.EmitOf.TheVariants as Emits;
 ghost use Rattle.lis_link.specs.declared.sender.Phase.TheVariants as Phases;
@@ -11,6 +11,8 @@ use crate::queue::QueueOf;
 use lis_frame::control::{ACK, ENQ, EOT};
 use lis_frame::{FrameOf, LinkText, TextFault, Texts, check_text};
 use std::marker::Model;
+
+mod state;
 
 /// Where the sender stands between two events.
 #[derive(Debug, Clone, Copy, PartialEq, Eq)]
@@ -123,27 +125,6 @@ impl<const N: usize> SenderOf<N> {
             tries: 0,
             outcome: None,
         }
-    }
-
-    /// Where the sender stands.
-    pub fn phase(&self) -> Phase
-        ensures { result ≡ self.now.phase }
-    {
-        self.phase
-    }
-
-    /// How many frames of the session, or of the last one, are acknowledged.
-    pub fn acknowledged(&self) -> u64
-        ensures { result ≡ self.now.acknowledged }
-    {
-        self.acknowledged
-    }
-
-    /// How the last session ended; none before its end.
-    pub fn outcome(&self) -> Option<Outcome>
-        ensures { result ≡ self.now.outcome }
-    {
-        self.outcome
     }
 
     /// Starts a session with these texts: ENQ is emitted. A refused start gives the texts back, and the

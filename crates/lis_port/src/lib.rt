@@ -2,12 +2,16 @@
 //! over readers and writers and over memory.
 #![tactic(auto)]
 
-mod memory;
+mod cut;
 mod port;
-mod stream;
+mod reading;
+mod slow;
 #[cfg(test)]
 mod tests;
+mod writing;
 
-pub use memory::{Cut, Slow, Then};
+pub use cut::{Cut, Then};
 pub use port::{Failed, Sink, Source};
-pub use stream::{Reading, Writing};
+pub use reading::Reading;
+pub use slow::Slow;
+pub use writing::Writing;

@@ -1,3 +1,5 @@
+ghost use Rattle.std.specs.Prelude.{◌≤◌};
+
 use crate::*;
 use lis_frame::FrameFault;
 use std::test::Fail;
@@ -203,21 +205,33 @@ fn each_byte_is_answered_neutral_and_open(rt: HostRuntime) -> Result<(), Fail> {
     Ok(())
 }
 
-/// Sends full intermediate frames of letters A in turn, from number 1 on, and answers for the last.
+/// Sends a full intermediate frame of letters A behind so many others of its session.
+fn full_frame(receiver: &mut Receiver, count: usize) -> (Option<u8>, Note, Option<usize>) {
+    let digit = number_behind(count);
+    // The sum of the digit 0, 240 letters A and ETB is 37; each digit adds one.
+    let low = 7 + digit;
+    let low = if low < 10 {
+        b'0' + low
+    } else {
+        b'A' + (low - 10)
+    };
+    let _ = last_step(receiver, &[0x02, b'0' + digit]);
+    let _ = last_step(receiver, &[0x41; 240]);
+    last_step(receiver, &[0x17, b'3', low, 0x0d, 0x0a])
+}
+
+/// The number of the frame behind so many others of its session.
+fn number_behind(count: usize) -> u8
+    ensures { result ≤ 7 }
+{
+    ((count % 8 + 1) % 8) as u8
+}
+
+/// Sends full intermediate frames in turn, from number 1 on, and answers for the last.
 fn fill(receiver: &mut Receiver, frames: usize) -> (Option<u8>, Note, Option<usize>) {
     let mut last = (None, Note::Quiet, None);
     for count in 0..frames {
-        let digit = ((count % 8 + 1) % 8) as u8;
-        // The sum of the digit 0, 240 letters A and ETB is 37; each digit adds one.
-        let low = 7 + digit;
-        let low = if low < 10 {
-            b'0' + low
-        } else {
-            b'A' + (low - 10)
-        };
-        let _ = last_step(receiver, &[0x02, b'0' + digit]);
-        let _ = last_step(receiver, &[0x41; 240]);
-        last = last_step(receiver, &[0x17, b'3', low, 0x0d, 0x0a]);
+        last = full_frame(receiver, count);
     }
     last
 }
@@ -289,5 +303,44 @@ fn a_refused_growth_changes_nothing(rt: HostRuntime) -> Result<(), Fail> {
     }
     assert_eq!(rt; step, (Some(0x06), Note::Accepted(1), Some(1)));
     assert_eq!(rt; receiver.accepted(), 1);
+    Ok(())
+}
+
+/// The same at each growth of a longer text. (`rt try --test --fail-alloc N` refuses the Nth.)
+#[test]
+fn each_refused_growth_changes_nothing(rt: HostRuntime) -> Result<(), Fail> {
+    let mut receiver = opened(rt.alloc());
+    for count in 0..20usize {
+        let before = (receiver.accepted(), receiver.held());
+        let mut step = full_frame(&mut receiver, count);
+        if step.1 == Note::OutOfMemory {
+            assert_eq!(rt; step, (Some(0x15), Note::OutOfMemory, None));
+            assert_eq!(rt; (receiver.accepted(), receiver.held()), before);
+            step = full_frame(&mut receiver, count);
+        }
+        let taken = Note::Accepted(number_behind(count));
+        assert_eq!(rt; step, (Some(0x06), taken, None));
+    }
+    assert_eq!(rt; receiver.held(), 4800);
+    assert_eq!(rt;
+        last_step(&mut receiver, b"\x025\x0338\r\n"),
+        (Some(0x06), Note::Accepted(5), Some(4800))
+    );
+    Ok(())
+}
+
+/// Reserved room is taken without memory, and a refused reserve can be asked for again.
+#[test]
+fn reserved_room_is_kept(rt: HostRuntime) -> Result<(), Fail> {
+    let mut receiver = opened(rt.alloc());
+    if receiver.reserve(480).is_err() {
+        assert_eq!(rt; (receiver.accepted(), receiver.held()), (0, 0));
+        receiver.reserve(480)?;
+    }
+    assert_eq!(rt;
+        fill(&mut receiver, 2),
+        (Some(0x06), Note::Accepted(2), None)
+    );
+    assert_eq!(rt; receiver.held(), 480);
     Ok(())
 }

@@ -1,7 +1,7 @@
 use Rattle.std.proofs.Common.{◌≡◌, ℕ, refl}
 use Rattle.lis_link.specs.declared.sender.Phase.{Phase}
 use Rattle.lis_link.specs.declared.sender.Phase.TheVariants.{Neutral, AwaitLine, Busy, Contention, AwaitReply}
-use Rattle.lis_link.specs.Sender.{SenderState, on_sender_timer, sender_restarted, timer_in, restart_in}
+use Rattle.lis_link.specs.Sender.{SenderState, on_sender_timer, timer_in, restart_in}
 use Rattle.lis_link.proofs.laws.comes_to_rest.Goals as goal
 
 restarted : (phase : Phase) (s : SenderState) → s.phase ≡ phase → (restart_in phase s).phase ≡ Neutral

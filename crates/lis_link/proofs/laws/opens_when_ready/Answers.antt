@@ -4,7 +4,7 @@ use Rattle.lis_frame.specs.declared.scanner.SignalOf.TheVariants.{Enq}
 use Rattle.lis_frame.specs.Stream.{signal_after}
 use Rattle.lis_link.specs.declared.receiver.Readiness.{Readiness}
 use Rattle.lis_link.specs.declared.receiver.Readiness.TheVariants.{Ready}
-use Rattle.lis_link.specs.Receiver.{ReceiverState, bid_with, heard_by}
+use Rattle.lis_link.specs.Receiver.{ReceiverState, heard_by}
 use Rattle.lis_link.proofs.laws.opens_when_ready.Goals as goal
 
 opened :

@@ -1,9 +1,9 @@
-//! The ports over any reader and any writer.
+//! The source over any reader.
 
 ghost use Rattle.std.specs.Prelude.{◌≡◌, true, false};
 
-use crate::port::{Failed, Sink, Source};
-use std::io::{Read, Write};
+use crate::port::{Failed, Source};
+use std::io::Read;
 
 /// A source over a reader. An error of the reader, of whatever kind, is `Failed` at once.
 #[derive(Drop)]
@@ -75,57 +75,5 @@ impl<R: Read> Source for Reading<R> {
 
     fn ended(&self) -> bool {
         self.ended
-    }
-}
-
-/// A sink over a writer. An error of the writer, of whatever kind, and a write that takes nothing
-/// are `Failed` at once.
-#[derive(Drop)]
-pub struct Writing<W> {
-    writer: W,
-    failed: bool,
-}
-
-impl<W: Write> Writing<W> {
-    /// A sink that has not failed, behind what `writer` holds.
-    pub fn new(writer: W) -> Self
-        ensures taken { ⟦<Writing<W> as Sink>⟧.taken result ≡ W.contents writer }
-        ensures failed { ⟦<Writing<W> as Sink>⟧.failed result ≡ false }
-    {
-        Writing {
-            writer,
-            failed: false,
-        }
-    }
-
-    /// The writer, with what the sink has taken.
-    pub fn into_inner(self) -> W
-        ensures { W.contents result ≡ ⟦<Writing<W> as Sink>⟧.taken self }
-    {
-        let Writing { writer, failed: _ } = self;
-        writer
-    }
-}
-
-impl<W: Write> Sink for Writing<W> {
-    ghost taken = { λ s. W.contents s.writer };
-
-    ghost failed = { λ s. s.failed };
-
-    fn write(&mut self, bytes: &[u8]) -> Result<usize, Failed> {
-        match self.writer.write(bytes) {
-            Ok(count) if count > 0 => {
-                self.failed = false;
-                Ok(count)
-            }
-            _ => {
-                self.failed = true;
-                Err(Failed)
-            }
-        }
-    }
-
-    fn failed(&self) -> bool {
-        self.failed
     }
 }

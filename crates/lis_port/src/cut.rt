@@ -1,12 +1,11 @@
-//! The ports over memory: a source that gives its bytes in cuts, and a sink that takes few at a
-//! time and fails once it is full. With them a contract's promise can be seen to hold.
+//! The source over memory, which gives its bytes in cuts. With it a contract's promise can be seen to
+//! hold.
 
-ghost use Rattle.std.specs.Prelude.{◌≡◌, ◌+◌, ◌≤◌, ◌<◌, ◌==◌, ◌↔◌, [], true, false, None, Some, IfOk, IsTrue, MatchResult, is_err, length, drop};
-ghost use Rattle.std.specs.Io.KnownBytes.{ReadConsumes, WriteAppends};
-ghost use Rattle.lis_port.specs.Port.{known_left, new_cut, cut_answer, slow_count};
+ghost use Rattle.std.specs.Prelude.{◌≡◌, ◌+◌, ◌≤◌, ◌<◌, ◌↔◌, true, false, IfOk, IsTrue, is_err, length};
+ghost use Rattle.std.specs.Io.KnownBytes.{ReadConsumes};
+ghost use Rattle.lis_port.specs.Port.{known_left, new_cut, cut_answer};
 
-use crate::port::{Failed, Sink, Source};
-use arrayvec::ArrayVec;
+use crate::port::{Failed, Source};
 use std::marker::Model;
 
 /// What a cut source does behind its bytes.
@@ -130,87 +129,5 @@ impl Source for Cut<'_> {
 
     fn ended(&self) -> bool {
         self.ended
-    }
-}
-
-/// The most bytes that a slow sink takes in all.
-pub const SLOW_ROOM: usize = 131_072;
-
-/// A sink in memory, which takes at most `step` bytes at each write and `room` in all, and then fails.
-#[derive(Drop)]
-pub struct Slow {
-    taken: ArrayVec<u8, SLOW_ROOM>,
-    room: usize,
-    step: usize,
-    failed: bool,
-}
-
-impl Model for Slow {
-    ghost use Rattle.std.specs.Prelude.{◌≤◌};
-    ghost use Rattle.lis_port.specs.Port.{SlowState};
-
-    ghost Value = { SlowState };
-
-    ghost view = { λ s. record { taken = s.taken.items; room = s.room; step = s.step; failed = s.failed } };
-
-    ghost invariant = { λ s. (s.room ≤ 131072) × (1 ≤ s.step) };
-}
-
-impl Slow {
-    /// A sink that has taken nothing and has not failed.
-    pub fn new(room: usize, step: usize) -> Self
-        requires fits { room ≤ 131072 }
-        requires moves { 1 ≤ step }
-        ensures value { result ≡ record { taken = []; room = room; step = step; failed = false } }
-        ensures taken { ⟦<Slow as Sink>⟧.taken result ≡ Some [] }
-        ensures failed { ⟦<Slow as Sink>⟧.failed result ≡ false }
-    {
-        Slow {
-            taken: ArrayVec::new(),
-            room,
-            step,
-            failed: false,
-        }
-    }
-
-    /// The bytes that it took.
-    pub fn took(&self) -> &[u8]
-        ensures { ⟦<Slow as Sink>⟧.taken self.now ≡ Some result.now }
-    {
-        self.taken.as_slice()
-    }
-}
-
-impl Sink for Slow {
-    ghost taken = { λ s. Some s.taken };
-
-    ghost failed = { λ s. s.failed };
-
-    fn write(&mut self, bytes: &[u8]) -> Result<usize, Failed>
-        requires { 0 < length bytes.now }
-        ensures some { IfOk result (λ n. 0 < n) }
-        ensures bound { IfOk result (λ n. n ≤ length bytes.now) }
-        ensures bytes { WriteAppends (Some self.old.taken) (Some self.new.taken) result bytes.now }
-        ensures failed { self.new.failed ≡ is_err result }
-
-        // How many bytes a write takes is known, and what stays.
-        ensures answer { MatchResult result (λ n. n ≡ slow_count self.old (length bytes.now))
-            (λ _. slow_count self.old (length bytes.now) ≡ 0) }
-        ensures room { self.new.room ≡ self.old.room }
-        ensures step { self.new.step ≡ self.old.step }
-    {
-        let room = self.room.saturating_sub(self.taken.len());
-        let count = self.step.min(room).min(bytes.len());
-        let (front, _) = bytes.split_at(count);
-        if front.is_empty() || self.taken.try_extend_from_slice(front).is_err() {
-            self.failed = true;
-            return Err(Failed);
-        }
-        self.failed = false;
-        Ok(count)
-    }
-
-    fn failed(&self) -> bool {
-        self.failed
     }
 }
