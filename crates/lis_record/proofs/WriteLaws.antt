@@ -4,7 +4,6 @@ use Rattle.std.specs.Prelude.{◌↔◌}
 use Rattle.std.proofs.lemmas.Bool.{cases_lt, lt-ltb}
 use Rattle.std.proofs.lemmas.List.{drop-take, length-drop}
 use Rattle.std.specs.Option.{option_or}
-use Rattle.std.specs.Io.KnownBytes.{Appends}
 use Rattle.lis_record.specs.declared.faults.WriteFault.{WriteFault}
 use Rattle.lis_record.specs.declared.faults.WriteFault.TheVariants as write_faults
 use Rattle.lis_record.specs.declared.records.TheConstants.{RECORD_LIMIT}
