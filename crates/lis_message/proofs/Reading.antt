@@ -158,7 +158,7 @@ other_kind in_order k o p e = let h : misplaced in_order kinds.H ≡ None = ap (
 other_kind in_query k o p e = let h : misplaced in_query kinds.H ≡ None = ap (misplaced in_query) (sym e) ∙ p in cc
 other_kind closed k o p e = nothing_closed k p
 
-next_begun : (l : Level) (k : Kind) → l ≢ outside → next_level l k ≢ outside
+pub next_begun : (l : Level) (k : Kind) → l ≢ outside → next_level l k ≢ outside
 next_begun l kinds.H o e = cc
 next_begun l kinds.P o e = cc
 next_begun l kinds.O o e = cc

@@ -8,7 +8,7 @@ use Rattle.lis_record.specs.declared.kinds.Kind.TheVariants as kinds
 use Rattle.lis_message.specs.Hierarchy.{last_of, is_group, is_group_or_order, HasParent, HasHeaderFirst, IsViable}
 use Rattle.lis_message.specs.Level.{Level, outside, in_header, in_patient, in_order, in_query, closed, next_level, level_after, misplaced, StandsFrom}
 use Rattle.lis_message.proofs.Levels.{level_append, stands_append, stands_back, stands_front}
-use Rattle.lis_message.proofs.Reading.{header_first, nothing_closed, other_kind, unclosed_first}
+use Rattle.lis_message.proofs.Reading.{header_first, next_begun, nothing_closed, other_kind, unclosed_first}
 
 -- whether an order, or a result, stands at a place
 abbrev takes_order : Level → Bool
@@ -81,17 +81,6 @@ order_then (Some kinds.Q) b c = refl
 order_then (Some kinds.M) b c = refl
 order_then (Some kinds.S) b c = refl
 order_then (Some kinds.L) b c = refl
-
-next_begun : (l : Level) (k : Kind) → l ≢ outside → next_level l k ≢ outside
-next_begun l kinds.H o e = cc
-next_begun l kinds.P o e = cc
-next_begun l kinds.O o e = cc
-next_begun l kinds.R o e = o e
-next_begun l kinds.C o e = o e
-next_begun l kinds.Q o e = cc
-next_begun l kinds.M o e = o e
-next_begun l kinds.S o e = o e
-next_begun l kinds.L o e = cc
 
 -- the place tells the last patient or query, and whether an order stands since
 order_told : (l : Level) (ks : List Kind) → StandsFrom l ks → l ≢ outside → level_after l ks ≢ closed → takes_order (level_after l ks) ≡ patient_or (last_of is_group ks) (takes_order l)

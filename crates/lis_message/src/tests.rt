@@ -1,5 +1,7 @@
 //! Streams and messages whose records, faults and bytes are known from outside.
 
+mod memory;
+
 use crate::fault::{MessageFault, MessageWriteFault, Reason};
 use crate::findings::findings;
 use crate::lists::Records;
@@ -28,10 +30,6 @@ fn one_message<A: Abort>(rt: &A, alloc: Global, bytes: &[u8]) -> Message {
     assert_eq!(rt; messages.len(), 1);
     let mut items = messages.into_vec();
     items.pop().expect(rt, "a message")
-}
-
-fn refusal(alloc: Global, bytes: &[u8]) -> Option<MessageFault> {
-    read_messages(alloc, bytes).fault
 }
 
 fn faulty(place: u64, reason: Reason) -> Option<MessageFault> {
@@ -75,32 +73,94 @@ fn letters_are_read_in_either_case(rt: HostRuntime) {
     }
 }
 
+// Streams that are refused, at their last byte or at their end.
+const REFUSED: [(&[u8], u64, Reason); 8] = [
+    (b"H|\\^&\rP|1\rR|1\r", 3, Reason::NoParent(Kind::R)),
+    (b"H|\\^&\rP|1\rQ|1\rO|1\r", 4, Reason::NoParent(Kind::O)),
+    (b"H|\\^&\r", 2, Reason::Unfinished),
+    (b"P|1\r", 1, Reason::NotHeader),
+    (b"H|\\^&\rH|\\^&\r", 2, Reason::SecondHeader),
+    (b"H|\\^&\r\r", 2, Reason::BadRecord(RecordFault::Empty)),
+    (
+        b"H|\\^&\rX|1\r",
+        2,
+        Reason::BadRecord(RecordFault::UnknownKind(b'X')),
+    ),
+    (b"H|\\^&\rP|1", 2, Reason::Unfinished),
+];
+
 #[test]
 fn refused_streams(rt: HostRuntime) {
     let alloc = rt.alloc();
-    assert_eq!(rt;
-        refusal(alloc, b"H|\\^&\rP|1\rR|1\r"),
-        faulty(3, Reason::NoParent(Kind::R))
-    );
-    assert_eq!(rt;
-        refusal(alloc, b"H|\\^&\rP|1\rQ|1\rO|1\r"),
-        faulty(4, Reason::NoParent(Kind::O))
-    );
-    assert_eq!(rt; refusal(alloc, b"H|\\^&\r"), faulty(2, Reason::Unfinished));
-    assert_eq!(rt; refusal(alloc, b"P|1\r"), faulty(1, Reason::NotHeader));
-    assert_eq!(rt;
-        refusal(alloc, b"H|\\^&\rH|\\^&\r"),
-        faulty(2, Reason::SecondHeader)
-    );
-    assert_eq!(rt;
-        refusal(alloc, b"H|\\^&\r\r"),
-        faulty(2, Reason::BadRecord(RecordFault::Empty))
-    );
-    assert_eq!(rt;
-        refusal(alloc, b"H|\\^&\rX|1\r"),
-        faulty(2, Reason::BadRecord(RecordFault::UnknownKind(b'X')))
-    );
-    assert_eq!(rt; refusal(alloc, b""), None);
+    for (bytes, place, reason) in REFUSED {
+        let Fed { messages, fault } = read_messages(alloc, bytes);
+        assert_eq!(rt; messages.len(), 0);
+        assert_eq!(rt; fault, faulty(place, reason));
+    }
+    let nothing = read_messages(alloc, b"");
+    assert_eq!(rt; nothing.messages.len(), 0);
+    assert_eq!(rt; nothing.fault, None);
+}
+
+// What a reader tells of a stream that comes byte by byte, with its end: how many messages, and the fault. That comes
+// with the last byte or at the end, and not before.
+fn byte_by_byte<A: Abort>(rt: &A, alloc: Global, bytes: &[u8]) -> (usize, Option<MessageFault>) {
+    let mut reader = MessageReader::new(alloc);
+    let mut read = 0usize;
+    let mut left = bytes.len();
+    let mut fault = None;
+    for byte in bytes {
+        left = left.saturating_sub(1);
+        let fed = reader.feed(&[*byte]);
+        read = read.saturating_add(fed.messages.len());
+        assert!(rt; fed.fault.is_none() || left == 0);
+        fault = fed.fault;
+    }
+    let end = reader.finish().err();
+    assert!(rt; fault.is_none() || fault == end, "the fault stays");
+    (read, end)
+}
+
+#[test]
+fn refused_streams_come_byte_by_byte(rt: HostRuntime) -> Result<(), Fail> {
+    let alloc = rt.alloc();
+    for (bytes, place, reason) in REFUSED {
+        assert_eq!(rt; byte_by_byte(&rt, alloc, bytes), (0, faulty(place, reason)));
+    }
+    assert_eq!(rt; byte_by_byte(&rt, alloc, b""), (0, None));
+    let mut behind = WHOLE.to_vec(alloc)?;
+    behind.extend_from_slice(b"P|1\r")?;
+    let told = byte_by_byte(&rt, alloc, behind.as_slice());
+    assert_eq!(rt; told, (1, faulty(1, Reason::NotHeader)));
+    let mut long = b"H|\\^&\r".to_vec(alloc)?;
+    long.extend_from_slice(vec![in alloc; b'P'; 65_537]?.as_slice())?;
+    let told = byte_by_byte(&rt, alloc, long.as_slice());
+    assert_eq!(rt; told, (0, faulty(2, Reason::RecordTooLong)));
+    Ok(())
+}
+
+const UNUSUAL: &[u8; 50] = b"H@!~$\rP@1\rO@1@S7\rR@1@~~~GLU@5.4\rC@1@a$F$b!c\rL@1@N\r";
+
+// Of a field of the record behind so many others: how many repeats it has, its first repeat components, and that one's
+// first component symbols.
+fn sizes(message: &Message, before: usize, number: usize) -> Option<(usize, usize, usize)> {
+    let mut walk = Walk::new(message);
+    for _ in 0..before {
+        walk.next()?;
+    }
+    let field = walk.next()?.field(number)?;
+    let repeat = field.get(0)?;
+    Some((field.len(), repeat.len(), repeat.get(0)?.len()))
+}
+
+#[test]
+fn a_message_is_read_with_its_own_delimiters(rt: HostRuntime) {
+    let message = one_message(&rt, rt.alloc(), UNUSUAL);
+    assert_eq!(rt; message.len(), 6);
+    let own = Delimiters::new(b'@', b'!', b'~', b'$');
+    assert_eq!(rt; own, Ok(message.delimiters()));
+    assert_eq!(rt; sizes(&message, 3, 3), Some((1, 4, 0)));
+    assert_eq!(rt; sizes(&message, 4, 3), Some((2, 1, 3)));
 }
 
 #[test]
@@ -213,39 +273,62 @@ fn a_message_is_made_of_records(rt: HostRuntime) -> Result<(), Fail> {
     assert_eq!(rt; message.len(), 6);
     let none = Message::from_records(alloc, Delimiters::usual(), Records::new(alloc));
     assert_eq!(rt; none.err(), faulty(1, Reason::Unfinished));
-    let mut more = records_of(&rt, alloc, TEXTS.as_slice());
-    assert!(rt; more.push(Record::new(alloc, Kind::L)).is_ok());
-    let two = Message::from_records(alloc, Delimiters::usual(), more);
-    assert_eq!(rt; two.err(), faulty(7, Reason::NotHeader));
+    for (kind, reason) in [
+        (Kind::L, Reason::NotHeader),
+        (Kind::H, Reason::SecondHeader),
+    ] {
+        let mut more = records_of(&rt, alloc, TEXTS.as_slice());
+        assert!(rt; more.push(Record::new(alloc, kind)).is_ok());
+        let two = Message::from_records(alloc, Delimiters::usual(), more);
+        assert_eq!(rt; two.err(), faulty(7, reason));
+    }
     Ok(())
 }
 
 #[test]
 fn a_message_is_written(rt: HostRuntime) {
-    let message = one_message(&rt, rt.alloc(), WHOLE);
-    let mut sink = Slow::new(1000, 7);
-    assert!(rt; write_message(&mut sink, &message).is_ok());
-    assert_eq!(rt; sink.took(), WHOLE.as_slice());
+    let messages: [&[u8]; 2] = [WHOLE, UNUSUAL];
+    for bytes in messages {
+        let message = one_message(&rt, rt.alloc(), bytes);
+        let mut sink = Slow::new(1000, 7);
+        assert!(rt; write_message(&mut sink, &message).is_ok());
+        assert_eq!(rt; sink.took(), bytes);
+    }
+}
+
+// The record of the message that has the byte at this place, and where that record begins.
+fn record_at(place: usize) -> (u64, u64) {
+    match place {
+        0..=5 => (1, 0),
+        6..=9 => (2, 6),
+        10..=16 => (3, 10),
+        17..=54 => (4, 17),
+        55..=68 => (5, 55),
+        _ => (6, 69),
+    }
 }
 
 #[test]
 fn the_rest_is_written_behind_a_failure(rt: HostRuntime) {
     let message = one_message(&rt, rt.alloc(), WHOLE);
-    let whole = WHOLE.as_slice();
-    let (front, rest) = whole.split_at(20);
-    let mut sink = Slow::new(20, 20);
-    let Err(fault) = write_message(&mut sink, &message) else {
-        panic!(rt; "the sink fails");
-    };
-    assert_eq!(rt; sink.took(), front);
-    assert_eq!(rt; fault.place, 4);
-    let WriteFault::Io(count) = fault.fault else {
-        panic!(rt; "the sink fails");
-    };
-    assert_eq!(rt; count, 3);
-    let mut other = Slow::new(1000, 1000);
-    assert!(rt; write_message_from(&mut other, &message, fault.place, count).is_ok());
-    assert_eq!(rt; other.took(), rest);
+    for room in 0..75 {
+        let (front, rest) = WHOLE.split_at(room);
+        let (place, start) = record_at(room);
+        let mut sink = Slow::new(room, 7);
+        let Err(fault) = write_message(&mut sink, &message) else {
+            panic!(rt; "the sink fails");
+        };
+        assert_eq!(rt; sink.took(), front);
+        assert_eq!(rt; fault.place, place);
+        assert!(rt; fault.place < 7);
+        let WriteFault::Io(count) = fault.fault else {
+            panic!(rt; "the sink fails");
+        };
+        assert_eq!(rt; start.saturating_add(count), room as u64);
+        let mut other = Slow::new(1000, 1000);
+        assert!(rt; write_message_from(&mut other, &message, fault.place, count).is_ok());
+        assert_eq!(rt; other.took(), rest);
+    }
 }
 
 #[test]

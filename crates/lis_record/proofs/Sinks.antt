@@ -3,6 +3,8 @@ use Rattle.std.proofs.Math.Seq.{drop-append-add}
 use Rattle.std.proofs.Common.{◌≡◌, ℕ, zero, suc, ◌+◌, ◌-◌, ◌^◌, ◌<◌, ◌≤◌, min, List, [], ◌∷◌, ◌++◌, length, take, drop, Option, Some, None, Result, Ok, Err, refl, sym, ap, ◌∙◌, append-nil, append_assoc, length-append, zero-add, arith}
 use Rattle.std.proofs.lemmas.List.{drop_at, take_at, drop-drop, drop_all, take-append-le}
 use Rattle.std.specs.Io.KnownBytes.{Appends, Keeps}
+use Rattle.lis_record.specs.declared.faults.WriteFault.{WriteFault}
+use Rattle.lis_record.specs.declared.faults.WriteFault.TheVariants as write_faults
 use Rattle.lis_record.specs.Writing.{Sent}
 
 take-nil : {A : Type 0} (k : ℕ) → take {A = A} k [] ≡ []
@@ -63,10 +65,12 @@ WrittenOn-more old mid new bytes rest others count within is taken more left siz
 -- ---- chunk after chunk
 
 -- bytes went out whole, and more follow
-pub Sent-more : (passed later : ℕ) (bytes rest : List ℕ) (old mid new : Option (List ℕ)) (r : Result Unit ℕ) → later ≡ min (passed + length bytes) (2 ^ 64 - 1)
+pub Sent-more : (passed later : ℕ) (bytes rest : List ℕ) (old mid new : Option (List ℕ)) (r : Result Unit WriteFault) → later ≡ min (passed + length bytes) (2 ^ 64 - 1)
     → Appends old mid bytes → Sent later rest mid new r → Sent passed (bytes ++ rest) old new r
 Sent-more passed later bytes rest old mid new (Ok done) e h g = Appends-then old mid new bytes rest h g
-Sent-more passed later bytes rest old mid new (Err told) e h (count, is_told, short, more) =
+Sent-more passed later bytes rest old mid new (Err (write_faults.CharNotText number)) e h g = absurd g
+Sent-more passed later bytes rest old mid new (Err write_faults.TooLong) e h g = absurd g
+Sent-more passed later bytes rest old mid new (Err (write_faults.Io told)) e h (count, is_told, short, more) =
     let size = length-append bytes rest in
     let front : take (length bytes + count) (bytes ++ rest) ≡ bytes ++ take count rest =
     take-split (length bytes) count (bytes ++ rest) ∙ rw (take_at bytes rest (length bytes) refl, drop_at bytes rest (length bytes) refl) refl in (
@@ -78,7 +82,7 @@ Sent-more passed later bytes rest old mid new (Err told) e h (count, is_told, sh
 
 -- the sink failed in these bytes
 pub Sent-part : (passed told count : ℕ) (bytes rest : List ℕ) (old new : Option (List ℕ)) → told ≡ min (passed + count) (2 ^ 64 - 1) → count < length bytes
-    → Appends old new (take count bytes) → Sent passed (bytes ++ rest) old new (Err told)
+    → Appends old new (take count bytes) → Sent passed (bytes ++ rest) old new (Err (write_faults.Io told))
 Sent-part passed told count bytes rest old new is_told short taken =
     let size = length-append bytes rest in (count, is_told, omega (arith, size), rw (take-append-le count bytes rest (omega arith)) taken)
 

@@ -4,7 +4,6 @@ use Rattle.std.specs.Prelude.{◌↔◌}
 use Rattle.std.proofs.lemmas.Bool.{cases_lt, lt-ltb}
 use Rattle.std.proofs.lemmas.List.{drop-take, length-drop}
 use Rattle.std.specs.Option.{option_or}
-use Rattle.std.specs.Io.KnownBytes.{Appends}
 use Rattle.lis_record.specs.declared.faults.WriteFault.{WriteFault}
 use Rattle.lis_record.specs.declared.faults.WriteFault.TheVariants as write_faults
 use Rattle.lis_record.specs.declared.records.TheConstants.{RECORD_LIMIT}
@@ -76,17 +75,16 @@ is_io-refused d content write_faults.TooLong h = refl
 is_io-refused d content (write_faults.Io count) h = absurd (check_fault-io d content count h)
 
 -- what the engine sent of a text that is no longer than a record and its CR
-pub Wrote-failed : (refusal : Option WriteFault) (skip told : ℕ) (bytes rest : List ℕ) (old new : Option (List ℕ)) → refusal ≡ None → skip ≤ length bytes → length bytes ≤ RECORD_LIMIT + 1
-    → rest ≡ drop skip bytes → Sent skip rest old new (Err told) → Wrote refusal skip bytes old new (Err (write_faults.Io told))
-Wrote-failed refusal skip told bytes rest old new none within short is (count, is_told, less, taken) =
+pub Wrote-sent : (refusal : Option WriteFault) (skip : ℕ) (bytes rest : List ℕ) (old new : Option (List ℕ)) (r : Result Unit WriteFault) → refusal ≡ None → skip ≤ length bytes → length bytes ≤ RECORD_LIMIT + 1
+    → rest ≡ drop skip bytes → Sent skip rest old new r → Wrote refusal skip bytes old new r
+Wrote-sent refusal skip bytes rest old new (Ok tt) none within short is sent = (none, rw is at sent)
+Wrote-sent refusal skip bytes rest old new (Err (write_faults.CharNotText number)) none within short is sent = absurd sent
+Wrote-sent refusal skip bytes rest old new (Err write_faults.TooLong) none within short is sent = absurd sent
+Wrote-sent refusal skip bytes rest old new (Err (write_faults.Io told)) none within short is (count, is_told, less, taken) =
     let size : length rest ≡ length bytes - skip = ap length is ∙ length-drop skip bytes in
     let exact : told ≡ skip + count = omega (arith, size) in
     let part : drop skip (take told bytes) ≡ take count rest = ap (λ (k : ℕ). drop skip (take k bytes)) exact ∙ drop-take skip count bytes ∙ ap (take count) (sym is) in
     (none, omega arith, omega (arith, size), rw part taken)
-
-pub Wrote-whole : (refusal : Option WriteFault) (skip : ℕ) (bytes rest : List ℕ) (old new : Option (List ℕ)) → refusal ≡ None → rest ≡ drop skip bytes → Appends old new rest
-    → Wrote refusal skip bytes old new (Ok tt)
-Wrote-whole refusal skip bytes rest old new none is taken = (none, rw is at taken)
 
 -- ---- the test of a length
 
@@ -130,9 +128,12 @@ unfolding field_fault
 field_fault-none d repeats h short = ap (λ o. option_or o (long_fault (spelled_field d repeats))) (field_char_fault-text repeats h) ∙ long_fault-within (spelled_field d repeats) short
 
 -- what the engine sent of bytes of any number
-pub WroteAny-failed : (refusal : Option WriteFault) (told : ℕ) (bytes rest : List ℕ) (old new : Option (List ℕ)) → refusal ≡ None → rest ≡ bytes
-    → Sent 0 rest old new (Err told) → WroteAny refusal bytes old new (Err (write_faults.Io told))
-WroteAny-failed refusal told bytes rest old new none is (count, is_told, less, taken) = (none, count, rw zero-add at is_told, rw is at less, rw is at taken)
+pub WroteAny-sent : (refusal : Option WriteFault) (bytes rest : List ℕ) (old new : Option (List ℕ)) (r : Result Unit WriteFault) → refusal ≡ None → rest ≡ bytes → Sent 0 rest old new r
+    → WroteAny refusal bytes old new r
+WroteAny-sent refusal bytes rest old new (Ok tt) none is sent = (none, rw is at sent)
+WroteAny-sent refusal bytes rest old new (Err (write_faults.CharNotText number)) none is sent = absurd sent
+WroteAny-sent refusal bytes rest old new (Err write_faults.TooLong) none is sent = absurd sent
+WroteAny-sent refusal bytes rest old new (Err (write_faults.Io told)) none is (count, is_told, less, taken) = (none, count, rw zero-add at is_told, rw is at less, rw is at taken)
 
 -- of bytes within the limit of a record the count is exact
 pub Wrote-any : (refusal : Option WriteFault) (bytes : List ℕ) (old new : Option (List ℕ)) (r : Result Unit WriteFault) (weaker : Option WriteFault) → refusal ≡ None → weaker ≡ None → length bytes ≤ RECORD_LIMIT

@@ -41,27 +41,27 @@ fn write_all<W: Sink>(sink: &mut W, bytes: &[u8]) -> Result<(), usize>
     Ok(())
 }
 
-// Writes the chunk from `left` on, and then what the cursor has; else how many bytes were passed, with
-// those that were passed before.
+// Writes the chunk from `left` on, and then what the cursor has; where the sink fails, the fault counts those
+// that were passed before too.
 fn send<W: Sink>(
     sink: &mut W,
     chunk: &mut Chunk,
     cursor: &mut Cursor<'_>,
     left: usize,
     passed: u64,
-) -> Result<(), u64>
+) -> Result<(), WriteFault>
     requires open_sink { W.failed sink.old ≡ false }
     requires within { left ≤ length chunk.old }
     requires filled { length chunk.old ≡ 0 → cursor.old ≡ [] }
     ensures sent { Sent passed (drop left chunk.old ++ cursor.old) (W.taken sink.old) (W.taken sink.new) result }
-    ensures failed { W.failed sink.new ≡ is_err result }
+    ensures failed { W.failed sink.new ≡ is_io result }
 {
     let mut left = left;
     let mut passed = passed;
     while !chunk.is_empty() {
         let (_, bytes) = chunk.as_slice().split_at(left);
         if let Err(count) = write_all(sink, bytes) {
-            return Err(passed.saturating_add(count as u64));
+            return Err(WriteFault::Io(passed.saturating_add(count as u64)));
         }
         passed = passed.saturating_add(bytes.len() as u64);
         left = 0;
@@ -147,12 +147,12 @@ fn bad_field_place(fields: &[Field]) -> Option<usize>
 }
 
 // The number of the first field with a character that is no text byte.
-fn bad_field_number(record: &Record) -> Option<usize>
-    ensures number { result ≡ bad_field_number record.now }
-    ensures shape { IsRecordShape record.now }
+fn bad_field_number(entry: &Record) -> Option<usize>
+    ensures number { result ≡ bad_field_number entry.now }
+    ensures shape { IsRecordShape entry.now }
 {
-    let first = record.kind().first_number();
-    match bad_field_place(record.as_slice()) {
+    let first = entry.kind().first_number();
+    match bad_field_place(entry.as_slice()) {
         Some(place) => Some(place + first),
         None => None,
     }
@@ -162,16 +162,16 @@ fn bad_field_number(record: &Record) -> Option<usize>
 fn begin_record<'a>(
     chunk: &mut Chunk,
     delimiters: Delimiters,
-    record: &'a Record,
+    entry: &'a Record,
     end: &'a [u8],
 ) -> Cursor<'a>
     requires { chunk.old ≡ [] }
-    ensures whole { chunk.new ++ result ≡ spelled delimiters record.now ++ end.now }
+    ensures whole { chunk.new ++ result ≡ spelled delimiters entry.now ++ end.now }
     ensures filled { length chunk.new ≡ 0 → result ≡ [] }
 {
-    chunk.push(record.kind().letter());
-    push_declared(chunk, delimiters, record.kind());
-    let mut cursor = Cursor::of_fields(delimiters, record.as_slice(), end);
+    chunk.push(entry.kind().letter());
+    push_declared(chunk, delimiters, entry.kind());
+    let mut cursor = Cursor::of_fields(delimiters, entry.as_slice(), end);
     cursor.fill(chunk);
     cursor
 }
@@ -204,19 +204,19 @@ fn push_declared(chunk: &mut Chunk, delimiters: Delimiters, kind: Kind)
 ///
 /// `CharNotText(number)`, where the field of that number is the first with a `Char` that is no text byte;
 /// else `TooLong`, where the spelling has over 65,536 bytes. Never `Io`.
-pub fn check_record(delimiters: &Delimiters, record: &Record) -> Result<(), WriteFault>
+pub fn check_record(delimiters: &Delimiters, entry: &Record) -> Result<(), WriteFault>
     ensures fault { MatchResult result
-        (λ _. check_fault delimiters.now record.now ≡ None)
-        (λ fault. check_fault delimiters.now record.now ≡ Some fault) }
+        (λ _. check_fault delimiters.now entry.now ≡ None)
+        (λ fault. check_fault delimiters.now entry.now ≡ Some fault) }
     // What can be written is a text of the record.
-    ensures related { OnOk result (IsRecord delimiters.now (spelled delimiters.now record.now) record.now) }
+    ensures related { OnOk result (IsRecord delimiters.now (spelled delimiters.now entry.now) entry.now) }
 {
     delimiters.known();
-    if let Some(number) = bad_field_number(record) {
+    if let Some(number) = bad_field_number(entry) {
         return Err(WriteFault::CharNotText(number));
     }
     let mut chunk = Chunk::new();
-    let mut cursor = begin_record(&mut chunk, *delimiters, record, &[]);
+    let mut cursor = begin_record(&mut chunk, *delimiters, entry, &[]);
     if !is_within(&mut chunk, &mut cursor, RECORD_LIMIT) {
         return Err(WriteFault::TooLong);
     }
@@ -230,25 +230,22 @@ pub fn check_record(delimiters: &Delimiters, record: &Record) -> Result<(), Writ
 pub fn write_record_from<W: Sink>(
     sink: &mut W,
     delimiters: &Delimiters,
-    record: &Record,
+    entry: &Record,
     skip: u64,
 ) -> Result<(), WriteFault>
     requires open_sink { W.failed sink.old ≡ false }
-    requires skip { skip ≤ length (written delimiters.now record.now) }
-    ensures wrote { Wrote (check_fault delimiters.now record.now) skip (written delimiters.now record.now)
+    requires skip { skip ≤ length (written delimiters.now entry.now) }
+    ensures wrote { Wrote (check_fault delimiters.now entry.now) skip (written delimiters.now entry.now)
         (W.taken sink.old) (W.taken sink.new) result }
     ensures failed { W.failed sink.new ≡ is_io result }
 {
-    if let Err(fault) = check_record(delimiters, record) {
+    if let Err(fault) = check_record(delimiters, entry) {
         return Err(fault);
     }
     let mut chunk = Chunk::new();
-    let mut cursor = begin_record(&mut chunk, *delimiters, record, b"\r");
+    let mut cursor = begin_record(&mut chunk, *delimiters, entry, b"\r");
     let left = pass_over(&mut chunk, &mut cursor, skip as usize);
-    match send(sink, &mut chunk, &mut cursor, left, skip) {
-        Ok(()) => Ok(()),
-        Err(count) => Err(WriteFault::Io(count)),
-    }
+    send(sink, &mut chunk, &mut cursor, left, skip)
 }
 
 /// Writes a record's spelling and CR.
@@ -258,14 +255,14 @@ pub fn write_record_from<W: Sink>(
 pub fn write_record<W: Sink>(
     sink: &mut W,
     delimiters: &Delimiters,
-    record: &Record,
+    entry: &Record,
 ) -> Result<(), WriteFault>
     requires { W.failed sink.old ≡ false }
-    ensures wrote { Wrote (check_fault delimiters.now record.now) 0 (written delimiters.now record.now)
+    ensures wrote { Wrote (check_fault delimiters.now entry.now) 0 (written delimiters.now entry.now)
         (W.taken sink.old) (W.taken sink.new) result }
     ensures failed { W.failed sink.new ≡ is_io result }
 {
-    write_record_from(sink, delimiters, record, 0)
+    write_record_from(sink, delimiters, entry, 0)
 }
 
 /// Writes a field's spelling alone, of any length.
@@ -287,10 +284,7 @@ pub fn put_field<W: Sink>(
     }
     let mut chunk = Chunk::new();
     let mut cursor = begin_field(&mut chunk, *delimiters, field);
-    match send(sink, &mut chunk, &mut cursor, 0, 0) {
-        Ok(()) => Ok(()),
-        Err(count) => Err(WriteFault::Io(count)),
-    }
+    send(sink, &mut chunk, &mut cursor, 0, 0)
 }
 
 /// Writes a field's spelling alone.

@@ -1,5 +1,6 @@
 use Rattle.std.proofs.Common.{◌∙◌, sym, length, drop, Ok, Err, arith}
 use Rattle.std.proofs.lemmas.Bool.{eqb-true}
+use Rattle.lis_record.specs.declared.faults.WriteFault.TheVariants as write_faults
 use Rattle.lis_record.proofs.Sinks.{Appends-nothing, Sent-more, Sent-part}
 use Rattle.lis_record.proofs.writing.send.Goals as goal
 
@@ -8,7 +9,7 @@ returns-in-Err-clause-sent g c =
     let i = c.loop-chunk.invariant in
     let bytes = rw c.as_slice.ensures.value at c.split_at.ensures.back in
     let failed = rw bytes at c.in-Err.ensures.err in
-    i.goes_on (g.W.Sink.taken c.write_all.new.sink) (Err c.saturating_add.result)
+    i.goes_on (g.W.Sink.taken c.write_all.new.sink) (Err (write_faults.Io c.saturating_add.result))
     (Sent-part c.loop-chunk.passed c.saturating_add.result c.in-Err.count (drop c.loop-chunk.left c.loop-chunk.chunk) c.loop-chunk.cursor (g.W.Sink.taken c.loop-chunk.sink) (g.W.Sink.taken c.write_all.new.sink)
     c.saturating_add.ensures failed.0 failed.1)
 

@@ -1,4 +1,5 @@
 use Rattle.std.proofs.Common.{◌≡◌, ℕ, ◌+◌, ◌≤◌, List, [], ◌++◌, length, drop, false, Option, Result}
+use Rattle.lis_record.specs.declared.faults.WriteFault.{WriteFault}
 use Rattle.lis_record.specs.Writing.{Sent}
 use Rattle.lis_record.proofs.writing.send.Given as goal
 
@@ -8,7 +9,7 @@ invariant-loop-chunk g l = record {
   open_sink : g.W.Sink.failed l.sink ≡ false;
   within : l.left ≤ length l.chunk;
   filled : length l.chunk ≡ 0 → l.cursor ≡ [];
-  goes_on : (new : Option (List ℕ)) (r : Result Unit ℕ) → Sent l.passed (drop l.left l.chunk ++ l.cursor) (g.W.Sink.taken l.sink) new r
+  goes_on : (new : Option (List ℕ)) (r : Result Unit WriteFault) → Sent l.passed (drop l.left l.chunk ++ l.cursor) (g.W.Sink.taken l.sink) new r
       → Sent l.initial.passed (drop l.initial.left l.initial.chunk ++ l.initial.cursor) (g.W.Sink.taken l.initial.sink) new r;
 }
 
