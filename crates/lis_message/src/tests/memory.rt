@@ -132,8 +132,10 @@ fn records_of(alloc: Global) -> Option<Records> {
 
 #[test]
 fn records_are_a_message_unless_memory_is_refused(rt: HostRuntime) {
+    let mut refused = 0u8;
     for _ in 0..2 {
         let Some(records) = records_of(rt.alloc()) else {
+            refused = refused.saturating_add(1);
             continue;
         };
         match Message::from_records(rt.alloc(), Delimiters::usual(), records) {
@@ -141,9 +143,11 @@ fn records_are_a_message_unless_memory_is_refused(rt: HostRuntime) {
             Err(fault) => {
                 assert_eq!(rt; fault.reason, Reason::OutOfMemory);
                 assert!(rt; fault.place >= 1 && fault.place <= 9);
+                refused = refused.saturating_add(1);
             }
         }
     }
+    assert!(rt; refused <= 1, "one refused growth spoils the next call");
 }
 
 // The message of six records, unless memory is refused.
