@@ -1,13 +1,13 @@
 //! Lists of events, written as one letter each.
 
 use crate::*;
-use lis_frame::{LinkText, List, TextRefused, Texts};
-use std::alloc::Global;
-use std::test::Fail;
+use lis_frame::{LinkText, List, Texts};
+use std::alloc::{AllocError, Global};
 
 /// One event, by its letter: `A` to `H` start a session of one text of that letter, `L` one of 500
-/// letters A, `N` one of nine texts A and `M` one of a text of 500 letters and one of none.
-pub(crate) fn event_of(alloc: Global, letter: u8) -> Result<Event, Fail> {
+/// letters A, `N` one of nine texts A and `M` one of a text of 500 letters and one of none; `o`, as
+/// any other, loses a reply.
+pub(crate) fn event_of(alloc: Global, letter: u8) -> Result<Event, AllocError> {
     Ok(match letter {
         b'A'..=b'H' => Event::Start(texts_of(alloc, letter, &[1])?),
         b'L' => Event::Start(texts_of(alloc, b'A', &[500])?),
@@ -24,7 +24,6 @@ pub(crate) fn event_of(alloc: Global, letter: u8) -> Result<Event, Fail> {
         b'x' => Event::DamageReply(0x7f),
         b'y' => Event::DamageReply(0x05),
         b'z' => Event::DamageReply(0x06),
-        b'o' => Event::LoseReply,
         b't' => Event::SenderTimer,
         b'u' => Event::ReceiverTimer,
         b's' => Event::RestartSender,
@@ -32,12 +31,12 @@ pub(crate) fn event_of(alloc: Global, letter: u8) -> Result<Event, Fail> {
         b'+' => Event::Ready,
         b'-' => Event::Busy,
         b'*' => Event::Contending,
-        _ => return Err(Fail::new("no event has this letter")),
+        _ => Event::LoseReply,
     })
 }
 
 /// The events of such letters.
-pub(crate) fn events_of(alloc: Global, letters: &[u8]) -> Result<Events, Fail> {
+pub(crate) fn events_of(alloc: Global, letters: &[u8]) -> Result<Events, AllocError> {
     let mut events = List::new(alloc);
     for letter in letters {
         events.push(event_of(alloc, *letter)?)?;
@@ -45,21 +44,19 @@ pub(crate) fn events_of(alloc: Global, letters: &[u8]) -> Result<Events, Fail> {
     Ok(events)
 }
 
-pub(crate) fn bytes_of(alloc: Global, bytes: &[u8]) -> Result<LinkText, Fail> {
+pub(crate) fn bytes_of(alloc: Global, bytes: &[u8]) -> Result<LinkText, AllocError> {
     let mut text = List::new(alloc);
     text.extend(bytes)?;
     Ok(text)
 }
 
 /// Texts of so many of this letter each.
-fn texts_of(alloc: Global, letter: u8, counts: &[usize]) -> Result<Texts, Fail> {
+fn texts_of(alloc: Global, letter: u8, counts: &[usize]) -> Result<Texts, AllocError> {
     let mut texts = Texts::new(alloc);
     for count in counts {
         let text = List::from_vec(vec![in alloc; letter; *count]?);
-        match texts.push(text) {
-            Ok(()) => {}
-            Err(TextRefused::Full(_)) => return Err(Fail::new("full")),
-            Err(TextRefused::OutOfMemory(_)) => return Err(Fail::new("memory")),
+        if texts.push(text).is_err() {
+            return Err(AllocError);
         }
     }
     Ok(texts)
