@@ -205,6 +205,25 @@ fn a_stream_comes_byte_by_byte(rt: HostRuntime) {
 }
 
 #[test]
+fn a_message_of_100000_records_comes_byte_by_byte(rt: HostRuntime) {
+    let mut reader = MessageReader::new(rt.alloc());
+    for byte in b"H|\\^&\r" {
+        assert!(rt; reader.feed(&[*byte]).fault.is_none());
+    }
+    for _ in 0..99_998 {
+        assert!(rt; reader.feed(b"C").fault.is_none());
+        assert!(rt; reader.feed(b"\r").fault.is_none());
+    }
+    assert!(rt; reader.feed(b"L").messages.is_empty());
+    let fed = reader.feed(b"\r");
+    assert_eq!(rt;
+        fed.messages.get(0).map(|message| message.len()),
+        Some(100_000)
+    );
+    assert!(rt; reader.finish().is_ok());
+}
+
+#[test]
 fn a_fault_stays(rt: HostRuntime) {
     let mut reader = MessageReader::new(rt.alloc());
     let first = reader.feed(b"P|1\r");
