@@ -1,5 +1,5 @@
 //! Findings on sequence numbers (LIS02-A2).
-ghost use Rattle.std.specs.Prelude.{◌≡◌, ◌≢◌, ℕ, ◌+◌, ◌≤◌, ◌<◌, ◌∷◌, [], ◌++◌, List as Listed, Some, IfSome, IfOk, OnOk, length};
+ghost use Rattle.std.specs.Prelude.{◌≡◌, ◌≢◌, ℕ, ◌+◌, ◌<◌, ◌∷◌, [], ◌++◌, List as Listed, Some, IfSome, IfOk, OnOk};
 ghost use Rattle.lis_record.specs.declared.kinds.Kind.{Kind as KindOf};
 ghost use Rattle.lis_message.specs.Findings.{finding_on, findings_of};
 ghost use Rattle.std.specs.Option.{option_to_list};

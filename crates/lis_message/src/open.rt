@@ -2,7 +2,6 @@
 ghost use Rattle.std.specs.Prelude.{◌≡◌, ◌≢◌, ◌+◌, ◌∷◌, [], ◌++◌, IfOk, None, Some, length};
 ghost use Rattle.lis_record.specs.declared.kinds.Kind.TheVariants as kinds;
 ghost use Rattle.lis_record.specs.Delimiters.{IsDelimiters};
-ghost use Rattle.lis_record.specs.Shape.{IsRecordShape};
 ghost use Rattle.lis_message.specs.Level.{misplaced};
 ghost use Rattle.lis_message.specs.Stream.{level_of, capped};
 ghost use Rattle.lis_message.specs.Tree.{flatten, IsTree};

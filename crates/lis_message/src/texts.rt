@@ -1,5 +1,5 @@
 //! The link texts of a message, one for each record.
-ghost use Rattle.std.specs.Prelude.{◌≡◌, ◌≤◌, IfOk, IfErr, None, Some, false, length, map};
+ghost use Rattle.std.specs.Prelude.{◌≡◌, IfOk, IfErr, None, Some, false, map};
 ghost use Rattle.std.specs.List.{AllByRecursion, flat_map};
 ghost use Rattle.lis_frame.specs.Text.{longest_text, text_fault};
 ghost use Rattle.lis_record.specs.Faults.{check_fault};

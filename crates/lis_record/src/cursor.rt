@@ -1,6 +1,6 @@
 //! What is left of a record or a field while it is written.
 
-ghost use Rattle.std.specs.Prelude.{◌≡◌, ◌+◌, ◌<◌, ◌≤◌, ◌++◌, ◌∷◌, [], length, IsTrue, IsFalse};
+ghost use Rattle.std.specs.Prelude.{◌≡◌, ◌+◌, ◌<◌, ◌≤◌, ◌++◌, [], length, IsTrue, IsFalse};
 ghost use Rattle.lis_record.specs.Delimiters.{DelimiterBytes};
 ghost use Rattle.lis_record.specs.Remaining.{more_components, more_fields, more_repeats, remaining};
 ghost use Rattle.lis_record.specs.Spelling.{spelled_component, spelled_field, spelled_repeat};

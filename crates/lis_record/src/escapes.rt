@@ -1,9 +1,8 @@
 //! Reading a component's symbols, and the escapes among them (LIS02-A2, Delimiters).
 
-ghost use Rattle.std.specs.Prelude.{◌≡◌, ◌≤◌, ◌++◌, ◌∷◌, ◌==◌, [], length, map, is_some, option_map, IfOk, MatchResult, Result, Ok, Err, Some, None};
+ghost use Rattle.std.specs.Prelude.{◌≡◌, ◌≤◌, ◌++◌, ◌∷◌, ◌==◌, [], length, map, is_some, option_map, IfOk, Result, Ok, Err, Some, None};
 ghost use Rattle.lis_record.specs.declared.symbols.Sym.TheVariants.{Raw};
 ghost use Rattle.hex.specs.Hex.{decode_of};
-ghost use Rattle.lis_record.specs.Delimiters.{DelimiterBytes};
 ghost use Rattle.lis_record.specs.Escapes.{escape_of, letter_symbol, raw_symbols};
 ghost use Rattle.lis_record.specs.FrontReading.{symbols_of, with_escape};
 

@@ -2,8 +2,8 @@
 
 ghost use Rattle.std.specs.Prelude.{◌≡◌, ℕ, List, None};
 ghost use Rattle.lis_record.specs.Delimiters.{DelimiterBytes, IsDelimiters};
-ghost use Rattle.lis_record.specs.Faults.{check_fault, header_fault, record_fault};
-ghost use Rattle.lis_record.specs.Relation.{IsRecord, Lacks};
+ghost use Rattle.lis_record.specs.Faults.{check_fault};
+ghost use Rattle.lis_record.specs.Relation.{IsRecord};
 ghost use Rattle.lis_record.specs.Shape.{IsRecordShape, RecordContent};
 ghost use Rattle.lis_record.specs.Spelling.{spelled};
 ghost use Rattle.lis_record.specs.declared.kinds.Kind.TheVariants as kinds;

@@ -1,8 +1,8 @@
 //! What a field is made of: components in repeats, repeats in fields (LIS02-A2, Delimiters).
 
-ghost use Rattle.std.specs.Prelude.{◌≡◌, ◌++◌, ◌∷◌, [], length, slice_get, IfErr, IfOk, IfSome, OnOk, OnErr};
+ghost use Rattle.std.specs.Prelude.{◌≡◌, ◌++◌, ◌∷◌, [], length, slice_get, IfErr, IfOk, OnOk};
 ghost use Rattle.std.specs.Option.{option_copied};
-ghost use Rattle.lis_record.specs.Shape.{AreSymbols, IsFieldShape, IsRepeatShape, IsSymbol};
+ghost use Rattle.lis_record.specs.Shape.{AreSymbols, IsFieldShape, IsRepeatShape};
 
 use crate::symbols::Sym;
 use std::alloc::{AllocFailed, Global};

@@ -1,7 +1,7 @@
 //! Reading a record from its text (LIS02-A2, Delimiters, and Data Record Usage Overview).
 
-ghost use Rattle.std.specs.Prelude.{◌≡◌, ◌≢◌, ◌∷◌, ℕ, List, IfOk, IfErr, MatchOption, MatchResult, Option, Some, None, true, false};
-ghost use Rattle.lis_record.specs.Delimiters.{DelimiterBytes, IsDelimiters, delimiters_of};
+ghost use Rattle.std.specs.Prelude.{◌≡◌, ◌≢◌, IfOk, IfErr, MatchOption, MatchResult, Option, Some, None, true, false};
+ghost use Rattle.lis_record.specs.Delimiters.{DelimiterBytes, IsDelimiters};
 ghost use Rattle.lis_record.specs.Faults.{TellsFault, delimiter_part_fault, header_fault, is_header_kind, is_other_kind, record_fault, text_fault, trailing_byte};
 ghost use Rattle.lis_record.specs.FrontReading.{DeclaresDelimiters, OpensHeader, OpensRecord, components_of, fields_of, repeats_of};
 ghost use Rattle.lis_record.specs.Relation.{IsRecord};

@@ -1,6 +1,6 @@
 //! A record: its kind and its fields (LIS02-A2, Data Record Usage Overview).
 
-ghost use Rattle.std.specs.Prelude.{◌≡◌, ◌++◌, ◌∷◌, [], length, slice_get, IfErr, OnOk};
+ghost use Rattle.std.specs.Prelude.{◌≡◌, ◌++◌, ◌∷◌, [], length, IfErr, OnOk};
 ghost use Rattle.std.specs.Option.{option_copied};
 ghost use Rattle.lis_record.specs.Shape.{AreFields, IsRecordShape, field_at, first_number};
 

@@ -1,6 +1,6 @@
 //! Text bytes, and the parts of a text round a delimiter (LIS02-A2, Character Codes and Delimiters).
 
-ghost use Rattle.std.specs.Prelude.{◌≡◌, ◌≤◌, ◌∷◌, ◌==◌, length, not, position};
+ghost use Rattle.std.specs.Prelude.{◌≡◌, ◌≤◌, ◌∷◌, ◌==◌, length, position};
 ghost use Rattle.lis_record.specs.FrontReading.{parts_behind, parts_of};
 ghost use Rattle.lis_record.specs.Text.{bad_byte_place, is_text_byte};
 

@@ -1,12 +1,11 @@
 //! Writing records and fields to a sink, without memory (LIS02-A2, Delimiters).
 
-ghost use Rattle.std.specs.Prelude.{◌≡◌, ◌+◌, ◌<◌, ◌≤◌, ◌++◌, ◌∷◌, [], ◌↔◌, length, take, drop, false, not, is_err, IsTrue, IfErr, OnOk, MatchResult, option_map, position, None, Some};
+ghost use Rattle.std.specs.Prelude.{◌≡◌, ◌+◌, ◌<◌, ◌≤◌, ◌++◌, [], ◌↔◌, length, take, drop, false, not, is_err, IsTrue, IfErr, OnOk, MatchResult, position, None, Some};
 ghost use Rattle.std.specs.Io.KnownBytes.{Appends};
 ghost use Rattle.lis_record.specs.Faults.{bad_field_number, check_fault, field_char_fault, field_fault, is_text_component, is_text_field, is_text_repeat, is_text_symbol};
 ghost use Rattle.lis_record.specs.Relation.{IsRecord, declared_part};
-ghost use Rattle.lis_record.specs.Shape.{IsFieldShape, IsRecordShape, first_number};
+ghost use Rattle.lis_record.specs.Shape.{IsRecordShape, first_number};
 ghost use Rattle.lis_record.specs.Spelling.{spelled, spelled_field, written};
-ghost use Rattle.lis_record.specs.Kinds.{letter_of};
 ghost use Rattle.lis_record.specs.Writing.{Sent, Wrote, WroteAny, is_io};
 
 use crate::chunk::Chunk;

@@ -1,6 +1,6 @@
 //! Playing events.
 
-ghost use Rattle.std.specs.Prelude.{◌≡◌, IfOk, All, length};
+ghost use Rattle.std.specs.Prelude.{◌≡◌, IfOk, All};
 ghost use Rattle.lis_frame.specs.Limit.{IsLimit};
 ghost use Rattle.lis_world.specs.Safe.{IsSafe, HandsOutAll};
 ghost use Rattle.lis_world.specs.Steps.{world};

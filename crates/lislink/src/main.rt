@@ -5,7 +5,6 @@ mod streams;
 
 use lis_port::{Reading, Writing};
 use lis_tool::{Command, Report, ToolFault, command, run_show, run_show_of};
-use std::alloc::{AllocError, Global};
 use std::cell::RefCell;
 use std::env;
 use std::io::{self, BufReader, BufWriter, Write};
