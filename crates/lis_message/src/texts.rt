@@ -36,6 +36,8 @@ struct TextSink {
 impl Sink for TextSink {
     ghost taken = { λ s. Some s.text };
 
+    ghost sent = { λ s. Some s.text };
+
     ghost failed = { λ s. s.failed };
 
     fn write(&mut self, bytes: &[u8]) -> Result<usize, Failed> {
@@ -49,6 +51,11 @@ impl Sink for TextSink {
                 Err(Failed)
             }
         }
+    }
+
+    fn flush(&mut self) -> Result<(), Failed> {
+        self.failed = false;
+        Ok(())
     }
 
     fn failed(&self) -> bool {

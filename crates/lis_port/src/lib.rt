@@ -2,6 +2,7 @@
 //! over readers and writers and over memory.
 #![tactic(auto)]
 
+mod buffered;
 mod cut;
 mod port;
 mod reading;
@@ -10,6 +11,7 @@ mod slow;
 mod tests;
 mod writing;
 
+pub use buffered::Buffered;
 pub use cut::{Cut, Then};
 pub use port::{Failed, Sink, Source};
 pub use reading::Reading;

@@ -1,7 +1,7 @@
 //! The two ports: a source of bytes and a sink for bytes.
 
-ghost use Rattle.std.specs.Prelude.{◌≡◌, ℕ, ◌+◌, ◌<◌, ◌≤◌, ◌↔◌, Bool, List, Option, IfOk, is_err, length, IsTrue};
-ghost use Rattle.std.specs.Io.KnownBytes.{ReadConsumes, WriteAppends};
+ghost use Rattle.std.specs.Prelude.{◌≡◌, ℕ, ◌+◌, ◌<◌, ◌≤◌, ◌↔◌, Bool, List, Option, IfOk, OnOk, is_err, length, IsTrue};
+ghost use Rattle.std.specs.Io.KnownBytes.{Keeps, ReadConsumes, WriteAppends};
 
 /// A read or a write that failed. Nothing is tried again.
 #[derive(Debug, Clone, Copy, PartialEq, Eq)]
@@ -49,7 +49,10 @@ pub trait Sink {
     // The bytes that it has taken, where they are known.
     ghost taken: { Self → Option (List ℕ) };
 
-    // Whether the last call of `write` failed; false before the first.
+    // Those of them that it has sent on, and does not hold back.
+    ghost sent: { Self → Option (List ℕ) };
+
+    // Whether the last call of `write` or `flush` failed; false before the first.
     ghost failed: { Self → Bool };
 
     /// Takes bytes from the front of `bytes` and answers how many, at least one.
@@ -61,7 +64,13 @@ pub trait Sink {
         ensures bytes { WriteAppends (taken self.old) (taken self.new) result bytes.now }
         ensures failed { failed self.new ≡ is_err result };
 
-    /// Whether the last call of `write` failed.
+    /// Sends on what it holds back, if it holds any. What it took stays taken, also where it failed.
+    fn flush(&mut self) -> Result<(), Failed>
+        ensures taken { Keeps (taken self.old) (taken self.new) }
+        ensures sent { OnOk result (sent self.new ≡ taken self.new) }
+        ensures failed { failed self.new ≡ is_err result };
+
+    /// Whether the last call of `write` or `flush` failed.
     fn failed(&self) -> bool
         ensures { result ≡ failed self.now };
 }

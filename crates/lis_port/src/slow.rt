@@ -39,6 +39,7 @@ impl Slow {
         requires moves { 1 ≤ step }
         ensures value { result ≡ record { taken = []; room = room; step = step; failed = false } }
         ensures taken { ⟦<Slow as Sink>⟧.taken result ≡ Some [] }
+        ensures sent { ⟦<Slow as Sink>⟧.sent result ≡ Some [] }
         ensures failed { ⟦<Slow as Sink>⟧.failed result ≡ false }
     {
         Slow {
@@ -59,6 +60,8 @@ impl Slow {
 
 impl Sink for Slow {
     ghost taken = { λ s. Some s.taken };
+
+    ghost sent = { λ s. Some s.taken };
 
     ghost failed = { λ s. s.failed };
 
@@ -84,6 +87,14 @@ impl Sink for Slow {
         }
         self.failed = false;
         Ok(count)
+    }
+
+    fn flush(&mut self) -> Result<(), Failed>
+        ensures value { self.new ≡ record { taken = self.old.taken; room = self.old.room; step = self.old.step; failed = false } }
+        ensures result { result ≡ Ok (record {}) }
+    {
+        self.failed = false;
+        Ok(())
     }
 
     fn failed(&self) -> bool {

@@ -1,4 +1,5 @@
 use super::*;
+use std::io::BufWriter;
 use std::test::Fail;
 
 const HEADER_FRAME: [u8; 13] = [
@@ -46,6 +47,50 @@ fn a_slow_sink_takes_its_steps_and_then_fails(rt: HostRuntime) -> Result<(), Fai
     assert_eq!(rt; sink.write(b"abc"), Err(Failed));
     assert!(rt; sink.failed());
     assert_eq!(rt; sink.took(), b"aa".as_slice());
+    Ok(())
+}
+
+#[test]
+fn a_slow_sink_holds_nothing_back(rt: HostRuntime) -> Result<(), Fail> {
+    let mut sink = Slow::new(1, 1);
+    assert_eq!(rt; sink.write(b"ab"), Ok(1));
+    assert_eq!(rt; sink.write(b"b"), Err(Failed));
+    assert_eq!(rt; sink.flush(), Ok(()));
+    assert!(rt; !sink.failed());
+    assert_eq!(rt; sink.took(), b"a".as_slice());
+    Ok(())
+}
+
+#[test]
+fn a_buffered_sink_sends_at_a_flush(rt: HostRuntime) -> Result<(), Fail> {
+    let alloc = rt.alloc();
+    let mut sink = Buffered::new(BufWriter::with_capacity(alloc, 8, Vec::new(alloc))?);
+    assert_eq!(rt; sink.write(b"abc"), Ok(3));
+    let writer = sink.into_inner();
+    assert_eq!(rt; writer.get_ref().as_slice(), b"".as_slice());
+    let mut sink = Buffered::new(writer);
+    assert_eq!(rt; sink.flush(), Ok(()));
+    assert!(rt; !sink.failed());
+    assert_eq!(rt; sink.into_inner().get_ref().as_slice(), b"abc".as_slice());
+    Ok(())
+}
+
+#[test]
+fn a_flush_fails_where_the_writer_does(rt: HostRuntime) -> Result<(), Fail> {
+    let mut room = [0; 2];
+    let writer = BufWriter::with_capacity(rt.alloc(), 8, room.as_mut_slice())?;
+    let mut sink = Buffered::new(writer);
+    assert_eq!(rt; sink.write(b"abc"), Ok(3));
+    assert!(rt; !sink.failed());
+    assert_eq!(rt; sink.flush(), Err(Failed));
+    assert!(rt; sink.failed());
+
+    let mut room = [0; 2];
+    let writer = BufWriter::with_capacity(rt.alloc(), 8, room.as_mut_slice())?;
+    let mut sink = Writing::new(writer);
+    assert_eq!(rt; sink.write(b"abc"), Ok(3));
+    assert_eq!(rt; sink.flush(), Err(Failed));
+    assert!(rt; sink.failed());
     Ok(())
 }
 

@@ -5,8 +5,8 @@ ghost use Rattle.std.specs.Prelude.{◌≡◌, true, false};
 use crate::port::{Failed, Sink};
 use std::io::Write;
 
-/// A sink over a writer. An error of the writer, of whatever kind, and a write that takes nothing
-/// are `Failed` at once.
+/// A sink over a writer, which hands each write on at once. An error of the writer, of whatever
+/// kind, and a write that takes nothing are `Failed` at once.
 #[derive(Drop)]
 pub struct Writing<W> {
     writer: W,
@@ -17,6 +17,7 @@ impl<W: Write> Writing<W> {
     /// A sink that has not failed, behind what `writer` holds.
     pub fn new(writer: W) -> Self
         ensures taken { ⟦<Writing<W> as Sink>⟧.taken result ≡ W.contents writer }
+        ensures sent { ⟦<Writing<W> as Sink>⟧.sent result ≡ W.contents writer }
         ensures failed { ⟦<Writing<W> as Sink>⟧.failed result ≡ false }
     {
         Writing {
@@ -37,6 +38,8 @@ impl<W: Write> Writing<W> {
 impl<W: Write> Sink for Writing<W> {
     ghost taken = { λ s. W.contents s.writer };
 
+    ghost sent = { λ s. W.contents s.writer };
+
     ghost failed = { λ s. s.failed };
 
     fn write(&mut self, bytes: &[u8]) -> Result<usize, Failed> {
@@ -50,6 +53,12 @@ impl<W: Write> Sink for Writing<W> {
                 Err(Failed)
             }
         }
+    }
+
+    fn flush(&mut self) -> Result<(), Failed> {
+        let result = self.writer.flush().map_err(|_| Failed);
+        self.failed = result.is_err();
+        result
     }
 
     fn failed(&self) -> bool {

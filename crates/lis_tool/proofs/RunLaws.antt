@@ -3,7 +3,7 @@ use Rattle.std.proofs.Common.{◌≡◌, ℕ, Bool, true, false, List, [], ◌++
 use Rattle.std.specs.declared.result.Result.{Result}
 use Rattle.std.specs.Prelude.{IsTrue, ◌↔◌}
 use Rattle.lis_port.specs.declared.port.Failed.{Failed}
-use Rattle.std.specs.Io.KnownBytes.{Appends, Consumes}
+use Rattle.std.specs.Io.KnownBytes.{Appends, Consumes, Keeps}
 use Rattle.lis_frame.specs.Stream.{signals_after, stream_with}
 use Rattle.lis_tool.specs.declared.fault.ToolFault.{ToolFault}
 use Rattle.lis_tool.specs.declared.fault.ToolFault.TheVariants.{CaptureLine, Read, Write, OutOfMemory, TooManyReads}
@@ -20,9 +20,22 @@ consumes_then (Some ws) (Some vs) None xs ys first second = second
 consumes_then (Some ws) (Some vs) (Some us) xs ys first second =
     first ∙ ap (λ (l : List ℕ). xs ++ l) second ∙ sym (append_assoc xs ys us)
 
+pub appends_kept : (a b c : Option (List ℕ)) (text : List ℕ) → Appends a b text → Keeps b c → Appends a c text
+appends_kept None b c text taken kept = tt
+appends_kept (Some xs) None c text taken kept = absurd taken
+appends_kept (Some xs) (Some ys) None text taken kept = kept
+appends_kept (Some xs) (Some ys) (Some zs) text taken kept = kept ∙ taken
+
+-- a sink that took the whole text and then could not send it on
+pub held_back :
+    (a b c : Option (List ℕ)) (written : ℕ) (text : List ℕ) → Put a b 0 (Ok written) text → Keeps b c →
+    Wrote a c (Err (Write written)) text
+held_back a b c written text put kept =
+    (length text, record { within = put.within; taken = appends_kept a b c _ put.taken kept; counted = put.counted })
+
 -- what a failed sink took in a text is what went out in a run
 pub put_wrote : (a b : Option (List ℕ)) (fault : ToolFault) (text : List ℕ) → Put a b 0 (Err fault) text → Wrote a b (Err fault) text
-put_wrote a b (Write written) text put = put
+put_wrote a b (Write written) text put = (put.0, put.2)
 put_wrote a b (CaptureLine line) text put = put
 put_wrote a b Read text put = absurd put
 put_wrote a b OutOfMemory text put = put

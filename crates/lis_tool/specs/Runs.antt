@@ -1,5 +1,5 @@
 -- How a run over a source and a sink ends.
-use Rattle.std.specs.Prelude.{◌≡◌, ℕ, ◌<◌, Bool, true, false, List, Option, Ok, Err, length}
+use Rattle.std.specs.Prelude.{◌≡◌, ℕ, Bool, true, false, List, Option, Ok, Err, ⊤}
 use Rattle.std.specs.declared.result.Result.{Result}
 use Rattle.std.specs.Io.KnownBytes.{Appends, Consumes}
 use Rattle.lis_tool.specs.declared.fault.ToolFault.{ToolFault}
@@ -7,12 +7,12 @@ use Rattle.lis_tool.specs.declared.fault.ToolFault.TheVariants.{CaptureLine, Rea
 use Rattle.lis_tool.specs.declared.report.Report.{Report}
 use Rattle.lis_tool.specs.Output.{WentOut}
 
--- what went out for the bytes that were read: all of their text, or a part of it where the sink failed
+-- what went out for the bytes that were read: all of their text, or as much as is told where the sink failed
 abbrev pub Wrote : Option (List ℕ) → Option (List ℕ) → Result Report ToolFault → List ℕ → Type 0
 Wrote old new (Ok report) text = Appends old new text
 Wrote old new (Err Read) text = Appends old new text
 Wrote old new (Err TooManyReads) text = Appends old new text
-Wrote old new (Err (Write written)) text = (count : ℕ) × (count < length text) × WentOut old new 0 written text count
+Wrote old new (Err (Write written)) text = (count : ℕ) × WentOut old new 0 written text count
 Wrote old new (Err (CaptureLine line)) text = ⊥
 Wrote old new (Err OutOfMemory) text = ⊥
 
@@ -32,3 +32,12 @@ Stopped (Err TooManyReads) ended source_failed sink_failed made reads =
     (ended ≡ false) × (source_failed ≡ false) × (sink_failed ≡ false) × (made ≡ reads)
 Stopped (Err (CaptureLine line)) ended source_failed sink_failed made reads = ⊥
 Stopped (Err OutOfMemory) ended source_failed sink_failed made reads = ⊥
+
+-- nothing that the sink took is held back, but where it failed
+abbrev pub Sent : Result Report ToolFault → Option (List ℕ) → Option (List ℕ) → Type 0
+Sent (Ok report) sent taken = sent ≡ taken
+Sent (Err Read) sent taken = sent ≡ taken
+Sent (Err TooManyReads) sent taken = sent ≡ taken
+Sent (Err (Write written)) sent taken = ⊤
+Sent (Err (CaptureLine line)) sent taken = ⊥
+Sent (Err OutOfMemory) sent taken = ⊥

@@ -5,6 +5,7 @@ pub mod commands;
 pub mod fault;
 mod output;
 pub mod report;
+pub mod run;
 pub mod show;
 #[cfg(test)]
 mod tests;
@@ -13,5 +14,6 @@ pub mod words;
 pub use commands::Command;
 pub use fault::ToolFault;
 pub use report::Report;
+pub use run::run_command;
 pub use show::{run_show, run_show_of};
 pub use words::command;

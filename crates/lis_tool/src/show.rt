@@ -6,11 +6,11 @@ ghost use Rattle.lis_frame.specs.Limit.{IsLimit};
 ghost use Rattle.lis_frame.specs.Scanner.{StandsFor};
 ghost use Rattle.lis_frame.specs.Stream.{signal_after, signals_after, stream_with, with_signal};
 ghost use Rattle.lis_tool.specs.Output.{Put, most_counted};
-ghost use Rattle.lis_tool.specs.Runs.{ShowRan, Stopped};
+ghost use Rattle.lis_tool.specs.Runs.{Sent, ShowRan, Stopped};
 ghost use Rattle.lis_tool.specs.Show.{bad_line, digits_part, frame_line, frame_start, show, signal_line, signal_lines};
 
 use crate::fault::ToolFault;
-use crate::output::{put, put_digits, put_number};
+use crate::output::{put, put_digits, put_number, send};
 use crate::report::Report;
 use lis_frame::{FrameFault, FrameOf, ScannerOf, SignalOf};
 use lis_port::{Failed, Sink, Source};
@@ -19,9 +19,10 @@ use lis_port::{Failed, Sink, Source};
 const ROOM: usize = 4096;
 
 /// Reads link bytes to their end and writes a line for each signal; frames have at most `N` bytes
-/// of text. At most `reads` calls of read are made. The faults are those of the source and the
-/// sink and too many reads; what went out by then is the text of the bytes read, and where the
-/// sink failed a part of it.
+/// of text. At most `reads` calls of read are made, and the sink is flushed behind the lines of each,
+/// so that no line waits for the next read. The faults are those of the source and the sink and too
+/// many reads; what went out by then is the text of the bytes read, and where the sink failed as
+/// much of it as is told.
 pub fn run_show_of<const N: usize, R: Source, W: Sink>(
     source: &mut R,
     sink: &mut W,
@@ -35,6 +36,7 @@ pub fn run_show_of<const N: usize, R: Source, W: Sink>(
     ensures ran { ShowRan (show N) (R.left source.old) (R.left source.new) (W.taken sink.old) (W.taken sink.new) result }
     ensures all_read { OnOk result (IsAtEnd (R.left source.new)) }
     ensures status { IfOk result (λ report. report.status ≡ 0) }
+    ensures sent { W.sent sink.old ≡ W.taken sink.old → Sent result (W.sent sink.new) (W.taken sink.new) }
     ensures stopped { Stopped result (R.ended source.new) (R.failed source.new) (W.failed sink.new) (R.made source.new) reads }
     ensures reads { R.made source.new ≤ reads }
 {
@@ -51,6 +53,7 @@ pub fn run_show_of<const N: usize, R: Source, W: Sink>(
         }
         let (given, _) = buffer.split_at(count);
         written = show_bytes(&mut scanner, sink, written, given)?;
+        send(sink, written)?;
     }
     Err(ToolFault::TooManyReads)
 }
@@ -68,6 +71,7 @@ pub fn run_show<R: Source, W: Sink>(
     ensures ran { ShowRan (show 240) (R.left source.old) (R.left source.new) (W.taken sink.old) (W.taken sink.new) result }
     ensures all_read { OnOk result (IsAtEnd (R.left source.new)) }
     ensures status { IfOk result (λ report. report.status ≡ 0) }
+    ensures sent { W.sent sink.old ≡ W.taken sink.old → Sent result (W.sent sink.new) (W.taken sink.new) }
     ensures stopped { Stopped result (R.ended source.new) (R.failed source.new) (W.failed sink.new) (R.made source.new) reads }
     ensures reads { R.made source.new ≤ reads }
 {

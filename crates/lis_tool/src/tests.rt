@@ -1,7 +1,8 @@
 ghost use Rattle.std.specs.Prelude.{◌≤◌};
 
 use crate::*;
-use lis_port::{Cut, Slow, Then};
+use lis_port::{Buffered, Cut, Slow, Source, Then};
+use std::io::BufWriter;
 use std::test::Fail;
 
 /// Number 1, last, the text of a header record and CR.
@@ -10,13 +11,25 @@ const HEADER: [u8; 13] = *b"\x021H|\\^&\r\x03E5\r\n";
 /// What `show` writes of the header's frame.
 const HEADER_LINE: &[u8] = b"frame 1 end 6 487c5c5e260d\n";
 
-/// Whether `show` of bytes, some per read, writes a text and ends well.
+/// Whether `show` of bytes, some per read, writes a text and ends well, also by its command.
 fn shows(bytes: &[u8], step: usize, text: &[u8]) -> bool
     requires { 1 ≤ step }
 {
     let mut source = Cut::new(bytes, step, Then::End);
     let mut sink = Slow::new(131_072, 131_072);
     let result = run_show(&mut source, &mut sink, 1000);
+    result == Ok(Report { status: 0 })
+        && sink.took() == text
+        && is_shown_by(Command::Show { long: false }, bytes, step, text)
+}
+
+/// Whether a command over bytes, some per read, writes a text and ends well.
+fn is_shown_by(command: Command, bytes: &[u8], step: usize, text: &[u8]) -> bool
+    requires { 1 ≤ step }
+{
+    let mut source = Cut::new(bytes, step, Then::End);
+    let mut sink = Slow::new(131_072, 131_072);
+    let result = run_command(command, &mut source, &mut sink, 1000);
     result == Ok(Report { status: 0 }) && sink.took() == text
 }
 
@@ -73,6 +86,8 @@ fn a_frame_of_241_letters_is_too_long_but_for_longer_frames(rt: HostRuntime) -> 
     let (all, end) = digits.split_at(482);
     assert!(rt; all.chunks(2).all(|pair| pair == b"41".as_slice()));
     assert_eq!(rt; end, b"\n".as_slice());
+    let long = Command::Show { long: true };
+    assert!(rt; is_shown_by(long, &frame, 100, sink.took()));
     Ok(())
 }
 
@@ -105,6 +120,33 @@ fn a_source_that_fails_ends_the_run(rt: HostRuntime) -> Result<(), Fail> {
         let line: &[u8] = if length == 13 { HEADER_LINE } else { b"" };
         assert_eq!(rt; sink.took(), line);
     }
+    Ok(())
+}
+
+#[test]
+fn each_line_is_sent_on_before_the_next_read(rt: HostRuntime) -> Result<(), Fail> {
+    let alloc = rt.alloc();
+    let mut source = Cut::new(&HEADER, 4096, Then::Fail);
+    let mut sink = Buffered::new(BufWriter::with_capacity(alloc, 100, Vec::new(alloc))?);
+    assert_eq!(rt;
+        run_show(&mut source, &mut sink, 1000),
+        Err(ToolFault::Read)
+    );
+    assert_eq!(rt; sink.into_inner().get_ref().as_slice(), HEADER_LINE);
+    Ok(())
+}
+
+#[test]
+fn a_sink_that_can_not_send_on_ends_the_run(rt: HostRuntime) -> Result<(), Fail> {
+    let mut room = [0; 2];
+    let writer = BufWriter::with_capacity(rt.alloc(), 100, room.as_mut_slice())?;
+    let mut source = Cut::new(b"\x05\x04", 1, Then::End);
+    let mut sink = Buffered::new(writer);
+    assert_eq!(rt;
+        run_show(&mut source, &mut sink, 1000),
+        Err(ToolFault::Write { written: 4 })
+    );
+    assert_eq!(rt; source.made(), 1);
     Ok(())
 }
 

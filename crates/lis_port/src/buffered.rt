@@ -1,0 +1,69 @@
+//! The sink over a buffered writer.
+
+ghost use Rattle.std.specs.Prelude.{◌≡◌, false};
+ghost use Rattle.std.specs.Io.Buffered.{writer_contents, writer_inner};
+
+use crate::port::{Failed, Sink};
+use std::io::{BufWriter, Write};
+
+/// A sink over a buffered writer, which it can flush. An error of the writer, of whatever kind, and
+/// a write that takes nothing are `Failed` at once.
+#[derive(Drop)]
+pub struct Buffered<W: Write + Drop> {
+    writer: BufWriter<W>,
+    failed: bool,
+}
+
+impl<W: Write + Drop> Buffered<W> {
+    /// A sink that has not failed, behind what `writer` holds; what is in its buffer is not sent on.
+    pub fn new(writer: BufWriter<W>) -> Self
+        ensures taken { ⟦<Buffered<W> as Sink>⟧.taken result ≡ writer_contents W.contents writer }
+        ensures sent { ⟦<Buffered<W> as Sink>⟧.sent result ≡ W.contents (writer_inner writer) }
+        ensures failed { ⟦<Buffered<W> as Sink>⟧.failed result ≡ false }
+    {
+        Buffered {
+            writer,
+            failed: false,
+        }
+    }
+
+    /// The writer, with what the sink has taken.
+    pub fn into_inner(self) -> BufWriter<W>
+        ensures taken { writer_contents W.contents result ≡ ⟦<Buffered<W> as Sink>⟧.taken self }
+        ensures sent { W.contents (writer_inner result) ≡ ⟦<Buffered<W> as Sink>⟧.sent self }
+    {
+        let Buffered { writer, failed: _ } = self;
+        writer
+    }
+}
+
+impl<W: Write + Drop> Sink for Buffered<W> {
+    ghost taken = { λ s. writer_contents W.contents s.writer };
+
+    ghost sent = { λ s. W.contents (writer_inner s.writer) };
+
+    ghost failed = { λ s. s.failed };
+
+    fn write(&mut self, bytes: &[u8]) -> Result<usize, Failed> {
+        match self.writer.write(bytes) {
+            Ok(count) if count > 0 => {
+                self.failed = false;
+                Ok(count)
+            }
+            _ => {
+                self.failed = true;
+                Err(Failed)
+            }
+        }
+    }
+
+    fn flush(&mut self) -> Result<(), Failed> {
+        let result = self.writer.flush().map_err(|_| Failed);
+        self.failed = result.is_err();
+        result
+    }
+
+    fn failed(&self) -> bool {
+        self.failed
+    }
+}
