@@ -12,8 +12,8 @@ use crate::report::Report;
 use crate::show::{run_show, run_show_of};
 use lis_port::{Sink, Source};
 
-/// Runs a command from the source to the sink, by at most `reads` calls of read. How it ends is
-/// told where the command is.
+/// Runs a command from the source to the sink, by at most `reads` calls of read; `show --long` with
+/// frames of up to 63,993 bytes of text. What it writes and its faults are those of `run_show_of`.
 pub fn run_command<R: Source, W: Sink>(
     command: Command,
     source: &mut R,
