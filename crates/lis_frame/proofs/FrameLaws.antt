@@ -110,6 +110,10 @@ found limit s e = found_passed limit s (all_passed _ _ _ _ _ e)
         (record { in_length = refl; in_shape = shaped; in_number = passed.in_number; clean = passed.clean; in_sum = passed.in_sum }) in
         subst (λ (z : List ℕ). IsFrame limit (STX ∷ (z ++ LF ∷ [])) (content_of s)) (sym parts) frame_of_parts
 
+-- and its content is within the limit
+pub found-content : (limit : ℕ) (s : List ℕ) (frame : FrameContent) → frame ≡ content_of s → stretch_fault limit s ≡ None → IsContent limit frame
+found-content limit s frame is e = rw is (found limit s e).content
+
 -- the bytes of a frame between its STX and its LF are its parts
 between :
     (limit : ℕ) (s : List ℕ) (frame : FrameContent) (is_frame : IsFrame limit (STX ∷ (s ++ LF ∷ [])) frame) →

@@ -6,18 +6,10 @@ use Rattle.std.specs.Prelude.{◌==◌, ◌&&◌, ◌||◌, nat_lt, nat_le, slic
 use Rattle.std.proofs.lemmas.Bool.Decides.{nat_tests}
 use Rattle.std.specs.List.{sum}
 use Rattle.lis_frame.specs.declared.control.TheConstants.{ETX, ETB, CR}
-use Rattle.lis_frame.specs.declared.frame.FrameFault.{FrameFault}
 use Rattle.lis_frame.specs.declared.frame.FrameFault.TheVariants.{TooLong, Shape}
 use Rattle.lis_frame.specs.Frame.{number_byte, end_byte, digit_value}
 use Rattle.lis_frame.specs.Text.{first_forbidden}
 use Rattle.lis_frame.specs.Stretch.{stretch_of, text_of, end_of, content_of, digits_value, is_number_byte, pair_value, is_value, first_fault, stretch_fault}
-
--- the first fault behind the length, by the parts and what is known of the text: its first forbidden byte and
--- its sum with the number
-abbrev pub parts_fault : ℕ → Option ℕ → ℕ → ℕ → ℕ → ℕ → ℕ → Option FrameFault
-parts_fault number forbidden total end high low close =
-    first_fault false (close == CR && (end == ETX || end == ETB)) (nat_le 48 number && nat_le number 55) forbidden
-    (is_value (pair_value (digit_value high) (digit_value low)) ((total + end) % 256))
 
 -- the sum is asked for only in a stretch of the right shape with a number
 first_fault-sum :
@@ -33,9 +25,6 @@ number_byte-back number h = grind (arith, nat_tests)
 
 pub end_byte-back : (close end : ℕ) → (close == CR && (end == ETX || end == ETB)) ≡ true → end_byte (end == ETX) ≡ end
 end_byte-back close end h = grind (arith, nat_tests)
-
-sum_mod : (number text total end : ℕ) → total ≡ (number + text) % 256 → (number + text + end) % 256 ≡ (total + end) % 256
-sum_mod number text total end e = rw e (omega arith)
 
 module _ (number : ℕ) (text : List ℕ) (end high low close : ℕ) where
   pub length-stretch_of : length (stretch_of number text end high low close) ≡ length text + 5
@@ -79,16 +68,18 @@ module _ (number : ℕ) (text : List ℕ) (end high low close : ℕ) where
       let five : nat_le 5 (length (stretch_of number text end high low close)) ≡ true = grind (arith, nat_tests, length-stretch_of) in
       rw (in_limit, five, close-stretch_of, end_of-stretch_of, digits_value-stretch_of, text_of-stretch_of) refl
 
-  -- the same where the parts came with what is known of the text
+  -- the same by the bytes of the number and of the end themselves
   pub stretch_fault-parts :
-      (limit total : ℕ) → length text ≤ limit → total ≡ (number + sum text) % 256 →
-      stretch_fault limit (stretch_of number text end high low close) ≡ parts_fault number (first_forbidden text) total end high low close
-  stretch_fault-parts limit total short summed =
+      (limit : ℕ) → length text ≤ limit →
+      stretch_fault limit (stretch_of number text end high low close)
+      ≡ first_fault false (close == CR && (end == ETX || end == ETB)) (is_number_byte number) (first_forbidden text)
+      (is_value (pair_value (digit_value high) (digit_value low)) (((number + sum text) % 256 + end) % 256))
+  stretch_fault-parts limit short =
       stretch_fault-stretch_of limit short
       ∙ first_fault-sum _ _ _ _ _
       (λ shaped numbered.
-      let e : (number_byte (number - 48) + sum text + end_byte (end == ETX)) % 256 ≡ (total + end) % 256 =
-      rw (number_byte-back number numbered, end_byte-back close end shaped) (sum_mod number (sum text) total end summed) in
+      let e : (number_byte (number - 48) + sum text + end_byte (end == ETX)) % 256 ≡ ((number + sum text) % 256 + end) % 256 =
+      rw (number_byte-back number numbered, end_byte-back close end shaped) (omega arith) in
       ap (is_value (pair_value (digit_value high) (digit_value low))) e)
 
 four_items : (xs : List ℕ) → length xs ≡ 4 → get_or xs 0 0 ∷ get_or xs 1 0 ∷ get_or xs 2 0 ∷ get_or xs 3 0 ∷ [] ≡ xs
@@ -108,6 +99,17 @@ split_last_four xs m e =
     let items : get_or xs m 0 ∷ get_or xs (m + 1) 0 ∷ get_or xs (m + 2) 0 ∷ get_or xs (m + 3) 0 ∷ [] ≡ drop m xs =
     simp (get_or-drop, add-zero) at (four_items (drop m xs) four) in
     rw items (take-append-drop m xs)
+
+-- the same by the length
+pub last_four :
+    (xs : List ℕ) → 4 ≤ length xs →
+    xs ≡ take (length xs - 4) xs
+    ++ (get_or xs (length xs - 4) 0 ∷ get_or xs (length xs - 3) 0 ∷ get_or xs (length xs - 2) 0 ∷ get_or xs (length xs - 1) 0 ∷ [])
+last_four xs four =
+    let third : length xs - 3 ≡ length xs - 4 + 1 = omega arith in
+    let second : length xs - 2 ≡ length xs - 4 + 2 = omega arith in
+    let first : length xs - 1 ≡ length xs - 4 + 3 = omega arith in
+    rw (third, second, first) (sym (split_last_four xs (length xs - 4) (omega arith)))
 
 -- a stretch of five bytes or more is its parts, whose places the equations give
 pub stretch_parts :

@@ -2,7 +2,9 @@
 
 ghost use Rattle.std.specs.Prelude.{◌≡◌, ◌≤◌, ◌<◌, MatchOption};
 ghost use Rattle.lis_frame.specs.Frame.{IsContent};
+ghost use Rattle.lis_frame.specs.Limit.{IsLimit};
 
+use crate::lent::LentFrame;
 use crate::text::TextOf;
 use std::marker::Model;
 
@@ -64,6 +66,20 @@ impl<const N: usize> FrameOf<N> {
         // That the text is one is known from its bytes.
         let _ = text.as_slice();
         FrameOf { number, last, text }
+    }
+
+    /// The frame that is lent, with a text of its own. The frame is within the limit `N`, as each is that a
+    /// scanner of this limit tells.
+    pub fn from_lent(frame: &LentFrame<'_>) -> Self
+        requires limit { IsLimit N }
+        requires content { IsContent N frame.now }
+        ensures { result ≡ frame.now }
+    {
+        FrameOf::of_parts(
+            frame.number(),
+            frame.is_last(),
+            TextOf::copied(frame.text()),
+        )
     }
 
     /// The same frame.

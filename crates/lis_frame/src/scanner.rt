@@ -1,13 +1,18 @@
 //! The scanner: bytes of the link in, signals out (LIS01-A2, 6.2 to 6.5).
 
-ghost use Rattle.std.specs.Prelude.{◌≡◌, ℕ, List, [], ◌∷◌};
+ghost use Rattle.std.specs.Prelude.{◌≡◌, ◌≤◌, ℕ, List, [], ◌∷◌, Some, IfNone, IfSome, length, take};
+ghost use Rattle.lis_frame.specs.Frame.{IsFrame};
+ghost use Rattle.lis_frame.specs.Text.{allowed_length};
 ghost use Rattle.lis_frame.specs.Limit.{IsLimit};
-ghost use Rattle.lis_frame.specs.Stream.{signal_after};
-ghost use Rattle.lis_frame.specs.Scanner.{StandsFor, held_signal, held_after};
+ghost use Rattle.lis_frame.specs.Stream.{signal_after, signals_after, stream_with};
+ghost use Rattle.lis_frame.specs.Scanner.{IsHeardWithin, StandsFor, held_signal, held_after, heard_signal, lent_signals, with_bytes};
 
 use crate::control::{ENQ, EOT, LF, STX};
 use crate::frame::{FrameFault, FrameOf};
+use crate::lent::LentFrame;
+use crate::read::front_frame;
 use crate::stretch::StretchOf;
+use crate::text::first_forbidden;
 use std::marker::Model;
 
 /// What a stream of link bytes tells: enquiry, end of transmission, a good frame, or a bad one.
@@ -26,7 +31,37 @@ pub enum SignalOf<const N: usize> {
 /// A signal with the usual limit.
 pub type Signal = SignalOf<240>;
 
-/// Reads a stream of link bytes, one byte at a time. It holds one frame's worth of state and never
+impl<const N: usize> SignalOf<N> {
+    /// The signal that is heard; a frame that is lent gets a text of its own. It is within the limit `N`, as
+    /// each is that a scanner of this limit tells.
+    pub fn from_heard(heard: &Heard<'_>) -> Self
+        requires limit { IsLimit N }
+        requires content { IsHeardWithin N heard.now }
+        ensures { Some result ≡ heard_signal (Some heard.now) }
+    {
+        match heard {
+            Heard::Enq => SignalOf::Enq,
+            Heard::Eot => SignalOf::Eot,
+            Heard::Good(frame) => SignalOf::Good(FrameOf::from_lent(frame)),
+            Heard::Bad(fault) => SignalOf::Bad(*fault),
+        }
+    }
+}
+
+/// The same, with a frame's text lent from the bytes that were read, or from what the scanner holds.
+#[derive(Drop)]
+pub enum Heard<'a> {
+    /// ENQ.
+    Enq,
+    /// EOT.
+    Eot,
+    /// A frame.
+    Good(LentFrame<'a>),
+    /// Bytes between STX and LF that are no frame, and why.
+    Bad(FrameFault),
+}
+
+/// Reads a stream of link bytes, one byte or a run of them at a time. It holds one frame's worth of state and never
 /// looks back; it refuses nothing.
 #[derive(Drop)]
 pub struct ScannerOf<const N: usize> {
@@ -36,11 +71,14 @@ pub struct ScannerOf<const N: usize> {
 
 impl<const N: usize> Model for ScannerOf<N> {
     ghost use Rattle.std.specs.Prelude.{if◌then◌else◌};
+    ghost use Rattle.lis_frame.specs.Limit.{IsLimit};
     ghost use Rattle.lis_frame.specs.Scanner.{Held, outside};
 
     ghost Value = { Held };
 
     ghost view = { λ s. if s.is_open then s.stretch else outside };
+
+    ghost invariant = { λ s. IsLimit N };
 }
 
 /// A scanner with the usual limit.
@@ -77,41 +115,109 @@ impl<const N: usize> ScannerOf<N> {
         ensures signal { (past : List ℕ) → StandsFor N self.old past → result ≡ signal_after N past byte }
         ensures after { (past : List ℕ) → StandsFor N self.old past → StandsFor N self.new (byte ∷ past) }
     {
-        self.step(byte)
+        let signal = match self.told(byte) {
+            None => None,
+            Some(heard) => Some(SignalOf::from_heard(&heard)),
+        };
+        self.take(byte);
+        signal
     }
 
-    /// The signal of a byte and what is held after it, by what was held.
-    fn step(&mut self, byte: u8) -> Option<SignalOf<N>>
-        ensures signal { result ≡ held_signal N self.old byte }
-        ensures after { self.new ≡ held_after N self.old byte }
+    /// The signal that this byte gives where it comes next, if it gives one; a frame is lent from what the
+    /// scanner holds. With `take` behind it this is `push`, and no text is copied.
+    pub fn told(&self, byte: u8) -> Option<Heard<'_>>
+        ensures signal { (past : List ℕ) → StandsFor N self.now past → heard_signal result ≡ signal_after N past byte }
+        ensures limit { IsLimit N }
+        ensures content { IfSome result (IsHeardWithin N) }
+    {
+        self.told_by_held(byte)
+    }
+
+    /// Reads one byte, and leaves its signal untold.
+    pub fn take(&mut self, byte: u8)
+        ensures { (past : List ℕ) → StandsFor N self.old past → StandsFor N self.new (byte ∷ past) }
+    {
+        self.hold(byte);
+    }
+
+    /// Reads bytes from the front: a whole good frame, which is lent, or else all bytes up to the first that no
+    /// text may hold. Answers how many were read; where none was, the first byte is to be read by itself, by
+    /// `told` and `take`.
+    ///
+    /// Whatever stream the scanner stands for, newest byte first, the bytes that were read give the
+    /// frame that is lent and no other signal, and afterwards the scanner stands for the stream with them.
+    pub fn scan<'a>(&mut self, bytes: &'a [u8]) -> (usize, Option<LentFrame<'a>>)
+        ensures bound { result.0 ≤ length bytes.now }
+        ensures frame { IfSome result.1 (λ frame. IsFrame N (take result.0 bytes.now) frame) }
+        ensures run { IfNone result.1 (result.0 ≡ allowed_length bytes.now) }
+        ensures signal { (past : List ℕ) → StandsFor N self.old past →
+            signals_after N past (take result.0 bytes.now) ≡ lent_signals result.1 }
+        ensures after { (past : List ℕ) → StandsFor N self.old past →
+            StandsFor N self.new (stream_with past (take result.0 bytes.now)) }
+    {
+        let Some((byte, behind)) = bytes.split_first() else {
+            return (0, None);
+        };
+        if *byte == STX {
+            if let Some((frame, count)) = front_frame::<N>(behind) {
+                self.is_open = false;
+                return (count + 1, Some(frame));
+            }
+        }
+        match first_forbidden(bytes) {
+            Some(place) => {
+                let (run, _) = bytes.split_at(place);
+                self.hold_run(run);
+                (place, None)
+            }
+            None => {
+                self.hold_run(bytes);
+                (bytes.len(), None)
+            }
+        }
+    }
+
+    /// The signal of a byte, by what is held.
+    fn told_by_held(&self, byte: u8) -> Option<Heard<'_>>
+        ensures signal { heard_signal result ≡ held_signal N self.now byte }
+        ensures limit { IsLimit N }
+        ensures content { IfSome result (IsHeardWithin N) }
+    {
+        match byte {
+            ENQ => Some(Heard::Enq),
+            EOT => Some(Heard::Eot),
+            LF if self.is_open => match self.stretch.lent() {
+                Ok(frame) => Some(Heard::Good(frame)),
+                Err(fault) => Some(Heard::Bad(fault)),
+            },
+            _ => None,
+        }
+    }
+
+    /// Holds what is to be held after a byte.
+    fn hold(&mut self, byte: u8)
+        ensures { self.new ≡ held_after N self.old byte }
     {
         match byte {
             STX => {
                 self.stretch.begin();
                 self.is_open = true;
-                None
             }
-            ENQ => {
-                self.is_open = false;
-                Some(SignalOf::Enq)
-            }
-            EOT => {
-                self.is_open = false;
-                Some(SignalOf::Eot)
-            }
-            LF => {
-                if !self.is_open {
-                    return None;
-                }
-                self.is_open = false;
-                Some(self.stretch.read())
-            }
+            ENQ | EOT | LF => self.is_open = false,
             _ => {
                 if self.is_open {
                     self.stretch.push(byte);
                 }
-                None
             }
+        }
+    }
+
+    /// The same after bytes that are no marks.
+    fn hold_run(&mut self, run: &[u8])
+        ensures { self.new ≡ with_bytes N self.old run.now }
+    {
+        if self.is_open {
+            self.stretch.extend(run);
         }
     }
 }

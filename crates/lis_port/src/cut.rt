@@ -1,7 +1,7 @@
 //! The source over memory, which gives its bytes in cuts. With it a contract's promise can be seen to
 //! hold.
 
-ghost use Rattle.std.specs.Prelude.{◌≡◌, ◌+◌, ◌≤◌, ◌<◌, ◌↔◌, true, false, IfOk, IsTrue, is_err, length};
+ghost use Rattle.std.specs.Prelude.{◌≡◌, ◌+◌, ◌≤◌, ◌<◌, ◌↔◌, true, false, IfOk, IsTrue, MatchResult, is_err, length};
 ghost use Rattle.std.specs.Io.KnownBytes.{ReadConsumes};
 ghost use Rattle.lis_port.specs.Port.{known_left, new_cut, cut_answer};
 
@@ -78,6 +78,8 @@ impl Source for Cut<'_> {
 
     ghost ended = { λ s. s.ended };
 
+    ghost may_wait = { λ s. true };
+
     fn read(&mut self, buffer: &mut [u8]) -> Result<usize, Failed>
         requires room { 0 < length buffer.old }
         requires countable { self.old.made < 4294967295 }
@@ -87,6 +89,7 @@ impl Source for Cut<'_> {
         ensures made { self.new.made ≡ self.old.made + 1 }
         ensures failed { self.new.failed ≡ is_err result }
         ensures ended { IsTrue self.new.ended ↔ (result ≡ Ok 0) }
+        ensures ready { true ≡ false → MatchResult result (λ n. 0 < n) (λ _. ⊥) }
 
         // How many bytes a read gives is known, and what stays.
         ensures answer { result ≡ cut_answer self.old.behind self.old.rest self.old.step (length buffer.old) }
@@ -129,5 +132,10 @@ impl Source for Cut<'_> {
 
     fn ended(&self) -> bool {
         self.ended
+    }
+
+    // It never does; but a run over it is to be as one over a line.
+    fn may_wait(&self) -> bool {
+        true
     }
 }

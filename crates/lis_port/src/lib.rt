@@ -5,6 +5,7 @@
 mod buffered;
 mod cut;
 mod port;
+mod read_ahead;
 mod reading;
 mod slow;
 #[cfg(test)]
@@ -13,7 +14,8 @@ mod writing;
 
 pub use buffered::Buffered;
 pub use cut::{Cut, Then};
-pub use port::{Failed, Sink, Source};
+pub use port::{Failed, Sink, Source, read_sent};
+pub use read_ahead::ReadAhead;
 pub use reading::Reading;
 pub use slow::Slow;
 pub use writing::Writing;

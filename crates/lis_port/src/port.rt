@@ -1,6 +1,6 @@
 //! The two ports: a source of bytes and a sink for bytes.
 
-ghost use Rattle.std.specs.Prelude.{◌≡◌, ℕ, ◌+◌, ◌<◌, ◌≤◌, ◌↔◌, Bool, List, Option, IfOk, OnOk, is_err, length, IsTrue};
+ghost use Rattle.std.specs.Prelude.{◌≡◌, ℕ, ◌+◌, ◌<◌, ◌≤◌, ◌↔◌, Bool, List, Option, IfOk, MatchResult, OnOk, true, false, is_err, length, IsTrue};
 ghost use Rattle.std.specs.Io.KnownBytes.{Keeps, ReadConsumes, WriteAppends};
 
 /// A read or a write that failed. Nothing is tried again.
@@ -20,6 +20,9 @@ pub trait Source {
 
     ghost ended: { Self → Bool };
 
+    // Whether the next call of `read` may wait for bytes that aren't there yet.
+    ghost may_wait: { Self → Bool };
+
     /// Fills the front of `buffer` and answers how many bytes it gave; 0 is the end.
     /// Where it failed no byte is lost.
     fn read(&mut self, buffer: &mut [u8]) -> Result<usize, Failed>
@@ -29,7 +32,10 @@ pub trait Source {
         ensures bytes { ReadConsumes (left self.old) (left self.new) result buffer.new }
         ensures made { made self.new ≡ made self.old + 1 }
         ensures failed { failed self.new ≡ is_err result }
-        ensures ended { IsTrue (ended self.new) ↔ (result ≡ Ok 0) };
+        ensures ended { IsTrue (ended self.new) ↔ (result ≡ Ok 0) }
+
+        // A read that doesn't wait gives bytes.
+        ensures ready { may_wait self.old ≡ false → MatchResult result (λ n. 0 < n) (λ _. ⊥) };
 
     /// The calls of `read` so far.
     fn made(&self) -> u32
@@ -42,6 +48,11 @@ pub trait Source {
     /// Whether the last call of `read` told the end.
     fn ended(&self) -> bool
         ensures { result ≡ ended self.now };
+
+    /// Whether the next call of `read` may wait for bytes that aren't there yet. Where it may not, that call
+    /// gives at least one byte.
+    fn may_wait(&self) -> bool
+        ensures { result ≡ may_wait self.now };
 }
 
 /// Takes bytes in order.
@@ -73,4 +84,23 @@ pub trait Sink {
     /// Whether the last call of `write` or `flush` failed.
     fn failed(&self) -> bool
         ensures { result ≡ failed self.now };
+}
+
+/// Reads from a source, in a run that writes to a sink: where the read may wait, the sink holds nothing back.
+pub fn read_sent<R: Source, W: Sink>(
+    source: &mut R,
+    _sink: &W,
+    buffer: &mut [u8],
+) -> Result<usize, Failed>
+    requires room { 0 < length buffer.old }
+    requires countable { R.made source.old < 4294967295 }
+    requires sent { R.may_wait source.old ≡ true → W.sent _sink.now ≡ W.taken _sink.now }
+    ensures bound { IfOk result (λ n. n ≤ length buffer.new) }
+    ensures bytes { ReadConsumes (R.left source.old) (R.left source.new) result buffer.new }
+    ensures made { R.made source.new ≡ R.made source.old + 1 }
+    ensures failed { R.failed source.new ≡ is_err result }
+    ensures ended { IsTrue (R.ended source.new) ↔ (result ≡ Ok 0) }
+    ensures ready { R.may_wait source.old ≡ false → MatchResult result (λ n. 0 < n) (λ _. ⊥) }
+{
+    source.read(buffer)
 }

@@ -53,6 +53,8 @@ impl<R: Read> Source for Reading<R> {
 
     ghost ended = { λ s. s.ended };
 
+    ghost may_wait = { λ s. true };
+
     fn read(&mut self, buffer: &mut [u8]) -> Result<usize, Failed> {
         self.made += 1;
         let Ok(count) = self.reader.read(buffer) else {
@@ -75,5 +77,10 @@ impl<R: Read> Source for Reading<R> {
 
     fn ended(&self) -> bool {
         self.ended
+    }
+
+    // A reader can't tell, so that it may always wait.
+    fn may_wait(&self) -> bool {
+        true
     }
 }

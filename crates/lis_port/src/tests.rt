@@ -1,5 +1,5 @@
 use super::*;
-use std::io::BufWriter;
+use std::io::{BufReader, BufWriter};
 use std::test::Fail;
 
 const HEADER_FRAME: [u8; 13] = [
@@ -119,5 +119,38 @@ fn a_reader_and_a_writer_serve_as_ports(rt: HostRuntime) -> Result<(), Fail> {
     assert_eq!(rt; full.write(b"abc"), Ok(2));
     assert_eq!(rt; full.write(b"c"), Err(Failed));
     assert!(rt; full.failed());
+    Ok(())
+}
+
+#[test]
+fn a_source_that_reads_ahead_knows_what_is_there(rt: HostRuntime) -> Result<(), Fail> {
+    let reader = BufReader::with_capacity(rt.alloc(), 4, b"abcdef".as_slice())?;
+    let mut source = ReadAhead::new(reader);
+    let mut buffer = [0; 3];
+    assert!(rt; source.may_wait());
+    assert_eq!(rt; source.read(&mut buffer), Ok(3));
+    assert_eq!(rt; buffer, *b"abc");
+    assert!(rt; !source.may_wait());
+    assert_eq!(rt; source.read(&mut buffer), Ok(1));
+    assert_eq!(rt; buffer[0], b'd');
+    assert!(rt; source.may_wait());
+    assert_eq!(rt; source.read(&mut buffer), Ok(2));
+    assert_eq!(rt; source.read(&mut buffer), Ok(0));
+    assert!(rt; source.ended());
+    assert!(rt; !source.failed());
+    assert_eq!(rt; source.made(), 4);
+    assert!(rt; source.into_inner().buffer().is_empty());
+    Ok(())
+}
+
+#[test]
+fn a_read_behind_a_sink_gives_what_the_source_gives(rt: HostRuntime) -> Result<(), Fail> {
+    let mut source = Cut::new(b"ab", 1, Then::End);
+    let sink = Slow::new(1, 1);
+    let mut buffer = [0; 4];
+    assert!(rt; source.may_wait());
+    assert_eq!(rt; read_sent(&mut source, &sink, &mut buffer), Ok(1));
+    assert_eq!(rt; buffer[0], b'a');
+    assert_eq!(rt; source.made(), 1);
     Ok(())
 }

@@ -28,9 +28,10 @@ appends_kept (Some xs) (Some ys) (Some zs) text taken kept = kept ∙ taken
 
 -- a sink that took the whole text and then could not send it on
 pub held_back :
-    (a b c : Option (List ℕ)) (written : ℕ) (text : List ℕ) → Put a b 0 (Ok written) text → Keeps b c →
+    (a b c : Option (List ℕ)) (written : ℕ) (text : List ℕ) → Appends a b text → written ≡ min (length text) most_counted → Keeps b c →
     Wrote a c (Err (Write written)) text
-held_back a b c written text put kept =
+held_back a b c written text taken counted kept =
+    let put = put_taken a b 0 written text taken (omega (arith, counted)) in
     (length text, record { within = put.within; taken = appends_kept a b c _ put.taken kept; counted = put.counted })
 
 -- what a failed sink took in a text is what went out in a run

@@ -27,7 +27,7 @@ pub fn run_command<R: Source, W: Sink>(
     ensures ran { ShowRan (show (limit_of command)) (R.left source.old) (R.left source.new) (W.taken sink.old) (W.taken sink.new) result }
     ensures all_read { OnOk result (IsAtEnd (R.left source.new)) }
     ensures status { IfOk result (λ report. report.status ≡ 0) }
-    ensures sent { W.sent sink.old ≡ W.taken sink.old → Sent result (W.sent sink.new) (W.taken sink.new) }
+    ensures sent { Sent result (W.sent sink.new) (W.taken sink.new) }
     ensures stopped { Stopped result (R.ended source.new) (R.failed source.new) (W.failed sink.new) (R.made source.new) reads }
     ensures reads { R.made source.new ≤ reads }
 {

@@ -4,7 +4,7 @@
 ghost use Rattle.std.specs.Prelude.{◌≡◌, IfOk, OnErr};
 ghost use Rattle.std.specs.Process.{exit_status};
 
-use lis_port::{Buffered, Reading};
+use lis_port::{Buffered, ReadAhead};
 use lis_tool::{Report, ToolFault, command, run_command};
 use std::env;
 use std::io::{self, BufReader, BufWriter};
@@ -27,7 +27,7 @@ fn main(rt: HostRuntime) -> ExitCode {
     let Ok(writer) = BufWriter::with_capacity(rt.alloc(), ROOM, io::writer(&rt)) else {
         return told(&rt, Err(ToolFault::OutOfMemory));
     };
-    let mut source = Reading::new(reader);
+    let mut source = ReadAhead::new(reader);
     let mut sink = Buffered::new(writer);
     let ended = run_command(command, &mut source, &mut sink, u32::MAX);
     told(&rt, ended)

@@ -28,6 +28,45 @@ fn observed<const N: usize>(signal: &SignalOf<N>) -> Told {
     }
 }
 
+fn heard_as(heard: &Heard<'_>) -> Told {
+    match heard {
+        Heard::Enq => Told::Enq,
+        Heard::Eot => Told::Eot,
+        Heard::Good(frame) => Told::Good {
+            number: frame.number(),
+            last: frame.is_last(),
+            length: frame.text().len(),
+        },
+        Heard::Bad(fault) => Told::Bad(*fault),
+    }
+}
+
+/// The last signal of bytes that are scanned in one piece, and how many there were.
+fn scanned<const N: usize>(scanner: &mut ScannerOf<N>, bytes: &[u8]) -> (Option<Told>, usize) {
+    let mut last = None;
+    let mut count = 0usize;
+    let mut rest = bytes;
+    while let Some((byte, behind)) = rest.split_first() {
+        let (read, frame) = scanner.scan(rest);
+        if let Some(frame) = frame {
+            last = Some(heard_as(&Heard::Good(frame)));
+            count = count.saturating_add(1);
+        }
+        if read > 0 {
+            let (_, left) = rest.split_at(read);
+            rest = left;
+            continue;
+        }
+        if let Some(heard) = scanner.told(*byte) {
+            last = Some(heard_as(&heard));
+            count = count.saturating_add(1);
+        }
+        scanner.take(*byte);
+        rest = behind;
+    }
+    (last, count)
+}
+
 /// The last signal of bytes, and how many there were.
 fn heard(scanner: &mut Scanner, bytes: &[u8]) -> (Option<Told>, usize) {
     let mut last = None;
@@ -125,5 +164,54 @@ fn a_copy_goes_its_own_way(rt: HostRuntime) -> Result<(), Fail> {
         length: 0,
     };
     assert_eq!(rt; heard(&mut scanner, b"34\r\n"), (Some(empty), 1));
+    Ok(())
+}
+
+/// A frame of 241 letters A, the last of its message, with number 1.
+fn frame_of_241() -> [u8; 248] {
+    let mut bytes = [0x41; 248];
+    bytes[0] = 2;
+    bytes[1] = b'1';
+    bytes[243] = 3;
+    bytes[244] = b'6';
+    bytes[245] = b'5';
+    bytes[246] = 13;
+    bytes[247] = 10;
+    bytes
+}
+
+/// What a new scanner tells of a stream that is cut in two.
+fn cut_at<const N: usize>(stream: &[u8], place: usize) -> (Option<Told>, usize) {
+    let mut scanner = ScannerOf::<N>::new();
+    let (_, before) = scanned(&mut scanner, &stream[..place]);
+    let (last, behind) = scanned(&mut scanner, &stream[place..]);
+    (last, before.saturating_add(behind))
+}
+
+#[test]
+fn scanning_pieces_tells_what_the_stream_tells(rt: HostRuntime) -> Result<(), Fail> {
+    let header = Told::Good {
+        number: 1,
+        last: true,
+        length: 6,
+    };
+    let session = b"\x05noise\x02torn\x02\n\x021H|\\^&\r\x03e5\r\n";
+    for place in 0..session.len() {
+        assert_eq!(rt; cut_at::<240>(session, place), (Some(header), 3));
+        assert_eq!(rt; cut_at::<63_993>(session, place), (Some(header), 3));
+    }
+    let long = Told::Good {
+        number: 1,
+        last: true,
+        length: 241,
+    };
+    let frame = frame_of_241();
+    for place in 0..frame.len() {
+        assert_eq!(rt; cut_at::<63_993>(&frame, place), (Some(long), 1));
+        assert_eq!(rt;
+            cut_at::<240>(&frame, place),
+            (Some(Told::Bad(FrameFault::TooLong)), 1)
+        );
+    }
     Ok(())
 }
