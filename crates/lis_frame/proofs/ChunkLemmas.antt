@@ -5,7 +5,8 @@ use Rattle.std.specs.List.{position_from, prefix_len}
 use Rattle.std.specs.Option.{option_map}
 use Rattle.std.specs.Simd.Lanes.{zip2, mask_l, top}
 use Rattle.std.specs.Int.Count.{count_trailing_zeros}
-use Rattle.std.proofs.lemmas.Simd.{leading_from_mask_l, trailing_mask_l, zip2_splat, zip2_splat_left, zip2_of_maps, map-map, mask_l-mod}
+use mir.Syntax.{w8}
+use Rattle.std.proofs.lemmas.Simd.{bitmask_splat, leading_from_mask_l, trailing_mask_l, zip2_splat, zip2_splat_left, zip2_of_maps, map-map, mask_l-mod}
 use Rattle.std.proofs.lemmas.List.{length-map}
 use Rattle.std.proofs.lemmas.List.Sums.{prefix_len-le-length}
 use Rattle.std.proofs.lemmas.Bool.Decides.{nat_tests}
@@ -224,3 +225,21 @@ lanes-forbidden xs long =
     ap (λ (lanes : List ℕ). mask_l (map (top 7) lanes) % 2 ^ 64) all
     ∙ ap (λ (ms : List Bool). mask_l ms % 2 ^ 64) (map-map (top 7) lane xs ∙ same_map (λ b. top 7 (lane b)) is_forbidden lane_top xs)
     ∙ mask_l-mod (map is_forbidden xs) 64 (omega (arith, length-map xs is_forbidden))
+
+-- where no byte is under 24, none is forbidden
+none_low : (xs : List ℕ) → mask_l (map (λ b. leb b 23) xs) ≡ 0 → 0 ≡ mask_l (map is_forbidden xs)
+none_low [] none = refl
+none_low (b ∷ xs) none = by (leb b 23) refl none (none_low xs)
+  where
+    by :
+        (low : Bool) → leb b 23 ≡ low → cond low 1 0 + 2 * mask_l (map (λ b. leb b 23) xs) ≡ 0 →
+        (mask_l (map (λ b. leb b 23) xs) ≡ 0 → 0 ≡ mask_l (map is_forbidden xs)) → 0 ≡ mask_l (map is_forbidden (b ∷ xs))
+    by true t none later = absurd (omega arith)
+    by false t none later =
+        let allowed : is_forbidden b ≡ false = grind (arith, nat_tests, t) in
+        rw allowed (omega (arith, later (omega arith)))
+
+pub lanes-none :
+    (xs : List ℕ) → length xs ≡ 16 →
+    mask_l (map (top 7) (zip2 {C = ℕ} (λ a b. cond (leb a b) 255 0) xs (replicate 16 23))) % 2 ^ 64 ≡ 0 → 0 ≡ mask_l (map is_forbidden xs)
+lanes-none xs long none = none_low xs (sym (bitmask_splat w8 leb xs 16 23 long (omega arith)) ∙ none)

@@ -93,6 +93,10 @@ fn forbidden_bits(bytes: &[u8]) -> u64
     ensures { result ≡ mask_l (map is_forbidden (take 16 bytes.now)) }
 {
     let sixteen = u8x16::from_slice(bytes);
+    // No byte over 23 is forbidden, and few of a text are under it.
+    if sixteen.simd_le(u8x16::splat(23)).to_bitmask() == 0 {
+        return 0;
+    }
     let low = sixteen.simd_ge(u8x16::splat(1)) & sixteen.simd_le(u8x16::splat(6));
     let line_feed = sixteen.simd_eq(u8x16::splat(10));
     let high = sixteen.simd_ge(u8x16::splat(16)) & sixteen.simd_le(u8x16::splat(23));

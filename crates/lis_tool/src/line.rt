@@ -1,10 +1,12 @@
 //! A line that is gathered, so that it goes out in one piece.
 
-ghost use Rattle.std.specs.Prelude.{◌≡◌, ◌+◌, ◌*◌, ◌<◌, ◌≤◌, ◌++◌, [], decimal, length, slice_index};
+ghost use Rattle.std.specs.Prelude.{◌≡◌, ◌+◌, ◌*◌, ◌<◌, ◌≤◌, ◌++◌, [], decimal, length, map, slice_index, take};
+ghost use Rattle.std.specs.Simd.Lanes.{Each1};
 ghost use Rattle.hex.specs.Hex.{encode_lower, lower_digits};
 
 use itoa::Buffer;
 use std::marker::Model;
+use std::simd::prelude::*;
 
 /// The most bytes that are gathered.
 const ROOM: usize = 2176;
@@ -97,8 +99,27 @@ fn digit(number: u8) -> u8
     if number > 9 { number + 87 } else { number + 48 }
 }
 
-/// Writes pairs of hexadecimal digits in lower case.
+/// Writes pairs of hexadecimal digits in lower case, those of sixteen bytes at a time; the last sixteen may be
+/// written over some that stand there.
 fn write_digits(bytes: &[u8], out: &mut [u8])
+    requires { length out.old ≡ 2 * length bytes.now }
+    ensures { out.new ≡ encode_lower bytes.now }
+{
+    if bytes.len() < 16 {
+        write_few_digits(bytes, out);
+        return;
+    }
+    let last = bytes.len() - 16;
+    let mut place = 0;
+    while place < last {
+        write_sixteen(&bytes[place..], &mut out[2 * place..2 * place + 32]);
+        place += 16;
+    }
+    write_sixteen(&bytes[last..], &mut out[2 * last..]);
+}
+
+/// The same of few bytes.
+fn write_few_digits(bytes: &[u8], out: &mut [u8])
     requires { length out.old ≡ 2 * length bytes.now }
     ensures { out.new ≡ encode_lower bytes.now }
 {
@@ -107,4 +128,30 @@ fn write_digits(bytes: &[u8], out: &mut [u8])
         out[2 * i] = digit(byte >> 4);
         out[2 * i + 1] = digit(byte & 0x0f);
     }
+}
+
+/// The same of the first sixteen bytes.
+#[inline(always)]
+fn write_sixteen(bytes: &[u8], out: &mut [u8])
+    requires many { 16 ≤ length bytes.now }
+    requires room { length out.old ≡ 32 }
+    ensures { out.new ≡ encode_lower (take 16 bytes.now) }
+{
+    let sixteen = u8x16::from_slice(bytes);
+    let high = digits(sixteen >> u8x16::splat(4));
+    let low = digits(sixteen & u8x16::splat(15));
+    let (front, back) = high.interleave(low);
+    let (first, second) = out.split_at_mut(16);
+    front.copy_to_slice(first);
+    back.copy_to_slice(second);
+}
+
+/// The digits of sixteen numbers under 16.
+#[inline(always)]
+fn digits(numbers: u8x16) -> u8x16
+    requires lanes { length numbers ≡ 16 }
+    requires small { Each1 (λ number. number < 16) numbers }
+    ensures { result ≡ map (slice_index lower_digits) numbers }
+{
+    u8x16::from_array(*b"0123456789abcdef").swizzle_dyn(numbers)
 }

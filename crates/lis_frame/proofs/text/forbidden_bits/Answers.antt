@@ -1,6 +1,10 @@
 use Rattle.std.proofs.Common.{take, arith, length-take}
-use Rattle.lis_frame.proofs.ChunkLemmas.{lanes-forbidden}
+use Rattle.lis_frame.proofs.ChunkLemmas.{lanes-forbidden, lanes-none}
 use Rattle.lis_frame.proofs.text.forbidden_bits.Goals as goal
 
 pub returns : goal.returns
 returns c = lanes-forbidden (take 16 c.args.bytes.now) (omega (arith, length-take 16 c.args.bytes.now))
+
+pub returns-then-sixteen-eq0 : goal.returns-then-sixteen-eq0
+returns-then-sixteen-eq0 c =
+    lanes-none (take 16 c.args.bytes.now) (omega (arith, length-take 16 c.args.bytes.now)) c.if-sixteen-eq0.true

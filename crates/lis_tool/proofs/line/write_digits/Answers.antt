@@ -1,15 +1,17 @@
-use Rattle.std.proofs.Common.{ℕ, arith, slice_index, ap, ◌∙◌}
-use Rattle.std.proofs.lemmas.Nat.{and_mask}
-use Rattle.hex.specs.Hex.{lower_digits}
-use Rattle.hex.proofs.Pairs.{encode_step, encode_done}
+use Rattle.std.proofs.Common.{arith}
+use Rattle.lis_tool.proofs.Digits.{sixteen_last, sixteen_more}
 use Rattle.lis_tool.proofs.line.write_digits.Goals as goal
 
-pub bytes-preserved : goal.bytes-preserved
-bytes-preserved c =
-    let byte : ℕ = slice_index c.args.bytes.now c.bytes.i in
-    encode_step lower_digits c.args.bytes.now c.bytes.out c.bytes.i _ _ (omega arith) (omega arith) c.digit.ensures
-    (c.digit-in-bytes.ensures ∙ ap (λ (k : ℕ). slice_index lower_digits k) (and_mask byte 4)) c.bytes.invariant
+pub loop-place-preserved : goal.loop-place-preserved
+loop-place-preserved c = record {
+  fits = omega arith;
+  written =
+      sixteen_more c.args.bytes.now c.loop-place.out c.write_sixteen.new.out c.loop-place.place _
+      (omega (arith, c.loop-place.auto.out, c.requires)) (omega (arith, c.loop-place-test.true)) c.loop-place.invariant.written c.write_sixteen.ensures;
+}
 
 pub returns : goal.returns
 returns c =
-    encode_done _ _ _ c.bytes.i (omega arith) (omega arith) c.bytes.invariant
+    sixteen_last c.args.bytes.now c.loop-place.out c.write_sixteen-2.new.out c.loop-place.place _ _
+    (omega (arith, c.loop-place.auto.out, c.requires)) (omega (arith, c.if-bytes-lt16.false)) c.loop-place-test.false
+    (omega arith) c.loop-place.invariant.written c.write_sixteen-2.ensures
