@@ -1,16 +1,16 @@
-//! Searches, digits and numbers. The loops have no early exit where they are long, so that the compiler makes vectors of them.
+//! Searches, digits, and the bytes of lines. Long loops have no early exit, so that the compiler makes vectors of them.
 
 /// The place of the first byte that fits. Sixteen bytes are asked together, and only the sixteen that answered one by one.
 #[inline(always)]
 pub fn find(bytes: &[u8], fits: impl Fn(u8) -> bool) -> Option<usize> {
-    let mut start = 0;
-    for chunk in bytes.chunks_exact(16) {
+    let mut passed = 0;
+    for chunk in bytes.as_chunks::<16>().0 {
         if any(chunk, &fits) {
             break;
         }
-        start += 16;
+        passed += 16;
     }
-    bytes[start..].iter().position(|byte| fits(*byte)).map(|place| start + place)
+    bytes[passed..].iter().position(|byte| fits(*byte)).map(|place| passed + place)
 }
 
 /// Whether a byte fits.
@@ -25,12 +25,13 @@ pub fn count(bytes: &[u8], wanted: u8) -> usize {
     bytes.chunks(255).map(|chunk| in_chunk(chunk) as usize).sum()
 }
 
-/// Writes two lower-case digits for each byte.
-pub fn write_digits(bytes: &[u8], digits: &mut [u8]) {
-    let digit = |value: u8| value + if value < 10 { b'0' } else { b'a' - 10 };
-    for (pair, byte) in digits.chunks_exact_mut(2).zip(bytes) {
-        pair[0] = digit(byte >> 4);
-        pair[1] = digit(byte & 15);
+/// Writes two lower-case digits for each byte. Both are made at once, the high one in the low half of a word.
+#[inline]
+fn write_digits(bytes: &[u8], digits: &mut [u8]) {
+    for (pair, byte) in digits.as_chunks_mut().0.iter_mut().zip(bytes) {
+        let values = u16::from(byte >> 4) | u16::from(byte & 15) << 8;
+        let letters = (values + 0x0606) >> 4 & 0x0101;
+        *pair = (values + 0x3030 + letters * u16::from(b'a' - b'0' - 10)).to_le_bytes();
     }
 }
 
@@ -53,29 +54,70 @@ pub fn are_digits(digits: &[u8]) -> bool {
     !any(digits, |digit| digit_value(digit) == 255)
 }
 
-/// Reads pairs of digits.
+/// Reads pairs of digits, both of a pair at once: the low half of a byte is the value of a decimal digit, and nine less
+/// than that of a letter, which has bit 6.
 pub fn read_digits(digits: &[u8], bytes: &mut [u8]) {
-    for (byte, pair) in bytes.iter_mut().zip(digits.chunks_exact(2)) {
-        *byte = digit_value(pair[0]) << 4 | digit_value(pair[1]);
+    for (byte, pair) in bytes.iter_mut().zip(digits.as_chunks().0) {
+        let pair = u16::from_le_bytes(*pair);
+        let values = (pair & 0x0f0f) + (pair >> 6 & 0x0101) * 9;
+        *byte = (values << 4 | values >> 8) as u8;
     }
 }
 
-/// Hands the number's decimal digits to `put`.
-pub fn with_decimal(mut number: u64, put: impl FnOnce(&[u8])) {
-    let mut digits = [0; 20];
-    let mut start = digits.len();
-    loop {
-        start -= 1;
-        digits[start] = b'0' + (number % 10) as u8;
-        number /= 10;
-        if number == 0 {
-            break;
+/// Bytes that wait to be written. The buffer grows to the most that was put between two clearings, and then stays.
+#[derive(Default)]
+pub struct Lines {
+    buffer: Vec<u8>,
+    filled: usize,
+}
+
+impl Lines {
+    /// The next `count` bytes, to be written over.
+    #[inline(always)]
+    fn room(&mut self, count: usize) -> &mut [u8] {
+        let start = self.filled;
+        self.filled += count;
+        if self.filled > self.buffer.len() {
+            self.buffer.resize(2 * self.filled, 0);
+        }
+        &mut self.buffer[start..self.filled]
+    }
+
+    #[inline(always)]
+    pub fn put(&mut self, bytes: &[u8]) {
+        self.room(bytes.len()).copy_from_slice(bytes);
+    }
+
+    /// The bytes as digits, two for each.
+    #[inline]
+    pub fn put_digits(&mut self, bytes: &[u8]) {
+        write_digits(bytes, self.room(2 * bytes.len()));
+    }
+
+    /// The bytes with letters in lower case, which digits and the beginning of a capture's line keep as they are.
+    pub fn put_lower(&mut self, bytes: &[u8]) {
+        for (lower, byte) in self.room(bytes.len()).iter_mut().zip(bytes) {
+            *lower = byte.to_ascii_lowercase();
         }
     }
-    put(&digits[start..])
-}
 
-/// Adds the number's decimal digits.
-pub fn put_decimal(number: u64, bytes: &mut Vec<u8>) {
-    with_decimal(number, |digits| bytes.extend_from_slice(digits));
+    /// The number in decimal digits.
+    #[inline]
+    pub fn put_number(&mut self, mut number: u64) {
+        if number < 10 {
+            return self.put(&[b'0' + number as u8]);
+        }
+        for digit in self.room(number.ilog10() as usize + 1).iter_mut().rev() {
+            *digit = b'0' + (number % 10) as u8;
+            number /= 10;
+        }
+    }
+
+    pub fn as_slice(&self) -> &[u8] {
+        &self.buffer[..self.filled]
+    }
+
+    pub fn clear(&mut self) {
+        self.filled = 0;
+    }
 }

@@ -1,6 +1,6 @@
 //! Captures: what was seen on a line, in both directions. `replay`, `texts` and `upgrade`.
 
-use crate::bytes::{are_digits, read_digits};
+use crate::bytes::{are_digits, read_digits, Lines};
 use crate::link::{CR, LF};
 use crate::ports::{each_piece, Output, Piece, Stop};
 use crate::receiver::{Readiness, Receiver};
@@ -46,9 +46,9 @@ fn read_line(line: &[u8], version: Version) -> Option<Line<'_>> {
 }
 
 /// Hands each line, with its number and itself, to `take`, up to the first that is none.
-fn each_line(output: &mut Output, mut take: impl FnMut(u64, &[u8], Line, &mut Output)) -> Result<(), Stop> {
+fn each_line(output: &mut Output, mut take: impl FnMut(u64, &[u8], Line, &mut Lines)) -> Result<(), Stop> {
     let (mut number, mut version, mut refused) = (0, Version::Unknown, false);
-    each_piece(LF, LINE_LIMIT, output, |piece, output| {
+    each_piece(LF, LINE_LIMIT, output, |piece, lines| {
         number += 1;
         let line = match piece {
             Piece::Ended(line) | Piece::Unended(line) => Some(line.strip_suffix(&[CR]).unwrap_or(line)),
@@ -61,7 +61,7 @@ fn each_line(output: &mut Output, mut take: impl FnMut(u64, &[u8], Line, &mut Ou
         if version == Version::Unknown {
             version = if matches!(said, Line::Version) { Version::Two } else { Version::One };
         }
-        take(number, line, said, output);
+        take(number, line, said, lines);
         true
     })?;
     if refused {
@@ -108,58 +108,59 @@ impl Playing {
 pub fn replay(limit: usize, output: &mut Output) -> Result<Report, Stop> {
     let mut playing = Playing::new(limit);
     let (mut texts, mut differences) = (0, 0);
-    each_line(output, |number, _, line, output| {
+    each_line(output, |number, _, line, lines| {
         if let Line::Computer(digits) = line {
             let wanted = playing.decoded.read(digits);
             if wanted != playing.replies {
                 differences += 1;
-                put_difference(Some(number), wanted, &playing.replies, output);
+                put_difference(Some(number), wanted, &playing.replies, lines);
             }
             playing.replies.clear();
             return;
         }
         playing.play(line, |text| {
             texts += 1;
-            output.put(b"text ");
-            output.put_number(number);
-            output.put(b" ");
-            output.put_number(text.len() as u64);
-            output.put(b"\n");
+            lines.put(b"text ");
+            lines.put_number(number);
+            lines.put(b" ");
+            lines.put_number(text.len() as u64);
+            lines.put(b"\n");
         });
     })?;
+    let lines = &mut output.lines;
     if !playing.replies.is_empty() {
         differences += 1;
-        put_difference(None, &[], &playing.replies, output);
+        put_difference(None, &[], &playing.replies, lines);
     }
-    output.put(b"texts ");
-    output.put_number(texts);
-    output.put(b" differences ");
-    output.put_number(differences);
-    output.put(b"\n");
+    lines.put(b"texts ");
+    lines.put_number(texts);
+    lines.put(b" differences ");
+    lines.put_number(differences);
+    lines.put(b"\n");
     Ok(Report::of((differences > 0) as u8))
 }
 
-fn put_difference(number: Option<u64>, wanted: &[u8], got: &[u8], output: &mut Output) {
-    let put_bytes = |bytes: &[u8], output: &mut Output| match bytes {
-        [] => output.put(b"-"),
-        _ => output.put_digits(bytes),
+fn put_difference(number: Option<u64>, wanted: &[u8], got: &[u8], lines: &mut Lines) {
+    let put_bytes = |bytes: &[u8], lines: &mut Lines| match bytes {
+        [] => lines.put(b"-"),
+        _ => lines.put_digits(bytes),
     };
-    output.put(b"difference ");
+    lines.put(b"difference ");
     match number {
-        Some(number) => output.put_number(number),
-        None => output.put(b"end"),
+        Some(number) => lines.put_number(number),
+        None => lines.put(b"end"),
     }
-    output.put(b" ");
-    put_bytes(wanted, output);
-    output.put(b" ");
-    put_bytes(got, output);
-    output.put(b"\n");
+    lines.put(b" ");
+    put_bytes(wanted, lines);
+    lines.put(b" ");
+    put_bytes(got, lines);
+    lines.put(b"\n");
 }
 
 pub fn texts(limit: usize, output: &mut Output) -> Result<Report, Stop> {
     let mut playing = Playing::new(limit);
-    each_line(output, |_, _, line, output| {
-        playing.play(line, |text| output.put(text));
+    each_line(output, |_, _, line, lines| {
+        playing.play(line, |text| lines.put(text));
         playing.replies.clear();
     })?;
     Ok(Report::of(0))
@@ -167,22 +168,22 @@ pub fn texts(limit: usize, output: &mut Output) -> Result<Report, Stop> {
 
 pub fn upgrade(output: &mut Output) -> Result<Report, Stop> {
     let mut begun = false;
-    each_line(output, |_, line, said, output| {
+    each_line(output, |_, line, said, lines| {
         if !begun {
-            output.put(VERSION);
-            output.put(b"\n");
+            lines.put(VERSION);
+            lines.put(b"\n");
             begun = true;
         }
         match said {
             Line::Version => return,
-            Line::Analyzer(_) | Line::Computer(_) => output.put_lower(line),
-            _ => output.put(line),
+            Line::Analyzer(_) | Line::Computer(_) => lines.put_lower(line),
+            _ => lines.put(line),
         }
-        output.put(b"\n");
+        lines.put(b"\n");
     })?;
     if !begun {
-        output.put(VERSION);
-        output.put(b"\n");
+        output.lines.put(VERSION);
+        output.lines.put(b"\n");
     }
     Ok(Report::of(0))
 }

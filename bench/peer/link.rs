@@ -1,6 +1,6 @@
 //! The bytes of the link: signals, frames and what is wrong with one.
 
-use crate::bytes::{any, digit_value, find};
+use crate::bytes::{digit_value, find};
 
 pub const STX: u8 = 0x02;
 pub const ETX: u8 = 0x03;
@@ -41,7 +41,42 @@ pub enum Signal<'a> {
 /// SOH, STX, ETX, EOT, ENQ, ACK, LF, DLE, DC1 to DC4, NAK, SYN, ETB.
 #[inline(always)]
 fn is_forbidden(byte: u8) -> bool {
-    matches!(byte, 0x01..=0x06 | 0x0a | 0x10..=0x17)
+    (byte.wrapping_sub(1) < 6) | (byte == LF) | (byte & 0xf8 == 0x10)
+}
+
+/// What is read wherever it stands outside a frame.
+#[inline(always)]
+fn begins(byte: u8) -> bool {
+    (byte == STX) | (byte == EOT) | (byte == ENQ)
+}
+
+/// What ends a run of bytes behind an STX.
+#[inline(always)]
+fn is_mark(byte: u8) -> bool {
+    begins(byte) | (byte == LF)
+}
+
+impl<'a> Frame<'a> {
+    /// The frame of a number's digit, a text without forbidden bytes, an end and the two digits of the sum.
+    #[inline]
+    fn summed(digit: u8, text: &'a [u8], end: u8, sum: [u8; 2]) -> Option<Frame<'a>> {
+        let value = text.iter().fold(digit.wrapping_add(end), |sum, byte| sum.wrapping_add(*byte));
+        let good = digit_value(sum[0]) == value >> 4 && digit_value(sum[1]) == value & 15;
+        good.then_some(Frame { number: digit - b'0', last: end == ETX, text })
+    }
+}
+
+/// The good frame that stands whole at the front of the bytes behind an STX, and what follows it. The first forbidden
+/// byte behind the number of a good frame is its end.
+#[inline]
+fn front_frame(bytes: &[u8], limit: usize) -> Option<(Frame<'_>, &[u8])> {
+    let (digit @ b'0'..=b'7', rest) = bytes.split_first()? else { return None };
+    let (text, rest) = rest.split_at(find(rest, is_forbidden)?);
+    let (&[end @ (ETB | ETX), high, low, CR, LF], rest) = rest.split_first_chunk()? else { return None };
+    if text.len() > limit {
+        return None;
+    }
+    Some((Frame::summed(*digit, text, end, [high, low])?, rest))
 }
 
 /// Reads the bytes between STX and LF.
@@ -49,21 +84,17 @@ fn read_frame(stretch: &[u8], limit: usize) -> Result<Frame<'_>, Fault> {
     if stretch.len() > limit + FRAMING {
         return Err(Fault::TooLong);
     }
-    let (body, [end @ (ETB | ETX), high, low, CR]) = stretch.split_last_chunk().ok_or(Fault::Shape)? else {
+    let (body, &[end @ (ETB | ETX), high, low, CR]) = stretch.split_last_chunk().ok_or(Fault::Shape)? else {
         return Err(Fault::Shape);
     };
-    let (number, text) = body.split_first().ok_or(Fault::Shape)?;
-    if !(b'0'..=b'7').contains(number) {
+    let (digit, text) = body.split_first().ok_or(Fault::Shape)?;
+    if !(b'0'..=b'7').contains(digit) {
         return Err(Fault::Number);
     }
-    if any(text, is_forbidden) {
-        return Err(Fault::Text(find(text, is_forbidden).unwrap_or(0)));
+    if let Some(place) = find(text, is_forbidden) {
+        return Err(Fault::Text(place));
     }
-    let sum = body.iter().fold(*end, |sum, byte| sum.wrapping_add(*byte));
-    if digit_value(*high) != sum >> 4 || digit_value(*low) != sum & 15 {
-        return Err(Fault::Sum);
-    }
-    Ok(Frame { number: number - b'0', last: *end == ETX, text })
+    Frame::summed(*digit, text, end, [high, low]).ok_or(Fault::Sum)
 }
 
 /// Reads a stream cut anywhere. A frame that stands whole in the bytes handed in is lent from there; one that was cut is
@@ -89,7 +120,7 @@ impl Scanner {
     #[inline]
     pub fn scan(&mut self, mut bytes: &[u8], mut hear: impl FnMut(Signal)) {
         if self.open {
-            let mark = find(bytes, |byte| matches!(byte, STX | EOT | ENQ | LF));
+            let mark = find(bytes, is_mark);
             let (run, rest) = bytes.split_at(mark.unwrap_or(bytes.len()));
             self.hold(run);
             if rest.is_empty() {
@@ -102,27 +133,40 @@ impl Scanner {
             self.open = false;
             self.held.clear();
         }
-        while let Some(start) = find(bytes, |byte| matches!(byte, STX | EOT | ENQ)) {
-            let (first, rest) = (bytes[start], &bytes[start + 1..]);
-            bytes = rest;
-            match first {
-                ENQ => hear(Signal::Enq),
-                EOT => hear(Signal::Eot),
-                _ => match find(rest, |byte| matches!(byte, STX | EOT | ENQ | LF)) {
-                    Some(mark) => {
-                        if rest[mark] == LF {
-                            hear(judged(&rest[..mark], self.limit));
-                        }
-                        bytes = &rest[mark..];
+        while let Some((first, rest)) = bytes.split_first() {
+            bytes = match *first {
+                STX => match front_frame(rest, self.limit) {
+                    Some((frame, after)) => {
+                        hear(Signal::Good(frame));
+                        after
                     }
-                    None => {
-                        self.open = true;
-                        self.hold(rest);
-                        return;
-                    }
+                    None => self.scan_stretch(rest, &mut hear),
                 },
+                ENQ => {
+                    hear(Signal::Enq);
+                    rest
+                }
+                EOT => {
+                    hear(Signal::Eot);
+                    rest
+                }
+                _ => find(rest, begins).map_or(&[], |start| &rest[start..]),
             }
         }
+    }
+
+    /// What follows an STX up to the next mark: no whole good frame.
+    fn scan_stretch<'a>(&mut self, bytes: &'a [u8], hear: &mut impl FnMut(Signal)) -> &'a [u8] {
+        let (stretch, rest) = bytes.split_at(find(bytes, is_mark).unwrap_or(bytes.len()));
+        match rest.first() {
+            Some(&LF) => hear(judged(stretch, self.limit)),
+            Some(_) => (),
+            None => {
+                self.open = true;
+                self.hold(stretch);
+            }
+        }
+        rest
     }
 }
 

@@ -1,6 +1,6 @@
 //! Standard input and standard output: large reads into one buffer, one write for what came of a read.
 
-use crate::bytes;
+use crate::bytes::{find, Lines};
 use std::fmt;
 use std::io::{self, Read, StdinLock, StdoutLock, Write};
 
@@ -28,53 +28,22 @@ impl fmt::Display for Stop {
     }
 }
 
-/// Standard output behind one buffer, which grows to what a read makes and then stays.
+/// Standard output, and what is to be written there.
 pub struct Output {
     sink: StdoutLock<'static>,
-    buffer: Vec<u8>,
-    filled: usize,
+    pub lines: Lines,
 }
 
 impl Output {
     pub fn new() -> Output {
-        Output { sink: io::stdout().lock(), buffer: vec![0; 4 * READ], filled: 0 }
-    }
-
-    /// The next `count` bytes of the output, to be written over.
-    fn room(&mut self, count: usize) -> &mut [u8] {
-        let start = self.filled;
-        self.filled += count;
-        if self.filled > self.buffer.len() {
-            self.buffer.resize(2 * self.filled, 0);
-        }
-        &mut self.buffer[start..self.filled]
-    }
-
-    pub fn put(&mut self, bytes: &[u8]) {
-        self.room(bytes.len()).copy_from_slice(bytes);
-    }
-
-    /// The bytes as digits, two for each.
-    pub fn put_digits(&mut self, bytes: &[u8]) {
-        bytes::write_digits(bytes, self.room(2 * bytes.len()));
-    }
-
-    /// The bytes with letters in lower case: digits, and the beginning of a capture's line.
-    pub fn put_lower(&mut self, bytes: &[u8]) {
-        for (lower, byte) in self.room(bytes.len()).iter_mut().zip(bytes) {
-            *lower = byte.to_ascii_lowercase();
-        }
-    }
-
-    pub fn put_number(&mut self, number: u64) {
-        bytes::with_decimal(number, |digits| self.put(digits));
+        Output { sink: io::stdout().lock(), lines: Lines::default() }
     }
 
     /// Sends on what was put since the last flush, in one write.
     pub fn flush(&mut self) -> Result<(), Stop> {
-        let bytes = &self.buffer[..self.filled];
-        self.filled = 0;
-        self.sink.write_all(bytes).and_then(|()| self.sink.flush()).map_err(|_| Stop::Write)
+        let sent = self.sink.write_all(self.lines.as_slice()).and_then(|()| self.sink.flush());
+        self.lines.clear();
+        sent.map_err(|_| Stop::Write)
     }
 }
 
@@ -97,7 +66,7 @@ impl Input {
 }
 
 /// Hands each read of the input to `take`, and sends on what it put before the next.
-pub fn each_read(output: &mut Output, mut take: impl FnMut(&[u8], &mut Output)) -> Result<(), Stop> {
+pub fn each_read(output: &mut Output, mut take: impl FnMut(&[u8], &mut Lines)) -> Result<(), Stop> {
     let mut input = Input::new();
     let mut buffer = vec![0; READ];
     loop {
@@ -105,7 +74,7 @@ pub fn each_read(output: &mut Output, mut take: impl FnMut(&[u8], &mut Output)) 
         if count == 0 {
             return Ok(());
         }
-        take(&buffer[..count], output);
+        take(&buffer[..count], &mut output.lines);
         output.flush()?;
     }
 }
@@ -124,7 +93,7 @@ pub fn each_piece(
     end: u8,
     limit: usize,
     output: &mut Output,
-    mut take: impl FnMut(Piece, &mut Output) -> bool,
+    mut take: impl FnMut(Piece, &mut Lines) -> bool,
 ) -> Result<(), Stop> {
     let mut input = Input::new();
     let mut buffer = vec![0; limit + READ];
@@ -133,16 +102,16 @@ pub fn each_piece(
         let count = input.read(&mut buffer[held..held + READ])?;
         if count == 0 {
             if held > 0 {
-                take(Piece::Unended(&buffer[..held]), output);
+                take(Piece::Unended(&buffer[..held]), &mut output.lines);
             }
             return Ok(());
         }
         let filled = held + count;
         let (mut start, mut searched) = (0, held);
-        while let Some(length) = bytes::find(&buffer[searched..filled], |byte| byte == end) {
+        while let Some(length) = find(&buffer[searched..filled], |byte| byte == end) {
             let piece = &buffer[start..searched + length];
             let piece = if piece.len() > limit { Piece::TooLong } else { Piece::Ended(piece) };
-            if !take(piece, output) {
+            if !take(piece, &mut output.lines) {
                 return Ok(());
             }
             searched += length + 1;
@@ -150,7 +119,7 @@ pub fn each_piece(
         }
         held = filled - start;
         if held > limit {
-            take(Piece::TooLong, output);
+            take(Piece::TooLong, &mut output.lines);
             return Ok(());
         }
         buffer.copy_within(start..filled, 0);

@@ -1,7 +1,7 @@
 //! Record text: `check` and `results`. Records are read in place, and of an open message only the lines are kept that
 //! come of it once it is whole.
 
-use crate::bytes::{any, count, put_decimal};
+use crate::bytes::{any, count, Lines};
 use crate::link::CR;
 use crate::ports::{each_piece, Output, Piece, Stop};
 use crate::Report;
@@ -54,20 +54,21 @@ impl<'a> Record<'a> {
         count(self.fields, self.delimiters.field)
     }
 
-    /// The fields from this number on; the first behind the letter has number 2.
-    fn fields_from(&self, number: usize) -> impl Iterator<Item = &'a [u8]> + use<'a> {
+    /// The fields, the first of which has number 2.
+    fn fields(&self) -> Option<impl Iterator<Item = &'a [u8]> + use<'a>> {
         let delimiter = self.delimiters.field;
-        self.fields.split(move |byte| *byte == delimiter).skip(number - 1)
+        Some(self.fields.get(1..)?.split(move |byte| *byte == delimiter))
     }
 
     fn field(&self, number: usize) -> Option<&'a [u8]> {
-        self.fields_from(number).next()
+        self.fields()?.nth(number - 2)
     }
 }
 
-#[inline(always)]
-fn is_text(byte: u8) -> bool {
-    matches!(byte, 7 | 9 | 11 | 12 | 32..=126 | 128..=254)
+/// Whether all bytes may stand in a record. The few control bytes that may are told apart only where one stands.
+fn is_text(bytes: &[u8]) -> bool {
+    let unusual = any(bytes, |byte| (byte < 32) | (byte == 127) | (byte == 255));
+    !unusual || bytes.iter().all(|byte| matches!(byte, 7 | 9 | 11 | 12 | 32..=126 | 128..=254))
 }
 
 /// Reads a header's delimiters: four distinct punctuation bytes, then a field delimiter or the record's end.
@@ -106,7 +107,7 @@ fn read_record<'a>(text: &'a [u8], open: &mut Option<Open>) -> Result<Record<'a>
         }
         Some(_) => return Err(UNKNOWN_KIND),
     };
-    if any(text, |byte| !is_text(byte)) {
+    if !is_text(text) {
         return Err(BAD_BYTE);
     }
     let begun = Open { delimiters: record.delimiters, records: 0, group: None, order: false };
@@ -133,14 +134,14 @@ impl Open {
 trait Command {
     fn record(&mut self, place: u64, record: &Record);
     /// The message is whole: its lines go out.
-    fn message(&mut self, number: u64, output: &mut Output);
+    fn message(&mut self, number: u64, lines: &mut Lines);
 }
 
 /// Reads messages until a record is refused or the input ends: how many are whole, and what was refused.
 fn each_message(output: &mut Output, command: &mut impl Command) -> Result<(u64, Option<Refused>), Stop> {
     let (mut completed, mut refused) = (0, None);
     let mut open: Option<Open> = None;
-    each_piece(CR, RECORD_LIMIT, output, |piece, output| {
+    each_piece(CR, RECORD_LIMIT, output, |piece, lines| {
         let read = match piece {
             Piece::Ended(text) => read_record(text, &mut open),
             Piece::Unended(_) => Err(UNFINISHED),
@@ -153,7 +154,7 @@ fn each_message(output: &mut Output, command: &mut impl Command) -> Result<(u64,
                 if record.kind == b'L' {
                     open = None;
                     completed += 1;
-                    command.message(completed, output);
+                    command.message(completed, lines);
                 }
             }
             Err(reason) => refused = Some(Refused { message: completed + 1, place: place + 1, reason }),
@@ -169,8 +170,8 @@ fn each_message(output: &mut Output, command: &mut impl Command) -> Result<(u64,
 /// `check`: the open message's lines, those of its findings, and how many records stand under their parent.
 #[derive(Default)]
 struct Check {
-    records: Vec<u8>,
-    findings: Vec<u8>,
+    records: Lines,
+    findings: Lines,
     patients: u64,
     queries: u64,
     orders: u64,
@@ -217,11 +218,11 @@ fn is_number(field: &[u8], expected: u64) -> bool {
     matches!(field.len(), 1..=9) && field.iter().all(u8::is_ascii_digit) && value() == expected
 }
 
-fn put_line(lines: &mut Vec<u8>, place: u64, kind: u8, number: u64) {
-    put_decimal(place, lines);
-    lines.extend_from_slice(&[b' ', kind, b' ']);
-    put_decimal(number, lines);
-    lines.push(b'\n');
+fn put_line(lines: &mut Lines, place: u64, kind: u8, number: u64) {
+    lines.put_number(place);
+    lines.put(&[b' ', kind, b' ']);
+    lines.put_number(number);
+    lines.put(b"\n");
 }
 
 impl Command for Check {
@@ -230,17 +231,17 @@ impl Command for Check {
         let Some(expected) = self.expected(record.kind) else { return };
         if !record.field(2).is_some_and(|field| is_number(field, expected)) {
             self.found += 1;
-            self.findings.extend_from_slice(b"finding ");
+            self.findings.put(b"finding ");
             put_line(&mut self.findings, place, record.kind, expected);
         }
     }
 
-    fn message(&mut self, number: u64, output: &mut Output) {
-        output.put(b"message ");
-        output.put_number(number);
-        output.put(b"\n");
-        output.put(&self.records);
-        output.put(&self.findings);
+    fn message(&mut self, number: u64, lines: &mut Lines) {
+        lines.put(b"message ");
+        lines.put_number(number);
+        lines.put(b"\n");
+        lines.put(self.records.as_slice());
+        lines.put(self.findings.as_slice());
         self.records.clear();
         self.findings.clear();
         self.found_before += std::mem::take(&mut self.found);
@@ -251,17 +252,17 @@ pub fn check(output: &mut Output) -> Result<Report, Stop> {
     let mut check = Check::default();
     let (completed, refused) = each_message(output, &mut check)?;
     if let Some(refused) = &refused {
-        output.put(format!("{refused}\n").as_bytes());
+        output.lines.put(format!("{refused}\n").as_bytes());
     }
-    output.put(format!("messages {completed} findings {}\n", check.found_before).as_bytes());
+    output.lines.put(format!("messages {completed} findings {}\n", check.found_before).as_bytes());
     Ok(Report::of((refused.is_some() || check.found_before > 0) as u8))
 }
 
 /// `results`: the spelling of the present order's field 3, and the open message's lines.
 #[derive(Default)]
 struct Results {
-    order: Vec<u8>,
-    lines: Vec<u8>,
+    order: Lines,
+    lines: Lines,
 }
 
 /// The length of the pairs of digits, one pair at least, that the escape byte closes.
@@ -272,31 +273,31 @@ fn hexadecimal_length(text: &[u8], escape: u8) -> Option<usize> {
 
 /// A field's spelling: as it stands but for an escape byte that begins no escape, and for hexadecimal escapes, of
 /// which each byte gets one of its own in lower case.
-fn spell(field: &[u8], escape: u8, spelling: &mut Vec<u8>) {
+fn put_spelling(field: &[u8], escape: u8, spelling: &mut Lines) {
     let mut rest = field;
     while let Some(place) = rest.iter().position(|byte| *byte == escape) {
         let (plain, escaped) = rest.split_at(place);
-        spelling.extend_from_slice(plain);
+        spelling.put(plain);
         rest = match escaped {
             [_, b'H' | b'N' | b'F' | b'S' | b'R' | b'E', close, after @ ..] if *close == escape => {
-                spelling.extend_from_slice(&escaped[..3]);
+                spelling.put(&escaped[..3]);
                 after
             }
             [_, b'X', digits @ ..] if hexadecimal_length(digits, escape).is_some() => {
                 let length = hexadecimal_length(digits, escape).unwrap_or(0);
                 for pair in digits[..length].chunks_exact(2) {
                     let [high, low] = [pair[0].to_ascii_lowercase(), pair[1].to_ascii_lowercase()];
-                    spelling.extend_from_slice(&[escape, b'X', high, low, escape]);
+                    spelling.put(&[escape, b'X', high, low, escape]);
                 }
                 &digits[length + 1..]
             }
             _ => {
-                spelling.extend_from_slice(&[escape, b'E', escape]);
+                spelling.put(&[escape, b'E', escape]);
                 &escaped[1..]
             }
         };
     }
-    spelling.extend_from_slice(rest);
+    spelling.put(rest);
 }
 
 impl Command for Results {
@@ -305,24 +306,30 @@ impl Command for Results {
         match record.kind {
             b'O' => {
                 self.order.clear();
-                spell(record.field(3).unwrap_or_default(), escape, &mut self.order);
+                put_spelling(record.field(3).unwrap_or_default(), escape, &mut self.order);
             }
             b'R' => {
-                self.lines.extend_from_slice(&self.order);
-                let mut fields = record.fields_from(3);
-                // Fields 3, 4, 5, 6, 7 and, behind one that is passed over, 9.
-                for passed in [0, 0, 0, 0, 0, 1] {
-                    self.lines.push(field);
-                    spell(fields.nth(passed).unwrap_or_default(), escape, &mut self.lines);
+                self.lines.put(self.order.as_slice());
+                let mut fields = record.fields();
+                let escaped = any(record.fields, |byte| byte == escape);
+                // One passed over, fields 3, 4, 5, 6, 7, another passed over, field 9.
+                for passed in [1, 0, 0, 0, 0, 1] {
+                    self.lines.put(&[field]);
+                    let field = fields.as_mut().and_then(|fields| fields.nth(passed)).unwrap_or_default();
+                    if escaped {
+                        put_spelling(field, escape, &mut self.lines);
+                    } else {
+                        self.lines.put(field);
+                    }
                 }
-                self.lines.push(b'\n');
+                self.lines.put(b"\n");
             }
             _ => (),
         }
     }
 
-    fn message(&mut self, _: u64, output: &mut Output) {
-        output.put(&self.lines);
+    fn message(&mut self, _: u64, lines: &mut Lines) {
+        lines.put(self.lines.as_slice());
         self.lines.clear();
     }
 }
