@@ -24,8 +24,8 @@ def header(rng):
 
 def result(rng, number):
     return b"R|%d|^^^%s|%d.%d|%s|3.9 to 6.1|%s||F||%s" % (
-        number, rng.choice(TESTS), rng.randrange(300), rng.randrange(100), rng.choice(UNITS), rng.choice((b"N", b"H", b"L")),
-        rng.choice((b"", b"op%d" % rng.randrange(50), b"op7|20240511101500|20240511102300|A%d" % rng.randrange(9))))
+        number, rng.choice(TESTS), rng.randrange(300), rng.randrange(100), rng.choice(UNITS),
+        rng.choice((b"N", b"H", b"L")), rng.choice((b"", b"op7", b"op12|20240511101500|20240511102300|A4")))
 
 
 def results_message(rng):
@@ -110,7 +110,8 @@ def disturbed(rng, texts):
         elif what < 0.2:
             made += lines(b">", sent) + [b"< 06"]
         elif what < 0.25:
-            made += [b"", b"> " + sent[:len(sent) // 2].hex().encode(), b"> " + sent[len(sent) // 2:].hex().encode(), b"< 15"] * 2
+            cut = len(sent) // 2
+            made += [b""] + lines(b">", sent[:cut]) + lines(b">", sent[cut:]) + [b"< 06"]
         made += lines(b">", sent) + [b"< 06" if what < 0.95 else b"< 0615"]
     return made + [rng.choice((b"> 04", b"T", b"R"))]
 

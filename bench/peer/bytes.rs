@@ -1,6 +1,6 @@
 //! Searches, digits, and the bytes of lines. Long loops have no early exit, so that the compiler makes vectors of them.
 
-/// The place of the first byte that fits. Sixteen bytes are asked together, and only the sixteen that answered one by one.
+/// The place of the first byte that fits. Sixteen bytes are asked together, and only the last sixteen one by one.
 #[inline(always)]
 pub fn find(bytes: &[u8], fits: impl Fn(u8) -> bool) -> Option<usize> {
     let mut passed = 0;

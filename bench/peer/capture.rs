@@ -1,10 +1,10 @@
 //! Captures: what was seen on a line, in both directions. `replay`, `texts` and `upgrade`.
 
-use crate::bytes::{are_digits, read_digits, Lines};
-use crate::link::{CR, LF};
-use crate::ports::{each_piece, Output, Piece, Stop};
-use crate::receiver::{Readiness, Receiver};
 use crate::Report;
+use crate::bytes::{Lines, are_digits, read_digits};
+use crate::link::{CR, LF};
+use crate::ports::{Output, Piece, Stop, each_piece};
+use crate::receiver::{Readiness, Receiver};
 
 const LINE_LIMIT: usize = 4_096;
 const VERSION: &[u8] = b"capture 2";

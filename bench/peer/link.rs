@@ -97,12 +97,13 @@ fn read_frame(stretch: &[u8], limit: usize) -> Result<Frame<'_>, Fault> {
     Frame::summed(*digit, text, end, [high, low]).ok_or(Fault::Sum)
 }
 
-/// Reads a stream cut anywhere. A frame that stands whole in the bytes handed in is lent from there; one that was cut is
-/// gathered first.
+/// Reads a stream cut anywhere. A frame that stands whole in the bytes handed in is lent from there; one that was cut
+/// is gathered first.
 pub struct Scanner {
     limit: usize,
-    /// Whether an STX came, and what came behind it in earlier calls: no more of it than shows that it is too long.
+    /// Whether the last call ended behind an STX and before its mark.
     open: bool,
+    /// What came behind that STX, no more of it than shows that it is too long.
     held: Vec<u8>,
 }
 
@@ -111,28 +112,10 @@ impl Scanner {
         Scanner { limit, open: false, held: Vec::new() }
     }
 
-    fn hold(&mut self, run: &[u8]) {
-        let room = self.limit + FRAMING + 1 - self.held.len();
-        self.held.extend_from_slice(&run[..run.len().min(room)]);
-    }
-
     /// Hands each signal of the bytes to `hear`.
     #[inline]
-    pub fn scan(&mut self, mut bytes: &[u8], mut hear: impl FnMut(Signal)) {
-        if self.open {
-            let mark = find(bytes, is_mark);
-            let (run, rest) = bytes.split_at(mark.unwrap_or(bytes.len()));
-            self.hold(run);
-            if rest.is_empty() {
-                return;
-            }
-            bytes = rest;
-            if bytes[0] == LF {
-                hear(judged(&self.held, self.limit));
-            }
-            self.open = false;
-            self.held.clear();
-        }
+    pub fn scan(&mut self, bytes: &[u8], mut hear: impl FnMut(Signal)) {
+        let mut bytes = if self.open { self.scan_on(bytes, &mut hear) } else { bytes };
         while let Some((first, rest)) = bytes.split_first() {
             bytes = match *first {
                 STX => match front_frame(rest, self.limit) {
@@ -155,7 +138,7 @@ impl Scanner {
         }
     }
 
-    /// What follows an STX up to the next mark: no whole good frame.
+    /// What follows an STX, where that is no whole good frame: up to its mark, or all of it.
     fn scan_stretch<'a>(&mut self, bytes: &'a [u8], hear: &mut impl FnMut(Signal)) -> &'a [u8] {
         let (stretch, rest) = bytes.split_at(find(bytes, is_mark).unwrap_or(bytes.len()));
         match rest.first() {
@@ -168,9 +151,27 @@ impl Scanner {
         }
         rest
     }
+
+    /// What follows an STX of an earlier call.
+    fn scan_on<'a>(&mut self, bytes: &'a [u8], hear: &mut impl FnMut(Signal)) -> &'a [u8] {
+        let (run, rest) = bytes.split_at(find(bytes, is_mark).unwrap_or(bytes.len()));
+        self.hold(run);
+        if let Some(mark) = rest.first() {
+            if *mark == LF {
+                hear(judged(&self.held, self.limit));
+            }
+            self.open = false;
+            self.held.clear();
+        }
+        rest
+    }
+
+    fn hold(&mut self, run: &[u8]) {
+        let room = self.limit + FRAMING + 1 - self.held.len();
+        self.held.extend_from_slice(&run[..run.len().min(room)]);
+    }
 }
 
-#[inline]
 fn judged(stretch: &[u8], limit: usize) -> Signal<'_> {
     match read_frame(stretch, limit) {
         Ok(frame) => Signal::Good(frame),

@@ -1,6 +1,6 @@
 //! Standard input and standard output: large reads into one buffer, one write for what came of a read.
 
-use crate::bytes::{find, Lines};
+use crate::bytes::{Lines, find};
 use std::fmt;
 use std::io::{self, Read, StdinLock, StdoutLock, Write};
 
@@ -87,8 +87,8 @@ pub enum Piece<'a> {
     TooLong,
 }
 
-/// Hands the pieces of the input to `take`, in their order, until it answers that it wants no more of them. A piece that
-/// is still open at the end of a read is moved to the front of the buffer, and the next read goes behind it.
+/// Hands the pieces of the input to `take`, in their order, until it answers that it wants no more of them. A piece
+/// that is still open at the end of a read is moved to the front of the buffer, and the next read goes behind it.
 pub fn each_piece(
     end: u8,
     limit: usize,

@@ -1,6 +1,6 @@
 //! The computer's end: what it answers to a stream and the texts that it hands out.
 
-use crate::link::{Frame, Scanner, Signal, ACK, ENQ, NAK};
+use crate::link::{ACK, ENQ, Frame, NAK, Scanner, Signal};
 
 /// The most bytes of a text, and the most frames of a session.
 const TEXT_LIMIT: usize = 1_048_576;

@@ -1,10 +1,10 @@
 //! Record text: `check` and `results`. Records are read in place, and of an open message only the lines are kept that
 //! come of it once it is whole.
 
-use crate::bytes::{any, count, Lines};
-use crate::link::CR;
-use crate::ports::{each_piece, Output, Piece, Stop};
 use crate::Report;
+use crate::bytes::{Lines, any, count};
+use crate::link::CR;
+use crate::ports::{Output, Piece, Stop, each_piece};
 use std::fmt;
 
 const RECORD_LIMIT: usize = 65_536;
@@ -265,10 +265,17 @@ struct Results {
     lines: Lines,
 }
 
-/// The length of the pairs of digits, one pair at least, that the escape byte closes.
-fn hexadecimal_length(text: &[u8], escape: u8) -> Option<usize> {
-    let length = text.iter().take_while(|byte| byte.is_ascii_hexdigit()).count();
-    (length > 0 && length % 2 == 0 && text.get(length) == Some(&escape)).then_some(length)
+/// The length of the escape that begins here, if one does: a letter, or an X and pairs of digits, between escape bytes.
+fn escape_length(text: &[u8], escape: u8) -> Option<usize> {
+    let length = match text.get(1)? {
+        b'H' | b'N' | b'F' | b'S' | b'R' | b'E' => 3,
+        b'X' => match text[2..].iter().take_while(|byte| byte.is_ascii_hexdigit()).count() {
+            digits if digits > 0 && digits % 2 == 0 => digits + 3,
+            _ => return None,
+        },
+        _ => return None,
+    };
+    (text.get(length - 1) == Some(&escape)).then_some(length)
 }
 
 /// A field's spelling: as it stands but for an escape byte that begins no escape, and for hexadecimal escapes, of
@@ -278,24 +285,18 @@ fn put_spelling(field: &[u8], escape: u8, spelling: &mut Lines) {
     while let Some(place) = rest.iter().position(|byte| *byte == escape) {
         let (plain, escaped) = rest.split_at(place);
         spelling.put(plain);
-        rest = match escaped {
-            [_, b'H' | b'N' | b'F' | b'S' | b'R' | b'E', close, after @ ..] if *close == escape => {
-                spelling.put(&escaped[..3]);
-                after
-            }
-            [_, b'X', digits @ ..] if hexadecimal_length(digits, escape).is_some() => {
-                let length = hexadecimal_length(digits, escape).unwrap_or(0);
-                for pair in digits[..length].chunks_exact(2) {
+        let length = escape_length(escaped, escape);
+        match length {
+            None => spelling.put(&[escape, b'E', escape]),
+            Some(3) => spelling.put(&escaped[..3]),
+            Some(length) => {
+                for pair in escaped[2..length - 1].chunks_exact(2) {
                     let [high, low] = [pair[0].to_ascii_lowercase(), pair[1].to_ascii_lowercase()];
                     spelling.put(&[escape, b'X', high, low, escape]);
                 }
-                &digits[length + 1..]
             }
-            _ => {
-                spelling.put(&[escape, b'E', escape]);
-                &escaped[1..]
-            }
-        };
+        }
+        rest = &escaped[length.unwrap_or(1)..];
     }
     spelling.put(rest);
 }

@@ -1,9 +1,9 @@
 //! `show`: a line for each signal.
 
+use crate::Report;
 use crate::bytes::Lines;
 use crate::link::{Fault, Frame, Scanner, Signal};
-use crate::ports::{each_read, Output, Stop};
-use crate::Report;
+use crate::ports::{Output, Stop, each_read};
 
 pub fn show(limit: usize, output: &mut Output) -> Result<Report, Stop> {
     let mut scanner = Scanner::new(limit);
