@@ -10,7 +10,8 @@ use Rattle.std.proofs.lemmas.Simd.{bitmask_splat, leading_from_mask_l, trailing_
 use Rattle.std.proofs.lemmas.List.{length-map}
 use Rattle.std.proofs.lemmas.List.Sums.{prefix_len-le-length}
 use Rattle.std.proofs.lemmas.Bool.Decides.{nat_tests}
-use Rattle.lis_frame.specs.Text.{allowed_length, is_forbidden, first_forbidden}
+use Rattle.lis_frame.specs.Stream.{is_mark}
+use Rattle.lis_frame.specs.Text.{is_forbidden}
 
 -- a run in which no byte passes is passed over
 pub position-none :
@@ -66,37 +67,38 @@ position-before f i k (x ∷ xs) e = by (f x) refl e (position-before f (i + 1) 
         let at : k - i ≡ suc (k - (i + 1)) = omega (arith, before.from) in
         record { from = omega (arith, before.from); inside = omega (arith, before.inside); clean = rw (at, t) before.clean }
 
-pub clean-before : (xs : List ℕ) (k : ℕ) → first_forbidden xs ≡ Some k → (k < length xs) × (first_forbidden (take k xs) ≡ None)
-clean-before xs k e =
-    let before = position-before is_forbidden 0 k xs e in
-    let at : k - 0 ≡ k = omega arith in
-    (omega (arith, before.inside), rw at at before.clean)
+module _ (f : ℕ → Bool) (xs : List ℕ) where
+  pub clean-before : (k : ℕ) → position_from f 0 xs ≡ Some k → (k < length xs) × (position_from f 0 (take k xs) ≡ None)
+  clean-before k e =
+      let before = position-before f 0 k xs e in
+      let at : k - 0 ≡ k = omega arith in
+      (omega (arith, before.inside), rw at at before.clean)
 
--- what stands before it is what a text may hold, and no more
-pub allowed-found : (xs : List ℕ) (k : ℕ) → first_forbidden xs ≡ Some k → k ≡ allowed_length xs
-allowed-found xs k e = by (nat_lt (allowed_length xs) (length xs)) refl
-  where
-    by : (test : Bool) → nat_lt (allowed_length xs) (length xs) ≡ test → k ≡ allowed_length xs
-    by true t =
-        let found : first_forbidden (xs ++ []) ≡ Some (0 + allowed_length xs) = position-some is_forbidden 0 xs [] (grind (arith, nat_tests, t)) in
-        let at : 0 + allowed_length xs ≡ allowed_length xs = zero-add (allowed_length xs) in
-        let same : first_forbidden xs ≡ Some (allowed_length xs) = rw (append-nil xs, at) at found in
-        cc
-    by false t =
-        let all : allowed_length xs ≡ length xs = grind (arith, nat_tests, t, prefix_len-le-length (λ b. not (is_forbidden b)) xs) in
-        let none : first_forbidden (xs ++ []) ≡ None = position-none is_forbidden 0 xs [] all in
-        let same = rw (append-nil xs) at none in
-        cc
+  -- the first that passes stands behind all that don't, and no further
+  pub prefix-found : (k : ℕ) → position_from f 0 xs ≡ Some k → k ≡ prefix_len (λ x. not (f x)) xs
+  prefix-found k e = by (nat_lt (prefix_len (λ x. not (f x)) xs) (length xs)) refl
+    where
+      by : (test : Bool) → nat_lt (prefix_len (λ x. not (f x)) xs) (length xs) ≡ test → k ≡ prefix_len (λ x. not (f x)) xs
+      by true t =
+          let found : position_from f 0 (xs ++ []) ≡ Some (0 + prefix_len (λ x. not (f x)) xs) = position-some f 0 xs [] (grind (arith, nat_tests, t)) in
+          let at : 0 + prefix_len (λ x. not (f x)) xs ≡ prefix_len (λ x. not (f x)) xs = zero-add (prefix_len (λ x. not (f x)) xs) in
+          let same : position_from f 0 xs ≡ Some (prefix_len (λ x. not (f x)) xs) = rw (append-nil xs, at) at found in
+          cc
+      by false t =
+          let all : prefix_len (λ x. not (f x)) xs ≡ length xs = grind (arith, nat_tests, t, prefix_len-le-length (λ x. not (f x)) xs) in
+          let none : position_from f 0 (xs ++ []) ≡ None = position-none f 0 xs [] all in
+          let same = rw (append-nil xs) at none in
+          cc
 
-pub allowed-none : (xs : List ℕ) → first_forbidden xs ≡ None → length xs ≡ allowed_length xs
-allowed-none xs e = by (nat_lt (allowed_length xs) (length xs)) refl
-  where
-    by : (test : Bool) → nat_lt (allowed_length xs) (length xs) ≡ test → length xs ≡ allowed_length xs
-    by true t =
-        let found : first_forbidden (xs ++ []) ≡ Some (0 + allowed_length xs) = position-some is_forbidden 0 xs [] (grind (arith, nat_tests, t)) in
-        let same = rw (append-nil xs) at found in
-        cc
-    by false t = grind (arith, nat_tests, t, prefix_len-le-length (λ b. not (is_forbidden b)) xs)
+  pub prefix-none : position_from f 0 xs ≡ None → length xs ≡ prefix_len (λ x. not (f x)) xs
+  prefix-none e = by (nat_lt (prefix_len (λ x. not (f x)) xs) (length xs)) refl
+    where
+      by : (test : Bool) → nat_lt (prefix_len (λ x. not (f x)) xs) (length xs) ≡ test → length xs ≡ prefix_len (λ x. not (f x)) xs
+      by true t =
+          let found : position_from f 0 (xs ++ []) ≡ Some (0 + prefix_len (λ x. not (f x)) xs) = position-some f 0 xs [] (grind (arith, nat_tests, t)) in
+          let same = rw (append-nil xs) at found in
+          cc
+      by false t = grind (arith, nat_tests, t, prefix_len-le-length (λ x. not (f x)) xs)
 
 -- the same by the mask of a vector's lanes
 pub passed-chunk :
@@ -243,3 +245,49 @@ pub lanes-none :
     (xs : List ℕ) → length xs ≡ 16 →
     mask_l (map (top 7) (zip2 {C = ℕ} (λ a b. cond (leb a b) 255 0) xs (replicate 16 23))) % 2 ^ 64 ≡ 0 → 0 ≡ mask_l (map is_forbidden xs)
 lanes-none xs long none = none_low xs (sym (bitmask_splat w8 leb xs 16 23 long (omega arith)) ∙ none)
+
+-- a lane of the tests for marks
+abbrev lane_of_mark : ℕ → ℕ
+lane_of_mark b =
+    bit_or (bit_or (cond (eqb b 2) 255 0) (cond (eqb b 10) 255 0)) (bit_or (cond (eqb b 4) 255 0) (cond (eqb b 5) 255 0))
+
+lane_of_mark_top : (b : ℕ) → top 7 (lane_of_mark b) ≡ is_mark b
+lane_of_mark_top b = by (eqb b 2) (eqb b 10) (eqb b 4) (eqb b 5)
+  where
+    by :
+        (s l t q : Bool) →
+        top 7 (bit_or (bit_or (cond s 255 0) (cond l 255 0)) (bit_or (cond t 255 0) (cond q 255 0))) ≡ (s || l || (t || q))
+    by true true true true = refl
+    by true true true false = refl
+    by true true false true = refl
+    by true true false false = refl
+    by true false true true = refl
+    by true false true false = refl
+    by true false false true = refl
+    by true false false false = refl
+    by false true true true = refl
+    by false true true false = refl
+    by false true false true = refl
+    by false true false false = refl
+    by false false true true = refl
+    by false false true false = refl
+    by false false false true = refl
+    by false false false false = refl
+
+equal : (xs : List ℕ) → length xs ≡ 16 → (n : ℕ) → zip2 {C = ℕ} (λ a b. cond (eqb a b) 255 0) xs (replicate 16 n) ≡ map {B = ℕ} (λ b. cond (eqb b n) 255 0) xs
+equal xs long n = zip2_splat {Z = ℕ} (λ a b. cond (eqb a b) 255 0) xs 16 n long
+
+pub lanes-marks :
+    (xs : List ℕ) → length xs ≡ 16 →
+    mask_l (map (top 7)
+    (zip2 bit_or
+    (zip2 bit_or (zip2 {C = ℕ} (λ a b. cond (eqb a b) 255 0) xs (replicate 16 2)) (zip2 {C = ℕ} (λ a b. cond (eqb a b) 255 0) xs (replicate 16 10)))
+    (zip2 bit_or (zip2 {C = ℕ} (λ a b. cond (eqb a b) 255 0) xs (replicate 16 4)) (zip2 {C = ℕ} (λ a b. cond (eqb a b) 255 0) xs (replicate 16 5))))) % 2 ^ 64
+    ≡ mask_l (map is_mark xs)
+lanes-marks xs long =
+    let starts = zip2_of_maps bit_or _ _ xs (equal xs long 2) (equal xs long 10) in
+    let ends = zip2_of_maps bit_or _ _ xs (equal xs long 4) (equal xs long 5) in
+    let all = zip2_of_maps bit_or _ _ xs starts ends in
+    ap (λ (lanes : List ℕ). mask_l (map (top 7) lanes) % 2 ^ 64) all
+    ∙ ap (λ (ms : List Bool). mask_l ms % 2 ^ 64) (map-map (top 7) lane_of_mark xs ∙ same_map (λ b. top 7 (lane_of_mark b)) is_mark lane_of_mark_top xs)
+    ∙ mask_l-mod (map is_mark xs) 64 (omega (arith, length-map xs is_mark))

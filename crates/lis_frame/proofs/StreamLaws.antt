@@ -1,16 +1,16 @@
 -- The signals of a stream: they don't depend on its cut, and the bytes of a frame are heard as that frame.
-use Rattle.std.proofs.Common.{◌≡◌, ℕ, ◌+◌, ◌/◌, ◌%◌, ◌<◌, Bool, true, false, List, [], ◌∷◌, ◌++◌, Option, None, Some, refl, ap, sym, ◌∙◌, subst, arith, cond, append-nil, append_assoc}
-use Rattle.std.specs.Prelude.{nat_le, ◌==◌, ◌||◌}
+use Rattle.std.proofs.Common.{suc, take, ◌≡◌, ℕ, ◌+◌, ◌/◌, ◌%◌, ◌<◌, Bool, true, false, List, [], ◌∷◌, ◌++◌, Option, None, Some, refl, ap, sym, ◌∙◌, subst, arith, cond, append-nil, append_assoc}
+use Rattle.std.specs.Prelude.{not, nat_le, ◌==◌, ◌||◌}
 use Rattle.std.specs.List.{position_from}
 use Rattle.std.proofs.lemmas.Bool.Decides.{nat_tests}
 use Rattle.lis_frame.specs.declared.control.TheConstants.{STX, EOT, ENQ, CR, LF}
 use Rattle.lis_frame.specs.declared.scanner.SignalOf.{SignalOf}
 use Rattle.lis_frame.specs.declared.scanner.SignalOf.TheVariants.{Good}
-use Rattle.lis_frame.specs.Text.{is_forbidden, first_forbidden}
-use Rattle.lis_frame.specs.Scanner.{Held, outside, with_byte, with_bytes, StandsFor}
+use Rattle.lis_frame.specs.Text.{is_forbidden}
+use Rattle.lis_frame.specs.Scanner.{Held, held_after, outside, quiet_length, unmarked_length, with_byte, with_bytes, StandsFor}
 use Rattle.lis_frame.specs.Frame.{FrameContent, IsContent, IsFrame, number_byte, end_byte, checksum, digit_value, upper_digit, frame_bytes}
 use Rattle.lis_frame.specs.Stretch.{stretch_of}
-use Rattle.lis_frame.specs.Stream.{look_back, open_stretch, read_stretch, signal_after, with_signal, signals_after, stream_with}
+use Rattle.lis_frame.specs.Stream.{is_mark, look_back, open_stretch, read_stretch, signal_after, with_signal, signals_after, stream_with}
 use Rattle.lis_frame.proofs.FrameLaws.{only, IsFrame-frame_bytes}
 use Rattle.lis_frame.proofs.ScannerLemmas.{look_back-push, stands_after}
 
@@ -126,10 +126,30 @@ signals-frame_bytes limit past frame content =
     let read = only limit (inside_of frame) frame is_frame in
     rw (frame_bytes-inside frame, signals-stretch limit past (inside_of frame) (AllPlain-inside_of limit frame content), read.0) (ap (λ f. Good f ∷ []) (sym read.1))
 
--- bytes that a text may hold are plain
-AllPlain-clean : (text : List ℕ) → first_forbidden text ≡ None → AllPlain text
+plain_unless_mark : (b : ℕ) → is_mark b ≡ false → IsPlain b
+plain_unless_mark b h =
+    record {
+      no_start = grind (arith, nat_tests);
+      no_stop = grind (arith, nat_tests);
+      no_enquiry = grind (arith, nat_tests);
+      no_ending = grind (arith, nat_tests);
+      no_line_feed = grind (arith, nat_tests);
+    }
+
+-- the bytes before the next mark are plain
+abbrev pub unmarked : List ℕ → List ℕ
+unmarked bytes = take (unmarked_length bytes) bytes
+
+AllPlain-unmarked : (bytes : List ℕ) → AllPlain (unmarked bytes)
 unfolding AllPlain
-AllPlain-clean text clean = rw (append-nil text) at (AllPlain-text 0 text [] clean tt)
+AllPlain-unmarked [] = tt
+AllPlain-unmarked (b ∷ bytes) = by (is_mark b) refl (AllPlain-unmarked bytes)
+  where
+    by : (mark : Bool) → is_mark b ≡ mark → AllPlain (unmarked bytes) → AllPlain (take (cond (not mark) (1 + unmarked_length bytes) 0) (b ∷ bytes))
+    by true e later = tt
+    by false e later =
+        let longer : 1 + unmarked_length bytes ≡ suc (unmarked_length bytes) = omega arith in
+        rw longer (plain_unless_mark b e, later)
 
 stands-plain :
     (limit : ℕ) (held : Held) (run past : List ℕ) → AllPlain run → StandsFor limit held past →
@@ -140,13 +160,28 @@ stands-plain limit held (b ∷ run) past plain stands =
     let one : StandsFor limit (with_byte limit held b) (b ∷ past) = rw (plain.0.no_start, plain.0.no_stop) at (stands_after limit held past b stands) in
     stands-plain limit (with_byte limit held b) run (b ∷ past) plain.1 one
 
--- a run of bytes that a text may hold gives no signal, and is held as it is
-pub clean_run :
-    (limit : ℕ) (held : Held) (run past : List ℕ) → StandsFor limit held past → first_forbidden run ≡ None →
-    (signals_after limit past run ≡ []) × StandsFor limit (with_bytes limit held run) (stream_with past run)
-clean_run limit held run past stands clean =
-    let plain = AllPlain-clean run clean in
-    (signals-plain limit run past plain, stands-plain limit held run past plain stands)
+-- bytes up to the next mark give no signal, and are held as they are
+pub unmarked_run :
+    (limit : ℕ) (held : Held) (bytes past : List ℕ) → StandsFor limit held past →
+    (signals_after limit past (unmarked bytes) ≡ [])
+    × StandsFor limit (with_bytes limit held (unmarked bytes)) (stream_with past (unmarked bytes))
+unmarked_run limit held bytes past stands =
+    let plain = AllPlain-unmarked bytes in
+    (signals-plain limit (unmarked bytes) past plain, stands-plain limit held (unmarked bytes) past plain stands)
+
+-- and so do those behind an STX, which begins a stretch
+pub started_run :
+    (limit : ℕ) (held : Held) (behind past : List ℕ) → StandsFor limit held past →
+    (signals_after limit past (STX ∷ unmarked behind) ≡ [])
+    × StandsFor limit (with_bytes limit (held_after limit held STX) (unmarked behind)) (stream_with past (STX ∷ unmarked behind))
+unfolding signal_after
+started_run limit held behind past stands = unmarked_run limit (held_after limit held STX) behind (STX ∷ past) (stands_after limit held past STX stands)
+
+pub quiet_length-start : (behind : List ℕ) (n : ℕ) → n ≡ unmarked_length behind → n + 1 ≡ quiet_length (STX ∷ behind)
+quiet_length-start behind n e = rw e refl
+
+pub quiet_length-other : (b : ℕ) (behind : List ℕ) → (b == STX) ≡ false → unmarked_length (b ∷ behind) ≡ quiet_length (b ∷ behind)
+quiet_length-other b behind other = rw other refl
 
 allowed_hex : (b value : ℕ) → digit_value b ≡ Some value → is_forbidden b ≡ false
 allowed_hex b value h = by (nat_le 48 b) refl

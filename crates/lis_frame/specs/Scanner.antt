@@ -1,5 +1,6 @@
 -- What a scanner holds of the stream that it has read.
-use Rattle.std.specs.Prelude.{◌≡◌, ℕ, ◌+◌, List, [], ◌∷◌, ◌++◌, Option, None, Some, length, if◌then◌else◌, nat_lt, ◌==◌, ◌||◌, ⊤}
+use Rattle.std.specs.Prelude.{◌≡◌, ℕ, ◌+◌, List, [], ◌∷◌, ◌++◌, Option, None, Some, length, if◌then◌else◌, nat_lt, ◌==◌, ◌||◌, not, ⊤}
+use Rattle.std.specs.List.{prefix_len}
 use Rattle.lis_frame.specs.declared.control.TheConstants.{STX, EOT, ENQ, LF}
 use Rattle.lis_frame.specs.declared.frame.FrameFault.TheVariants.{TooLong}
 use Rattle.lis_frame.specs.declared.scanner.SignalOf.{SignalOf}
@@ -7,7 +8,7 @@ use Rattle.lis_frame.specs.declared.scanner.SignalOf.TheVariants.{Enq, Eot, Good
 use Rattle.lis_frame.specs.declared.scanner.Heard.{Heard}
 use Rattle.lis_frame.specs.declared.scanner.Heard.TheVariants as heards
 use Rattle.lis_frame.specs.Frame.{FrameContent, IsContent}
-use Rattle.lis_frame.specs.Stream.{open_stretch, read_stretch}
+use Rattle.lis_frame.specs.Stream.{is_mark, open_stretch, read_stretch}
 
 -- it stands outside a frame, in one within these bytes since STX, or in one beyond what any frame has
 pub data Held : Type 0 where
@@ -37,6 +38,14 @@ with_byte limit beyond b = beyond
 abbrev pub with_bytes : ℕ → Held → List ℕ → Held
 with_bytes limit held [] = held
 with_bytes limit held (b ∷ bytes) = with_bytes limit (with_byte limit held b) bytes
+
+-- how many bytes stand before the next mark; and how many give no signal, where an STX that stands first is read too
+abbrev pub unmarked_length : List ℕ → ℕ
+unmarked_length bytes = prefix_len (λ b. not (is_mark b)) bytes
+
+abbrev pub quiet_length : List ℕ → ℕ
+quiet_length [] = 0
+quiet_length (b ∷ bytes) = if b == STX then unmarked_length bytes + 1 else unmarked_length (b ∷ bytes)
 
 -- the signal that is heard with a lent frame
 abbrev pub heard_signal : {limit : ℕ} → Option Heard → Option (SignalOf limit)

@@ -1,10 +1,14 @@
 -- The signals of a stream of link bytes (LIS01-A2, 6.2 to 6.5). A stream is kept newest byte first.
-use Rattle.std.specs.Prelude.{ℕ, List, [], ◌∷◌, Option, None, Some, if◌then◌else◌, ◌==◌, ◌||◌}
+use Rattle.std.specs.Prelude.{ℕ, Bool, List, [], ◌∷◌, Option, None, Some, if◌then◌else◌, ◌==◌, ◌||◌}
 use Rattle.lis_frame.specs.declared.control.TheConstants.{STX, EOT, ENQ, LF}
 use Rattle.lis_frame.specs.declared.frame.FrameFault.{FrameFault}
 use Rattle.lis_frame.specs.declared.scanner.SignalOf.{SignalOf}
 use Rattle.lis_frame.specs.declared.scanner.SignalOf.TheVariants.{Enq, Eot, Good, Bad}
 use Rattle.lis_frame.specs.Stretch.{stretch_fault, content_of}
+
+-- the bytes that are read wherever they stand
+abbrev pub is_mark : ℕ → Bool
+is_mark b = b == STX || b == LF || (b == EOT || b == ENQ)
 
 -- the bytes since the nearest STX, oldest first, where none of EOT, ENQ and LF stands nearer; `since` stands behind them
 abbrev pub look_back : List ℕ → List ℕ → Option (List ℕ)

@@ -1,7 +1,7 @@
 -- The text of a frame, and of a whole link text (LIS01-A2, 6.3 and 6.5).
-use Rattle.std.specs.Prelude.{◌≡◌, ℕ, ◌≤◌, Bool, List, Option, None, Some, length, if◌then◌else◌, nat_lt, nat_le, ◌==◌, ◌&&◌, ◌||◌, not}
+use Rattle.std.specs.Prelude.{◌≡◌, ℕ, ◌≤◌, Bool, List, Option, None, Some, length, if◌then◌else◌, nat_lt, nat_le, ◌==◌, ◌&&◌, ◌||◌}
 use Rattle.std.specs.Option.{option_map}
-use Rattle.std.specs.List.{position_from, prefix_len}
+use Rattle.std.specs.List.{position_from}
 use Rattle.lis_frame.specs.declared.text.TextFault.{TextFault}
 use Rattle.lis_frame.specs.declared.text.TextFault.TheVariants.{TooLong, Forbidden}
 
@@ -12,10 +12,6 @@ is_forbidden b = nat_le 1 b && nat_le b 6 || b == 10 || nat_le 16 b && nat_le b 
 -- the place of the first forbidden byte, from 0
 abbrev pub first_forbidden : List ℕ → Option ℕ
 first_forbidden bytes = position_from is_forbidden 0 bytes
-
--- how many bytes stand before it
-abbrev pub allowed_length : List ℕ → ℕ
-allowed_length bytes = prefix_len (λ b. not (is_forbidden b)) bytes
 
 -- at most `limit` bytes, none of them forbidden
 pub record IsText (limit : ℕ) (bytes : List ℕ) : Type 0 where

@@ -9,6 +9,7 @@ pub mod link_text;
 pub mod list;
 mod read;
 pub mod scanner;
+mod search;
 pub mod split;
 mod stretch;
 #[cfg(test)]

@@ -2,18 +2,18 @@
 
 ghost use Rattle.std.specs.Prelude.{◌≡◌, ◌≤◌, ℕ, List, [], ◌∷◌, Some, IfNone, IfSome, length, take};
 ghost use Rattle.lis_frame.specs.Frame.{IsFrame};
-ghost use Rattle.lis_frame.specs.Text.{allowed_length};
 ghost use Rattle.lis_frame.specs.Limit.{IsLimit};
-ghost use Rattle.lis_frame.specs.Stream.{signal_after, signals_after, stream_with};
-ghost use Rattle.lis_frame.specs.Scanner.{IsHeardWithin, StandsFor, held_signal, held_after, heard_signal, lent_signals, with_bytes};
+ghost use Rattle.lis_frame.specs.Stream.{is_mark, signal_after, signals_after, stream_with};
+ghost use Rattle.lis_frame.specs.Scanner.{IsHeardWithin, StandsFor, held_signal, held_after, heard_signal, lent_signals, quiet_length, unmarked_length, with_bytes};
 
 use crate::control::{ENQ, EOT, LF, STX};
 use crate::frame::{FrameFault, FrameOf};
 use crate::lent::LentFrame;
 use crate::read::front_frame;
+use crate::search::{ByteSet, first_in};
 use crate::stretch::StretchOf;
-use crate::text::first_forbidden;
 use std::marker::Model;
+use std::simd::prelude::*;
 
 /// What a stream of link bytes tells: enquiry, end of transmission, a good frame, or a bad one.
 #[derive(Drop)]
@@ -59,6 +59,38 @@ pub enum Heard<'a> {
     Good(LentFrame<'a>),
     /// Bytes between STX and LF that are no frame, and why.
     Bad(FrameFault),
+}
+
+/// The bytes that a scanner looks at wherever they stand.
+struct Marks;
+
+impl ByteSet for Marks {
+    ghost member = { is_mark };
+
+    fn has(byte: u8) -> bool {
+        matches!(byte, STX | EOT | ENQ | LF)
+    }
+
+    #[inline(always)]
+    fn bits(bytes: &[u8]) -> u64 {
+        let sixteen = u8x16::from_slice(bytes);
+        let starts = sixteen.simd_eq(u8x16::splat(STX)) | sixteen.simd_eq(u8x16::splat(LF));
+        let ends = sixteen.simd_eq(u8x16::splat(EOT)) | sixteen.simd_eq(u8x16::splat(ENQ));
+        (starts | ends).to_bitmask()
+    }
+}
+
+/// The bytes before the next mark.
+fn until_mark(bytes: &[u8]) -> &[u8]
+    ensures { result.now ≡ take (unmarked_length bytes.now) bytes.now }
+{
+    match first_in::<Marks>(bytes) {
+        Some(place) => {
+            let (run, _) = bytes.split_at(place);
+            run
+        }
+        None => bytes,
+    }
 }
 
 /// Reads a stream of link bytes, one byte or a run of them at a time. It holds one frame's worth of state and never
@@ -140,16 +172,16 @@ impl<const N: usize> ScannerOf<N> {
         self.hold(byte);
     }
 
-    /// Reads bytes from the front: a whole good frame, which is lent, or else all bytes up to the first that no
-    /// text may hold. Answers how many were read; where none was, the first byte is to be read by itself, by
-    /// `told` and `take`.
+    /// Reads bytes from the front: a whole good frame, which is lent, or else all bytes up to the next STX, EOT,
+    /// ENQ or LF, with an STX that stands first. Answers how many were read; where none was, the first byte is
+    /// to be read by itself, by `told` and `take`.
     ///
     /// Whatever stream the scanner stands for, newest byte first, the bytes that were read give the
     /// frame that is lent and no other signal, and afterwards the scanner stands for the stream with them.
     pub fn scan<'a>(&mut self, bytes: &'a [u8]) -> (usize, Option<LentFrame<'a>>)
         ensures bound { result.0 ≤ length bytes.now }
         ensures frame { IfSome result.1 (λ frame. IsFrame N (take result.0 bytes.now) frame) }
-        ensures run { IfNone result.1 (result.0 ≡ allowed_length bytes.now) }
+        ensures run { IfNone result.1 (result.0 ≡ quiet_length bytes.now) }
         ensures signal { (past : List ℕ) → StandsFor N self.old past →
             signals_after N past (take result.0 bytes.now) ≡ lent_signals result.1 }
         ensures after { (past : List ℕ) → StandsFor N self.old past →
@@ -158,23 +190,25 @@ impl<const N: usize> ScannerOf<N> {
         let Some((byte, behind)) = bytes.split_first() else {
             return (0, None);
         };
-        if *byte == STX {
-            if let Some((frame, count)) = front_frame::<N>(behind) {
-                self.is_open = false;
-                return (count + 1, Some(frame));
-            }
+        if *byte != STX {
+            return (self.run_on(bytes), None);
         }
-        match first_forbidden(bytes) {
-            Some(place) => {
-                let (run, _) = bytes.split_at(place);
-                self.hold_run(run);
-                (place, None)
-            }
-            None => {
-                self.hold_run(bytes);
-                (bytes.len(), None)
-            }
+        if let Some((frame, count)) = front_frame::<N>(behind) {
+            self.is_open = false;
+            return (count + 1, Some(frame));
         }
+        self.hold(STX);
+        (self.run_on(behind) + 1, None)
+    }
+
+    /// Reads bytes up to the next mark, and answers how many they are.
+    fn run_on(&mut self, bytes: &[u8]) -> usize
+        ensures count { result ≡ unmarked_length bytes.now }
+        ensures held { self.new ≡ with_bytes N self.old (take (unmarked_length bytes.now) bytes.now) }
+    {
+        let run = until_mark(bytes);
+        self.hold_run(run);
+        run.len()
     }
 
     /// The signal of a byte, by what is held.

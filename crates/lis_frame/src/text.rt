@@ -1,11 +1,11 @@
 //! The text of a frame.
 
 ghost use Rattle.std.specs.Prelude.{◌≡◌, ◌+◌, ◌≤◌, ◌++◌, None, Some, ◌<◌, IfSome, MatchResult, length, map, take};
-ghost use Rattle.std.specs.Simd.Lanes.{mask_l};
 ghost use Rattle.arrayvec.specs.ArrayVec.{array_vec_len};
 ghost use Rattle.lis_frame.specs.Limit.{IsLimit};
 ghost use Rattle.lis_frame.specs.Text.{IsText, first_forbidden, is_forbidden, text_fault};
 
+use crate::search::{ByteSet, first_in};
 use arrayvec::ArrayVec;
 use std::marker::Model;
 use std::simd::prelude::*;
@@ -79,57 +79,35 @@ impl<const N: usize> TextOf<N> {
     }
 }
 
-/// Whether no text may hold this byte: SOH to ACK, LF, and DLE to ETB.
-pub(crate) fn is_forbidden(byte: u8) -> bool
-    ensures { result ≡ is_forbidden byte }
-{
-    matches!(byte, 1..=6 | 10 | 16..=23)
-}
+/// The bytes that no text may hold: SOH to ACK, LF, and DLE to ETB.
+struct ForbiddenBytes;
 
-/// The places among sixteen bytes that hold a forbidden byte, as bits, the lowest for the first byte.
-#[inline(always)]
-fn forbidden_bits(bytes: &[u8]) -> u64
-    requires { 16 ≤ length bytes.now }
-    ensures { result ≡ mask_l (map is_forbidden (take 16 bytes.now)) }
-{
-    let sixteen = u8x16::from_slice(bytes);
-    // No byte over 23 is forbidden, and few of a text are under it.
-    if sixteen.simd_le(u8x16::splat(23)).to_bitmask() == 0 {
-        return 0;
+impl ByteSet for ForbiddenBytes {
+    ghost member = { is_forbidden };
+
+    fn has(byte: u8) -> bool {
+        matches!(byte, 1..=6 | 10 | 16..=23)
     }
-    let low = sixteen.simd_ge(u8x16::splat(1)) & sixteen.simd_le(u8x16::splat(6));
-    let line_feed = sixteen.simd_eq(u8x16::splat(10));
-    let high = sixteen.simd_ge(u8x16::splat(16)) & sixteen.simd_le(u8x16::splat(23));
-    (low | line_feed | high).to_bitmask()
+
+    #[inline(always)]
+    fn bits(bytes: &[u8]) -> u64 {
+        let sixteen = u8x16::from_slice(bytes);
+        // No byte over 23 is forbidden, and few of a text are under it.
+        if sixteen.simd_le(u8x16::splat(23)).to_bitmask() == 0 {
+            return 0;
+        }
+        let low = sixteen.simd_ge(u8x16::splat(1)) & sixteen.simd_le(u8x16::splat(6));
+        let line_feed = sixteen.simd_eq(u8x16::splat(10));
+        let high = sixteen.simd_ge(u8x16::splat(16)) & sixteen.simd_le(u8x16::splat(23));
+        (low | line_feed | high).to_bitmask()
+    }
 }
 
-/// The place of the first forbidden byte, from 0. Sixteen bytes are tested at a time.
+/// The place of the first forbidden byte, from 0.
 pub(crate) fn first_forbidden(bytes: &[u8]) -> Option<usize>
     ensures { result ≡ first_forbidden bytes.now }
 {
-    let mut rest = bytes;
-    let mut place = 0;
-    while rest.len() >= 16 {
-        let bits = forbidden_bits(rest);
-        if bits != 0 {
-            return Some(place + bits.trailing_zeros() as usize);
-        }
-        let (_, behind) = rest.split_at(16);
-        rest = behind;
-        place += 16;
-    }
-    match first_by_one(rest) {
-        None => None,
-        Some(found) => Some(place + found),
-    }
-}
-
-/// The same, a byte at a time.
-fn first_by_one(bytes: &[u8]) -> Option<usize>
-    ensures place { result ≡ first_forbidden bytes.now }
-    ensures bound { IfSome result (λ found. found < length bytes.now) }
-{
-    bytes.iter().position(|byte| is_forbidden(*byte))
+    first_in::<ForbiddenBytes>(bytes)
 }
 
 /// Whether bytes are a text of at most `limit` bytes; if not, why.

@@ -1,49 +1,47 @@
-use Rattle.std.proofs.Common.{take, length, sym, arith, add-one, take_all}
-use Rattle.lis_frame.proofs.ChunkLemmas.{allowed-found, allowed-none, clean-before}
-use Rattle.lis_frame.proofs.StreamLaws.{clean_run, heard_frame}
+use Rattle.std.proofs.Common.{◌≡◌, ◌∙◌, add-one, arith, false}
+use Rattle.std.specs.Prelude.{◌==◌}
+use Rattle.std.proofs.lemmas.Bool.Decides.{nat_tests}
+use Rattle.lis_frame.specs.declared.control.TheConstants.{STX}
+use Rattle.lis_frame.proofs.StreamLaws.{heard_frame, quiet_length-other, quiet_length-start, started_run, unmarked_run}
 use Rattle.lis_frame.proofs.scanner.ScannerOf.scan.Goals as goal
+
+pub returns-in-Some-front_frame-clause-frame : goal.returns-in-Some-front_frame-clause-frame
+returns-in-Some-front_frame-clause-frame g c =
+    rw (c.in-Some.ensures.cases.0, c.if-byte-ne-STX.false, add-one c.in-Some-front_frame.count) c.in-Some-front_frame.ensures.frame
 
 pub returns-in-Some-front_frame-clause-signal : goal.returns-in-Some-front_frame-clause-signal
 returns-in-Some-front_frame-clause-signal g c = λ past stands.
-    rw (c.in-Some.ensures.cases.0, c.if-byte-eq-STX.true, add-one c.in-Some-front_frame.count)
+    rw (c.in-Some.ensures.cases.0, c.if-byte-ne-STX.false, add-one c.in-Some-front_frame.count)
     (heard_frame g.row.N past _ c.in-Some-front_frame.frame c.in-Some-front_frame.ensures.frame).0
 
 pub returns-in-Some-front_frame-clause-after : goal.returns-in-Some-front_frame-clause-after
 returns-in-Some-front_frame-clause-after g c = λ past stands.
-    rw (c.in-Some.ensures.cases.0, c.if-byte-eq-STX.true, add-one c.in-Some-front_frame.count)
+    rw (c.in-Some.ensures.cases.0, c.if-byte-ne-STX.false, add-one c.in-Some-front_frame.count)
     (heard_frame g.row.N past _ c.in-Some-front_frame.frame c.in-Some-front_frame.ensures.frame).1
 
-pub returns-in-Some-front_frame-clause-frame : goal.returns-in-Some-front_frame-clause-frame
-returns-in-Some-front_frame-clause-frame g c =
-    rw (c.in-Some.ensures.cases.0, c.if-byte-eq-STX.true, add-one c.in-Some-front_frame.count) c.in-Some-front_frame.ensures.frame
+pub returns-then-byte-ne-STX-clause-run : goal.returns-then-byte-ne-STX-clause-run
+returns-then-byte-ne-STX-clause-run g c =
+    let other : (c.in-Some.byte.now == STX) ≡ false = grind (arith, nat_tests, c.if-byte-ne-STX.true) in
+    c.run_on.ensures.count ∙ rw c.in-Some.ensures.cases.0 (quiet_length-other c.in-Some.byte.now c.in-Some.behind.now other)
 
-pub returns-in-Some-first_forbidden-clause-run : goal.returns-in-Some-first_forbidden-clause-run
-returns-in-Some-first_forbidden-clause-run g c =
-    allowed-found c.args.bytes.now c.in-Some-first_forbidden.place (sym c.in-Some-first_forbidden.ensures)
+pub returns-then-byte-ne-STX-clause-signal : goal.returns-then-byte-ne-STX-clause-signal
+returns-then-byte-ne-STX-clause-signal g c = λ past stands.
+    rw c.run_on.ensures.count (unmarked_run g.row.N c.args.self.now c.args.bytes.now past stands).0
 
-pub returns-in-None-clause-run : goal.returns-in-None-clause-run
-returns-in-None-clause-run g c = allowed-none c.args.bytes.now (sym c.in-None.ensures)
+pub returns-then-byte-ne-STX-clause-after : goal.returns-then-byte-ne-STX-clause-after
+returns-then-byte-ne-STX-clause-after g c = λ past stands.
+    rw (c.run_on.ensures.held, c.run_on.ensures.count) (unmarked_run g.row.N c.args.self.now c.args.bytes.now past stands).1
 
-pub split_at-requires : goal.split_at-requires
-split_at-requires g c =
-    let before = clean-before c.args.bytes.now c.in-Some-first_forbidden.place (sym c.in-Some-first_forbidden.ensures) in
-    omega (arith, before.0)
+pub returns-clause-run : goal.returns-clause-run
+returns-clause-run g c =
+    rw (c.in-Some.ensures.cases.0, c.if-byte-ne-STX.false) (quiet_length-start c.in-Some.behind.now _ c.run_on-2.ensures.count)
 
-pub returns-in-Some-first_forbidden-clause-signal : goal.returns-in-Some-first_forbidden-clause-signal
-returns-in-Some-first_forbidden-clause-signal g c = λ past stands.
-    let before = clean-before c.args.bytes.now c.in-Some-first_forbidden.place (sym c.in-Some-first_forbidden.ensures) in
-    (clean_run g.row.N c.args.self.now _ past stands before.1).0
+pub returns-clause-signal : goal.returns-clause-signal
+returns-clause-signal g c = λ past stands.
+    rw (c.in-Some.ensures.cases.0, c.if-byte-ne-STX.false, add-one c.run_on-2.result, c.run_on-2.ensures.count)
+    (started_run g.row.N c.args.self.now c.in-Some.behind.now past stands).0
 
-pub returns-in-Some-first_forbidden-clause-after : goal.returns-in-Some-first_forbidden-clause-after
-returns-in-Some-first_forbidden-clause-after g c = λ past stands.
-    let before = clean-before c.args.bytes.now c.in-Some-first_forbidden.place (sym c.in-Some-first_forbidden.ensures) in
-    rw (c.hold_run.ensures, c.split_at.ensures.front) (clean_run g.row.N c.args.self.now (take c.in-Some-first_forbidden.place c.args.bytes.now) past stands before.1).1
-
-pub returns-in-None-clause-signal : goal.returns-in-None-clause-signal
-returns-in-None-clause-signal g c = λ past stands.
-    rw (take_all (length c.args.bytes.now) c.args.bytes.now (omega arith)) (clean_run g.row.N c.args.self.now _ past stands (sym c.in-None.ensures)).0
-
-pub returns-in-None-clause-after : goal.returns-in-None-clause-after
-returns-in-None-clause-after g c = λ past stands.
-    rw (c.hold_run-in-None.ensures, take_all (length c.args.bytes.now) c.args.bytes.now (omega arith))
-    (clean_run g.row.N c.args.self.now c.args.bytes.now past stands (sym c.in-None.ensures)).1
+pub returns-clause-after : goal.returns-clause-after
+returns-clause-after g c = λ past stands.
+    rw (c.in-Some.ensures.cases.0, c.if-byte-ne-STX.false, add-one c.run_on-2.result, c.run_on-2.ensures.count, c.run_on-2.ensures.held, c.hold.ensures)
+    (started_run g.row.N c.args.self.now c.in-Some.behind.now past stands).1
