@@ -1,0 +1,1 @@
+//! Captures whose lines are known from outside.
