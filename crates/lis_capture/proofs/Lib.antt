@@ -1,1 +1,3 @@
 -- Lemmas on captures.
+pub mod DigitsLemmas
+pub mod LineLemmas

@@ -1,8 +1,9 @@
 //! Pairs of hexadecimal digits, by loops over slices that look at every byte.
 
-ghost use Rattle.std.specs.Prelude.{◌≡◌, ◌↔◌, ◌*◌, ◌<◌, IsTrue, Ok, length, slice_index, unwrap_or};
-ghost use Rattle.std.specs.List.{AllPass};
-ghost use Rattle.hex.specs.Hex.{decode_of, encode_lower, hex_digit_value, is_hex_digit, lower_digits};
+ghost use Rattle.std.specs.Prelude.{◌≡◌, ◌*◌, ◌<◌, IsTrue, Some, is_some, length, slice_index, unwrap_or};
+ghost use Rattle.std.specs.List.{list_all};
+ghost use Rattle.hex.specs.Hex.{encode_lower, hex_digit_value, is_hex_digit, lower_digits};
+ghost use Rattle.lis_capture.specs.Digits.{bytes_of};
 
 /// Whether a byte is a digit, in either case.
 fn is_digit(byte: u8) -> bool
@@ -36,9 +37,19 @@ fn digit_of(value: u8) -> u8
     }
 }
 
+/// Whether a text is one or more pairs of digits.
+pub(crate) fn are_pairs(text: &[u8]) -> bool
+    ensures { result ≡ is_some (bytes_of text.now) }
+{
+    if text.is_empty() {
+        return false;
+    }
+    text.len() % 2 == 0 && are_digits(text)
+}
+
 /// Whether every byte is a digit.
-pub(crate) fn are_digits(bytes: &[u8]) -> bool
-    ensures { IsTrue result ↔ AllPass is_hex_digit bytes.now }
+fn are_digits(bytes: &[u8]) -> bool
+    ensures { result ≡ list_all is_hex_digit bytes.now }
 {
     let mut all = true;
     for byte in bytes {
@@ -49,9 +60,9 @@ pub(crate) fn are_digits(bytes: &[u8]) -> bool
 
 /// Writes the bytes of pairs of digits.
 pub(crate) fn decode(digits: &[u8], bytes: &mut [u8])
-    requires digits { AllPass is_hex_digit digits.now }
+    requires pairs { IsTrue (is_some (bytes_of digits.now)) }
     requires room { length digits.now ≡ 2 * length bytes.old }
-    ensures { decode_of digits.now ≡ Ok bytes.new }
+    ensures { bytes_of digits.now ≡ Some bytes.new }
 {
     'bytes: for i in 0..bytes.len() {
         bytes[i] = 16 * digit_value(digits[2 * i]) + digit_value(digits[2 * i + 1]);

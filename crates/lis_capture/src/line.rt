@@ -6,7 +6,7 @@ ghost use Rattle.lis_capture.specs.declared.line.Line.TheVariants.{Empty};
 ghost use Rattle.lis_capture.specs.Digits.{bytes_of};
 ghost use Rattle.lis_capture.specs.Line.{added_line, line_of, line_with, plain_line, said, version_after, without_return};
 
-use crate::digits::{are_digits, decode};
+use crate::digits::{are_pairs, decode};
 use lis_frame::control::CR;
 use lis_link::Readiness;
 use std::marker::Model;
@@ -209,7 +209,7 @@ impl Told {
         ensures said { result ≡ is_some (bytes_of digits.now) }
         ensures line { self.new ≡ unwrap_or (option_map (line_with kind) (bytes_of digits.now)) self.old }
     {
-        if digits.is_empty() || digits.len() % 2 == 1 || !are_digits(digits) {
+        if !are_pairs(digits) {
             return false;
         }
         let len = digits.len() / 2;
