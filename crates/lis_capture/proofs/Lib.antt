@@ -1,3 +1,5 @@
 -- Lemmas on captures.
 pub mod DigitsLemmas
 pub mod LineLemmas
+pub mod CaptureLemmas
+pub mod ReaderLemmas
