@@ -1,6 +1,9 @@
 -- The lines of a stream that goes on.
 use Rattle.std.proofs.Common.{◌≡◌, ℕ, zero, suc, ◌+◌, ◌<◌, ◌≤◌, ◌==◌, not, nat_lt, Bool, true, false, List, [], ◌∷◌, ◌++◌, Option, None, Some, length, length-take, slice_index, take, refl, sym, ◌∙◌, ap, subst, arith, append-nil, append_assoc, if◌then◌else◌}
 use Rattle.std.proofs.lemmas.List.{get_or-take}
+use Rattle.std.proofs.lemmas.Bool.{ltb-true, lt-ltb}
+use Rattle.std.proofs.lemmas.Bool.Decides.{nat_tests}
+use Rattle.std.proofs.Common.{length-append}
 use Rattle.lis_frame.specs.declared.control.TheConstants.{LF}
 use Rattle.lis_frame.specs.Stream.{stream_with}
 use Rattle.lis_capture.specs.declared.line.Line.{Line}
@@ -41,23 +44,19 @@ ended_lines-within past (b ∷ text) none =
 
 -- ---- where no line is refused
 
+-- a text that is too long is refused, whatever it is
+refused_long : (refused : Bool) (lines : List Line) (text : List ℕ) → is_long text ≡ true → next_by refused lines text ≡ record { lines = lines; refused = true }
+refused_long true lines text long = refl
+refused_long false lines text long =
+    ap (λ (l : Bool). with_said lines (if l then None else said (version_of lines) (without_return text))) long
+
 -- the line that is begun isn't too long, and the ended lines are those of the capture
 pub short_here : (past : List ℕ) (long : Bool) → is_long (begun past) ≡ long → (capture past false).refused ≡ false → long ≡ false
 short_here past false is fine = refl
 short_here past true is fine =
     let all : (read_lines (begun past ∷ ended_lines past)).refused ≡ false =
     subst (λ (t : Bool). (read_lines (if t then begun past ∷ ended_lines past else ended_lines past)).refused ≡ false) is fine in
-    refused_long (read_lines (ended_lines past)).refused (read_lines (ended_lines past)).lines (begun past) is all
-  where
-    with_none : (lines : List Line) (o : Option Line) → o ≡ None → (with_said lines o).refused ≡ false → true ≡ false
-    with_none lines None is fine = fine
-    with_none lines (Some line) is fine = cc
-
-    refused_long : (refused : Bool) (lines : List Line) (text : List ℕ) → is_long text ≡ true → (next_by refused lines text).refused ≡ false → true ≡ false
-    refused_long true lines text long fine = fine
-    refused_long false lines text long fine =
-        with_none lines (line_of (version_of lines) text)
-        (ap (λ (l : Bool). if l then None else said (version_of lines) (without_return text)) long) fine
+    sym (ap (λ (r : Lines). r.refused) (refused_long (read_lines (ended_lines past)).refused (read_lines (ended_lines past)).lines (begun past) is)) ∙ all
 
 pub capture_here : (past : List ℕ) → (capture past false).refused ≡ false → capture past false ≡ read_lines (ended_lines past)
 capture_here past fine =
@@ -138,3 +137,71 @@ has_end-before bytes place fits none =
     has_end-none (take place bytes) (λ k inside is.
     let below : k < place = omega (arith, length-take place bytes) in
     none k (omega arith) below (rw (get_or-take place bytes k 0 below) at is))
+
+-- ---- where a line is refused
+
+-- a text behind a refused one is passed over
+refused_stays : (read : Lines) (text : List ℕ) → read.refused ≡ true → next_by read.refused read.lines text ≡ read
+refused_stays read text refused =
+    ap (λ (r : Bool). next_by r read.lines text) refused ∙ ap (λ (r : Bool). let all : Lines = record { lines = read.lines; refused = r } in all) (sym refused)
+
+-- the lines with the one that is begun, where it counts
+abbrev with_begun : Bool → List ℕ → List (List ℕ) → Lines
+with_begun counted text texts = read_lines (if counted then text ∷ texts else texts)
+
+refused_begun :
+    (counted : Bool) (text : List ℕ) (texts : List (List ℕ)) → (read_lines texts).refused ≡ true → with_begun counted text texts ≡ read_lines texts
+refused_begun true text texts refused = refused_stays (read_lines texts) text refused
+refused_begun false text texts refused = refl
+
+long_more : (text : List ℕ) (b : ℕ) → is_long text ≡ true → is_long (text ++ b ∷ []) ≡ true
+long_more text b long =
+    lt-ltb longest_line (length (text ++ b ∷ [])) (omega (arith, ltb-true longest_line (length text) long, length-append text (b ∷ [])))
+
+-- a byte more, whether it ends the line or not
+abbrev behind : Bool → ℕ → List ℕ → List (List ℕ) → Lines
+behind ends b text texts =
+    let begun_then : List ℕ = if ends then [] else text ++ b ∷ [] in
+    with_begun (is_long begun_then) begun_then (if ends then text ∷ texts else texts)
+
+refused_byte :
+    (long ends : Bool) (b : ℕ) (text : List ℕ) (texts : List (List ℕ)) → is_long text ≡ long → (with_begun long text texts).refused ≡ true
+    → behind ends b text texts ≡ with_begun long text texts
+refused_byte true true b text texts is refused = refl
+refused_byte true false b text texts is refused =
+    let longer = long_more text b is in
+    ap (λ (l : Bool). with_begun l (text ++ b ∷ []) texts) longer
+    ∙ refused_long (read_lines texts).refused (read_lines texts).lines (text ++ b ∷ []) longer
+    ∙ sym (refused_long (read_lines texts).refused (read_lines texts).lines text is)
+refused_byte false true b text texts is refused = refused_stays (read_lines texts) text refused
+refused_byte false false b text texts is refused = refused_begun (is_long (text ++ b ∷ [])) (text ++ b ∷ []) texts refused
+
+refused_bytes : (past bytes : List ℕ) → (capture past false).refused ≡ true → capture (stream_with past bytes) false ≡ capture past false
+refused_bytes past [] refused = refl
+refused_bytes past (b ∷ bytes) refused =
+    let once : capture (b ∷ past) false ≡ capture past false =
+    refused_byte (is_long (begun past)) (b == LF) b (begun past) (ended_lines past) refl refused in
+    refused_bytes (b ∷ past) bytes (ap (λ (r : Lines). r.refused) once ∙ refused) ∙ once
+
+-- the end of the input
+long_counts : (text : List ℕ) → is_long text ≡ true → not (length text == 0) ≡ true
+long_counts text long =
+    let some : 0 < length text = omega (arith, ltb-true longest_line (length text) long) in
+    grind (arith, nat_tests)
+
+refused_at_end :
+    (long : Bool) (text : List ℕ) (texts : List (List ℕ)) → is_long text ≡ long → (with_begun long text texts).refused ≡ true
+    → with_begun (not (length text == 0)) text texts ≡ with_begun long text texts
+refused_at_end true text texts is refused = ap (λ (t : Bool). with_begun t text texts) (long_counts text is)
+refused_at_end false text texts is refused = refused_begun (not (length text == 0)) text texts refused
+
+refused_end : (past : List ℕ) (ended : Bool) → (capture past false).refused ≡ true → capture past ended ≡ capture past false
+refused_end past true refused = refused_at_end (is_long (begun past)) (begun past) (ended_lines past) refl refused
+refused_end past false refused = refl
+
+-- whatever follows a refused line, nothing more is carried out
+pub capture-refused :
+    (past bytes : List ℕ) (ended : Bool) → (capture past false).refused ≡ true → capture (stream_with past bytes) ended ≡ capture past false
+capture-refused past bytes ended refused =
+    let all = refused_bytes past bytes refused in
+    refused_end (stream_with past bytes) ended (ap (λ (r : Lines). r.refused) all ∙ refused) ∙ all

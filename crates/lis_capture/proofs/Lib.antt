@@ -3,3 +3,4 @@ pub mod DigitsLemmas
 pub mod LineLemmas
 pub mod CaptureLemmas
 pub mod ReaderLemmas
+pub mod SpellingLemmas
