@@ -8,8 +8,6 @@ use Rattle.lis_capture.specs.declared.line.CaptureVersion.{CaptureVersion}
 use Rattle.lis_capture.specs.declared.line.CaptureVersion.TheVariants.{Untold, First, Second}
 use Rattle.lis_capture.specs.declared.line.Line.{Line}
 use Rattle.lis_capture.specs.declared.line.Line.TheVariants.{Empty, FromAnalyzer, FromComputer, Timer, Restart, SetReady, Version}
-use Rattle.lis_capture.specs.declared.line.LineKind.{LineKind}
-use Rattle.lis_capture.specs.declared.line.LineKind.TheVariants as kinds
 use Rattle.lis_capture.specs.Digits.{bytes_of}
 
 -- the most bytes of a line before its LF; a CR that is dropped is one of them
@@ -61,13 +59,3 @@ version_after Untold Version = Second
 version_after Untold line = First
 version_after First line = First
 version_after Second line = Second
-
--- the line of a kind; two kinds have bytes
-abbrev pub line_with : LineKind → List ℕ → Line
-line_with kinds.Empty bytes = Empty
-line_with kinds.FromAnalyzer bytes = FromAnalyzer bytes
-line_with kinds.FromComputer bytes = FromComputer bytes
-line_with kinds.Timer bytes = Timer
-line_with kinds.Restart bytes = Restart
-line_with (kinds.SetReady readiness) bytes = SetReady readiness
-line_with kinds.Version bytes = Version

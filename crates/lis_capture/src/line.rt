@@ -4,7 +4,8 @@ ghost use Rattle.std.specs.Prelude.{◌≡◌, ◌≤◌, [], true, length, is_s
 ghost use Rattle.std.specs.Option.{option_map};
 ghost use Rattle.lis_capture.specs.declared.line.Line.TheVariants.{Empty};
 ghost use Rattle.lis_capture.specs.Digits.{bytes_of};
-ghost use Rattle.lis_capture.specs.Line.{added_line, line_of, line_with, plain_line, said, version_after, without_return};
+ghost use Rattle.lis_capture.specs.Line.{added_line, line_of, plain_line, said, version_after, without_return};
+ghost use Rattle.lis_capture.specs.Told.{line_with};
 
 use crate::digits::{are_pairs, decode};
 use lis_frame::control::CR;
@@ -96,7 +97,7 @@ pub(crate) struct Told {
 impl Model for Told {
     ghost use Rattle.std.specs.Prelude.{◌≡◌, ◌≤◌, length, take};
     ghost use Rattle.lis_capture.specs.declared.line.Line.{Line};
-    ghost use Rattle.lis_capture.specs.Line.{line_with};
+    ghost use Rattle.lis_capture.specs.Told.{line_with};
 
     ghost Value = { Line };
 
