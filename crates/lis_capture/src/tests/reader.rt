@@ -32,21 +32,29 @@ fn letters(line: &Line) -> Option<usize> {
 }
 
 #[test]
-fn a_line_has_at_most_4096_bytes_with_its_return(rt: HostRuntime) -> Result<(), Fail> {
+fn the_return_of_a_line_is_one_of_its_bytes(rt: HostRuntime) -> Result<(), Fail> {
     let mut line = long_line();
     let mut reader = LineReader::new();
     assert_eq!(rt; reader.read(&line), (4098, Found::Refused));
     assert_eq!(rt; reader.number(), 1);
-    let mut cut = LineReader::new();
-    assert_eq!(rt; cut.read(&line[..4096]), (4096, Found::Nothing));
-    assert_eq!(rt; cut.read(&line[4096..4097]), (1, Found::Refused));
     line[4096] = b'\n';
-    let mut fitting = LineReader::new();
-    assert_eq!(rt; fitting.read(&line), (4097, Found::Line));
-    assert_eq!(rt; letters(&fitting.line()), Some(2047));
-    assert_eq!(rt; fitting.number(), 1);
+    let mut shorter = LineReader::new();
+    assert_eq!(rt; shorter.read(&line), (4097, Found::Line));
+    assert_eq!(rt; letters(&shorter.line()), Some(2047));
+    assert_eq!(rt; shorter.number(), 1);
+    Ok(())
+}
+
+#[test]
+fn a_byte_too_many_is_refused_at_once(rt: HostRuntime) -> Result<(), Fail> {
+    let line = long_line();
+    let (front, _) = line.split_at(4096);
+    let mut reader = LineReader::new();
+    assert_eq!(rt; reader.read(front), (4096, Found::Nothing));
+    assert_eq!(rt; reader.read(b"\r"), (1, Found::Refused));
+    assert_eq!(rt; reader.number(), 1);
     let mut unended = LineReader::new();
-    assert_eq!(rt; unended.read(&line[..4096]), (4096, Found::Nothing));
+    assert_eq!(rt; unended.read(front), (4096, Found::Nothing));
     assert_eq!(rt; unended.finish(), Found::Line);
     assert_eq!(rt; letters(&unended.line()), Some(2047));
     Ok(())
