@@ -1,6 +1,6 @@
 //! Pairs of hexadecimal digits, by loops over slices that look at every byte.
 
-ghost use Rattle.std.specs.Prelude.{◌≡◌, ◌*◌, ◌<◌, IsTrue, Some, is_some, length, slice_index, unwrap_or};
+ghost use Rattle.std.specs.Prelude.{◌≡◌, ◌*◌, ◌<◌, IsTrue, Some, is_some, length, slice_index, unwrap_or, ◌+◌};
 ghost use Rattle.std.specs.List.{list_all};
 ghost use Rattle.hex.specs.Hex.{encode_lower, hex_digit_value, is_hex_digit, lower_digits};
 ghost use Rattle.lis_capture.specs.Digits.{bytes_of};
@@ -12,17 +12,16 @@ fn is_digit(byte: u8) -> bool
     matches!(byte, b'0'..=b'9' | b'A'..=b'F' | b'a'..=b'f')
 }
 
-/// The value of a digit; 0 of any other byte.
-fn digit_value(digit: u8) -> u8
-    ensures value { result ≡ unwrap_or (hex_digit_value digit) 0 }
-    ensures small { result < 16 }
+/// The byte of two digits. A digit's value is its low four bits, and nine more where it is a letter;
+/// both are found at once, in the halves of one number, so that a loop takes many bytes at once.
+fn byte_of(high: u8, low: u8) -> u8
+    requires high { IsTrue (is_hex_digit high) }
+    requires low { IsTrue (is_hex_digit low) }
+    ensures { result ≡ 16 * unwrap_or (hex_digit_value high) 0 + unwrap_or (hex_digit_value low) 0 }
 {
-    match digit {
-        b'A'..=b'F' => digit - b'A' + 10,
-        b'a'..=b'f' => digit - b'a' + 10,
-        b'0'..=b'9' => digit - b'0',
-        _ => 0,
-    }
+    let digits = u16::from_le_bytes([high, low]);
+    let values = (digits & 0x0f0f) + 9 * ((digits >> 6) & 0x0303);
+    ((values << 4 | values >> 8) & 0xff) as u8
 }
 
 /// The digit of a value, in lower case.
@@ -65,7 +64,7 @@ pub(crate) fn decode(digits: &[u8], bytes: &mut [u8])
     ensures { bytes_of digits.now ≡ Some bytes.new }
 {
     'bytes: for i in 0..bytes.len() {
-        bytes[i] = 16 * digit_value(digits[2 * i]) + digit_value(digits[2 * i + 1]);
+        bytes[i] = byte_of(digits[2 * i], digits[2 * i + 1]);
     }
 }
 

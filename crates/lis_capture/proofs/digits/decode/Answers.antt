@@ -1,22 +1,27 @@
-use Rattle.std.proofs.Common.{◌≡◌, ◌+◌, ◌*◌, ◌%◌, true, slice_index, arith, sym, ap, ◌∙◌, Ok, unwrap_or}
-use Rattle.hex.specs.Hex.{is_hex_digit, hex_digit_value, pair_value}
+use Rattle.std.proofs.Common.{◌≡◌, ◌+◌, ◌*◌, ◌%◌, true, slice_index, arith, ◌∙◌, Ok}
+use Rattle.hex.specs.Hex.{is_hex_digit, pair_value}
 use Rattle.hex.proofs.Pairs.{decode_step, decode_done}
 use Rattle.hex.proofs.HexLemmas.{decode_of-even}
 use Rattle.lis_capture.proofs.DigitsLemmas.{all_at, bytes_of-decoded, pair_of_digits, pairs_from_some}
 use Rattle.lis_capture.proofs.digits.decode.Goals as goal
 
+pub byte_of-requires-clause-high : goal.byte_of-requires-clause-high
+byte_of-requires-clause-high c =
+    all_at is_hex_digit c.args.digits.now (2 * c.bytes.i) 0 (pairs_from_some c.args.digits.now c.requires.pairs).2 (omega arith)
+
+pub byte_of-requires-clause-low : goal.byte_of-requires-clause-low
+byte_of-requires-clause-low c =
+    all_at is_hex_digit c.args.digits.now (2 * c.bytes.i + 1) 0 (pairs_from_some c.args.digits.now c.requires.pairs).2 (omega arith)
+
 pub bytes-preserved : goal.bytes-preserved
 bytes-preserved c =
     let i = c.bytes.i in
     let digits = c.args.digits.now in
-    let pairs = pairs_from_some digits c.requires.pairs in
-    let high : is_hex_digit (slice_index digits (2 * i)) ≡ true = all_at is_hex_digit digits (2 * i) 0 pairs.2 (omega arith) in
-    let low : is_hex_digit (slice_index digits (2 * i + 1)) ≡ true = all_at is_hex_digit digits (2 * i + 1) 0 pairs.2 (omega arith) in
-    let pair : pair_value (slice_index digits (2 * i)) (slice_index digits (2 * i + 1)) (2 * i)
-      ≡ Ok (16 * c.digit_value.result + c.digit_value-in-bytes.result) =
-    rw (c.digit_value.ensures.value, c.digit_value-in-bytes.ensures.value)
-    (pair_of_digits (slice_index digits (2 * i)) (slice_index digits (2 * i + 1)) (2 * i) high low) in
-    decode_step _ _ i _ (omega arith) (omega arith) pair c.bytes.invariant
+    let all = (pairs_from_some digits c.requires.pairs).2 in
+    decode_step _ _ i _ (omega arith) (omega arith)
+    (rw c.byte_of.ensures
+    (pair_of_digits (slice_index digits (2 * i)) (slice_index digits (2 * i + 1)) (2 * i) (all_at is_hex_digit digits (2 * i) 0 all (omega arith))
+    (all_at is_hex_digit digits (2 * i + 1) 0 all (omega arith)))) c.bytes.invariant
 
 pub returns : goal.returns
 returns c =
