@@ -23,7 +23,7 @@ use Rattle.lis_capture.specs.declared.line.Line.TheVariants.{Empty, FromAnalyzer
 use Rattle.lis_capture.specs.Digits.{bytes_of}
 use Rattle.lis_capture.specs.Line.{added_line, line_of, longest_line, plain_line, said, sent_by, version_after, without_return}
 use Rattle.lis_capture.specs.Capture.{Lines, begun, capture, counts, ended_lines, lines_of, next_by, read_lines, version_of, with_said}
-use Rattle.lis_capture.specs.Spelling.{line_spelling, line_text, lines_spelling, upgraded, upgraded_lines}
+use Rattle.lis_capture.specs.Spelling.{added_spelling, line_spelling, line_text, lines_spelling, upgraded, upgraded_lines}
 use Rattle.lis_capture.proofs.CaptureLemmas.{begun-within, ended_lines-within, has_end, stream_with-append}
 use Rattle.lis_capture.proofs.LineLemmas.{without_return-length}
 
@@ -293,6 +293,24 @@ upgraded_version Timer lines is = cc
 upgraded_version Restart lines is = cc
 upgraded_version (SetReady readiness) lines is = cc
 
+added_other : (line : Line) → is_version line ≡ false → added_spelling line ≡ line_spelling line
+added_other Empty other = refl
+added_other (FromAnalyzer bytes) other = refl
+added_other (FromComputer bytes) other = refl
+added_other Timer other = refl
+added_other Restart other = refl
+added_other (SetReady readiness) other = refl
+added_other Version other = cc
+
+added_version : (line : Line) → is_version line ≡ true → added_spelling line ≡ []
+added_version Version is = refl
+added_version Empty is = cc
+added_version (FromAnalyzer bytes) is = cc
+added_version (FromComputer bytes) is = cc
+added_version Timer is = cc
+added_version Restart is = cc
+added_version (SetReady readiness) is = cc
+
 spelled_by :
     (line : Line) (lines : List Line) (test : Bool) → is_version line ≡ test → IsRead line → IsSpelled (upgraded_lines lines) → IsSpelled (upgraded_lines (line ∷ lines))
 spelled_by line lines true is read spelled = subst IsSpelled (sym (upgraded_version line lines is)) spelled
@@ -310,12 +328,27 @@ no_more : (past : List ℕ) (ended : Bool) → begun past ≡ [] → capture pas
 no_more past true none = ap (λ (l : List ℕ). read_lines (if counts true l then l ∷ ended_lines past else ended_lines past)) none
 no_more past false none = ap (λ (l : List ℕ). read_lines (if counts false l then l ∷ ended_lines past else ended_lines past)) none
 
+spelling_by :
+    (line : Line) (lines : List Line) (test : Bool) → is_version line ≡ test → upgraded lines ≡ lines_spelling (upgraded_lines lines)
+    → upgraded (line ∷ lines) ≡ lines_spelling (upgraded_lines (line ∷ lines))
+spelling_by line lines true is before =
+    ap (λ (t : List ℕ). upgraded lines ++ t) (added_version line is) ∙ append-nil (upgraded lines) ∙ before
+    ∙ ap lines_spelling (sym (upgraded_version line lines is))
+spelling_by line lines false is before =
+    ap (λ (t : List ℕ). upgraded lines ++ t) (added_other line is) ∙ ap (λ (t : List ℕ). t ++ line_spelling line) before
+    ∙ ap lines_spelling (sym (upgraded_other line lines is))
+
+pub upgraded-spelling : (lines : List Line) → upgraded lines ≡ lines_spelling (upgraded_lines lines)
+upgraded-spelling [] = refl
+upgraded-spelling (line ∷ lines) = spelling_by line lines (is_version line) refl (upgraded-spelling lines)
+
 pub capture-upgraded :
     (lines : List Line) (ended : Bool) → AreRead lines
     → capture (stream_with [] (upgraded lines)) ended ≡ record { lines = upgraded_lines lines; refused = false }
 capture-upgraded lines ended read =
     let spelled = spelled_upgraded lines read in
-    no_more (stream_with [] (upgraded lines)) ended spelled.ended ∙ spelled.lines_are
+    let past : List ℕ = stream_with [] (lines_spelling (upgraded_lines lines)) in
+    ap (λ (text : List ℕ). capture (stream_with [] text) ended) (upgraded-spelling lines) ∙ no_more past ended spelled.ended ∙ spelled.lines_are
 
 again_by : (line : Line) (lines : List Line) (test : Bool) → is_version line ≡ test → upgraded_lines (upgraded_lines lines) ≡ upgraded_lines lines → upgraded_lines (upgraded_lines (line ∷ lines)) ≡ upgraded_lines (line ∷ lines)
 again_by line lines true is again =
@@ -327,3 +360,7 @@ again_by line lines false is again =
 pub upgraded_lines-upgraded_lines : (lines : List Line) → upgraded_lines (upgraded_lines lines) ≡ upgraded_lines lines
 upgraded_lines-upgraded_lines [] = refl
 upgraded_lines-upgraded_lines (line ∷ lines) = again_by line lines (is_version line) refl (upgraded_lines-upgraded_lines lines)
+
+pub upgraded-upgraded_lines : (lines : List Line) → upgraded (upgraded_lines lines) ≡ upgraded lines
+upgraded-upgraded_lines lines =
+    upgraded-spelling (upgraded_lines lines) ∙ ap lines_spelling (upgraded_lines-upgraded_lines lines) ∙ sym (upgraded-spelling lines)

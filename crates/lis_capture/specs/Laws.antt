@@ -11,7 +11,7 @@ RefusedForGood =
     (past bytes : List ℕ) (ended : Bool) → (capture past false).refused ≡ true
     → capture (stream_with past bytes) ended ≡ capture past false
 
--- the lines of a capture, written in version 2, are read as these lines behind `capture 2`, and written so once more they are the same text
+-- the lines of a capture, written as one of version 2, are read as these lines behind `capture 2`; written so again they are the same text
 abbrev pub UpgradedIsRead : Type 0
 UpgradedIsRead =
     (past : List ℕ) (ended end : Bool) (lines : List Line) → capture past ended ≡ record { lines = lines; refused = false }

@@ -29,12 +29,20 @@ abbrev pub lines_spelling : List Line → List ℕ
 lines_spelling [] = []
 lines_spelling (line ∷ lines) = lines_spelling lines ++ line_spelling line
 
--- the lines in version 2: `capture 2` in front, and the others in their order
+-- ---- a capture as one of version 2
+
+-- what a line is written as; the version's stands in front, once
+abbrev pub added_spelling : Line → List ℕ
+added_spelling Version = []
+added_spelling line = line_spelling line
+
+-- the text: `capture 2`, and then each line in its order
+abbrev pub upgraded : List Line → List ℕ
+upgraded [] = line_spelling Version
+upgraded (line ∷ lines) = upgraded lines ++ added_spelling line
+
+-- and the lines that it says
 abbrev pub upgraded_lines : List Line → List Line
 upgraded_lines [] = Version ∷ []
 upgraded_lines (Version ∷ lines) = upgraded_lines lines
 upgraded_lines (line ∷ lines) = line ∷ upgraded_lines lines
-
--- the text of a capture of version 2 with these lines
-abbrev pub upgraded : List Line → List ℕ
-upgraded lines = lines_spelling (upgraded_lines lines)
