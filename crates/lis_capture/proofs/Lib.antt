@@ -2,5 +2,6 @@
 pub mod DigitsLemmas
 pub mod LineLemmas
 pub mod CaptureLemmas
+pub mod SizeLemmas
 pub mod ReaderLemmas
 pub mod SpellingLemmas

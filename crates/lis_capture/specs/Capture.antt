@@ -1,9 +1,10 @@
 -- A capture: what a stream of bytes says line by line. Bytes and lines are kept newest first.
-use Rattle.std.specs.Prelude.{ℕ, ◌==◌, nat_lt, not, Bool, true, false, List, [], ◌∷◌, ◌++◌, length, Option, None, Some, if◌then◌else◌}
+use Rattle.std.specs.Prelude.{ℕ, ◌+◌, ◌==◌, nat_lt, not, Bool, true, false, List, [], ◌∷◌, ◌++◌, length, Option, None, Some, if◌then◌else◌}
 use Rattle.lis_frame.specs.declared.control.TheConstants.{LF}
 use Rattle.lis_capture.specs.declared.line.CaptureVersion.{CaptureVersion}
 use Rattle.lis_capture.specs.declared.line.CaptureVersion.TheVariants.{Untold}
 use Rattle.lis_capture.specs.declared.line.Line.{Line}
+use Rattle.lis_capture.specs.declared.line.Line.TheVariants.{FromAnalyzer, FromComputer}
 use Rattle.lis_capture.specs.Line.{longest_line, line_of, version_after}
 
 -- ---- the lines of a stream
@@ -54,3 +55,15 @@ read_lines (text ∷ texts) = next_by (read_lines texts).refused (read_lines tex
 -- what a capture says, of which these bytes were read, with or without its end
 abbrev pub capture : List ℕ → Bool → Lines
 capture past ended = read_lines (lines_of past ended)
+
+-- ---- how much lines tell
+
+-- one more than the bytes of a line; no capture tells more than it has bytes
+abbrev pub line_size : Line → ℕ
+line_size (FromAnalyzer bytes) = length bytes + 1
+line_size (FromComputer bytes) = length bytes + 1
+line_size line = 1
+
+abbrev pub size : List Line → ℕ
+size [] = 0
+size (line ∷ lines) = line_size line + size lines

@@ -1,6 +1,6 @@
 //! Reading a capture from slices of its bytes, line by line.
 
-ghost use Rattle.std.specs.Prelude.{◌≡◌, ◌<◌, ◌≤◌, ◌++◌, [], None, List, false, true, length, take, ℕ};
+ghost use Rattle.std.specs.Prelude.{◌≡◌, ◌<◌, ◌≤◌, ◌++◌, [], IsTrue, None, List, false, true, length, take, ℕ};
 ghost use Rattle.lis_frame.specs.Stream.{stream_with};
 ghost use Rattle.lis_capture.specs.Capture.{Lines, capture};
 ghost use Rattle.lis_capture.specs.Line.{line_of};
@@ -82,6 +82,7 @@ impl LineReader {
         ensures within { result.0 ≤ length bytes.now }
         ensures all { result.1 ≡ Found.Nothing → result.0 ≡ length bytes.now }
         ensures some { result.1 ≡ Found.Line → 0 < result.0 }
+        ensures refused { IsTrue self.old.known.refused → (result.0 ≡ 0) × (result.1 ≡ Found.Refused) }
         ensures found { (past : List ℕ) → HasRead self.old past →
             capture (stream_with past (take result.0 bytes.now)) false
             ≡ found_lines (capture past false) result.1 self.new.known.line }
@@ -100,8 +101,10 @@ impl LineReader {
         }
     }
 
-    /// Reads the end of the input, which ends a line that has a byte.
+    /// Reads the end of the input, which ends a line that has a byte. Behind a refused line it refuses
+    /// again.
     pub fn finish(&mut self) -> Found
+        ensures refused { IsTrue self.old.known.refused → result ≡ Found.Refused }
         ensures found { (past : List ℕ) → HasRead self.old past →
             capture past true ≡ found_lines (capture past false) result self.new.known.line }
         ensures known { (past : List ℕ) → HasRead self.old past → self.new.known ≡ known_of (capture past true) }
