@@ -1,5 +1,5 @@
 -- The lines of a stream that goes on.
-use Rattle.std.proofs.Common.{◌≡◌, ℕ, zero, suc, ◌+◌, ◌<◌, ◌≤◌, ◌==◌, not, nat_lt, Bool, true, false, List, [], ◌∷◌, ◌++◌, Option, None, Some, length, length-take, slice_index, take, refl, sym, ◌∙◌, ap, subst, arith, append-nil, append_assoc, if◌then◌else◌}
+use Rattle.std.proofs.Common.{◌≡◌, ℕ, suc, ◌<◌, ◌≤◌, ◌==◌, not, Bool, true, false, List, [], ◌∷◌, ◌++◌, None, length, length-take, slice_index, take, refl, sym, ◌∙◌, ap, subst, arith, append-nil, append_assoc, if◌then◌else◌}
 use Rattle.std.proofs.lemmas.List.{get_or-take}
 use Rattle.std.proofs.lemmas.Bool.{ltb-true, lt-ltb}
 use Rattle.std.proofs.lemmas.Bool.Decides.{nat_tests}
@@ -8,7 +8,7 @@ use Rattle.lis_frame.specs.declared.control.TheConstants.{LF}
 use Rattle.lis_frame.specs.Stream.{stream_with}
 use Rattle.lis_capture.specs.declared.line.Line.{Line}
 use Rattle.lis_capture.specs.Line.{longest_line, line_of, said, without_return}
-use Rattle.lis_capture.specs.Capture.{Lines, begun, ended_lines, counts, lines_of, with_said, next_by, read_lines, capture, version_of}
+use Rattle.lis_capture.specs.Capture.{Lines, begun, ended_lines, with_said, next_by, read_lines, capture, version_of}
 use Rattle.lis_capture.specs.Reader.{is_long}
 
 -- ---- bytes that end no line

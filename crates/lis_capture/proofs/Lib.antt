@@ -5,3 +5,4 @@ pub mod CaptureLemmas
 pub mod SizeLemmas
 pub mod ReaderLemmas
 pub mod SpellingLemmas
+mod DefinitionRows

@@ -1,5 +1,5 @@
 -- Reading a capture by slices.
-use Rattle.std.proofs.Common.{◌≡◌, ℕ, ◌+◌, ◌<◌, ◌≤◌, ◌==◌, Bool, true, false, List, [], ◌∷◌, ◌++◌, Option, None, Some, is_some, unwrap_or, length, slice_index, take, refl, sym, ◌∙◌, ap, subst, arith, if◌then◌else◌}
+use Rattle.std.proofs.Common.{◌≡◌, ℕ, ◌+◌, Bool, true, false, List, [], ◌∷◌, ◌++◌, Option, None, Some, is_some, unwrap_or, length, slice_index, take, refl, sym, ◌∙◌, ap, subst, arith, if◌then◌else◌}
 use Rattle.std.proofs.lemmas.Bool.{eqb-true}
 use Rattle.std.proofs.lemmas.List.{take_all, take_more}
 use Rattle.lis_frame.specs.declared.control.TheConstants.{LF}
@@ -19,7 +19,7 @@ use Rattle.lis_capture.proofs.CaptureLemmas.{begun-ended, begun-within, capture-
 pub known_taken :
     (known : Known) (said : Option Line) (told : Line) (version : CaptureVersion) (number : ℕ) → is_some said ≡ true
     → told ≡ unwrap_or said known.line → version ≡ version_after known.version told → number ≡ capped (known.number + 1)
-    → record { version = version; refused = false; number = number; line = told } ≡ known_with known said
+    → record { version = version; refused = known.refused; number = number; line = told } ≡ known_with known said
 known_taken known None told version number some told_is version_is number_is = cc
 known_taken known (Some line) told version number some told_is version_is number_is =
     rw (version_is, number_is, told_is) refl
@@ -51,7 +51,6 @@ pub record ReadsOn (before after : Reading) (past bytes : List ℕ) (result : Fo
   pub has_read : HasRead after (stream_with past bytes)
 
 module _ (before : Reading) (past : List ℕ) (has : HasRead before past) (fine : before.known.refused ≡ false) where
-
   pub fine_here : (capture past false).refused ≡ false
   fine_here = ap (λ (k : Known). k.refused) (sym has.known_is) ∙ fine
 

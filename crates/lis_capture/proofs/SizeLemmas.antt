@@ -1,5 +1,5 @@
 -- A capture tells no more than it has bytes.
-use Rattle.std.proofs.Common.{◌≡◌, ℕ, ◌+◌, ◌*◌, ◌<◌, ◌≤◌, ◌==◌, nat_lt, Bool, true, false, List, [], ◌∷◌, ◌++◌, Option, None, Some, Ok, Err, length, length-append, refl, sym, ◌∙◌, ap, subst, arith, if◌then◌else◌}
+use Rattle.std.proofs.Common.{◌≡◌, ℕ, ◌+◌, ◌≤◌, ◌==◌, nat_lt, Bool, true, false, List, [], ◌∷◌, ◌++◌, Option, None, Some, Ok, Err, length, length-append, refl, arith, if◌then◌else◌}
 use Rattle.std.specs.Prelude.{codes}
 use Rattle.std.specs.Option.{option_or}
 use Rattle.std.specs.Result.{result_ok}
@@ -16,7 +16,7 @@ use Rattle.lis_capture.specs.declared.line.Line.{Line}
 use Rattle.lis_capture.specs.declared.line.Line.TheVariants.{Empty, FromAnalyzer, FromComputer, Timer, Restart, SetReady, Version}
 use Rattle.lis_capture.specs.Digits.{bytes_of}
 use Rattle.lis_capture.specs.Line.{added_line, line_of, longest_line, plain_line, said, sent_by, without_return}
-use Rattle.lis_capture.specs.Capture.{Lines, begun, capture, counts, ended_lines, line_size, next_by, read_lines, size, version_of, with_said}
+use Rattle.lis_capture.specs.Capture.{begun, capture, counts, ended_lines, line_size, next_by, read_lines, size, version_of, with_said}
 use Rattle.lis_capture.proofs.LineLemmas.{without_return-length}
 
 -- ---- a line tells no more than it is long, and one more

@@ -1,10 +1,10 @@
 -- What is written is read: lines in version 2.
-use Rattle.std.proofs.Common.{◌≡◌, ◌≢◌, ℕ, zero, suc, ◌+◌, ◌*◌, ◌/◌, ◌%◌, ◌<◌, ◌≤◌, ◌==◌, nat_lt, Bool, true, false, ◌&&◌, List, [], ◌∷◌, ◌++◌, Option, None, Some, length, slice_index, refl, sym, ◌∙◌, ap, subst, arith, append-nil, append_assoc, length-append, if◌then◌else◌}
+use Rattle.std.proofs.Common.{◌≡◌, ◌≢◌, ℕ, zero, suc, ◌*◌, ◌/◌, ◌%◌, ◌<◌, ◌≤◌, ◌==◌, nat_lt, Bool, true, false, ◌&&◌, List, [], ◌∷◌, ◌++◌, Option, None, Some, length, slice_index, refl, sym, ◌∙◌, ap, subst, arith, append-nil, if◌then◌else◌}
 use Rattle.std.specs.Prelude.{codes}
 use Rattle.std.specs.Str.{bytes_eq}
 use Rattle.std.specs.Option.{option_or}
 use Rattle.std.specs.Result.{result_ok}
-use Rattle.std.proofs.lemmas.Bool.{le-ltb, ltb-true, cases_lt}
+use Rattle.std.proofs.lemmas.Bool.{le-ltb, cases_lt}
 use Rattle.std.proofs.Common.{inl, inr}
 use Rattle.std.proofs.lemmas.Bool.Decides.{nat_tests}
 use Rattle.hex.specs.Hex.{IsBytes, decode_of, decode_pairs, encode_lower, encode_with, lower_digits}
@@ -14,15 +14,14 @@ use Rattle.std.specs.declared.result.Result.TheVariants.{Ok, Err}
 use Rattle.hex.proofs.HexLemmas.{decode_of-encode_lower, decode_of-ok, length-encode_with}
 use Rattle.lis_frame.specs.declared.control.TheConstants.{CR, LF}
 use Rattle.lis_frame.specs.Stream.{stream_with}
-use Rattle.lis_link.specs.declared.receiver.Readiness.{Readiness}
 use Rattle.lis_link.specs.declared.receiver.Readiness.TheVariants.{Ready, Busy, Contending}
 use Rattle.lis_capture.specs.declared.line.CaptureVersion.{CaptureVersion}
 use Rattle.lis_capture.specs.declared.line.CaptureVersion.TheVariants.{Untold, First, Second}
 use Rattle.lis_capture.specs.declared.line.Line.{Line}
 use Rattle.lis_capture.specs.declared.line.Line.TheVariants.{Empty, FromAnalyzer, FromComputer, Timer, Restart, SetReady, Version}
 use Rattle.lis_capture.specs.Digits.{bytes_of}
-use Rattle.lis_capture.specs.Line.{added_line, line_of, longest_line, plain_line, said, sent_by, version_after, without_return}
-use Rattle.lis_capture.specs.Capture.{Lines, begun, capture, counts, ended_lines, lines_of, next_by, read_lines, version_of, with_said}
+use Rattle.lis_capture.specs.Line.{added_line, line_of, longest_line, plain_line, said, sent_by, without_return}
+use Rattle.lis_capture.specs.Capture.{Lines, begun, capture, counts, ended_lines, next_by, read_lines, version_of, with_said}
 use Rattle.lis_capture.specs.Spelling.{added_spelling, line_spelling, line_text, lines_spelling, upgraded, upgraded_lines}
 use Rattle.lis_capture.proofs.CaptureLemmas.{begun-within, ended_lines-within, has_end, stream_with-append}
 use Rattle.lis_capture.proofs.LineLemmas.{without_return-length}

@@ -19,7 +19,8 @@ abbrev pub ended_lines : List ℕ → List (List ℕ)
 ended_lines [] = []
 ended_lines (b ∷ past) = if b == LF then begun past ∷ ended_lines past else ended_lines past
 
--- the bytes since the last LF are a line too: at the end of the input if there is one, and before it as soon as they are too many
+-- the bytes since the last LF are a line too: at the end of the input where there is one, and before the end as soon as
+-- they are too many
 abbrev pub counts : Bool → List ℕ → Bool
 counts true text = not (length text == 0)
 counts false text = nat_lt longest_line (length text)
@@ -58,7 +59,7 @@ capture past ended = read_lines (lines_of past ended)
 
 -- ---- how much lines tell
 
--- one more than the bytes of a line; no capture tells more than it has bytes
+-- the bytes of a line, and one more for the line
 abbrev pub line_size : Line → ℕ
 line_size (FromAnalyzer bytes) = length bytes + 1
 line_size (FromComputer bytes) = length bytes + 1

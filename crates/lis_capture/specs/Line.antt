@@ -43,7 +43,7 @@ added_line text =
     else if bytes_eq text (codes "S contending") then Some (SetReady Contending)
     else None
 
--- what a text says, by the version that the lines before it tell; `capture 2` tells it, and stands in the first line alone
+-- what a text says, by the version that the lines before it tell; `capture 2` is the first line or none
 abbrev pub said : CaptureVersion → List ℕ → Option Line
 said Untold text = if bytes_eq text (codes "capture 2") then Some Version else plain_line text
 said First text = plain_line text

@@ -1,5 +1,5 @@
 -- What a reader of captures keeps.
-use Rattle.std.specs.Prelude.{◌≡◌, ℕ, ◌+◌, ◌-◌, ◌^◌, min, nat_lt, Bool, true, false, List, [], ◌∷◌, ◌++◌, length, Option, None, Some, if◌then◌else◌}
+use Rattle.std.specs.Prelude.{◌≡◌, ℕ, ◌+◌, min, nat_lt, Bool, true, false, List, [], ◌∷◌, ◌++◌, length, Option, None, Some, if◌then◌else◌}
 use Rattle.lis_capture.specs.declared.line.CaptureVersion.{CaptureVersion}
 use Rattle.lis_capture.specs.declared.line.Line.{Line}
 use Rattle.lis_capture.specs.declared.line.Line.TheVariants.{Empty}
@@ -8,7 +8,8 @@ use Rattle.lis_capture.specs.declared.reader.Found.TheVariants as found
 use Rattle.lis_capture.specs.Line.{longest_line, version_after}
 use Rattle.lis_capture.specs.Capture.{Lines, begun, capture, version_of}
 
--- what is to be known of the lines so far: their version, whether one is refused, the number of the last one, and what the last one that isn't refused says
+-- what is to be known of the lines so far: their version, whether one is refused, the number of the last one, and what
+-- the last one says that isn't refused
 pub record Known : Type 0 where
   pub version : CaptureVersion
   pub refused : Bool
@@ -53,7 +54,7 @@ found_lines read found.Refused line = record { lines = read.lines; refused = tru
 abbrev pub known_with : Known → Option Line → Known
 known_with known None = record known { refused = true; number = capped (known.number + 1) }
 known_with known (Some line) =
-    record { version = version_after known.version line; refused = false; number = capped (known.number + 1); line = line }
+    record known { version = version_after known.version line; number = capped (known.number + 1); line = line }
 
 abbrev pub found_of : Option Line → Found
 found_of None = found.Refused

@@ -12,4 +12,4 @@ mod tests;
 pub use line::{CaptureVersion, LONGEST_LINE, Line, LineBytes, MOST_BYTES};
 pub use lis_link::Readiness;
 pub use reader::{Found, LineReader};
-pub use spelling::{LONGEST_SPELLING, Spelling};
+pub use spelling::{LONGEST_SPELLING, SPELLING_ROOM, Spelling};

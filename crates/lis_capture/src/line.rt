@@ -65,7 +65,7 @@ impl<'a> Model for LineBytes<'a> {
 }
 
 impl<'a> LineBytes<'a> {
-    /// The bytes: one or more, and at most [`MOST_BYTES`].
+    /// The bytes; no line tells more than [`MOST_BYTES`].
     pub fn as_slice(&self) -> &'a [u8]
         ensures value { result.now ≡ self.now }
         ensures short { length result.now ≤ 2047 }

@@ -142,7 +142,8 @@ impl LineReader {
 
     /// Takes the last bytes of a line.
     fn end_line(&mut self, text: &[u8]) -> Found
-        ensures known { self.new.known ≡ known_with self.old.known (line_of self.old.known.version (self.old.held ++ text.now)) }
+        ensures known { self.new.known
+            ≡ known_with self.old.known (line_of self.old.known.version (self.old.held ++ text.now)) }
         ensures held { self.new.held ≡ [] }
         ensures found { result ≡ found_of (line_of self.old.known.version (self.old.held ++ text.now)) }
     {
@@ -179,7 +180,6 @@ impl Progress {
             return self.refuse();
         }
         self.version = version_after(self.version, &self.told.line());
-        self.refused = false;
         self.number = self.number.saturating_add(1);
         Found::Line
     }

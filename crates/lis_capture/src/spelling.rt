@@ -13,12 +13,12 @@ use std::marker::Model;
 pub const LONGEST_SPELLING: usize = 4097;
 
 /// The bytes that lines are gathered in.
-const ROOM: usize = 16384;
+pub const SPELLING_ROOM: usize = 16384;
 
 /// Lines that are written one behind the other in a fixed buffer, so that many go out at once.
 #[derive(Drop)]
 pub struct Spelling {
-    bytes: [u8; ROOM],
+    bytes: [u8; SPELLING_ROOM],
     len: usize,
 }
 
@@ -38,7 +38,7 @@ impl Spelling {
         ensures { result ≡ [] }
     {
         Spelling {
-            bytes: [0; ROOM],
+            bytes: [0; SPELLING_ROOM],
             len: 0,
         }
     }
@@ -53,9 +53,9 @@ impl Spelling {
 
     /// Whether there is room for any further line.
     pub fn has_room(&self) -> bool
-        ensures { IsTrue result ↔ (length self.now + 4097 ≤ 16384) }
+        ensures { IsTrue result ↔ (length self.now + LONGEST_SPELLING ≤ SPELLING_ROOM) }
     {
-        self.len + LONGEST_SPELLING <= ROOM
+        self.len + LONGEST_SPELLING <= SPELLING_ROOM
     }
 
     /// Lets go of the lines.
@@ -68,7 +68,7 @@ impl Spelling {
     /// Writes a line behind the others: in version 2, with digits in lower case, without CR, and LF
     /// behind it. There must be room for it, which [`Spelling::has_room`] tells.
     pub fn write(&mut self, line: &Line)
-        requires { length self.old + 4097 ≤ 16384 }
+        requires { length self.old + LONGEST_SPELLING ≤ SPELLING_ROOM }
         ensures { self.new ≡ self.old ++ line_spelling line.now }
     {
         match line {
@@ -86,7 +86,7 @@ impl Spelling {
 
     /// Appends a mark of two bytes, the digits of bytes, and LF.
     fn append_bytes(&mut self, mark: &[u8], bytes: &LineBytes)
-        requires room { length self.old + 4097 ≤ 16384 }
+        requires room { length self.old + LONGEST_SPELLING ≤ SPELLING_ROOM }
         requires mark { length mark.now ≤ 2 }
         ensures { self.new ≡ self.old ++ (mark.now ++ encode_lower bytes.now) ++ codes "\n" }
     {
@@ -100,7 +100,7 @@ impl Spelling {
 
     /// Appends a text.
     fn append(&mut self, text: &[u8])
-        requires { length self.old + length text.now ≤ 16384 }
+        requires { length self.old + length text.now ≤ SPELLING_ROOM }
         ensures { self.new ≡ self.old ++ text.now }
     {
         let end = self.len + text.len();

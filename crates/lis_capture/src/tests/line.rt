@@ -5,7 +5,13 @@ use std::test::Fail;
 fn lines_of_both_versions(rt: HostRuntime) -> Result<(), Fail> {
     let lines = b"> 05\n< 06\n\nT\n> 023148\n";
     assert!(rt; says(lines, lines, None));
-    assert!(rt; says(b"capture 2\n> 05\n\nT\n< 15\n", b"capture 2\n> 05\n\nT\n< 15\n", None));
+    assert!(rt;
+        says(
+            b"capture 2\n> 05\n\nT\n< 15\n",
+            b"capture 2\n> 05\n\nT\n< 15\n",
+            None
+        )
+    );
     assert!(rt; says(b"> 0231410337350D0A\n", b"> 0231410337350d0a\n", None));
     assert!(rt; says(b"> aBcDeF09\r\n\r\nT\r\n", b"> abcdef09\n\nT\n", None));
     Ok(())

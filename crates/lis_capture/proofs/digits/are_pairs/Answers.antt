@@ -1,4 +1,4 @@
-use Rattle.std.proofs.Common.{◌≢◌, ◌≡◌, length, arith}
+use Rattle.std.proofs.Common.{◌≢◌, length, arith}
 use Rattle.std.proofs.lemmas.Bool.Decides.{nat_tests}
 use Rattle.lis_capture.proofs.DigitsLemmas.{is_some-bytes_of}
 use Rattle.lis_capture.proofs.digits.are_pairs.Goals as goal

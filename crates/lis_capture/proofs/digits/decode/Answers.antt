@@ -1,5 +1,5 @@
-use Rattle.std.proofs.Common.{◌≡◌, ◌+◌, ◌*◌, ◌%◌, true, slice_index, arith, ◌∙◌, Ok}
-use Rattle.hex.specs.Hex.{is_hex_digit, pair_value}
+use Rattle.std.proofs.Common.{◌+◌, ◌*◌, slice_index, arith, ◌∙◌}
+use Rattle.hex.specs.Hex.{is_hex_digit}
 use Rattle.hex.proofs.Pairs.{decode_step, decode_done}
 use Rattle.hex.proofs.HexLemmas.{decode_of-even}
 use Rattle.lis_capture.proofs.DigitsLemmas.{all_at, bytes_of-decoded, pair_of_digits, pairs_from_some}

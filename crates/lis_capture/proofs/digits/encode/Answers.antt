@@ -1,4 +1,4 @@
-use Rattle.std.proofs.Common.{ℕ, arith, slice_index, refl, ap, ◌∙◌}
+use Rattle.std.proofs.Common.{ℕ, arith, slice_index, ap, ◌∙◌}
 use Rattle.std.proofs.lemmas.Nat.{and_mask}
 use Rattle.hex.specs.Hex.{lower_digits}
 use Rattle.hex.proofs.Pairs.{encode_step, encode_done}
