@@ -1,0 +1,8 @@
+-- Lemmas on captures.
+pub mod DigitsLemmas
+pub mod LineLemmas
+pub mod CaptureLemmas
+pub mod SizeLemmas
+pub mod ReaderLemmas
+pub mod SpellingLemmas
+mod DefinitionRows

@@ -1,0 +1,132 @@
+-- Reading a capture by slices.
+use Rattle.std.proofs.Common.{◌≡◌, ℕ, ◌+◌, Bool, true, false, List, [], ◌∷◌, ◌++◌, Option, None, Some, is_some, unwrap_or, length, slice_index, take, refl, sym, ◌∙◌, ap, subst, arith, if◌then◌else◌}
+use Rattle.std.proofs.lemmas.Bool.{eqb-true}
+use Rattle.std.proofs.lemmas.List.{take_all, take_more}
+use Rattle.lis_frame.specs.declared.control.TheConstants.{LF}
+use Rattle.lis_frame.specs.Stream.{stream_with}
+use Rattle.memchr.specs.Find.{IsFirstByte, is_byte}
+use Rattle.lis_capture.specs.declared.line.CaptureVersion.{CaptureVersion}
+use Rattle.lis_capture.specs.declared.line.Line.{Line}
+use Rattle.lis_capture.specs.declared.reader.Found.{Found}
+use Rattle.lis_capture.specs.declared.reader.Found.TheVariants as found
+use Rattle.lis_capture.specs.Line.{line_of, version_after}
+use Rattle.lis_capture.specs.Capture.{Lines, begun, capture, version_of, with_said}
+use Rattle.lis_capture.specs.Reader.{HasRead, Known, Reading, capped, found_holding, found_lines, found_of, holding, is_long, known_of, known_with}
+use Rattle.lis_capture.proofs.CaptureLemmas.{begun-ended, begun-within, capture-ended, capture-long, capture-within, has_end, has_end-before}
+
+-- ---- a line more
+
+pub known_taken :
+    (known : Known) (said : Option Line) (told : Line) (version : CaptureVersion) (number : ℕ) → is_some said ≡ true
+    → told ≡ unwrap_or said known.line → version ≡ version_after known.version told → number ≡ capped (known.number + 1)
+    → record { version = version; refused = known.refused; number = number; line = told } ≡ known_with known said
+known_taken known None told version number some told_is version_is number_is = cc
+known_taken known (Some line) told version number some told_is version_is number_is =
+    rw (version_is, number_is, told_is) refl
+
+pub found_taken : (said : Option Line) → is_some said ≡ true → found.Line ≡ found_of said
+found_taken None some = cc
+found_taken (Some line) some = refl
+
+-- ---- what is known of the lines, with one more
+
+capped-next : (n : ℕ) → capped (capped n + 1) ≡ capped (n + 1)
+capped-next n = omega arith
+
+known_with-known_of : (read : Lines) (said : Option Line) → read.refused ≡ false → known_with (known_of read) said ≡ known_of (with_said read.lines said)
+known_with-known_of read None fine = rw (fine, capped-next (length read.lines)) refl
+known_with-known_of read (Some line) fine =
+    let more : length read.lines + 1 ≡ length (line ∷ read.lines) = omega arith in
+    rw (fine, capped-next (length read.lines), more) refl
+
+found_lines-found_of : (read : Lines) (known : Known) (said : Option Line) → with_said read.lines said ≡ found_lines read (found_of said) (known_with known said).line
+found_lines-found_of read known None = refl
+found_lines-found_of read known (Some line) = refl
+
+-- ---- bytes that end a line, and bytes that don't
+
+-- what is found of further bytes, and that they are then read
+pub record ReadsOn (before after : Reading) (past bytes : List ℕ) (result : Found) : Type 0 where
+  pub found_is : capture (stream_with past bytes) false ≡ found_lines (capture past false) result after.known.line
+  pub has_read : HasRead after (stream_with past bytes)
+
+module _ (before : Reading) (past : List ℕ) (has : HasRead before past) (fine : before.known.refused ≡ false) where
+  pub fine_here : (capture past false).refused ≡ false
+  fine_here = ap (λ (k : Known). k.refused) (sym has.known_is) ∙ fine
+
+  said_here : (text : List ℕ) → line_of before.known.version (before.held ++ text) ≡ line_of (version_of (capture past false).lines) (begun past ++ text)
+  said_here text =
+      ap (λ (k : Known). line_of k.version (before.held ++ text)) has.known_is
+      ∙ ap (λ (h : List ℕ). line_of (version_of (capture past false).lines) (h ++ text)) (has.held_is fine_here)
+
+  -- a line is told or refused
+  known_here : (said : Option Line) → known_with before.known said ≡ known_of (with_said (capture past false).lines said)
+  known_here said = ap (λ (k : Known). known_with k said) has.known_is ∙ known_with-known_of (capture past false) said fine_here
+
+  pub reads_end :
+      (after : Reading) (text : List ℕ) (result : Found) → has_end text ≡ false
+      → after.known ≡ known_with before.known (line_of before.known.version (before.held ++ text)) → after.held ≡ []
+      → result ≡ found_of (line_of before.known.version (before.held ++ text)) → ReadsOn before after past (text ++ LF ∷ []) result
+  reads_end after text result none known_is held_is result_is =
+      let said : Option Line = line_of before.known.version (before.held ++ text) in
+      let lines : capture (stream_with past (text ++ LF ∷ [])) false ≡ with_said (capture past false).lines said =
+      capture-ended past text fine_here none ∙ ap (with_said (capture past false).lines) (sym (said_here text)) in
+      record {
+        found_is =
+            lines ∙ found_lines-found_of (capture past false) before.known said
+            ∙ ap (λ (f : Found). found_lines (capture past false) f (known_with before.known said).line) (sym result_is)
+            ∙ ap (λ (k : Known). found_lines (capture past false) result k.line) (sym known_is);
+        has_read = record {
+          known_is = known_is ∙ known_here said ∙ ap known_of (sym lines);
+          held_is = λ _. held_is ∙ sym (begun-ended past text);
+        };
+      }
+
+  reads_by :
+      (long : Bool) (after : Reading) (text : List ℕ) (result : Found) → has_end text ≡ false → is_long (before.held ++ text) ≡ long
+      → after ≡ (if long then record before { known = known_with before.known None } else record before { held = before.held ++ text })
+      → result ≡ (if long then found.Refused else found.Nothing) → ReadsOn before after past text result
+  reads_by true after text result none is after_is result_is =
+      let line_is : is_long (begun past ++ text) ≡ true = ap (λ (h : List ℕ). is_long (h ++ text)) (sym (has.held_is fine_here)) ∙ is in
+      let lines = capture-long past text fine_here none line_is in
+      record {
+        found_is = lines ∙ ap (λ (f : Found). found_lines (capture past false) f after.known.line) (sym result_is);
+        has_read = record {
+          known_is = ap (λ (r : Reading). r.known) after_is ∙ known_here None ∙ ap known_of (sym lines);
+          held_is = λ fine_then. absurd (refused_now (ap (λ (r : Lines). r.refused) lines) fine_then);
+        };
+      }
+    where
+      refused_now : {b : Bool} → b ≡ true → b ≡ false → ⊥
+      refused_now t f = cc
+  reads_by false after text result none is after_is result_is =
+      let line_is : is_long (begun past ++ text) ≡ false = ap (λ (h : List ℕ). is_long (h ++ text)) (sym (has.held_is fine_here)) ∙ is in
+      let lines = capture-within past text fine_here none line_is in
+      record {
+        found_is = lines ∙ ap (λ (f : Found). found_lines (capture past false) f after.known.line) (sym result_is);
+        has_read = record {
+          known_is = ap (λ (r : Reading). r.known) after_is ∙ has.known_is ∙ ap known_of (sym lines);
+          held_is = λ _.
+              ap (λ (r : Reading). r.held) after_is ∙ ap (λ (h : List ℕ). h ++ text) (has.held_is fine_here)
+              ∙ sym (begun-within past text none);
+        };
+      }
+
+  pub reads_within :
+      (after : Reading) (text : List ℕ) (result : Found) → has_end text ≡ false → after ≡ holding before text
+      → result ≡ found_holding (before.held ++ text) → ReadsOn before after past text result
+  reads_within after text result none after_is result_is =
+      reads_by (is_long (before.held ++ text)) after text result none refl after_is result_is
+
+-- ---- where `memchr` finds the LF
+
+pub front_of_line :
+    (bytes : List ℕ) (place : ℕ) → IsFirstByte (is_byte LF) bytes (Some place)
+    → (has_end (take place bytes) ≡ false) × (take (place + 1) bytes ≡ take place bytes ++ LF ∷ [])
+front_of_line bytes place first =
+    let inside = first.0.high in
+    let is : slice_index bytes place ≡ LF = eqb-true (slice_index bytes place) LF first.1 in
+    (has_end-before bytes place (omega arith) first.0.before, take_more bytes place 0 inside ∙ ap (λ (b : ℕ). take place bytes ++ b ∷ []) is)
+
+pub no_line : (bytes : List ℕ) → IsFirstByte (is_byte LF) bytes None → has_end bytes ≡ false
+no_line bytes none = subst (λ (l : List ℕ). has_end l ≡ false) (take_all (length bytes) bytes (omega arith)) (has_end-before bytes (length bytes) (omega arith) none)

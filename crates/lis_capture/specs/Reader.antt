@@ -1,0 +1,72 @@
+-- What a reader of captures keeps.
+use Rattle.std.specs.Prelude.{◌≡◌, ℕ, ◌+◌, min, nat_lt, Bool, true, false, List, [], ◌∷◌, ◌++◌, length, Option, None, Some, if◌then◌else◌}
+use Rattle.lis_capture.specs.declared.line.CaptureVersion.{CaptureVersion}
+use Rattle.lis_capture.specs.declared.line.Line.{Line}
+use Rattle.lis_capture.specs.declared.line.Line.TheVariants.{Empty}
+use Rattle.lis_capture.specs.declared.reader.Found.{Found}
+use Rattle.lis_capture.specs.declared.reader.Found.TheVariants as found
+use Rattle.lis_capture.specs.Line.{longest_line, version_after}
+use Rattle.lis_capture.specs.Capture.{Lines, begun, capture, version_of}
+
+-- what is to be known of the lines so far: their version, whether one is refused, the number of the last one, and what
+-- the last one says that isn't refused
+pub record Known : Type 0 where
+  pub version : CaptureVersion
+  pub refused : Bool
+  pub number : ℕ
+  pub line : Line
+
+-- beside it, the bytes of the line that is begun
+pub record Reading : Type 0 where
+  pub known : Known
+  pub held : List ℕ
+
+-- a number stays at its greatest value
+abbrev pub capped : ℕ → ℕ
+capped n = min n 18446744073709551615
+
+abbrev pub last_of : List Line → Line
+last_of [] = Empty
+last_of (line ∷ lines) = line
+
+abbrev pub known_of : Lines → Known
+known_of read = record {
+  version = version_of read.lines;
+  refused = read.refused;
+  number = capped (if read.refused then length read.lines + 1 else length read.lines);
+  line = last_of read.lines;
+}
+
+-- the reader has read these bytes, newest first
+pub record HasRead (reader : Reading) (past : List ℕ) : Type 0 where
+  pub known_is : reader.known ≡ known_of (capture past false)
+  pub held_is : (capture past false).refused ≡ false → reader.held ≡ begun past
+
+-- the lines with what was found behind them
+abbrev pub found_lines : Lines → Found → Line → Lines
+found_lines read found.Nothing line = read
+found_lines read found.Line line = record { lines = line ∷ read.lines; refused = false }
+found_lines read found.Refused line = record { lines = read.lines; refused = true }
+
+-- ---- by steps
+
+-- a line more, by what it says
+abbrev pub known_with : Known → Option Line → Known
+known_with known None = record known { refused = true; number = capped (known.number + 1) }
+known_with known (Some line) =
+    record known { version = version_after known.version line; number = capped (known.number + 1); line = line }
+
+abbrev pub found_of : Option Line → Found
+found_of None = found.Refused
+found_of (Some line) = found.Line
+
+-- bytes of a line that doesn't end in them: at most so many that the line isn't too long
+abbrev pub is_long : List ℕ → Bool
+is_long text = nat_lt longest_line (length text)
+
+abbrev pub holding : Reading → List ℕ → Reading
+holding r text =
+    if is_long (r.held ++ text) then record r { known = known_with r.known None } else record r { held = r.held ++ text }
+
+abbrev pub found_holding : List ℕ → Found
+found_holding text = if is_long text then found.Refused else found.Nothing

@@ -1,0 +1,81 @@
+//! Pairs of hexadecimal digits, by loops over slices that look at every byte.
+
+ghost use Rattle.std.specs.Prelude.{◌≡◌, ◌*◌, ◌<◌, IsTrue, Some, is_some, length, slice_index, unwrap_or, ◌+◌};
+ghost use Rattle.std.specs.List.{list_all};
+ghost use Rattle.hex.specs.Hex.{encode_lower, hex_digit_value, is_hex_digit, lower_digits};
+ghost use Rattle.lis_capture.specs.Digits.{bytes_of};
+
+/// Whether a byte is a digit, in either case.
+fn is_digit(byte: u8) -> bool
+    ensures { result ≡ is_hex_digit byte }
+{
+    matches!(byte, b'0'..=b'9' | b'A'..=b'F' | b'a'..=b'f')
+}
+
+/// The byte of two digits. A digit's value is its low four bits, and nine more where it is a letter;
+/// both are found at once, in the halves of one number, so that a loop takes many bytes at once.
+fn byte_of(high: u8, low: u8) -> u8
+    requires high { IsTrue (is_hex_digit high) }
+    requires low { IsTrue (is_hex_digit low) }
+    ensures { result ≡ 16 * unwrap_or (hex_digit_value high) 0 + unwrap_or (hex_digit_value low) 0 }
+{
+    let digits = u16::from_le_bytes([high, low]);
+    let values = (digits & 0x0f0f) + 9 * ((digits >> 6) & 0x0303);
+    ((values << 4 | values >> 8) & 0xff) as u8
+}
+
+/// The digit of a value, in lower case.
+fn digit_of(value: u8) -> u8
+    requires { value < 16 }
+    ensures { result ≡ slice_index lower_digits value }
+{
+    if value > 9 {
+        b'a' + (value - 10)
+    } else {
+        b'0' + value
+    }
+}
+
+/// Whether a text is one or more pairs of digits.
+pub(crate) fn are_pairs(text: &[u8]) -> bool
+    ensures { result ≡ is_some (bytes_of text.now) }
+{
+    if text.is_empty() {
+        return false;
+    }
+    text.len() % 2 == 0 && are_digits(text)
+}
+
+/// Whether every byte is a digit.
+fn are_digits(bytes: &[u8]) -> bool
+    ensures { result ≡ list_all is_hex_digit bytes.now }
+{
+    let mut all = true;
+    for byte in bytes {
+        all &= is_digit(*byte);
+    }
+    all
+}
+
+/// Writes the bytes of pairs of digits.
+pub(crate) fn decode(digits: &[u8], bytes: &mut [u8])
+    requires pairs { IsTrue (is_some (bytes_of digits.now)) }
+    requires room { length digits.now ≡ 2 * length bytes.old }
+    ensures { bytes_of digits.now ≡ Some bytes.new }
+{
+    'bytes: for i in 0..bytes.len() {
+        bytes[i] = byte_of(digits[2 * i], digits[2 * i + 1]);
+    }
+}
+
+/// Writes bytes as pairs of digits.
+pub(crate) fn encode(bytes: &[u8], digits: &mut [u8])
+    requires { length digits.old ≡ 2 * length bytes.now }
+    ensures { digits.new ≡ encode_lower bytes.now }
+{
+    'bytes: for i in 0..bytes.len() {
+        let byte = bytes[i];
+        digits[2 * i] = digit_of(byte >> 4);
+        digits[2 * i + 1] = digit_of(byte & 0x0f);
+    }
+}

@@ -1,0 +1,20 @@
+//! Laws of captures, each the contract of a function that does nothing.
+
+ghost use Rattle.lis_capture.specs.Laws.{RefusedForGood, TellsNoMore, UpgradedIsRead};
+
+/// A capture tells no more than it has bytes, and has no more lines: so who counts either in 64 bits
+/// loses none.
+pub fn tells_no_more()
+    ensures { TellsNoMore }
+{}
+
+/// Behind a refused line nothing is said, whatever follows.
+pub fn refused_for_good()
+    ensures { RefusedForGood }
+{}
+
+/// The lines of a capture that has no refused line, written as one of version 2, are read as these
+/// lines; written so again they are the same text.
+pub fn upgraded_is_read()
+    ensures { UpgradedIsRead }
+{}

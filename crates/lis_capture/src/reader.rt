@@ -1,0 +1,196 @@
+//! Reading a capture from slices of its bytes, line by line.
+
+ghost use Rattle.std.specs.Prelude.{◌≡◌, ◌<◌, ◌≤◌, ◌++◌, [], IsTrue, None, List, false, true, length, take, ℕ};
+ghost use Rattle.lis_frame.specs.Stream.{stream_with};
+ghost use Rattle.lis_capture.specs.Capture.{Lines, capture};
+ghost use Rattle.lis_capture.specs.Line.{line_of};
+ghost use Rattle.lis_capture.specs.Reader.{HasRead, found_holding, found_lines, found_of, holding, known_of, known_with};
+
+use crate::line::{CaptureVersion, LONGEST_LINE, Line, Told, version_after};
+use arrayvec::ArrayVec;
+use lis_frame::control::LF;
+use memchr::memchr;
+use std::marker::Model;
+
+/// What reading on found.
+#[derive(Debug, Clone, Copy, PartialEq, Eq)]
+pub enum Found {
+    /// No line.
+    Nothing,
+    /// A line that says something.
+    Line,
+    /// A line that says nothing that a capture may say.
+    Refused,
+}
+
+/// What is known of the lines so far.
+#[derive(Drop)]
+struct Progress {
+    version: CaptureVersion,
+    refused: bool,
+    number: u64,
+    told: Told,
+}
+
+impl Model for Progress {
+    ghost use Rattle.lis_capture.specs.Reader.{Known};
+
+    ghost Value = { Known };
+
+    ghost view = { λ p. record { version = p.version; refused = p.refused; number = p.number; line = p.told } };
+}
+
+/// Reads a capture. It keeps the bytes of a line that isn't ended yet, of at most [`LONGEST_LINE`], and
+/// what the line before it says, in fixed buffers; it takes no memory.
+#[derive(Drop)]
+pub struct LineReader {
+    progress: Progress,
+    held: ArrayVec<u8, LONGEST_LINE>,
+}
+
+impl Model for LineReader {
+    ghost use Rattle.lis_capture.specs.Reader.{Reading};
+
+    ghost Value = { Reading };
+
+    ghost view = { λ r. record { known = r.progress; held = r.held.items } };
+}
+
+impl LineReader {
+    /// A reader that has read no byte.
+    pub fn new() -> Self
+        ensures { HasRead result [] }
+    {
+        LineReader {
+            progress: Progress {
+                version: CaptureVersion::Untold,
+                refused: false,
+                number: 0,
+                told: Told::new(),
+            },
+            held: ArrayVec::new(),
+        }
+    }
+
+    /// Reads on to the end of a line, or to the end of the bytes where no line ends in them, and answers
+    /// how many bytes it read. A line of more than [`LONGEST_LINE`] bytes is refused at the first byte
+    /// that is too many. Behind a refused line it reads nothing and refuses again.
+    ///
+    /// Whatever bytes it had read, newest first, the capture's lines are now those before and what was
+    /// found: so no cut of the bytes into slices changes them.
+    pub fn read(&mut self, bytes: &[u8]) -> (usize, Found)
+        ensures within { result.0 ≤ length bytes.now }
+        ensures all { result.1 ≡ Found.Nothing → result.0 ≡ length bytes.now }
+        ensures some { result.1 ≡ Found.Line → 0 < result.0 }
+        ensures refused { IsTrue self.old.known.refused → (result.0 ≡ 0) × (result.1 ≡ Found.Refused) }
+        ensures found { (past : List ℕ) → HasRead self.old past →
+            capture (stream_with past (take result.0 bytes.now)) false
+            ≡ found_lines (capture past false) result.1 self.new.known.line }
+        ensures after { (past : List ℕ) → HasRead self.old past →
+            HasRead self.new (stream_with past (take result.0 bytes.now)) }
+    {
+        if self.progress.refused {
+            return (0, Found::Refused);
+        }
+        match memchr(LF, bytes) {
+            Some(place) => {
+                let (text, _) = bytes.split_at(place);
+                (place + 1, self.end_line(text))
+            }
+            None => (bytes.len(), self.hold(bytes)),
+        }
+    }
+
+    /// Reads the end of the input, which ends a line that has a byte. Behind a refused line it refuses
+    /// again.
+    pub fn finish(&mut self) -> Found
+        ensures refused { IsTrue self.old.known.refused → result ≡ Found.Refused }
+        ensures found { (past : List ℕ) → HasRead self.old past →
+            capture past true ≡ found_lines (capture past false) result self.new.known.line }
+        ensures known { (past : List ℕ) → HasRead self.old past → self.new.known ≡ known_of (capture past true) }
+    {
+        if self.progress.refused {
+            return Found::Refused;
+        }
+        if self.held.is_empty() {
+            return Found::Nothing;
+        }
+        self.end_line(&[])
+    }
+
+    /// What the last line says that wasn't refused; before the first such line, nothing.
+    pub fn line(&self) -> Line<'_>
+        ensures { result ≡ self.now.known.line }
+    {
+        self.progress.told.line()
+    }
+
+    /// The number of the last line, from 1, also of a refused one; 0 before the first. At its greatest
+    /// value it stays there.
+    pub fn number(&self) -> u64
+        ensures { result ≡ self.now.known.number }
+    {
+        self.progress.number
+    }
+
+    /// The version, as far as it is told.
+    pub fn version(&self) -> CaptureVersion
+        ensures { result ≡ self.now.known.version }
+    {
+        self.progress.version
+    }
+
+    /// Takes the last bytes of a line.
+    fn end_line(&mut self, text: &[u8]) -> Found
+        ensures known { self.new.known
+            ≡ known_with self.old.known (line_of self.old.known.version (self.old.held ++ text.now)) }
+        ensures held { self.new.held ≡ [] }
+        ensures found { result ≡ found_of (line_of self.old.known.version (self.old.held ++ text.now)) }
+    {
+        if self.held.is_empty() {
+            return self.progress.take(text);
+        }
+        let found = match self.held.try_extend_from_slice(text) {
+            Ok(()) => self.progress.take(self.held.as_slice()),
+            Err(_) => self.progress.refuse(),
+        };
+        self.held.clear();
+        found
+    }
+
+    /// Keeps bytes of a line that doesn't end in them.
+    fn hold(&mut self, text: &[u8]) -> Found
+        ensures after { self.new ≡ holding self.old text.now }
+        ensures found { result ≡ found_holding (self.old.held ++ text.now) }
+    {
+        match self.held.try_extend_from_slice(text) {
+            Ok(()) => Found::Nothing,
+            Err(_) => self.progress.refuse(),
+        }
+    }
+}
+
+impl Progress {
+    /// Takes a line.
+    fn take(&mut self, text: &[u8]) -> Found
+        ensures after { self.new ≡ known_with self.old (line_of self.old.version text.now) }
+        ensures found { result ≡ found_of (line_of self.old.version text.now) }
+    {
+        if !self.told.read(self.version, text) {
+            return self.refuse();
+        }
+        self.version = version_after(self.version, &self.told.line());
+        self.number = self.number.saturating_add(1);
+        Found::Line
+    }
+
+    /// Refuses a line.
+    fn refuse(&mut self) -> Found
+        ensures after { self.new ≡ known_with self.old None }
+        ensures found { result ≡ found_of None }
+    {
+        self.refused = true;
+        self.number = self.number.saturating_add(1);
+        Found::Refused
+    }
+}
