@@ -1,5 +1,7 @@
+pub mod ChunkLemmas
 mod DefinitionRows
 pub mod FrameLaws
+pub mod FrontLemmas
 pub mod KeptLemmas
 pub mod PieceLaws
 pub mod ScannerLemmas

@@ -25,7 +25,7 @@ look_back-push (x ∷ past) since b = by (x == STX) (x == EOT || x == ENQ || x =
     by false true later = refl
     by false false later = later
 
-kept-push : (limit : ℕ) (s : List ℕ) (b : ℕ) → kept limit (s ++ b ∷ []) ≡ with_byte limit (kept limit s) b
+pub kept-push : (limit : ℕ) (s : List ℕ) (b : ℕ) → kept limit (s ++ b ∷ []) ≡ with_byte limit (kept limit s) b
 kept-push limit s b = by (nat_lt (limit + 5) (length s)) refl
   where
     by : (test : Bool) → nat_lt (limit + 5) (length s) ≡ test → kept limit (s ++ b ∷ []) ≡ with_byte limit (kept limit s) b

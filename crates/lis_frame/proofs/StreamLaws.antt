@@ -1,17 +1,18 @@
 -- The signals of a stream: they don't depend on its cut, and the bytes of a frame are heard as that frame.
 use Rattle.std.proofs.Common.{◌≡◌, ℕ, ◌+◌, ◌/◌, ◌%◌, ◌<◌, Bool, true, false, List, [], ◌∷◌, ◌++◌, Option, None, Some, refl, ap, sym, ◌∙◌, subst, arith, cond, append-nil, append_assoc}
-use Rattle.std.specs.Prelude.{◌==◌, ◌||◌}
+use Rattle.std.specs.Prelude.{nat_le, ◌==◌, ◌||◌}
 use Rattle.std.specs.List.{position_from}
 use Rattle.std.proofs.lemmas.Bool.Decides.{nat_tests}
 use Rattle.lis_frame.specs.declared.control.TheConstants.{STX, EOT, ENQ, CR, LF}
 use Rattle.lis_frame.specs.declared.scanner.SignalOf.{SignalOf}
 use Rattle.lis_frame.specs.declared.scanner.SignalOf.TheVariants.{Good}
-use Rattle.lis_frame.specs.Text.{is_forbidden}
-use Rattle.lis_frame.specs.Frame.{FrameContent, IsContent, IsFrame, number_byte, end_byte, checksum, upper_digit, frame_bytes}
+use Rattle.lis_frame.specs.Text.{is_forbidden, first_forbidden}
+use Rattle.lis_frame.specs.Scanner.{Held, outside, with_byte, with_bytes, StandsFor}
+use Rattle.lis_frame.specs.Frame.{FrameContent, IsContent, IsFrame, number_byte, end_byte, checksum, digit_value, upper_digit, frame_bytes}
 use Rattle.lis_frame.specs.Stretch.{stretch_of}
 use Rattle.lis_frame.specs.Stream.{look_back, open_stretch, read_stretch, signal_after, with_signal, signals_after, stream_with}
 use Rattle.lis_frame.proofs.FrameLaws.{only, IsFrame-frame_bytes}
-use Rattle.lis_frame.proofs.ScannerLemmas.{look_back-push}
+use Rattle.lis_frame.proofs.ScannerLemmas.{look_back-push, stands_after}
 
 -- a stream read in two parts gives the signals of the first part and then those of the second
 pub signals_after-append :
@@ -124,3 +125,67 @@ signals-frame_bytes limit past frame content =
     subst (λ (bytes : List ℕ). IsFrame limit bytes frame) (frame_bytes-inside frame) (IsFrame-frame_bytes limit frame content) in
     let read = only limit (inside_of frame) frame is_frame in
     rw (frame_bytes-inside frame, signals-stretch limit past (inside_of frame) (AllPlain-inside_of limit frame content), read.0) (ap (λ f. Good f ∷ []) (sym read.1))
+
+-- bytes that a text may hold are plain
+AllPlain-clean : (text : List ℕ) → first_forbidden text ≡ None → AllPlain text
+unfolding AllPlain
+AllPlain-clean text clean = rw (append-nil text) at (AllPlain-text 0 text [] clean tt)
+
+stands-plain :
+    (limit : ℕ) (held : Held) (run past : List ℕ) → AllPlain run → StandsFor limit held past →
+    StandsFor limit (with_bytes limit held run) (stream_with past run)
+unfolding AllPlain
+stands-plain limit held [] past plain stands = stands
+stands-plain limit held (b ∷ run) past plain stands =
+    let one : StandsFor limit (with_byte limit held b) (b ∷ past) = rw (plain.0.no_start, plain.0.no_stop) at (stands_after limit held past b stands) in
+    stands-plain limit (with_byte limit held b) run (b ∷ past) plain.1 one
+
+-- a run of bytes that a text may hold gives no signal, and is held as it is
+pub clean_run :
+    (limit : ℕ) (held : Held) (run past : List ℕ) → StandsFor limit held past → first_forbidden run ≡ None →
+    (signals_after limit past run ≡ []) × StandsFor limit (with_bytes limit held run) (stream_with past run)
+clean_run limit held run past stands clean =
+    let plain = AllPlain-clean run clean in
+    (signals-plain limit run past plain, stands-plain limit held run past plain stands)
+
+allowed_hex : (b value : ℕ) → digit_value b ≡ Some value → is_forbidden b ≡ false
+allowed_hex b value h = by (nat_le 48 b) refl
+  where
+    by : (test : Bool) → nat_le 48 b ≡ test → is_forbidden b ≡ false
+    by true e = grind (arith, nat_tests)
+    by false e =
+        let upper : nat_le 65 b ≡ false = grind (arith, nat_tests) in
+        let lower : nat_le 97 b ≡ false = grind (arith, nat_tests) in
+        let none = rw (e, upper, lower) at h in
+        cc
+
+stream_with-last : (past xs : List ℕ) (b : ℕ) → stream_with past (xs ++ b ∷ []) ≡ b ∷ stream_with past xs
+stream_with-last past [] b = refl
+stream_with-last past (x ∷ xs) b = stream_with-last (x ∷ past) xs b
+
+-- the bytes of a frame, with digits in either case, are heard as it, and leave no stretch open
+pub heard_frame :
+    (limit : ℕ) (past bytes : List ℕ) (frame : FrameContent) → IsFrame limit bytes frame →
+    (signals_after limit past bytes ≡ Good frame ∷ []) × StandsFor limit outside (stream_with past bytes)
+unfolding AllPlain StandsFor open_stretch
+heard_frame limit past bytes frame is_frame =
+    let s = stretch_of (number_byte frame.number) frame.text (end_byte frame.last) is_frame.high is_frame.low CR in
+    let bytes_are : bytes ≡ STX ∷ (s ++ LF ∷ []) =
+    is_frame.spelling
+    ∙ ap (λ (xs : List ℕ). STX ∷ number_byte frame.number ∷ xs)
+    (sym (append_assoc frame.text (end_byte frame.last ∷ is_frame.high ∷ is_frame.low ∷ CR ∷ []) (LF ∷ []))) in
+    let same : IsFrame limit (STX ∷ (s ++ LF ∷ [])) frame = subst (λ (xs : List ℕ). IsFrame limit xs frame) bytes_are is_frame in
+    let read = only limit s frame same in
+    let plain : AllPlain s = (
+      plain_if_allowed (number_byte frame.number) (grind (arith, nat_tests, is_frame.content.number_in_range)),
+      AllPlain-text 0 frame.text _ is_frame.content.is_text.clean (
+        plain_end frame.last,
+        (
+          plain_if_allowed _ (allowed_hex is_frame.high is_frame.digits.high_value is_frame.digits.is_high),
+          (plain_if_allowed _ (allowed_hex is_frame.low is_frame.digits.low_value is_frame.digits.is_low), (plain_if_allowed CR refl, tt)),
+        ),
+      ),
+    ) in (
+      rw (bytes_are, signals-stretch limit past s plain, read.0) (ap (λ f. Good f ∷ []) (sym read.1)),
+      rw (bytes_are, stream_with-last (STX ∷ past) s LF) refl,
+    )

@@ -109,6 +109,17 @@ split_last_four xs m e =
     simp (get_or-drop, add-zero) at (four_items (drop m xs) four) in
     rw items (take-append-drop m xs)
 
+-- the same by the length
+pub last_four :
+    (xs : List ℕ) → 4 ≤ length xs →
+    xs ≡ take (length xs - 4) xs
+    ++ (get_or xs (length xs - 4) 0 ∷ get_or xs (length xs - 3) 0 ∷ get_or xs (length xs - 2) 0 ∷ get_or xs (length xs - 1) 0 ∷ [])
+last_four xs four =
+    let third : length xs - 3 ≡ length xs - 4 + 1 = omega arith in
+    let second : length xs - 2 ≡ length xs - 4 + 2 = omega arith in
+    let first : length xs - 1 ≡ length xs - 4 + 3 = omega arith in
+    rw (third, second, first) (sym (split_last_four xs (length xs - 4) (omega arith)))
+
 -- a stretch of five bytes or more is its parts, whose places the equations give
 pub stretch_parts :
     (s : List ℕ) (m i j k l : ℕ) → m + 5 ≡ length s → i ≡ m + 1 → j ≡ m + 2 → k ≡ m + 3 → l ≡ m + 4 →

@@ -1,8 +1,6 @@
 -- What the fields of a stretch in fixed buffers stand for, and what is true of them.
-use Rattle.std.specs.Prelude.{◌≡◌, ℕ, zero, suc, ◌+◌, ◌-◌, ◌%◌, ◌<◌, ◌≤◌, List, [], ◌∷◌, ◌++◌, Option, length, drop, if◌then◌else◌, nat_lt}
-use Rattle.std.specs.List.{sum}
+use Rattle.std.specs.Prelude.{◌≡◌, ℕ, zero, suc, ◌+◌, ◌-◌, ◌≤◌, List, [], ◌∷◌, ◌++◌, length, drop, if◌then◌else◌, nat_lt}
 use Rattle.lis_frame.specs.Limit.{IsLimit}
-use Rattle.lis_frame.specs.Text.{first_forbidden}
 use Rattle.lis_frame.specs.Scanner.{Held, within, beyond}
 
 -- the bytes since STX by their count: the number, the settled text, and as many of the last four as there are
@@ -14,9 +12,7 @@ abbrev pub kept_held : ℕ → ℕ → ℕ → List ℕ → List ℕ → Held
 kept_held limit count number text last =
     if nat_lt (limit + 5) count then beyond else within (kept_bytes count number text last)
 
-pub record IsKept (limit count number : ℕ) (text : List ℕ) (total : ℕ) (forbidden : Option ℕ) : Type 0 where
+pub record IsKept (limit count : ℕ) (text : List ℕ) : Type 0 where
   pub is_limit : IsLimit limit
   pub counted : count ≤ limit + 6
   pub settled : count ≤ limit + 5 → length text ≡ count - 5
-  pub placed : forbidden ≡ first_forbidden text
-  pub summed : 0 < count → total ≡ (number + sum text) % 256

@@ -3,7 +3,10 @@ use Rattle.std.specs.Prelude.{◌≡◌, ℕ, ◌+◌, List, [], ◌∷◌, ◌+
 use Rattle.lis_frame.specs.declared.control.TheConstants.{STX, EOT, ENQ, LF}
 use Rattle.lis_frame.specs.declared.frame.FrameFault.TheVariants.{TooLong}
 use Rattle.lis_frame.specs.declared.scanner.SignalOf.{SignalOf}
-use Rattle.lis_frame.specs.declared.scanner.SignalOf.TheVariants.{Enq, Eot, Bad}
+use Rattle.lis_frame.specs.declared.scanner.SignalOf.TheVariants.{Enq, Eot, Good, Bad}
+use Rattle.lis_frame.specs.declared.scanner.Heard.{Heard}
+use Rattle.lis_frame.specs.declared.scanner.Heard.TheVariants as heards
+use Rattle.lis_frame.specs.Frame.{FrameContent}
 use Rattle.lis_frame.specs.Stream.{open_stretch, read_stretch}
 
 -- it stands outside a frame, in one within these bytes since STX, or in one beyond what any frame has
@@ -29,6 +32,24 @@ abbrev pub with_byte : ℕ → Held → ℕ → Held
 with_byte limit outside b = outside
 with_byte limit (within stretch) b = kept limit (stretch ++ b ∷ [])
 with_byte limit beyond b = beyond
+
+-- and after several such bytes
+abbrev pub with_bytes : ℕ → Held → List ℕ → Held
+with_bytes limit held [] = held
+with_bytes limit held (b ∷ bytes) = with_bytes limit (with_byte limit held b) bytes
+
+-- the signal that is heard with a lent frame
+abbrev pub heard_signal : {limit : ℕ} → Option Heard → Option (SignalOf limit)
+heard_signal None = None
+heard_signal (Some heards.Enq) = Some Enq
+heard_signal (Some heards.Eot) = Some Eot
+heard_signal (Some (heards.Good frame)) = Some (Good frame)
+heard_signal (Some (heards.Bad fault)) = Some (Bad fault)
+
+-- the signals that a lent frame is
+abbrev pub lent_signals : {limit : ℕ} → Option FrameContent → List (SignalOf limit)
+lent_signals None = []
+lent_signals (Some frame) = Good frame ∷ []
 
 -- what an LF tells
 abbrev pub ended_held : (limit : ℕ) → Held → Option (SignalOf limit)

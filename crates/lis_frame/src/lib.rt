@@ -4,6 +4,7 @@
 pub mod control;
 pub mod frame;
 pub mod laws;
+pub mod lent;
 pub mod link_text;
 pub mod list;
 mod read;
@@ -16,10 +17,11 @@ pub mod text;
 mod write;
 
 pub use frame::{Frame, FrameFault, FrameOf};
+pub use lent::LentFrame;
 pub use link_text::{LONGEST_TEXT, LinkText, MOST_TEXTS, TextRefused, Texts, check_text};
 pub use list::List;
 pub use read::{read_frame, read_frame_of};
-pub use scanner::{Scanner, ScannerOf, Signal, SignalOf};
+pub use scanner::{Heard, Scanner, ScannerOf, Signal, SignalOf};
 pub use split::{Frames, FramesOf, next_number, split_all, split_all_of, split_at, split_at_of};
 pub use text::{Text, TextFault, TextOf};
 pub use write::{frame_bytes, frame_bytes_of};

@@ -1,6 +1,6 @@
 //! Reading a frame from the bytes between its STX and its LF.
 
-ghost use Rattle.std.specs.Prelude.{◌≡◌, ◌+◌, ◌%◌, ◌≤◌, ◌<◌, ◌==◌, ◌&&◌, ◌||◌, false, [], ◌∷◌, ◌++◌, None, Some, Ok, IfOk, IfErr, IfNone, IfSome, MatchResult, length};
+ghost use Rattle.std.specs.Prelude.{◌≡◌, ◌+◌, ◌%◌, ◌≤◌, ◌<◌, ◌==◌, ◌&&◌, ◌||◌, false, [], ◌∷◌, ◌++◌, None, Some, Ok, IfOk, IfErr, IfNone, IfSome, MatchResult, length, take};
 ghost use Rattle.std.specs.List.{sum};
 ghost use Rattle.lis_frame.specs.Limit.{IsLimit};
 ghost use Rattle.lis_frame.specs.Frame.{FrameContent, IsFrame, digit_value};
@@ -9,6 +9,7 @@ ghost use Rattle.lis_frame.specs.Stretch.{stretch_of, stretch_fault, content_of,
 
 use crate::control::{CR, ETB, ETX, LF, STX};
 use crate::frame::{Frame, FrameFault, FrameOf};
+use crate::lent::LentFrame;
 use crate::text::{TextOf, first_forbidden};
 
 /// The frame that stands between STX and LF. Where none does, the first fault: length, shape,
@@ -112,6 +113,21 @@ impl<'a> Parts<'a> {
         Ok(FrameOf::of_parts(self.number - b'0', self.end == ETX, text))
     }
 
+    /// The same, with the text lent.
+    pub(crate) fn lent<const N: usize>(&self) -> Result<LentFrame<'a>, FrameFault>
+        requires room { length self.now.text.now ≤ N }
+        requires placed { self.now.forbidden ≡ first_forbidden self.now.text.now }
+        requires summed { self.now.total ≡ (self.now.number + sum self.now.text.now) % 256 }
+        ensures { let stretch = stretch_of self.now.number self.now.text.now self.now.end self.now.high self.now.low self.now.close in
+            MatchResult result (λ frame. (frame ≡ content_of stretch) × (stretch_fault N stretch ≡ None))
+            (λ fault. stretch_fault N stretch ≡ Some fault) }
+    {
+        if let Some(fault) = self.fault() {
+            return Err(fault);
+        }
+        Ok(LentFrame::of_parts(self.number - b'0', self.end == ETX, self.text))
+    }
+
     /// The first fault of the parts by themselves.
     fn fault(&self) -> Option<FrameFault>
         ensures { result ≡ first_fault false (self.now.close == CR && (self.now.end == ETX || self.now.end == ETB))
@@ -124,6 +140,40 @@ impl<'a> Parts<'a> {
         let sum = self.total.wrapping_add(self.end);
         let sums = is_value(pair_value(self.high, self.low), sum);
         first_fault(shaped, numbered, self.forbidden, sums)
+    }
+}
+
+/// The frame whose STX stands before these bytes, and how many of them it has, where a good one stands there whole.
+pub(crate) fn front_frame<const N: usize>(bytes: &[u8]) -> Option<(LentFrame<'_>, usize)>
+    ensures bound { IfSome result (λ found. found.1 ≤ length bytes.now) }
+    ensures frame { IfSome result (λ found. IsFrame N (STX ∷ take found.1 bytes.now) found.0) }
+{
+    let Some((number, behind)) = bytes.split_first() else {
+        return None;
+    };
+    let Some(place) = first_forbidden(behind) else {
+        return None;
+    };
+    let (text, rest) = behind.split_at(place);
+    let [end, high, low, close, line_feed, _rest @ ..] = rest else {
+        return None;
+    };
+    if place > N || *line_feed != LF {
+        return None;
+    }
+    let parts = Parts {
+        number: *number,
+        text,
+        forbidden: None,
+        total: total_of(*number, text),
+        end: *end,
+        high: *high,
+        low: *low,
+        close: *close,
+    };
+    match parts.lent::<N>() {
+        Ok(frame) => Some((frame, place + 6)),
+        Err(_fault) => None,
     }
 }
 

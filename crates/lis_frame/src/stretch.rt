@@ -1,15 +1,17 @@
-//! The bytes since the last STX, in fixed buffers: what reading a frame will ask of them is kept
-//! up to date at each byte, so that no byte is looked at twice.
+//! The bytes since the last STX, in fixed buffers: its text stands in one piece, so that a run of bytes is
+//! taken at once.
 
-ghost use Rattle.std.specs.Prelude.{◌≡◌, [], Some};
+ghost use Rattle.std.specs.Prelude.{◌≡◌, [], Some, MatchResult};
+ghost use Rattle.std.specs.Bool.{MatchBool};
 ghost use Rattle.lis_frame.specs.Limit.{IsLimit};
-ghost use Rattle.lis_frame.specs.Text.{first_place};
-ghost use Rattle.lis_frame.specs.Scanner.{within, with_byte, ended_held};
+ghost use Rattle.lis_frame.specs.Scanner.{within, with_byte, with_bytes, ended_held};
+ghost use Rattle.lis_frame.specs.declared.scanner.SignalOf.TheVariants.{Good, Bad};
 
 use crate::frame::FrameFault;
-use crate::read::Parts;
+use crate::lent::LentFrame;
+use crate::read::{Parts, total_of};
 use crate::scanner::SignalOf;
-use crate::text::{append, is_forbidden};
+use crate::text::{append, first_forbidden};
 use arrayvec::ArrayVec;
 use std::marker::Model;
 
@@ -27,10 +29,6 @@ pub(crate) struct StretchOf<const N: usize> {
     high: u8,
     low: u8,
     close: u8,
-    /// The sum of the number and the settled text, modulo 256.
-    total: u8,
-    /// The place of the settled text's first forbidden byte.
-    forbidden: Option<usize>,
 }
 
 impl<const N: usize> Model for StretchOf<N> {
@@ -42,7 +40,7 @@ impl<const N: usize> Model for StretchOf<N> {
 
     ghost view = { λ s. kept_held N s.count s.number s.text.items (s.end ∷ s.high ∷ s.low ∷ s.close ∷ []) };
 
-    ghost invariant = { λ s. IsKept N s.count s.number s.text.items s.total s.forbidden };
+    ghost invariant = { λ s. IsKept N s.count s.text.items };
 }
 
 impl<const N: usize> StretchOf<N> {
@@ -59,8 +57,6 @@ impl<const N: usize> StretchOf<N> {
             high: 0,
             low: 0,
             close: 0,
-            total: 0,
-            forbidden: None,
         }
     }
 
@@ -76,8 +72,6 @@ impl<const N: usize> StretchOf<N> {
             high: self.high,
             low: self.low,
             close: self.close,
-            total: self.total,
-            forbidden: self.forbidden,
         }
     }
 
@@ -87,7 +81,6 @@ impl<const N: usize> StretchOf<N> {
     {
         self.count = 0;
         self.text.clear();
-        self.forbidden = None;
     }
 
     /// Takes a byte that is no mark.
@@ -100,7 +93,6 @@ impl<const N: usize> StretchOf<N> {
         }
         if self.count == 0 {
             self.number = byte;
-            self.total = byte;
             self.count = 1;
             return;
         }
@@ -113,9 +105,74 @@ impl<const N: usize> StretchOf<N> {
         if self.count <= FRAMING {
             return;
         }
-        self.forbidden = first_place(self.forbidden, leaving, self.text.len());
-        self.total = self.total.wrapping_add(leaving);
         self.text.push(leaving);
+    }
+
+    /// Takes bytes that are no marks.
+    pub(crate) fn extend(&mut self, run: &[u8])
+        ensures { self.new ≡ with_bytes N self.old run.now }
+    {
+        let mut rest = run;
+        while let Some((byte, behind)) = rest.split_first() {
+            if self.take_run(rest) {
+                return;
+            }
+            self.push(*byte);
+            rest = behind;
+        }
+    }
+
+    /// Takes a run of bytes that are no marks at once, where five bytes are there and the run has at
+    /// least four. Else it takes none and answers false.
+    fn take_run(&mut self, run: &[u8]) -> bool
+        ensures { MatchBool result (self.new ≡ with_bytes N self.old run.now) (self.new ≡ self.old) }
+    {
+        let [most @ .., end, high, low, close] = run else {
+            return false;
+        };
+        if self.count < FRAMING {
+            return false;
+        }
+        if self.count > N + FRAMING {
+            return true;
+        }
+        if run.len() > N + FRAMING - self.count {
+            self.count = N + FRAMING + 1;
+            return true;
+        }
+        append(&mut self.text, &[self.end, self.high, self.low, self.close]);
+        append(&mut self.text, most);
+        self.end = *end;
+        self.high = *high;
+        self.low = *low;
+        self.close = *close;
+        self.count += run.len();
+        true
+    }
+
+    /// The frame that an LF ends, or its fault.
+    pub(crate) fn lent(&self) -> Result<LentFrame<'_>, FrameFault>
+        ensures { MatchResult result (λ frame. Some (Good frame) ≡ ended_held N self.now)
+            (λ fault. Some (Bad fault) ≡ ended_held N self.now) }
+    {
+        if self.count > N + FRAMING {
+            return Err(FrameFault::TooLong);
+        }
+        if self.count < FRAMING {
+            return Err(FrameFault::Shape);
+        }
+        let text = self.text.as_slice();
+        let parts = Parts {
+            number: self.number,
+            text,
+            forbidden: first_forbidden(text),
+            total: total_of(self.number, text),
+            end: self.end,
+            high: self.high,
+            low: self.low,
+            close: self.close,
+        };
+        parts.lent::<N>()
     }
 
     /// What an LF tells.
@@ -128,11 +185,12 @@ impl<const N: usize> StretchOf<N> {
         if self.count < FRAMING {
             return SignalOf::Bad(FrameFault::Shape);
         }
+        let text = self.text.as_slice();
         let parts = Parts {
             number: self.number,
-            text: self.text.as_slice(),
-            forbidden: self.forbidden,
-            total: self.total,
+            text,
+            forbidden: first_forbidden(text),
+            total: total_of(self.number, text),
             end: self.end,
             high: self.high,
             low: self.low,
@@ -142,16 +200,6 @@ impl<const N: usize> StretchOf<N> {
             Ok(frame) => SignalOf::Good(frame),
             Err(fault) => SignalOf::Bad(fault),
         }
-    }
-}
-
-/// The place of the first forbidden byte, where one more byte comes at `place`.
-fn first_place(found: Option<usize>, byte: u8, place: usize) -> Option<usize>
-    ensures { result ≡ first_place found byte place }
-{
-    match found {
-        None if is_forbidden(byte) => Some(place),
-        other => other,
     }
 }
 

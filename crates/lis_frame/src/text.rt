@@ -1,12 +1,14 @@
 //! The text of a frame.
 
-ghost use Rattle.std.specs.Prelude.{◌≡◌, ◌+◌, ◌≤◌, ◌++◌, None, Some, MatchResult, length};
+ghost use Rattle.std.specs.Prelude.{◌≡◌, ◌+◌, ◌≤◌, ◌++◌, None, Some, ◌<◌, IfSome, MatchResult, length, map, take};
+ghost use Rattle.std.specs.Simd.Lanes.{mask_l};
 ghost use Rattle.arrayvec.specs.ArrayVec.{array_vec_len};
 ghost use Rattle.lis_frame.specs.Limit.{IsLimit};
 ghost use Rattle.lis_frame.specs.Text.{IsText, first_forbidden, is_forbidden, text_fault};
 
 use arrayvec::ArrayVec;
 use std::marker::Model;
+use std::simd::prelude::*;
 
 /// Why bytes are no text of a frame or of a link text.
 #[derive(Debug, Clone, Copy, PartialEq, Eq)]
@@ -84,9 +86,44 @@ pub(crate) fn is_forbidden(byte: u8) -> bool
     matches!(byte, 1..=6 | 10 | 16..=23)
 }
 
-/// The place of the first forbidden byte, from 0.
+/// The places among sixteen bytes that hold a forbidden byte, as bits, the lowest for the first byte.
+#[inline(always)]
+fn forbidden_bits(bytes: &[u8]) -> u64
+    requires { 16 ≤ length bytes.now }
+    ensures { result ≡ mask_l (map is_forbidden (take 16 bytes.now)) }
+{
+    let sixteen = u8x16::from_slice(bytes);
+    let low = sixteen.simd_ge(u8x16::splat(1)) & sixteen.simd_le(u8x16::splat(6));
+    let line_feed = sixteen.simd_eq(u8x16::splat(10));
+    let high = sixteen.simd_ge(u8x16::splat(16)) & sixteen.simd_le(u8x16::splat(23));
+    (low | line_feed | high).to_bitmask()
+}
+
+/// The place of the first forbidden byte, from 0. Sixteen bytes are tested at a time.
 pub(crate) fn first_forbidden(bytes: &[u8]) -> Option<usize>
     ensures { result ≡ first_forbidden bytes.now }
+{
+    let mut rest = bytes;
+    let mut place = 0;
+    while rest.len() >= 16 {
+        let bits = forbidden_bits(rest);
+        if bits != 0 {
+            return Some(place + bits.trailing_zeros() as usize);
+        }
+        let (_, behind) = rest.split_at(16);
+        rest = behind;
+        place += 16;
+    }
+    match first_by_one(rest) {
+        None => None,
+        Some(found) => Some(place + found),
+    }
+}
+
+/// The same, a byte at a time.
+fn first_by_one(bytes: &[u8]) -> Option<usize>
+    ensures place { result ≡ first_forbidden bytes.now }
+    ensures bound { IfSome result (λ found. found < length bytes.now) }
 {
     bytes.iter().position(|byte| is_forbidden(*byte))
 }

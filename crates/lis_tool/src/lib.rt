@@ -3,6 +3,7 @@
 
 pub mod commands;
 pub mod fault;
+mod line;
 mod output;
 pub mod report;
 pub mod run;

@@ -1,22 +1,27 @@
 //! The command `show`: a line for each signal of a stream of link bytes.
 
-ghost use Rattle.std.specs.Prelude.{◌≡◌, ◌≤◌, ◌∷◌, [], ℕ, List, false, is_err, IfOk, OnOk};
+ghost use Rattle.std.specs.Prelude.{◌≡◌, ◌≤◌, ◌++◌, ◌∷◌, [], ℕ, List, codes, decimal, false, is_err, length, IfOk, OnOk};
 ghost use Rattle.std.specs.Io.KnownBytes.{IsAtEnd};
 ghost use Rattle.lis_frame.specs.Limit.{IsLimit};
 ghost use Rattle.lis_frame.specs.Scanner.{StandsFor};
 ghost use Rattle.lis_frame.specs.Stream.{signal_after, signals_after, stream_with, with_signal};
 ghost use Rattle.lis_tool.specs.Output.{Put, most_counted};
 ghost use Rattle.lis_tool.specs.Runs.{Sent, ShowRan, Stopped};
-ghost use Rattle.lis_tool.specs.Show.{bad_line, digits_part, frame_line, frame_start, show, signal_line, signal_lines};
+ghost use Rattle.lis_tool.specs.Show.{bad_line, frame_line, frame_start, heard_line, lent_line, show, signal_lines};
+ghost use Rattle.hex.specs.Hex.{encode_lower};
 
 use crate::fault::ToolFault;
-use crate::output::{put, put_digits, put_number, send};
+use crate::line::Line;
+use crate::output::{put, send};
 use crate::report::Report;
-use lis_frame::{FrameFault, FrameOf, ScannerOf, SignalOf};
+use lis_frame::{FrameFault, Heard, LentFrame, ScannerOf};
 use lis_port::{Failed, Sink, Source};
 
 /// The most bytes that are read at a time.
-const ROOM: usize = 4096;
+const ROOM: usize = 65_536;
+
+/// The bytes that are turned into digits at a time.
+const CHUNK: usize = 1024;
 
 /// Reads link bytes to their end and writes a line for each signal; frames have at most `N` bytes
 /// of text. At most `reads` calls of read are made, and the sink is flushed behind the lines of each,
@@ -42,6 +47,7 @@ pub fn run_show_of<const N: usize, R: Source, W: Sink>(
 {
     let mut scanner = ScannerOf::<N>::new();
     let mut buffer = [0; ROOM];
+    let mut line = Line::new();
     let mut written = 0;
     for _turn in 0..reads {
         let count = match source.read(&mut buffer) {
@@ -52,7 +58,7 @@ pub fn run_show_of<const N: usize, R: Source, W: Sink>(
             return Ok(Report { status: 0 });
         }
         let (given, _) = buffer.split_at(count);
-        written = show_bytes(&mut scanner, sink, written, given)?;
+        written = show_bytes(&mut scanner, sink, &mut line, written, given)?;
         send(sink, written)?;
     }
     Err(ToolFault::TooManyReads)
@@ -82,6 +88,7 @@ pub fn run_show<R: Source, W: Sink>(
 fn show_bytes<const N: usize, W: Sink>(
     scanner: &mut ScannerOf<N>,
     sink: &mut W,
+    line: &mut Line,
     written: u64,
     bytes: &[u8],
 ) -> Result<u64, ToolFault>
@@ -95,8 +102,15 @@ fn show_bytes<const N: usize, W: Sink>(
     let mut rest = bytes;
     let mut after = written;
     while let Some((byte, left)) = rest.split_first() {
-        after = show_byte(scanner, sink, after, *byte)?;
-        rest = left;
+        let (taken, frame) = scanner.scan(rest);
+        if taken == 0 {
+            after = show_byte(scanner, sink, line, after, *byte)?;
+            rest = left;
+        } else {
+            after = put_lent(sink, line, after, frame)?;
+            let (_, behind) = rest.split_at(taken);
+            rest = behind;
+        }
     }
     Ok(after)
 }
@@ -105,6 +119,7 @@ fn show_bytes<const N: usize, W: Sink>(
 fn show_byte<const N: usize, W: Sink>(
     scanner: &mut ScannerOf<N>,
     sink: &mut W,
+    line: &mut Line,
     written: u64,
     byte: u8,
 ) -> Result<u64, ToolFault>
@@ -115,81 +130,122 @@ fn show_byte<const N: usize, W: Sink>(
     ensures count { IfOk result (λ after. after ≤ most_counted) }
     ensures failed { W.failed sink.new ≡ is_err result }
 {
-    match scanner.push(byte) {
+    let result = match scanner.told(byte) {
         None => Ok(written),
-        Some(signal) => put_signal(sink, written, &signal),
-    }
+        Some(heard) => put_heard(sink, line, written, &heard),
+    };
+    scanner.take(byte);
+    result
 }
 
 /// Puts out the line of a signal.
-fn put_signal<const N: usize, W: Sink>(
+fn put_heard<W: Sink>(
     sink: &mut W,
+    line: &mut Line,
     written: u64,
-    signal: &SignalOf<N>,
+    heard: &Heard<'_>,
 ) -> Result<u64, ToolFault>
     requires { W.failed sink.old ≡ false }
-    ensures put { Put (W.taken sink.old) (W.taken sink.new) written result (signal_line signal.now) }
+    ensures put { Put (W.taken sink.old) (W.taken sink.new) written result (heard_line heard.now) }
     ensures failed { W.failed sink.new ≡ is_err result }
 {
-    match signal {
-        SignalOf::Enq => put(sink, written, b"ENQ\n"),
-        SignalOf::Eot => put(sink, written, b"EOT\n"),
-        SignalOf::Good(frame) => put_frame(sink, written, frame),
-        SignalOf::Bad(fault) => put_bad(sink, written, *fault),
+    match heard {
+        Heard::Enq => put(sink, written, b"ENQ\n"),
+        Heard::Eot => put(sink, written, b"EOT\n"),
+        Heard::Good(frame) => put_frame(sink, line, written, frame),
+        Heard::Bad(fault) => put_bad(sink, line, written, *fault),
+    }
+}
+
+/// Puts out the line of a frame, where there is one.
+#[inline(always)]
+fn put_lent<W: Sink>(
+    sink: &mut W,
+    line: &mut Line,
+    written: u64,
+    frame: Option<LentFrame<'_>>,
+) -> Result<u64, ToolFault>
+    requires { W.failed sink.old ≡ false }
+    ensures put { Put (W.taken sink.old) (W.taken sink.new) written result (lent_line frame.entry) }
+    ensures failed { W.failed sink.new ≡ is_err result }
+{
+    match frame {
+        None => Ok(written),
+        Some(frame) => put_frame(sink, line, written, &frame),
     }
 }
 
 /// Puts out the line of a frame.
-fn put_frame<const N: usize, W: Sink>(
+fn put_frame<W: Sink>(
     sink: &mut W,
+    line: &mut Line,
     written: u64,
-    frame: &FrameOf<N>,
+    frame: &LentFrame<'_>,
 ) -> Result<u64, ToolFault>
     requires { W.failed sink.old ≡ false }
     ensures put { Put (W.taken sink.old) (W.taken sink.new) written result (frame_line frame.now) }
     ensures failed { W.failed sink.new ≡ is_err result }
 {
-    let text = frame.text().as_slice();
-    let after = put_frame_start(sink, written, frame.number() as u64, frame.is_last())?;
-    let after = put_number(sink, after, text.len() as u64)?;
-    let after = put_text(sink, after, text)?;
-    put(sink, after, b"\n")
-}
-
-/// Puts out the line of a frame as far as the length of its text.
-fn put_frame_start<W: Sink>(
-    sink: &mut W,
-    written: u64,
-    number: u64,
-    last: bool,
-) -> Result<u64, ToolFault>
-    requires { W.failed sink.old ≡ false }
-    ensures put { Put (W.taken sink.old) (W.taken sink.new) written result (frame_start number last) }
-    ensures failed { W.failed sink.new ≡ is_err result }
-{
-    let after = put(sink, written, b"frame ")?;
-    let after = put_number(sink, after, number)?;
-    if last {
-        return put(sink, after, b" end ");
-    }
-    put(sink, after, b" more ")
-}
-
-/// Puts out a space and the bytes in hexadecimal digits, where there are any.
-fn put_text<W: Sink>(sink: &mut W, written: u64, text: &[u8]) -> Result<u64, ToolFault>
-    requires { W.failed sink.old ≡ false }
-    ensures put { Put (W.taken sink.old) (W.taken sink.new) written result (digits_part text.now) }
-    ensures failed { W.failed sink.new ≡ is_err result }
-{
+    let text = frame.text();
+    start_frame(line, frame.number(), frame.is_last(), text.len());
     if text.is_empty() {
-        return Ok(written);
+        return put_digits(sink, line, written, text);
     }
-    let after = put(sink, written, b" ")?;
-    put_digits(sink, after, text)
+    line.append(b" ");
+    put_digits(sink, line, written, text)
+}
+
+/// Gathers the line of a frame as far as the length of its text.
+#[inline(always)]
+fn start_frame(line: &mut Line, number: u8, last: bool, count: usize)
+    ensures value { line.new ≡ frame_start number last ++ decimal count }
+    ensures short { length line.new ≤ 92 }
+{
+    line.clear();
+    line.append(b"frame ");
+    line.append_number(number as u64);
+    if last {
+        line.append(b" end ");
+    } else {
+        line.append(b" more ");
+    }
+    line.append_number(count as u64);
+}
+
+/// Puts out the line that is gathered, with the digits of bytes and LF behind it.
+#[inline(always)]
+fn put_digits<W: Sink>(
+    sink: &mut W,
+    line: &mut Line,
+    written: u64,
+    bytes: &[u8],
+) -> Result<u64, ToolFault>
+    requires working { W.failed sink.old ≡ false }
+    requires short { length line.old ≤ 93 }
+    ensures put { Put (W.taken sink.old) (W.taken sink.new) written result (line.old ++ encode_lower bytes.now ++ codes "\n") }
+    ensures failed { W.failed sink.new ≡ is_err result }
+{
+    let mut rest = bytes;
+    let mut after = written;
+    while rest.len() > CHUNK {
+        let (front, left) = rest.split_at(CHUNK);
+        line.append_digits(front);
+        after = put(sink, after, line.as_slice())?;
+        line.clear();
+        rest = left;
+    }
+    line.append_digits(rest);
+    line.append(b"\n");
+    put(sink, after, line.as_slice())
 }
 
 /// Puts out the line of a bad frame.
-fn put_bad<W: Sink>(sink: &mut W, written: u64, fault: FrameFault) -> Result<u64, ToolFault>
+fn put_bad<W: Sink>(
+    sink: &mut W,
+    line: &mut Line,
+    written: u64,
+    fault: FrameFault,
+) -> Result<u64, ToolFault>
     requires { W.failed sink.old ≡ false }
     ensures put { Put (W.taken sink.old) (W.taken sink.new) written result (bad_line fault) }
     ensures failed { W.failed sink.new ≡ is_err result }
@@ -198,18 +254,20 @@ fn put_bad<W: Sink>(sink: &mut W, written: u64, fault: FrameFault) -> Result<u64
         FrameFault::TooLong => put(sink, written, b"bad F1\n"),
         FrameFault::Shape => put(sink, written, b"bad F2\n"),
         FrameFault::Number => put(sink, written, b"bad F3\n"),
-        FrameFault::Text(place) => put_bad_text(sink, written, place as u64),
+        FrameFault::Text(place) => {
+            bad_text_line(line, place);
+            put(sink, written, line.as_slice())
+        }
         FrameFault::Sum => put(sink, written, b"bad F5\n"),
     }
 }
 
-/// Puts out the line of a frame with a forbidden byte at this place of its text.
-fn put_bad_text<W: Sink>(sink: &mut W, written: u64, place: u64) -> Result<u64, ToolFault>
-    requires { W.failed sink.old ≡ false }
-    ensures put { Put (W.taken sink.old) (W.taken sink.new) written result (bad_line (FrameFault.Text place)) }
-    ensures failed { W.failed sink.new ≡ is_err result }
+/// Gathers the line of a frame with a forbidden byte at this place of its text.
+fn bad_text_line(line: &mut Line, place: usize)
+    ensures { line.new ≡ bad_line (FrameFault.Text place) }
 {
-    let after = put(sink, written, b"bad F4 ")?;
-    let after = put_number(sink, after, place)?;
-    put(sink, after, b"\n")
+    line.clear();
+    line.append(b"bad F4 ");
+    line.append_number(place as u64);
+    line.append(b"\n");
 }

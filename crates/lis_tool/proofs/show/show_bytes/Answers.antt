@@ -1,12 +1,14 @@
-use Rattle.std.proofs.Common.{[], ◌∷◌, Ok}
-use Rattle.lis_frame.specs.Stream.{signal_after, signals_after, with_signal}
-use Rattle.lis_tool.specs.Show.{signal_lines}
-use Rattle.lis_tool.proofs.PutLaws.{put_then, put_none}
-use Rattle.lis_tool.proofs.ShowLaws.{signal_lines-with, no_lines}
+use Rattle.std.proofs.Common.{[], ◌∷◌, ◌++◌, List, ℕ, Ok, Err, take, drop, ◌∙◌, arith}
+use Rattle.std.proofs.lemmas.Result.{err_from_is_err_and}
+use Rattle.lis_frame.specs.Scanner.{StandsFor}
+use Rattle.lis_frame.specs.Stream.{signal_after, signals_after, stream_with, with_signal}
+use Rattle.lis_tool.specs.Show.{lent_line, signal_lines}
+use Rattle.lis_tool.proofs.PutLaws.{put_then, put_stops, put_none}
+use Rattle.lis_tool.proofs.ShowLaws.{signal_lines-with, no_lines, front_lines, front_stream}
 use Rattle.lis_tool.proofs.show.show_bytes.Goals as goal
 
-pub loop-byte-preserved : goal.loop-byte-preserved
-loop-byte-preserved g c =
+pub loop-byte-preserved-then-taken-eq0 : goal.loop-byte-preserved-then-taken-eq0
+loop-byte-preserved-then-taken-eq0 g c =
     let split = c.in-Some.ensures.cases.0 in
     record {
       fits = c.in_ok-after.ensures.count;
@@ -14,17 +16,52 @@ loop-byte-preserved g c =
       goes_on = λ past stands.
           let point = c.loop-byte.invariant.goes_on past stands in
           let byte = c.in-Some.byte.now in
-          let left = c.in-Some.left.now in (
+          let left = c.in-Some.left.now in
+          let same : StandsFor g.row.N c.scan-taken.new.self point.0 = rw c.if-taken-eq0.true at (c.scan-taken.ensures.after point.0 point.1) in (
             byte ∷ point.0,
-            c.in_ok-after.ensures.stands point.0 point.1,
+            c.in_ok-after.ensures.stands point.0 same,
             rw split at point.2,
             λ new r p.
                 (rw split at point.3) new r
                 (rw (signal_lines-with (signal_after g.row.N point.0 byte) (signals_after g.row.N (byte ∷ point.0) left))
                 (put_then _ _ _ _ c.in_ok-after.after r (signal_lines (with_signal (signal_after g.row.N point.0 byte) []))
-                (signal_lines (signals_after g.row.N (byte ∷ point.0) left)) (c.in_ok-after.ensures.put point.0 point.1) p)),
+                (signal_lines (signals_after g.row.N (byte ∷ point.0) left)) (c.in_ok-after.ensures.put point.0 same) p)),
           );
     }
+
+pub loop-byte-preserved : goal.loop-byte-preserved
+loop-byte-preserved g c =
+    let n = c.scan-taken.result.0 in
+    let frame = c.scan-taken.result.1 in
+    let rest = c.loop-byte.rest.now in
+    record {
+      fits = omega (arith, c.in_ok-after-2.ensures.put.counted);
+      working = c.in_ok-after-2.ensures.failed;
+      goes_on = λ past stands.
+          let point = c.loop-byte.invariant.goes_on past stands in
+          let there = stream_with point.0 (take n rest) in (
+            there,
+            c.scan-taken.ensures.after point.0 point.1,
+            rw c.split_at.ensures.back (front_stream n point.0 rest ∙ point.2),
+            λ new r p.
+                point.3 new r
+                (rw (front_lines g.row.N n point.0 rest frame (c.scan-taken.ensures.signal point.0 point.1))
+                (put_then _ _ _ _ c.in_ok-after-2.after r (lent_line frame) (signal_lines (signals_after g.row.N there (drop n rest)))
+                c.in_ok-after-2.ensures.put (rw c.split_at.ensures.back at p))),
+          );
+    }
+
+pub returns-in_err-after-2-clause-put : goal.returns-in_err-after-2-clause-put
+returns-in_err-after-2-clause-put g c = λ past stands.
+    let p = err_from_is_err_and c.from_residual-in_err-after-2.result c.from_residual-in_err-after-2.ensures.1 in
+    let point = c.loop-byte.invariant.goes_on past stands in
+    let n = c.scan-taken.result.0 in
+    let frame = c.scan-taken.result.1 in
+    let rest = c.loop-byte.rest.now in
+    rw (p.1, p.2)
+    (point.3 (g.W.Sink.taken c.put_lent.new.sink) (Err c.in_err-after-2.field-0.0)
+    (rw (front_lines g.row.N n point.0 rest frame (c.scan-taken.ensures.signal point.0 point.1))
+    (put_stops _ _ _ c.in_err-after-2.field-0.0 (lent_line frame) _ c.in_err-after-2.ensures.put)))
 
 pub returns-clause-put : goal.returns-clause-put
 returns-clause-put g c = λ past stands.

@@ -1,12 +1,13 @@
 use Rattle.std.proofs.Common.{◌≡◌, ℕ, false, ◌≤◌, List, Option, length}
 use Rattle.std.specs.declared.result.Result.{Result}
 use Rattle.lis_frame.specs.Scanner.{StandsFor}
-use Rattle.lis_frame.specs.Stream.{signals_after, stream_with}
+use Rattle.lis_frame.specs.Stream.{stream_with, signals_after}
 use Rattle.lis_tool.specs.declared.fault.ToolFault.{ToolFault}
 use Rattle.lis_tool.specs.Output.{Put, most_counted}
 use Rattle.lis_tool.specs.Show.{signal_lines}
 use Rattle.lis_tool.proofs.show.show_bytes.Given as goal
 
+-- whatever puts out the lines of the rest from here puts out all lines from the start
 abbrev pub invariant-loop-byte : goal.invariant-loop-byte
 invariant-loop-byte g l = record {
   fits : l.after ≤ most_counted;

@@ -1,7 +1,7 @@
 use Rattle.std.proofs.Common.{refl, sym, arith, ◌≡◌, true, ◌+◌}
 use Rattle.std.specs.Prelude.{nat_lt}
 use Rattle.std.proofs.lemmas.Bool.Decides.{nat_tests}
-use Rattle.lis_frame.proofs.KeptLemmas.{kept_held-push, kept_held-beyond, kept_bytes-few, kept_bytes-many, first_forbidden-push, sum-push}
+use Rattle.lis_frame.proofs.KeptLemmas.{kept_held-push, kept_held-beyond, kept_bytes-few, kept_bytes-many}
 use Rattle.lis_frame.proofs.stretch.StretchOf.push.Goals as goal
 
 pub returns-then-self : goal.returns-then-self
@@ -21,11 +21,6 @@ invariant_of-self-2 g c = record {
   is_limit = c.self.invariant.is_limit;
   counted = omega arith;
   settled = λ h. omega (arith, c.push.ensures.len, c.self.invariant.settled (omega arith));
-  placed =
-      rw (c.push.ensures.items, c.first_place-self-inside.ensures, c.len.ensures.value, c.self.invariant.placed)
-      (sym (first_forbidden-push c.self.inside.text.items c.self.inside.end));
-  summed = λ h.
-      rw c.push.ensures.items (sum-push c.self.inside.text.items c.self.inside.end c.self.inside.number _ (c.self.invariant.summed (omega arith)));
 }
 
 pub returns : goal.returns
