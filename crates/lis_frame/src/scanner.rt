@@ -1,6 +1,7 @@
 //! The scanner: bytes of the link in, signals out (LIS01-A2, 6.2 to 6.5).
 
-ghost use Rattle.std.specs.Prelude.{◌≡◌, ◌≤◌, ℕ, List, [], ◌∷◌, length, take};
+ghost use Rattle.std.specs.Prelude.{◌≡◌, ◌≤◌, ℕ, List, [], ◌∷◌, IfSome, length, take};
+ghost use Rattle.lis_frame.specs.Frame.{IsFrame};
 ghost use Rattle.lis_frame.specs.Limit.{IsLimit};
 ghost use Rattle.lis_frame.specs.Stream.{signal_after, signals_after, stream_with};
 ghost use Rattle.lis_frame.specs.Scanner.{StandsFor, held_signal, held_after, heard_signal, lent_signals, with_bytes};
@@ -118,6 +119,7 @@ impl<const N: usize> ScannerOf<N> {
     /// frame that is lent and no other signal, and afterwards the scanner stands for the stream with them.
     pub fn scan<'a>(&mut self, bytes: &'a [u8]) -> (usize, Option<LentFrame<'a>>)
         ensures bound { result.0 ≤ length bytes.now }
+        ensures frame { IfSome result.1 (λ frame. IsFrame N (take result.0 bytes.now) frame) }
         ensures signal { (past : List ℕ) → StandsFor N self.old past →
             signals_after N past (take result.0 bytes.now) ≡ lent_signals result.1 }
         ensures after { (past : List ℕ) → StandsFor N self.old past →

@@ -4,6 +4,10 @@ use Rattle.lis_frame.proofs.ChunkLemmas.{clean-before}
 use Rattle.lis_frame.proofs.StreamLaws.{clean_run, heard_frame}
 use Rattle.lis_frame.proofs.scanner.ScannerOf.scan.Goals as goal
 
+pub returns-in-Some-front_frame-clause-frame : goal.returns-in-Some-front_frame-clause-frame
+returns-in-Some-front_frame-clause-frame g c =
+    rw (c.in-Some.ensures.cases.0, c.if-byte-eq-STX.true, add-one c.in-Some-front_frame.count) c.in-Some-front_frame.ensures.frame
+
 pub returns-in-Some-front_frame-clause-signal : goal.returns-in-Some-front_frame-clause-signal
 returns-in-Some-front_frame-clause-signal g c = λ past stands.
     rw (c.in-Some.ensures.cases.0, c.if-byte-eq-STX.true, add-one c.in-Some-front_frame.count)
