@@ -1,4 +1,5 @@
 -- What follows of the definitions of the two ends.
+pub mod HearingLaws
 pub mod JoiningLaws
 pub mod Receiving
 pub mod QueueLaws

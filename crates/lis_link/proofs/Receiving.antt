@@ -6,18 +6,19 @@ use Rattle.lis_frame.specs.Frame.{FrameContent}
 use Rattle.lis_link.specs.declared.receiver.Note.TheVariants.{Accepted}
 use Rattle.lis_link.specs.declared.receiver.Step.{Step}
 use Rattle.lis_link.specs.Joining.{held_after, completed}
-use Rattle.lis_link.specs.Kept.{Kept}
+use Rattle.lis_frame.specs.Scanner.{Held}
+use Rattle.lis_link.specs.Kept.{Kept, KeptLine, kept_of}
 use Rattle.lis_link.specs.Receiver.{ReceiverState, judged_by, judged, on_judged, heard_by, held_text}
 use Rattle.lis_link.specs.Stands.{IsIn, IsTaken, Makes}
 use Rattle.lis_link.proofs.JoiningLaws.{rest-append}
 
 taken_step :
-    (limit : ℕ) (old new : Kept) (r : ReceiverState) (f : FrameContent) (n : ℕ) (result : Step)
-    → IsIn limit old r
+    (limit : ℕ) (scanner : Held) (old new : KeptLine) (r : ReceiverState) (f : FrameContent) (n : ℕ) (result : Step)
+    → IsIn limit (kept_of old scanner) r
     → r.is_open ≡ true
     → IsTaken old f n result new
-    → Makes limit (on_judged r f (Accepted n)) result new
-taken_step limit old new r f n result is_in open_is taken =
+    → Makes limit (on_judged r f (Accepted n)) result (kept_of new scanner)
+taken_step limit scanner old new r f n result is_in open_is taken =
     let held : old.held ≡ held_text r = is_in.held_is open_is in
     record {
       answer = record {
@@ -25,7 +26,7 @@ taken_step limit old new r f n result is_in open_is taken =
         message_is = taken.message_is ∙ ap (λ t. completed t f) held;
         note_is = taken.note_is;
       };
-      state = subst (λ k. IsIn limit k (record r { accepted = r.accepted ++ f ∷ [] })) (sym taken.new_is) (record {
+      state = subst (λ k. IsIn limit (kept_of k scanner) (record r { accepted = r.accepted ++ f ∷ [] })) (sym taken.new_is) (record {
         open_is = is_in.open_is;
         accepted_is = ap (λ k. k + 1) is_in.accepted_is ∙ sym (length_push r.accepted f);
         readiness_is = is_in.readiness_is;
@@ -37,13 +38,13 @@ taken_step limit old new r f n result is_in open_is taken =
 
 -- a frame that was found acceptable, and taken
 pub accepted_step :
-    (limit : ℕ) (old new : Kept) (r : ReceiverState) (f : FrameContent) (n : ℕ) (result : Step)
-    → IsIn limit old r
+    (limit : ℕ) (scanner : Held) (old new : KeptLine) (r : ReceiverState) (f : FrameContent) (n : ℕ) (result : Step)
+    → IsIn limit (kept_of old scanner) r
     → old.is_open ≡ true
     → Accepted n ≡ judged_by old.accepted (length old.held) old.room f.number (length f.text)
     → IsTaken old f n result new
-    → Makes limit (heard_by {limit = limit} r.is_open (Good f) r) result new
-accepted_step limit old new r f n result is_in is_open found taken =
+    → Makes limit (heard_by {limit = limit} r.is_open (Good f) r) result (kept_of new scanner)
+accepted_step limit scanner old new r f n result is_in is_open found taken =
     let open_is : r.is_open ≡ true = sym is_in.open_is ∙ is_open in
     let held : length old.held ≡ length (held_text r) = ap length (is_in.held_is open_is) in
     let found_is : Accepted n ≡ judged r f =
@@ -51,6 +52,6 @@ accepted_step limit old new r f n result is_in is_open found taken =
     ∙ ap (λ a. judged_by a (length old.held) old.room f.number (length f.text)) is_in.accepted_is
     ∙ ap (λ h. judged_by (length r.accepted) h old.room f.number (length f.text)) held
     ∙ ap (λ m. judged_by (length r.accepted) (length (held_text r)) m f.number (length f.text)) is_in.room_is in
-    let step = taken_step limit old new r f n result is_in open_is taken in
-    subst (λ o. Makes limit (heard_by {limit = limit} o (Good f) r) result new) (sym open_is)
-    (subst (λ note. Makes limit (on_judged r f note) result new) found_is step)
+    let step = taken_step limit scanner old new r f n result is_in open_is taken in
+    subst (λ o. Makes limit (heard_by {limit = limit} o (Good f) r) result (kept_of new scanner)) (sym open_is)
+    (subst (λ note. Makes limit (on_judged r f note) result (kept_of new scanner)) found_is step)

@@ -4,7 +4,7 @@ use Rattle.lis_frame.specs.declared.control.TheConstants.{ENQ, ACK, NAK}
 use Rattle.lis_frame.specs.declared.scanner.SignalOf.{SignalOf}
 use Rattle.lis_frame.specs.declared.scanner.SignalOf.TheVariants.{Enq, Eot, Good, Bad}
 use Rattle.lis_frame.specs.Frame.{FrameContent}
-use Rattle.lis_frame.specs.Stream.{signal_after}
+use Rattle.lis_frame.specs.Stream.{signal_after, stream_with}
 use Rattle.lis_link.specs.declared.receiver.Readiness.{Readiness}
 use Rattle.lis_link.specs.declared.receiver.Readiness.TheVariants.{Ready, Busy, Contending}
 use Rattle.lis_link.specs.declared.receiver.Note.{Note}
@@ -109,6 +109,25 @@ heard (Some signal) r = heard_by r.is_open signal r
 
 abbrev pub on_byte : ℕ → ℕ → ReceiverState → ReceiverStep
 on_byte limit b r = heard (signal_after limit r.past b) (record r { past = b ∷ r.past })
+
+-- the state with more bytes heard that changed nothing else
+abbrev pub with_heard : List ℕ → ReceiverState → ReceiverState
+with_heard bytes r = record r { past = stream_with r.past bytes }
+
+-- bytes that are heard at once: how many they are, and the step of the last one
+pub record ReceiverHearing : Type 0 where
+  pub count : ℕ
+  pub step : ReceiverStep
+
+-- so many bytes were heard, the last of them with this step: where it is quiet it goes on with those behind them
+abbrev pub heard_on : ℕ → Note → ReceiverStep → ReceiverHearing → ReceiverHearing
+heard_on count Quiet step behind = record { count = count + behind.count; step = behind.step }
+heard_on count note step behind = record { count = count; step = step }
+
+-- bytes are heard up to the first that is not quiet, and all of them where each is quiet
+abbrev pub on_bytes : ℕ → List ℕ → ReceiverState → ReceiverHearing
+on_bytes limit [] r = record { count = 0; step = answers None Quiet r }
+on_bytes limit (b ∷ bytes) r = heard_on 1 (on_byte limit b r).note (on_byte limit b r) (on_bytes limit bytes (with_heard (b ∷ []) r))
 
 -- the receiver's timer runs out
 abbrev pub timer_by : Bool → ReceiverState → ReceiverStep

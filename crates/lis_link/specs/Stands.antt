@@ -1,13 +1,14 @@
 -- What a receiver of the program stands for: it counts the frames that it accepted and keeps the held text alone.
-use Rattle.std.specs.Prelude.{◌≡◌, ℕ, ◌+◌, ◌<◌, ◌≤◌, true, false, length, Option, None, Some}
+use Rattle.std.specs.Prelude.{◌≡◌, ◌≢◌, ℕ, ◌+◌, ◌<◌, ◌≤◌, true, false, List, length, take, drop, Option, None, Some}
 use Rattle.lis_frame.specs.declared.control.TheConstants.{ACK, NAK}
 use Rattle.lis_frame.specs.Frame.{FrameContent}
 use Rattle.lis_frame.specs.Scanner.{StandsFor}
-use Rattle.lis_link.specs.declared.receiver.Note.TheVariants.{Accepted}
+use Rattle.lis_link.specs.declared.receiver.Hearing.{Hearing}
+use Rattle.lis_link.specs.declared.receiver.Note.TheVariants.{Accepted, OutOfMemory, Quiet}
 use Rattle.lis_link.specs.declared.receiver.Step.{Step}
 use Rattle.lis_link.specs.Joining.{completed, held_after}
-use Rattle.lis_link.specs.Kept.{Kept}
-use Rattle.lis_link.specs.Receiver.{ReceiverState, ReceiverStep, held_text}
+use Rattle.lis_link.specs.Kept.{Kept, KeptLine}
+use Rattle.lis_link.specs.Receiver.{ReceiverState, ReceiverStep, answers, held_text, heard_on, on_bytes, with_heard}
 
 -- a receiver that keeps this is in this state
 pub record IsIn (limit : ℕ) (kept : Kept) (r : ReceiverState) : Type 0 where
@@ -46,8 +47,19 @@ SpareAfter before after None = before ≤ after
 SpareAfter before after (Some frame) = frame.last ≡ false → before ≤ after + length frame.text
 
 -- a frame was taken: what is held and handed out, and that nothing else but the count has changed
-pub record IsTaken (old : Kept) (frame : FrameContent) (number : ℕ) (result : Step) (new : Kept) : Type 0 where
+pub record IsTaken (old : KeptLine) (frame : FrameContent) (number : ℕ) (result : Step) (new : KeptLine) : Type 0 where
   pub reply_is : result.reply ≡ Some ACK
   pub message_is : result.message ≡ completed old.held frame
   pub note_is : result.note ≡ Accepted number
   pub new_is : new ≡ record old { accepted = old.accepted + 1; held = held_after old.held frame; spare = new.spare }
+
+-- the front of bytes was heard: all but its last byte were quiet, this step is meant for the last, and it was made or
+-- refused; where it is quiet too, nothing has changed but the stream
+pub record HearsFront (limit : ℕ) (bytes : List ℕ) (r : ReceiverState) (spare : ℕ) (result : Hearing) (new : Kept) : Type 0 where
+  pub meant : ReceiverStep
+  pub goes_on : on_bytes limit bytes r
+      ≡ heard_on result.count meant.note meant (on_bytes limit (drop result.count bytes) (with_heard (take result.count bytes) r))
+  pub quiet : meant.note ≡ Quiet → meant ≡ answers None Quiet (with_heard (take result.count bytes) r)
+  pub makes : result.step.note ≢ OutOfMemory → Makes limit meant result.step new
+  pub refused : result.step.note ≡ OutOfMemory → IsRefused limit spare meant (with_heard (take result.count bytes) r) result.step new
+  pub spare_after : SpareAfter spare new.spare meant.taken

@@ -8,5 +8,5 @@ pub mod sender;
 #[cfg(test)]
 mod tests;
 
-pub use receiver::{MOST_FRAMES, Note, Readiness, Receiver, ReceiverOf, Step};
+pub use receiver::{Hearing, MOST_FRAMES, Note, Readiness, Receiver, ReceiverOf, Step};
 pub use sender::{Emit, EmitOf, Outcome, Phase, Sender, SenderOf, StartFault, StartRefused};

@@ -1,21 +1,19 @@
 //! The receiving end (LIS01-A2, 6.3 to 6.6).
 
-ghost use Rattle.std.specs.Prelude.{◌≡◌, ◌≢◌, ◌≤◌, ◌<◌, ◌+◌, ◌^◌, ◌∷◌, length, [], IsTrue, OnOk, None, Some, false};
+ghost use Rattle.std.specs.Prelude.{◌≡◌, ◌≢◌, ◌≤◌, ◌<◌, ◌∷◌, length, take, OnOk, None};
 ghost use Rattle.lis_frame.specs.Limit.{IsLimit};
 ghost use Rattle.lis_frame.specs.Text.{longest_text};
 ghost use Rattle.lis_frame.specs.Scanner.{StandsFor};
-ghost use Rattle.lis_link.specs.Receiver.{ReceiverState, new_receiver, bid_with, judged_by, found_reply, heard_by, heard, on_byte, on_receiver_timer, receiver_restarted, with_readiness, with_room};
-ghost use Rattle.lis_frame.specs.declared.scanner.SignalOf.TheVariants as Signals;
-ghost use Rattle.lis_frame.specs.declared.control.TheConstants.{NAK};
+ghost use Rattle.lis_link.specs.Receiver.{ReceiverState, new_receiver, on_byte, on_bytes, on_receiver_timer, receiver_restarted, with_heard, with_readiness, with_room};
 ghost use Rattle.lis_link.specs.declared.receiver.Note.TheVariants as Notes;
-ghost use Rattle.lis_link.specs.Stands.{IsIn, Makes, IsRefused, IsTaken, SpareAfter};
+ghost use Rattle.lis_link.specs.Stands.{IsIn, Makes, IsRefused, SpareAfter, HearsFront};
 
-use lis_frame::control::{ACK, ENQ, NAK};
-use lis_frame::{FrameFault, FrameOf, LONGEST_TEXT, LinkText, List, ScannerOf, SignalOf};
+use crate::receiver::line::Line;
+use lis_frame::{FrameFault, LinkText, ScannerOf};
 use std::alloc::{AllocError, Global};
 use std::marker::Model;
-use std::mem;
 
+mod line;
 mod state;
 
 /// How the receiver answers an ENQ.
@@ -69,6 +67,13 @@ pub struct Step {
     pub note: Note,
 }
 
+/// What was heard of bytes: how many of them, and the step of the last one.
+#[derive(Drop)]
+pub struct Hearing {
+    pub count: usize,
+    pub step: Step,
+}
+
 /// The most frames that a receiver counts in a session.
 pub const MOST_FRAMES: u64 = 4_294_967_295;
 
@@ -76,34 +81,19 @@ pub const MOST_FRAMES: u64 = 4_294_967_295;
 /// frame.
 #[derive(Drop)]
 pub struct ReceiverOf<const N: usize> {
-    alloc: Global,
-    is_open: bool,
-    accepted: u64,
-    readiness: Readiness,
-    room: bool,
-    held: Vec<u8>,
+    line: Line,
     scanner: ScannerOf<N>,
 }
 
 impl<const N: usize> Model for ReceiverOf<N> {
-    ghost use Rattle.std.specs.Prelude.{◌-◌, ◌≤◌, length, vec_len, vec_capacity};
     ghost use Rattle.lis_frame.specs.Limit.{IsLimit};
-    ghost use Rattle.lis_frame.specs.Text.{longest_text};
-    ghost use Rattle.lis_link.specs.Kept.{Kept};
+    ghost use Rattle.lis_link.specs.Kept.{Kept, kept_of};
 
     ghost Value = { Kept };
 
-    ghost view = { λ r. record {
-      is_open = r.is_open;
-      accepted = r.accepted;
-      readiness = r.readiness;
-      room = r.room;
-      held = r.held.items;
-      scanner = r.scanner;
-      spare = vec_capacity r.held - vec_len r.held;
-    } };
+    ghost view = { λ r. kept_of r.line r.scanner };
 
-    ghost invariant = { λ r. IsLimit N × (length r.held.items ≤ longest_text) × (r.accepted ≤ 4294967295) };
+    ghost invariant = { λ r. IsLimit N };
 }
 
 /// A receiver with the usual limit on a frame's text.
@@ -129,12 +119,7 @@ impl<const N: usize> ReceiverOf<N> {
         ensures { IsIn N result new_receiver }
     {
         ReceiverOf {
-            alloc,
-            is_open: false,
-            accepted: 0,
-            readiness: Readiness::Ready,
-            room: true,
-            held: Vec::new(alloc),
+            line: Line::new(alloc),
             scanner: ScannerOf::new(),
         }
     }
@@ -151,7 +136,7 @@ impl<const N: usize> ReceiverOf<N> {
         ensures state { (r : ReceiverState) → IsIn N self.old r → IsIn N self.new (with_readiness readiness r) }
         ensures spare { self.new.spare ≡ self.old.spare }
     {
-        self.readiness = readiness;
+        self.line.set_ready(readiness);
     }
 
     /// Whether there is room for another frame from now on.
@@ -159,7 +144,7 @@ impl<const N: usize> ReceiverOf<N> {
         ensures state { (r : ReceiverState) → IsIn N self.old r → IsIn N self.new (with_room room r) }
         ensures spare { self.new.spare ≡ self.old.spare }
     {
-        self.room = room;
+        self.line.set_room(room);
     }
 
     /// The receiver is neutral, ready and has room again, and has heard no byte; the count of
@@ -168,10 +153,7 @@ impl<const N: usize> ReceiverOf<N> {
         ensures state { (r : ReceiverState) → IsIn N self.old r → IsIn N self.new (receiver_restarted r) }
         ensures spare { self.old.spare ≤ self.new.spare }
     {
-        self.is_open = false;
-        self.readiness = Readiness::Ready;
-        self.room = true;
-        self.held.clear();
+        self.line.restart();
         self.scanner = ScannerOf::new();
     }
 
@@ -180,12 +162,7 @@ impl<const N: usize> ReceiverOf<N> {
         ensures step { (r : ReceiverState) → IsIn N self.old r → Makes N (on_receiver_timer r) result self.new }
         ensures spare { self.old.spare ≤ self.new.spare }
     {
-        if !self.is_open {
-            return Step::of(None, Note::Quiet);
-        }
-        self.is_open = false;
-        self.held.clear();
-        Step::of(None, Note::TimedOut)
+        self.line.timer()
     }
 
     /// Makes room for `bytes` more bytes of held text, so that taking them takes no memory. Where
@@ -196,7 +173,7 @@ impl<const N: usize> ReceiverOf<N> {
         ensures state { (r : ReceiverState) → IsIn N self.old r → IsIn N self.new r }
         ensures spare { self.old.spare ≤ self.new.spare }
     {
-        self.held.reserve(bytes as usize)
+        self.line.reserve(bytes)
     }
 
     /// Hears one byte and answers it. A byte that gives no signal is quiet; ENQ, EOT and frames are
@@ -213,163 +190,69 @@ impl<const N: usize> ReceiverOf<N> {
             IsRefused N self.old.spare (on_byte N byte r) (record r { past = byte ∷ r.past }) result self.new }
         ensures spare { (r : ReceiverState) → IsIn N self.old r → SpareAfter self.old.spare self.new.spare (on_byte N byte r).taken }
     {
-        match self.scanner.push(byte) {
-            None => Step::of(None, Note::Quiet),
-            Some(signal) => self.hear(signal),
-        }
+        let step = self.line.hear(self.scanner.told(byte));
+        self.scanner.take(byte);
+        step
     }
 
-    /// Answers a signal.
-    fn hear(&mut self, signal: SignalOf<N>) -> Step
-        ensures step { (r : ReceiverState) → IsIn N self.old r → result.note ≢ Notes.OutOfMemory →
-            Makes N (heard_by r.is_open signal.entry r) result self.new }
-        ensures refused { (r : ReceiverState) → IsIn N self.old r → result.note ≡ Notes.OutOfMemory →
-            IsRefused N self.old.spare (heard_by r.is_open signal.entry r) r result self.new }
-        ensures spare { (r : ReceiverState) → IsIn N self.old r → SpareAfter self.old.spare self.new.spare (heard_by r.is_open signal.entry r).taken }
-    {
-        match signal {
-            SignalOf::Enq => self.bid(),
-            SignalOf::Eot => self.end(),
-            SignalOf::Good(frame) => self.good(&frame),
-            SignalOf::Bad(fault) => self.bad(fault),
-        }
-    }
-
-    /// Answers ENQ, by the readiness.
-    fn bid(&mut self) -> Step
-        ensures step { (r : ReceiverState) → IsIn N self.old r → Makes N (bid_with r.readiness r) result self.new }
-        ensures note { result.note ≢ Notes.OutOfMemory }
-        ensures spare { self.old.spare ≤ self.new.spare }
-    {
-        self.held.clear();
-        match self.readiness {
-            Readiness::Ready => {
-                self.is_open = true;
-                self.accepted = 0;
-                Step::of(Some(ACK), Note::Opened)
-            }
-            Readiness::Busy => {
-                self.is_open = false;
-                Step::of(Some(NAK), Note::NotReady)
-            }
-            Readiness::Contending => {
-                self.is_open = false;
-                self.readiness = Readiness::Ready;
-                Step::of(Some(ENQ), Note::NotReady)
-            }
-        }
-    }
-
-    /// Hears EOT.
-    fn end(&mut self) -> Step
-        ensures step { (r : ReceiverState) → IsIn N self.old r → Makes N (heard_by {limit = N} r.is_open Signals.Eot r) result self.new }
-        ensures note { result.note ≢ Notes.OutOfMemory }
-        ensures spare { self.old.spare ≤ self.new.spare }
-    {
-        if !self.is_open {
-            return Step::of(None, Note::Quiet);
-        }
-        self.is_open = false;
-        self.held.clear();
-        Step::of(None, Note::Ended)
-    }
-
-    /// Answers bytes that are no frame.
-    fn bad(&mut self, fault: FrameFault) -> Step
-        ensures step { (r : ReceiverState) → IsIn N self.old r → Makes N (heard_by {limit = N} r.is_open (Signals.Bad fault) r) result self.new }
-        ensures note { result.note ≢ Notes.OutOfMemory }
-        ensures spare { self.old.spare ≤ self.new.spare }
-    {
-        if !self.is_open {
-            return Step::of(None, Note::Quiet);
-        }
-        Step::of(Some(NAK), Note::Refused(fault))
-    }
-
-    /// Answers a good frame.
-    fn good(&mut self, frame: &FrameOf<N>) -> Step
-        ensures step { (r : ReceiverState) → IsIn N self.old r → result.note ≢ Notes.OutOfMemory →
-            Makes N (heard_by {limit = N} r.is_open (Signals.Good frame.now) r) result self.new }
-        ensures refused { (r : ReceiverState) → IsIn N self.old r → result.note ≡ Notes.OutOfMemory →
-            IsRefused N self.old.spare (heard_by {limit = N} r.is_open (Signals.Good frame.now) r) r result self.new }
+    /// Hears bytes up to the first that is not quiet, or all of them where each is quiet, and answers how many they
+    /// are and the step of the last one. `byte` is the case of one byte. A frame's text is copied once, behind the
+    /// held text.
+    ///
+    /// Whatever state the receiver stands for, this is what the definition says, and memory may be refused as for
+    /// `byte`; but for the bytes heard the state is then as before.
+    pub fn bytes(&mut self, bytes: &[u8]) -> Hearing
+        ensures count { (r : ReceiverState) → IsIn N self.old r → result.count ≡ (on_bytes N bytes.now r).count }
+        ensures step { (r : ReceiverState) → IsIn N self.old r → result.step.note ≢ Notes.OutOfMemory →
+            Makes N (on_bytes N bytes.now r).step result.step self.new }
+        ensures refused { (r : ReceiverState) → IsIn N self.old r → result.step.note ≡ Notes.OutOfMemory →
+            IsRefused N self.old.spare (on_bytes N bytes.now r).step (with_heard (take result.count bytes.now) r) result.step self.new }
         ensures spare { (r : ReceiverState) → IsIn N self.old r →
-            SpareAfter self.old.spare self.new.spare (heard_by {limit = N} r.is_open (Signals.Good frame.now) r).taken }
-    {
-        if !self.is_open {
-            return Step::of(None, Note::Quiet);
-        }
-        let note = self.judge(frame.number(), frame.text().as_slice().len());
-        if let Note::Accepted(number) = note {
-            return self.accept(frame, number);
-        }
-        Step::of(Some(found_reply(note)), note)
-    }
+            SpareAfter self.old.spare self.new.spare (on_bytes N bytes.now r).step.taken }
 
-    /// Takes a frame: its text is held or, behind the held text, handed out.
-    fn accept(&mut self, frame: &FrameOf<N>, number: u8) -> Step
-        requires open { IsTrue self.old.is_open }
-        requires countable { self.old.accepted < 4294967295 }
-        requires short { length self.old.held + length frame.now.text ≤ longest_text }
-        ensures taken { result.note ≢ Notes.OutOfMemory → IsTaken self.old frame.now number result self.new }
-        ensures refused { result.note ≡ Notes.OutOfMemory → (self.old.spare < length frame.now.text)
-            × (result.reply ≡ Some NAK) × (result.message ≡ None)
-            × (self.old.spare ≤ self.new.spare) × (self.new ≡ record self.old { spare = self.new.spare }) }
-        ensures spare { frame.now.last ≡ false → self.old.spare ≤ self.new.spare + length frame.now.text }
+        // What is told without a state: some bytes are heard, and all of them where the step is quiet.
+        ensures bound { result.count ≤ length bytes.now }
+        ensures some { 0 < length bytes.now → 0 < result.count }
+        ensures all { result.step.note ≡ Notes.Quiet → result.count ≡ length bytes.now }
     {
-        if let Err(_) = self.held.extend_from_slice(frame.text().as_slice()) {
-            return Step::of(Some(NAK), Note::OutOfMemory);
+        let mut count = 0;
+        while count < bytes.len() {
+            let Hearing { count: more, step } = self.front(&bytes[count..]);
+            count += more;
+            match step.note {
+                Note::Quiet => {}
+                _ => return Hearing { count, step },
+            }
         }
-        self.accepted += 1;
-        let message = if frame.is_last() {
-            Some(self.hand_out())
-        } else {
-            None
-        };
-        Step {
-            reply: Some(ACK),
-            message,
-            note: Note::Accepted(number),
+        Hearing {
+            count,
+            step: Step::of(None, Note::Quiet),
         }
     }
 
-    /// Hands the held text out.
-    fn hand_out(&mut self) -> LinkText
-        ensures text { result ≡ self.old.held }
-        ensures state { self.new ≡ record self.old { held = []; spare = self.new.spare } }
+    /// Hears the front of bytes: a whole frame, a run of bytes that a text may hold, or the first byte.
+    fn front(&mut self, bytes: &[u8]) -> Hearing
+        requires { 0 < length bytes.now }
+        ensures some { 0 < result.count }
+        ensures bound { result.count ≤ length bytes.now }
+        ensures front { (r : ReceiverState) → IsIn N self.old r → HearsFront N bytes.now r self.old.spare result self.new }
     {
-        let held = mem::replace(&mut self.held, Vec::new(self.alloc));
-        List::from_vec(held)
-    }
-
-    /// What is found of a frame with this number and so many bytes of text while the line is open: the
-    /// first that fits of the table.
-    fn judge(&self, number: u8, bytes: usize) -> Note
-        requires { bytes < 2 ^ 20 }
-        ensures value { result ≡ judged_by self.now.accepted (length self.now.held) self.now.room number bytes }
-    {
-        let number_due = (self.accepted + 1) % 8;
-        if self.accepted > 0 && u64::from(number) == self.accepted % 8 {
-            Note::Duplicate(number)
-        } else if u64::from(number) != number_due {
-            Note::OutOfTurn(number)
-        } else if !self.room {
-            Note::NoRoom
-        } else if self.accepted == MOST_FRAMES {
-            Note::TooMany
-        } else if self.held.len() + bytes > LONGEST_TEXT {
-            Note::TooLong
-        } else {
-            Note::Accepted(number)
+        let (count, frame) = self.scanner.scan(bytes);
+        if count == 0 {
+            return Hearing {
+                count: 1,
+                step: self.byte(bytes[0]),
+            };
         }
-    }
-}
-
-/// The reply to what was found of a frame.
-fn found_reply(note: Note) -> u8
-    ensures { result ≡ found_reply note }
-{
-    match note {
-        Note::Accepted(_) | Note::Duplicate(_) => ACK,
-        _ => NAK,
+        match frame {
+            None => Hearing {
+                count,
+                step: Step::of(None, Note::Quiet),
+            },
+            Some(frame) => Hearing {
+                count,
+                step: self.line.good(&frame),
+            },
+        }
     }
 }

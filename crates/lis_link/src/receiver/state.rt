@@ -12,14 +12,14 @@ impl<const N: usize> ReceiverOf<N> {
     pub fn is_open(&self) -> bool
         ensures { (r : ReceiverState) → IsIn N self.now r → result ≡ r.is_open }
     {
-        self.is_open
+        self.line.is_open()
     }
 
     /// How many frames were accepted since the line was last opened.
     pub fn accepted(&self) -> u64
         ensures { (r : ReceiverState) → IsIn N self.now r → result ≡ length r.accepted }
     {
-        self.accepted
+        self.line.accepted()
     }
 
     /// How many bytes are held for the text that isn't complete; none while the line isn't open.
@@ -27,8 +27,8 @@ impl<const N: usize> ReceiverOf<N> {
         ensures value { (r : ReceiverState) → IsIn N self.now r → result ≡ held_length r }
         ensures bound { result ≤ longest_text }
     {
-        if self.is_open {
-            self.held.len() as u64
+        if self.line.is_open() {
+            self.line.held()
         } else {
             0
         }
