@@ -1,7 +1,9 @@
 ghost use Rattle.std.specs.Prelude.{◌≤◌};
+ghost use Rattle.lis_frame.specs.Limit.{IsLimit};
 
 use crate::*;
 use lis_frame::FrameFault;
+use std::alloc::{AllocError, Global};
 use std::test::Fail;
 
 /// What the last byte of these is answered: the reply, the note and the length of the text handed out.
@@ -17,7 +19,7 @@ fn last_step(receiver: &mut Receiver, bytes: &[u8]) -> (Option<u8>, Note, Option
 const OPENED: (Option<u8>, Note, Option<usize>) = (Some(0x06), Note::Opened, None);
 
 /// A receiver whose line was just opened.
-fn opened(alloc: std::alloc::Global) -> Receiver {
+fn opened(alloc: Global) -> Receiver {
     let mut receiver = Receiver::new(alloc);
     let _ = receiver.byte(0x05);
     receiver
@@ -342,5 +344,129 @@ fn reserved_room_is_kept(rt: HostRuntime) -> Result<(), Fail> {
         (Some(0x06), Note::Accepted(2), None)
     );
     assert_eq!(rt; receiver.held(), 480);
+    Ok(())
+}
+
+/// An answer that isn't quiet: how many bytes had come with the deciding one, the reply, the note and the length
+/// of the text handed out.
+type Answer = (usize, Option<u8>, Note, Option<usize>);
+
+/// Hears bytes that stand behind so many others, and puts what they are answered behind the other answers.
+fn hear_all<const N: usize>(
+    receiver: &mut ReceiverOf<N>,
+    place: usize,
+    bytes: &[u8],
+    answers: &mut Vec<Answer>,
+) -> Result<(), AllocError>
+    requires { place ≤ 1000000 }
+{
+    let mut taken = 0;
+    while taken < bytes.len() {
+        let Hearing { count, step } = receiver.bytes(&bytes[taken..]);
+        taken += count;
+        if step.note != Note::Quiet {
+            let length = step.message.map(|text| text.len());
+            answers.push((place + taken, step.reply, step.note, length))?;
+        }
+    }
+    Ok(())
+}
+
+/// Two sessions, with frames of each kind, and noise between them.
+const SESSIONS: &[u8] = b"\x05\x021A\x1789\r\n\x021A\x1789\r\n\x022A\x0376\r\nnoise\x024A\x0378\r\n\
+\x023A\x0300\r\n\x02\n\x023\x0336\r\n\x04\x024\x0337\r\n\x05";
+
+/// What each deciding byte of them is answered, by the table of LIS01-A2.
+const ANSWERS: [Answer; 10] = [
+    (1, Some(0x06), Note::Opened, None),
+    (9, Some(0x06), Note::Accepted(1), None),
+    (17, Some(0x06), Note::Duplicate(1), None),
+    (25, Some(0x06), Note::Accepted(2), Some(2)),
+    (38, Some(0x15), Note::OutOfTurn(4), None),
+    (46, Some(0x15), Note::Refused(FrameFault::Sum), None),
+    (48, Some(0x15), Note::Refused(FrameFault::Shape), None),
+    (55, Some(0x06), Note::Accepted(3), Some(0)),
+    (56, None, Note::Ended, None),
+    (64, Some(0x06), Note::Opened, None),
+];
+
+/// The answers to these sessions where they come in two pieces.
+fn answers_cut<const N: usize>(alloc: Global, cut: usize) -> Result<Vec<Answer>, AllocError>
+    requires limit { IsLimit N }
+    requires cut { cut ≤ 64 }
+{
+    let mut receiver = ReceiverOf::<N>::new(alloc);
+    let mut answers = Vec::new(alloc);
+    hear_all(&mut receiver, 0, &SESSIONS[..cut], &mut answers)?;
+    hear_all(&mut receiver, cut, &SESSIONS[cut..], &mut answers)?;
+    Ok(answers)
+}
+
+#[test]
+fn bytes_at_once_are_answered_as_by_themselves(rt: HostRuntime) -> Result<(), Fail> {
+    for cut in 0..=64 {
+        let answers = answers_cut::<240>(rt.alloc(), cut)?;
+        assert_eq!(rt; answers.as_slice(), ANSWERS.as_slice());
+        let answers = answers_cut::<63_993>(rt.alloc(), cut)?;
+        assert_eq!(rt; answers.as_slice(), ANSWERS.as_slice());
+    }
+    Ok(())
+}
+
+#[test]
+fn a_byte_alone_is_answered_in_its_turn(rt: HostRuntime) -> Result<(), Fail> {
+    let mut receiver = Receiver::new(rt.alloc());
+    let mut answers = Vec::new(rt.alloc());
+    for (place, byte) in SESSIONS.iter().enumerate() {
+        hear_all(&mut receiver, place, &[*byte], &mut answers)?;
+    }
+    assert_eq!(rt; answers.as_slice(), ANSWERS.as_slice());
+    Ok(())
+}
+
+/// One last frame of this many letters A, number 1, with these digits.
+fn frame_of_letters(alloc: Global, letters: usize, digits: &[u8]) -> Result<Vec<u8>, AllocError> {
+    let mut bytes = vec![in alloc; 0x41; letters]?;
+    bytes.insert(0, b'1')?;
+    bytes.insert(0, 0x02)?;
+    bytes.push(0x03)?;
+    bytes.extend_from_slice(digits)?;
+    bytes.extend_from_slice(b"\r\n")?;
+    Ok(bytes)
+}
+
+#[test]
+fn the_longest_frame_is_taken_at_once(rt: HostRuntime) -> Result<(), Fail> {
+    // 240 letters A, the digit 1 and ETX have the sum 0x24, and 63,993 have 0x6D.
+    for (letters, digits) in [(240, b"24"), (63_993, b"6D")] {
+        let bytes = frame_of_letters(rt.alloc(), letters, digits)?;
+        let mut long = ReceiverOf::<63_993>::new(rt.alloc());
+        let _ = long.byte(0x05);
+        let heard = long.bytes(bytes.as_slice());
+        assert_eq!(rt; heard.count, letters + 7);
+        assert_eq!(rt; heard.step.note, Note::Accepted(1));
+        assert_eq!(rt; heard.step.message.map(|text| text.len()), Some(letters));
+        let mut usual = opened(rt.alloc());
+        let heard = usual.bytes(bytes.as_slice());
+        assert_eq!(rt; heard.count, letters + 7);
+        let want = if letters == 240 {
+            Note::Accepted(1)
+        } else {
+            Note::Refused(FrameFault::TooLong)
+        };
+        assert_eq!(rt; heard.step.note, want);
+    }
+    Ok(())
+}
+
+/// Without an open line frames and ends are passed over, and all bytes are taken.
+#[test]
+fn a_line_that_is_not_open_takes_all_bytes(rt: HostRuntime) -> Result<(), Fail> {
+    let mut receiver = Receiver::new(rt.alloc());
+    let heard = receiver.bytes(b"\x021A\x1789\r\n\x04noise\x021A\x17");
+    assert_eq!(rt; heard.count, 18);
+    assert_eq!(rt; (heard.step.reply, heard.step.note), (None, Note::Quiet));
+    let heard = receiver.bytes(b"");
+    assert_eq!(rt; (heard.count, heard.step.note), (0, Note::Quiet));
     Ok(())
 }
