@@ -17,7 +17,7 @@ use crate::session::SessionOf;
 use crate::unit::{LoadOf, TravellingOf};
 use arrayvec::ArrayVec;
 use lis_frame::control::{ENQ, EOT};
-use lis_frame::{FrameOf, LinkText, SignalOf, frame_bytes_of};
+use lis_frame::{FrameOf, Heard, LinkText, frame_bytes_of};
 use lis_link::{Hearing, Note, Outcome, Readiness, ReceiverOf, Step};
 use std::alloc::{AllocError, Global};
 use std::collections::VecDeque;
@@ -142,9 +142,9 @@ impl<const N: usize> DeskOf<N> {
         let mut scanner = self.receiver.scanner().copy();
         let mut is_bad = false;
         for byte in bytes {
-            match scanner.push(*byte) {
+            match scanner.told(*byte) {
                 None => {}
-                Some(SignalOf::Bad(_)) => {
+                Some(Heard::Bad(_)) => {
                     if is_bad || !unit.is_frame() {
                         return false;
                     }
@@ -152,6 +152,7 @@ impl<const N: usize> DeskOf<N> {
                 }
                 Some(_) => return false,
             }
+            scanner.take(*byte);
         }
         true
     }
