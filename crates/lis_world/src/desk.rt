@@ -127,7 +127,8 @@ impl<const N: usize> DeskOf<N> {
     pub(crate) fn damage(&mut self, unit: &TravellingOf<N>, bytes: &[u8]) -> Result<(), AllocError>
         ensures { (r : ReceiverState) → IsIn N self.old.receiver r →
             is_noticed unit.now.load (signals_after N r.past bytes.now) ≡ true →
-            OnOk result (IsDesk N self.new (hears N unit.now.session bytes.now (record (desk_at self.old r) { replies = [] }))) }
+            OnOk result (IsDesk N self.new
+            (hears N unit.now.session bytes.now (record (desk_at self.old r) { replies = [] }))) }
     {
         self.caused.clear();
         self.hear(unit, bytes)
@@ -235,7 +236,8 @@ impl<const N: usize> DeskOf<N> {
 
     /// Bytes come in the place of a unit; no frame but the unit is among them.
     fn hear(&mut self, unit: &TravellingOf<N>, bytes: &[u8]) -> Result<(), AllocError>
-        ensures { (r : ReceiverState) → IsIn N self.old.receiver r → OnlyLoad unit.now.load (signals_after N r.past bytes.now) →
+        ensures { (r : ReceiverState) → IsIn N self.old.receiver r →
+            OnlyLoad unit.now.load (signals_after N r.past bytes.now) →
             OnOk result (IsDesk N self.new (hears N unit.now.session bytes.now (desk_at self.old r))) }
     {
         let mut taken = 0;
@@ -252,7 +254,8 @@ impl<const N: usize> DeskOf<N> {
         ensures receiver { self.new.receiver ≡ self.old.receiver }
         ensures memory { OnOk result (step.note ≢ Notes.OutOfMemory) }
         ensures desk { (meant : ReceiverStep) (r : ReceiverState) → IsStep meant step → TakesLoad unit.now.load meant →
-            OnOk result (desk_at self.new r ≡ record (booked unit.now.session meant (desk_at self.old r)) { receiver = r }) }
+            OnOk result (desk_at self.new r
+            ≡ record (booked unit.now.session meant (desk_at self.old r)) { receiver = r }) }
     {
         let Step {
             reply,

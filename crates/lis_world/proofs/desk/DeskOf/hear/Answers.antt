@@ -9,7 +9,7 @@ use Rattle.lis_world.proofs.desk.DeskOf.hear.Goals as goal
 pub loop-taken-preserved : goal.loop-taken-preserved
 loop-taken-preserved g c = (
   let more = rw (take_rest c.args.bytes.now c.loop-taken.taken) at c.bytes-count.ensures.bound in
-  omega (arith, length-drop c.loop-taken.taken c.args.bytes.now, more, c.loop-taken.invariant.0),
+      omega (arith, length-drop c.loop-taken.taken c.args.bytes.now, more, c.loop-taken.invariant.0),
   λ r is_in only.
       let hearing = c.loop-taken.invariant.1 r is_in only in
       let goes_to = hears g.row.N c.args.unit.now.session c.args.bytes.now (desk_at c.args.self.now r) in
