@@ -6,7 +6,7 @@ use Rattle.std.proofs.lemmas.Bool.Decides.{nat_tests}
 use Rattle.lis_frame.specs.declared.control.TheConstants.{STX, EOT, ENQ, CR, LF}
 use Rattle.lis_frame.specs.declared.scanner.SignalOf.{SignalOf}
 use Rattle.lis_frame.specs.declared.scanner.SignalOf.TheVariants.{Good}
-use Rattle.lis_frame.specs.Text.{is_forbidden}
+use Rattle.lis_frame.specs.Text.{is_forbidden, first_forbidden}
 use Rattle.lis_frame.specs.Scanner.{Held, held_after, outside, quiet_length, unmarked_length, with_byte, with_bytes, StandsFor}
 use Rattle.lis_frame.specs.Frame.{FrameContent, IsContent, IsFrame, number_byte, end_byte, checksum, digit_value, upper_digit, frame_bytes}
 use Rattle.lis_frame.specs.Stretch.{stretch_of}
@@ -169,7 +169,16 @@ unmarked_run limit held bytes past stands =
     let plain = AllPlain-unmarked bytes in
     (signals-plain limit (unmarked bytes) past plain, stands-plain limit held (unmarked bytes) past plain stands)
 
--- and so do those behind an STX, which begins a stretch
+-- the same of bytes that a text may hold
+pub clean_run :
+    (limit : ℕ) (held : Held) (run past : List ℕ) → StandsFor limit held past → first_forbidden run ≡ None →
+    (signals_after limit past run ≡ []) × StandsFor limit (with_bytes limit held run) (stream_with past run)
+unfolding AllPlain
+clean_run limit held run past stands clean =
+    let plain : AllPlain run = rw (append-nil run) at (AllPlain-text 0 run [] clean tt) in
+    (signals-plain limit run past plain, stands-plain limit held run past plain stands)
+
+-- bytes behind an STX, which begins a stretch
 pub started_run :
     (limit : ℕ) (held : Held) (behind past : List ℕ) → StandsFor limit held past →
     (signals_after limit past (STX ∷ unmarked behind) ≡ [])

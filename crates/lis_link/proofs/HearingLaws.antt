@@ -106,6 +106,7 @@ on_bytes-silent limit (b ∷ run) behind r silent = by (signal_after limit r.pas
   where
     next : ReceiverState
     next = with_heard (b ∷ []) r
+
     by :
         (signal : Option (SignalOf limit)) →
         with_signal signal (signals_after limit (b ∷ r.past) run) ≡ [] →

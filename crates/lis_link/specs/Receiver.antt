@@ -127,7 +127,8 @@ heard_on count note step behind = record { count = count; step = step }
 -- bytes are heard up to the first that is not quiet, and all of them where each is quiet
 abbrev pub on_bytes : ℕ → List ℕ → ReceiverState → ReceiverHearing
 on_bytes limit [] r = record { count = 0; step = answers None Quiet r }
-on_bytes limit (b ∷ bytes) r = heard_on 1 (on_byte limit b r).note (on_byte limit b r) (on_bytes limit bytes (with_heard (b ∷ []) r))
+on_bytes limit (b ∷ bytes) r =
+    heard_on 1 (on_byte limit b r).note (on_byte limit b r) (on_bytes limit bytes (with_heard (b ∷ []) r))
 
 -- the receiver's timer runs out
 abbrev pub timer_by : Bool → ReceiverState → ReceiverStep

@@ -55,7 +55,8 @@ pub record IsTaken (old : KeptLine) (frame : FrameContent) (number : ℕ) (resul
 
 -- the front of bytes was heard: all but its last byte were quiet, this step is meant for the last, and it was made or
 -- refused; where it is quiet too, nothing has changed but the stream
-pub record HearsFront (limit : ℕ) (bytes : List ℕ) (r : ReceiverState) (spare : ℕ) (result : Hearing) (new : Kept) : Type 0 where
+pub record HearsFront (limit : ℕ) (bytes : List ℕ) (r : ReceiverState) (spare : ℕ) (result : Hearing) (new : Kept) :
+    Type 0 where
   pub meant : ReceiverStep
   pub goes_on : on_bytes limit bytes r
       ≡ heard_on result.count meant.note meant (on_bytes limit (drop result.count bytes) (with_heard (take result.count bytes) r))

@@ -206,7 +206,8 @@ impl<const N: usize> ReceiverOf<N> {
         ensures step { (r : ReceiverState) → IsIn N self.old r → result.step.note ≢ Notes.OutOfMemory →
             Makes N (on_bytes N bytes.now r).step result.step self.new }
         ensures refused { (r : ReceiverState) → IsIn N self.old r → result.step.note ≡ Notes.OutOfMemory →
-            IsRefused N self.old.spare (on_bytes N bytes.now r).step (with_heard (take result.count bytes.now) r) result.step self.new }
+            IsRefused N self.old.spare (on_bytes N bytes.now r).step (with_heard (take result.count bytes.now) r)
+            result.step self.new }
         ensures spare { (r : ReceiverState) → IsIn N self.old r →
             SpareAfter self.old.spare self.new.spare (on_bytes N bytes.now r).step.taken }
 
@@ -235,7 +236,8 @@ impl<const N: usize> ReceiverOf<N> {
         requires { 0 < length bytes.now }
         ensures some { 0 < result.count }
         ensures bound { result.count ≤ length bytes.now }
-        ensures front { (r : ReceiverState) → IsIn N self.old r → HearsFront N bytes.now r self.old.spare result self.new }
+        ensures front { (r : ReceiverState) → IsIn N self.old r →
+            HearsFront N bytes.now r self.old.spare result self.new }
     {
         let (count, frame) = self.scanner.scan(bytes);
         if count == 0 {

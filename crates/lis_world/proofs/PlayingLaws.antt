@@ -1,29 +1,41 @@
 -- What the program that plays events keeps is the computer's side of the definition.
-use Rattle.std.proofs.Common.{IsOk, ◌≡◌, ◌≢◌, ℕ, Bool, true, false, List, [], ◌∷◌, Option, None, Some, OnOk, refl, sym, ap, ◌∙◌, subst}
+use Rattle.std.proofs.Common.{IsOk, ◌≡◌, ◌≢◌, ℕ, suc, ◌+◌, Bool, true, false, List, [], ◌∷◌, Option, None, Some, OnOk, drop, refl, sym, ap, ◌∙◌, subst, arith}
 use Rattle.std.specs.Prelude.{Result, Ok, Err}
+use Rattle.lis_frame.specs.declared.control.TheConstants.{ENQ, EOT}
 use Rattle.lis_frame.specs.declared.scanner.SignalOf.{SignalOf}
 use Rattle.lis_frame.specs.declared.scanner.SignalOf.TheVariants.{Enq, Eot, Good, Bad}
-use Rattle.lis_frame.specs.Frame.{FrameContent}
-use Rattle.lis_frame.specs.Scanner.{Held}
-use Rattle.lis_frame.specs.Stream.{signal_after}
+use Rattle.lis_frame.specs.Frame.{FrameContent, IsContent, frame_bytes}
+use Rattle.lis_frame.specs.Stream.{signal_after, signals_after, with_signal}
+use Rattle.lis_frame.proofs.StreamLaws.{signals-frame_bytes}
+use Rattle.lis_link.specs.declared.receiver.Hearing.{Hearing}
 use Rattle.lis_link.specs.declared.receiver.Readiness.{Readiness}
 use Rattle.lis_link.specs.declared.receiver.Readiness.TheVariants.{Ready}
 use Rattle.lis_link.specs.declared.receiver.Note.{Note}
-use Rattle.lis_link.specs.declared.receiver.Note.TheVariants.{Accepted, Opened, OutOfMemory}
+use Rattle.lis_link.specs.declared.receiver.Note.TheVariants.{Accepted, Duplicate, Opened, OutOfMemory, Quiet}
 use Rattle.lis_link.specs.declared.receiver.Step.{Step}
-use Rattle.lis_link.specs.Receiver.{ReceiverState, ReceiverStep, bid_with, judged, on_judged, heard_by, heard, on_byte}
+use Rattle.lis_link.specs.Receiver.{ReceiverState, ReceiverStep, ReceiverHearing, bid_with, judged, on_judged, heard_by, heard, on_byte, on_bytes, heard_on, with_heard}
 use Rattle.lis_link.specs.Kept.{Kept}
 use Rattle.lis_link.specs.Stands.{IsIn, IsStep, Makes}
+use Rattle.lis_link.proofs.HearingLaws.{on_byte-quiet}
 use Rattle.lis_link.specs.declared.sender.Phase.{Phase}
 use Rattle.lis_link.specs.declared.sender.Phase.TheVariants as Phases
 use Rattle.lis_link.specs.declared.sender.EmitOf.{EmitOf}
 use Rattle.lis_link.specs.Sender.{SenderState, SenderStep, on_sender_timer}
 use Rattle.lis_world.specs.declared.event.Event.{Event}
+use Rattle.lis_world.specs.Unit.{Load, one_frame}
 use Rattle.lis_world.specs.World.{World, Desk, new_world, booked, noted, hears}
-use Rattle.lis_world.specs.Steps.{emitted, with_sender, sender_steps, given_up, after_event, runs, world}
-use Rattle.lis_world.specs.Playing.{KeptWorld, world_at, IsWorld, IsPlaying, kept_given_up, KeptDesk, desk_at, IsDesk, IsHeardAs, IsHearing}
+use Rattle.lis_world.specs.Steps.{emitted, with_sender, sender_steps, given_up, after_event, is_noticed, runs, world}
+use Rattle.lis_world.specs.Playing.{KeptWorld, world_at, IsWorld, IsPlaying, kept_given_up, KeptDesk, desk_at, IsDesk, OnlyLoad, IsLoad, TakesLoad}
 
--- only a good frame is accepted
+-- what is accepted is a good frame that was heard
+record IsGood {limit : ℕ} (signal : Option (SignalOf limit)) (step : ReceiverStep) : Type 0 where
+  frame : FrameContent
+  signal_is : signal ≡ Some (Good frame)
+  taken_is : step.taken ≡ Some frame
+
+abbrev IsHeardAs : {limit : ℕ} → Option (SignalOf limit) → ReceiverStep → Type 0
+IsHeardAs signal step = (number : ℕ) → step.note ≡ Accepted number → IsGood signal step
+
 judged_as : {limit : ℕ} (r : ReceiverState) (frame : FrameContent) (note : Note) → IsHeardAs {limit = limit} (Some (Good frame)) (on_judged r frame note)
 judged_as r frame (Accepted n) number e = record { frame = frame; signal_is = refl; taken_is = refl }
 judged_as r frame _ number e = absurd cc
@@ -46,6 +58,30 @@ heard_as : {limit : ℕ} (signal : Option (SignalOf limit)) (r : ReceiverState) 
 heard_as None r number e = absurd cc
 heard_as (Some signal) r number e = heard_by_as r.is_open signal r number e
 
+-- a step leaves the stream as it is
+bid-past : (readiness : Readiness) (r : ReceiverState) → (bid_with readiness r).after.past ≡ r.past
+bid-past Ready r = refl
+bid-past _ r = refl
+
+judged-past : (r : ReceiverState) (frame : FrameContent) (note : Note) → (on_judged r frame note).after.past ≡ r.past
+judged-past r frame (Accepted n) = refl
+judged-past r frame (Duplicate n) = refl
+judged-past r frame _ = refl
+
+heard_by-past : {limit : ℕ} (is_open : Bool) (signal : SignalOf limit) (r : ReceiverState) → (heard_by is_open signal r).after.past ≡ r.past
+heard_by-past true Enq r = bid-past r.readiness r
+heard_by-past true Eot r = refl
+heard_by-past true (Good frame) r = judged-past r frame (judged r frame)
+heard_by-past true (Bad fault) r = refl
+heard_by-past false Enq r = bid-past r.readiness r
+heard_by-past false Eot r = refl
+heard_by-past false (Good frame) r = refl
+heard_by-past false (Bad fault) r = refl
+
+heard-past : {limit : ℕ} (signal : Option (SignalOf limit)) (r : ReceiverState) → (heard signal r).after.past ≡ r.past
+heard-past None r = refl
+heard-past (Some signal) r = heard_by-past r.is_open signal r
+
 -- the desk after a step has the step's receiver, whatever receiver it had
 noted-receiver : (s : ℕ) (step : ReceiverStep) (kept : KeptDesk) (p q : ReceiverState) (note : Note)
     → record (noted s step note (desk_at kept p)) { receiver = step.after } ≡ noted s step note (desk_at kept q)
@@ -53,30 +89,98 @@ noted-receiver s step kept p q Opened = refl
 noted-receiver s step kept p q (Accepted n) = refl
 noted-receiver s step kept p q _ = refl
 
+noted-same : (s : ℕ) (step : ReceiverStep) (kept : KeptDesk) (p q : ReceiverState) (note : Note) → noted s step note (desk_at kept p) ≡ noted s step note (desk_at kept q)
+noted-same s step kept p q Opened = refl
+noted-same s step kept p q (Accepted n) = refl
+noted-same s step kept p q _ = refl
+
 noted_after : (s : ℕ) (step : ReceiverStep) (d : Desk) (note : Note) → (noted s step note d).receiver ≡ step.after
 noted_after s step d Opened = refl
 noted_after s step d (Accepted n) = refl
 noted_after s step d _ = refl
 
--- a byte that was heard and booked
+later_signals :
+    {limit : ℕ} (load : Load) (signal : Option (SignalOf limit)) (signals : List (SignalOf limit)) → OnlyLoad load (with_signal signal signals) →
+    OnlyLoad load signals
+later_signals load None signals h = h
+later_signals load (Some signal) signals h = h.1
+
+good_is_load :
+    {limit : ℕ} (load : Load) (signal : Option (SignalOf limit)) (signals : List (SignalOf limit)) (step : ReceiverStep) →
+    OnlyLoad load (with_signal signal signals) → IsGood signal step → IsLoad load step
+good_is_load {limit} load signal signals step h good =
+    let here = subst (λ x. OnlyLoad load (with_signal x signals)) good.signal_is h in
+    record { frame = good.frame; load_is = here.0; taken_is = good.taken_is }
+
+-- bytes that the receiver heard at once, and what comes of those behind them
+record HearsAtOnce (limit s : ℕ) (load : Load) (bytes : List ℕ) (d : Desk) (heard_it : ReceiverHearing) : Type 0 where
+  goes_on : hears limit s bytes d ≡ hears limit s (drop heard_it.count bytes) (booked s heard_it.step d)
+  takes : TakesLoad load heard_it.step
+  later : OnlyLoad load (signals_after limit heard_it.step.after.past (drop heard_it.count bytes))
+
+hears_at_once :
+    (limit s : ℕ) (load : Load) (bytes : List ℕ) (r : ReceiverState) (kept : KeptDesk) → OnlyLoad load (signals_after limit r.past bytes) →
+    HearsAtOnce limit s load bytes (desk_at kept r) (on_bytes limit bytes r)
+hears_at_once limit s load [] r kept only = record { goes_on = refl; takes = λ number e. absurd cc; later = only }
+hears_at_once limit s load (b ∷ bytes) r kept only =
+    by (on_byte limit b r).note refl
+    (hears_at_once limit s load bytes (with_heard (b ∷ []) r) kept (later_signals load (signal_after limit r.past b) (signals_after limit (b ∷ r.past) bytes) only))
+  where
+    by :
+        (note : Note) → (on_byte limit b r).note ≡ note →
+        HearsAtOnce limit s load bytes (desk_at kept (with_heard (b ∷ []) r)) (on_bytes limit bytes (with_heard (b ∷ []) r)) →
+        HearsAtOnce limit s load (b ∷ bytes) (desk_at kept r) (heard_on 1 note (on_byte limit b r) (on_bytes limit bytes (with_heard (b ∷ []) r)))
+    by Quiet e behind =
+        let next : ReceiverState = with_heard (b ∷ []) r in
+        let heard_it : ReceiverHearing = on_bytes limit bytes next in
+        let count_is : suc heard_it.count ≡ 1 + heard_it.count = omega arith in
+        let step_is = on_byte-quiet limit b r e in
+        let desk_is : booked s (on_byte limit b r) (desk_at kept r) ≡ desk_at kept next =
+        ap (λ (step : ReceiverStep). booked s step (desk_at kept r)) step_is in
+        record {
+          goes_on =
+              ap (hears limit s bytes) desk_is
+              ∙ behind.goes_on
+              ∙ ap (hears limit s (drop heard_it.count bytes)) (noted-same s heard_it.step kept next r heard_it.step.note)
+              ∙ ap (λ n. hears limit s (drop n (b ∷ bytes)) (booked s heard_it.step (desk_at kept r))) count_is;
+          takes = behind.takes;
+          later = subst (λ n. OnlyLoad load (signals_after limit heard_it.step.after.past (drop n (b ∷ bytes)))) count_is behind.later;
+        }
+    by note e behind =
+        let signal : Option (SignalOf limit) = signal_after limit r.past b in
+        let next : ReceiverState = with_heard (b ∷ []) r in
+        let signals : List (SignalOf limit) = signals_after limit (b ∷ r.past) bytes in
+        record {
+          goes_on = refl;
+          takes = λ number accepted. good_is_load load signal signals (on_byte limit b r) only (heard_as signal next number accepted);
+          later =
+              subst (λ past. OnlyLoad load (signals_after limit past bytes)) (sym (heard-past signal next))
+              (later_signals load signal signals only);
+        }
+
+-- while bytes are heard: the rest, heard from here, leads to the same desk
+pub record IsHearing (limit session : ℕ) (load : Load) (kept : KeptDesk) (left : List ℕ) (goal : Desk) : Type 0 where
+  pub state : ReceiverState
+  pub is_in : IsIn limit kept.receiver state
+  pub only : OnlyLoad load (signals_after limit state.past left)
+  pub goes_on : hears limit session left (desk_at kept state) ≡ goal
+
+-- a step that was made and booked
 heard_desk :
-    (limit s b : ℕ) (old heard_it new : KeptDesk) (r : ReceiverState) (signal : Option (SignalOf limit)) (result : Step)
-    → signal ≡ signal_after limit r.past b
-    → Makes limit (on_byte limit b r) result heard_it.receiver
+    (limit s : ℕ) (load : Load) (old heard_it new : KeptDesk) (r : ReceiverState) (step : ReceiverStep) (result : Step)
+    → TakesLoad load step
+    → Makes limit step result heard_it.receiver
     → heard_it ≡ record old { receiver = heard_it.receiver }
     → new.receiver ≡ heard_it.receiver
     → ((meant : ReceiverStep) (q : ReceiverState)
     → IsStep meant result
-    → IsHeardAs signal meant
+    → TakesLoad load meant
     → desk_at new q ≡ record (booked s meant (desk_at heard_it q)) { receiver = q })
-    → IsDesk limit new (booked s (on_byte limit b r) (desk_at old r))
-heard_desk limit s b old heard_it new r signal result signal_is makes same_desk same_receiver is_booked =
-    let step : ReceiverStep = on_byte limit b r in
+    → IsDesk limit new (booked s step (desk_at old r))
+heard_desk limit s load old heard_it new r step result takes makes same_desk same_receiver is_booked =
     let goal : Desk = booked s step (desk_at old r) in
-    let accepts : IsHeardAs signal step =
-    subst (λ x. IsHeardAs x step) (sym signal_is) (heard_as (signal_after limit r.past b) (record r { past = b ∷ r.past })) in
     let here : desk_at new step.after ≡ goal =
-    is_booked step step.after makes.answer accepts
+    is_booked step step.after makes.answer takes
     ∙ ap (λ k. record (booked s step (desk_at k step.after)) { receiver = step.after }) same_desk
     ∙ noted-receiver s step old step.after r step.note in
     let after : goal.receiver ≡ step.after = noted_after s step (desk_at old r) step.note in
@@ -86,28 +190,73 @@ heard_desk limit s b old heard_it new r signal result signal_is makes same_desk 
       desk_is = ap (desk_at new) after ∙ here;
     }
 
--- the same, where memory was not refused
-pub heard_desk_or_refused :
-    {A E : Type 0} (outcome : Result A E) (limit s b : ℕ) (old heard_it new : KeptDesk) (r : ReceiverState) (signal : Option (SignalOf limit)) (result : Step)
-    → signal ≡ signal_after limit r.past b
-    → OnOk outcome (result.note ≢ OutOfMemory)
-    → (result.note ≢ OutOfMemory → Makes limit (on_byte limit b r) result heard_it.receiver)
+-- bytes that were heard at once, where memory was not refused
+pub hearing_next :
+    {A E : Type 0} (outcome : Result A E) (limit s : ℕ) (load : Load) (left : List ℕ) (goal : Desk) (old heard_it new : KeptDesk) (result : Hearing)
+    → (hearing : IsHearing limit s load old left goal)
+    → result.count ≡ (on_bytes limit left hearing.state).count
+    → OnOk outcome (result.step.note ≢ OutOfMemory)
+    → (result.step.note ≢ OutOfMemory → Makes limit (on_bytes limit left hearing.state).step result.step heard_it.receiver)
     → heard_it ≡ record old { receiver = heard_it.receiver }
     → new.receiver ≡ heard_it.receiver
     → ((meant : ReceiverStep) (q : ReceiverState)
-    → IsStep meant result
-    → IsHeardAs signal meant
+    → IsStep meant result.step
+    → TakesLoad load meant
     → OnOk outcome (desk_at new q ≡ record (booked s meant (desk_at heard_it q)) { receiver = q }))
-    → OnOk outcome (IsDesk limit new (booked s (on_byte limit b r) (desk_at old r)))
-heard_desk_or_refused (Ok x) limit s b old heard_it new r signal result signal_is memory makes same_desk same_receiver is_booked =
-    heard_desk limit s b old heard_it new r signal result signal_is (makes memory) same_desk same_receiver is_booked
-heard_desk_or_refused (Err e) limit s b old heard_it new r signal result signal_is memory makes same_desk same_receiver is_booked = tt
+    → IsOk outcome
+    → IsHearing limit s load new (drop result.count left) goal
+hearing_next (Ok x) limit s load left goal old heard_it new result hearing count_is memory makes same_desk same_receiver is_booked is_ok =
+    let meant : ReceiverHearing = on_bytes limit left hearing.state in
+    let at_once = hears_at_once limit s load left hearing.state old hearing.only in
+    let desk = heard_desk limit s load old heard_it new hearing.state meant.step result.step at_once.takes (makes memory) same_desk same_receiver is_booked in
+    let booked_it : Desk = booked s meant.step (desk_at old hearing.state) in
+    let after : booked_it.receiver ≡ meant.step.after = noted_after s meant.step (desk_at old hearing.state) meant.step.note in
+    record {
+      state = booked_it.receiver;
+      is_in = desk.receiver_is;
+      only =
+          subst (λ n. OnlyLoad load (signals_after limit booked_it.receiver.past (drop n left))) (sym count_is)
+          (subst (λ (q : ReceiverState). OnlyLoad load (signals_after limit q.past (drop meant.count left))) (sym after) at_once.later);
+      goes_on =
+          ap (hears limit s (drop result.count left)) desk.desk_is
+          ∙ ap (λ n. hears limit s (drop n left) booked_it) count_is
+          ∙ sym at_once.goes_on
+          ∙ hearing.goes_on;
+    }
+hearing_next (Err e) limit s load left goal old heard_it new result hearing count_is memory makes same_desk same_receiver is_booked is_ok = absurd cc
 
 -- all bytes were heard
-pub heard_all : (limit s : ℕ) (kept : KeptDesk) (scanner : Held) (left : List ℕ) (goal : Desk) → IsHearing limit s kept scanner left goal → left ≡ [] → IsDesk limit kept goal
-heard_all limit s kept scanner left goal h none =
+pub heard_all :
+    (limit s : ℕ) (load : Load) (kept : KeptDesk) (left : List ℕ) (goal : Desk) → IsHearing limit s load kept left goal → left ≡ [] → IsDesk limit kept goal
+heard_all limit s load kept left goal h none =
     let e : desk_at kept h.state ≡ goal = subst (λ xs. hears limit s xs (desk_at kept h.state) ≡ goal) none h.goes_on in
     subst (λ d. IsDesk limit kept d) e (record { receiver_is = h.is_in; desk_is = refl })
+
+-- damage that is noticed holds no frame
+pub noticed_only :
+    {limit : ℕ} (load : Load) (signals : List (SignalOf limit)) → is_noticed load signals ≡ true → OnlyLoad load signals
+noticed_only load [] e = tt
+noticed_only load (Enq ∷ signals) e = absurd cc
+noticed_only load (Eot ∷ signals) e = absurd cc
+noticed_only load (Good frame ∷ signals) e = absurd cc
+noticed_only load (Bad fault ∷ []) e = (tt, tt)
+noticed_only load (Bad fault ∷ signal ∷ signals) e = absurd cc
+
+-- nor do an enquiry and an ending
+pub enquiry_only : (limit : ℕ) (load : Load) (past : List ℕ) → OnlyLoad load (signals_after limit past (ENQ ∷ []))
+unfolding signal_after
+enquiry_only limit load past = (tt, tt)
+
+pub ending_only : (limit : ℕ) (load : Load) (past : List ℕ) → OnlyLoad load (signals_after limit past (EOT ∷ []))
+unfolding signal_after
+ending_only limit load past = (tt, tt)
+
+-- the bytes of a frame hold that frame
+pub frame_only :
+    (limit : ℕ) (load : Load) (past : List ℕ) (frame : FrameContent) → load ≡ one_frame frame → IsContent limit frame →
+    OnlyLoad load (signals_after limit past (frame_bytes frame))
+frame_only limit load past frame load_is content =
+    subst (λ (signals : List (SignalOf limit)). OnlyLoad load signals) (sym (signals-frame_bytes limit past frame content)) (load_is, tt)
 
 pub with_receiver : (first second : KeptDesk) (kept : Kept) → first ≡ second → record first { receiver = kept } ≡ record second { receiver = kept }
 with_receiver first second kept same = ap (λ (d : KeptDesk). record d { receiver = kept }) same

@@ -1,7 +1,7 @@
 -- What the program that plays events keeps.
-use Rattle.std.specs.Prelude.{◌≡◌, ℕ, Bool, true, false, List, length, [], ◌∷◌, ◌++◌, Option, Some}
+use Rattle.std.specs.Prelude.{◌≡◌, ⊤, ℕ, Bool, true, false, List, length, [], ◌∷◌, ◌++◌, Option, Some}
 use Rattle.lis_frame.specs.declared.scanner.SignalOf.{SignalOf}
-use Rattle.lis_frame.specs.declared.scanner.SignalOf.TheVariants.{Good}
+use Rattle.lis_frame.specs.declared.scanner.SignalOf.TheVariants.{Enq, Eot, Good, Bad}
 use Rattle.lis_frame.specs.Frame.{FrameContent}
 use Rattle.lis_frame.specs.Scanner.{Held, StandsFor}
 use Rattle.lis_link.specs.Kept.{Kept}
@@ -14,7 +14,7 @@ use Rattle.lis_link.specs.declared.sender.Phase.{Phase}
 use Rattle.lis_link.specs.declared.sender.Phase.TheVariants as Phases
 use Rattle.lis_link.specs.Sender.{SenderState}
 use Rattle.lis_world.specs.Unit.{Load, Travelling, one_frame}
-use Rattle.lis_world.specs.World.{World, Desk, hears}
+use Rattle.lis_world.specs.World.{World, Desk}
 use Rattle.lis_world.specs.declared.event.Event.{Event}
 use Rattle.lis_world.specs.Steps.{is_noticed, runs}
 use Rattle.lis_frame.specs.Stream.{signals_after}
@@ -35,21 +35,25 @@ pub record IsDesk (limit : ℕ) (kept : KeptDesk) (desk : Desk) : Type 0 where
   pub receiver_is : IsIn limit kept.receiver desk.receiver
   pub desk_is : desk_at kept desk.receiver ≡ desk
 
--- what is accepted is the frame that was heard
-pub record IsGood {limit : ℕ} (signal : Option (SignalOf limit)) (step : ReceiverStep) : Type 0 where
+-- of what is heard, no frame but the one that a unit is
+abbrev pub IsOfLoad : {limit : ℕ} → Load → SignalOf limit → Type 0
+IsOfLoad load Enq = ⊤
+IsOfLoad load Eot = ⊤
+IsOfLoad load (Good frame) = load ≡ one_frame frame
+IsOfLoad load (Bad fault) = ⊤
+
+abbrev pub OnlyLoad : {limit : ℕ} → Load → List (SignalOf limit) → Type 0
+OnlyLoad load [] = ⊤
+OnlyLoad load (signal ∷ signals) = IsOfLoad load signal × OnlyLoad load signals
+
+-- what is accepted is that frame
+pub record IsLoad (load : Load) (step : ReceiverStep) : Type 0 where
   pub frame : FrameContent
-  pub signal_is : signal ≡ Some (Good frame)
+  pub load_is : load ≡ one_frame frame
   pub taken_is : step.taken ≡ Some frame
 
-abbrev pub IsHeardAs : {limit : ℕ} → Option (SignalOf limit) → ReceiverStep → Type 0
-IsHeardAs signal step = (number : ℕ) → step.note ≡ Accepted number → IsGood signal step
-
--- while bytes are heard: the rest, heard from here, leads to the same desk
-pub record IsHearing (limit session : ℕ) (kept : KeptDesk) (scanner : Held) (left : List ℕ) (goal : Desk) : Type 0 where
-  pub state : ReceiverState
-  pub is_in : IsIn limit kept.receiver state
-  pub stream : StandsFor limit scanner state.past
-  pub goes_on : hears limit session left (desk_at kept state) ≡ goal
+abbrev pub TakesLoad : Load → ReceiverStep → Type 0
+TakesLoad load step = (number : ℕ) → step.note ≡ Accepted number → IsLoad load step
 
 -- the session with a frame that was accepted, and the text handed out with it
 abbrev pub takes_frame : FrameContent → Option (List ℕ) → Session → Session

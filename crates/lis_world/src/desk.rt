@@ -1,24 +1,24 @@
 //! The computer's side of the link: the receiver, and the sessions that it takes frames for.
 
-ghost use Rattle.std.specs.Prelude.{◌≡◌, ◌≢◌, length, ◌∷◌, ◌++◌, [], OnOk, IfOk, Some, None, true, false};
+ghost use Rattle.std.specs.Prelude.{◌≡◌, ◌≢◌, ◌≤◌, ◌+◌, length, ◌∷◌, ◌++◌, [], OnOk, IfOk, true, false};
 ghost use Rattle.lis_frame.specs.Limit.{IsLimit};
-ghost use Rattle.lis_frame.specs.Scanner.{StandsFor};
+ghost use Rattle.lis_frame.specs.Frame.{frame_bytes};
 ghost use Rattle.lis_link.specs.declared.receiver.Note.TheVariants as Notes;
-ghost use Rattle.lis_link.specs.Receiver.{ReceiverState, ReceiverStep, new_receiver, on_byte, on_receiver_timer, receiver_restarted, with_readiness, with_room};
+ghost use Rattle.lis_link.specs.Receiver.{ReceiverState, ReceiverStep, new_receiver, on_receiver_timer, receiver_restarted, with_readiness, with_room};
 ghost use Rattle.lis_link.specs.Stands.{IsIn, IsStep};
 ghost use Rattle.lis_frame.specs.Stream.{signals_after};
 ghost use Rattle.lis_world.specs.Session.{changed};
-ghost use Rattle.lis_world.specs.Unit.{load_bytes};
+ghost use Rattle.lis_world.specs.Unit.{load_bytes, one_frame};
 ghost use Rattle.lis_world.specs.Steps.{is_noticed, room_at};
 ghost use Rattle.lis_world.specs.World.{booked, hears};
-ghost use Rattle.lis_world.specs.Playing.{IsDesk, desk_at, IsHeardAs, takes_frame, follows_with, sends};
+ghost use Rattle.lis_world.specs.Playing.{IsDesk, desk_at, OnlyLoad, TakesLoad, takes_frame, follows_with, sends};
 
 use crate::session::SessionOf;
 use crate::unit::{LoadOf, TravellingOf};
 use arrayvec::ArrayVec;
 use lis_frame::control::{ENQ, EOT};
-use lis_frame::{FrameOf, LinkText, ScannerOf, SignalOf, frame_bytes_of};
-use lis_link::{Note, Outcome, Readiness, ReceiverOf, Step};
+use lis_frame::{FrameOf, Heard, LinkText, frame_bytes_of};
+use lis_link::{Hearing, Note, Outcome, Readiness, ReceiverOf, Step};
 use std::alloc::{AllocError, Global};
 use std::collections::VecDeque;
 use std::marker::Model;
@@ -104,12 +104,10 @@ impl<const N: usize> DeskOf<N> {
     {
         self.caused.clear();
         match &unit.load {
-            LoadOf::Enquiry => self.hear(unit.session, &[ENQ]),
-            LoadOf::Ending => self.hear(unit.session, &[EOT]),
-            LoadOf::Frame(frame) => {
-                let bytes: ArrayVec<u8, 64_000> = frame_bytes_of(frame);
-                self.hear(unit.session, bytes.as_slice())
-            }
+            LoadOf::Enquiry => self.hear(unit, &[ENQ]),
+            LoadOf::Ending => self.hear(unit, &[EOT]),
+            LoadOf::Frame(frame) if N == 240 => self.hear_frame::<247>(unit, frame),
+            LoadOf::Frame(frame) => self.hear_frame::<64_000>(unit, frame),
         }
     }
 
@@ -125,13 +123,15 @@ impl<const N: usize> DeskOf<N> {
         Ok(())
     }
 
-    /// These bytes come in the place of a unit of this session.
-    pub(crate) fn damage(&mut self, session: usize, bytes: &[u8]) -> Result<(), AllocError>
+    /// These bytes come in the place of a unit, if that is noticed.
+    pub(crate) fn damage(&mut self, unit: &TravellingOf<N>, bytes: &[u8]) -> Result<(), AllocError>
         ensures { (r : ReceiverState) → IsIn N self.old.receiver r →
-            OnOk result (IsDesk N self.new (hears N session bytes.now (record (desk_at self.old r) { replies = [] }))) }
+            is_noticed unit.now.load (signals_after N r.past bytes.now) ≡ true →
+            OnOk result (IsDesk N self.new
+            (hears N unit.now.session bytes.now (record (desk_at self.old r) { replies = [] }))) }
     {
         self.caused.clear();
-        self.hear(session, bytes)
+        self.hear(unit, bytes)
     }
 
     /// Whether damage is noticed: what is heard of these bytes in this unit's place is nothing or, of a
@@ -143,9 +143,9 @@ impl<const N: usize> DeskOf<N> {
         let mut scanner = self.receiver.scanner().copy();
         let mut is_bad = false;
         for byte in bytes {
-            match scanner.push(*byte) {
+            match scanner.told(*byte) {
                 None => {}
-                Some(SignalOf::Bad(_)) => {
+                Some(Heard::Bad(_)) => {
                     if is_bad || !unit.is_frame() {
                         return false;
                     }
@@ -153,6 +153,7 @@ impl<const N: usize> DeskOf<N> {
                 }
                 Some(_) => return false,
             }
+            scanner.take(*byte);
         }
         true
     }
@@ -215,45 +216,46 @@ impl<const N: usize> DeskOf<N> {
         sessions
     }
 
-    /// The bytes of a unit of this session come.
-    fn hear(&mut self, session: usize, bytes: &[u8]) -> Result<(), AllocError>
+    /// A frame comes, written into a buffer of `B` bytes.
+    fn hear_frame<const B: usize>(
+        &mut self,
+        unit: &TravellingOf<N>,
+        frame: &FrameOf<N>,
+    ) -> Result<(), AllocError>
+        requires room { N + 7 ≤ B }
+        requires bound { B ≤ 64000 }
+        requires unit { unit.now.load ≡ one_frame frame.now }
         ensures { (r : ReceiverState) → IsIn N self.old.receiver r →
-            OnOk result (IsDesk N self.new (hears N session bytes.now (desk_at self.old r))) }
+            OnOk result (IsDesk N self.new (hears N unit.now.session (frame_bytes frame.now) (desk_at self.old r))) }
     {
-        let mut scanner = self.receiver.scanner().copy();
-        for byte in bytes {
-            self.hear_byte(session, &mut scanner, *byte)?;
+        // That it can be written, and is heard as itself, is known from its number.
+        let _ = frame.number();
+        let bytes: ArrayVec<u8, B> = frame_bytes_of(frame);
+        self.hear(unit, bytes.as_slice())
+    }
+
+    /// Bytes come in the place of a unit; no frame but the unit is among them.
+    fn hear(&mut self, unit: &TravellingOf<N>, bytes: &[u8]) -> Result<(), AllocError>
+        ensures { (r : ReceiverState) → IsIn N self.old.receiver r →
+            OnlyLoad unit.now.load (signals_after N r.past bytes.now) →
+            OnOk result (IsDesk N self.new (hears N unit.now.session bytes.now (desk_at self.old r))) }
+    {
+        let mut taken = 0;
+        while taken < bytes.len() {
+            let Hearing { count, step } = self.receiver.bytes(&bytes[taken..]);
+            taken += count;
+            self.book(unit, step)?;
         }
         Ok(())
     }
 
-    /// One byte comes; the scanner has read what the receiver has.
-    fn hear_byte(
-        &mut self,
-        session: usize,
-        scanner: &mut ScannerOf<N>,
-        byte: u8,
-    ) -> Result<(), AllocError>
-        ensures stream { (r : ReceiverState) → StandsFor N scanner.old r.past → StandsFor N scanner.new (byte ∷ r.past) }
-        ensures desk { (r : ReceiverState) → IsIn N self.old.receiver r → StandsFor N scanner.old r.past →
-            OnOk result (IsDesk N self.new (booked session (on_byte N byte r) (desk_at self.old r))) }
-    {
-        let signal = scanner.push(byte);
-        let step = self.receiver.byte(byte);
-        self.book(session, signal, step)
-    }
-
-    /// What the receiver answered to a signal is booked.
-    fn book(
-        &mut self,
-        session: usize,
-        signal: Option<SignalOf<N>>,
-        step: Step,
-    ) -> Result<(), AllocError>
+    /// What the receiver answered while a unit came is booked; what it accepts is the unit.
+    fn book(&mut self, unit: &TravellingOf<N>, step: Step) -> Result<(), AllocError>
         ensures receiver { self.new.receiver ≡ self.old.receiver }
         ensures memory { OnOk result (step.note ≢ Notes.OutOfMemory) }
-        ensures desk { (meant : ReceiverStep) (r : ReceiverState) → IsStep meant step → IsHeardAs signal.entry meant →
-            OnOk result (desk_at self.new r ≡ record (booked session meant (desk_at self.old r)) { receiver = r }) }
+        ensures desk { (meant : ReceiverStep) (r : ReceiverState) → IsStep meant step → TakesLoad unit.now.load meant →
+            OnOk result (desk_at self.new r
+            ≡ record (booked unit.now.session meant (desk_at self.old r)) { receiver = r }) }
     {
         let Step {
             reply,
@@ -265,10 +267,10 @@ impl<const N: usize> DeskOf<N> {
         }
         match note {
             Note::OutOfMemory => return Err(AllocError),
-            Note::Opened => self.opened = session,
+            Note::Opened => self.opened = unit.session,
             Note::Accepted(_) => {
-                if let Some(SignalOf::Good(frame)) = signal {
-                    self.take(frame, message)?;
+                if let LoadOf::Frame(frame) = &unit.load {
+                    self.take(frame.copy(), message)?;
                 }
             }
             _ => {}

@@ -167,7 +167,7 @@ impl<const N: usize> RunOf<N> {
         let Some(unit) = self.units.pop_front() else {
             return Ok(());
         };
-        self.desk.damage(unit.session, bytes)?;
+        self.desk.damage(&unit, bytes)?;
         self.settle()
     }
 

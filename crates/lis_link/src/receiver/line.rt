@@ -145,7 +145,8 @@ impl Line {
             Makes limit (heard {limit = limit} (heard_signal told.entry) r) result (kept_of self.new scanner) }
         ensures refused { (limit : ℕ) (scanner : Held) (r : ReceiverState) → IsIn limit (kept_of self.old scanner) r →
             result.note ≡ Notes.OutOfMemory →
-            IsRefused limit self.old.spare (heard {limit = limit} (heard_signal told.entry) r) r result (kept_of self.new scanner) }
+            IsRefused limit self.old.spare (heard {limit = limit} (heard_signal told.entry) r) r result
+            (kept_of self.new scanner) }
         ensures spare { (limit : ℕ) (scanner : Held) (r : ReceiverState) → IsIn limit (kept_of self.old scanner) r →
             SpareAfter self.old.spare self.new.spare (heard {limit = limit} (heard_signal told.entry) r).taken }
     {
@@ -214,10 +215,13 @@ impl Line {
 
     /// Answers a good frame.
     pub(crate) fn good(&mut self, frame: &LentFrame<'_>) -> Step
-        ensures step { (limit : ℕ) (scanner : Held) (r : ReceiverState) → IsIn limit (kept_of self.old scanner) r → result.note ≢ Notes.OutOfMemory →
+        ensures step { (limit : ℕ) (scanner : Held) (r : ReceiverState) → IsIn limit (kept_of self.old scanner) r →
+            result.note ≢ Notes.OutOfMemory →
             Makes limit (heard_by {limit = limit} r.is_open (Signals.Good frame.now) r) result (kept_of self.new scanner) }
-        ensures refused { (limit : ℕ) (scanner : Held) (r : ReceiverState) → IsIn limit (kept_of self.old scanner) r → result.note ≡ Notes.OutOfMemory →
-            IsRefused limit self.old.spare (heard_by {limit = limit} r.is_open (Signals.Good frame.now) r) r result (kept_of self.new scanner) }
+        ensures refused { (limit : ℕ) (scanner : Held) (r : ReceiverState) → IsIn limit (kept_of self.old scanner) r →
+            result.note ≡ Notes.OutOfMemory →
+            IsRefused limit self.old.spare (heard_by {limit = limit} r.is_open (Signals.Good frame.now) r) r result
+            (kept_of self.new scanner) }
         ensures spare { (limit : ℕ) (scanner : Held) (r : ReceiverState) → IsIn limit (kept_of self.old scanner) r →
             SpareAfter self.old.spare self.new.spare (heard_by {limit = limit} r.is_open (Signals.Good frame.now) r).taken }
     {

@@ -95,6 +95,9 @@ fn a_disturbed_session_is_done(rt: HostRuntime) -> Result<(), Fail> {
     assert!(rt; gives(rt.alloc(), b"Adrdxdrd", &[done(&[(b'A', 1)])])?);
     // A damaged ENQ isn't possible, a damaged frame is refused and sent again.
     assert!(rt; gives(rt.alloc(), b"A1dr2rdrd", &[done(&[(b'A', 1)])])?);
+    // So it is where noise follows the bad frame, but two bad frames can't come in its place.
+    assert!(rt; gives(rt.alloc(), b"Adr5rdrd", &[done(&[(b'A', 1)])])?);
+    assert!(rt; gives(rt.alloc(), b"Adr6drd", &[done(&[(b'A', 1)])])?);
     // There is no room for the frame, and then there is.
     assert!(rt; gives(rt.alloc(), b"Adrnrdrd", &[done(&[(b'A', 1)])])?);
     // The receiver asks for the line too, once.

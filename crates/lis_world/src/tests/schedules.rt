@@ -7,7 +7,7 @@ use std::alloc::Global;
 use std::test::Fail;
 
 /// The letters of events, each as often as it is to come up.
-const LETTERS: &[u8] = b"ABLMNddddddddddddddddddrrrrrrrrrrrrrrrrrrn1234lxyzotusv+-*";
+const LETTERS: &[u8] = b"ABLMNddddddddddddddddddrrrrrrrrrrrrrrrrrrn123456lxyzotusv+-*";
 
 /// The letters of one schedule: a generator that adds and multiplies.
 fn schedule(alloc: Global, seed: u32, length: usize) -> Result<Vec<u8>, Fail> {

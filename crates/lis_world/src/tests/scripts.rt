@@ -19,6 +19,8 @@ pub(crate) fn event_of(alloc: Global, letter: u8) -> Result<Event, AllocError> {
         b'2' => Event::Damage(bytes_of(alloc, &[0x02, 0x31, 0x0a])?),
         b'3' => Event::Damage(bytes_of(alloc, &[0x02, 0x31, 0x41, 0x03])?),
         b'4' => Event::Damage(bytes_of(alloc, &[0x37, 0x35, 0x0d, 0x0a])?),
+        b'5' => Event::Damage(bytes_of(alloc, b"\x021\nnoise")?),
+        b'6' => Event::Damage(bytes_of(alloc, b"\x021\n\x021\n")?),
         b'l' => Event::Lose,
         b'r' => Event::Reply,
         b'x' => Event::DamageReply(0x7f),

@@ -1,4 +1,4 @@
-use Rattle.std.proofs.Common.{ℕ, ◌-◌, ◌≤◌, length}
+use Rattle.std.proofs.Common.{◌-◌, ◌≤◌, length}
 use Rattle.lis_link.specs.Receiver.{ReceiverState}
 use Rattle.lis_link.specs.Stands.{IsIn}
 use Rattle.lis_link.proofs.HearingLaws.{IsHearing}

@@ -1,4 +1,4 @@
-use Rattle.std.proofs.Common.{take, [], ap, arith}
+use Rattle.std.proofs.Common.{take, [], arith}
 use Rattle.lis_link.specs.Receiver.{with_heard}
 use Rattle.lis_link.proofs.HearingLaws.{beside, front_byte, front_run, front_frame}
 use Rattle.lis_link.proofs.receiver.ReceiverOf.front.Goals as goal

@@ -1,12 +1,19 @@
-use Rattle.std.proofs.Common.{drop}
+use Rattle.std.proofs.Common.{◌-◌, ◌≤◌, drop, length}
+use Rattle.lis_frame.specs.Stream.{signals_after}
 use Rattle.lis_link.specs.Receiver.{ReceiverState}
 use Rattle.lis_link.specs.Stands.{IsIn}
 use Rattle.lis_world.specs.World.{hears}
-use Rattle.lis_world.specs.Playing.{desk_at, IsHearing}
+use Rattle.lis_world.specs.Playing.{desk_at, OnlyLoad}
+use Rattle.lis_world.proofs.PlayingLaws.{IsHearing}
 use Rattle.lis_world.proofs.desk.DeskOf.hear.Given as goal
 
-abbrev pub invariant-loop-byte : goal.invariant-loop-byte
-invariant-loop-byte g l =
-    (r : ReceiverState)
+abbrev pub invariant-loop-taken : goal.invariant-loop-taken
+invariant-loop-taken g l =
+    (l.taken ≤ length l.bytes)
+    × ((r : ReceiverState)
     → IsIn g.row.N l.fn.self.receiver r
-    → IsHearing g.row.N l.session l.self l.scanner (drop l.byte-index l.bytes) (hears g.row.N l.session l.bytes (desk_at l.fn.self r))
+    → OnlyLoad l.unit.load (signals_after g.row.N r.past l.bytes)
+    → IsHearing g.row.N l.unit.session l.unit.load l.self (drop l.taken l.bytes) (hears g.row.N l.unit.session l.bytes (desk_at l.fn.self r)))
+
+abbrev pub decreases-loop-taken : goal.decreases-loop-taken
+decreases-loop-taken g l = length l.bytes - l.taken
