@@ -103,6 +103,7 @@ impl<const N: usize> DeskOf<N> {
             (hears N unit.now.session (load_bytes unit.now.load) (record (desk_at self.old r) { replies = [] }))) }
     {
         self.caused.clear();
+        // The buffer is chosen by the limit: the usual one needs none for the longest frame of all.
         match &unit.load {
             LoadOf::Enquiry => self.hear(unit, &[ENQ]),
             LoadOf::Ending => self.hear(unit, &[EOT]),

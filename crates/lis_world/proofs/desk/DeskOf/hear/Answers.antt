@@ -1,4 +1,4 @@
-use Rattle.std.proofs.Common.{◌+◌, IsOk, arith, rules, drop, length-drop, subst, sym}
+use Rattle.std.proofs.Common.{IsOk, arith, rules, drop, length-drop, subst, sym}
 use Rattle.std.proofs.lemmas.List.{take_rest, drop-drop, drop_all}
 use Rattle.lis_link.specs.Stands.{IsIn}
 use Rattle.lis_world.specs.World.{hears}

@@ -1,4 +1,4 @@
-use Rattle.std.proofs.Common.{sym, ◌∙◌}
+use Rattle.std.proofs.Common.{◌∙◌}
 use Rattle.lis_world.proofs.PlayingLaws.{frame_only}
 use Rattle.lis_world.proofs.desk.DeskOf.hear_frame.Goals as goal
 
