@@ -1,5 +1,6 @@
 -- A capture tells no more than it has bytes.
-use Rattle.std.proofs.Common.{◌≡◌, ℕ, ◌+◌, ◌≤◌, ◌==◌, nat_lt, Bool, true, false, List, [], ◌∷◌, ◌++◌, Option, None, Some, Ok, Err, length, length-append, refl, arith, if◌then◌else◌}
+use Rattle.std.proofs.Common.{◌≡◌, ℕ, ◌+◌, ◌≤◌, ◌==◌, nat_lt, Bool, true, false, List, [], ◌∷◌, ◌++◌, Option, None}
+use Rattle.std.proofs.Common.{Some, Ok, Err, length, length-append, refl, arith, if◌then◌else◌}
 use Rattle.std.specs.Prelude.{codes}
 use Rattle.std.specs.Option.{option_or}
 use Rattle.std.specs.Result.{result_ok}
@@ -13,10 +14,12 @@ use Rattle.lis_link.specs.declared.receiver.Readiness.TheVariants.{Ready, Busy, 
 use Rattle.lis_capture.specs.declared.line.CaptureVersion.{CaptureVersion}
 use Rattle.lis_capture.specs.declared.line.CaptureVersion.TheVariants.{Untold, First, Second}
 use Rattle.lis_capture.specs.declared.line.Line.{Line}
-use Rattle.lis_capture.specs.declared.line.Line.TheVariants.{Empty, FromAnalyzer, FromComputer, Timer, Restart, SetReady, Version}
+use Rattle.lis_capture.specs.declared.line.Line.TheVariants.{Empty, FromAnalyzer, FromComputer, Timer, Restart}
+use Rattle.lis_capture.specs.declared.line.Line.TheVariants.{SetReady, Version}
 use Rattle.lis_capture.specs.Digits.{bytes_of}
 use Rattle.lis_capture.specs.Line.{added_line, line_of, longest_line, plain_line, said, sent_by, without_return}
-use Rattle.lis_capture.specs.Capture.{begun, capture, counts, ended_lines, line_size, next_by, read_lines, size, version_of, with_said}
+use Rattle.lis_capture.specs.Capture.{begun, capture, counts, ended_lines, line_size, next_by, read_lines, size}
+use Rattle.lis_capture.specs.Capture.{version_of, with_said}
 use Rattle.lis_capture.proofs.LineLemmas.{without_return-length}
 
 -- ---- a line tells no more than it is long, and one more
@@ -29,7 +32,8 @@ abbrev ok_size : Option (List ℕ) → ℕ
 ok_size None = 0
 ok_size (Some bytes) = length bytes
 
-pairs_size : (digits : List ℕ) (r : Result (List ℕ) FromHexError) → decode_of digits ≡ r → ok_size (result_ok r) ≤ length digits
+pairs_size : (digits : List ℕ) (r : Result (List ℕ) FromHexError) → decode_of digits ≡ r
+    → ok_size (result_ok r) ≤ length digits
 pairs_size digits (Ok bytes) is = omega (arith, (decode_of-ok digits bytes is).2)
 pairs_size digits (Err e) is = omega arith
 
@@ -37,7 +41,8 @@ bytes_size : (digits : List ℕ) → ok_size (bytes_of digits) ≤ length digits
 bytes_size [] = omega arith
 bytes_size (d ∷ digits) = pairs_size (d ∷ digits) (decode_of (d ∷ digits)) refl
 
-test_size : (t : Bool) (line : Line) (rest : Option Line) (n : ℕ) → line_size line ≤ n → said_size rest ≤ n → said_size (if t then Some line else rest) ≤ n
+test_size : (t : Bool) (line : Line) (rest : Option Line) (n : ℕ) → line_size line ≤ n → said_size rest ≤ n
+    → said_size (if t then Some line else rest) ≤ n
 test_size true line rest n here there = here
 test_size false line rest n here there = there
 
@@ -75,7 +80,8 @@ by_length false line n few = few
 
 line_fits : (version : CaptureVersion) (text : List ℕ) → said_size (line_of version text) ≤ length text + 1
 line_fits version text =
-    by_length (nat_lt longest_line (length text)) _ _ (omega (arith, said_fits version (without_return text), without_return-length text))
+    by_length (nat_lt longest_line (length text)) _ _
+    (omega (arith, said_fits version (without_return text), without_return-length text))
 
 -- ---- and so do the lines
 
@@ -83,15 +89,18 @@ with_fits : (lines : List Line) (o : Option Line) → size (with_said lines o).l
 with_fits lines None = omega arith
 with_fits lines (Some line) = omega arith
 
-next_fits : (refused : Bool) (lines : List Line) (text : List ℕ) → size (next_by refused lines text).lines ≤ size lines + length text + 1
+next_fits : (refused : Bool) (lines : List Line) (text : List ℕ)
+    → size (next_by refused lines text).lines ≤ size lines + length text + 1
 next_fits true lines text = omega arith
 next_fits false lines text =
     omega (arith, with_fits lines (line_of (version_of lines) text), line_fits (version_of lines) text)
 
 abbrev behind : Bool → ℕ → List ℕ → List (List ℕ) → ℕ
-behind ends b text texts = size (read_lines (if ends then text ∷ texts else texts)).lines + length (if ends then [] else text ++ b ∷ [])
+behind ends b text texts =
+    size (read_lines (if ends then text ∷ texts else texts)).lines + length (if ends then [] else text ++ b ∷ [])
 
-byte_fits : (ends : Bool) (b : ℕ) (text : List ℕ) (texts : List (List ℕ)) → behind ends b text texts ≤ size (read_lines texts).lines + length text + 1
+byte_fits : (ends : Bool) (b : ℕ) (text : List ℕ) (texts : List (List ℕ))
+    → behind ends b text texts ≤ size (read_lines texts).lines + length text + 1
 byte_fits true b text texts = omega (arith, next_fits (read_lines texts).refused (read_lines texts).lines text)
 byte_fits false b text texts = omega (arith, length-append text (b ∷ []))
 
@@ -99,12 +108,15 @@ ended_fit : (past : List ℕ) → size (read_lines (ended_lines past)).lines + l
 ended_fit [] = omega arith
 ended_fit (b ∷ past) = omega (arith, byte_fits (b == LF) b (begun past) (ended_lines past), ended_fit past)
 
-begun_fits : (counted : Bool) (text : List ℕ) (texts : List (List ℕ)) → size (read_lines (if counted then text ∷ texts else texts)).lines ≤ size (read_lines texts).lines + length text + 1
+begun_fits : (counted : Bool) (text : List ℕ) (texts : List (List ℕ))
+    → size (read_lines (if counted then text ∷ texts else texts)).lines ≤ size
+    (read_lines texts).lines + length text + 1
 begun_fits true text texts = next_fits (read_lines texts).refused (read_lines texts).lines text
 begun_fits false text texts = omega arith
 
 pub size-capture : (past : List ℕ) (ended : Bool) → size (capture past ended).lines ≤ length past + 1
-size-capture past ended = omega (arith, begun_fits (counts ended (begun past)) (begun past) (ended_lines past), ended_fit past)
+size-capture past ended =
+    omega (arith, begun_fits (counts ended (begun past)) (begun past) (ended_lines past), ended_fit past)
 
 one_line : (line : Line) → 1 ≤ line_size line
 one_line Empty = omega arith

@@ -9,7 +9,8 @@ use Rattle.lis_capture.specs.Spelling.{upgraded, upgraded_lines}
 abbrev pub TellsNoMore : Type 0
 TellsNoMore =
     (past : List ℕ) (ended : Bool)
-    → (size (capture past ended).lines ≤ length past + 1) × (length (capture past ended).lines ≤ size (capture past ended).lines)
+    → (size (capture past ended).lines ≤ length past + 1)
+    × (length (capture past ended).lines ≤ size (capture past ended).lines)
 
 -- where a line is refused, whatever follows says nothing
 abbrev pub RefusedForGood : Type 0
@@ -17,9 +18,11 @@ RefusedForGood =
     (past bytes : List ℕ) (ended : Bool) → (capture past false).refused ≡ true
     → capture (stream_with past bytes) ended ≡ capture past false
 
--- the lines of a capture, written as one of version 2, are read as these lines behind `capture 2`; written so again they are the same text
+-- the lines of a capture, written as one of version 2, are read as these lines behind `capture 2`; written so again
+-- they are the same text
 abbrev pub UpgradedIsRead : Type 0
 UpgradedIsRead =
-    (past : List ℕ) (ended end : Bool) (lines : List Line) → capture past ended ≡ record { lines = lines; refused = false }
+    (past : List ℕ) (ended end : Bool) (lines : List Line)
+    → capture past ended ≡ record { lines = lines; refused = false }
     → (capture (stream_with [] (upgraded lines)) end ≡ record { lines = upgraded_lines lines; refused = false })
     × (upgraded (upgraded_lines lines) ≡ upgraded lines)

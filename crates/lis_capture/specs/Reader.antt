@@ -1,5 +1,6 @@
 -- What a reader of captures keeps.
-use Rattle.std.specs.Prelude.{◌≡◌, ℕ, ◌+◌, min, nat_lt, Bool, true, false, List, [], ◌∷◌, ◌++◌, length, Option, None, Some, if◌then◌else◌}
+use Rattle.std.specs.Prelude.{◌≡◌, ℕ, ◌+◌, min, nat_lt, Bool, true, false, List, [], ◌∷◌, ◌++◌, length, Option, None}
+use Rattle.std.specs.Prelude.{Some, if◌then◌else◌}
 use Rattle.lis_capture.specs.declared.line.CaptureVersion.{CaptureVersion}
 use Rattle.lis_capture.specs.declared.line.Line.{Line}
 use Rattle.lis_capture.specs.declared.line.Line.TheVariants.{Empty}
@@ -66,7 +67,8 @@ is_long text = nat_lt longest_line (length text)
 
 abbrev pub holding : Reading → List ℕ → Reading
 holding r text =
-    if is_long (r.held ++ text) then record r { known = known_with r.known None } else record r { held = r.held ++ text }
+    if is_long (r.held ++ text) then record r { known = known_with r.known None }
+    else record r { held = r.held ++ text }
 
 abbrev pub found_holding : List ℕ → Found
 found_holding text = if is_long text then found.Refused else found.Nothing
