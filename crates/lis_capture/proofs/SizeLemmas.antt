@@ -1,7 +1,9 @@
 -- A capture tells no more than it has bytes.
 use Rattle.std.proofs.Common.{◌≡◌, ℕ, ◌+◌, ◌≤◌, ◌==◌, nat_lt, Bool, true, false, List, [], ◌∷◌, ◌++◌, Option, None}
 use Rattle.std.proofs.Common.{Some, Ok, Err, length, length-append, refl, arith, if◌then◌else◌}
-use Rattle.std.specs.Prelude.{codes}
+use Rattle.std.specs.Prelude.{codes, max}
+use Rattle.std.proofs.lemmas.Bool.{ltb-true}
+use Rattle.std.proofs.lemmas.Bool.Decides.{nat_tests}
 use Rattle.std.specs.Option.{option_or}
 use Rattle.std.specs.Result.{result_ok}
 use Rattle.std.specs.Str.{bytes_eq}
@@ -22,7 +24,11 @@ use Rattle.lis_capture.specs.Capture.{begun, capture, counts, ended_lines, line_
 use Rattle.lis_capture.specs.Capture.{version_of, with_said}
 use Rattle.lis_capture.proofs.LineLemmas.{without_return-length}
 
--- ---- a line tells no more than it is long, and one more
+-- ---- a line that has a byte tells no more than it is long
+
+-- what a line of so many bytes may tell
+abbrev most : List ℕ → ℕ
+most text = max 1 (length text)
 
 abbrev said_size : Option Line → ℕ
 said_size None = 0
@@ -52,7 +58,7 @@ sent_size mark (Some bytes) n few =
     test_size (bytes_eq mark (codes "> ")) (FromAnalyzer bytes) _ (n + 1) (omega (arith, few))
     (test_size (bytes_eq mark (codes "< ")) (FromComputer bytes) None (n + 1) (omega (arith, few)) (omega arith))
 
-plain_size : (text : List ℕ) → said_size (plain_line text) ≤ length text + 1
+plain_size : (text : List ℕ) → said_size (plain_line text) ≤ most text
 plain_size [] = omega arith
 plain_size (letter ∷ []) = test_size (bytes_eq (letter ∷ []) (codes "T")) Timer None _ (omega arith) (omega arith)
 plain_size (mark ∷ space ∷ digits) =
@@ -69,7 +75,7 @@ or_size : (a b : Option Line) (n : ℕ) → said_size a ≤ n → said_size b �
 or_size None b n here there = there
 or_size (Some line) b n here there = here
 
-said_fits : (version : CaptureVersion) (text : List ℕ) → said_size (said version text) ≤ length text + 1
+said_fits : (version : CaptureVersion) (text : List ℕ) → said_size (said version text) ≤ most text
 said_fits Untold text = test_size (bytes_eq text (codes "capture 2")) Version _ _ (omega arith) (plain_size text)
 said_fits First text = plain_size text
 said_fits Second text = or_size (plain_line text) (added_line text) _ (plain_size text) (omega (arith, added_size text))
@@ -78,7 +84,7 @@ by_length : (t : Bool) (line : Option Line) (n : ℕ) → said_size line ≤ n �
 by_length true line n few = omega arith
 by_length false line n few = few
 
-line_fits : (version : CaptureVersion) (text : List ℕ) → said_size (line_of version text) ≤ length text + 1
+line_fits : (version : CaptureVersion) (text : List ℕ) → said_size (line_of version text) ≤ most text
 line_fits version text =
     by_length (nat_lt longest_line (length text)) _ _
     (omega (arith, said_fits version (without_return text), without_return-length text))
@@ -90,7 +96,7 @@ with_fits lines None = omega arith
 with_fits lines (Some line) = omega arith
 
 next_fits : (refused : Bool) (lines : List Line) (text : List ℕ)
-    → size (next_by refused lines text).lines ≤ size lines + length text + 1
+    → size (next_by refused lines text).lines ≤ size lines + most text
 next_fits true lines text = omega arith
 next_fits false lines text =
     omega (arith, with_fits lines (line_of (version_of lines) text), line_fits (version_of lines) text)
@@ -108,15 +114,21 @@ ended_fit : (past : List ℕ) → size (read_lines (ended_lines past)).lines + l
 ended_fit [] = omega arith
 ended_fit (b ∷ past) = omega (arith, byte_fits (b == LF) b (begun past) (ended_lines past), ended_fit past)
 
-begun_fits : (counted : Bool) (text : List ℕ) (texts : List (List ℕ))
-    → size (read_lines (if counted then text ∷ texts else texts)).lines ≤ size
-    (read_lines texts).lines + length text + 1
-begun_fits true text texts = next_fits (read_lines texts).refused (read_lines texts).lines text
-begun_fits false text texts = omega arith
+-- at the end of the input a line that is begun has a byte, and before it one that counts is too long
+begun_fits : (counted : Bool) (text : List ℕ) (texts : List (List ℕ)) → (counted ≡ true → 1 ≤ length text)
+    → size (read_lines (if counted then text ∷ texts else texts)).lines ≤ size (read_lines texts).lines + length text
+begun_fits true text texts some =
+    omega (arith, next_fits (read_lines texts).refused (read_lines texts).lines text, some refl)
+begun_fits false text texts some = omega arith
 
-pub size-capture : (past : List ℕ) (ended : Bool) → size (capture past ended).lines ≤ length past + 1
+counts_some : (ended : Bool) (text : List ℕ) → counts ended text ≡ true → 1 ≤ length text
+counts_some true text counted = grind (arith, nat_tests)
+counts_some false text counted = omega (arith, ltb-true longest_line (length text) counted)
+
+pub size-capture : (past : List ℕ) (ended : Bool) → size (capture past ended).lines ≤ length past
 size-capture past ended =
-    omega (arith, begun_fits (counts ended (begun past)) (begun past) (ended_lines past), ended_fit past)
+    let last = begun_fits (counts ended (begun past)) (begun past) (ended_lines past) (counts_some ended (begun past)) in
+    omega (arith, last, ended_fit past)
 
 one_line : (line : Line) → 1 ≤ line_size line
 one_line Empty = omega arith

@@ -1,15 +1,15 @@
 -- The statements of the laws.
-use Rattle.std.specs.Prelude.{◌≡◌, ◌≤◌, ◌+◌, ℕ, Bool, true, false, List, [], length}
+use Rattle.std.specs.Prelude.{◌≡◌, ◌≤◌, ℕ, Bool, true, false, List, [], length}
 use Rattle.lis_frame.specs.Stream.{stream_with}
 use Rattle.lis_capture.specs.declared.line.Line.{Line}
 use Rattle.lis_capture.specs.Capture.{capture, size}
 use Rattle.lis_capture.specs.Spelling.{upgraded, upgraded_lines}
 
--- a capture tells no more than it has bytes, and has no more lines
+-- the lines of a capture and the bytes that they tell are together no more than its bytes
 abbrev pub TellsNoMore : Type 0
 TellsNoMore =
     (past : List ℕ) (ended : Bool)
-    → (size (capture past ended).lines ≤ length past + 1)
+    → (size (capture past ended).lines ≤ length past)
     × (length (capture past ended).lines ≤ size (capture past ended).lines)
 
 -- where a line is refused, whatever follows says nothing

@@ -2,8 +2,8 @@
 
 ghost use Rattle.lis_capture.specs.Laws.{RefusedForGood, TellsNoMore, UpgradedIsRead};
 
-/// A capture tells no more than it has bytes, and has no more lines: so who counts either in 64 bits
-/// loses none.
+/// The lines of a capture and the bytes that they tell are together no more than its bytes: so who
+/// counts them in 64 bits loses none.
 pub fn tells_no_more()
     ensures { TellsNoMore }
 {}
