@@ -1,4 +1,5 @@
 -- Reading a capture by slices.
+use Rattle.std.proofs.Common.{◌<◌}
 use Rattle.std.proofs.Common.{◌≡◌, ℕ, ◌+◌, Bool, true, false, List, [], ◌∷◌, ◌++◌, Option, None, Some, is_some}
 use Rattle.std.proofs.Common.{unwrap_or, length, slice_index, take, refl, sym, ◌∙◌, ap, subst, arith, if◌then◌else◌}
 use Rattle.std.proofs.lemmas.Bool.{eqb-true}
@@ -11,7 +12,7 @@ use Rattle.lis_capture.specs.declared.line.Line.{Line}
 use Rattle.lis_capture.specs.declared.reader.Found.{Found}
 use Rattle.lis_capture.specs.declared.reader.Found.TheVariants as found
 use Rattle.lis_capture.specs.Line.{line_of, version_after}
-use Rattle.lis_capture.specs.Capture.{Lines, begun, capture, version_of, with_said}
+use Rattle.lis_capture.specs.Capture.{Lines, begun, capture, number_of, version_of, with_said}
 use Rattle.lis_capture.specs.Reader.{HasRead, Known, Reading, capped, found_holding, found_lines, found_of, holding}
 use Rattle.lis_capture.specs.Reader.{is_long, known_of, known_with}
 use Rattle.lis_capture.proofs.CaptureLemmas.{begun-ended, begun-within, capture-ended, capture-long, capture-within}
@@ -47,6 +48,15 @@ found_lines-found_of : (read : Lines) (known : Known) (said : Option Line)
     → with_said read.lines said ≡ found_lines read (found_of said) (known_with known said).line
 found_lines-found_of read known None = refl
 found_lines-found_of read known (Some line) = refl
+
+-- a number is exact where there are fewer lines than it can count
+number_fits : (refused : Bool) (n : ℕ) → n < 18446744073709551615
+    → capped (if refused then n + 1 else n) ≡ (if refused then n + 1 else n)
+number_fits true n few = omega arith
+number_fits false n few = omega arith
+
+pub number-known_of : (read : Lines) → length read.lines < 18446744073709551615 → (known_of read).number ≡ number_of read
+number-known_of read few = number_fits read.refused (length read.lines) few
 
 -- ---- bytes that end a line, and bytes that don't
 

@@ -58,6 +58,10 @@ read_lines (text ∷ texts) = next_by (read_lines texts).refused (read_lines tex
 abbrev pub capture : List ℕ → Bool → Lines
 capture past ended = read_lines (lines_of past ended)
 
+-- the number of the last line, from 1, of a refused one too
+abbrev pub number_of : Lines → ℕ
+number_of read = if read.refused then length read.lines + 1 else length read.lines
+
 -- ---- how much lines tell
 
 -- the bytes of a line, and one more for the line

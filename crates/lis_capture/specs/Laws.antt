@@ -1,8 +1,9 @@
 -- The statements of the laws.
-use Rattle.std.specs.Prelude.{◌≡◌, ◌≤◌, ℕ, Bool, true, false, List, [], length}
+use Rattle.std.specs.Prelude.{◌≡◌, ◌≤◌, ◌<◌, ◌-◌, ◌^◌, ℕ, Bool, true, false, List, [], length}
 use Rattle.lis_frame.specs.Stream.{stream_with}
 use Rattle.lis_capture.specs.declared.line.Line.{Line}
-use Rattle.lis_capture.specs.Capture.{capture, size}
+use Rattle.lis_capture.specs.Capture.{capture, number_of, size}
+use Rattle.lis_capture.specs.Reader.{HasRead, Reading}
 use Rattle.lis_capture.specs.Spelling.{upgraded, upgraded_lines}
 
 -- the lines of a capture and the bytes that they tell are together no more than its bytes
@@ -11,6 +12,12 @@ TellsNoMore =
     (past : List ℕ) (ended : Bool)
     → (size (capture past ended).lines ≤ length past)
     × (length (capture past ended).lines ≤ size (capture past ended).lines)
+
+-- the number that a reader tells is that of the last line, in any capture that can be read
+abbrev pub NumbersAreExact : Type 0
+NumbersAreExact =
+    (reader : Reading) (past : List ℕ) → HasRead reader past → length past < 2 ^ 64 - 1
+    → reader.known.number ≡ number_of (capture past false)
 
 -- where a line is refused, whatever follows says nothing
 abbrev pub RefusedForGood : Type 0

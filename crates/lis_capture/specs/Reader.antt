@@ -7,7 +7,7 @@ use Rattle.lis_capture.specs.declared.line.Line.TheVariants.{Empty}
 use Rattle.lis_capture.specs.declared.reader.Found.{Found}
 use Rattle.lis_capture.specs.declared.reader.Found.TheVariants as found
 use Rattle.lis_capture.specs.Line.{longest_line, version_after}
-use Rattle.lis_capture.specs.Capture.{Lines, begun, capture, version_of}
+use Rattle.lis_capture.specs.Capture.{Lines, begun, capture, number_of, version_of}
 
 -- what is to be known of the lines so far: their version, whether one is refused, the number of the last one, and what
 -- the last one says that isn't refused
@@ -34,7 +34,7 @@ abbrev pub known_of : Lines → Known
 known_of read = record {
   version = version_of read.lines;
   refused = read.refused;
-  number = capped (if read.refused then length read.lines + 1 else length read.lines);
+  number = capped (number_of read);
   line = last_of read.lines;
 }
 
