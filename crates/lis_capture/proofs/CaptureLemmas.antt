@@ -1,5 +1,7 @@
 -- The lines of a stream that goes on.
-use Rattle.std.proofs.Common.{◌≡◌, ℕ, suc, ◌<◌, ◌≤◌, ◌==◌, not, Bool, true, false, List, [], ◌∷◌, ◌++◌, None, length, length-take, slice_index, take, refl, sym, ◌∙◌, ap, subst, arith, append-nil, append_assoc, if◌then◌else◌}
+use Rattle.std.proofs.Common.{◌≡◌, ℕ, suc, ◌<◌, ◌≤◌, ◌==◌, not, Bool, true, false, List, [], ◌∷◌, ◌++◌, None, length}
+use Rattle.std.proofs.Common.{length-take, slice_index, take, refl, sym, ◌∙◌, ap, subst, arith, append-nil}
+use Rattle.std.proofs.Common.{append_assoc, if◌then◌else◌}
 use Rattle.std.proofs.lemmas.List.{get_or-take}
 use Rattle.std.proofs.lemmas.Bool.{ltb-true, lt-ltb}
 use Rattle.std.proofs.lemmas.Bool.Decides.{nat_tests}
@@ -22,7 +24,8 @@ pub stream_with-append : (past xs ys : List ℕ) → stream_with past (xs ++ ys)
 stream_with-append past [] ys = refl
 stream_with-append past (b ∷ xs) ys = stream_with-append (b ∷ past) xs ys
 
-begun_by : (test : Bool) (past text : List ℕ) (b : ℕ) → test ≡ false → (if test then [] else begun past ++ b ∷ []) ++ text ≡ begun past ++ b ∷ text
+begun_by : (test : Bool) (past text : List ℕ) (b : ℕ) → test ≡ false
+    → (if test then [] else begun past ++ b ∷ []) ++ text ≡ begun past ++ b ∷ text
 begun_by test past text b e = rw e (append_assoc (begun past) (b ∷ []) text)
 
 same_end : (test : Bool) (rest : Bool) → (if test then true else rest) ≡ false → (test ≡ false) × (rest ≡ false)
@@ -35,7 +38,8 @@ begun-within past (b ∷ text) none =
     let parts = same_end (b == LF) (has_end text) none in
     begun-within (b ∷ past) text parts.1 ∙ begun_by (b == LF) past text b parts.0
 
-pub ended_lines-within : (past text : List ℕ) → has_end text ≡ false → ended_lines (stream_with past text) ≡ ended_lines past
+pub ended_lines-within : (past text : List ℕ) → has_end text ≡ false
+    → ended_lines (stream_with past text) ≡ ended_lines past
 ended_lines-within past [] none = refl
 ended_lines-within past (b ∷ text) none =
     let parts = same_end (b == LF) (has_end text) none in
@@ -45,32 +49,44 @@ ended_lines-within past (b ∷ text) none =
 -- ---- where no line is refused
 
 -- a text that is too long is refused, whatever it is
-refused_long : (refused : Bool) (lines : List Line) (text : List ℕ) → is_long text ≡ true → next_by refused lines text ≡ record { lines = lines; refused = true }
+refused_long : (refused : Bool) (lines : List Line) (text : List ℕ) → is_long text ≡ true
+    → next_by refused lines text ≡ record { lines = lines; refused = true }
 refused_long true lines text long = refl
 refused_long false lines text long =
     ap (λ (l : Bool). with_said lines (if l then None else said (version_of lines) (without_return text))) long
 
+-- the lines with the one that is begun, where it counts
+abbrev with_begun : Bool → List ℕ → List (List ℕ) → Lines
+with_begun counted text texts = read_lines (if counted then text ∷ texts else texts)
+
 -- the line that is begun isn't too long, and the ended lines are those of the capture
-pub short_here : (past : List ℕ) (long : Bool) → is_long (begun past) ≡ long → (capture past false).refused ≡ false → long ≡ false
+pub short_here : (past : List ℕ) (long : Bool) → is_long (begun past) ≡ long → (capture past false).refused ≡ false
+    → long ≡ false
 short_here past false is fine = refl
 short_here past true is fine =
     let all : (read_lines (begun past ∷ ended_lines past)).refused ≡ false =
-    subst (λ (t : Bool). (read_lines (if t then begun past ∷ ended_lines past else ended_lines past)).refused ≡ false) is fine in
-    sym (ap (λ (r : Lines). r.refused) (refused_long (read_lines (ended_lines past)).refused (read_lines (ended_lines past)).lines (begun past) is)) ∙ all
+    subst (λ (t : Bool). (with_begun t (begun past) (ended_lines past)).refused ≡ false) is fine in
+    sym (ap (λ (r : Lines). r.refused)
+    (refused_long (read_lines (ended_lines past)).refused (read_lines (ended_lines past)).lines (begun past) is))
+    ∙ all
 
-pub capture_here : (past : List ℕ) → (capture past false).refused ≡ false → capture past false ≡ read_lines (ended_lines past)
+pub capture_here : (past : List ℕ) → (capture past false).refused ≡ false
+    → capture past false ≡ read_lines (ended_lines past)
 capture_here past fine =
-    ap (λ (t : Bool). read_lines (if t then begun past ∷ ended_lines past else ended_lines past)) (short_here past (is_long (begun past)) refl fine)
+    ap (λ (t : Bool). read_lines (if t then begun past ∷ ended_lines past else ended_lines past))
+    (short_here past (is_long (begun past)) refl fine)
 
 -- the lines with one more text
 abbrev pub with_text : Lines → List ℕ → Lines
 with_text read text = with_said read.lines (line_of (version_of read.lines) text)
 
-next_here : (read : Lines) (text : List ℕ) → read.refused ≡ false → next_by read.refused read.lines text ≡ with_text read text
+next_here : (read : Lines) (text : List ℕ) → read.refused ≡ false
+    → next_by read.refused read.lines text ≡ with_text read text
 next_here read text fine = rw fine refl
 
 -- the lines and the text behind them
-read_more : (past text : List ℕ) → (capture past false).refused ≡ false → read_lines (text ∷ ended_lines past) ≡ with_text (capture past false) text
+read_more : (past text : List ℕ) → (capture past false).refused ≡ false
+    → read_lines (text ∷ ended_lines past) ≡ with_text (capture past false) text
 read_more past text fine =
     let here = capture_here past fine in
     next_here (read_lines (ended_lines past)) text (ap (λ (r : Lines). r.refused) (sym here) ∙ fine)
@@ -95,11 +111,15 @@ lines-within :
     → capture (stream_with past text) false
     ≡ read_lines (if is_long (begun past ++ text) then (begun past ++ text) ∷ ended_lines past else ended_lines past)
 lines-within past text none =
-    ap (λ (l : List ℕ). read_lines (if is_long l then l ∷ ended_lines (stream_with past text) else ended_lines (stream_with past text))) (begun-within past text none)
-    ∙ ap (λ (e : List (List ℕ)). read_lines (if is_long (begun past ++ text) then (begun past ++ text) ∷ e else e)) (ended_lines-within past text none)
+    ap (λ (l : List ℕ). read_lines
+    (if is_long l then l ∷ ended_lines (stream_with past text) else ended_lines (stream_with past text)))
+    (begun-within past text none)
+    ∙ ap (λ (e : List (List ℕ)). read_lines (if is_long (begun past ++ text) then (begun past ++ text) ∷ e else e))
+    (ended_lines-within past text none)
 
 pub capture-within :
-    (past text : List ℕ) → (capture past false).refused ≡ false → has_end text ≡ false → is_long (begun past ++ text) ≡ false
+    (past text : List ℕ) → (capture past false).refused ≡ false → has_end text ≡ false
+    → is_long (begun past ++ text) ≡ false
     → capture (stream_with past text) false ≡ capture past false
 capture-within past text fine none short =
     lines-within past text none
@@ -108,10 +128,12 @@ capture-within past text fine none short =
 
 -- a text that is too long says nothing
 pub line_of-long : (read : Lines) (text : List ℕ) → is_long text ≡ true → line_of (version_of read.lines) text ≡ None
-line_of-long read text long = ap (λ (l : Bool). if l then None else said (version_of read.lines) (without_return text)) long
+line_of-long read text long =
+    ap (λ (l : Bool). if l then None else said (version_of read.lines) (without_return text)) long
 
 pub capture-long :
-    (past text : List ℕ) → (capture past false).refused ≡ false → has_end text ≡ false → is_long (begun past ++ text) ≡ true
+    (past text : List ℕ) → (capture past false).refused ≡ false → has_end text ≡ false
+    → is_long (begun past ++ text) ≡ true
     → capture (stream_with past text) false ≡ with_said (capture past false).lines None
 capture-long past text fine none long =
     lines-within past text none
@@ -125,13 +147,16 @@ test_false : (t rest : Bool) → (t ≡ true → ⊥) → rest ≡ false → (if
 test_false true rest never later = absurd (never refl)
 test_false false rest never later = later
 
-pub has_end-none : (text : List ℕ) → ((k : ℕ) → k < length text → (slice_index text k == LF) ≡ true → ⊥) → has_end text ≡ false
+pub has_end-none : (text : List ℕ) → ((k : ℕ) → k < length text → (slice_index text k == LF) ≡ true → ⊥)
+    → has_end text ≡ false
 has_end-none [] none = refl
 has_end-none (b ∷ text) none =
-    test_false (b == LF) (has_end text) (none 0 (omega arith)) (has_end-none text (λ k inside. none (suc k) (omega arith)))
+    test_false (b == LF) (has_end text) (none 0 (omega arith))
+    (has_end-none text (λ k inside. none (suc k) (omega arith)))
 
 pub has_end-before :
-    (bytes : List ℕ) (place : ℕ) → place ≤ length bytes → ((k : ℕ) → 0 ≤ k → k < place → (slice_index bytes k == LF) ≡ true → ⊥)
+    (bytes : List ℕ) (place : ℕ) → place ≤ length bytes
+    → ((k : ℕ) → 0 ≤ k → k < place → (slice_index bytes k == LF) ≡ true → ⊥)
     → has_end (take place bytes) ≡ false
 has_end-before bytes place fits none =
     has_end-none (take place bytes) (λ k inside is.
@@ -143,20 +168,19 @@ has_end-before bytes place fits none =
 -- a text behind a refused one is passed over
 refused_stays : (read : Lines) (text : List ℕ) → read.refused ≡ true → next_by read.refused read.lines text ≡ read
 refused_stays read text refused =
-    ap (λ (r : Bool). next_by r read.lines text) refused ∙ ap (λ (r : Bool). let all : Lines = record { lines = read.lines; refused = r } in all) (sym refused)
-
--- the lines with the one that is begun, where it counts
-abbrev with_begun : Bool → List ℕ → List (List ℕ) → Lines
-with_begun counted text texts = read_lines (if counted then text ∷ texts else texts)
+    ap (λ (r : Bool). next_by r read.lines text) refused
+    ∙ ap (λ (r : Bool). let all : Lines = record { lines = read.lines; refused = r } in all) (sym refused)
 
 refused_begun :
-    (counted : Bool) (text : List ℕ) (texts : List (List ℕ)) → (read_lines texts).refused ≡ true → with_begun counted text texts ≡ read_lines texts
+    (counted : Bool) (text : List ℕ) (texts : List (List ℕ)) → (read_lines texts).refused ≡ true
+    → with_begun counted text texts ≡ read_lines texts
 refused_begun true text texts refused = refused_stays (read_lines texts) text refused
 refused_begun false text texts refused = refl
 
 long_more : (text : List ℕ) (b : ℕ) → is_long text ≡ true → is_long (text ++ b ∷ []) ≡ true
 long_more text b long =
-    lt-ltb longest_line (length (text ++ b ∷ [])) (omega (arith, ltb-true longest_line (length text) long, length-append text (b ∷ [])))
+    lt-ltb longest_line (length (text ++ b ∷ []))
+    (omega (arith, ltb-true longest_line (length text) long, length-append text (b ∷ [])))
 
 -- a byte more, whether it ends the line or not
 abbrev behind : Bool → ℕ → List ℕ → List (List ℕ) → Lines
@@ -165,7 +189,8 @@ behind ends b text texts =
     with_begun (is_long begun_then) begun_then (if ends then text ∷ texts else texts)
 
 refused_byte :
-    (long ends : Bool) (b : ℕ) (text : List ℕ) (texts : List (List ℕ)) → is_long text ≡ long → (with_begun long text texts).refused ≡ true
+    (long ends : Bool) (b : ℕ) (text : List ℕ) (texts : List (List ℕ)) → is_long text ≡ long
+    → (with_begun long text texts).refused ≡ true
     → behind ends b text texts ≡ with_begun long text texts
 refused_byte true true b text texts is refused = refl
 refused_byte true false b text texts is refused =
@@ -174,9 +199,11 @@ refused_byte true false b text texts is refused =
     ∙ refused_long (read_lines texts).refused (read_lines texts).lines (text ++ b ∷ []) longer
     ∙ sym (refused_long (read_lines texts).refused (read_lines texts).lines text is)
 refused_byte false true b text texts is refused = refused_stays (read_lines texts) text refused
-refused_byte false false b text texts is refused = refused_begun (is_long (text ++ b ∷ [])) (text ++ b ∷ []) texts refused
+refused_byte false false b text texts is refused =
+    refused_begun (is_long (text ++ b ∷ [])) (text ++ b ∷ []) texts refused
 
-refused_bytes : (past bytes : List ℕ) → (capture past false).refused ≡ true → capture (stream_with past bytes) false ≡ capture past false
+refused_bytes : (past bytes : List ℕ) → (capture past false).refused ≡ true
+    → capture (stream_with past bytes) false ≡ capture past false
 refused_bytes past [] refused = refl
 refused_bytes past (b ∷ bytes) refused =
     let once : capture (b ∷ past) false ≡ capture past false =
@@ -190,18 +217,21 @@ long_counts text long =
     grind (arith, nat_tests)
 
 refused_at_end :
-    (long : Bool) (text : List ℕ) (texts : List (List ℕ)) → is_long text ≡ long → (with_begun long text texts).refused ≡ true
+    (long : Bool) (text : List ℕ) (texts : List (List ℕ)) → is_long text ≡ long
+    → (with_begun long text texts).refused ≡ true
     → with_begun (not (length text == 0)) text texts ≡ with_begun long text texts
 refused_at_end true text texts is refused = ap (λ (t : Bool). with_begun t text texts) (long_counts text is)
 refused_at_end false text texts is refused = refused_begun (not (length text == 0)) text texts refused
 
-refused_end : (past : List ℕ) (ended : Bool) → (capture past false).refused ≡ true → capture past ended ≡ capture past false
+refused_end : (past : List ℕ) (ended : Bool) → (capture past false).refused ≡ true
+    → capture past ended ≡ capture past false
 refused_end past true refused = refused_at_end (is_long (begun past)) (begun past) (ended_lines past) refl refused
 refused_end past false refused = refl
 
 -- whatever follows a refused line, nothing more is carried out
 pub capture-refused :
-    (past bytes : List ℕ) (ended : Bool) → (capture past false).refused ≡ true → capture (stream_with past bytes) ended ≡ capture past false
+    (past bytes : List ℕ) (ended : Bool) → (capture past false).refused ≡ true
+    → capture (stream_with past bytes) ended ≡ capture past false
 capture-refused past bytes ended refused =
     let all = refused_bytes past bytes refused in
     refused_end (stream_with past bytes) ended (ap (λ (r : Lines). r.refused) all ∙ refused) ∙ all

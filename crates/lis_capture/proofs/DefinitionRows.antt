@@ -5,7 +5,8 @@ use Rattle.hex.specs.Hex.{decode_pairs, encode_with}
 use Rattle.lis_frame.specs.Stream.{stream_with}
 use Rattle.lis_link.specs.declared.receiver.Readiness.TheVariants.{Ready, Busy, Contending}
 use Rattle.lis_capture.specs.declared.line.CaptureVersion.TheVariants.{First}
-use Rattle.lis_capture.specs.declared.line.Line.TheVariants.{Empty, FromAnalyzer, FromComputer, Timer, Restart, SetReady, Version}
+use Rattle.lis_capture.specs.declared.line.Line.TheVariants.{Empty, FromAnalyzer, FromComputer, Timer, Restart}
+use Rattle.lis_capture.specs.declared.line.Line.TheVariants.{SetReady, Version}
 use Rattle.lis_capture.specs.Line.{line_of}
 use Rattle.lis_capture.specs.Capture.{capture}
 use Rattle.lis_capture.specs.Spelling.{upgraded}
@@ -20,23 +21,28 @@ version_one = refl
 version_two :
     capture (stream_with [] (codes "capture 2\r\nS busy\nS ready\nS contending\nR\n> 0aFf\n")) false
     ≡ record {
-      lines = FromAnalyzer (10 ∷ 255 ∷ []) ∷ Restart ∷ SetReady Contending ∷ SetReady Ready ∷ SetReady Busy ∷ Version ∷ [];
+      lines =
+          FromAnalyzer (10 ∷ 255 ∷ []) ∷ Restart ∷ SetReady Contending ∷ SetReady Ready ∷ SetReady Busy ∷ Version ∷ [];
       refused = false;
     }
 unfolding decode_pairs
 version_two = refl
 
 -- a last line without LF is a line at the end of the input
-last_line_before_the_end : capture (stream_with [] (codes "T\nT")) false ≡ record { lines = Timer ∷ []; refused = false }
+last_line_before_the_end : capture (stream_with [] (codes "T\nT")) false
+    ≡ record { lines = Timer ∷ []; refused = false }
 last_line_before_the_end = refl
 
-last_line_at_the_end : capture (stream_with [] (codes "T\nT")) true ≡ record { lines = Timer ∷ Timer ∷ []; refused = false }
+last_line_at_the_end : capture (stream_with [] (codes "T\nT")) true
+    ≡ record { lines = Timer ∷ Timer ∷ []; refused = false }
 last_line_at_the_end = refl
 
-last_line_of_a_return : capture (stream_with [] (codes "T\n\r")) true ≡ record { lines = Empty ∷ Timer ∷ []; refused = false }
+last_line_of_a_return : capture (stream_with [] (codes "T\n\r")) true
+    ≡ record { lines = Empty ∷ Timer ∷ []; refused = false }
 last_line_of_a_return = refl
 
-nothing_behind_the_last_end : capture (stream_with [] (codes "T\n")) true ≡ record { lines = Timer ∷ []; refused = false }
+nothing_behind_the_last_end : capture (stream_with [] (codes "T\n")) true
+    ≡ record { lines = Timer ∷ []; refused = false }
 nothing_behind_the_last_end = refl
 
 no_line : capture [] true ≡ record { lines = []; refused = false }
@@ -55,15 +61,18 @@ unfolding decode_pairs
 version_three = refl
 
 version_in_a_later_line :
-    capture (stream_with [] (codes "> 05\ncapture 2\nT\n")) true ≡ record { lines = FromAnalyzer (5 ∷ []) ∷ []; refused = true }
+    capture (stream_with [] (codes "> 05\ncapture 2\nT\n")) true
+    ≡ record { lines = FromAnalyzer (5 ∷ []) ∷ []; refused = true }
 unfolding decode_pairs
 version_in_a_later_line = refl
 
-version_twice : capture (stream_with [] (codes "capture 2\ncapture 2\n")) true ≡ record { lines = Version ∷ []; refused = true }
+version_twice : capture (stream_with [] (codes "capture 2\ncapture 2\n")) true
+    ≡ record { lines = Version ∷ []; refused = true }
 unfolding decode_pairs
 version_twice = refl
 
-no_readiness : capture (stream_with [] (codes "capture 2\nS off\n")) true ≡ record { lines = Version ∷ []; refused = true }
+no_readiness : capture (stream_with [] (codes "capture 2\nS off\n")) true
+    ≡ record { lines = Version ∷ []; refused = true }
 unfolding decode_pairs
 no_readiness = refl
 

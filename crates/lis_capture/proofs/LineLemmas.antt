@@ -1,5 +1,6 @@
 -- The CR at the end of a line.
-use Rattle.std.proofs.Common.{◌≡◌, ℕ, ◌≤◌, ◌==◌, Bool, true, false, List, [], ◌∷◌, ◌++◌, length, refl, ap, arith, if◌then◌else◌}
+use Rattle.std.proofs.Common.{◌≡◌, ℕ, ◌≤◌, ◌==◌, Bool, true, false, List, [], ◌∷◌, ◌++◌, length, refl, ap, arith}
+use Rattle.std.proofs.Common.{if◌then◌else◌}
 use Rattle.lis_frame.specs.declared.control.TheConstants.{CR}
 use Rattle.lis_capture.specs.Line.{without_return}
 
@@ -8,7 +9,8 @@ return_dropped [] last e = rw e refl
 return_dropped (b ∷ []) last e = ap (λ (l : List ℕ). b ∷ l) (return_dropped [] last e)
 return_dropped (b ∷ c ∷ front) last e = ap (λ (l : List ℕ). b ∷ l) (return_dropped (c ∷ front) last e)
 
-pub line_kept : (front : List ℕ) (last : ℕ) → (last == CR) ≡ false → without_return (front ++ last ∷ []) ≡ front ++ last ∷ []
+pub line_kept : (front : List ℕ) (last : ℕ) → (last == CR) ≡ false
+    → without_return (front ++ last ∷ []) ≡ front ++ last ∷ []
 line_kept [] last e = rw e refl
 line_kept (b ∷ []) last e = ap (λ (l : List ℕ). b ∷ l) (line_kept [] last e)
 line_kept (b ∷ c ∷ front) last e = ap (λ (l : List ℕ). b ∷ l) (line_kept (c ∷ front) last e)

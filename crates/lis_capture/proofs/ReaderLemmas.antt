@@ -1,5 +1,7 @@
 -- Reading a capture by slices.
-use Rattle.std.proofs.Common.{◌≡◌, ℕ, ◌+◌, Bool, true, false, List, [], ◌∷◌, ◌++◌, Option, None, Some, is_some, unwrap_or, length, slice_index, take, refl, sym, ◌∙◌, ap, subst, arith, if◌then◌else◌}
+use Rattle.std.proofs.Common.{◌<◌}
+use Rattle.std.proofs.Common.{◌≡◌, ℕ, ◌+◌, Bool, true, false, List, [], ◌∷◌, ◌++◌, Option, None, Some, is_some}
+use Rattle.std.proofs.Common.{unwrap_or, length, slice_index, take, refl, sym, ◌∙◌, ap, subst, arith, if◌then◌else◌}
 use Rattle.std.proofs.lemmas.Bool.{eqb-true}
 use Rattle.std.proofs.lemmas.List.{take_all, take_more}
 use Rattle.lis_frame.specs.declared.control.TheConstants.{LF}
@@ -10,9 +12,11 @@ use Rattle.lis_capture.specs.declared.line.Line.{Line}
 use Rattle.lis_capture.specs.declared.reader.Found.{Found}
 use Rattle.lis_capture.specs.declared.reader.Found.TheVariants as found
 use Rattle.lis_capture.specs.Line.{line_of, version_after}
-use Rattle.lis_capture.specs.Capture.{Lines, begun, capture, version_of, with_said}
-use Rattle.lis_capture.specs.Reader.{HasRead, Known, Reading, capped, found_holding, found_lines, found_of, holding, is_long, known_of, known_with}
-use Rattle.lis_capture.proofs.CaptureLemmas.{begun-ended, begun-within, capture-ended, capture-long, capture-within, has_end, has_end-before}
+use Rattle.lis_capture.specs.Capture.{Lines, begun, capture, number_of, version_of, with_said}
+use Rattle.lis_capture.specs.Reader.{HasRead, Known, Reading, capped, found_holding, found_lines, found_of, holding}
+use Rattle.lis_capture.specs.Reader.{is_long, known_of, known_with}
+use Rattle.lis_capture.proofs.CaptureLemmas.{begun-ended, begun-within, capture-ended, capture-long, capture-within}
+use Rattle.lis_capture.proofs.CaptureLemmas.{has_end, has_end-before}
 
 -- ---- a line more
 
@@ -33,15 +37,26 @@ found_taken (Some line) some = refl
 capped-next : (n : ℕ) → capped (capped n + 1) ≡ capped (n + 1)
 capped-next n = omega arith
 
-known_with-known_of : (read : Lines) (said : Option Line) → read.refused ≡ false → known_with (known_of read) said ≡ known_of (with_said read.lines said)
+known_with-known_of : (read : Lines) (said : Option Line) → read.refused ≡ false
+    → known_with (known_of read) said ≡ known_of (with_said read.lines said)
 known_with-known_of read None fine = rw (fine, capped-next (length read.lines)) refl
 known_with-known_of read (Some line) fine =
     let more : length read.lines + 1 ≡ length (line ∷ read.lines) = omega arith in
     rw (fine, capped-next (length read.lines), more) refl
 
-found_lines-found_of : (read : Lines) (known : Known) (said : Option Line) → with_said read.lines said ≡ found_lines read (found_of said) (known_with known said).line
+found_lines-found_of : (read : Lines) (known : Known) (said : Option Line)
+    → with_said read.lines said ≡ found_lines read (found_of said) (known_with known said).line
 found_lines-found_of read known None = refl
 found_lines-found_of read known (Some line) = refl
+
+-- a number is exact where there are fewer lines than it can count
+number_fits : (refused : Bool) (n : ℕ) → n < 18446744073709551615
+    → capped (if refused then n + 1 else n) ≡ (if refused then n + 1 else n)
+number_fits true n few = omega arith
+number_fits false n few = omega arith
+
+pub number-known_of : (read : Lines) → length read.lines < 18446744073709551615 → (known_of read).number ≡ number_of read
+number-known_of read few = number_fits read.refused (length read.lines) few
 
 -- ---- bytes that end a line, and bytes that don't
 
@@ -54,19 +69,27 @@ module _ (before : Reading) (past : List ℕ) (has : HasRead before past) (fine 
   pub fine_here : (capture past false).refused ≡ false
   fine_here = ap (λ (k : Known). k.refused) (sym has.known_is) ∙ fine
 
-  said_here : (text : List ℕ) → line_of before.known.version (before.held ++ text) ≡ line_of (version_of (capture past false).lines) (begun past ++ text)
+  said_here : (text : List ℕ)
+      → line_of before.known.version (before.held ++ text)
+      ≡ line_of (version_of (capture past false).lines) (begun past ++ text)
   said_here text =
       ap (λ (k : Known). line_of k.version (before.held ++ text)) has.known_is
       ∙ ap (λ (h : List ℕ). line_of (version_of (capture past false).lines) (h ++ text)) (has.held_is fine_here)
 
+  long_here : (text : List ℕ) → is_long (before.held ++ text) ≡ is_long (begun past ++ text)
+  long_here text = ap (λ (h : List ℕ). is_long (h ++ text)) (has.held_is fine_here)
+
   -- a line is told or refused
-  known_here : (said : Option Line) → known_with before.known said ≡ known_of (with_said (capture past false).lines said)
-  known_here said = ap (λ (k : Known). known_with k said) has.known_is ∙ known_with-known_of (capture past false) said fine_here
+  known_here : (said : Option Line)
+      → known_with before.known said ≡ known_of (with_said (capture past false).lines said)
+  known_here said =
+      ap (λ (k : Known). known_with k said) has.known_is ∙ known_with-known_of (capture past false) said fine_here
 
   pub reads_end :
       (after : Reading) (text : List ℕ) (result : Found) → has_end text ≡ false
       → after.known ≡ known_with before.known (line_of before.known.version (before.held ++ text)) → after.held ≡ []
-      → result ≡ found_of (line_of before.known.version (before.held ++ text)) → ReadsOn before after past (text ++ LF ∷ []) result
+      → result ≡ found_of (line_of before.known.version (before.held ++ text))
+      → ReadsOn before after past (text ++ LF ∷ []) result
   reads_end after text result none known_is held_is result_is =
       let said : Option Line = line_of before.known.version (before.held ++ text) in
       let lines : capture (stream_with past (text ++ LF ∷ [])) false ≡ with_said (capture past false).lines said =
@@ -83,11 +106,13 @@ module _ (before : Reading) (past : List ℕ) (has : HasRead before past) (fine 
       }
 
   reads_by :
-      (long : Bool) (after : Reading) (text : List ℕ) (result : Found) → has_end text ≡ false → is_long (before.held ++ text) ≡ long
-      → after ≡ (if long then record before { known = known_with before.known None } else record before { held = before.held ++ text })
+      (long : Bool) (after : Reading) (text : List ℕ) (result : Found) → has_end text ≡ false
+      → is_long (before.held ++ text) ≡ long
+      → after ≡ (if long then record before { known = known_with before.known None }
+      else record before { held = before.held ++ text })
       → result ≡ (if long then found.Refused else found.Nothing) → ReadsOn before after past text result
   reads_by true after text result none is after_is result_is =
-      let line_is : is_long (begun past ++ text) ≡ true = ap (λ (h : List ℕ). is_long (h ++ text)) (sym (has.held_is fine_here)) ∙ is in
+      let line_is : is_long (begun past ++ text) ≡ true = sym (long_here text) ∙ is in
       let lines = capture-long past text fine_here none line_is in
       record {
         found_is = lines ∙ ap (λ (f : Found). found_lines (capture past false) f after.known.line) (sym result_is);
@@ -100,7 +125,7 @@ module _ (before : Reading) (past : List ℕ) (has : HasRead before past) (fine 
       refused_now : {b : Bool} → b ≡ true → b ≡ false → ⊥
       refused_now t f = cc
   reads_by false after text result none is after_is result_is =
-      let line_is : is_long (begun past ++ text) ≡ false = ap (λ (h : List ℕ). is_long (h ++ text)) (sym (has.held_is fine_here)) ∙ is in
+      let line_is : is_long (begun past ++ text) ≡ false = sym (long_here text) ∙ is in
       let lines = capture-within past text fine_here none line_is in
       record {
         found_is = lines ∙ ap (λ (f : Found). found_lines (capture past false) f after.known.line) (sym result_is);
@@ -125,8 +150,12 @@ pub front_of_line :
     → (has_end (take place bytes) ≡ false) × (take (place + 1) bytes ≡ take place bytes ++ LF ∷ [])
 front_of_line bytes place first =
     let inside = first.0.high in
-    let is : slice_index bytes place ≡ LF = eqb-true (slice_index bytes place) LF first.1 in
-    (has_end-before bytes place (omega arith) first.0.before, take_more bytes place 0 inside ∙ ap (λ (b : ℕ). take place bytes ++ b ∷ []) is)
+    let is : slice_index bytes place ≡ LF = eqb-true (slice_index bytes place) LF first.1 in (
+      has_end-before bytes place (omega arith) first.0.before,
+      take_more bytes place 0 inside
+          ∙ ap (λ (b : ℕ). take place bytes ++ b ∷ []) is,
+    )
 
 pub no_line : (bytes : List ℕ) → IsFirstByte (is_byte LF) bytes None → has_end bytes ≡ false
-no_line bytes none = subst (λ (l : List ℕ). has_end l ≡ false) (take_all (length bytes) bytes (omega arith)) (has_end-before bytes (length bytes) (omega arith) none)
+no_line bytes none = subst (λ (l : List ℕ). has_end l ≡ false) (take_all (length bytes) bytes (omega arith))
+    (has_end-before bytes (length bytes) (omega arith) none)

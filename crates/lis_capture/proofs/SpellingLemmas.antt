@@ -1,5 +1,7 @@
 -- What is written is read: lines in version 2.
-use Rattle.std.proofs.Common.{◌≡◌, ◌≢◌, ℕ, zero, suc, ◌*◌, ◌/◌, ◌%◌, ◌<◌, ◌≤◌, ◌==◌, nat_lt, Bool, true, false, ◌&&◌, List, [], ◌∷◌, ◌++◌, Option, None, Some, length, slice_index, refl, sym, ◌∙◌, ap, subst, arith, append-nil, if◌then◌else◌}
+use Rattle.std.proofs.Common.{◌≡◌, ◌≢◌, ℕ, zero, suc, ◌*◌, ◌/◌, ◌%◌, ◌<◌, ◌≤◌, ◌==◌, nat_lt, Bool, true, false, ◌&&◌}
+use Rattle.std.proofs.Common.{List, [], ◌∷◌, ◌++◌, Option, None, Some, length, slice_index, refl, sym, ◌∙◌, ap, subst}
+use Rattle.std.proofs.Common.{arith, append-nil, if◌then◌else◌}
 use Rattle.std.specs.Prelude.{codes}
 use Rattle.std.specs.Str.{bytes_eq}
 use Rattle.std.specs.Option.{option_or}
@@ -18,11 +20,14 @@ use Rattle.lis_link.specs.declared.receiver.Readiness.TheVariants.{Ready, Busy, 
 use Rattle.lis_capture.specs.declared.line.CaptureVersion.{CaptureVersion}
 use Rattle.lis_capture.specs.declared.line.CaptureVersion.TheVariants.{Untold, First, Second}
 use Rattle.lis_capture.specs.declared.line.Line.{Line}
-use Rattle.lis_capture.specs.declared.line.Line.TheVariants.{Empty, FromAnalyzer, FromComputer, Timer, Restart, SetReady, Version}
+use Rattle.lis_capture.specs.declared.line.Line.TheVariants.{Empty, FromAnalyzer, FromComputer, Timer, Restart}
+use Rattle.lis_capture.specs.declared.line.Line.TheVariants.{SetReady, Version}
 use Rattle.lis_capture.specs.Digits.{bytes_of}
 use Rattle.lis_capture.specs.Line.{added_line, line_of, longest_line, plain_line, said, sent_by, without_return}
-use Rattle.lis_capture.specs.Capture.{Lines, begun, capture, counts, ended_lines, next_by, read_lines, version_of, with_said}
-use Rattle.lis_capture.specs.Spelling.{added_spelling, line_spelling, line_text, lines_spelling, upgraded, upgraded_lines}
+use Rattle.lis_capture.specs.Capture.{Lines, begun, capture, counts, ended_lines, next_by, read_lines, version_of}
+use Rattle.lis_capture.specs.Capture.{with_said}
+use Rattle.lis_capture.specs.Spelling.{added_spelling, line_spelling, line_text, lines_spelling, upgraded}
+use Rattle.lis_capture.specs.Spelling.{upgraded_lines}
 use Rattle.lis_capture.proofs.CaptureLemmas.{begun-within, ended_lines-within, has_end, stream_with-append}
 use Rattle.lis_capture.proofs.LineLemmas.{without_return-length}
 
@@ -56,7 +61,8 @@ pub without_return-plain : (text : List ℕ) → is_plain text ≡ true → with
 without_return-plain [] plain = refl
 without_return-plain (b ∷ []) plain = rw (above_return b (plain_parts (nat_lt 31 b) true plain).0) refl
 without_return-plain (b ∷ c ∷ text) plain =
-    ap (λ (l : List ℕ). b ∷ l) (without_return-plain (c ∷ text) (plain_parts (nat_lt 31 b) (is_plain (c ∷ text)) plain).1)
+    ap (λ (l : List ℕ). b ∷ l)
+    (without_return-plain (c ∷ text) (plain_parts (nat_lt 31 b) (is_plain (c ∷ text)) plain).1)
 
 pub is_plain-append : (xs ys : List ℕ) → is_plain xs ≡ true → is_plain ys ≡ true → is_plain (xs ++ ys) ≡ true
 is_plain-append [] ys a b = b
@@ -121,7 +127,8 @@ IsSent-bytes_of (d ∷ text) bytes short is =
     half (d ∷ text) bytes (λ none. cc) short (ok_from (decode_of (d ∷ text)) bytes is)
 
 -- what is told under a test
-by_test : (test : Bool) (line : Line) (rest : Option Line) (found : Line) → IsRead line → (rest ≡ Some found → IsRead found) → (if test then Some line else rest) ≡ Some found → IsRead found
+by_test : (test : Bool) (line : Line) (rest : Option Line) (found : Line) → IsRead line
+    → (rest ≡ Some found → IsRead found) → (if test then Some line else rest) ≡ Some found → IsRead found
 by_test true line rest found read other is =
     let same : line ≡ found = cc in
     subst IsRead same read
@@ -130,7 +137,8 @@ by_test false line rest found read other is = other is
 nothing : (found : Line) → None ≡ Some found → IsRead found
 nothing found is = absurd (cc)
 
-IsRead-sent_by : (mark : List ℕ) (o : Option (List ℕ)) (found : Line) → ((bytes : List ℕ) → o ≡ Some bytes → IsSent bytes) → sent_by mark o ≡ Some found → IsRead found
+IsRead-sent_by : (mark : List ℕ) (o : Option (List ℕ)) (found : Line)
+    → ((bytes : List ℕ) → o ≡ Some bytes → IsSent bytes) → sent_by mark o ≡ Some found → IsRead found
 IsRead-sent_by mark None found sent is = nothing found is
 IsRead-sent_by mark (Some bytes) found sent is =
     by_test (bytes_eq mark (codes "> ")) (FromAnalyzer bytes) _ found (sent bytes refl)
@@ -140,7 +148,8 @@ IsRead-plain_line : (text : List ℕ) (found : Line) → length text ≤ 4096 �
 IsRead-plain_line [] found short is =
     let same : Empty ≡ found = cc in
     subst IsRead same tt
-IsRead-plain_line (letter ∷ []) found short is = by_test (bytes_eq (letter ∷ []) (codes "T")) Timer None found tt (nothing found) is
+IsRead-plain_line (letter ∷ []) found short is =
+    by_test (bytes_eq (letter ∷ []) (codes "T")) Timer None found tt (nothing found) is
 IsRead-plain_line (mark ∷ space ∷ digits) found short is =
     IsRead-sent_by (mark ∷ space ∷ []) (bytes_of digits) found (λ bytes. IsSent-bytes_of digits bytes (omega arith)) is
 
@@ -152,39 +161,49 @@ IsRead-added_line text found is =
     (by_test (bytes_eq text (codes "S contending")) (SetReady Contending) None found tt (nothing found)))) is
 
 IsRead-option_or :
-    (a b : Option Line) (found : Line) → (a ≡ Some found → IsRead found) → (b ≡ Some found → IsRead found) → option_or a b ≡ Some found → IsRead found
+    (a b : Option Line) (found : Line) → (a ≡ Some found → IsRead found) → (b ≡ Some found → IsRead found)
+    → option_or a b ≡ Some found → IsRead found
 IsRead-option_or None b found from_a from_b is = from_b is
 IsRead-option_or (Some line) b found from_a from_b is = from_a is
 
-IsRead-said : (version : CaptureVersion) (text : List ℕ) (found : Line) → length text ≤ 4096 → said version text ≡ Some found → IsRead found
+IsRead-said : (version : CaptureVersion) (text : List ℕ) (found : Line) → length text ≤ 4096
+    → said version text ≡ Some found → IsRead found
 IsRead-said Untold text found short is =
-    by_test (bytes_eq text (codes "capture 2")) Version (plain_line text) found tt (IsRead-plain_line text found short) is
+    by_test (bytes_eq text (codes "capture 2")) Version (plain_line text) found tt
+    (IsRead-plain_line text found short) is
 IsRead-said First text found short is = IsRead-plain_line text found short is
 IsRead-said Second text found short is =
-    IsRead-option_or (plain_line text) (added_line text) found (IsRead-plain_line text found short) (IsRead-added_line text found) is
+    IsRead-option_or (plain_line text) (added_line text) found (IsRead-plain_line text found short)
+    (IsRead-added_line text found) is
 
-by_length : (version : CaptureVersion) (text : List ℕ) (found : Line) (long : Bool) → nat_lt longest_line (length text) ≡ long → (if long then None else said version (without_return text)) ≡ Some found → IsRead found
+by_length : (version : CaptureVersion) (text : List ℕ) (found : Line) (long : Bool)
+    → nat_lt longest_line (length text) ≡ long
+    → (if long then None else said version (without_return text)) ≡ Some found → IsRead found
 by_length version text found true long is = nothing found is
 by_length version text found false long is =
     let short : length text ≤ 4096 = grind (arith, nat_tests) in
     IsRead-said version (without_return text) found (omega (arith, without_return-length text)) is
 
-pub IsRead-line_of : (version : CaptureVersion) (text : List ℕ) (found : Line) → line_of version text ≡ Some found → IsRead found
+pub IsRead-line_of : (version : CaptureVersion) (text : List ℕ) (found : Line) → line_of version text ≡ Some found
+    → IsRead found
 IsRead-line_of version text found is = by_length version text found (nat_lt longest_line (length text)) refl is
 
 -- the lines of a capture are such lines
-AreRead-with_said : (lines : List Line) (o : Option Line) → AreRead lines → ((found : Line) → o ≡ Some found → IsRead found) → AreRead (with_said lines o).lines
+AreRead-with_said : (lines : List Line) (o : Option Line) → AreRead lines
+    → ((found : Line) → o ≡ Some found → IsRead found) → AreRead (with_said lines o).lines
 AreRead-with_said lines None before read = before
 AreRead-with_said lines (Some line) before read = (read line refl, before)
 
-AreRead-next_by : (refused : Bool) (lines : List Line) (text : List ℕ) → AreRead lines → AreRead (next_by refused lines text).lines
+AreRead-next_by : (refused : Bool) (lines : List Line) (text : List ℕ) → AreRead lines
+    → AreRead (next_by refused lines text).lines
 AreRead-next_by true lines text before = before
 AreRead-next_by false lines text before =
     AreRead-with_said lines (line_of (version_of lines) text) before (IsRead-line_of (version_of lines) text)
 
 pub AreRead-read_lines : (texts : List (List ℕ)) → AreRead (read_lines texts).lines
 AreRead-read_lines [] = tt
-AreRead-read_lines (text ∷ texts) = AreRead-next_by (read_lines texts).refused (read_lines texts).lines text (AreRead-read_lines texts)
+AreRead-read_lines (text ∷ texts) =
+    AreRead-next_by (read_lines texts).refused (read_lines texts).lines text (AreRead-read_lines texts)
 
 -- ---- a written line is read as that line
 
@@ -194,9 +213,11 @@ bytes_of-digits [] sent = absurd (sent.some refl)
 bytes_of-digits (b ∷ bytes) sent = ap result_ok (decode_of-encode_lower (b ∷ bytes) sent.fit)
 
 -- a text that isn't too long, of bytes that are neither CR nor LF
-line_of-plain : (version : CaptureVersion) (text : List ℕ) → is_plain text ≡ true → length text ≤ 4096 → line_of version text ≡ said version text
+line_of-plain : (version : CaptureVersion) (text : List ℕ) → is_plain text ≡ true → length text ≤ 4096
+    → line_of version text ≡ said version text
 line_of-plain version text plain short =
-    ap (λ (long : Bool). if long then None else said version (without_return text)) (le-ltb longest_line (length text) short)
+    ap (λ (long : Bool). if long then None else said version (without_return text))
+    (le-ltb longest_line (length text) short)
     ∙ ap (said version) (without_return-plain text plain)
 
 -- a line that version 2 may hold behind its first
@@ -218,15 +239,20 @@ is_plain-line_text (SetReady Busy) read = refl
 is_plain-line_text (SetReady Contending) read = refl
 is_plain-line_text Version read = refl
 
-pub line_of-line_text : (line : Line) → IsRead line → is_version line ≡ false → line_of Second (line_text line) ≡ Some line
+pub line_of-line_text : (line : Line) → IsRead line → is_version line ≡ false
+    → line_of Second (line_text line) ≡ Some line
 unfolding decode_pairs
 line_of-line_text Empty read other = refl
 line_of-line_text (FromAnalyzer bytes) read other =
-    line_of-plain Second (line_text (FromAnalyzer bytes)) (is_plain-digits bytes read.fit) (omega (arith, length-digits bytes, read.few))
-    ∙ ap (λ (o : Option (List ℕ)). option_or (sent_by (codes "> ") o) (added_line (line_text (FromAnalyzer bytes)))) (bytes_of-digits bytes read)
+    line_of-plain Second (line_text (FromAnalyzer bytes)) (is_plain-digits bytes read.fit)
+    (omega (arith, length-digits bytes, read.few))
+    ∙ ap (λ (o : Option (List ℕ)). option_or (sent_by (codes "> ") o) (added_line (line_text (FromAnalyzer bytes))))
+    (bytes_of-digits bytes read)
 line_of-line_text (FromComputer bytes) read other =
-    line_of-plain Second (line_text (FromComputer bytes)) (is_plain-digits bytes read.fit) (omega (arith, length-digits bytes, read.few))
-    ∙ ap (λ (o : Option (List ℕ)). option_or (sent_by (codes "< ") o) (added_line (line_text (FromComputer bytes)))) (bytes_of-digits bytes read)
+    line_of-plain Second (line_text (FromComputer bytes)) (is_plain-digits bytes read.fit)
+    (omega (arith, length-digits bytes, read.few))
+    ∙ ap (λ (o : Option (List ℕ)). option_or (sent_by (codes "< ") o) (added_line (line_text (FromComputer bytes))))
+    (bytes_of-digits bytes read)
 line_of-line_text Timer read other = refl
 line_of-line_text Restart read other = refl
 line_of-line_text (SetReady Ready) read other = refl
@@ -237,14 +263,16 @@ line_of-line_text Version read other = cc
 -- ---- written lines, one behind the other
 
 pub record IsSpelled (lines : List Line) : Type 0 where
-  pub lines_are : read_lines (ended_lines (stream_with [] (lines_spelling lines))) ≡ record { lines = lines; refused = false }
+  pub lines_are : read_lines (ended_lines (stream_with [] (lines_spelling lines)))
+      ≡ record { lines = lines; refused = false }
   pub ended : begun (stream_with [] (lines_spelling lines)) ≡ []
 
 pub spelled_none : IsSpelled []
 spelled_none = record { lines_are = refl; ended = refl }
 
 pub spelled_more :
-    (line : Line) (lines : List Line) → IsSpelled lines → is_plain (line_text line) ≡ true → line_of (version_of lines) (line_text line) ≡ Some line
+    (line : Line) (lines : List Line) → IsSpelled lines → is_plain (line_text line) ≡ true
+    → line_of (version_of lines) (line_text line) ≡ Some line
     → IsSpelled (line ∷ lines)
 spelled_more line lines spelled plain is =
     let past : List ℕ = stream_with [] (lines_spelling lines) in
@@ -252,7 +280,8 @@ spelled_more line lines spelled plain is =
     let none = has_end-plain text plain in
     let parts : stream_with [] (lines_spelling (line ∷ lines)) ≡ stream_with (stream_with past text) (LF ∷ []) =
     stream_with-append [] (lines_spelling lines) (line_spelling line) ∙ stream_with-append past text (LF ∷ []) in
-    let started : begun (stream_with past text) ≡ text = begun-within past text none ∙ ap (λ (l : List ℕ). l ++ text) spelled.ended in
+    let started : begun (stream_with past text) ≡ text = begun-within past text none
+    ∙ ap (λ (l : List ℕ). l ++ text) spelled.ended in
     record {
       lines_are =
           ap (λ (s : List ℕ). read_lines (ended_lines s)) parts
@@ -274,7 +303,8 @@ version_of-upgraded_lines (Restart ∷ lines) = rw (version_of-upgraded_lines li
 version_of-upgraded_lines (SetReady readiness ∷ lines) = rw (version_of-upgraded_lines lines) refl
 
 -- the lines but for those of the version
-upgraded_other : (line : Line) (lines : List Line) → is_version line ≡ false → upgraded_lines (line ∷ lines) ≡ line ∷ upgraded_lines lines
+upgraded_other : (line : Line) (lines : List Line) → is_version line ≡ false
+    → upgraded_lines (line ∷ lines) ≡ line ∷ upgraded_lines lines
 upgraded_other Empty lines other = refl
 upgraded_other (FromAnalyzer bytes) lines other = refl
 upgraded_other (FromComputer bytes) lines other = refl
@@ -283,7 +313,8 @@ upgraded_other Restart lines other = refl
 upgraded_other (SetReady readiness) lines other = refl
 upgraded_other Version lines other = cc
 
-upgraded_version : (line : Line) (lines : List Line) → is_version line ≡ true → upgraded_lines (line ∷ lines) ≡ upgraded_lines lines
+upgraded_version : (line : Line) (lines : List Line) → is_version line ≡ true
+    → upgraded_lines (line ∷ lines) ≡ upgraded_lines lines
 upgraded_version Version lines is = refl
 upgraded_version Empty lines is = cc
 upgraded_version (FromAnalyzer bytes) lines is = cc
@@ -311,24 +342,30 @@ added_version Restart is = cc
 added_version (SetReady readiness) is = cc
 
 spelled_by :
-    (line : Line) (lines : List Line) (test : Bool) → is_version line ≡ test → IsRead line → IsSpelled (upgraded_lines lines) → IsSpelled (upgraded_lines (line ∷ lines))
+    (line : Line) (lines : List Line) (test : Bool) → is_version line ≡ test → IsRead line
+    → IsSpelled (upgraded_lines lines) → IsSpelled (upgraded_lines (line ∷ lines))
 spelled_by line lines true is read spelled = subst IsSpelled (sym (upgraded_version line lines is)) spelled
 spelled_by line lines false is read spelled =
     subst IsSpelled (sym (upgraded_other line lines is))
     (spelled_more line (upgraded_lines lines) spelled (is_plain-line_text line read)
-    (ap (λ (v : CaptureVersion). line_of v (line_text line)) (version_of-upgraded_lines lines) ∙ line_of-line_text line read is))
+    (ap (λ (v : CaptureVersion). line_of v (line_text line)) (version_of-upgraded_lines lines)
+    ∙ line_of-line_text line read is))
 
 pub spelled_upgraded : (lines : List Line) → AreRead lines → IsSpelled (upgraded_lines lines)
 spelled_upgraded [] read = spelled_more Version [] spelled_none refl refl
-spelled_upgraded (line ∷ lines) read = spelled_by line lines (is_version line) refl read.0 (spelled_upgraded lines read.1)
+spelled_upgraded (line ∷ lines) read =
+    spelled_by line lines (is_version line) refl read.0 (spelled_upgraded lines read.1)
 
 -- nothing stands behind the last LF, with or without the end of the input
 no_more : (past : List ℕ) (ended : Bool) → begun past ≡ [] → capture past ended ≡ read_lines (ended_lines past)
-no_more past true none = ap (λ (l : List ℕ). read_lines (if counts true l then l ∷ ended_lines past else ended_lines past)) none
-no_more past false none = ap (λ (l : List ℕ). read_lines (if counts false l then l ∷ ended_lines past else ended_lines past)) none
+no_more past true none =
+    ap (λ (l : List ℕ). read_lines (if counts true l then l ∷ ended_lines past else ended_lines past)) none
+no_more past false none =
+    ap (λ (l : List ℕ). read_lines (if counts false l then l ∷ ended_lines past else ended_lines past)) none
 
 spelling_by :
-    (line : Line) (lines : List Line) (test : Bool) → is_version line ≡ test → upgraded lines ≡ lines_spelling (upgraded_lines lines)
+    (line : Line) (lines : List Line) (test : Bool) → is_version line ≡ test
+    → upgraded lines ≡ lines_spelling (upgraded_lines lines)
     → upgraded (line ∷ lines) ≡ lines_spelling (upgraded_lines (line ∷ lines))
 spelling_by line lines true is before =
     ap (λ (t : List ℕ). upgraded lines ++ t) (added_version line is) ∙ append-nil (upgraded lines) ∙ before
@@ -347,9 +384,12 @@ pub capture-upgraded :
 capture-upgraded lines ended read =
     let spelled = spelled_upgraded lines read in
     let past : List ℕ = stream_with [] (lines_spelling (upgraded_lines lines)) in
-    ap (λ (text : List ℕ). capture (stream_with [] text) ended) (upgraded-spelling lines) ∙ no_more past ended spelled.ended ∙ spelled.lines_are
+    ap (λ (text : List ℕ). capture (stream_with [] text) ended) (upgraded-spelling lines)
+    ∙ no_more past ended spelled.ended ∙ spelled.lines_are
 
-again_by : (line : Line) (lines : List Line) (test : Bool) → is_version line ≡ test → upgraded_lines (upgraded_lines lines) ≡ upgraded_lines lines → upgraded_lines (upgraded_lines (line ∷ lines)) ≡ upgraded_lines (line ∷ lines)
+again_by : (line : Line) (lines : List Line) (test : Bool) → is_version line ≡ test
+    → upgraded_lines (upgraded_lines lines) ≡ upgraded_lines lines
+    → upgraded_lines (upgraded_lines (line ∷ lines)) ≡ upgraded_lines (line ∷ lines)
 again_by line lines true is again =
     ap upgraded_lines (upgraded_version line lines is) ∙ again ∙ sym (upgraded_version line lines is)
 again_by line lines false is again =
@@ -358,8 +398,10 @@ again_by line lines false is again =
 
 pub upgraded_lines-upgraded_lines : (lines : List Line) → upgraded_lines (upgraded_lines lines) ≡ upgraded_lines lines
 upgraded_lines-upgraded_lines [] = refl
-upgraded_lines-upgraded_lines (line ∷ lines) = again_by line lines (is_version line) refl (upgraded_lines-upgraded_lines lines)
+upgraded_lines-upgraded_lines (line ∷ lines) =
+    again_by line lines (is_version line) refl (upgraded_lines-upgraded_lines lines)
 
 pub upgraded-upgraded_lines : (lines : List Line) → upgraded (upgraded_lines lines) ≡ upgraded lines
 upgraded-upgraded_lines lines =
-    upgraded-spelling (upgraded_lines lines) ∙ ap lines_spelling (upgraded_lines-upgraded_lines lines) ∙ sym (upgraded-spelling lines)
+    upgraded-spelling (upgraded_lines lines) ∙ ap lines_spelling (upgraded_lines-upgraded_lines lines)
+    ∙ sym (upgraded-spelling lines)

@@ -1,5 +1,6 @@
 -- A capture: what a stream of bytes says line by line. Bytes and lines are kept newest first.
-use Rattle.std.specs.Prelude.{ℕ, ◌+◌, ◌==◌, nat_lt, not, Bool, true, false, List, [], ◌∷◌, ◌++◌, length, Option, None, Some, if◌then◌else◌}
+use Rattle.std.specs.Prelude.{ℕ, ◌+◌, ◌==◌, nat_lt, not, Bool, true, false, List, [], ◌∷◌, ◌++◌, length, Option, None}
+use Rattle.std.specs.Prelude.{Some, if◌then◌else◌}
 use Rattle.lis_frame.specs.declared.control.TheConstants.{LF}
 use Rattle.lis_capture.specs.declared.line.CaptureVersion.{CaptureVersion}
 use Rattle.lis_capture.specs.declared.line.CaptureVersion.TheVariants.{Untold}
@@ -56,6 +57,10 @@ read_lines (text ∷ texts) = next_by (read_lines texts).refused (read_lines tex
 -- what a capture says, of which these bytes were read, with or without its end
 abbrev pub capture : List ℕ → Bool → Lines
 capture past ended = read_lines (lines_of past ended)
+
+-- the number of the last line, from 1, of a refused one too
+abbrev pub number_of : Lines → ℕ
+number_of read = if read.refused then length read.lines + 1 else length read.lines
 
 -- ---- how much lines tell
 

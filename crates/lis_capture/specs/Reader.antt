@@ -1,12 +1,13 @@
 -- What a reader of captures keeps.
-use Rattle.std.specs.Prelude.{◌≡◌, ℕ, ◌+◌, min, nat_lt, Bool, true, false, List, [], ◌∷◌, ◌++◌, length, Option, None, Some, if◌then◌else◌}
+use Rattle.std.specs.Prelude.{◌≡◌, ℕ, ◌+◌, min, nat_lt, Bool, true, false, List, [], ◌∷◌, ◌++◌, length, Option, None}
+use Rattle.std.specs.Prelude.{Some, if◌then◌else◌}
 use Rattle.lis_capture.specs.declared.line.CaptureVersion.{CaptureVersion}
 use Rattle.lis_capture.specs.declared.line.Line.{Line}
 use Rattle.lis_capture.specs.declared.line.Line.TheVariants.{Empty}
 use Rattle.lis_capture.specs.declared.reader.Found.{Found}
 use Rattle.lis_capture.specs.declared.reader.Found.TheVariants as found
 use Rattle.lis_capture.specs.Line.{longest_line, version_after}
-use Rattle.lis_capture.specs.Capture.{Lines, begun, capture, version_of}
+use Rattle.lis_capture.specs.Capture.{Lines, begun, capture, number_of, version_of}
 
 -- what is to be known of the lines so far: their version, whether one is refused, the number of the last one, and what
 -- the last one says that isn't refused
@@ -33,7 +34,7 @@ abbrev pub known_of : Lines → Known
 known_of read = record {
   version = version_of read.lines;
   refused = read.refused;
-  number = capped (if read.refused then length read.lines + 1 else length read.lines);
+  number = capped (number_of read);
   line = last_of read.lines;
 }
 
@@ -66,7 +67,8 @@ is_long text = nat_lt longest_line (length text)
 
 abbrev pub holding : Reading → List ℕ → Reading
 holding r text =
-    if is_long (r.held ++ text) then record r { known = known_with r.known None } else record r { held = r.held ++ text }
+    if is_long (r.held ++ text) then record r { known = known_with r.known None }
+    else record r { held = r.held ++ text }
 
 abbrev pub found_holding : List ℕ → Found
 found_holding text = if is_long text then found.Refused else found.Nothing

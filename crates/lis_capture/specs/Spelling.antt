@@ -5,7 +5,8 @@ use Rattle.lis_frame.specs.declared.control.TheConstants.{LF}
 use Rattle.lis_link.specs.declared.receiver.Readiness.{Readiness}
 use Rattle.lis_link.specs.declared.receiver.Readiness.TheVariants.{Ready, Busy, Contending}
 use Rattle.lis_capture.specs.declared.line.Line.{Line}
-use Rattle.lis_capture.specs.declared.line.Line.TheVariants.{Empty, FromAnalyzer, FromComputer, Timer, Restart, SetReady, Version}
+use Rattle.lis_capture.specs.declared.line.Line.TheVariants.{Empty, FromAnalyzer, FromComputer, Timer, Restart}
+use Rattle.lis_capture.specs.declared.line.Line.TheVariants.{SetReady, Version}
 
 abbrev pub readiness_text : Readiness → List ℕ
 readiness_text Ready = codes "S ready"

@@ -1,7 +1,8 @@
 -- How the line that was read last is kept: its kind, and the bytes that it tells beside it.
 use Rattle.std.specs.Prelude.{ℕ, List}
 use Rattle.lis_capture.specs.declared.line.Line.{Line}
-use Rattle.lis_capture.specs.declared.line.Line.TheVariants.{Empty, FromAnalyzer, FromComputer, Timer, Restart, SetReady, Version}
+use Rattle.lis_capture.specs.declared.line.Line.TheVariants.{Empty, FromAnalyzer, FromComputer, Timer, Restart}
+use Rattle.lis_capture.specs.declared.line.Line.TheVariants.{SetReady, Version}
 use Rattle.lis_capture.specs.declared.line.LineKind.{LineKind}
 use Rattle.lis_capture.specs.declared.line.LineKind.TheVariants as kinds
 

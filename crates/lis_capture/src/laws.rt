@@ -1,11 +1,17 @@
 //! Laws of captures, each the contract of a function that does nothing.
 
-ghost use Rattle.lis_capture.specs.Laws.{RefusedForGood, TellsNoMore, UpgradedIsRead};
+ghost use Rattle.lis_capture.specs.Laws.{NumbersAreExact, RefusedForGood, TellsNoMore, UpgradedIsRead};
 
-/// A capture tells no more than it has bytes, and has no more lines: so who counts either in 64 bits
-/// loses none.
+/// The lines of a capture and the bytes that they tell are together no more than its bytes: so who
+/// counts them in 64 bits loses none.
 pub fn tells_no_more()
     ensures { TellsNoMore }
+{}
+
+/// The number that a reader tells is that of its last line, of a refused one too, as long as fewer than
+/// 2^64 - 1 bytes were read.
+pub fn numbers_are_exact()
+    ensures { NumbersAreExact }
 {}
 
 /// Behind a refused line nothing is said, whatever follows.

@@ -4,7 +4,8 @@ ghost use Rattle.std.specs.Prelude.{◌≡◌, ◌<◌, ◌≤◌, ◌++◌, [],
 ghost use Rattle.lis_frame.specs.Stream.{stream_with};
 ghost use Rattle.lis_capture.specs.Capture.{Lines, capture};
 ghost use Rattle.lis_capture.specs.Line.{line_of};
-ghost use Rattle.lis_capture.specs.Reader.{HasRead, found_holding, found_lines, found_of, holding, known_of, known_with};
+ghost use Rattle.lis_capture.specs.Reader.{HasRead, found_holding, found_lines, found_of, holding};
+ghost use Rattle.lis_capture.specs.Reader.{known_of, known_with};
 
 use crate::line::{CaptureVersion, LONGEST_LINE, Line, Told, version_after};
 use arrayvec::ArrayVec;

@@ -7,11 +7,13 @@ use Rattle.lis_capture.proofs.digits.decode.Goals as goal
 
 pub byte_of-requires-clause-high : goal.byte_of-requires-clause-high
 byte_of-requires-clause-high c =
-    all_at is_hex_digit c.args.digits.now (2 * c.bytes.i) 0 (pairs_from_some c.args.digits.now c.requires.pairs).2 (omega arith)
+    all_at is_hex_digit c.args.digits.now (2 * c.bytes.i) 0 (pairs_from_some c.args.digits.now c.requires.pairs).2
+    (omega arith)
 
 pub byte_of-requires-clause-low : goal.byte_of-requires-clause-low
 byte_of-requires-clause-low c =
-    all_at is_hex_digit c.args.digits.now (2 * c.bytes.i + 1) 0 (pairs_from_some c.args.digits.now c.requires.pairs).2 (omega arith)
+    all_at is_hex_digit c.args.digits.now (2 * c.bytes.i + 1) 0 (pairs_from_some c.args.digits.now c.requires.pairs).2
+    (omega arith)
 
 pub bytes-preserved : goal.bytes-preserved
 bytes-preserved c =
@@ -20,7 +22,8 @@ bytes-preserved c =
     let all = (pairs_from_some digits c.requires.pairs).2 in
     decode_step _ _ i _ (omega arith) (omega arith)
     (rw c.byte_of.ensures
-    (pair_of_digits (slice_index digits (2 * i)) (slice_index digits (2 * i + 1)) (2 * i) (all_at is_hex_digit digits (2 * i) 0 all (omega arith))
+    (pair_of_digits (slice_index digits (2 * i)) (slice_index digits (2 * i + 1)) (2 * i)
+    (all_at is_hex_digit digits (2 * i) 0 all (omega arith))
     (all_at is_hex_digit digits (2 * i + 1) 0 all (omega arith)))) c.bytes.invariant
 
 pub returns : goal.returns

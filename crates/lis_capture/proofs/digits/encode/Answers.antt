@@ -7,7 +7,8 @@ use Rattle.lis_capture.proofs.digits.encode.Goals as goal
 pub bytes-preserved : goal.bytes-preserved
 bytes-preserved c =
     let byte : ℕ = slice_index c.args.bytes.now c.bytes.i in
-    encode_step lower_digits c.args.bytes.now c.bytes.digits c.bytes.i _ _ (omega arith) (omega arith) c.digit_of.ensures
+    encode_step lower_digits c.args.bytes.now c.bytes.digits c.bytes.i _ _ (omega arith)
+    (omega arith) c.digit_of.ensures
     (c.digit_of-in-bytes.ensures ∙ ap (λ (k : ℕ). slice_index lower_digits k) (and_mask byte 4)) c.bytes.invariant
 
 pub returns : goal.returns

@@ -12,4 +12,5 @@ returns-in-Some c =
 pub returns-in_default : goal.returns-in_default
 returns-in_default c =
     let is : (c.in-Some.last.now == 13) ≡ false = grind (arith, nat_tests, c.if-last-eq-CR.false) in
-    c.in-Some.ensures.cases.0 ∙ sym (line_kept c.in-Some.front.now c.in-Some.last.now is) ∙ ap without_return (sym c.in-Some.ensures.cases.0)
+    c.in-Some.ensures.cases.0 ∙ sym (line_kept c.in-Some.front.now c.in-Some.last.now is)
+    ∙ ap without_return (sym c.in-Some.ensures.cases.0)

@@ -7,10 +7,17 @@ use Rattle.lis_capture.proofs.reader.Progress.take.Goals as goal
 pub returns-clause-after : goal.returns-clause-after
 returns-clause-after c =
     let inside = c.self.inside in
-    let known : Known = record { version = inside.version; refused = inside.refused; number = inside.number; line = inside.told } in
+    let known : Known = record {
+      version = inside.version;
+      refused = inside.refused;
+      number = inside.number;
+      line = inside.told;
+    } in
     rw (← c.self.view_is)
-    (known_taken known (line_of inside.version c.args.text.now) _ _ _ (sym c.read.ensures.said ∙ c.if-not-read.false) c.read.ensures.line
-    (c.version_after-self-inside.ensures ∙ ap (version_after inside.version) c.line.ensures) c.saturating_add-self-inside.ensures)
+    (known_taken known (line_of inside.version c.args.text.now) _ _ _
+    (sym c.read.ensures.said ∙ c.if-not-read.false) c.read.ensures.line
+    (c.version_after-self-inside.ensures
+    ∙ ap (version_after inside.version) c.line.ensures) c.saturating_add-self-inside.ensures)
 
 pub returns-clause-found : goal.returns-clause-found
 returns-clause-found c =
