@@ -8,6 +8,7 @@ use Rattle.lis_capture.specs.declared.line.Line.{Line}
 use Rattle.lis_capture.specs.declared.line.Line.TheVariants.{Empty, FromAnalyzer, FromComputer, Timer, Restart}
 use Rattle.lis_capture.specs.declared.line.Line.TheVariants.{SetReady, Version}
 
+-- a line without its LF
 abbrev pub readiness_text : Readiness → List ℕ
 readiness_text Ready = codes "S ready"
 readiness_text Busy = codes "S busy"
@@ -22,6 +23,7 @@ line_text Restart = codes "R"
 line_text (SetReady readiness) = readiness_text readiness
 line_text Version = codes "capture 2"
 
+-- and with it
 abbrev pub line_spelling : Line → List ℕ
 line_spelling line = line_text line ++ LF ∷ []
 

@@ -68,7 +68,7 @@ impl<'a> LineBytes<'a> {
     /// The bytes; no line tells more than [`MOST_BYTES`].
     pub fn as_slice(&self) -> &'a [u8]
         ensures value { result.now ≡ self.now }
-        ensures short { length result.now ≤ 2047 }
+        ensures short { length result.now ≤ MOST_BYTES }
     {
         self.bytes
     }
@@ -148,7 +148,7 @@ impl Told {
 
     /// The same of a text that isn't too long, without the CR at its end.
     fn read_short(&mut self, version: CaptureVersion, text: &[u8]) -> bool
-        requires { length text.now ≤ 4096 }
+        requires { length text.now ≤ LONGEST_LINE }
         ensures said { result ≡ is_some (said version text.now) }
         ensures line { self.new ≡ unwrap_or (said version text.now) self.old }
     {
@@ -171,7 +171,7 @@ impl Told {
 
     /// The same of a line of both versions.
     fn read_plain(&mut self, text: &[u8]) -> bool
-        requires { length text.now ≤ 4096 }
+        requires { length text.now ≤ LONGEST_LINE }
         ensures said { result ≡ is_some (plain_line text.now) }
         ensures line { self.new ≡ unwrap_or (plain_line text.now) self.old }
     {

@@ -1,4 +1,4 @@
-use Rattle.std.proofs.Common.{false, ap, arith, length, ◌∙◌}
+use Rattle.std.proofs.Common.{false, ap, arith, ◌∙◌}
 use Rattle.lis_capture.specs.Capture.{capture}
 use Rattle.lis_capture.specs.Reader.{Known}
 use Rattle.lis_capture.proofs.ReaderLemmas.{number-known_of}
