@@ -1,4 +1,9 @@
 pub mod Digits
+pub mod CaptureLaws
+pub mod HearingLaws
+pub mod LineLaws
+pub mod PlayingLaws
 pub mod PutLaws
+mod ReplayRows
 pub mod RunLaws
 pub mod ShowLaws

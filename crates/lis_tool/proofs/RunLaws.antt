@@ -1,17 +1,29 @@
--- A run by its turns: what was read and what went out, one turn more.
-use Rattle.std.proofs.Common.{◌≡◌, ℕ, Bool, true, false, List, [], ◌++◌, Option, None, Some, Ok, Err, length, min, refl, sym, ◌∙◌, ap, arith, append_assoc, take_all}
+-- A run by its steps: what was read and what went out.
+use Rattle.std.proofs.Common.{◌≡◌, ℕ, ◌*◌, ◌≤◌, ◌<◌, Bool, true, false, List, [], ◌++◌, Option, None, Some, Ok, Err, length, take, min, refl, sym, ◌∙◌, ap, subst, arith, append_assoc, append-nil, length-append, take_all, rules, is_err}
+use Rattle.std.proofs.lemmas.List.{take-append-le}
 use Rattle.std.specs.declared.result.Result.{Result}
 use Rattle.std.specs.Prelude.{IsTrue, ◌↔◌}
 use Rattle.lis_port.specs.declared.port.Failed.{Failed}
-use Rattle.std.specs.Io.KnownBytes.{Appends, Consumes, Keeps}
-use Rattle.lis_frame.specs.Stream.{signals_after, stream_with}
+use Rattle.std.specs.Io.KnownBytes.{Appends, Consumes, IsAtEnd, Keeps}
 use Rattle.lis_tool.specs.declared.fault.ToolFault.{ToolFault}
 use Rattle.lis_tool.specs.declared.fault.ToolFault.TheVariants.{CaptureLine, Read, Write, OutOfMemory, TooManyReads}
+use Rattle.lis_tool.specs.declared.report.Report.{Report}
+use Rattle.lis_tool.specs.declared.machine.Halt.{Halt}
+use Rattle.lis_tool.specs.Outcome.{Outcome, whole, going}
 use Rattle.lis_tool.specs.Output.{most_counted, Put}
-use Rattle.lis_tool.specs.Runs.{Wrote}
-use Rattle.lis_tool.specs.Show.{show, signal_lines}
-use Rattle.lis_tool.proofs.PutLaws.{put_taken, put_then}
-use Rattle.lis_tool.proofs.ShowLaws.{lines-append}
+use Rattle.lis_tool.specs.Runs.{Wrote, Ran, Stops}
+use Rattle.lis_tool.specs.Steps.{Halts, Fails, Puts, IsTold}
+use Rattle.lis_tool.proofs.PutLaws.{put_taken, put_then, put_stops}
+
+pub consumes_none : (a : Option (List ℕ)) → Consumes a a []
+consumes_none None = tt
+consumes_none (Some xs) = refl
+
+pub consumes_kept : (a b c : Option (List ℕ)) (xs : List ℕ) → Consumes a b xs → Keeps b c → Consumes a c xs
+consumes_kept None b c xs read kept = tt
+consumes_kept (Some ws) None c xs read kept = absurd read
+consumes_kept (Some ws) (Some vs) None xs read kept = kept
+consumes_kept (Some ws) (Some vs) (Some us) xs read kept = read ∙ ap (λ (l : List ℕ). xs ++ l) (sym kept)
 
 pub consumes_then : (a b c : Option (List ℕ)) (xs ys : List ℕ) → Consumes a b xs → Consumes b c ys → Consumes a c (xs ++ ys)
 consumes_then None b c xs ys first second = tt
@@ -26,36 +38,156 @@ appends_kept (Some xs) None c text taken kept = absurd taken
 appends_kept (Some xs) (Some ys) None text taken kept = kept
 appends_kept (Some xs) (Some ys) (Some zs) text taken kept = kept ∙ taken
 
--- a sink that took the whole text and then could not send it on
-pub held_back :
-    (a b c : Option (List ℕ)) (written : ℕ) (text : List ℕ) → Appends a b text → written ≡ min (length text) most_counted → Keeps b c →
-    Wrote a c (Err (Write written)) text
-held_back a b c written text taken counted kept =
-    let put = put_taken a b 0 written text taken (omega (arith, counted)) in
-    (length text, record { within = put.within; taken = appends_kept a b c _ put.taken kept; counted = put.counted })
+-- what was read so far, and what went out for it: all of the text, with its count
+pub record IsSoFar (stands : List ℕ → List ℕ → Type 0) (left_old left taken_old taken : Option (List ℕ)) (written turn : ℕ) : Type 0 where
+  pub bytes : List ℕ
+  pub text : List ℕ
+  pub stood : stands bytes text
+  pub read : Consumes left_old left bytes
+  pub wrote : Appends taken_old taken text
+  pub counted : written ≡ min (length text) most_counted
+  pub short : length bytes ≤ 4096 * turn
 
--- what a failed sink took in a text is what went out in a run
-pub put_wrote : (a b : Option (List ℕ)) (fault : ToolFault) (text : List ℕ) → Put a b 0 (Err fault) text → Wrote a b (Err fault) text
-put_wrote a b (Write written) text put = (put.0, put.2)
-put_wrote a b (CaptureLine line) text put = put
-put_wrote a b Read text put = absurd put
-put_wrote a b OutOfMemory text put = put
-put_wrote a b TooManyReads text put = absurd put
+-- what a run with this answer may have put out
+pub record Told (memory : Bool) (means : List ℕ → Bool → Outcome → Type 0) (given : List ℕ) (ended : Bool) (a b : Option (List ℕ)) (result : Result Report ToolFault) : Type 0 where
+  pub outcome : Outcome
+  pub meant : means given ended outcome
+  pub wrote : Wrote memory result outcome a b
 
--- all of the text for the bytes so far, and then the lines of more bytes
-pub shown_then :
-    (limit : ℕ) (a b c : Option (List ℕ)) (written : ℕ) (r : Result ℕ ToolFault) (bytes more : List ℕ) →
-    Appends a b (show limit bytes) → written ≡ min (length (show limit bytes)) most_counted →
-    Put b c written r (signal_lines (signals_after limit (stream_with [] bytes) more)) → Put a c 0 r (show limit (bytes ++ more))
-shown_then limit a b c written r bytes more taken counted put =
-    rw (lines-append limit [] bytes more)
-    (put_then a b c 0 written r (show limit bytes) _ (put_taken a b 0 written (show limit bytes) taken (omega (arith, counted))) put)
+module _ (memory : Bool) (means : List ℕ → Bool → Outcome → Type 0) (given : List ℕ) (ended : Bool) (a : Option (List ℕ)) where
+  -- all of this text is out
+  all_out : (b : Option (List ℕ)) (written : ℕ) (text : List ℕ) → Appends a b text → written ≡ min (length text) most_counted → Put a b 0 (Ok written) text
+  all_out b written text taken counted = put_taken a b 0 written text taken (omega (arith, counted))
 
-pub put_appends : (a b : Option (List ℕ)) (before after : ℕ) (text : List ℕ) → Put a b before (Ok after) text → Appends a b text
-put_appends a b before after text put = rw (take_all (length text) text (omega arith)) at put.taken
+  -- the text is a part of the outcome's
+  part_of_whole :
+      (b : Option (List ℕ)) (fault : ToolFault) (text rest : List ℕ) (o : Outcome) → means given ended o → whole o ≡ text ++ rest
+      → Put a b 0 (Err fault) text → Told memory means given ended a b (Err fault)
+  part_of_whole b (Write written) text rest o begun joined put =
+      let p : Put a b 0 (Err (Write written)) (whole o) = subst (λ (t : List ℕ). Put a b 0 (Err (Write written)) t) (sym joined) (put_stops a b 0 (Write written) text rest put) in
+      record { outcome = o; meant = begun; wrote = (p.0, p.2) }
+  part_of_whole b (CaptureLine line) text rest o begun joined put = absurd put
+  part_of_whole b Read text rest o begun joined put = absurd put
+  part_of_whole b OutOfMemory text rest o begun joined put = absurd put
+  part_of_whole b TooManyReads text rest o begun joined put = absurd put
 
-pub put_counted : (a b : Option (List ℕ)) (after : ℕ) (text : List ℕ) → Put a b 0 (Ok after) text → after ≡ min (length text) most_counted
-put_counted a b after text put = omega (arith, put.counted)
+  -- the sink failed in a step
+  pub fails_told :
+      (b c : Option (List ℕ)) (before : ℕ) (text : List ℕ) (fault : ToolFault) → Appends a b text → before ≡ min (length text) most_counted
+      → Fails (means given ended) b c before text fault → Told memory means given ended a c (Err fault)
+  fails_told b c before text fault taken counted fails =
+      part_of_whole c fault (text ++ fails.more) fails.rest fails.outcome fails.meant fails.joined
+      (put_then a b c 0 before (Err fault) text fails.more (all_out b before text taken counted) fails.put)
+
+  -- all of a text went out, and then it could not be sent on
+  pub unsent_told :
+      (b c : Option (List ℕ)) (written : ℕ) (text rest : List ℕ) (o : Outcome) → means given ended o → whole o ≡ text ++ rest
+      → Put a b 0 (Ok written) text → Keeps b c → Told memory means given ended a c (Err (Write written))
+  unsent_told b c written text rest o begun joined put kept =
+      let taken : Appends a c (take (length text) text) = appends_kept a b c _ put.taken kept in
+      let within : length text ≤ length (whole o) = rw joined (omega (arith, length-append text rest)) in
+      record {
+        outcome = o;
+        meant = begun;
+        wrote = (
+          length text,
+          record {
+            within = within;
+            taken = rw joined (rw (take-append-le (length text) text rest (omega arith)) taken);
+            counted = put.counted;
+          },
+        );
+      }
+
+  -- the run halted, all of its text is out
+  sent_told :
+      (c : Option (List ℕ)) (text : List ℕ) (result : Result Report ToolFault) → Halts memory (means given ended) text result
+      → Appends a c text → Told memory means given ended a c result
+  sent_told c text (Ok report) (o, meant, halt, joined) taken =
+      record { outcome = o; meant = meant; wrote = (halt, subst (λ (t : List ℕ). Appends a c t) (sym joined) taken) }
+  sent_told c text (Err (CaptureLine line)) (o, meant, halt, joined) taken =
+      record { outcome = o; meant = meant; wrote = (halt, subst (λ (t : List ℕ). Appends a c t) (sym joined) taken) }
+  sent_told c text (Err OutOfMemory) (o, begun, rest, joined, wants) taken =
+      record {
+        outcome = o;
+        meant = begun;
+        wrote = (
+          wants,
+          length text,
+          rw joined (omega (arith, length-append text rest)),
+          rw joined (rw (take-append-le (length text) text rest (omega arith)) (rw (take_all (length text) text (omega arith)) taken)),
+        );
+      }
+  sent_told c text (Err Read) halts taken = absurd halts
+  sent_told c text (Err (Write written)) halts taken = absurd halts
+  sent_told c text (Err TooManyReads) halts taken = absurd halts
+
+  -- the outcome that a halted run's text begins
+  pub record Part (text : List ℕ) : Type 0 where
+    pub outcome : Outcome
+    pub begun : means given ended outcome
+    pub rest : List ℕ
+    pub joined : whole outcome ≡ text ++ rest
+
+  halts_part : (text : List ℕ) (result : Result Report ToolFault) → Halts memory (means given ended) text result → Part text
+  halts_part text (Ok report) (o, meant, halt, joined) =
+      record { outcome = o; begun = meant; rest = []; joined = joined ∙ sym (append-nil text) }
+  halts_part text (Err (CaptureLine line)) (o, meant, halt, joined) =
+      record { outcome = o; begun = meant; rest = o.closing; joined = ap (λ (t : List ℕ). t ++ o.closing) joined }
+  halts_part text (Err OutOfMemory) (o, begun, rest, joined, wants) =
+      record { outcome = o; begun = begun; rest = rest ++ o.closing; joined = ap (λ (t : List ℕ). t ++ o.closing) joined ∙ append_assoc text rest o.closing }
+  halts_part text (Err Read) halts = absurd halts
+  halts_part text (Err (Write written)) halts = absurd halts
+  halts_part text (Err TooManyReads) halts = absurd halts
+
+  -- the run halted, and its text was sent on, or could not be
+  halted_told :
+      (failed : Bool) (b c : Option (List ℕ)) (text : List ℕ) (halt : Halt) (result : Result Report ToolFault)
+      → Halts memory (means given ended) text halt.result → Put a b 0 (Ok halt.written) text → Keeps b c → IsTold halt result failed
+      → Told memory means given ended a c result
+  halted_told false b c text halt result halts put kept told =
+      subst (λ (r : Result Report ToolFault). Told memory means given ended a c r) (sym told)
+      (sent_told c text halt.result halts (appends_kept a b c text (rw (take_all (length text) text (omega arith)) at put.taken) kept))
+  halted_told true b c text halt result halts put kept told =
+      let part = halts_part text halt.result halts in
+      subst (λ (r : Result Report ToolFault). Told memory means given ended a c r) (sym told)
+      (unsent_told b c halt.written text part.rest part.outcome part.begun part.joined put kept)
+
+  -- a step halted the run
+  pub step_halts :
+      (failed : Bool) (b c d : Option (List ℕ)) (before : ℕ) (text : List ℕ) (halt : Halt) (result : Result Report ToolFault)
+      → Appends a b text → before ≡ min (length text) most_counted
+      → (holds : List ℕ → Type 0) → (puts : Puts holds b c before halt.written text) → Halts memory (means given ended) (text ++ puts.more) halt.result
+      → Keeps c d → IsTold halt result failed → Told memory means given ended a d result
+  step_halts failed b c d before text halt result taken counted holds puts halts kept told =
+      halted_told failed c d (text ++ puts.more) halt result halts
+      (put_then a b c 0 before (Ok halt.written) text puts.more (all_out b before text taken counted) puts.put) kept told
+
+  -- what went out so far could not be sent on
+  pub so_far_unsent :
+      (b c : Option (List ℕ)) (written : ℕ) (text : List ℕ) → means given ended (going text) → Appends a b text → written ≡ min (length text) most_counted
+      → Keeps b c → Told memory means given ended a c (Err (Write written))
+  so_far_unsent b c written text meant taken counted kept =
+      unsent_told b c written text [] (going text) meant refl (all_out b written text taken counted) kept
+
+-- a step went on
+pub step_goes :
+    (a b c : Option (List ℕ)) (before after : ℕ) (stands : List ℕ → Type 0) (text : List ℕ)
+    → Appends a b text → before ≡ min (length text) most_counted → (puts : Puts stands b c before after text)
+    → Appends a c (text ++ puts.more) × (after ≡ min (length (text ++ puts.more)) most_counted)
+step_goes a b c before after stands text taken counted puts =
+    let put : Put a c 0 (Ok after) (text ++ puts.more) =
+    put_then a b c 0 before (Ok after) text puts.more (put_taken a b 0 before text taken (omega (arith, counted))) puts.put in (
+      rw (take_all (length (text ++ puts.more)) (text ++ puts.more) (omega arith)) at put.taken,
+      omega (arith, put.counted),
+    )
+
+-- what a run told, with what it read
+pub told_ran :
+    (memory : Bool) (means : List ℕ → Bool → Outcome → Type 0) (given : List ℕ) (ended : Bool) (left_old left_new a b : Option (List ℕ)) (result : Result Report ToolFault)
+    → Consumes left_old left_new given → Told memory means given ended a b result → Ran memory means left_old left_new a b ended result
+told_ran memory means given ended left_old left_new a b result read told =
+    record { given = given; read = read; outcome = told.outcome; meant = told.meant; wrote = told.wrote }
 
 -- a read that gave bytes told no end
 pub no_end : (ended : Bool) (count : ℕ) → (count ≡ 0 → ⊥) → IsTrue ended ↔ (◌≡◌ {A = Result ℕ Failed} (Ok count) (Ok 0)) → ended ≡ false
@@ -64,3 +196,62 @@ no_end true count some end = absurd (some (count_of (end.0 refl)))
   where
     count_of : {a b : ℕ} → ◌≡◌ {A = Result ℕ Failed} (Ok a) (Ok b) → a ≡ b
     count_of e = cc
+
+-- a read that gave none told the end
+pub is_end : (ended : Bool) (count : ℕ) → count ≡ 0 → IsTrue ended ↔ (◌≡◌ {A = Result ℕ Failed} (Ok count) (Ok 0)) → ended ≡ true
+is_end true count none end = refl
+is_end false count none end = absurd (no (end.1 (ap (λ (n : ℕ). let r : Result ℕ Failed = Ok n in r) none)))
+  where
+    no : IsTrue false → ⊥
+    no h = search rules
+
+pub consumes_end :
+    (a b c : Option (List ℕ)) (xs ys : List ℕ) (count : ℕ) → Consumes a b xs → Consumes b c (take count ys) → count ≡ 0 → Consumes a c xs
+consumes_end a b c xs ys count first second none =
+    let last : Consumes b c [] = subst (λ (n : ℕ). Consumes b c (take n ys)) none second in
+    subst (λ (l : List ℕ). Consumes a c l) (append-nil xs) (consumes_then a b c xs [] first last)
+
+-- a read that failed told no end
+pub failed_not_ended : {f : Failed} (ended : Bool) → IsTrue ended ↔ (◌≡◌ {A = Result ℕ Failed} (Err f) (Ok 0)) → ended ≡ false
+failed_not_ended false end = refl
+failed_not_ended true end = absurd (not_ok (end.0 refl))
+  where
+    not_ok : {f : Failed} → ◌≡◌ {A = Result ℕ Failed} (Err f) (Ok 0) → ⊥
+    not_ok e = cc
+
+-- how a run that halted so stops
+fine_stops :
+    (closes memory : Bool) (means : Outcome → Type 0) (text : List ℕ) (halted : Result Report ToolFault) (left : Option (List ℕ)) (ended source_failed : Bool)
+    (made reads : ℕ) (taken sent : Option (List ℕ)) → Halts memory means text halted → (is_err halted ≡ false → ended ≡ true)
+    → source_failed ≡ false → sent ≡ taken → (ended ≡ true → IsAtEnd left) → made ≤ reads
+    → Stops closes halted left ended source_failed made taken sent false reads
+fine_stops closes memory means text (Ok report) left ended source_failed made reads taken sent halts ok fine all_sent all_read bound =
+    record { stopped = (ok refl, fine, refl); sent_on = all_sent; all_read = all_read; bounded = bound }
+fine_stops closes memory means text (Err (CaptureLine line)) left ended source_failed made reads taken sent halts ok fine all_sent all_read bound =
+    record { stopped = (fine, refl); sent_on = all_sent; all_read = all_read; bounded = bound }
+fine_stops closes memory means text (Err OutOfMemory) left ended source_failed made reads taken sent halts ok fine all_sent all_read bound =
+    record { stopped = (fine, refl); sent_on = all_sent; all_read = all_read; bounded = bound }
+fine_stops closes memory means text (Err Read) left ended source_failed made reads taken sent halts ok fine all_sent all_read bound = absurd halts
+fine_stops closes memory means text (Err (Write written)) left ended source_failed made reads taken sent halts ok fine all_sent all_read bound = absurd halts
+fine_stops closes memory means text (Err TooManyReads) left ended source_failed made reads taken sent halts ok fine all_sent all_read bound = absurd halts
+
+pub halted_stops :
+    (closes memory : Bool) (means : Outcome → Type 0) (text : List ℕ) (halt : Halt) (result : Result Report ToolFault) (left : Option (List ℕ))
+    (ended source_failed : Bool) (made reads : ℕ) (taken sent : Option (List ℕ)) (failed : Bool) → Halts memory means text halt.result
+    → IsTold halt result failed → (is_err halt.result ≡ false → ended ≡ true) → (closes ≡ false → failed ≡ true → ended ≡ false)
+    → source_failed ≡ false → (failed ≡ false → sent ≡ taken) → (ended ≡ true → IsAtEnd left) → made ≤ reads
+    → Stops closes result left ended source_failed made taken sent failed reads
+halted_stops closes memory means text halt result left ended source_failed made reads taken sent false halts told ok early fine all_sent all_read bound =
+    subst (λ (r : Result Report ToolFault). Stops closes r left ended source_failed made taken sent false reads) (sym told)
+    (fine_stops closes memory means text halt.result left ended source_failed made reads taken sent halts ok fine (all_sent refl) all_read bound)
+halted_stops closes memory means text halt result left ended source_failed made reads taken sent true halts told ok early fine all_sent all_read bound =
+    subst (λ (r : Result Report ToolFault). Stops closes r left ended source_failed made taken sent true reads) (sym told)
+    (record { stopped = ((λ c. early c refl), fine, refl); sent_on = tt; all_read = all_read; bounded = bound })
+
+-- a read that told the end waited
+pub waited : (may_wait : Bool) (count : ℕ) → count ≡ 0 → (may_wait ≡ false → 0 < count) → may_wait ≡ true
+waited true count none ready = refl
+waited false count none ready = absurd (nothing (ready refl))
+  where
+    nothing : 0 < count → ⊥
+    nothing some = omega (arith, some, none)

@@ -1,11 +1,19 @@
 -- The lines of signals, one after the other.
-use Rattle.std.proofs.Common.{◌≡◌, ℕ, List, [], ◌∷◌, ◌++◌, Option, None, Some, refl, ap, sym, ◌∙◌, append-nil, append_assoc, length, take, drop, take-append-drop}
+use Rattle.std.proofs.Common.{◌≡◌, ℕ, Bool, true, false, List, [], ◌∷◌, ◌++◌, Option, None, Some, Ok, Err, IfOk, refl, ap, sym, subst, ◌∙◌, append-nil, append_assoc, length, take, drop, take-append-drop}
 use Rattle.lis_frame.specs.declared.scanner.SignalOf.{SignalOf}
 use Rattle.lis_frame.specs.Stream.{with_signal, signals_after, stream_with}
 use Rattle.lis_frame.proofs.StreamLaws.{signals_after-append}
 use Rattle.lis_frame.specs.Frame.{FrameContent}
 use Rattle.lis_frame.specs.Scanner.{lent_signals}
-use Rattle.lis_tool.specs.Show.{frame_line, lent_line, signal_line, signal_lines}
+use Rattle.std.specs.declared.result.Result.{Result}
+use Rattle.std.specs.Io.KnownBytes.{Appends}
+use Rattle.lis_tool.specs.declared.fault.ToolFault.{ToolFault}
+use Rattle.lis_tool.specs.declared.fault.ToolFault.TheVariants.{CaptureLine, Read, Write, OutOfMemory, TooManyReads}
+use Rattle.lis_tool.specs.declared.report.Report.{Report}
+use Rattle.lis_tool.specs.Outcome.{Outcome, at_end, whole}
+use Rattle.lis_tool.specs.Output.{WentOut}
+use Rattle.lis_tool.specs.Runs.{Ran, Shown, Wrote, WroteText}
+use Rattle.lis_tool.specs.Show.{Shows, clean, frame_line, lent_line, show, signal_line, signal_lines}
 
 -- the line of a byte's signal, and then the lines of what follows
 pub signal_lines-with :
@@ -49,3 +57,52 @@ front_lines limit n past bytes o is =
 
 pub front_stream : (n : ℕ) (past bytes : List ℕ) → stream_with (stream_with past (take n bytes)) (drop n bytes) ≡ stream_with past bytes
 front_stream n past bytes = sym (stream_with-append past (take n bytes) (drop n bytes)) ∙ ap (stream_with past) (take-append-drop n bytes)
+
+-- ---- a run
+
+-- the text of the bytes so far, and the lines of more bytes
+pub shown_more :
+    (limit : ℕ) (past more text : List ℕ) → text ≡ show limit past
+    → text ++ signal_lines (signals_after limit (stream_with [] past) more) ≡ show limit (past ++ more)
+shown_more limit past more text is =
+    ap (λ (t : List ℕ). t ++ signal_lines (signals_after limit (stream_with [] past) more)) is ∙ sym (lines-append limit [] past more)
+
+-- what a run that shows tells of the text of the bytes
+pub shown_ran :
+    (limit : ℕ) (left_old left_new taken_old taken_new : Option (List ℕ)) (ended : Bool) (result : Result Report ToolFault)
+    → Ran false (Shows limit) left_old left_new taken_old taken_new ended result → Shown (show limit) left_old left_new taken_old taken_new result
+shown_ran limit left_old left_new taken_old taken_new ended result ran =
+    record { given = ran.given; read = ran.read; wrote = text_of result ran.wrote }
+  where
+    text_is : ran.outcome.text ≡ show limit ran.given
+    text_is = ap (λ (o : Outcome). o.text) ran.meant
+
+    whole_is : whole ran.outcome ≡ show limit ran.given
+    whole_is = ap whole ran.meant ∙ append-nil (show limit ran.given)
+
+    text_of : (r : Result Report ToolFault) → Wrote false r ran.outcome taken_old taken_new → WroteText taken_old taken_new r (show limit ran.given)
+    text_of (Ok report) wrote = subst (λ (t : List ℕ). Appends taken_old taken_new t) whole_is wrote.1
+    text_of (Err Read) wrote = subst (λ (t : List ℕ). Appends taken_old taken_new t) text_is wrote.1
+    text_of (Err TooManyReads) wrote = subst (λ (t : List ℕ). Appends taken_old taken_new t) text_is wrote.1
+    text_of (Err (Write written)) wrote = (wrote.0, subst (λ (t : List ℕ). WentOut taken_old taken_new 0 written t wrote.0) whole_is wrote.1)
+    text_of (Err (CaptureLine line)) wrote = absurd (no_line ended (sym (ap (λ (o : Outcome). o.halt) ran.meant) ∙ wrote.0))
+      where
+        no_line : (e : Bool) → at_end e clean ≡ Some (Err (CaptureLine line)) → ⊥
+        no_line true is = cc
+        no_line false is = cc
+    text_of (Err OutOfMemory) wrote = absurd (not_taken wrote.0)
+      where
+        not_taken : false ≡ true → ⊥
+        not_taken is = cc
+
+-- and of its status
+pub shown_status :
+    (limit : ℕ) (left_old left_new taken_old taken_new : Option (List ℕ)) (ended : Bool) (result : Result Report ToolFault)
+    → Ran false (Shows limit) left_old left_new taken_old taken_new ended result → IfOk result (λ report. report.status ≡ 0)
+shown_status limit left_old left_new taken_old taken_new ended (Ok report) ran =
+    status_of ended (sym (ap (λ (o : Outcome). o.halt) ran.meant) ∙ ran.wrote.0)
+  where
+    status_of : (e : Bool) → at_end e clean ≡ Some (Ok report) → report.status ≡ 0
+    status_of true is = cc
+    status_of false is = cc
+shown_status limit left_old left_new taken_old taken_new ended (Err fault) ran = tt

@@ -1,37 +1,54 @@
 -- How a run over a source and a sink ends.
-use Rattle.std.specs.Prelude.{◌≡◌, ℕ, Bool, true, false, List, Option, Ok, Err, ⊤}
+use Rattle.std.specs.Prelude.{◌≡◌, ℕ, ◌≤◌, Bool, true, false, List, length, take, Option, None, Some, Ok, Err, ⊤}
 use Rattle.std.specs.declared.result.Result.{Result}
-use Rattle.std.specs.Io.KnownBytes.{Appends, Consumes}
+use Rattle.std.specs.Io.KnownBytes.{Appends, Consumes, IsAtEnd}
 use Rattle.lis_tool.specs.declared.fault.ToolFault.{ToolFault}
 use Rattle.lis_tool.specs.declared.fault.ToolFault.TheVariants.{CaptureLine, Read, Write, OutOfMemory, TooManyReads}
 use Rattle.lis_tool.specs.declared.report.Report.{Report}
+use Rattle.lis_tool.specs.Outcome.{Outcome, whole}
 use Rattle.lis_tool.specs.Output.{WentOut}
 
--- what went out for the bytes that were read: all of their text, or as much as is told where the sink failed
-abbrev pub Wrote : Option (List ℕ) → Option (List ℕ) → Result Report ToolFault → List ℕ → Type 0
-Wrote old new (Ok report) text = Appends old new text
-Wrote old new (Err Read) text = Appends old new text
-Wrote old new (Err TooManyReads) text = Appends old new text
-Wrote old new (Err (Write written)) text = (count : ℕ) × WentOut old new 0 written text count
-Wrote old new (Err (CaptureLine line)) text = ⊥
-Wrote old new (Err OutOfMemory) text = ⊥
+-- before a run nothing was read, and neither the source nor the sink failed
+pub record IsFresh (made : ℕ) (ended source_failed sink_failed : Bool) : Type 0 where
+  pub unread : made ≡ 0
+  pub not_ended : ended ≡ false
+  pub not_failed : source_failed ≡ false
+  pub working : sink_failed ≡ false
 
--- the bytes that were read, and what went out for them
-pub record ShowRan (text_of : List ℕ → List ℕ) (left_old left_new taken_old taken_new : Option (List ℕ)) (result : Result Report ToolFault) : Type 0 where
+-- what went out of an outcome's text: with a report all of it; where a line is refused, or the source failed or was
+-- read too often, all but the closing lines; where the sink failed as much as is told; and where memory was refused a
+-- part without the closing lines
+abbrev pub Wrote : (takes_memory : Bool) → Result Report ToolFault → Outcome → Option (List ℕ) → Option (List ℕ) → Type 0
+Wrote takes_memory (Ok report) o old new = (o.halt ≡ Some (Ok report)) × Appends old new (whole o)
+Wrote takes_memory (Err (CaptureLine line)) o old new = (o.halt ≡ Some (Err (CaptureLine line))) × Appends old new o.text
+Wrote takes_memory (Err Read) o old new = (o.halt ≡ None) × Appends old new o.text
+Wrote takes_memory (Err TooManyReads) o old new = (o.halt ≡ None) × Appends old new o.text
+Wrote takes_memory (Err (Write written)) o old new = (count : ℕ) × WentOut old new 0 written (whole o) count
+Wrote takes_memory (Err OutOfMemory) o old new =
+    (takes_memory ≡ true) × (count : ℕ) × (count ≤ length o.text) × Appends old new (take count o.text)
+
+-- all the bytes that were read, what they come to, and what went out
+pub record Ran
+    (takes_memory : Bool) (means : List ℕ → Bool → Outcome → Type 0) (left_old left_new taken_old taken_new : Option (List ℕ))
+    (ended : Bool) (result : Result Report ToolFault) : Type 0 where
   pub given : List ℕ
   pub read : Consumes left_old left_new given
-  pub wrote : Wrote taken_old taken_new result (text_of given)
+  pub outcome : Outcome
+  pub meant : means given ended outcome
+  pub wrote : Wrote takes_memory result outcome taken_old taken_new
 
--- each ending stands where the last read or write says so: the end where the source told it, a fault of the source or
--- the sink where that failed, and too many reads where as many were made and none of these stands
-abbrev pub Stopped : Result Report ToolFault → Bool → Bool → Bool → ℕ → ℕ → Type 0
-Stopped (Ok report) ended source_failed sink_failed made reads = (ended ≡ true) × (source_failed ≡ false) × (sink_failed ≡ false)
-Stopped (Err Read) ended source_failed sink_failed made reads = (ended ≡ false) × (source_failed ≡ true) × (sink_failed ≡ false)
-Stopped (Err (Write written)) ended source_failed sink_failed made reads = (ended ≡ false) × (source_failed ≡ false) × (sink_failed ≡ true)
-Stopped (Err TooManyReads) ended source_failed sink_failed made reads =
+-- each ending stands where the last read or write says so: a report where the source told the end, a fault of the source
+-- or the sink where that failed, and too many reads where as many were made and none of these stands. A command that
+-- writes nothing at the end has no fault of the sink there.
+abbrev pub Stopped : (closes : Bool) → Result Report ToolFault → Bool → Bool → Bool → ℕ → ℕ → Type 0
+Stopped closes (Ok report) ended source_failed sink_failed made reads = (ended ≡ true) × (source_failed ≡ false) × (sink_failed ≡ false)
+Stopped closes (Err Read) ended source_failed sink_failed made reads = (ended ≡ false) × (source_failed ≡ true) × (sink_failed ≡ false)
+Stopped closes (Err (Write written)) ended source_failed sink_failed made reads =
+    (closes ≡ false → ended ≡ false) × (source_failed ≡ false) × (sink_failed ≡ true)
+Stopped closes (Err TooManyReads) ended source_failed sink_failed made reads =
     (ended ≡ false) × (source_failed ≡ false) × (sink_failed ≡ false) × (made ≡ reads)
-Stopped (Err (CaptureLine line)) ended source_failed sink_failed made reads = ⊥
-Stopped (Err OutOfMemory) ended source_failed sink_failed made reads = ⊥
+Stopped closes (Err (CaptureLine line)) ended source_failed sink_failed made reads = (source_failed ≡ false) × (sink_failed ≡ false)
+Stopped closes (Err OutOfMemory) ended source_failed sink_failed made reads = (source_failed ≡ false) × (sink_failed ≡ false)
 
 -- nothing that the sink took is held back, but where it failed
 abbrev pub Sent : Result Report ToolFault → Option (List ℕ) → Option (List ℕ) → Type 0
@@ -39,5 +56,31 @@ Sent (Ok report) sent taken = sent ≡ taken
 Sent (Err Read) sent taken = sent ≡ taken
 Sent (Err TooManyReads) sent taken = sent ≡ taken
 Sent (Err (Write written)) sent taken = ⊤
-Sent (Err (CaptureLine line)) sent taken = ⊥
-Sent (Err OutOfMemory) sent taken = ⊥
+Sent (Err (CaptureLine line)) sent taken = sent ≡ taken
+Sent (Err OutOfMemory) sent taken = sent ≡ taken
+
+-- how a run stops, by what is known of the source and the sink: what the source has left, whether it told the end or failed, and the
+-- reads made; what the sink took and sent on, and whether it failed; and the most reads
+pub record Stops
+    (closes : Bool) (result : Result Report ToolFault) (left : Option (List ℕ)) (ended source_failed : Bool) (made : ℕ)
+    (taken sent : Option (List ℕ)) (sink_failed : Bool) (reads : ℕ) : Type 0 where
+  pub stopped : Stopped closes result ended source_failed sink_failed made reads
+  pub sent_on : Sent result sent taken
+  pub all_read : ended ≡ true → IsAtEnd left
+  pub bounded : made ≤ reads
+
+-- what went out for the bytes that were read, by a command that never refuses a line nor wants memory: all of their
+-- text, or as much as is told where the sink failed
+abbrev pub WroteText : Option (List ℕ) → Option (List ℕ) → Result Report ToolFault → List ℕ → Type 0
+WroteText old new (Ok report) text = Appends old new text
+WroteText old new (Err Read) text = Appends old new text
+WroteText old new (Err TooManyReads) text = Appends old new text
+WroteText old new (Err (Write written)) text = (count : ℕ) × WentOut old new 0 written text count
+WroteText old new (Err (CaptureLine line)) text = ⊥
+WroteText old new (Err OutOfMemory) text = ⊥
+
+-- the bytes that were read, and what went out for them
+pub record Shown (text_of : List ℕ → List ℕ) (left_old left_new taken_old taken_new : Option (List ℕ)) (result : Result Report ToolFault) : Type 0 where
+  pub given : List ℕ
+  pub read : Consumes left_old left_new given
+  pub wrote : WroteText taken_old taken_new result (text_of given)

@@ -4,17 +4,27 @@
 pub mod commands;
 pub mod fault;
 mod line;
+pub mod lines;
+pub mod machine;
 mod output;
+mod parts;
+mod playing;
+pub mod replay;
 pub mod report;
 pub mod run;
 pub mod show;
 #[cfg(test)]
 mod tests;
+pub mod texts;
+pub mod upgrade;
 pub mod words;
 
 pub use commands::Command;
 pub use fault::ToolFault;
+pub use replay::{run_replay, run_replay_of};
 pub use report::Report;
 pub use run::run_command;
 pub use show::{run_show, run_show_of};
+pub use texts::{run_texts, run_texts_of};
+pub use upgrade::run_upgrade;
 pub use words::command;

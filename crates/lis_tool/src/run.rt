@@ -1,38 +1,45 @@
 //! A command, run by its name.
 
-ghost use Rattle.std.specs.Prelude.{◌≡◌, ◌≤◌, false, IfOk, OnOk};
-ghost use Rattle.std.specs.Io.KnownBytes.{IsAtEnd};
-ghost use Rattle.lis_tool.specs.Runs.{Sent, ShowRan, Stopped};
-ghost use Rattle.lis_tool.specs.Show.{show};
-ghost use Rattle.lis_tool.specs.Words.{limit_of};
+ghost use Rattle.std.specs.Prelude.{◌≡◌, ◌≤◌, false, IfOk};
+ghost use Rattle.lis_tool.specs.Commands.{CommandRan, closes};
+ghost use Rattle.lis_tool.specs.Runs.{IsFresh, Stops};
 
 use crate::commands::Command;
 use crate::fault::ToolFault;
+use crate::replay::{run_replay, run_replay_of};
 use crate::report::Report;
 use crate::show::{run_show, run_show_of};
+use crate::texts::{run_texts, run_texts_of};
+use crate::upgrade::run_upgrade;
 use lis_port::{Sink, Source};
+use std::alloc::Global;
 
-/// Runs a command from the source to the sink, by at most `reads` calls of read; `show --long` with
-/// frames of up to 63,993 bytes of text. What it writes and its faults are those of `run_show_of`.
+/// Runs a command from the source to the sink, by at most `reads` calls of read; with `long` for
+/// frames of up to 63,993 bytes of text. What it writes and its faults are those of the command's own
+/// function.
 pub fn run_command<R: Source, W: Sink>(
+    alloc: Global,
     command: Command,
     source: &mut R,
     sink: &mut W,
     reads: u32,
 ) -> Result<Report, ToolFault>
-    requires unread { R.made source.old ≡ 0 }
-    requires not_ended { R.ended source.old ≡ false }
-    requires not_failed { R.failed source.old ≡ false }
-    requires working { W.failed sink.old ≡ false }
-    ensures ran { ShowRan (show (limit_of command)) (R.left source.old) (R.left source.new) (W.taken sink.old) (W.taken sink.new) result }
-    ensures all_read { OnOk result (IsAtEnd (R.left source.new)) }
-    ensures status { IfOk result (λ report. report.status ≡ 0) }
-    ensures sent { Sent result (W.sent sink.new) (W.taken sink.new) }
-    ensures stopped { Stopped result (R.ended source.new) (R.failed source.new) (W.failed sink.new) (R.made source.new) reads }
-    ensures reads { R.made source.new ≤ reads }
+    requires { IsFresh (R.made source.old) (R.ended source.old) (R.failed source.old) (W.failed sink.old) }
+    ensures ran { CommandRan command (R.left source.old) (R.left source.new) (W.taken sink.old) (W.taken sink.new) (R.ended source.new) result }
+    ensures stops { Stops (closes command) result (R.left source.new) (R.ended source.new) (R.failed source.new) (R.made source.new) (W.taken sink.new) (W.sent sink.new) (W.failed sink.new) reads }
+    ensures status { IfOk result (λ report. report.status ≤ 1) }
 {
     match command {
         Command::Show { long: false } => run_show(source, sink, reads),
         Command::Show { long: true } => run_show_of::<63_993, R, W>(source, sink, reads),
+        Command::Replay { long: false } => run_replay(alloc, source, sink, reads),
+        Command::Replay { long: true } => {
+            run_replay_of::<63_993, R, W>(alloc, source, sink, reads)
+        }
+        Command::Texts { long: false } => run_texts(alloc, source, sink, reads),
+        Command::Texts { long: true } => {
+            run_texts_of::<63_993, R, W>(alloc, source, sink, reads)
+        }
+        Command::Upgrade => run_upgrade(source, sink, reads),
     }
 }

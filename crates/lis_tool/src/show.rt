@@ -1,24 +1,23 @@
 //! The command `show`: a line for each signal of a stream of link bytes.
 
 ghost use Rattle.std.specs.Prelude.{◌≡◌, ◌≤◌, ◌++◌, ◌∷◌, [], ℕ, List, codes, decimal, false, is_err, length, IfOk, OnOk};
-ghost use Rattle.std.specs.Io.KnownBytes.{IsAtEnd};
 ghost use Rattle.lis_frame.specs.Limit.{IsLimit};
 ghost use Rattle.lis_frame.specs.Scanner.{StandsFor};
 ghost use Rattle.lis_frame.specs.Stream.{signal_after, signals_after, stream_with, with_signal};
 ghost use Rattle.lis_tool.specs.Output.{Put, most_counted};
-ghost use Rattle.lis_tool.specs.Runs.{Sent, ShowRan, Stopped};
-ghost use Rattle.lis_tool.specs.Show.{bad_line, frame_line, frame_start, heard_line, lent_line, show, signal_lines};
+ghost use Rattle.lis_tool.specs.Runs.{IsFresh, Ran, Shown, Stops};
+ghost use Rattle.lis_tool.specs.Show.{bad_line, frame_line, frame_start, heard_line, lent_line, Shows, show, signal_lines};
+ghost use Rattle.lis_tool.specs.Outcome.{going};
+ghost use Rattle.std.proofs.Common.{ap};
 ghost use Rattle.hex.specs.Hex.{encode_lower};
 
 use crate::fault::ToolFault;
 use crate::line::Line;
-use crate::output::{put, send, send_before_a_wait};
+use crate::machine::{Halt, Machine, Turn, run};
+use crate::output::put;
 use crate::report::Report;
 use lis_frame::{FrameFault, Heard, LentFrame, ScannerOf};
-use lis_port::{Failed, Sink, Source, read_sent};
-
-/// The most bytes that are read at a time.
-const ROOM: usize = 4096;
+use lis_port::{Sink, Source};
 
 /// The bytes that are turned into digits at a time.
 const CHUNK: usize = 1024;
@@ -34,35 +33,13 @@ pub fn run_show_of<const N: usize, R: Source, W: Sink>(
     reads: u32,
 ) -> Result<Report, ToolFault>
     requires limit { IsLimit N }
-    requires unread { R.made source.old ≡ 0 }
-    requires not_ended { R.ended source.old ≡ false }
-    requires not_failed { R.failed source.old ≡ false }
-    requires working { W.failed sink.old ≡ false }
-    ensures ran { ShowRan (show N) (R.left source.old) (R.left source.new) (W.taken sink.old) (W.taken sink.new) result }
-    ensures all_read { OnOk result (IsAtEnd (R.left source.new)) }
+    requires fresh { IsFresh (R.made source.old) (R.ended source.old) (R.failed source.old) (W.failed sink.old) }
+    ensures ran { Ran false (Shows N) (R.left source.old) (R.left source.new) (W.taken sink.old) (W.taken sink.new) (R.ended source.new) result }
+    ensures stops { Stops false result (R.left source.new) (R.ended source.new) (R.failed source.new) (R.made source.new) (W.taken sink.new) (W.sent sink.new) (W.failed sink.new) reads }
+    ensures shown { Shown (show N) (R.left source.old) (R.left source.new) (W.taken sink.old) (W.taken sink.new) result }
     ensures status { IfOk result (λ report. report.status ≡ 0) }
-    ensures sent { Sent result (W.sent sink.new) (W.taken sink.new) }
-    ensures stopped { Stopped result (R.ended source.new) (R.failed source.new) (W.failed sink.new) (R.made source.new) reads }
-    ensures reads { R.made source.new ≤ reads }
 {
-    let mut scanner = ScannerOf::<N>::new();
-    let mut buffer = [0; ROOM];
-    let mut line = Line::new();
-    let mut written = 0;
-    for _turn in 0..reads {
-        send_before_a_wait(source, sink, written)?;
-        let count = match read_sent(source, sink, &mut buffer) {
-            Ok(count) => count,
-            Err(Failed) => return Err(ToolFault::Read),
-        };
-        if count == 0 {
-            return Ok(Report { status: 0 });
-        }
-        let (given, _) = buffer.split_at(count);
-        written = show_bytes(&mut scanner, sink, &mut line, written, given)?;
-    }
-    send(sink, written)?;
-    Err(ToolFault::TooManyReads)
+    run(Show::<N>::new(), source, sink, reads)
 }
 
 /// The same with the usual limit.
@@ -71,18 +48,68 @@ pub fn run_show<R: Source, W: Sink>(
     sink: &mut W,
     reads: u32,
 ) -> Result<Report, ToolFault>
-    requires unread { R.made source.old ≡ 0 }
-    requires not_ended { R.ended source.old ≡ false }
-    requires not_failed { R.failed source.old ≡ false }
-    requires working { W.failed sink.old ≡ false }
-    ensures ran { ShowRan (show 240) (R.left source.old) (R.left source.new) (W.taken sink.old) (W.taken sink.new) result }
-    ensures all_read { OnOk result (IsAtEnd (R.left source.new)) }
+    requires { IsFresh (R.made source.old) (R.ended source.old) (R.failed source.old) (W.failed sink.old) }
+    ensures ran { Ran false (Shows 240) (R.left source.old) (R.left source.new) (W.taken sink.old) (W.taken sink.new) (R.ended source.new) result }
+    ensures stops { Stops false result (R.left source.new) (R.ended source.new) (R.failed source.new) (R.made source.new) (W.taken sink.new) (W.sent sink.new) (W.failed sink.new) reads }
+    ensures shown { Shown (show 240) (R.left source.old) (R.left source.new) (W.taken sink.old) (W.taken sink.new) result }
     ensures status { IfOk result (λ report. report.status ≡ 0) }
-    ensures sent { Sent result (W.sent sink.new) (W.taken sink.new) }
-    ensures stopped { Stopped result (R.ended source.new) (R.failed source.new) (W.failed sink.new) (R.made source.new) reads }
-    ensures reads { R.made source.new ≤ reads }
 {
     run_show_of::<240, R, W>(source, sink, reads)
+}
+
+/// The scanner of the bytes, and the line that is gathered.
+#[derive(Drop)]
+struct Show<const N: usize> {
+    scanner: ScannerOf<N>,
+    line: Line,
+}
+
+impl<const N: usize> Show<N> {
+    /// A machine that has read nothing.
+    fn new() -> Self
+        requires { IsLimit N }
+        ensures { StandsFor N result.scanner [] }
+    {
+        Show {
+            scanner: ScannerOf::new(),
+            line: Line::new(),
+        }
+    }
+}
+
+impl<const N: usize> Machine for Show<N> {
+    ghost means = { Shows N };
+
+    ghost stands = { λ m bytes text. (text ≡ show N bytes) × StandsFor N m.scanner (stream_with [] bytes) };
+
+    ghost takes_memory = { false };
+
+    ghost closes = { false };
+
+    ghost goes_on = { λ m bytes text stood. ap going stood.0 };
+
+    fn feed<W: Sink>(
+        &mut self,
+        sink: &mut W,
+        written: u64,
+        bytes: &[u8],
+    ) -> Result<Turn, ToolFault> {
+        match show_bytes(&mut self.scanner, sink, &mut self.line, written, bytes) {
+            Ok(after) => Ok(Turn::On(after)),
+            Err(fault) => Err(fault),
+        }
+    }
+
+    fn end<W: Sink>(self, _sink: &mut W, written: u64) -> Result<Halt, ToolFault> {
+        Ok(Halt {
+            written,
+            result: Ok(Report { status: 0 }),
+        })
+    }
+
+    fn closes(&self) -> bool {
+        false
+    }
 }
 
 /// Puts out the lines of the signals that further bytes give.

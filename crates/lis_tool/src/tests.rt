@@ -1,7 +1,11 @@
 ghost use Rattle.std.specs.Prelude.{◌≤◌};
 
+mod replay;
+mod upgrade;
+
 use crate::*;
 use lis_port::{Buffered, Cut, Slow, Source, Then};
+use std::alloc::Global;
 use std::io::BufWriter;
 use std::test::Fail;
 
@@ -12,7 +16,7 @@ const HEADER: [u8; 13] = *b"\x021H|\\^&\r\x03E5\r\n";
 const HEADER_LINE: &[u8] = b"frame 1 end 6 487c5c5e260d\n";
 
 /// Whether `show` of bytes, some per read, writes a text and ends well, also by its command.
-fn shows(bytes: &[u8], step: usize, text: &[u8]) -> bool
+fn shows(alloc: Global, bytes: &[u8], step: usize, text: &[u8]) -> bool
     requires { 1 ≤ step }
 {
     let mut source = Cut::new(bytes, step, Then::End);
@@ -20,38 +24,45 @@ fn shows(bytes: &[u8], step: usize, text: &[u8]) -> bool
     let result = run_show(&mut source, &mut sink, 1000);
     result == Ok(Report { status: 0 })
         && sink.took() == text
-        && is_shown_by(Command::Show { long: false }, bytes, step, text)
+        && is_shown_by(alloc, Command::Show { long: false }, bytes, step, text)
 }
 
 /// Whether a command over bytes, some per read, writes a text and ends well.
-fn is_shown_by(command: Command, bytes: &[u8], step: usize, text: &[u8]) -> bool
+fn is_shown_by(alloc: Global, command: Command, bytes: &[u8], step: usize, text: &[u8]) -> bool
     requires { 1 ≤ step }
 {
     let mut source = Cut::new(bytes, step, Then::End);
     let mut sink = Slow::new(131_072, 131_072);
-    let result = run_command(command, &mut source, &mut sink, 1000);
+    let result = run_command(alloc, command, &mut source, &mut sink, 1000);
     result == Ok(Report { status: 0 }) && sink.took() == text
 }
 
 #[test]
 fn frames_enquiries_and_endings_are_shown(rt: HostRuntime) -> Result<(), Fail> {
     for step in [1, 2, 5, 13, 4096] {
-        assert!(rt; shows(&HEADER, step, HEADER_LINE));
-        assert!(rt; shows(b"\x05\x04", step, b"ENQ\nEOT\n"));
-        assert!(rt; shows(b"\x021\x0334\r\n", step, b"frame 1 end 0\n"));
-        assert!(rt; shows(b"\x021A\x1789\r\n", step, b"frame 1 more 1 41\n"));
+        assert!(rt; shows(rt.alloc(), &HEADER, step, HEADER_LINE));
+        assert!(rt; shows(rt.alloc(), b"\x05\x04", step, b"ENQ\nEOT\n"));
+        assert!(rt; shows(rt.alloc(), b"\x021\x0334\r\n", step, b"frame 1 end 0\n"));
+        assert!(rt;
+            shows(
+                rt.alloc(),
+                b"\x021A\x1789\r\n",
+                step,
+                b"frame 1 more 1 41\n"
+            )
+        );
     }
     Ok(())
 }
 
 #[test]
 fn bad_frames_are_shown_with_their_fault(rt: HostRuntime) -> Result<(), Fail> {
-    assert!(rt; shows(b"\n", 1, b""));
-    assert!(rt; shows(b"\x02\n", 1, b"bad F2\n"));
-    assert!(rt; shows(b"\x021A\x05", 1, b"ENQ\n"));
-    assert!(rt; shows(b"\x021\x03A\x0334\r\n", 1, b"bad F4 0\n"));
-    assert!(rt; shows(b"\x022L|1|N\r\x0306\r\n", 1, b"bad F5\n"));
-    assert!(rt; shows(b"\x028\x0334\r\n", 1, b"bad F3\n"));
+    assert!(rt; shows(rt.alloc(), b"\n", 1, b""));
+    assert!(rt; shows(rt.alloc(), b"\x02\n", 1, b"bad F2\n"));
+    assert!(rt; shows(rt.alloc(), b"\x021A\x05", 1, b"ENQ\n"));
+    assert!(rt; shows(rt.alloc(), b"\x021\x03A\x0334\r\n", 1, b"bad F4 0\n"));
+    assert!(rt; shows(rt.alloc(), b"\x022L|1|N\r\x0306\r\n", 1, b"bad F5\n"));
+    assert!(rt; shows(rt.alloc(), b"\x028\x0334\r\n", 1, b"bad F3\n"));
     Ok(())
 }
 
@@ -75,7 +86,7 @@ fn letters<const M: usize>(frame: &mut [u8; M], high: u8, low: u8)
 fn a_frame_of_241_letters_is_too_long_but_for_longer_frames(rt: HostRuntime) -> Result<(), Fail> {
     let mut frame = [0; 248];
     letters(&mut frame, b'6', b'5');
-    assert!(rt; shows(&frame, 4096, b"bad F1\n"));
+    assert!(rt; shows(rt.alloc(), &frame, 4096, b"bad F1\n"));
     let mut source = Cut::new(&frame, 100, Then::End);
     let mut sink = Slow::new(131_072, 7);
     let result = run_show_of::<63993, Cut<'_>, Slow>(&mut source, &mut sink, 1000);
@@ -87,7 +98,7 @@ fn a_frame_of_241_letters_is_too_long_but_for_longer_frames(rt: HostRuntime) -> 
     assert!(rt; all.chunks(2).all(|pair| pair == b"41".as_slice()));
     assert_eq!(rt; end, b"\n".as_slice());
     let long = Command::Show { long: true };
-    assert!(rt; is_shown_by(long, &frame, 100, sink.took()));
+    assert!(rt; is_shown_by(rt.alloc(), long, &frame, 100, sink.took()));
     Ok(())
 }
 
@@ -190,6 +201,21 @@ fn words_name_commands(rt: HostRuntime) -> Result<(), Fail> {
     let words = vec![in alloc; name()?, String::from_str(alloc, "frob")?]?;
     assert_eq!(rt; command(&words), None);
     let words = vec![in alloc; name()?, show()?, String::from_str(alloc, "x")?]?;
+    assert_eq!(rt; command(&words), None);
+    let replay = || String::from_str(alloc, "replay");
+    let texts = || String::from_str(alloc, "texts");
+    let words = vec![in alloc; name()?, replay()?]?;
+    assert_eq!(rt; command(&words), Some(Command::Replay { long: false }));
+    let words = vec![in alloc; name()?, replay()?, long()?]?;
+    assert_eq!(rt; command(&words), Some(Command::Replay { long: true }));
+    let words = vec![in alloc; name()?, texts()?]?;
+    assert_eq!(rt; command(&words), Some(Command::Texts { long: false }));
+    let words = vec![in alloc; name()?, texts()?, long()?]?;
+    assert_eq!(rt; command(&words), Some(Command::Texts { long: true }));
+    let upgrade = || String::from_str(alloc, "upgrade");
+    let words = vec![in alloc; name()?, upgrade()?]?;
+    assert_eq!(rt; command(&words), Some(Command::Upgrade));
+    let words = vec![in alloc; name()?, upgrade()?, long()?]?;
     assert_eq!(rt; command(&words), None);
     let words = vec![in alloc; name()?, String::from_str(alloc, "check")?, long()?]?;
     assert_eq!(rt; command(&words), None);

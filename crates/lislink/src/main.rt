@@ -29,7 +29,7 @@ fn main(rt: HostRuntime) -> ExitCode {
     };
     let mut source = ReadAhead::new(reader);
     let mut sink = Buffered::new(writer);
-    let ended = run_command(command, &mut source, &mut sink, u32::MAX);
+    let ended = run_command(rt.alloc(), command, &mut source, &mut sink, u32::MAX);
     told(&rt, ended)
 }
 

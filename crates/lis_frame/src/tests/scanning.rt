@@ -1,3 +1,6 @@
+ghost use Rattle.std.specs.Prelude.{◌≤◌, length};
+ghost use Rattle.lis_frame.specs.Limit.{IsLimit};
+
 use super::reading::HEADER;
 use crate::*;
 use std::test::Fail;
@@ -46,7 +49,11 @@ fn scanned<const N: usize>(scanner: &mut ScannerOf<N>, bytes: &[u8]) -> (Option<
     let mut last = None;
     let mut count = 0usize;
     let mut rest = bytes;
-    while let Some((byte, behind)) = rest.split_first() {
+    // Each turn reads a byte at least.
+    for _turn in 0..bytes.len() {
+        let Some((byte, behind)) = rest.split_first() else {
+            break;
+        };
         let (read, frame) = scanner.scan(rest);
         if let Some(frame) = frame {
             last = Some(heard_as(&Heard::Good(frame)));
@@ -181,7 +188,10 @@ fn frame_of_241() -> [u8; 248] {
 }
 
 /// What a new scanner tells of a stream that is cut in two.
-fn cut_at<const N: usize>(stream: &[u8], place: usize) -> (Option<Told>, usize) {
+fn cut_at<const N: usize>(stream: &[u8], place: usize) -> (Option<Told>, usize)
+    requires limit { IsLimit N }
+    requires within { place ≤ length stream.now }
+{
     let mut scanner = ScannerOf::<N>::new();
     let (_, before) = scanned(&mut scanner, &stream[..place]);
     let (last, behind) = scanned(&mut scanner, &stream[place..]);

@@ -1,0 +1,164 @@
+-- A capture that is played line by line.
+use Rattle.std.proofs.Common.{◌≡◌, ◌≢◌, ℕ, ◌+◌, ◌≤◌, ◌==◌, Bool, true, false, not, List, [], ◌∷◌, ◌++◌, Option, None, Some, Ok, Err, length, refl, sym, ◌∙◌, ap, subst, arith, nat_lt, IfOk, if◌then◌else◌}
+use Rattle.std.proofs.lemmas.Bool.Decides.{nat_tests}
+use Rattle.std.specs.Option.{option_to_list}
+use Rattle.std.specs.Str.{bytes_eq}
+use Rattle.lis_capture.specs.declared.line.Line.{Line}
+use Rattle.lis_capture.specs.declared.line.Line.TheVariants.{FromAnalyzer, FromComputer}
+use Rattle.lis_link.specs.Kept.{Kept}
+use Rattle.lis_link.specs.Receiver.{ReceiverState, on_byte}
+use Rattle.lis_link.specs.Stands.{IsIn}
+use Rattle.std.specs.declared.result.Result.{Result}
+use Rattle.lis_tool.specs.declared.fault.ToolFault.{ToolFault}
+use Rattle.lis_tool.specs.declared.machine.Turn.{Turn}
+use Rattle.lis_tool.specs.declared.machine.Turn.TheVariants.{On, Off}
+use Rattle.lis_frame.specs.Stream.{stream_with}
+use Rattle.lis_capture.specs.Capture.{capture}
+use Rattle.lis_tool.specs.CaptureRuns.{CaptureRan}
+use Rattle.lis_tool.specs.declared.report.Report.{Report}
+use Rattle.lis_tool.specs.LineOutcome.{LineSteps}
+use Rattle.lis_tool.specs.declared.playing.Account.{Account}
+use Rattle.lis_tool.specs.declared.playing.Account.TheVariants.{Lines, Texts}
+use Rattle.std.specs.List.{flat_map}
+use Rattle.lis_tool.specs.Output.{Put, most_counted}
+use Rattle.lis_tool.proofs.PutLaws.{put_nothing}
+use Rattle.lis_tool.specs.Playing.{IsHearing, IsPlaying, playing_writes, text_parts}
+use Rattle.lis_tool.specs.Replay.{Played, all_differences, compared_line, count_with, difference_count, differs_at, handed, heard, played, played_line, replay_line, replay_writes, replies, status_of, text_count, texts_at}
+
+by_differs : (t : Bool) (n k : ℕ) → n ≤ k → (if t then n + 1 else n) ≤ k + 1
+by_differs true n k few = omega (arith, few)
+by_differs false n k few = omega (arith, few)
+
+pub difference_count-few : (limit : ℕ) (lines : List Line) → difference_count limit lines ≤ length lines
+difference_count-few limit [] = omega arith
+difference_count-few limit (line ∷ lines) =
+    omega (arith, by_differs (differs_at line (played limit lines)) (difference_count limit lines) (length lines) (difference_count-few limit lines))
+
+one_text : {A : Type 0} (o : Option A) (xs : List A) (n : ℕ) → length xs ≤ n → length (option_to_list o ++ xs) ≤ n + 1
+one_text None xs n few = omega (arith, few)
+one_text (Some x) xs n few = omega (arith, few)
+
+pub handed-few : (limit : ℕ) (r : ReceiverState) (bytes : List ℕ) → length (handed limit r bytes) ≤ length bytes
+handed-few limit r [] = omega arith
+handed-few limit r (b ∷ bytes) =
+    omega (arith, one_text (on_byte limit b r).message (handed limit (on_byte limit b r).after bytes) (length bytes) (handed-few limit (on_byte limit b r).after bytes))
+
+-- what is written for a line from the analyzer
+pub handed_text :
+    (account : Account) (limit : ℕ) (lines : List Line) (bytes : List ℕ)
+    → text_parts account (length lines + 1) (handed limit (played limit lines).receiver bytes) ≡ (playing_writes account limit).line lines (FromAnalyzer bytes)
+handed_text Lines limit lines bytes = refl
+handed_text Texts limit lines bytes = refl
+
+not_differs : (same : Bool) (n : ℕ) → (if same then n else n + 1) ≡ (if not same then n + 1 else n)
+not_differs true n = refl
+not_differs false n = refl
+
+-- a line from the analyzer was heard
+pub played_analyzer :
+    (account : Account) (limit : ℕ) (old kept : Kept) (old_collected collected : List ℕ) (old_count count differences now : ℕ) (lines : List Line) (bytes : List ℕ)
+    → IsPlaying account limit old old_collected old_count differences lines → now ≡ differences → length bytes ≤ 2047
+    → IsHearing account limit kept collected count (heard limit (played limit lines).receiver bytes) ((played limit lines).replies ++ replies limit (played limit lines).receiver bytes)
+    (text_count limit lines + length (handed limit (played limit lines).receiver bytes))
+    → IsPlaying account limit kept collected count now (FromAnalyzer bytes ∷ lines)
+played_analyzer account limit old kept old_collected collected old_count count differences now lines bytes playing same short hearing =
+    record {
+      hearing = hearing;
+      differences_are = λ compared. same ∙ playing.differences_are compared;
+      few = omega (arith, playing.few, handed-few limit (played limit lines).receiver bytes, short);
+    }
+
+-- a line from the computer was compared
+pub played_computer :
+    (account : Account) (limit : ℕ) (kept : Kept) (collected left : List ℕ) (count differences now : ℕ) (lines : List Line) (bytes : List ℕ)
+    → IsPlaying account limit kept collected count differences lines → (account ≡ Lines → left ≡ [])
+    → (account ≡ Lines → now ≡ (if bytes_eq bytes collected then difference_count limit lines else difference_count limit lines + 1))
+    → IsPlaying account limit kept left count now (FromComputer bytes ∷ lines)
+played_computer account limit kept collected left count differences now lines bytes playing left_is now_is =
+    record {
+      hearing = record {
+        receiver_is = playing.hearing.receiver_is;
+        replies_are = left_is;
+        texts_are = omega (arith, playing.hearing.texts_are);
+      };
+      differences_are = λ compared.
+          now_is compared ∙ not_differs (bytes_eq bytes collected) (difference_count limit lines)
+          ∙ ap (λ (l : List ℕ). if not (bytes_eq bytes l) then difference_count limit lines + 1 else difference_count limit lines) (playing.hearing.replies_are compared);
+      few = omega (arith, playing.few);
+    }
+
+-- a line that hands out no text and isn't compared
+pub record IsSilent (limit : ℕ) (line : Line) : Type 0 where
+  pub no_texts : (p : Played) → texts_at limit line p ≡ []
+  pub no_difference : (p : Played) → differs_at line p ≡ false
+  pub keeps : (p : Played) → (played_line limit line p).replies ≡ p.replies
+  pub writes_none : (number : ℕ) (p : Played) → replay_line limit number line p ≡ []
+
+silent_text : (account : Account) (limit : ℕ) (lines : List Line) (line : Line) → IsSilent limit line → (playing_writes account limit).line lines line ≡ []
+silent_text Lines limit lines line silent = silent.writes_none (length lines + 1) (played limit lines)
+silent_text Texts limit lines line silent = ap (λ (texts : List (List ℕ)). flat_map (λ text. text) texts) (silent.no_texts (played limit lines))
+
+-- it was taken
+pub played_silent :
+    (account : Account) (limit : ℕ) (kept new : Kept) (collected : List ℕ) (count differences : ℕ) (lines : List Line) (line : Line)
+    (a : Option (List ℕ)) (before : ℕ) → IsSilent limit line → before ≤ most_counted
+    → IsPlaying account limit kept collected count differences lines → IsIn limit new (played limit (line ∷ lines)).receiver
+    → Put a a before (Ok before) ((playing_writes account limit).line lines line) × IsPlaying account limit new collected count differences (line ∷ lines)
+played_silent account limit kept new collected count differences lines line a before silent fits playing is_in =
+    let p = played limit lines in
+    let none = ap (λ (texts : List (List ℕ)). length texts) (silent.no_texts p) in (
+      subst (λ (t : List ℕ). Put a a before (Ok before) t) (sym (silent_text account limit lines line silent)) (put_nothing a before fits),
+      record {
+        hearing = record {
+          receiver_is = is_in;
+          replies_are = λ compared. playing.hearing.replies_are compared ∙ sym (silent.keeps p);
+          texts_are = omega (arith, playing.hearing.texts_are, none);
+        };
+        differences_are = λ compared.
+            playing.differences_are compared
+            ∙ ap (λ (differs : Bool). if differs then difference_count limit lines + 1 else difference_count limit lines) (sym (silent.no_difference p));
+        few = omega (arith, playing.few, none);
+      },
+    )
+
+-- the count with the difference at the end
+pub counted_left : (left : List ℕ) (count : ℕ) → (if length left == 0 then count else count + 1) ≡ count_with left count
+counted_left [] count = refl
+counted_left (b ∷ left) count =
+    let some : (length (b ∷ left) == 0) ≡ false = grind (arith, nat_tests) in
+    ap (λ (none : Bool). if none then count else count + 1) some
+
+pub is_lines : (account : Account) → account ≢ Texts → account ≡ Lines
+is_lines Lines other = refl
+is_lines Texts other = absurd (other refl)
+
+-- what is written for a line from the computer
+pub compared_text :
+    (account : Account) (limit : ℕ) (lines : List Line) (bytes : List ℕ) → account ≡ Lines
+    → compared_line (length lines + 1) bytes (played limit lines).replies ≡ (playing_writes account limit).line lines (FromComputer bytes)
+compared_text Lines limit lines bytes is = refl
+compared_text Texts limit lines bytes is = cc
+
+-- a step by what it means
+pub line_steps_as :
+    (P Q : Type 0) → (P → Q) → (a b : Option (List ℕ)) (before : ℕ) (t u : List ℕ) (result : Result Turn ToolFault) → t ≡ u
+    → LineSteps true P a b before t result → LineSteps true Q a b before u result
+line_steps_as P Q f a b before t u (Ok (On after)) e (put, p) = (subst (λ (x : List ℕ). Put a b before (Ok after) x) e put, f p)
+line_steps_as P Q f a b before t u (Ok (Off halt)) e (fault, wants, more, rest, joined, put) = (fault, wants, more, rest, sym e ∙ joined, put)
+line_steps_as P Q f a b before t u (Err fault) e put = subst (λ (x : List ℕ). Put a b before (Err fault) x) e put
+
+-- ---- a run
+
+status-few : (differences : ℕ) → (status_of differences).status ≤ 1
+status-few differences = by (nat_lt 0 differences)
+  where
+    by : (some : Bool) → (if some then 1 else 0) ≤ 1
+    by true = omega arith
+    by false = omega arith
+
+pub replay_status :
+    (limit : ℕ) (left_old left_new taken_old taken_new : Option (List ℕ)) (ended : Bool) (result : Result Report ToolFault)
+    → CaptureRan true (replay_writes limit) left_old left_new taken_old taken_new ended result → IfOk result (λ report. report.status ≤ 1)
+replay_status limit left_old left_new taken_old taken_new ended (Ok report) ran =
+    subst (λ (r : Report). r.status ≤ 1) (sym ran.answer.2) (status-few (all_differences limit (capture (stream_with [] ran.given) ended).lines))
+replay_status limit left_old left_new taken_old taken_new ended (Err fault) ran = tt

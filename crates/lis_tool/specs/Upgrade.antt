@@ -1,0 +1,25 @@
+-- What `upgrade` writes: the lines of a capture as those of version 2.
+use Rattle.std.specs.Prelude.{ℕ, Bool, List, [], ◌∷◌, ◌++◌, true, false}
+use Rattle.lis_capture.specs.declared.line.Line.{Line}
+use Rattle.lis_capture.specs.declared.line.Line.TheVariants.{Version}
+use Rattle.lis_capture.specs.Spelling.{line_spelling}
+use Rattle.lis_tool.specs.LineOutcome.{Writes}
+use Rattle.lis_tool.specs.Show.{clean}
+
+-- a line as it is written; the version stands in front alone
+abbrev pub written_line : Line → List ℕ
+written_line Version = []
+written_line line = line_spelling line
+
+-- the version stands before the first line, and alone where there is none
+abbrev pub opening : List Line → List ℕ
+opening [] = line_spelling Version
+opening (line ∷ lines) = []
+
+abbrev pub upgrade_writes : Writes
+upgrade_writes = record { line = λ lines line. opening lines ++ written_line line; last = opening; report = λ lines. clean }
+
+-- whether a line was there
+abbrev pub is_begun : List Line → Bool
+is_begun [] = false
+is_begun (line ∷ lines) = true

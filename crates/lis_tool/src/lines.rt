@@ -1,0 +1,154 @@
+//! Commands that take a capture line by line.
+
+ghost use Rattle.std.specs.Prelude.{◌≡◌, ◌+◌, ◌∷◌, [], ◌^◌, ◌<◌, ℕ, Bool, true, false, List, length, is_err};
+ghost use Rattle.lis_frame.specs.Stream.{stream_with};
+ghost use Rattle.lis_capture.specs.declared.line.Line.{Line as LineContent};
+ghost use Rattle.lis_capture.specs.Capture.{capture};
+ghost use Rattle.lis_tool.specs.LineOutcome.{IsLined, LineEnds, LineSteps, Writes, capture_outcome, lines_outcome};
+ghost use Rattle.lis_tool.specs.Outcome.{going};
+ghost use Rattle.std.proofs.Common.{ap, sym, ◌∙◌};
+
+use crate::fault::ToolFault;
+use crate::machine::{Halt, Machine, Turn};
+use lis_capture::{Found, Line, LineReader};
+use lis_port::Sink;
+
+/// A command that takes a capture line by line. Contracts see the lines newest first.
+pub trait LineMachine: Drop {
+    // What it writes for a line behind others, and at the end.
+    ghost writes: { Writes };
+
+    // It stands for these lines, for which all was written.
+    ghost stands: { Self → List LineContent → Type 0 };
+
+    // Whether it may want memory.
+    ghost takes_memory: { Bool };
+
+    /// Takes the line of this number, behind `written` bytes of the run. It halts the run only where
+    /// memory is refused.
+    fn line<W: Sink>(
+        &mut self,
+        sink: &mut W,
+        written: u64,
+        number: u64,
+        line: &Line<'_>,
+    ) -> Result<Turn, ToolFault>
+        requires { W.failed sink.old ≡ false }
+        ensures steps { (lines : List LineContent) → stands self.old lines → number ≡ length lines + 1 → number < 2 ^ 44 →
+            LineSteps takes_memory (stands self.new (line.now ∷ lines)) (W.taken sink.old) (W.taken sink.new) written
+            (writes.line lines line.now) result }
+        ensures failed { W.failed sink.new ≡ is_err result };
+
+    /// Takes the end of the input.
+    fn end<W: Sink>(self, sink: &mut W, written: u64) -> Result<Halt, ToolFault>
+        requires { W.failed sink.old ≡ false }
+        ensures ends { (lines : List LineContent) → stands self lines → length lines < 2 ^ 44 →
+            LineEnds (writes.report lines) (W.taken sink.old) (W.taken sink.new) written (writes.last lines) result }
+        ensures failed { W.failed sink.new ≡ is_err result };
+}
+
+/// A command over the lines of a capture, as one over its bytes.
+#[derive(Drop)]
+pub struct Lines<C> {
+    command: C,
+    reader: LineReader,
+}
+
+impl<C: LineMachine> Lines<C> {
+    /// A reader at the start of a capture.
+    pub fn new(command: C) -> Self
+        requires { C.stands command [] }
+        ensures { IsLined C.writes (C.stands result.command) result.reader [] [] }
+    {
+        Lines {
+            command,
+            reader: LineReader::new(),
+        }
+    }
+
+    /// The command takes the line that was read last.
+    fn take_line<W: Sink>(&mut self, sink: &mut W, written: u64) -> Result<Turn, ToolFault>
+        requires { W.failed sink.old ≡ false }
+        ensures steps { (lines : List LineContent) → C.stands self.old.command lines → self.old.reader.known.number ≡ length lines + 1 →
+            self.old.reader.known.number < 2 ^ 44 →
+            LineSteps C.takes_memory (C.stands self.new.command (self.old.reader.known.line ∷ lines)) (W.taken sink.old) (W.taken sink.new) written
+            (C.writes.line lines self.old.reader.known.line) result }
+        ensures reader { self.new.reader ≡ self.old.reader }
+        ensures failed { W.failed sink.new ≡ is_err result }
+    {
+        let number = self.reader.number();
+        let line = self.reader.line();
+        self.command.line(sink, written, number, &line)
+    }
+
+    /// How a run halts whose last line is refused.
+    fn refused(&self, written: u64) -> Halt
+        ensures written { result.written ≡ written }
+        ensures result { result.result ≡ Err (ToolFault.CaptureLine self.now.reader.known.number) }
+    {
+        Halt {
+            written,
+            result: Err(ToolFault::CaptureLine {
+                line: self.reader.number(),
+            }),
+        }
+    }
+}
+
+impl<C: LineMachine> Machine for Lines<C> {
+    ghost means = { λ bytes ended o. o ≡ capture_outcome C.writes (stream_with [] bytes) ended };
+
+    ghost stands = { λ m bytes text. IsLined C.writes (C.stands m.command) m.reader bytes text };
+
+    ghost takes_memory = { C.takes_memory };
+
+    ghost closes = { true };
+
+    ghost goes_on = { λ m bytes text lined.
+        ap going lined.text_is
+        ∙ sym (ap (λ (refused : Bool). lines_outcome C.writes refused false (capture (stream_with [] bytes) false).lines) lined.fine) };
+
+    fn feed<W: Sink>(
+        &mut self,
+        sink: &mut W,
+        written: u64,
+        bytes: &[u8],
+    ) -> Result<Turn, ToolFault> {
+        let mut rest = bytes;
+        let mut after = written;
+        while !rest.is_empty() {
+            let (count, found) = self.reader.read(rest);
+            match found {
+                Found::Nothing => return Ok(Turn::On(after)),
+                Found::Refused => return Ok(Turn::Off(self.refused(after))),
+                Found::Line => match self.take_line(sink, after) {
+                    Ok(Turn::On(next)) => {
+                        after = next;
+                        let (_, left) = rest.split_at(count);
+                        rest = left;
+                    }
+                    Ok(Turn::Off(halt)) => return Ok(Turn::Off(halt)),
+                    Err(fault) => return Err(fault),
+                },
+            }
+        }
+        Ok(Turn::On(after))
+    }
+
+    fn end<W: Sink>(self, sink: &mut W, written: u64) -> Result<Halt, ToolFault> {
+        let mut lines = self;
+        match lines.reader.finish() {
+            Found::Nothing => lines.command.end(sink, written),
+            Found::Refused => Ok(lines.refused(written)),
+            Found::Line => match lines.take_line(sink, written) {
+                Ok(Turn::On(after)) => lines.command.end(sink, after),
+                Ok(Turn::Off(halt)) => Ok(halt),
+                Err(fault) => Err(fault),
+            },
+        }
+    }
+
+    fn closes(&self) -> bool {
+        true
+    }
+}

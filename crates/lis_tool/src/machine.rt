@@ -1,0 +1,129 @@
+//! The form of all commands: a machine is fed with what a source gives, and writes to a sink.
+
+ghost use Rattle.std.specs.Prelude.{◌≡◌, ◌+◌, ◌^◌, ◌<◌, ◌≤◌, ◌++◌, ℕ, Bool, true, false, List, [], length, is_err};
+ghost use Rattle.std.specs.Io.KnownBytes.{Keeps};
+ghost use Rattle.lis_tool.specs.Outcome.{Outcome, going};
+ghost use Rattle.lis_tool.specs.Runs.{IsFresh, Ran, Stops};
+ghost use Rattle.lis_tool.specs.Steps.{Ends, IsTold, Steps};
+
+use crate::fault::ToolFault;
+use crate::output::{send, send_before_a_wait};
+use crate::report::Report;
+use lis_port::{Failed, Sink, Source, read_sent};
+
+/// The most bytes that are read at a time.
+const ROOM: usize = 4096;
+
+/// How a run halts, and how many bytes of it went out.
+#[derive(Clone, Copy)]
+pub struct Halt {
+    pub written: u64,
+    pub result: Result<Report, ToolFault>,
+}
+
+/// What becomes of a run after a step: it goes on, behind so many bytes, or halts.
+#[derive(Clone, Copy)]
+pub enum Turn {
+    On(u64),
+    Off(Halt),
+}
+
+/// A command. It is fed with the bytes that are read, and writes what they come to.
+pub trait Machine: Drop {
+    // What bytes come to, from the first on, where the end of the input was told or wasn't.
+    ghost means: { List ℕ → Bool → Outcome → Type 0 };
+
+    // It stands for these bytes, for which this text went out.
+    ghost stands: { Self → List ℕ → List ℕ → Type 0 };
+
+    // Whether it may want memory.
+    ghost takes_memory: { Bool };
+
+    // Whether it may write at the end of the input.
+    ghost closes: { Bool };
+
+    /// Takes bytes that were read, behind `written` bytes of the run. Where the sink fails, or memory is
+    /// refused, a part of the text of all these bytes went out.
+    fn feed<W: Sink>(&mut self, sink: &mut W, written: u64, bytes: &[u8]) -> Result<Turn, ToolFault>
+        requires { W.failed sink.old ≡ false }
+        ensures steps { (past text : List ℕ) → stands self.old past text → length past + length bytes.now < 2 ^ 44 →
+            Steps takes_memory (stands self.new (past ++ bytes.now)) (means (past ++ bytes.now) false)
+            (W.taken sink.old) (W.taken sink.new) written text result }
+        ensures failed { W.failed sink.new ≡ is_err result };
+
+    /// Takes the end of the input.
+    fn end<W: Sink>(self, sink: &mut W, written: u64) -> Result<Halt, ToolFault>
+        requires { W.failed sink.old ≡ false }
+        ensures ends { (past text : List ℕ) → stands self past text → length past < 2 ^ 44 →
+            Ends takes_memory (means past true) (W.taken sink.old) (W.taken sink.new) written text result }
+        ensures failed { W.failed sink.new ≡ is_err result }
+        ensures silent { closes ≡ false → (is_err result ≡ false) × (W.sent sink.new ≡ W.sent sink.old) × (W.taken sink.new ≡ W.taken sink.old) };
+
+    /// Whether it may write at the end of the input.
+    fn closes(&self) -> bool
+        ensures { result ≡ closes };
+
+    // What it stands for goes on.
+    ghost goes_on: { (machine : Self) (past text : List ℕ) → stands machine past text → means past false (going text) };
+}
+
+/// Feeds a machine with what a source gives, to its end, by at most `reads` calls of read. The sink is
+/// flushed before each that may wait for bytes, so that no line waits with it, and where the run ends.
+pub fn run<M: Machine, R: Source, W: Sink>(
+    machine: M,
+    source: &mut R,
+    sink: &mut W,
+    reads: u32,
+) -> Result<Report, ToolFault>
+    requires new { M.stands machine [] [] }
+    requires fresh { IsFresh (R.made source.old) (R.ended source.old) (R.failed source.old) (W.failed sink.old) }
+    ensures ran { Ran M.takes_memory M.means (R.left source.old) (R.left source.new) (W.taken sink.old) (W.taken sink.new) (R.ended source.new) result }
+    ensures stops { Stops M.closes result (R.left source.new) (R.ended source.new) (R.failed source.new) (R.made source.new) (W.taken sink.new) (W.sent sink.new) (W.failed sink.new) reads }
+{
+    let mut machine = machine;
+    let mut buffer = [0; ROOM];
+    let mut written = 0;
+    for _turn in 0..reads {
+        if let Err(fault) = send_before_a_wait(source, sink, written) {
+            return Err(fault);
+        }
+        let count = match read_sent(source, sink, &mut buffer) {
+            Ok(count) => count,
+            Err(Failed) => return Err(ToolFault::Read),
+        };
+        if count == 0 {
+            let closes = machine.closes();
+            return match machine.end(sink, written) {
+                Ok(halt) => halted(sink, halt, closes),
+                Err(fault) => Err(fault),
+            };
+        }
+        let (given, _) = buffer.split_at(count);
+        match machine.feed(sink, written, given) {
+            Ok(Turn::On(after)) => written = after,
+            Ok(Turn::Off(halt)) => return halted(sink, halt, true),
+            Err(fault) => return Err(fault),
+        }
+    }
+    if let Err(fault) = send(sink, written) {
+        return Err(fault);
+    }
+    Err(ToolFault::TooManyReads)
+}
+
+/// Sends on what went out, where the last step may have written, and answers how the run ended.
+fn halted<W: Sink>(sink: &mut W, halt: Halt, wrote: bool) -> Result<Report, ToolFault>
+    requires { W.failed sink.old ≡ false }
+    ensures taken { Keeps (W.taken sink.old) (W.taken sink.new) }
+    ensures told { IsTold halt result (W.failed sink.new) }
+    ensures sent { wrote ≡ true → W.failed sink.new ≡ false → W.sent sink.new ≡ W.taken sink.new }
+    ensures silent { wrote ≡ false → (W.failed sink.new ≡ false) × (W.sent sink.new ≡ W.sent sink.old) × (W.taken sink.new ≡ W.taken sink.old) }
+{
+    if !wrote {
+        return halt.result;
+    }
+    match send(sink, halt.written) {
+        Ok(()) => halt.result,
+        Err(fault) => Err(fault),
+    }
+}

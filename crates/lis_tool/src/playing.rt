@@ -1,0 +1,339 @@
+//! A receiver that plays a capture, for the commands `replay` and `texts`.
+
+ghost use Rattle.std.specs.Prelude.{◌≡◌, ◌+◌, ◌^◌, ◌≤◌, ◌<◌, ◌++◌, ℕ, ◌∷◌, [], List, true, false, is_err, length, Err, if◌then◌else◌, vec_capacity, vec_len};
+ghost use Rattle.std.specs.Option.{option_to_list};
+ghost use Rattle.lis_frame.specs.Limit.{IsLimit};
+ghost use Rattle.lis_capture.specs.declared.line.Line.{Line as LineContent};
+ghost use Rattle.lis_capture.specs.declared.line.Line.TheVariants as line_kinds;
+ghost use Rattle.lis_link.specs.Receiver.{ReceiverState};
+ghost use Rattle.lis_tool.specs.declared.playing.Account.{Account as AccountOf};
+ghost use Rattle.lis_tool.specs.declared.playing.Account.TheVariants as accounts;
+ghost use Rattle.lis_tool.specs.LineOutcome.{LineEnds, LineSteps};
+ghost use Rattle.lis_tool.specs.Output.{Put};
+ghost use Rattle.lis_tool.specs.Playing.{IsHearing, IsPlaying, Took, playing_writes, text_parts};
+ghost use Rattle.lis_tool.specs.Replay.{handed, heard, replay_writes, replies, status_of};
+
+use crate::fault::ToolFault;
+use crate::lines::LineMachine;
+use crate::machine::{Halt, Turn};
+use crate::output::put;
+use crate::replay::{put_compared, put_counts, put_left, put_text_line};
+use crate::report::Report;
+use lis_capture::Line;
+use lis_frame::LinkText;
+use lis_link::{Hearing, Note, ReceiverOf, Step};
+use lis_port::Sink;
+use std::alloc::Global;
+
+/// What a command tells of what is played.
+#[derive(Clone, Copy)]
+pub(crate) enum Account {
+    /// A line for each text and for each difference, and their counts.
+    Lines,
+    /// The texts alone.
+    Texts,
+}
+
+/// A command that tells what is played.
+pub(crate) trait Teller: Drop {
+    // What it tells.
+    ghost account: { AccountOf };
+
+    /// What it tells.
+    fn account(&self) -> Account
+        ensures { result ≡ account };
+}
+
+/// The command `replay`.
+#[derive(Drop)]
+pub(crate) struct InLines;
+
+impl Teller for InLines {
+    ghost account = { accounts.Lines };
+
+    fn account(&self) -> Account {
+        Account::Lines
+    }
+}
+
+/// The command `texts`.
+#[derive(Drop)]
+pub(crate) struct InTexts;
+
+impl Teller for InTexts {
+    ghost account = { accounts.Texts };
+
+    fn account(&self) -> Account {
+        Account::Texts
+    }
+}
+
+/// A receiver that plays a capture, with the counts of its texts and differences, and with its replies since the last
+/// line from the computer where they are compared.
+#[derive(Drop)]
+pub(crate) struct Playing<const N: usize, T> {
+    teller: T,
+    receiver: ReceiverOf<N>,
+    replies: Vec<u8>,
+    texts: u64,
+    differences: u64,
+}
+
+impl<const N: usize, T: Teller> Playing<N, T> {
+    /// A receiver that has heard nothing.
+    pub(crate) fn new(alloc: Global, teller: T) -> Self
+        requires { IsLimit N }
+        ensures { IsPlaying T.account N result.receiver result.replies.items result.texts result.differences [] }
+    {
+        Playing {
+            teller,
+            receiver: ReceiverOf::new(alloc),
+            replies: Vec::new(alloc),
+            texts: 0,
+            differences: 0,
+        }
+    }
+
+    /// The receiver hears the bytes of the line of this number.
+    fn hear<W: Sink>(
+        &mut self,
+        sink: &mut W,
+        written: u64,
+        number: u64,
+        bytes: &[u8],
+    ) -> Result<Turn, ToolFault>
+        requires { W.failed sink.old ≡ false }
+        ensures steps { (r : ReceiverState) (collected : List ℕ) (count : ℕ) →
+            IsHearing T.account N self.old.receiver self.old.replies.items self.old.texts r collected count → count + length bytes.now ≤ 2 ^ 63 →
+            LineSteps true
+            (IsHearing T.account N self.new.receiver self.new.replies.items self.new.texts
+            (heard N r bytes.now) (collected ++ replies N r bytes.now) (count + length (handed N r bytes.now)))
+            (W.taken sink.old) (W.taken sink.new) written (text_parts T.account number (handed N r bytes.now)) result }
+        ensures differences { self.new.differences ≡ self.old.differences }
+        ensures failed { W.failed sink.new ≡ is_err result }
+    {
+        let mut rest = bytes;
+        let mut after = written;
+        while !rest.is_empty() {
+            let Hearing { count, step } = self.receiver.bytes(rest);
+            match self.take(sink, after, number, step) {
+                Ok(Turn::On(next)) => after = next,
+                Ok(Turn::Off(halt)) => return Ok(Turn::Off(halt)),
+                Err(fault) => return Err(fault),
+            }
+            let (_, left) = rest.split_at(count);
+            rest = left;
+        }
+        Ok(Turn::On(after))
+    }
+
+    /// Takes a step of the receiver: its reply is kept, and what is told of its text goes out.
+    fn take<W: Sink>(
+        &mut self,
+        sink: &mut W,
+        written: u64,
+        number: u64,
+        step: Step,
+    ) -> Result<Turn, ToolFault>
+        requires { W.failed sink.old ≡ false }
+        ensures took { Took T.account number step self.old.replies.items self.new.replies.items
+            (vec_len self.old.replies) (vec_capacity self.old.replies) self.old.texts self.new.texts
+            (W.taken sink.old) (W.taken sink.new) written result }
+        ensures receiver { self.new.receiver ≡ self.old.receiver }
+        ensures differences { self.new.differences ≡ self.old.differences }
+        ensures failed { W.failed sink.new ≡ is_err result }
+    {
+        if let Note::OutOfMemory = step.note {
+            return Ok(Turn::Off(starved(written)));
+        }
+        if !self.collect(step.reply) {
+            return Ok(Turn::Off(starved(written)));
+        }
+        self.texts = self.texts.saturating_add(count_of(&step.message));
+        match put_message(sink, written, self.teller.account(), number, &step.message) {
+            Ok(after) => Ok(Turn::On(after)),
+            Err(fault) => Err(fault),
+        }
+    }
+
+    /// Keeps a reply where they are compared, and answers whether memory was there for it.
+    fn collect(&mut self, reply: Option<u8>) -> bool
+        ensures kept { result ≡ true → T.account ≡ accounts.Lines → self.new.replies.items ≡ self.old.replies.items ++ option_to_list reply }
+        ensures full { result ≡ false → vec_capacity self.old.replies ≤ vec_len self.old.replies }
+        ensures receiver { self.new.receiver ≡ self.old.receiver }
+        ensures texts { self.new.texts ≡ self.old.texts }
+        ensures differences { self.new.differences ≡ self.old.differences }
+    {
+        match self.teller.account() {
+            Account::Texts => true,
+            Account::Lines => match reply {
+                None => true,
+                Some(reply) => self.replies.push(reply).is_ok(),
+            },
+        }
+    }
+
+    /// Compares the bytes of the computer with the replies, which are let go.
+    fn compare<W: Sink>(
+        &mut self,
+        sink: &mut W,
+        written: u64,
+        number: u64,
+        bytes: &[u8],
+    ) -> Result<Turn, ToolFault>
+        requires { W.failed sink.old ≡ false }
+        ensures steps { (lines : List LineContent) →
+            IsPlaying T.account N self.old.receiver self.old.replies.items self.old.texts self.old.differences lines →
+            number ≡ length lines + 1 → number < 2 ^ 44 →
+            LineSteps true
+            (IsPlaying T.account N self.new.receiver self.new.replies.items self.new.texts self.new.differences
+            (line_kinds.FromComputer bytes.now ∷ lines))
+            (W.taken sink.old) (W.taken sink.new) written
+            ((playing_writes T.account N).line lines (line_kinds.FromComputer bytes.now)) result }
+        ensures failed { W.failed sink.new ≡ is_err result }
+    {
+        if let Account::Texts = self.teller.account() {
+            return Ok(Turn::On(written));
+        }
+        let got = self.replies.as_slice();
+        let differences = counted(self.differences, bytes == got);
+        let after = match put_compared(sink, written, number, bytes, got) {
+            Ok(after) => after,
+            Err(fault) => return Err(fault),
+        };
+        self.differences = differences;
+        self.replies.clear();
+        Ok(Turn::On(after))
+    }
+
+    /// Puts out the closing lines of `replay`.
+    fn close<W: Sink>(self, sink: &mut W, written: u64) -> Result<Halt, ToolFault>
+        requires working { W.failed sink.old ≡ false }
+        requires lines { T.account ≡ accounts.Lines }
+        ensures ends { (lines : List LineContent) →
+            IsPlaying T.account N self.receiver self.replies.items self.texts self.differences lines →
+            length lines < 2 ^ 44 →
+            LineEnds ((replay_writes N).report lines) (W.taken sink.old) (W.taken sink.new) written ((replay_writes N).last lines) result }
+        ensures failed { W.failed sink.new ≡ is_err result }
+    {
+        let left = self.replies.as_slice();
+        let after = match put_left(sink, written, left) {
+            Ok(after) => after,
+            Err(fault) => return Err(fault),
+        };
+        let differences = counted(self.differences, left.is_empty());
+        match put_counts(sink, after, self.texts, differences) {
+            Ok(written) => Ok(Halt {
+                written,
+                result: Ok(report_of(differences)),
+            }),
+            Err(fault) => Err(fault),
+        }
+    }
+}
+
+impl<const N: usize, T: Teller> LineMachine for Playing<N, T> {
+    ghost writes = { playing_writes T.account N };
+
+    ghost stands = { λ m lines. IsPlaying T.account N m.receiver m.replies.items m.texts m.differences lines };
+
+    ghost takes_memory = { true };
+
+    fn line<W: Sink>(
+        &mut self,
+        sink: &mut W,
+        written: u64,
+        number: u64,
+        line: &Line<'_>,
+    ) -> Result<Turn, ToolFault> {
+        match line {
+            Line::Empty => Ok(Turn::On(written)),
+            Line::Version => Ok(Turn::On(written)),
+            Line::FromAnalyzer(bytes) => self.hear(sink, written, number, bytes.as_slice()),
+            Line::FromComputer(bytes) => self.compare(sink, written, number, bytes.as_slice()),
+            Line::Timer => {
+                let _ = self.receiver.timer();
+                Ok(Turn::On(written))
+            }
+            Line::Restart => {
+                self.receiver.restart();
+                Ok(Turn::On(written))
+            }
+            Line::SetReady(readiness) => {
+                self.receiver.set_ready(*readiness);
+                Ok(Turn::On(written))
+            }
+        }
+    }
+
+    fn end<W: Sink>(self, sink: &mut W, written: u64) -> Result<Halt, ToolFault> {
+        match self.teller.account() {
+            Account::Texts => Ok(Halt {
+                written,
+                result: Ok(Report { status: 0 }),
+            }),
+            Account::Lines => self.close(sink, written),
+        }
+    }
+}
+
+/// How a run halts that wants memory.
+fn starved(written: u64) -> Halt
+    ensures written { result.written ≡ written }
+    ensures result { result.result ≡ Err ToolFault.OutOfMemory }
+{
+    Halt {
+        written,
+        result: Err(ToolFault::OutOfMemory),
+    }
+}
+
+/// One text or none.
+fn count_of(message: &Option<LinkText>) -> u64
+    ensures { result ≡ length (option_to_list message.now) }
+{
+    match message {
+        None => 0,
+        Some(_) => 1,
+    }
+}
+
+/// Puts out what is told of a text, if there is one.
+fn put_message<W: Sink>(
+    sink: &mut W,
+    written: u64,
+    account: Account,
+    number: u64,
+    message: &Option<LinkText>,
+) -> Result<u64, ToolFault>
+    requires { W.failed sink.old ≡ false }
+    ensures put { Put (W.taken sink.old) (W.taken sink.new) written result (text_parts account number (option_to_list message.now)) }
+    ensures failed { W.failed sink.new ≡ is_err result }
+{
+    match message {
+        None => Ok(written),
+        Some(text) => match account {
+            Account::Lines => put_text_line(sink, written, number, text.as_slice()),
+            Account::Texts => put(sink, written, text.as_slice()),
+        },
+    }
+}
+
+/// A count of differences with one more, unless both are the same.
+fn counted(differences: u64, same: bool) -> u64
+    ensures { (count : ℕ) → differences ≡ count → count < 2 ^ 63 → result ≡ (if same then count else count + 1) }
+{
+    if same {
+        return differences;
+    }
+    differences.saturating_add(1)
+}
+
+/// 1 where there is a difference.
+fn report_of(differences: u64) -> Report
+    ensures { result ≡ status_of differences }
+{
+    Report {
+        status: if differences > 0 { 1 } else { 0 },
+    }
+}

@@ -1,0 +1,162 @@
+//! The command `replay`: what a receiver answers to the analyzer's bytes of a capture, beside the computer's.
+
+ghost use Rattle.std.specs.Prelude.{◌≡◌, ◌≤◌, false, true, is_err, IfOk};
+ghost use Rattle.lis_frame.specs.Limit.{IsLimit};
+ghost use Rattle.lis_tool.specs.CaptureRuns.{CaptureRan};
+ghost use Rattle.lis_tool.specs.Output.{Put};
+ghost use Rattle.lis_tool.specs.Parts.{part_text};
+ghost use Rattle.lis_tool.specs.Replay.{compared_line, counts_line, difference_line, digits_or_dash, left_line, replay_writes, text_line};
+ghost use Rattle.lis_tool.specs.Runs.{IsFresh, Stops};
+
+use crate::fault::ToolFault;
+use crate::lines::Lines;
+use crate::machine::run;
+use crate::parts::{Part, put_parts};
+use crate::playing::{InLines, Playing};
+use crate::report::Report;
+use lis_port::{Sink, Source};
+use std::alloc::Global;
+
+/// Plays a capture to a new receiver whose frames have at most `N` bytes of text (LIS01-A2, 6.3): it hears what the
+/// analyzer sent, and what it replies is compared with what the computer sent. A line tells each text that it hands
+/// out and each difference, and a last one their counts; the status is 1 where there is a difference.
+pub fn run_replay_of<const N: usize, R: Source, W: Sink>(
+    alloc: Global,
+    source: &mut R,
+    sink: &mut W,
+    reads: u32,
+) -> Result<Report, ToolFault>
+    requires limit { IsLimit N }
+    requires fresh { IsFresh (R.made source.old) (R.ended source.old) (R.failed source.old) (W.failed sink.old) }
+    ensures ran { CaptureRan true (replay_writes N) (R.left source.old) (R.left source.new) (W.taken sink.old) (W.taken sink.new) (R.ended source.new) result }
+    ensures stops { Stops true result (R.left source.new) (R.ended source.new) (R.failed source.new) (R.made source.new) (W.taken sink.new) (W.sent sink.new) (W.failed sink.new) reads }
+    ensures status { IfOk result (λ report. report.status ≤ 1) }
+{
+    run(
+        Lines::new(Playing::<N, InLines>::new(alloc, InLines)),
+        source,
+        sink,
+        reads,
+    )
+}
+
+/// The same with the usual limit of 240 bytes.
+pub fn run_replay<R: Source, W: Sink>(
+    alloc: Global,
+    source: &mut R,
+    sink: &mut W,
+    reads: u32,
+) -> Result<Report, ToolFault>
+    requires { IsFresh (R.made source.old) (R.ended source.old) (R.failed source.old) (W.failed sink.old) }
+    ensures ran { CaptureRan true (replay_writes 240) (R.left source.old) (R.left source.new) (W.taken sink.old) (W.taken sink.new) (R.ended source.new) result }
+    ensures stops { Stops true result (R.left source.new) (R.ended source.new) (R.failed source.new) (R.made source.new) (W.taken sink.new) (W.sent sink.new) (W.failed sink.new) reads }
+    ensures status { IfOk result (λ report. report.status ≤ 1) }
+{
+    run_replay_of::<240, R, W>(alloc, source, sink, reads)
+}
+
+/// Puts out the line of a text.
+pub(crate) fn put_text_line<W: Sink>(
+    sink: &mut W,
+    written: u64,
+    number: u64,
+    text: &[u8],
+) -> Result<u64, ToolFault>
+    requires { W.failed sink.old ≡ false }
+    ensures put { Put (W.taken sink.old) (W.taken sink.new) written result (text_line number text.now) }
+    ensures failed { W.failed sink.new ≡ is_err result }
+{
+    let parts = [
+        Part::Text(b"text "),
+        Part::Number(number),
+        Part::Text(b" "),
+        Part::Number(text.len() as u64),
+        Part::Text(b"\n"),
+    ];
+    put_parts(sink, written, &parts)
+}
+
+/// Puts out the difference of the computer's bytes and the replies, where there is one.
+pub(crate) fn put_compared<'x, W: Sink>(
+    sink: &mut W,
+    written: u64,
+    number: u64,
+    want: &'x [u8],
+    got: &'x [u8],
+) -> Result<u64, ToolFault>
+    requires { W.failed sink.old ≡ false }
+    ensures put { Put (W.taken sink.old) (W.taken sink.new) written result (compared_line number want.now got.now) }
+    ensures failed { W.failed sink.new ≡ is_err result }
+{
+    if want == got {
+        return Ok(written);
+    }
+    put_difference(sink, written, Part::Number(number), want, got)
+}
+
+/// Puts out the difference at the end, where replies are left.
+pub(crate) fn put_left<W: Sink>(sink: &mut W, written: u64, left: &[u8]) -> Result<u64, ToolFault>
+    requires { W.failed sink.old ≡ false }
+    ensures put { Put (W.taken sink.old) (W.taken sink.new) written result (left_line left.now) }
+    ensures failed { W.failed sink.new ≡ is_err result }
+{
+    if left.is_empty() {
+        return Ok(written);
+    }
+    put_difference(sink, written, Part::Text(b"end"), &[], left)
+}
+
+/// Puts out the last line.
+pub(crate) fn put_counts<W: Sink>(
+    sink: &mut W,
+    written: u64,
+    texts: u64,
+    differences: u64,
+) -> Result<u64, ToolFault>
+    requires { W.failed sink.old ≡ false }
+    ensures put { Put (W.taken sink.old) (W.taken sink.new) written result (counts_line texts differences) }
+    ensures failed { W.failed sink.new ≡ is_err result }
+{
+    let parts = [
+        Part::Text(b"texts "),
+        Part::Number(texts),
+        Part::Text(b" differences "),
+        Part::Number(differences),
+        Part::Text(b"\n"),
+    ];
+    put_parts(sink, written, &parts)
+}
+
+/// Puts out the line of a difference.
+fn put_difference<'x, W: Sink>(
+    sink: &mut W,
+    written: u64,
+    place: Part<'x>,
+    want: &'x [u8],
+    got: &'x [u8],
+) -> Result<u64, ToolFault>
+    requires { W.failed sink.old ≡ false }
+    ensures put { Put (W.taken sink.old) (W.taken sink.new) written result (difference_line (part_text place.entry) want.now got.now) }
+    ensures failed { W.failed sink.new ≡ is_err result }
+{
+    let parts = [
+        Part::Text(b"difference "),
+        place,
+        Part::Text(b" "),
+        or_dash(want),
+        Part::Text(b" "),
+        or_dash(got),
+        Part::Text(b"\n"),
+    ];
+    put_parts(sink, written, &parts)
+}
+
+/// The digits of bytes, or a dash for no byte.
+fn or_dash(bytes: &[u8]) -> Part<'_>
+    ensures { part_text result ≡ digits_or_dash bytes.now }
+{
+    if bytes.is_empty() {
+        return Part::Text(b"-");
+    }
+    Part::Digits(bytes)
+}

@@ -1,0 +1,135 @@
+//! The command `upgrade`: a capture as one of version 2.
+
+ghost use Rattle.std.specs.Prelude.{◌≡◌, ◌≤◌, ◌++◌, [], List, true, false, is_err, length, IfOk};
+ghost use Rattle.lis_capture.specs.declared.line.Line.{Line as LineContent};
+ghost use Rattle.lis_capture.specs.Spelling.{line_spelling};
+ghost use Rattle.lis_tool.specs.CaptureRuns.{CaptureRan};
+ghost use Rattle.lis_tool.specs.Output.{Put};
+ghost use Rattle.lis_tool.specs.Runs.{IsFresh, Stops};
+ghost use Rattle.lis_tool.specs.Upgrade.{is_begun, opening, upgrade_writes, written_line};
+
+use crate::fault::ToolFault;
+use crate::lines::{LineMachine, Lines};
+use crate::machine::{Halt, Turn, run};
+use crate::output::put;
+use crate::report::Report;
+use lis_capture::{Line, Spelling};
+use lis_port::{Sink, Source};
+
+/// Writes a capture as one of version 2: the line `capture 2`, and then each of its lines, with digits in
+/// lower case and without CR. Where a line is none, the lines before it are written. It takes no memory.
+pub fn run_upgrade<R: Source, W: Sink>(
+    source: &mut R,
+    sink: &mut W,
+    reads: u32,
+) -> Result<Report, ToolFault>
+    requires { IsFresh (R.made source.old) (R.ended source.old) (R.failed source.old) (W.failed sink.old) }
+    ensures ran { CaptureRan false upgrade_writes (R.left source.old) (R.left source.new) (W.taken sink.old) (W.taken sink.new) (R.ended source.new) result }
+    ensures stops { Stops true result (R.left source.new) (R.ended source.new) (R.failed source.new) (R.made source.new) (W.taken sink.new) (W.sent sink.new) (W.failed sink.new) reads }
+    ensures status { IfOk result (λ report. report.status ≡ 0) }
+{
+    run(Lines::new(Upgrade::new()), source, sink, reads)
+}
+
+/// Whether a line was read, and the text of one line.
+#[derive(Drop)]
+struct Upgrade {
+    begun: bool,
+    spelling: Spelling,
+}
+
+impl Upgrade {
+    /// No line was read.
+    fn new() -> Self
+        ensures { result.begun ≡ false }
+    {
+        Upgrade {
+            begun: false,
+            spelling: Spelling::new(),
+        }
+    }
+
+    /// Puts out a line; the version stands in front alone.
+    fn put_line<W: Sink>(
+        &mut self,
+        sink: &mut W,
+        written: u64,
+        line: &Line<'_>,
+    ) -> Result<u64, ToolFault>
+        requires { W.failed sink.old ≡ false }
+        ensures put { Put (W.taken sink.old) (W.taken sink.new) written result (written_line line.now) }
+        ensures begun { self.new.begun ≡ self.old.begun }
+        ensures failed { W.failed sink.new ≡ is_err result }
+    {
+        match line {
+            Line::Version => Ok(written),
+            _ => self.put_spelling(sink, written, line),
+        }
+    }
+
+    /// Puts out the text of a line.
+    fn put_spelling<W: Sink>(
+        &mut self,
+        sink: &mut W,
+        written: u64,
+        line: &Line<'_>,
+    ) -> Result<u64, ToolFault>
+        requires { W.failed sink.old ≡ false }
+        ensures put { Put (W.taken sink.old) (W.taken sink.new) written result (line_spelling line.now) }
+        ensures begun { self.new.begun ≡ self.old.begun }
+        ensures failed { W.failed sink.new ≡ is_err result }
+    {
+        self.spelling.clear();
+        self.spelling.write(line);
+        put(sink, written, self.spelling.as_slice())
+    }
+}
+
+impl LineMachine for Upgrade {
+    ghost writes = { upgrade_writes };
+
+    ghost stands = { λ m lines. m.begun ≡ is_begun lines };
+
+    ghost takes_memory = { false };
+
+    fn line<W: Sink>(
+        &mut self,
+        sink: &mut W,
+        written: u64,
+        _number: u64,
+        line: &Line<'_>,
+    ) -> Result<Turn, ToolFault> {
+        let after = match put_opening(sink, written, self.begun) {
+            Ok(after) => after,
+            Err(fault) => return Err(fault),
+        };
+        self.begun = true;
+        match self.put_line(sink, after, line) {
+            Ok(after) => Ok(Turn::On(after)),
+            Err(fault) => Err(fault),
+        }
+    }
+
+    fn end<W: Sink>(self, sink: &mut W, written: u64) -> Result<Halt, ToolFault> {
+        match put_opening(sink, written, self.begun) {
+            Ok(written) => Ok(Halt {
+                written,
+                result: Ok(Report { status: 0 }),
+            }),
+            Err(fault) => Err(fault),
+        }
+    }
+}
+
+/// Puts out the line of the version, where no line was read before.
+fn put_opening<W: Sink>(sink: &mut W, written: u64, begun: bool) -> Result<u64, ToolFault>
+    requires { W.failed sink.old ≡ false }
+    ensures put { (lines : List LineContent) → begun ≡ is_begun lines →
+        Put (W.taken sink.old) (W.taken sink.new) written result (opening lines) }
+    ensures failed { W.failed sink.new ≡ is_err result }
+{
+    if begun {
+        return Ok(written);
+    }
+    put(sink, written, b"capture 2\n")
+}
