@@ -202,6 +202,23 @@ fn words_name_commands(rt: HostRuntime) -> Result<(), Fail> {
     assert_eq!(rt; command(&words), None);
     let words = vec![in alloc; name()?, show()?, String::from_str(alloc, "x")?]?;
     assert_eq!(rt; command(&words), None);
+    let upgrade = || String::from_str(alloc, "upgrade");
+    let words = vec![in alloc; name()?, upgrade()?]?;
+    assert_eq!(rt; command(&words), Some(Command::Upgrade));
+    let words = vec![in alloc; name()?, upgrade()?, long()?]?;
+    assert_eq!(rt; command(&words), None);
+    let words = vec![in alloc; name()?, String::from_str(alloc, "check")?, long()?]?;
+    assert_eq!(rt; command(&words), None);
+    let words = vec![in alloc; name()?, show()?, long()?, long()?]?;
+    assert_eq!(rt; command(&words), None);
+    Ok(())
+}
+
+#[test]
+fn words_name_the_commands_that_play_captures(rt: HostRuntime) -> Result<(), Fail> {
+    let alloc = rt.alloc();
+    let name = || String::from_str(alloc, "lislink");
+    let long = || String::from_str(alloc, "--long");
     let replay = || String::from_str(alloc, "replay");
     let texts = || String::from_str(alloc, "texts");
     let words = vec![in alloc; name()?, replay()?]?;
@@ -212,15 +229,6 @@ fn words_name_commands(rt: HostRuntime) -> Result<(), Fail> {
     assert_eq!(rt; command(&words), Some(Command::Texts { long: false }));
     let words = vec![in alloc; name()?, texts()?, long()?]?;
     assert_eq!(rt; command(&words), Some(Command::Texts { long: true }));
-    let upgrade = || String::from_str(alloc, "upgrade");
-    let words = vec![in alloc; name()?, upgrade()?]?;
-    assert_eq!(rt; command(&words), Some(Command::Upgrade));
-    let words = vec![in alloc; name()?, upgrade()?, long()?]?;
-    assert_eq!(rt; command(&words), None);
-    let words = vec![in alloc; name()?, String::from_str(alloc, "check")?, long()?]?;
-    assert_eq!(rt; command(&words), None);
-    let words = vec![in alloc; name()?, show()?, long()?, long()?]?;
-    assert_eq!(rt; command(&words), None);
     Ok(())
 }
 
