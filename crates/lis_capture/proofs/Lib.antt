@@ -1,5 +1,6 @@
 -- Lemmas on captures.
 pub mod DigitsLemmas
+pub mod EncodeLemmas
 pub mod LineLemmas
 pub mod CaptureLemmas
 pub mod SizeLemmas

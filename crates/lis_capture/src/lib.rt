@@ -4,6 +4,7 @@
 mod digits;
 pub mod laws;
 pub mod line;
+pub mod page;
 pub mod reader;
 pub mod spelling;
 #[cfg(test)]
@@ -11,5 +12,6 @@ mod tests;
 
 pub use line::{CaptureVersion, LONGEST_LINE, Line, LineBytes, MOST_BYTES};
 pub use lis_link::Readiness;
+pub use page::{PAGE_ROOM, Page};
 pub use reader::{Found, LineReader};
-pub use spelling::{LONGEST_SPELLING, SPELLING_ROOM, Spelling};
+pub use spelling::LONGEST_SPELLING;

@@ -9,19 +9,19 @@ mod spelling;
 use crate::*;
 
 /// Writes a line, where there is room.
-fn put(text: &mut Spelling, line: &Line) {
-    if text.has_room() {
-        text.write(line);
+fn put(text: &mut Page, line: &Line) {
+    if text.room() >= LONGEST_SPELLING {
+        text.append_line(line);
     }
 }
 
 /// The lines of a capture, read in pieces of at most `step` bytes, as they are written, and the number of
 /// the line that is refused.
-fn written(capture: &[u8], step: usize) -> (Spelling, Option<u64>)
+fn written(capture: &[u8], step: usize) -> (Page, Option<u64>)
     requires { 1 ≤ step }
 {
     let mut reader = LineReader::new();
-    let mut text = Spelling::new();
+    let mut text = Page::new();
     for piece in capture.chunks(step) {
         let mut rest = piece;
         for _ in 0..=piece.len() {

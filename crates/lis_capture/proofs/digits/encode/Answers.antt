@@ -1,15 +1,17 @@
-use Rattle.std.proofs.Common.{ℕ, arith, slice_index, ap, ◌∙◌}
-use Rattle.std.proofs.lemmas.Nat.{and_mask}
-use Rattle.hex.specs.Hex.{lower_digits}
-use Rattle.hex.proofs.Pairs.{encode_step, encode_done}
+use Rattle.std.proofs.Common.{arith}
+use Rattle.lis_capture.proofs.EncodeLemmas.{sixteen_last, sixteen_more}
 use Rattle.lis_capture.proofs.digits.encode.Goals as goal
 
-pub bytes-preserved : goal.bytes-preserved
-bytes-preserved c =
-    let byte : ℕ = slice_index c.args.bytes.now c.bytes.i in
-    encode_step lower_digits c.args.bytes.now c.bytes.digits c.bytes.i _ _ (omega arith)
-    (omega arith) c.digit_of.ensures
-    (c.digit_of-in-bytes.ensures ∙ ap (λ (k : ℕ). slice_index lower_digits k) (and_mask byte 4)) c.bytes.invariant
+pub loop-place-preserved : goal.loop-place-preserved
+loop-place-preserved c = record {
+  fits = omega arith;
+  written =
+      sixteen_more c.args.bytes.now c.loop-place.digits c.encode_sixteen.new.digits c.loop-place.place _
+      (omega (arith, c.loop-place.auto.digits, c.requires)) (omega (arith, c.loop-place-test.true)) c.loop-place.invariant.written c.encode_sixteen.ensures;
+}
 
 pub returns : goal.returns
-returns c = encode_done _ _ _ c.bytes.i (omega arith) (omega arith) c.bytes.invariant
+returns c =
+    sixteen_last c.args.bytes.now c.loop-place.digits c.encode_sixteen-2.new.digits c.loop-place.place _ _
+    (omega (arith, c.loop-place.auto.digits, c.requires)) (omega (arith, c.if-bytes-lt16.false)) c.loop-place-test.false
+    (omega arith) c.loop-place.invariant.written c.encode_sixteen-2.ensures
