@@ -1,6 +1,6 @@
 //! Text that is gathered in a fixed buffer, so that many lines go out in one piece.
 
-ghost use Rattle.std.specs.Prelude.{◌≡◌, ◌+◌, ◌-◌, ◌*◌, ◌≤◌, ◌++◌, [], length};
+ghost use Rattle.std.specs.Prelude.{◌≡◌, ◌+◌, ◌*◌, ◌≤◌, ◌++◌, [], length};
 ghost use Rattle.hex.specs.Hex.{encode_lower};
 
 use crate::digits::encode;
@@ -49,7 +49,7 @@ impl Page {
     /// How many further bytes there is room for.
     #[inline(always)]
     pub fn room(&self) -> usize
-        ensures { result ≡ PAGE_ROOM - length self.now }
+        ensures { length self.now + result ≡ PAGE_ROOM }
     {
         PAGE_ROOM - self.len
     }

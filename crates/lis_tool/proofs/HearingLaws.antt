@@ -12,10 +12,10 @@ use Rattle.lis_link.proofs.HearingLaws.{on_byte-quiet}
 use Rattle.lis_tool.specs.declared.fault.ToolFault.{ToolFault}
 use Rattle.lis_tool.specs.declared.playing.Account.{Account}
 use Rattle.lis_tool.specs.declared.playing.Account.TheVariants.{Lines}
-use Rattle.lis_tool.specs.Output.{Put, most_counted}
+use Rattle.lis_tool.specs.Output.{Gathered, Out, most_counted}
 use Rattle.lis_tool.specs.Playing.{IsHearing, text_part, text_parts}
 use Rattle.lis_tool.specs.Replay.{heard, replies, handed}
-use Rattle.lis_tool.proofs.PutLaws.{put_then, put_stops}
+use Rattle.lis_tool.proofs.GatherLaws.{gathered_then, gathered_stops}
 
 -- so many bytes of a list are heard by one step: it gives their replies and texts, and those behind them give the rest
 pub record AtOnce (limit : ℕ) (r : ReceiverState) (bytes : List ℕ) (n : ℕ) (step : ReceiverStep) : Type 0 where
@@ -53,14 +53,14 @@ heard_at_once limit (b ∷ bytes) r =
 
 -- while the bytes of a line are heard: the rest, heard from here, gives what all give
 pub record IsHearingOn
-    (account : Account) (limit number : ℕ) (kept : Kept) (kept_replies : List ℕ) (kept_texts : ℕ) (a b : Option (List ℕ)) (before after : ℕ)
+    (account : Account) (limit number : ℕ) (kept : Kept) (kept_replies : List ℕ) (kept_texts : ℕ) (a b : Out) (before after : ℕ)
     (r : ReceiverState) (collected : List ℕ) (count : ℕ) (rest bytes : List ℕ) : Type 0 where
   pub here : ReceiverState
   pub here_collected : List ℕ
   pub here_count : ℕ
   pub hearing : IsHearing account limit kept kept_replies kept_texts here here_collected here_count
   pub so_far : List ℕ
-  pub put : Put a b before (Ok after) so_far
+  pub put : Gathered a b before (Ok after) so_far
   pub heard_is : heard limit here rest ≡ heard limit r bytes
   pub replies_are : here_collected ++ replies limit here rest ≡ collected ++ replies limit r bytes
   pub count_is : here_count + length (handed limit here rest) ≡ count + length (handed limit r bytes)
@@ -76,18 +76,18 @@ one_message None = omega arith
 one_message (Some x) = omega arith
 
 module _
-    (account : Account) (limit number : ℕ) (kept : Kept) (kept_replies : List ℕ) (kept_texts : ℕ) (a b : Option (List ℕ)) (before after : ℕ)
+    (account : Account) (limit number : ℕ) (kept : Kept) (kept_replies : List ℕ) (kept_texts : ℕ) (a b : Out) (before after : ℕ)
     (r : ReceiverState) (collected : List ℕ) (count : ℕ) (rest bytes : List ℕ)
     (at : IsHearingOn account limit number kept kept_replies kept_texts a b before after r collected count rest bytes) where
   -- memory is refused, and nothing more went out
   pub hears_starved :
-      (c : Option (List ℕ)) (written : ℕ) → Put b c after (Ok written) []
-      → (more : List ℕ) × (left : List ℕ) × (text_parts account number (handed limit r bytes) ≡ more ++ left) × Put a c before (Ok written) more
+      (c : Out) (written : ℕ) → Gathered b c after (Ok written) []
+      → (more : List ℕ) × (left : List ℕ) × (text_parts account number (handed limit r bytes) ≡ more ++ left) × Gathered a c before (Ok written) more
   hears_starved c written put = (
     at.so_far ++ [],
     text_parts account number (handed limit at.here rest),
     sym at.text_is ∙ ap (λ (l : List ℕ). l ++ text_parts account number (handed limit at.here rest)) (sym (append-nil at.so_far)),
-    put_then a b c before after (Ok written) at.so_far [] at.put put,
+    gathered_then a b c before after (Ok written) at.so_far [] at.put put,
   )
 
   -- the bytes of a step
@@ -116,10 +116,10 @@ module _
 
     -- it was taken
     pub hears_on :
-        (c : Option (List ℕ)) (next : ℕ) (now : Kept) (new_replies : List ℕ) (new_texts : ℕ) → now ≡ new → 0 < n → n ≤ length rest → count + length bytes ≤ 2 ^ 63
+        (c : Out) (next : ℕ) (now : Kept) (new_replies : List ℕ) (new_texts : ℕ) → now ≡ new → 0 < n → n ≤ length rest → count + length bytes ≤ 2 ^ 63
         → (account ≡ Lines → new_replies ≡ kept_replies ++ option_to_list step.reply)
         → new_texts ≡ min (kept_texts + length (option_to_list step.message)) most_counted
-        → Put b c after (Ok next) (text_parts account number (option_to_list step.message))
+        → Gathered b c after (Ok next) (text_parts account number (option_to_list step.message))
         → IsHearingOn account limit number now new_replies new_texts a c before next r collected count left bytes
     hears_on c next now new_replies new_texts same_kept some fits small replies_with texts_with put =
         let same : length (option_to_list step.message) ≡ length (option_to_list meant.message) =
@@ -136,7 +136,7 @@ module _
             texts_are = omega (arith, texts_with, at.hearing.texts_are, same, one_message meant.message, at.few, small, fits, some);
           };
           so_far = at.so_far ++ text_parts account number (option_to_list step.message);
-          put = put_then a b c before after (Ok next) at.so_far (text_parts account number (option_to_list step.message)) at.put put;
+          put = gathered_then a b c before after (Ok next) at.so_far (text_parts account number (option_to_list step.message)) at.put put;
           heard_is = sym once.heard_is ∙ at.heard_is;
           replies_are =
               append_assoc at.here_collected (option_to_list meant.reply) (replies limit meant.after left)
@@ -154,22 +154,22 @@ module _
 
     -- the sink failed in its text
     pub hears_failing :
-        (c : Option (List ℕ)) (fault : ToolFault) → Put b c after (Err fault) (text_parts account number (option_to_list step.message))
-        → Put a c before (Err fault) (text_parts account number (handed limit r bytes))
+        (c : Out) (fault : ToolFault) → Gathered b c after (Err fault) (text_parts account number (option_to_list step.message))
+        → Gathered a c before (Err fault) (text_parts account number (handed limit r bytes))
     hears_failing c fault put =
-        subst (λ (t : List ℕ). Put a c before (Err fault) t) text_with
-        (put_stops a c before fault (at.so_far ++ text_parts account number (option_to_list step.message)) _
-        (put_then a b c before after (Err fault) at.so_far _ at.put put))
+        subst (λ (t : List ℕ). Gathered a c before (Err fault) t) text_with
+        (gathered_stops a c before fault (at.so_far ++ text_parts account number (option_to_list step.message)) _
+        (gathered_then a b c before after (Err fault) at.so_far _ at.put put))
 
 -- no byte of the line is left
 pub all_heard :
-    (account : Account) (limit number : ℕ) (kept : Kept) (kept_replies : List ℕ) (kept_texts : ℕ) (a b : Option (List ℕ)) (before after : ℕ)
+    (account : Account) (limit number : ℕ) (kept : Kept) (kept_replies : List ℕ) (kept_texts : ℕ) (a b : Out) (before after : ℕ)
     (r : ReceiverState) (collected : List ℕ) (count : ℕ) (rest bytes : List ℕ)
     → IsHearingOn account limit number kept kept_replies kept_texts a b before after r collected count rest bytes → length rest ≡ 0
-    → Put a b before (Ok after) (text_parts account number (handed limit r bytes))
+    → Gathered a b before (Ok after) (text_parts account number (handed limit r bytes))
     × IsHearing account limit kept kept_replies kept_texts (heard limit r bytes) (collected ++ replies limit r bytes) (count + length (handed limit r bytes))
 all_heard account limit number kept kept_replies kept_texts a b before after r collected count [] bytes at none = (
-  subst (λ (t : List ℕ). Put a b before (Ok after) t) (sym (append-nil at.so_far) ∙ at.text_is) at.put,
+  subst (λ (t : List ℕ). Gathered a b before (Ok after) t) (sym (append-nil at.so_far) ∙ at.text_is) at.put,
   record {
     receiver_is = subst (λ (s : ReceiverState). IsIn limit kept s) at.heard_is at.hearing.receiver_is;
     replies_are = λ lines. at.hearing.replies_are lines ∙ sym (append-nil at.here_collected) ∙ at.replies_are;

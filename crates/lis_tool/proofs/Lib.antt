@@ -1,5 +1,5 @@
-pub mod Digits
 pub mod CaptureLaws
+pub mod GatherLaws
 pub mod HearingLaws
 pub mod LineLaws
 pub mod PlayingLaws

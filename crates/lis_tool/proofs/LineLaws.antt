@@ -17,9 +17,9 @@ use Rattle.lis_tool.specs.declared.machine.Halt.{Halt}
 use Rattle.lis_tool.specs.declared.report.Report.{Report}
 use Rattle.lis_tool.specs.LineOutcome.{IsLined, LineEnds, Writes, capture_outcome, lines_outcome, lines_text}
 use Rattle.lis_tool.specs.Outcome.{Outcome, whole}
-use Rattle.lis_tool.specs.Output.{Put, most_counted}
+use Rattle.lis_tool.specs.Output.{Gathered, Out, most_counted}
 use Rattle.lis_tool.specs.Steps.{Ends, Fails, Halts, Puts}
-use Rattle.lis_tool.proofs.PutLaws.{put_nothing, put_then}
+use Rattle.lis_tool.proofs.GatherLaws.{gathered_nothing, gathered_then}
 use Rattle.lis_tool.proofs.ShowLaws.{front_stream, stream_with-append}
 
 -- ---- lines are no more than bytes
@@ -138,7 +138,7 @@ text_is-lines w false false lines = refl
 
 -- bytes were read up to the rest, and no line of them is refused; their text is out
 pub record IsAt
-    (w : Writes) (stands : List Line → Type 0) (reader : Reading) (old here : Option (List ℕ)) (before after : ℕ)
+    (w : Writes) (stands : List Line → Type 0) (reader : Reading) (old here : Out) (before after : ℕ)
     (past text rest bytes : List ℕ) : Type 0 where
   pub read : List ℕ
   pub has_read : HasRead reader read
@@ -147,11 +147,11 @@ pub record IsAt
   pub joined : stream_with read rest ≡ stream_with [] (past ++ bytes)
   pub few : length read + length rest < 2 ^ 44
   pub more : List ℕ
-  pub put : Put old here before (Ok after) more
+  pub put : Gathered old here before (Ok after) more
   pub text_is : text ++ more ≡ lines_text w (capture read false).lines
 
 pub at_start :
-    (w : Writes) (stands : List Line → Type 0) (reader : Reading) (old : Option (List ℕ)) (before : ℕ) (past text bytes : List ℕ)
+    (w : Writes) (stands : List Line → Type 0) (reader : Reading) (old : Out) (before : ℕ) (past text bytes : List ℕ)
     → before ≤ most_counted → IsLined w stands reader past text → length past + length bytes < 2 ^ 44
     → IsAt w stands reader old old before before past text bytes bytes
 at_start w stands reader old before past text bytes fits lined few =
@@ -163,13 +163,13 @@ at_start w stands reader old before past text bytes fits lined few =
       joined = sym (stream_with-append [] past bytes);
       few = omega (arith, few, stream-length [] past);
       more = [];
-      put = put_nothing old before fits;
+      put = gathered_nothing old before fits;
       text_is = append-nil text ∙ lined.text_is;
     }
 
 -- all was read
 pub at_end_of :
-    (w : Writes) (stands : List Line → Type 0) (reader : Reading) (old here : Option (List ℕ)) (before after : ℕ) (past text rest bytes : List ℕ)
+    (w : Writes) (stands : List Line → Type 0) (reader : Reading) (old here : Out) (before after : ℕ) (past text rest bytes : List ℕ)
     → IsAt w stands reader old here before after past text rest bytes → length rest ≡ 0
     → Puts (IsLined w stands reader (past ++ bytes)) old here before after text
 at_end_of w stands reader old here before after past text [] bytes at none =
@@ -186,7 +186,7 @@ at_end_of w stands reader old here before after past text [] bytes at none =
 at_end_of w stands reader old here before after past text (b ∷ rest) bytes at none = cc
 
 module _
-    (w : Writes) (stands : List Line → Type 0) (reader next : Reading) (old here : Option (List ℕ)) (before after : ℕ) (past text rest bytes : List ℕ)
+    (w : Writes) (stands : List Line → Type 0) (reader next : Reading) (old here : Out) (before after : ℕ) (past text rest bytes : List ℕ)
     (at : IsAt w stands reader old here before after past text rest bytes) (count : ℕ) (result : Found)
     (found_is : capture (stream_with at.read (take count rest)) false ≡ found_lines (capture at.read false) result next.known.line)
     (has_read : HasRead next (stream_with at.read (take count rest))) where
@@ -260,7 +260,7 @@ module _
       result_is ∙ ap (λ (n : ℕ). let r : Result Report ToolFault = Err (CaptureLine n) in r) number in
       record {
         more = at.more;
-        put = subst (λ (n : ℕ). Put old here before (Ok n) at.more) (sym written_is) at.put;
+        put = subst (λ (n : ℕ). Gathered old here before (Ok n) at.more) (sym written_is) at.put;
         behind =
             subst
             (λ (r : Result Report ToolFault).
@@ -285,10 +285,10 @@ module _
         ap (λ (k : Known). k.number) has_read.known_is ∙ ap (λ (r : Lines). (known_of r).number) said_there in
         (omega (arith, known, few), omega (arith, known, few))
 
-    module _ (c : Option (List ℕ)) where
+    module _ (c : Out) where
       -- the line was taken
       pub line_taken :
-          (now : List Line → Type 0) (last : ℕ) → Put here c after (Ok last) (w.line (capture at.read false).lines next.known.line)
+          (now : List Line → Type 0) (last : ℕ) → Gathered here c after (Ok last) (w.line (capture at.read false).lines next.known.line)
           → now (next.known.line ∷ (capture at.read false).lines)
           → IsAt w now next old c before last past text (drop count rest) bytes
       line_taken now last put stood =
@@ -300,7 +300,7 @@ module _
             joined = all_is;
             few = few_there;
             more = at.more ++ w.line (capture at.read false).lines next.known.line;
-            put = put_then old here c before after (Ok last) at.more _ at.put put;
+            put = gathered_then old here c before after (Ok last) at.more _ at.put put;
             text_is =
                 sym (append_assoc text at.more (w.line (capture at.read false).lines next.known.line))
                 ∙ ap (λ (t : List ℕ). t ++ w.line (capture at.read false).lines next.known.line) at.text_is
@@ -310,7 +310,7 @@ module _
       -- memory was refused in the line
       pub line_starved :
           (memory : Bool) (halt : Halt) (more left : List ℕ) → halt.result ≡ Err OutOfMemory → memory ≡ true
-          → w.line (capture at.read false).lines next.known.line ≡ more ++ left → Put here c after (Ok halt.written) more
+          → w.line (capture at.read false).lines next.known.line ≡ more ++ left → Gathered here c after (Ok halt.written) more
           → Puts (λ all. Halts memory (λ o. o ≡ capture_outcome w (stream_with [] (past ++ bytes)) false) all halt.result × (is_err halt.result ≡ true))
           old c before halt.written text
       line_starved memory halt more left result_is wants joined put =
@@ -318,7 +318,7 @@ module _
           let r = capture (stream_with [] (past ++ bytes)) false in
           record {
             more = at.more ++ more;
-            put = put_then old here c before after (Ok halt.written) at.more more at.put put;
+            put = gathered_then old here c before after (Ok halt.written) at.more more at.put put;
             behind =
                 subst
                 (λ (r : Result Report ToolFault).
@@ -341,7 +341,7 @@ module _
 
       -- the sink failed in the line
       pub line_failed :
-          (fault : ToolFault) → Put here c after (Err fault) (w.line (capture at.read false).lines next.known.line)
+          (fault : ToolFault) → Gathered here c after (Err fault) (w.line (capture at.read false).lines next.known.line)
           → Fails (λ o. o ≡ capture_outcome w (stream_with [] (past ++ bytes)) false) old c before text fault
       line_failed fault put =
           let tail = begins (next.known.line ∷ (capture at.read false).lines) said_there in
@@ -355,7 +355,7 @@ module _
             joined =
                 unclosed w r.refused r.lines ∙ tail.1
                 ∙ ap (λ (t : List ℕ). t ++ text_of_line ++ tail.0) (sym at.text_is) ∙ regroup text at.more text_of_line tail.0;
-            put = put_then old here c before after (Err fault) at.more text_of_line at.put put;
+            put = gathered_then old here c before after (Err fault) at.more text_of_line at.put put;
           }
         where
           regroup : (a b c d : List ℕ) → (a ++ b) ++ c ++ d ≡ a ++ (b ++ c) ++ d
@@ -380,14 +380,14 @@ module _
   -- the closing lines behind lines whose text is out
   closes_behind :
       (memory : Bool) (lines : List Line) → capture (stream_with [] past) true ≡ record { lines = lines; refused = false }
-      → (old here c : Option (List ℕ)) (before after : ℕ) (more : List ℕ) → Put old here before (Ok after) more → text ++ more ≡ lines_text w lines
+      → (old here c : Out) (before after : ℕ) (more : List ℕ) → Gathered old here before (Ok after) more → text ++ more ≡ lines_text w lines
       → (ended : Result Halt ToolFault) → LineEnds (w.report lines) here c after (w.last lines) ended
       → Ends memory (λ o. o ≡ capture_outcome w (stream_with [] past) true) old c before text ended
   closes_behind memory lines is old here c before after more put text_is (Ok halt) ends =
       let outcome_is = outcome_here (record { lines = lines; refused = false }) is in
       record {
         more = more ++ w.last lines;
-        put = put_then old here c before after (Ok halt.written) more (w.last lines) put ends.1;
+        put = gathered_then old here c before after (Ok halt.written) more (w.last lines) put ends.1;
         behind =
             subst (λ (r : Result Report ToolFault). Halts memory (λ o. o ≡ capture_outcome w (stream_with [] past) true) (text ++ (more ++ w.last lines)) r) (sym ends.0) (
               capture_outcome w (stream_with [] past) true,
@@ -406,12 +406,12 @@ module _
         joined =
             ap whole outcome_is ∙ ap (λ (t : List ℕ). t ++ w.last lines) (sym text_is) ∙ append_assoc text more (w.last lines)
             ∙ sym (append-nil (text ++ (more ++ w.last lines)));
-        put = put_then old here c before after (Err fault) more (w.last lines) put ends;
+        put = gathered_then old here c before after (Err fault) more (w.last lines) put ends;
       }
 
   -- no line was begun
   pub nothing_ended :
-      (memory : Bool) (old c : Option (List ℕ)) (before : ℕ) (ended : Result Halt ToolFault) → result ≡ found.Nothing → before ≤ most_counted
+      (memory : Bool) (old c : Out) (before : ℕ) (ended : Result Halt ToolFault) → result ≡ found.Nothing → before ≤ most_counted
       → LineEnds (w.report (capture (stream_with [] past) false).lines) old c before (w.last (capture (stream_with [] past) false).lines) ended
       → Ends memory (λ o. o ≡ capture_outcome w (stream_with [] past) true) old c before text ended
   nothing_ended memory old c before ended nothing fits ends =
@@ -419,11 +419,11 @@ module _
       let same : capture (stream_with [] past) true ≡ record { lines = read.lines; refused = false } =
       found_is ∙ ap (λ (f : Found). found_lines read f next.known.line) nothing
       ∙ ap (λ (b : Bool). let r : Lines = record { lines = read.lines; refused = b } in r) lined.fine in
-      closes_behind memory read.lines same old old c before before [] (put_nothing old before fits) (append-nil text ∙ lined.text_is) ended ends
+      closes_behind memory read.lines same old old c before before [] (gathered_nothing old before fits) (append-nil text ∙ lined.text_is) ended ends
 
   -- the last line is refused
   pub refused_ended :
-      (memory : Bool) (old : Option (List ℕ)) (before : ℕ) (halt : Halt) → result ≡ found.Refused → before ≤ most_counted → halt.written ≡ before
+      (memory : Bool) (old : Out) (before : ℕ) (halt : Halt) → result ≡ found.Refused → before ≤ most_counted → halt.written ≡ before
       → halt.result ≡ Err (CaptureLine next.known.number)
       → Puts (λ all. Halts memory (λ o. o ≡ capture_outcome w (stream_with [] past) true) all halt.result) old old before halt.written text
   refused_ended memory old before halt refused fits written_is result_is =
@@ -439,7 +439,7 @@ module _
       result_is ∙ ap (λ (n : ℕ). let r : Result Report ToolFault = Err (CaptureLine n) in r) number in
       record {
         more = [];
-        put = subst (λ (n : ℕ). Put old old before (Ok n) []) (sym written_is) (put_nothing old before fits);
+        put = subst (λ (n : ℕ). Gathered old old before (Ok n) []) (sym written_is) (gathered_nothing old before fits);
         behind =
             subst (λ (r : Result Report ToolFault). Halts memory (λ o. o ≡ capture_outcome w (stream_with [] past) true) (text ++ []) r) (sym e) (
               capture_outcome w (stream_with [] past) true,
@@ -466,8 +466,8 @@ module _
 
     -- it was taken
     pub last_taken :
-        (memory : Bool) (old here c : Option (List ℕ)) (before after : ℕ) (ended : Result Halt ToolFault)
-        → Put old here before (Ok after) (w.line (capture (stream_with [] past) false).lines next.known.line)
+        (memory : Bool) (old here c : Out) (before after : ℕ) (ended : Result Halt ToolFault)
+        → Gathered old here before (Ok after) (w.line (capture (stream_with [] past) false).lines next.known.line)
         → LineEnds (w.report (next.known.line ∷ (capture (stream_with [] past) false).lines)) here c after
         (w.last (next.known.line ∷ (capture (stream_with [] past) false).lines)) ended
         → Ends memory (λ o. o ≡ capture_outcome w (stream_with [] past) true) old c before text ended
@@ -484,8 +484,8 @@ module _
 
     -- memory was refused in it
     pub last_starved :
-        (memory : Bool) (old here : Option (List ℕ)) (before : ℕ) (halt : Halt) (more left : List ℕ) → halt.result ≡ Err OutOfMemory → memory ≡ true
-        → w.line (capture (stream_with [] past) false).lines next.known.line ≡ more ++ left → Put old here before (Ok halt.written) more
+        (memory : Bool) (old here : Out) (before : ℕ) (halt : Halt) (more left : List ℕ) → halt.result ≡ Err OutOfMemory → memory ≡ true
+        → w.line (capture (stream_with [] past) false).lines next.known.line ≡ more ++ left → Gathered old here before (Ok halt.written) more
         → Puts (λ all. Halts memory (λ o. o ≡ capture_outcome w (stream_with [] past) true) all halt.result) old here before halt.written text
     last_starved memory old here before halt more left result_is wants joined put =
         record {
@@ -503,8 +503,8 @@ module _
 
     -- the sink failed in it
     pub last_failed :
-        (old here : Option (List ℕ)) (before : ℕ) (fault : ToolFault)
-        → Put old here before (Err fault) (w.line (capture (stream_with [] past) false).lines next.known.line)
+        (old here : Out) (before : ℕ) (fault : ToolFault)
+        → Gathered old here before (Err fault) (w.line (capture (stream_with [] past) false).lines next.known.line)
         → Fails (λ o. o ≡ capture_outcome w (stream_with [] past) true) old here before text fault
     last_failed old here before fault put =
         record {

@@ -10,18 +10,19 @@ use Rattle.lis_link.specs.Receiver.{ReceiverState, on_byte}
 use Rattle.lis_link.specs.Stands.{IsIn}
 use Rattle.std.specs.declared.result.Result.{Result}
 use Rattle.lis_tool.specs.declared.fault.ToolFault.{ToolFault}
+use Rattle.lis_tool.specs.declared.machine.Halt.{Halt}
 use Rattle.lis_tool.specs.declared.machine.Turn.{Turn}
 use Rattle.lis_tool.specs.declared.machine.Turn.TheVariants.{On, Off}
 use Rattle.lis_frame.specs.Stream.{stream_with}
 use Rattle.lis_capture.specs.Capture.{capture}
 use Rattle.lis_tool.specs.CaptureRuns.{CaptureRan}
 use Rattle.lis_tool.specs.declared.report.Report.{Report}
-use Rattle.lis_tool.specs.LineOutcome.{LineSteps}
+use Rattle.lis_tool.specs.LineOutcome.{LineEnds, LineSteps}
 use Rattle.lis_tool.specs.declared.playing.Account.{Account}
 use Rattle.lis_tool.specs.declared.playing.Account.TheVariants.{Lines, Texts}
 use Rattle.std.specs.List.{flat_map}
-use Rattle.lis_tool.specs.Output.{Put, most_counted}
-use Rattle.lis_tool.proofs.PutLaws.{put_nothing}
+use Rattle.lis_tool.specs.Output.{Gathered, Out, most_counted}
+use Rattle.lis_tool.proofs.GatherLaws.{gathered_nothing}
 use Rattle.lis_tool.specs.Playing.{IsHearing, IsPlaying, playing_writes, text_parts}
 use Rattle.lis_tool.specs.Replay.{Played, all_differences, compared_line, count_with, difference_count, differs_at, handed, heard, played, played_line, replay_line, replay_writes, replies, status_of, text_count, texts_at}
 
@@ -101,13 +102,13 @@ silent_text Texts limit lines line silent = ap (λ (texts : List (List ℕ)). fl
 -- it was taken
 pub played_silent :
     (account : Account) (limit : ℕ) (kept new : Kept) (collected : List ℕ) (count differences : ℕ) (lines : List Line) (line : Line)
-    (a : Option (List ℕ)) (before : ℕ) → IsSilent limit line → before ≤ most_counted
+    (a : Out) (before : ℕ) → IsSilent limit line → before ≤ most_counted
     → IsPlaying account limit kept collected count differences lines → IsIn limit new (played limit (line ∷ lines)).receiver
-    → Put a a before (Ok before) ((playing_writes account limit).line lines line) × IsPlaying account limit new collected count differences (line ∷ lines)
+    → Gathered a a before (Ok before) ((playing_writes account limit).line lines line) × IsPlaying account limit new collected count differences (line ∷ lines)
 played_silent account limit kept new collected count differences lines line a before silent fits playing is_in =
     let p = played limit lines in
     let none = ap (λ (texts : List (List ℕ)). length texts) (silent.no_texts p) in (
-      subst (λ (t : List ℕ). Put a a before (Ok before) t) (sym (silent_text account limit lines line silent)) (put_nothing a before fits),
+      subst (λ (t : List ℕ). Gathered a a before (Ok before) t) (sym (silent_text account limit lines line silent)) (gathered_nothing a before fits),
       record {
         hearing = record {
           receiver_is = is_in;
@@ -139,13 +140,48 @@ pub compared_text :
 compared_text Lines limit lines bytes is = refl
 compared_text Texts limit lines bytes is = cc
 
+-- where the texts alone are told, a line from the computer writes nothing
+pub passed_computer :
+    (account : Account) (limit : ℕ) (kept : Kept) (collected : List ℕ) (count differences : ℕ) (lines : List Line) (bytes : List ℕ)
+    (a : Out) (before : ℕ) → account ≡ Texts → before ≤ most_counted → IsPlaying account limit kept collected count differences lines
+    → Gathered a a before (Ok before) ((playing_writes account limit).line lines (FromComputer bytes))
+    × IsPlaying account limit kept collected count differences (FromComputer bytes ∷ lines)
+passed_computer Lines limit kept collected count differences lines bytes a before is fits playing = cc
+passed_computer Texts limit kept collected count differences lines bytes a before is fits playing = (
+  gathered_nothing a before fits,
+  record {
+    hearing = record {
+      receiver_is = playing.hearing.receiver_is;
+      replies_are = λ lines. cc;
+      texts_are = omega (arith, playing.hearing.texts_are);
+    };
+    differences_are = λ lines. cc;
+    few = omega (arith, playing.few);
+  },
+)
+
+-- nor does the end
+pub texts_end :
+    (account : Account) (limit : ℕ) (lines : List Line) (a : Out) (before : ℕ) → account ≡ Texts → before ≤ most_counted
+    → (let r : Result Report ToolFault = Ok (record { status = 0 }) in r ≡ Ok ((playing_writes account limit).report lines))
+    × Gathered a a before (Ok before) ((playing_writes account limit).last lines)
+texts_end Lines limit lines a before is fits = cc
+texts_end Texts limit lines a before is fits = (refl, gathered_nothing a before fits)
+
+pub lines_end :
+    (account : Account) (limit : ℕ) (lines : List Line) (a b : Out) (before : ℕ) (result : Result Halt ToolFault) → account ≡ Lines
+    → LineEnds ((replay_writes limit).report lines) a b before ((replay_writes limit).last lines) result
+    → LineEnds ((playing_writes account limit).report lines) a b before ((playing_writes account limit).last lines) result
+lines_end Lines limit lines a b before result is ends = ends
+lines_end Texts limit lines a b before result is ends = cc
+
 -- a step by what it means
 pub line_steps_as :
-    (P Q : Type 0) → (P → Q) → (a b : Option (List ℕ)) (before : ℕ) (t u : List ℕ) (result : Result Turn ToolFault) → t ≡ u
+    (P Q : Type 0) → (P → Q) → (a b : Out) (before : ℕ) (t u : List ℕ) (result : Result Turn ToolFault) → t ≡ u
     → LineSteps true P a b before t result → LineSteps true Q a b before u result
-line_steps_as P Q f a b before t u (Ok (On after)) e (put, p) = (subst (λ (x : List ℕ). Put a b before (Ok after) x) e put, f p)
+line_steps_as P Q f a b before t u (Ok (On after)) e (put, p) = (subst (λ (x : List ℕ). Gathered a b before (Ok after) x) e put, f p)
 line_steps_as P Q f a b before t u (Ok (Off halt)) e (fault, wants, more, rest, joined, put) = (fault, wants, more, rest, sym e ∙ joined, put)
-line_steps_as P Q f a b before t u (Err fault) e put = subst (λ (x : List ℕ). Put a b before (Err fault) x) e put
+line_steps_as P Q f a b before t u (Err fault) e put = subst (λ (x : List ℕ). Gathered a b before (Err fault) x) e put
 
 -- ---- a run
 

@@ -10,9 +10,10 @@ use Rattle.lis_tool.specs.declared.fault.ToolFault.TheVariants.{CaptureLine, Rea
 use Rattle.lis_tool.specs.declared.report.Report.{Report}
 use Rattle.lis_tool.specs.declared.machine.Halt.{Halt}
 use Rattle.lis_tool.specs.Outcome.{Outcome, whole, going}
-use Rattle.lis_tool.specs.Output.{most_counted, Put}
+use Rattle.lis_tool.specs.Output.{Put, most_counted, out}
 use Rattle.lis_tool.specs.Runs.{Wrote, Ran, Stops}
 use Rattle.lis_tool.specs.Steps.{Halts, Fails, Puts, IsTold}
+use Rattle.lis_tool.proofs.GatherLaws.{gathered_put, gathered_sent, gathered_settled}
 use Rattle.lis_tool.proofs.PutLaws.{put_taken, put_then, put_stops}
 
 pub consumes_none : (a : Option (List ℕ)) → Consumes a a []
@@ -74,7 +75,7 @@ module _ (memory : Bool) (means : List ℕ → Bool → Outcome → Type 0) (giv
   -- the sink failed in a step
   pub fails_told :
       (b c : Option (List ℕ)) (before : ℕ) (text : List ℕ) (fault : ToolFault) → Appends a b text → before ≡ min (length text) most_counted
-      → Fails (means given ended) b c before text fault → Told memory means given ended a c (Err fault)
+      → Fails (means given ended) (out b []) (out c []) before text fault → Told memory means given ended a c (Err fault)
   fails_told b c before text fault taken counted fails =
       part_of_whole c fault (text ++ fails.more) fails.rest fails.outcome fails.meant fails.joined
       (put_then a b c 0 before (Err fault) text fails.more (all_out b before text taken counted) fails.put)
@@ -157,11 +158,11 @@ module _ (memory : Bool) (means : List ℕ → Bool → Outcome → Type 0) (giv
   pub step_halts :
       (failed : Bool) (b c d : Option (List ℕ)) (before : ℕ) (text : List ℕ) (halt : Halt) (result : Result Report ToolFault)
       → Appends a b text → before ≡ min (length text) most_counted
-      → (holds : List ℕ → Type 0) → (puts : Puts holds b c before halt.written text) → Halts memory (means given ended) (text ++ puts.more) halt.result
+      → (holds : List ℕ → Type 0) → (puts : Puts holds (out b []) (out c []) before halt.written text) → Halts memory (means given ended) (text ++ puts.more) halt.result
       → Keeps c d → IsTold halt result failed → Told memory means given ended a d result
   step_halts failed b c d before text halt result taken counted holds puts halts kept told =
       halted_told failed c d (text ++ puts.more) halt result halts
-      (put_then a b c 0 before (Ok halt.written) text puts.more (all_out b before text taken counted) puts.put) kept told
+      (put_then a b c 0 before (Ok halt.written) text puts.more (all_out b before text taken counted) (gathered_settled b c before halt.written puts.more puts.put)) kept told
 
   -- what went out so far could not be sent on
   pub so_far_unsent :
@@ -173,11 +174,11 @@ module _ (memory : Bool) (means : List ℕ → Bool → Outcome → Type 0) (giv
 -- a step went on
 pub step_goes :
     (a b c : Option (List ℕ)) (before after : ℕ) (stands : List ℕ → Type 0) (text : List ℕ)
-    → Appends a b text → before ≡ min (length text) most_counted → (puts : Puts stands b c before after text)
+    → Appends a b text → before ≡ min (length text) most_counted → (puts : Puts stands (out b []) (out c []) before after text)
     → Appends a c (text ++ puts.more) × (after ≡ min (length (text ++ puts.more)) most_counted)
 step_goes a b c before after stands text taken counted puts =
     let put : Put a c 0 (Ok after) (text ++ puts.more) =
-    put_then a b c 0 before (Ok after) text puts.more (put_taken a b 0 before text taken (omega (arith, counted))) puts.put in (
+    put_then a b c 0 before (Ok after) text puts.more (put_taken a b 0 before text taken (omega (arith, counted))) (gathered_settled b c before after puts.more puts.put) in (
       rw (take_all (length (text ++ puts.more)) (text ++ puts.more) (omega arith)) at put.taken,
       omega (arith, put.counted),
     )
@@ -255,3 +256,46 @@ waited false count none ready = absurd (nothing (ready refl))
   where
     nothing : 0 < count → ⊥
     nothing some = omega (arith, some, none)
+
+-- ---- a page
+
+-- what was gathered went out
+pub page_puts :
+    (holds : List ℕ → Type 0) (a b c : Option (List ℕ)) (waits : List ℕ) (before middle after : ℕ) (text : List ℕ)
+    → Puts holds (out a []) (out b waits) before middle text → Put b c middle (Ok after) waits
+    → Puts holds (out a []) (out c []) before after text
+page_puts holds a b c waits before middle after text puts sent =
+    record {
+      more = puts.more;
+      put =
+          gathered_put a c before (Ok after) puts.more
+          (gathered_sent a b c waits before middle (Ok after) puts.more puts.put sent);
+      behind = puts.behind;
+    }
+
+-- the sink failed in it
+pub page_fails :
+    (means : Outcome → Type 0) (holds : List ℕ → Type 0) (a b c : Option (List ℕ)) (waits : List ℕ) (before middle : ℕ) (fault : ToolFault)
+    (text : List ℕ) (puts : Puts holds (out a []) (out b waits) before middle text) → Put b c middle (Err fault) waits
+    → (o : Outcome) → means o → (rest : List ℕ) → whole o ≡ (text ++ puts.more) ++ rest
+    → Fails means (out a []) (out c []) before text fault
+page_fails means holds a b c waits before middle fault text puts sent o meant rest joined =
+    record {
+      outcome = o;
+      meant = meant;
+      more = puts.more;
+      rest = rest;
+      joined = joined;
+      put = gathered_sent a b c waits before middle (Err fault) puts.more puts.put sent;
+    }
+
+-- the sink failed in it where a step had halted the run
+pub page_halt_fails :
+    (memory : Bool) (means : List ℕ → Bool → Outcome → Type 0) (given : List ℕ) (ended : Bool) (holds : List ℕ → Type 0)
+    (a b c : Option (List ℕ)) (waits : List ℕ) (before middle : ℕ) (fault : ToolFault) (text : List ℕ) (result : Result Report ToolFault)
+    (puts : Puts holds (out a []) (out b waits) before middle text)
+    → Halts memory (means given ended) (text ++ puts.more) result → Put b c middle (Err fault) waits
+    → Fails (means given ended) (out a []) (out c []) before text fault
+page_halt_fails memory means given ended holds a b c waits before middle fault text result puts halts sent =
+    let part = halts_part memory means given ended a (text ++ puts.more) result halts in
+    page_fails (means given ended) holds a b c waits before middle fault text puts sent part.outcome part.begun part.rest part.joined

@@ -1,5 +1,5 @@
 -- What the program keeps of a capture that it plays, for `replay` and for `texts`.
-use Rattle.std.specs.Prelude.{◌≡◌, ◌≢◌, ℕ, ◌+◌, ◌*◌, ◌≤◌, min, List, [], ◌++◌, length, Option, Ok, Err}
+use Rattle.std.specs.Prelude.{◌≡◌, ◌≢◌, ℕ, ◌+◌, ◌*◌, ◌≤◌, min, List, [], ◌++◌, length, Ok, Err}
 use Rattle.std.specs.declared.result.Result.{Result}
 use Rattle.std.specs.List.{flat_map}
 use Rattle.std.specs.Option.{option_to_list}
@@ -16,7 +16,7 @@ use Rattle.lis_tool.specs.declared.machine.Turn.TheVariants.{On, Off}
 use Rattle.lis_tool.specs.declared.playing.Account.{Account}
 use Rattle.lis_tool.specs.declared.playing.Account.TheVariants.{Lines, Texts}
 use Rattle.lis_tool.specs.LineOutcome.{Writes}
-use Rattle.lis_tool.specs.Output.{Put, most_counted}
+use Rattle.lis_tool.specs.Output.{Gathered, Out, most_counted}
 use Rattle.lis_tool.specs.Replay.{difference_count, played, replay_writes, text_count, text_line, texts_writes}
 
 abbrev pub playing_writes : Account → ℕ → Writes
@@ -54,12 +54,12 @@ pub record IsPlaying
 -- was full (its length had reached its capacity).
 abbrev pub Took :
     (account : Account) (number : ℕ) (step : Step) (old_replies new_replies : List ℕ) (len capacity : ℕ) (old_texts new_texts : ℕ)
-    → (old new : Option (List ℕ)) (before : ℕ) → Result Turn ToolFault → Type 0
+    → (old new : Out) (before : ℕ) → Result Turn ToolFault → Type 0
 Took account number step old_replies new_replies len capacity old_texts new_texts old new before (Ok (On after)) =
     (step.note ≢ OutOfMemory) × (account ≡ Lines → new_replies ≡ old_replies ++ option_to_list step.reply)
     × (new_texts ≡ min (old_texts + length (option_to_list step.message)) most_counted)
-    × Put old new before (Ok after) (text_parts account number (option_to_list step.message))
+    × Gathered old new before (Ok after) (text_parts account number (option_to_list step.message))
 Took account number step old_replies new_replies len capacity old_texts new_texts old new before (Ok (Off halt)) =
-    (halt.result ≡ Err faults.OutOfMemory) × (step.note ≢ OutOfMemory → capacity ≤ len) × Put old new before (Ok halt.written) []
+    (halt.result ≡ Err faults.OutOfMemory) × (step.note ≢ OutOfMemory → capacity ≤ len) × Gathered old new before (Ok halt.written) []
 Took account number step old_replies new_replies len capacity old_texts new_texts old new before (Err fault) =
-    (step.note ≢ OutOfMemory) × Put old new before (Err fault) (text_parts account number (option_to_list step.message))
+    (step.note ≢ OutOfMemory) × Gathered old new before (Err fault) (text_parts account number (option_to_list step.message))

@@ -1,5 +1,5 @@
--- What one step of a command puts out, behind the text that is out.
-use Rattle.std.specs.Prelude.{◌≡◌, ℕ, Bool, true, false, List, ◌++◌, Option, Some, Ok, Err, is_err}
+-- What one step of a command gathers and puts out, behind the text that is gathered and out.
+use Rattle.std.specs.Prelude.{◌≡◌, ℕ, Bool, true, false, List, ◌++◌, Some, Ok, Err, is_err}
 use Rattle.std.specs.declared.result.Result.{Result}
 use Rattle.lis_tool.specs.declared.fault.ToolFault.{ToolFault}
 use Rattle.lis_tool.specs.declared.fault.ToolFault.TheVariants.{CaptureLine, Read, Write, OutOfMemory, TooManyReads}
@@ -8,9 +8,9 @@ use Rattle.lis_tool.specs.declared.machine.Halt.{Halt}
 use Rattle.lis_tool.specs.declared.machine.Turn.{Turn}
 use Rattle.lis_tool.specs.declared.machine.Turn.TheVariants.{On, Off}
 use Rattle.lis_tool.specs.Outcome.{Outcome, whole}
-use Rattle.lis_tool.specs.Output.{Put}
+use Rattle.lis_tool.specs.Output.{Gathered, Out}
 
--- The run halts so, and this text is out. Memory is wanted only by a command that takes some.
+-- The run halts so, behind this text. Memory is wanted only by a command that takes some.
 abbrev pub Halts : (takes_memory : Bool) (means : Outcome → Type 0) → List ℕ → Result Report ToolFault → Type 0
 Halts takes_memory means text (Ok report) = (o : Outcome) × means o × (o.halt ≡ Some (Ok report)) × (whole o ≡ text)
 Halts takes_memory means text (Err (CaptureLine line)) =
@@ -22,29 +22,29 @@ Halts takes_memory means text (Err (Write written)) = ⊥
 Halts takes_memory means text (Err TooManyReads) = ⊥
 
 -- the sink failed in a part of the text
-pub record Fails (means : Outcome → Type 0) (old new : Option (List ℕ)) (before : ℕ) (text : List ℕ) (fault : ToolFault) : Type 0 where
+pub record Fails (means : Outcome → Type 0) (old new : Out) (before : ℕ) (text : List ℕ) (fault : ToolFault) : Type 0 where
   pub outcome : Outcome
   pub meant : means outcome
   pub more : List ℕ
   pub rest : List ℕ
   pub joined : whole outcome ≡ text ++ more ++ rest
-  pub put : Put old new before (Err fault) more
+  pub put : Gathered old new before (Err fault) more
 
--- so much more text went out, and this holds of all of it
-pub record Puts (holds : List ℕ → Type 0) (old new : Option (List ℕ)) (before after : ℕ) (text : List ℕ) : Type 0 where
+-- so much more text was gathered, and this holds of all of it
+pub record Puts (holds : List ℕ → Type 0) (old new : Out) (before after : ℕ) (text : List ℕ) : Type 0 where
   pub more : List ℕ
-  pub put : Put old new before (Ok after) more
+  pub put : Gathered old new before (Ok after) more
   pub behind : holds (text ++ more)
 
 -- a last step
-abbrev pub Ends : (takes_memory : Bool) (means : Outcome → Type 0) → Option (List ℕ) → Option (List ℕ) → ℕ → List ℕ → Result Halt ToolFault → Type 0
+abbrev pub Ends : (takes_memory : Bool) (means : Outcome → Type 0) → Out → Out → ℕ → List ℕ → Result Halt ToolFault → Type 0
 Ends takes_memory means old new before text (Ok halt) =
     Puts (λ all. Halts takes_memory means all halt.result) old new before halt.written text
 Ends takes_memory means old new before text (Err fault) = Fails means old new before text fault
 
 -- a step that may be the last: if it isn't, the machine stands so for all of the text, and if it is, the run ends in a fault
 abbrev pub Steps :
-    (takes_memory : Bool) (stands : List ℕ → Type 0) (means : Outcome → Type 0) → Option (List ℕ) → Option (List ℕ) → ℕ → List ℕ
+    (takes_memory : Bool) (stands : List ℕ → Type 0) (means : Outcome → Type 0) → Out → Out → ℕ → List ℕ
     → Result Turn ToolFault → Type 0
 Steps takes_memory stands means old new before text (Ok (On after)) = Puts stands old new before after text
 Steps takes_memory stands means old new before text (Ok (Off halt)) =

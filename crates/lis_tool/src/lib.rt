@@ -3,7 +3,7 @@
 
 pub mod commands;
 pub mod fault;
-mod line;
+mod gather;
 pub mod lines;
 pub mod machine;
 mod output;

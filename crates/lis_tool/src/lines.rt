@@ -6,11 +6,12 @@ ghost use Rattle.lis_capture.specs.declared.line.Line.{Line as LineContent};
 ghost use Rattle.lis_capture.specs.Capture.{capture};
 ghost use Rattle.lis_tool.specs.LineOutcome.{IsLined, LineEnds, LineSteps, Writes, capture_outcome, lines_outcome};
 ghost use Rattle.lis_tool.specs.Outcome.{going};
+ghost use Rattle.lis_tool.specs.Output.{out};
 ghost use Rattle.std.proofs.Common.{ap, sym, ◌∙◌};
 
 use crate::fault::ToolFault;
 use crate::machine::{Halt, Machine, Turn};
-use lis_capture::{Found, Line, LineReader};
+use lis_capture::{Found, Line, LineReader, Page};
 use lis_port::Sink;
 
 /// A command that takes a capture line by line. Contracts see the lines newest first.
@@ -29,21 +30,22 @@ pub trait LineMachine: Drop {
     fn line<W: Sink>(
         &mut self,
         sink: &mut W,
+        page: &mut Page,
         written: u64,
         number: u64,
         line: &Line<'_>,
     ) -> Result<Turn, ToolFault>
         requires { W.failed sink.old ≡ false }
         ensures steps { (lines : List LineContent) → stands self.old lines → number ≡ length lines + 1 → number < 2 ^ 44 →
-            LineSteps takes_memory (stands self.new (line.now ∷ lines)) (W.taken sink.old) (W.taken sink.new) written
+            LineSteps takes_memory (stands self.new (line.now ∷ lines)) (out (W.taken sink.old) page.old) (out (W.taken sink.new) page.new) written
             (writes.line lines line.now) result }
         ensures failed { W.failed sink.new ≡ is_err result };
 
     /// Takes the end of the input.
-    fn end<W: Sink>(self, sink: &mut W, written: u64) -> Result<Halt, ToolFault>
+    fn end<W: Sink>(self, sink: &mut W, page: &mut Page, written: u64) -> Result<Halt, ToolFault>
         requires { W.failed sink.old ≡ false }
         ensures ends { (lines : List LineContent) → stands self lines → length lines < 2 ^ 44 →
-            LineEnds (writes.report lines) (W.taken sink.old) (W.taken sink.new) written (writes.last lines) result }
+            LineEnds (writes.report lines) (out (W.taken sink.old) page.old) (out (W.taken sink.new) page.new) written (writes.last lines) result }
         ensures failed { W.failed sink.new ≡ is_err result };
 }
 
@@ -67,18 +69,18 @@ impl<C: LineMachine> Lines<C> {
     }
 
     /// The command takes the line that was read last.
-    fn take_line<W: Sink>(&mut self, sink: &mut W, written: u64) -> Result<Turn, ToolFault>
+    fn take_line<W: Sink>(&mut self, sink: &mut W, page: &mut Page, written: u64) -> Result<Turn, ToolFault>
         requires { W.failed sink.old ≡ false }
         ensures steps { (lines : List LineContent) → C.stands self.old.command lines → self.old.reader.known.number ≡ length lines + 1 →
             self.old.reader.known.number < 2 ^ 44 →
-            LineSteps C.takes_memory (C.stands self.new.command (self.old.reader.known.line ∷ lines)) (W.taken sink.old) (W.taken sink.new) written
+            LineSteps C.takes_memory (C.stands self.new.command (self.old.reader.known.line ∷ lines)) (out (W.taken sink.old) page.old) (out (W.taken sink.new) page.new) written
             (C.writes.line lines self.old.reader.known.line) result }
         ensures reader { self.new.reader ≡ self.old.reader }
         ensures failed { W.failed sink.new ≡ is_err result }
     {
         let number = self.reader.number();
         let line = self.reader.line();
-        self.command.line(sink, written, number, &line)
+        self.command.line(sink, page, written, number, &line)
     }
 
     /// How a run halts whose last line is refused.
@@ -111,6 +113,7 @@ impl<C: LineMachine> Machine for Lines<C> {
     fn feed<W: Sink>(
         &mut self,
         sink: &mut W,
+        page: &mut Page,
         written: u64,
         bytes: &[u8],
     ) -> Result<Turn, ToolFault> {
@@ -121,7 +124,7 @@ impl<C: LineMachine> Machine for Lines<C> {
             match found {
                 Found::Nothing => return Ok(Turn::On(after)),
                 Found::Refused => return Ok(Turn::Off(self.refused(after))),
-                Found::Line => match self.take_line(sink, after) {
+                Found::Line => match self.take_line(sink, page, after) {
                     Ok(Turn::On(next)) => {
                         after = next;
                         let (_, left) = rest.split_at(count);
@@ -135,13 +138,13 @@ impl<C: LineMachine> Machine for Lines<C> {
         Ok(Turn::On(after))
     }
 
-    fn end<W: Sink>(self, sink: &mut W, written: u64) -> Result<Halt, ToolFault> {
+    fn end<W: Sink>(self, sink: &mut W, page: &mut Page, written: u64) -> Result<Halt, ToolFault> {
         let mut lines = self;
         match lines.reader.finish() {
-            Found::Nothing => lines.command.end(sink, written),
+            Found::Nothing => lines.command.end(sink, page, written),
             Found::Refused => Ok(lines.refused(written)),
-            Found::Line => match lines.take_line(sink, written) {
-                Ok(Turn::On(after)) => lines.command.end(sink, after),
+            Found::Line => match lines.take_line(sink, page, written) {
+                Ok(Turn::On(after)) => lines.command.end(sink, page, after),
                 Ok(Turn::Off(halt)) => Ok(halt),
                 Err(fault) => Err(fault),
             },

@@ -3,12 +3,15 @@
 ghost use Rattle.std.specs.Prelude.{◌≡◌, ◌+◌, ◌^◌, ◌<◌, ◌≤◌, ◌++◌, ℕ, Bool, true, false, List, [], length, is_err};
 ghost use Rattle.std.specs.Io.KnownBytes.{Keeps};
 ghost use Rattle.lis_tool.specs.Outcome.{Outcome, going};
+ghost use Rattle.lis_tool.specs.Output.{out};
 ghost use Rattle.lis_tool.specs.Runs.{IsFresh, Ran, Stops};
 ghost use Rattle.lis_tool.specs.Steps.{Ends, IsTold, Steps};
 
 use crate::fault::ToolFault;
+use crate::gather::put_page;
 use crate::output::{send, send_before_a_wait};
 use crate::report::Report;
+use lis_capture::Page;
 use lis_port::{Failed, Sink, Source, read_sent};
 
 /// The most bytes that are read at a time.
@@ -42,22 +45,22 @@ pub trait Machine: Drop {
     // Whether it may write at the end of the input.
     ghost closes: { Bool };
 
-    /// Takes bytes that were read, behind `written` bytes of the run. Where the sink fails, or memory is
-    /// refused, a part of the text of all these bytes went out.
-    fn feed<W: Sink>(&mut self, sink: &mut W, written: u64, bytes: &[u8]) -> Result<Turn, ToolFault>
+    /// Takes bytes that were read, behind `written` bytes of the run, and gathers what they come to on the page.
+    /// Where the sink fails, or memory is refused, it is a part of the text of all these bytes.
+    fn feed<W: Sink>(&mut self, sink: &mut W, page: &mut Page, written: u64, bytes: &[u8]) -> Result<Turn, ToolFault>
         requires { W.failed sink.old ≡ false }
         ensures steps { (past text : List ℕ) → stands self.old past text → length past + length bytes.now < 2 ^ 44 →
             Steps takes_memory (stands self.new (past ++ bytes.now)) (means (past ++ bytes.now) false)
-            (W.taken sink.old) (W.taken sink.new) written text result }
+            (out (W.taken sink.old) page.old) (out (W.taken sink.new) page.new) written text result }
         ensures failed { W.failed sink.new ≡ is_err result };
 
     /// Takes the end of the input.
-    fn end<W: Sink>(self, sink: &mut W, written: u64) -> Result<Halt, ToolFault>
+    fn end<W: Sink>(self, sink: &mut W, page: &mut Page, written: u64) -> Result<Halt, ToolFault>
         requires { W.failed sink.old ≡ false }
         ensures ends { (past text : List ℕ) → stands self past text → length past < 2 ^ 44 →
-            Ends takes_memory (means past true) (W.taken sink.old) (W.taken sink.new) written text result }
+            Ends takes_memory (means past true) (out (W.taken sink.old) page.old) (out (W.taken sink.new) page.new) written text result }
         ensures failed { W.failed sink.new ≡ is_err result }
-        ensures silent { closes ≡ false → (is_err result ≡ false) × (W.sent sink.new ≡ W.sent sink.old) × (W.taken sink.new ≡ W.taken sink.old) };
+        ensures silent { closes ≡ false → (is_err result ≡ false) × (W.sent sink.new ≡ W.sent sink.old) × (W.taken sink.new ≡ W.taken sink.old) × (page.new ≡ page.old) };
 
     /// Whether it may write at the end of the input.
     fn closes(&self) -> bool
@@ -82,6 +85,7 @@ pub fn run<M: Machine, R: Source, W: Sink>(
 {
     let mut machine = machine;
     let mut buffer = [0; ROOM];
+    let mut page = Page::new();
     let mut written = 0;
     for _turn in 0..reads {
         if let Err(fault) = send_before_a_wait(source, sink, written) {
@@ -93,13 +97,13 @@ pub fn run<M: Machine, R: Source, W: Sink>(
         };
         if count == 0 {
             let closes = machine.closes();
-            return match machine.end(sink, written) {
+            return match end_page(machine, sink, &mut page, written) {
                 Ok(halt) => halted(sink, halt, closes),
                 Err(fault) => Err(fault),
             };
         }
         let (given, _) = buffer.split_at(count);
-        match machine.feed(sink, written, given) {
+        match feed_page(&mut machine, sink, &mut page, written, given) {
             Ok(Turn::On(after)) => written = after,
             Ok(Turn::Off(halt)) => return halted(sink, halt, true),
             Err(fault) => return Err(fault),
@@ -109,6 +113,65 @@ pub fn run<M: Machine, R: Source, W: Sink>(
         return Err(fault);
     }
     Err(ToolFault::TooManyReads)
+}
+
+/// Feeds a machine with bytes, and puts out what they come to.
+fn feed_page<M: Machine, W: Sink>(
+    machine: &mut M,
+    sink: &mut W,
+    page: &mut Page,
+    written: u64,
+    bytes: &[u8],
+) -> Result<Turn, ToolFault>
+    requires { W.failed sink.old ≡ false }
+    ensures steps { (past text : List ℕ) → M.stands machine.old past text → length past + length bytes.now < 2 ^ 44 →
+        Steps M.takes_memory (M.stands machine.new (past ++ bytes.now)) (M.means (past ++ bytes.now) false)
+        (out (W.taken sink.old) []) (out (W.taken sink.new) []) written text result }
+    ensures failed { W.failed sink.new ≡ is_err result }
+{
+    page.clear();
+    match machine.feed(sink, page, written, bytes) {
+        Ok(Turn::On(after)) => match put_page(sink, page, after) {
+            Ok(after) => Ok(Turn::On(after)),
+            Err(fault) => Err(fault),
+        },
+        Ok(Turn::Off(halt)) => match put_page(sink, page, halt.written) {
+            Ok(written) => Ok(Turn::Off(Halt {
+                written,
+                result: halt.result,
+            })),
+            Err(fault) => Err(fault),
+        },
+        Err(fault) => Err(fault),
+    }
+}
+
+/// Tells a machine the end of the input, and puts out what it writes there.
+fn end_page<M: Machine, W: Sink>(
+    machine: M,
+    sink: &mut W,
+    page: &mut Page,
+    written: u64,
+) -> Result<Halt, ToolFault>
+    requires { W.failed sink.old ≡ false }
+    ensures ends { (past text : List ℕ) → M.stands machine past text → length past < 2 ^ 44 →
+        Ends M.takes_memory (M.means past true) (out (W.taken sink.old) []) (out (W.taken sink.new) []) written text result }
+    ensures failed { W.failed sink.new ≡ is_err result }
+    ensures silent { M.closes ≡ false → (is_err result ≡ false) × (W.sent sink.new ≡ W.sent sink.old) × (W.taken sink.new ≡ W.taken sink.old) }
+{
+    page.clear();
+    let closes = machine.closes();
+    match machine.end(sink, page, written) {
+        Ok(halt) if closes => match put_page(sink, page, halt.written) {
+            Ok(written) => Ok(Halt {
+                written,
+                result: halt.result,
+            }),
+            Err(fault) => Err(fault),
+        },
+        Ok(halt) => Ok(halt),
+        Err(fault) => Err(fault),
+    }
 }
 
 /// Sends on what went out, where the last step may have written, and answers how the run ended.

@@ -9,17 +9,17 @@ ghost use Rattle.lis_link.specs.Receiver.{ReceiverState};
 ghost use Rattle.lis_tool.specs.declared.playing.Account.{Account as AccountOf};
 ghost use Rattle.lis_tool.specs.declared.playing.Account.TheVariants as accounts;
 ghost use Rattle.lis_tool.specs.LineOutcome.{LineEnds, LineSteps};
-ghost use Rattle.lis_tool.specs.Output.{Put};
+ghost use Rattle.lis_tool.specs.Output.{Gathered, out};
 ghost use Rattle.lis_tool.specs.Playing.{IsHearing, IsPlaying, Took, playing_writes, text_parts};
 ghost use Rattle.lis_tool.specs.Replay.{handed, heard, replay_writes, replies, status_of};
 
 use crate::fault::ToolFault;
+use crate::gather::gather;
 use crate::lines::LineMachine;
 use crate::machine::{Halt, Turn};
-use crate::output::put;
-use crate::replay::{put_compared, put_counts, put_left, put_text_line};
+use crate::replay::{gather_compared, gather_counts, gather_left, gather_text_line};
 use crate::report::Report;
-use lis_capture::Line;
+use lis_capture::{Line, Page};
 use lis_frame::LinkText;
 use lis_link::{Hearing, Note, ReceiverOf, Step};
 use lis_port::Sink;
@@ -98,6 +98,7 @@ impl<const N: usize, T: Teller> Playing<N, T> {
     fn hear<W: Sink>(
         &mut self,
         sink: &mut W,
+        page: &mut Page,
         written: u64,
         number: u64,
         bytes: &[u8],
@@ -108,7 +109,7 @@ impl<const N: usize, T: Teller> Playing<N, T> {
             LineSteps true
             (IsHearing T.account N self.new.receiver self.new.replies.items self.new.texts
             (heard N r bytes.now) (collected ++ replies N r bytes.now) (count + length (handed N r bytes.now)))
-            (W.taken sink.old) (W.taken sink.new) written (text_parts T.account number (handed N r bytes.now)) result }
+            (out (W.taken sink.old) page.old) (out (W.taken sink.new) page.new) written (text_parts T.account number (handed N r bytes.now)) result }
         ensures differences { self.new.differences ≡ self.old.differences }
         ensures failed { W.failed sink.new ≡ is_err result }
     {
@@ -116,7 +117,7 @@ impl<const N: usize, T: Teller> Playing<N, T> {
         let mut after = written;
         while !rest.is_empty() {
             let Hearing { count, step } = self.receiver.bytes(rest);
-            match self.take(sink, after, number, step) {
+            match self.take(sink, page, after, number, step) {
                 Ok(Turn::On(next)) => after = next,
                 Ok(Turn::Off(halt)) => return Ok(Turn::Off(halt)),
                 Err(fault) => return Err(fault),
@@ -131,6 +132,7 @@ impl<const N: usize, T: Teller> Playing<N, T> {
     fn take<W: Sink>(
         &mut self,
         sink: &mut W,
+        page: &mut Page,
         written: u64,
         number: u64,
         step: Step,
@@ -138,7 +140,7 @@ impl<const N: usize, T: Teller> Playing<N, T> {
         requires { W.failed sink.old ≡ false }
         ensures took { Took T.account number step self.old.replies.items self.new.replies.items
             (vec_len self.old.replies) (vec_capacity self.old.replies) self.old.texts self.new.texts
-            (W.taken sink.old) (W.taken sink.new) written result }
+            (out (W.taken sink.old) page.old) (out (W.taken sink.new) page.new) written result }
         ensures receiver { self.new.receiver ≡ self.old.receiver }
         ensures differences { self.new.differences ≡ self.old.differences }
         ensures failed { W.failed sink.new ≡ is_err result }
@@ -150,7 +152,7 @@ impl<const N: usize, T: Teller> Playing<N, T> {
             return Ok(Turn::Off(starved(written)));
         }
         self.texts = self.texts.saturating_add(count_of(&step.message));
-        match put_message(sink, written, self.teller.account(), number, &step.message) {
+        match gather_message(sink, page, written, self.teller.account(), number, &step.message) {
             Ok(after) => Ok(Turn::On(after)),
             Err(fault) => Err(fault),
         }
@@ -177,6 +179,7 @@ impl<const N: usize, T: Teller> Playing<N, T> {
     fn compare<W: Sink>(
         &mut self,
         sink: &mut W,
+        page: &mut Page,
         written: u64,
         number: u64,
         bytes: &[u8],
@@ -188,7 +191,7 @@ impl<const N: usize, T: Teller> Playing<N, T> {
             LineSteps true
             (IsPlaying T.account N self.new.receiver self.new.replies.items self.new.texts self.new.differences
             (line_kinds.FromComputer bytes.now ∷ lines))
-            (W.taken sink.old) (W.taken sink.new) written
+            (out (W.taken sink.old) page.old) (out (W.taken sink.new) page.new) written
             ((playing_writes T.account N).line lines (line_kinds.FromComputer bytes.now)) result }
         ensures failed { W.failed sink.new ≡ is_err result }
     {
@@ -197,7 +200,7 @@ impl<const N: usize, T: Teller> Playing<N, T> {
         }
         let got = self.replies.as_slice();
         let differences = counted(self.differences, bytes == got);
-        let after = match put_compared(sink, written, number, bytes, got) {
+        let after = match gather_compared(sink, page, written, number, bytes, got) {
             Ok(after) => after,
             Err(fault) => return Err(fault),
         };
@@ -206,23 +209,23 @@ impl<const N: usize, T: Teller> Playing<N, T> {
         Ok(Turn::On(after))
     }
 
-    /// Puts out the closing lines of `replay`.
-    fn close<W: Sink>(self, sink: &mut W, written: u64) -> Result<Halt, ToolFault>
+    /// Gathers the closing lines of `replay`.
+    fn close<W: Sink>(self, sink: &mut W, page: &mut Page, written: u64) -> Result<Halt, ToolFault>
         requires working { W.failed sink.old ≡ false }
         requires lines { T.account ≡ accounts.Lines }
         ensures ends { (lines : List LineContent) →
             IsPlaying T.account N self.receiver self.replies.items self.texts self.differences lines →
             length lines < 2 ^ 44 →
-            LineEnds ((replay_writes N).report lines) (W.taken sink.old) (W.taken sink.new) written ((replay_writes N).last lines) result }
+            LineEnds ((replay_writes N).report lines) (out (W.taken sink.old) page.old) (out (W.taken sink.new) page.new) written ((replay_writes N).last lines) result }
         ensures failed { W.failed sink.new ≡ is_err result }
     {
         let left = self.replies.as_slice();
-        let after = match put_left(sink, written, left) {
+        let after = match gather_left(sink, page, written, left) {
             Ok(after) => after,
             Err(fault) => return Err(fault),
         };
         let differences = counted(self.differences, left.is_empty());
-        match put_counts(sink, after, self.texts, differences) {
+        match gather_counts(sink, page, after, self.texts, differences) {
             Ok(written) => Ok(Halt {
                 written,
                 result: Ok(report_of(differences)),
@@ -242,6 +245,7 @@ impl<const N: usize, T: Teller> LineMachine for Playing<N, T> {
     fn line<W: Sink>(
         &mut self,
         sink: &mut W,
+        page: &mut Page,
         written: u64,
         number: u64,
         line: &Line<'_>,
@@ -249,8 +253,8 @@ impl<const N: usize, T: Teller> LineMachine for Playing<N, T> {
         match line {
             Line::Empty => Ok(Turn::On(written)),
             Line::Version => Ok(Turn::On(written)),
-            Line::FromAnalyzer(bytes) => self.hear(sink, written, number, bytes.as_slice()),
-            Line::FromComputer(bytes) => self.compare(sink, written, number, bytes.as_slice()),
+            Line::FromAnalyzer(bytes) => self.hear(sink, page, written, number, bytes.as_slice()),
+            Line::FromComputer(bytes) => self.compare(sink, page, written, number, bytes.as_slice()),
             Line::Timer => {
                 let _ = self.receiver.timer();
                 Ok(Turn::On(written))
@@ -266,13 +270,13 @@ impl<const N: usize, T: Teller> LineMachine for Playing<N, T> {
         }
     }
 
-    fn end<W: Sink>(self, sink: &mut W, written: u64) -> Result<Halt, ToolFault> {
+    fn end<W: Sink>(self, sink: &mut W, page: &mut Page, written: u64) -> Result<Halt, ToolFault> {
         match self.teller.account() {
             Account::Texts => Ok(Halt {
                 written,
                 result: Ok(Report { status: 0 }),
             }),
-            Account::Lines => self.close(sink, written),
+            Account::Lines => self.close(sink, page, written),
         }
     }
 }
@@ -298,23 +302,24 @@ fn count_of(message: &Option<LinkText>) -> u64
     }
 }
 
-/// Puts out what is told of a text, if there is one.
-fn put_message<W: Sink>(
+/// Gathers what is told of a text, if there is one.
+fn gather_message<W: Sink>(
     sink: &mut W,
+    page: &mut Page,
     written: u64,
     account: Account,
     number: u64,
     message: &Option<LinkText>,
 ) -> Result<u64, ToolFault>
     requires { W.failed sink.old ≡ false }
-    ensures put { Put (W.taken sink.old) (W.taken sink.new) written result (text_parts account number (option_to_list message.now)) }
+    ensures gathered { Gathered (out (W.taken sink.old) page.old) (out (W.taken sink.new) page.new) written result (text_parts account number (option_to_list message.now)) }
     ensures failed { W.failed sink.new ≡ is_err result }
 {
     match message {
         None => Ok(written),
         Some(text) => match account {
-            Account::Lines => put_text_line(sink, written, number, text.as_slice()),
-            Account::Texts => put(sink, written, text.as_slice()),
+            Account::Lines => gather_text_line(sink, page, written, number, text.as_slice()),
+            Account::Texts => gather(sink, page, written, text.as_slice()),
         },
     }
 }

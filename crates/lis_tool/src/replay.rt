@@ -3,7 +3,7 @@
 ghost use Rattle.std.specs.Prelude.{◌≡◌, ◌≤◌, false, true, is_err, IfOk};
 ghost use Rattle.lis_frame.specs.Limit.{IsLimit};
 ghost use Rattle.lis_tool.specs.CaptureRuns.{CaptureRan};
-ghost use Rattle.lis_tool.specs.Output.{Put};
+ghost use Rattle.lis_tool.specs.Output.{Gathered, out};
 ghost use Rattle.lis_tool.specs.Parts.{part_text};
 ghost use Rattle.lis_tool.specs.Replay.{compared_line, counts_line, difference_line, digits_or_dash, left_line, replay_writes, text_line};
 ghost use Rattle.lis_tool.specs.Runs.{IsFresh, Stops};
@@ -11,9 +11,10 @@ ghost use Rattle.lis_tool.specs.Runs.{IsFresh, Stops};
 use crate::fault::ToolFault;
 use crate::lines::Lines;
 use crate::machine::run;
-use crate::parts::{Part, put_parts};
+use crate::parts::{Part, gather_parts};
 use crate::playing::{InLines, Playing};
 use crate::report::Report;
+use lis_capture::Page;
 use lis_port::{Sink, Source};
 use std::alloc::Global;
 
@@ -55,15 +56,16 @@ pub fn run_replay<R: Source, W: Sink>(
     run_replay_of::<240, R, W>(alloc, source, sink, reads)
 }
 
-/// Puts out the line of a text.
-pub(crate) fn put_text_line<W: Sink>(
+/// Gathers the line of a text.
+pub(crate) fn gather_text_line<W: Sink>(
     sink: &mut W,
+    page: &mut Page,
     written: u64,
     number: u64,
     text: &[u8],
 ) -> Result<u64, ToolFault>
     requires { W.failed sink.old ≡ false }
-    ensures put { Put (W.taken sink.old) (W.taken sink.new) written result (text_line number text.now) }
+    ensures gathered { Gathered (out (W.taken sink.old) page.old) (out (W.taken sink.new) page.new) written result (text_line number text.now) }
     ensures failed { W.failed sink.new ≡ is_err result }
 {
     let parts = [
@@ -73,48 +75,50 @@ pub(crate) fn put_text_line<W: Sink>(
         Part::Number(text.len() as u64),
         Part::Text(b"\n"),
     ];
-    put_parts(sink, written, &parts)
+    gather_parts(sink, page, written, &parts)
 }
 
-/// Puts out the difference of the computer's bytes and the replies, where there is one.
-pub(crate) fn put_compared<'x, W: Sink>(
+/// Gathers the difference of the computer's bytes and the replies, where there is one.
+pub(crate) fn gather_compared<'x, W: Sink>(
     sink: &mut W,
+    page: &mut Page,
     written: u64,
     number: u64,
     want: &'x [u8],
     got: &'x [u8],
 ) -> Result<u64, ToolFault>
     requires { W.failed sink.old ≡ false }
-    ensures put { Put (W.taken sink.old) (W.taken sink.new) written result (compared_line number want.now got.now) }
+    ensures gathered { Gathered (out (W.taken sink.old) page.old) (out (W.taken sink.new) page.new) written result (compared_line number want.now got.now) }
     ensures failed { W.failed sink.new ≡ is_err result }
 {
     if want == got {
         return Ok(written);
     }
-    put_difference(sink, written, Part::Number(number), want, got)
+    gather_difference(sink, page, written, Part::Number(number), want, got)
 }
 
-/// Puts out the difference at the end, where replies are left.
-pub(crate) fn put_left<W: Sink>(sink: &mut W, written: u64, left: &[u8]) -> Result<u64, ToolFault>
+/// Gathers the difference at the end, where replies are left.
+pub(crate) fn gather_left<W: Sink>(sink: &mut W, page: &mut Page, written: u64, left: &[u8]) -> Result<u64, ToolFault>
     requires { W.failed sink.old ≡ false }
-    ensures put { Put (W.taken sink.old) (W.taken sink.new) written result (left_line left.now) }
+    ensures gathered { Gathered (out (W.taken sink.old) page.old) (out (W.taken sink.new) page.new) written result (left_line left.now) }
     ensures failed { W.failed sink.new ≡ is_err result }
 {
     if left.is_empty() {
         return Ok(written);
     }
-    put_difference(sink, written, Part::Text(b"end"), &[], left)
+    gather_difference(sink, page, written, Part::Text(b"end"), &[], left)
 }
 
-/// Puts out the last line.
-pub(crate) fn put_counts<W: Sink>(
+/// Gathers the last line.
+pub(crate) fn gather_counts<W: Sink>(
     sink: &mut W,
+    page: &mut Page,
     written: u64,
     texts: u64,
     differences: u64,
 ) -> Result<u64, ToolFault>
     requires { W.failed sink.old ≡ false }
-    ensures put { Put (W.taken sink.old) (W.taken sink.new) written result (counts_line texts differences) }
+    ensures gathered { Gathered (out (W.taken sink.old) page.old) (out (W.taken sink.new) page.new) written result (counts_line texts differences) }
     ensures failed { W.failed sink.new ≡ is_err result }
 {
     let parts = [
@@ -124,19 +128,20 @@ pub(crate) fn put_counts<W: Sink>(
         Part::Number(differences),
         Part::Text(b"\n"),
     ];
-    put_parts(sink, written, &parts)
+    gather_parts(sink, page, written, &parts)
 }
 
-/// Puts out the line of a difference.
-fn put_difference<'x, W: Sink>(
+/// Gathers the line of a difference.
+fn gather_difference<'x, W: Sink>(
     sink: &mut W,
+    page: &mut Page,
     written: u64,
     place: Part<'x>,
     want: &'x [u8],
     got: &'x [u8],
 ) -> Result<u64, ToolFault>
     requires { W.failed sink.old ≡ false }
-    ensures put { Put (W.taken sink.old) (W.taken sink.new) written result (difference_line (part_text place.entry) want.now got.now) }
+    ensures gathered { Gathered (out (W.taken sink.old) page.old) (out (W.taken sink.new) page.new) written result (difference_line (part_text place.entry) want.now got.now) }
     ensures failed { W.failed sink.new ≡ is_err result }
 {
     let parts = [
@@ -148,7 +153,7 @@ fn put_difference<'x, W: Sink>(
         or_dash(got),
         Part::Text(b"\n"),
     ];
-    put_parts(sink, written, &parts)
+    gather_parts(sink, page, written, &parts)
 }
 
 /// The digits of bytes, or a dash for no byte.

@@ -1,26 +1,26 @@
 //! The command `show`: a line for each signal of a stream of link bytes.
 
-ghost use Rattle.std.specs.Prelude.{◌≡◌, ◌≤◌, ◌++◌, ◌∷◌, [], ℕ, List, codes, decimal, false, is_err, length, IfOk, OnOk};
+ghost use Rattle.std.specs.Prelude.{◌≡◌, ◌+◌, ◌<◌, ◌≤◌, ◌++◌, ◌∷◌, [], ℕ, List, decimal, false, is_err, length, IfOk, OnOk};
 ghost use Rattle.lis_frame.specs.Limit.{IsLimit};
 ghost use Rattle.lis_frame.specs.Scanner.{StandsFor};
 ghost use Rattle.lis_frame.specs.Stream.{signal_after, signals_after, stream_with, with_signal};
-ghost use Rattle.lis_tool.specs.Output.{Put, most_counted};
+ghost use Rattle.lis_capture.specs.declared.page.TheConstants.{PAGE_ROOM};
+ghost use Rattle.lis_tool.specs.Output.{Gathered, most_counted, out};
 ghost use Rattle.lis_tool.specs.Runs.{IsFresh, Ran, Shown, Stops};
-ghost use Rattle.lis_tool.specs.Show.{bad_line, frame_line, frame_start, heard_line, lent_line, Shows, show, signal_lines};
+ghost use Rattle.lis_tool.specs.Show.{bad_line, digits_part, frame_line, frame_start, heard_line, lent_line, Shows, show, signal_lines};
 ghost use Rattle.lis_tool.specs.Outcome.{going};
 ghost use Rattle.std.proofs.Common.{ap};
-ghost use Rattle.hex.specs.Hex.{encode_lower};
 
 use crate::fault::ToolFault;
-use crate::line::Line;
+use crate::gather::{append_number, gather, gather_digits, make_room};
 use crate::machine::{Halt, Machine, Turn, run};
-use crate::output::put;
 use crate::report::Report;
+use lis_capture::Page;
 use lis_frame::{FrameFault, Heard, LentFrame, ScannerOf};
 use lis_port::{Sink, Source};
 
-/// The bytes that are turned into digits at a time.
-const CHUNK: usize = 1024;
+/// The room that the beginning of a frame's line has: as far as the length of its text, and a space.
+const FRAME_ROOM: usize = 100;
 
 /// Reads link bytes to their end and writes a line for each signal; frames have at most `N` bytes
 /// of text. At most `reads` calls of read are made. The sink is flushed before each that may wait for bytes, so
@@ -57,11 +57,10 @@ pub fn run_show<R: Source, W: Sink>(
     run_show_of::<240, R, W>(source, sink, reads)
 }
 
-/// The scanner of the bytes, and the line that is gathered.
+/// The scanner of the bytes.
 #[derive(Drop)]
 struct Show<const N: usize> {
     scanner: ScannerOf<N>,
-    line: Line,
 }
 
 impl<const N: usize> Show<N> {
@@ -72,7 +71,6 @@ impl<const N: usize> Show<N> {
     {
         Show {
             scanner: ScannerOf::new(),
-            line: Line::new(),
         }
     }
 }
@@ -91,16 +89,17 @@ impl<const N: usize> Machine for Show<N> {
     fn feed<W: Sink>(
         &mut self,
         sink: &mut W,
+        page: &mut Page,
         written: u64,
         bytes: &[u8],
     ) -> Result<Turn, ToolFault> {
-        match show_bytes(&mut self.scanner, sink, &mut self.line, written, bytes) {
+        match show_bytes(&mut self.scanner, sink, page, written, bytes) {
             Ok(after) => Ok(Turn::On(after)),
             Err(fault) => Err(fault),
         }
     }
 
-    fn end<W: Sink>(self, _sink: &mut W, written: u64) -> Result<Halt, ToolFault> {
+    fn end<W: Sink>(self, _sink: &mut W, _page: &mut Page, written: u64) -> Result<Halt, ToolFault> {
         Ok(Halt {
             written,
             result: Ok(Report { status: 0 }),
@@ -112,17 +111,18 @@ impl<const N: usize> Machine for Show<N> {
     }
 }
 
-/// Puts out the lines of the signals that further bytes give.
+/// Gathers the lines of the signals that further bytes give.
 fn show_bytes<const N: usize, W: Sink>(
     scanner: &mut ScannerOf<N>,
     sink: &mut W,
-    line: &mut Line,
+    page: &mut Page,
     written: u64,
     bytes: &[u8],
 ) -> Result<u64, ToolFault>
     requires { W.failed sink.old ≡ false }
-    ensures put { (past : List ℕ) → StandsFor N scanner.old past →
-        Put (W.taken sink.old) (W.taken sink.new) written result (signal_lines (signals_after N past bytes.now)) }
+    ensures gathered { (past : List ℕ) → StandsFor N scanner.old past →
+        Gathered (out (W.taken sink.old) page.old) (out (W.taken sink.new) page.new) written result
+        (signal_lines (signals_after N past bytes.now)) }
     ensures stands { OnOk result ((past : List ℕ) → StandsFor N scanner.old past →
         StandsFor N scanner.new (stream_with past bytes.now)) }
     ensures failed { W.failed sink.new ≡ is_err result }
@@ -132,10 +132,10 @@ fn show_bytes<const N: usize, W: Sink>(
     while let Some((byte, left)) = rest.split_first() {
         let (taken, frame) = scanner.scan(rest);
         if taken == 0 {
-            after = show_byte(scanner, sink, line, after, *byte)?;
+            after = show_byte(scanner, sink, page, after, *byte)?;
             rest = left;
         } else {
-            after = put_lent(sink, line, after, frame)?;
+            after = gather_lent(sink, page, after, frame)?;
             let (_, behind) = rest.split_at(taken);
             rest = behind;
         }
@@ -143,159 +143,187 @@ fn show_bytes<const N: usize, W: Sink>(
     Ok(after)
 }
 
-/// Puts out the line of the signal that one more byte gives, if it gives one.
+/// Gathers the line of the signal that one more byte gives, if it gives one.
 fn show_byte<const N: usize, W: Sink>(
     scanner: &mut ScannerOf<N>,
     sink: &mut W,
-    line: &mut Line,
+    page: &mut Page,
     written: u64,
     byte: u8,
 ) -> Result<u64, ToolFault>
     requires { W.failed sink.old ≡ false }
-    ensures put { (past : List ℕ) → StandsFor N scanner.old past →
-        Put (W.taken sink.old) (W.taken sink.new) written result (signal_lines (with_signal (signal_after N past byte) [])) }
+    ensures gathered { (past : List ℕ) → StandsFor N scanner.old past →
+        Gathered (out (W.taken sink.old) page.old) (out (W.taken sink.new) page.new) written result
+        (signal_lines (with_signal (signal_after N past byte) [])) }
     ensures stands { (past : List ℕ) → StandsFor N scanner.old past → StandsFor N scanner.new (byte ∷ past) }
     ensures count { IfOk result (λ after. after ≤ most_counted) }
     ensures failed { W.failed sink.new ≡ is_err result }
 {
     let result = match scanner.told(byte) {
         None => Ok(written),
-        Some(heard) => put_heard(sink, line, written, &heard),
+        Some(heard) => gather_heard(sink, page, written, &heard),
     };
     scanner.take(byte);
     result
 }
 
-/// Puts out the line of a signal.
-fn put_heard<W: Sink>(
+/// Gathers the line of a signal.
+fn gather_heard<W: Sink>(
     sink: &mut W,
-    line: &mut Line,
+    page: &mut Page,
     written: u64,
     heard: &Heard<'_>,
 ) -> Result<u64, ToolFault>
     requires { W.failed sink.old ≡ false }
-    ensures put { Put (W.taken sink.old) (W.taken sink.new) written result (heard_line heard.now) }
+    ensures gathered { Gathered (out (W.taken sink.old) page.old) (out (W.taken sink.new) page.new) written result (heard_line heard.now) }
     ensures failed { W.failed sink.new ≡ is_err result }
 {
     match heard {
-        Heard::Enq => put(sink, written, b"ENQ\n"),
-        Heard::Eot => put(sink, written, b"EOT\n"),
-        Heard::Good(frame) => put_frame(sink, line, written, frame),
-        Heard::Bad(fault) => put_bad(sink, line, written, *fault),
+        Heard::Enq => gather(sink, page, written, b"ENQ\n"),
+        Heard::Eot => gather(sink, page, written, b"EOT\n"),
+        Heard::Good(frame) => gather_frame(sink, page, written, frame),
+        Heard::Bad(fault) => gather_bad(sink, page, written, *fault),
     }
 }
 
-/// Puts out the line of a frame, where there is one.
+/// Gathers the line of a frame, where there is one.
 #[inline(always)]
-fn put_lent<W: Sink>(
+fn gather_lent<W: Sink>(
     sink: &mut W,
-    line: &mut Line,
+    page: &mut Page,
     written: u64,
     frame: Option<LentFrame<'_>>,
 ) -> Result<u64, ToolFault>
     requires { W.failed sink.old ≡ false }
-    ensures put { Put (W.taken sink.old) (W.taken sink.new) written result (lent_line frame.entry) }
+    ensures gathered { Gathered (out (W.taken sink.old) page.old) (out (W.taken sink.new) page.new) written result (lent_line frame.entry) }
     ensures failed { W.failed sink.new ≡ is_err result }
 {
     match frame {
         None => Ok(written),
-        Some(frame) => put_frame(sink, line, written, &frame),
+        Some(frame) => gather_frame(sink, page, written, &frame),
     }
 }
 
-/// Puts out the line of a frame.
-fn put_frame<W: Sink>(
+/// Gathers the line of a frame.
+fn gather_frame<W: Sink>(
     sink: &mut W,
-    line: &mut Line,
+    page: &mut Page,
     written: u64,
     frame: &LentFrame<'_>,
 ) -> Result<u64, ToolFault>
     requires { W.failed sink.old ≡ false }
-    ensures put { Put (W.taken sink.old) (W.taken sink.new) written result (frame_line frame.now) }
+    ensures gathered { Gathered (out (W.taken sink.old) page.old) (out (W.taken sink.new) page.new) written result (frame_line frame.now) }
     ensures failed { W.failed sink.new ≡ is_err result }
 {
     let text = frame.text();
-    start_frame(line, frame.number(), frame.is_last(), text.len());
-    if text.is_empty() {
-        return put_digits(sink, line, written, text);
+    let started = match gather_start(sink, page, written, frame) {
+        Ok(after) => after,
+        Err(fault) => return Err(fault),
+    };
+    match gather_bytes(sink, page, started, text) {
+        Ok(after) => gather(sink, page, after, b"\n"),
+        Err(fault) => Err(fault),
     }
-    line.append(b" ");
-    put_digits(sink, line, written, text)
 }
 
 /// Gathers the line of a frame as far as the length of its text.
 #[inline(always)]
-fn start_frame(line: &mut Line, number: u8, last: bool, count: usize)
-    ensures value { line.new ≡ frame_start number last ++ decimal count }
-    ensures short { length line.new ≤ 92 }
+fn gather_start<W: Sink>(
+    sink: &mut W,
+    page: &mut Page,
+    written: u64,
+    frame: &LentFrame<'_>,
+) -> Result<u64, ToolFault>
+    requires { W.failed sink.old ≡ false }
+    ensures gathered { Gathered (out (W.taken sink.old) page.old) (out (W.taken sink.new) page.new) written result
+        (frame_start frame.now.number frame.now.last ++ decimal (length frame.now.text)) }
+    ensures failed { W.failed sink.new ≡ is_err result }
 {
-    line.clear();
-    line.append(b"frame ");
-    line.append_number(number as u64);
-    if last {
-        line.append(b" end ");
-    } else {
-        line.append(b" more ");
+    match make_room(sink, page, written, FRAME_ROOM) {
+        Ok(after) => {
+            start_frame(page, frame.number(), frame.is_last(), frame.text().len());
+            Ok(after)
+        }
+        Err(fault) => Err(fault),
     }
-    line.append_number(count as u64);
 }
 
-/// Puts out the line that is gathered, with the digits of bytes and LF behind it.
+/// Gathers a space and the digits of bytes, where there are any.
 #[inline(always)]
-fn put_digits<W: Sink>(
+fn gather_bytes<W: Sink>(
     sink: &mut W,
-    line: &mut Line,
+    page: &mut Page,
     written: u64,
     bytes: &[u8],
 ) -> Result<u64, ToolFault>
-    requires working { W.failed sink.old ≡ false }
-    requires short { length line.old ≤ 93 }
-    ensures put { Put (W.taken sink.old) (W.taken sink.new) written result (line.old ++ encode_lower bytes.now ++ codes "\n") }
+    requires { W.failed sink.old ≡ false }
+    ensures gathered { Gathered (out (W.taken sink.old) page.old) (out (W.taken sink.new) page.new) written result (digits_part bytes.now) }
     ensures failed { W.failed sink.new ≡ is_err result }
 {
-    let mut rest = bytes;
-    let mut after = written;
-    while rest.len() > CHUNK {
-        let (front, left) = rest.split_at(CHUNK);
-        line.append_digits(front);
-        after = put(sink, after, line.as_slice())?;
-        line.clear();
-        rest = left;
+    if bytes.is_empty() {
+        return Ok(written);
     }
-    line.append_digits(rest);
-    line.append(b"\n");
-    put(sink, after, line.as_slice())
+    match gather(sink, page, written, b" ") {
+        Ok(after) => gather_digits(sink, page, after, bytes),
+        Err(fault) => Err(fault),
+    }
 }
 
-/// Puts out the line of a bad frame.
-fn put_bad<W: Sink>(
+/// Puts the line of a frame behind the page, as far as the length of its text.
+#[inline(always)]
+fn start_frame(page: &mut Page, number: u8, last: bool, count: usize)
+    requires { length page.old + FRAME_ROOM ≤ PAGE_ROOM }
+    ensures value { page.new ≡ page.old ++ (frame_start number last ++ decimal count) }
+    ensures short { length page.new < length page.old + FRAME_ROOM }
+{
+    page.append(b"frame ");
+    append_number(page, number as u64);
+    if last {
+        page.append(b" end ");
+    } else {
+        page.append(b" more ");
+    }
+    append_number(page, count as u64);
+}
+
+/// Gathers the line of a bad frame.
+fn gather_bad<W: Sink>(
     sink: &mut W,
-    line: &mut Line,
+    page: &mut Page,
     written: u64,
     fault: FrameFault,
 ) -> Result<u64, ToolFault>
     requires { W.failed sink.old ≡ false }
-    ensures put { Put (W.taken sink.old) (W.taken sink.new) written result (bad_line fault) }
+    ensures gathered { Gathered (out (W.taken sink.old) page.old) (out (W.taken sink.new) page.new) written result (bad_line fault) }
     ensures failed { W.failed sink.new ≡ is_err result }
 {
     match fault {
-        FrameFault::TooLong => put(sink, written, b"bad F1\n"),
-        FrameFault::Shape => put(sink, written, b"bad F2\n"),
-        FrameFault::Number => put(sink, written, b"bad F3\n"),
-        FrameFault::Text(place) => {
-            bad_text_line(line, place);
-            put(sink, written, line.as_slice())
-        }
-        FrameFault::Sum => put(sink, written, b"bad F5\n"),
+        FrameFault::TooLong => gather(sink, page, written, b"bad F1\n"),
+        FrameFault::Shape => gather(sink, page, written, b"bad F2\n"),
+        FrameFault::Number => gather(sink, page, written, b"bad F3\n"),
+        FrameFault::Text(place) => gather_bad_text(sink, page, written, place),
+        FrameFault::Sum => gather(sink, page, written, b"bad F5\n"),
     }
 }
 
 /// Gathers the line of a frame with a forbidden byte at this place of its text.
-fn bad_text_line(line: &mut Line, place: usize)
-    ensures { line.new ≡ bad_line (FrameFault.Text place) }
+fn gather_bad_text<W: Sink>(
+    sink: &mut W,
+    page: &mut Page,
+    written: u64,
+    place: usize,
+) -> Result<u64, ToolFault>
+    requires { W.failed sink.old ≡ false }
+    ensures gathered { Gathered (out (W.taken sink.old) page.old) (out (W.taken sink.new) page.new) written result (bad_line (FrameFault.Text place)) }
+    ensures failed { W.failed sink.new ≡ is_err result }
 {
-    line.clear();
-    line.append(b"bad F4 ");
-    line.append_number(place as u64);
-    line.append(b"\n");
+    match make_room(sink, page, written, FRAME_ROOM) {
+        Ok(after) => {
+            page.append(b"bad F4 ");
+            append_number(page, place as u64);
+            page.append(b"\n");
+            Ok(after)
+        }
+        Err(fault) => Err(fault),
+    }
 }

@@ -4,16 +4,16 @@ ghost use Rattle.std.specs.Prelude.{◌≡◌, ◌≤◌, ◌++◌, [], List, tr
 ghost use Rattle.lis_capture.specs.declared.line.Line.{Line as LineContent};
 ghost use Rattle.lis_capture.specs.Spelling.{line_spelling};
 ghost use Rattle.lis_tool.specs.CaptureRuns.{CaptureRan};
-ghost use Rattle.lis_tool.specs.Output.{Put};
+ghost use Rattle.lis_tool.specs.Output.{Gathered, out};
 ghost use Rattle.lis_tool.specs.Runs.{IsFresh, Stops};
 ghost use Rattle.lis_tool.specs.Upgrade.{is_begun, opening, upgrade_writes, written_line};
 
 use crate::fault::ToolFault;
+use crate::gather::{gather, make_room};
 use crate::lines::{LineMachine, Lines};
 use crate::machine::{Halt, Turn, run};
-use crate::output::put;
 use crate::report::Report;
-use lis_capture::{Line, Spelling};
+use lis_capture::{LONGEST_SPELLING, Line, Page};
 use lis_port::{Sink, Source};
 
 /// Writes a capture as one of version 2: the line `capture 2`, and then each of its lines, with digits in
@@ -31,11 +31,10 @@ pub fn run_upgrade<R: Source, W: Sink>(
     run(Lines::new(Upgrade::new()), source, sink, reads)
 }
 
-/// Whether a line was read, and the text of one line.
+/// Whether a line was read.
 #[derive(Drop)]
 struct Upgrade {
     begun: bool,
-    spelling: Spelling,
 }
 
 impl Upgrade {
@@ -43,45 +42,7 @@ impl Upgrade {
     fn new() -> Self
         ensures { result.begun ≡ false }
     {
-        Upgrade {
-            begun: false,
-            spelling: Spelling::new(),
-        }
-    }
-
-    /// Puts out a line; the version stands in front alone.
-    fn put_line<W: Sink>(
-        &mut self,
-        sink: &mut W,
-        written: u64,
-        line: &Line<'_>,
-    ) -> Result<u64, ToolFault>
-        requires { W.failed sink.old ≡ false }
-        ensures put { Put (W.taken sink.old) (W.taken sink.new) written result (written_line line.now) }
-        ensures begun { self.new.begun ≡ self.old.begun }
-        ensures failed { W.failed sink.new ≡ is_err result }
-    {
-        match line {
-            Line::Version => Ok(written),
-            _ => self.put_spelling(sink, written, line),
-        }
-    }
-
-    /// Puts out the text of a line.
-    fn put_spelling<W: Sink>(
-        &mut self,
-        sink: &mut W,
-        written: u64,
-        line: &Line<'_>,
-    ) -> Result<u64, ToolFault>
-        requires { W.failed sink.old ≡ false }
-        ensures put { Put (W.taken sink.old) (W.taken sink.new) written result (line_spelling line.now) }
-        ensures begun { self.new.begun ≡ self.old.begun }
-        ensures failed { W.failed sink.new ≡ is_err result }
-    {
-        self.spelling.clear();
-        self.spelling.write(line);
-        put(sink, written, self.spelling.as_slice())
+        Upgrade { begun: false }
     }
 }
 
@@ -95,23 +56,29 @@ impl LineMachine for Upgrade {
     fn line<W: Sink>(
         &mut self,
         sink: &mut W,
+        page: &mut Page,
         written: u64,
         _number: u64,
         line: &Line<'_>,
     ) -> Result<Turn, ToolFault> {
-        let after = match put_opening(sink, written, self.begun) {
+        let after = match gather_opening(sink, page, written, self.begun) {
             Ok(after) => after,
             Err(fault) => return Err(fault),
         };
         self.begun = true;
-        match self.put_line(sink, after, line) {
+        match gather_line(sink, page, after, line) {
             Ok(after) => Ok(Turn::On(after)),
             Err(fault) => Err(fault),
         }
     }
 
-    fn end<W: Sink>(self, sink: &mut W, written: u64) -> Result<Halt, ToolFault> {
-        match put_opening(sink, written, self.begun) {
+    fn end<W: Sink>(
+        self,
+        sink: &mut W,
+        page: &mut Page,
+        written: u64,
+    ) -> Result<Halt, ToolFault> {
+        match gather_opening(sink, page, written, self.begun) {
             Ok(written) => Ok(Halt {
                 written,
                 result: Ok(Report { status: 0 }),
@@ -121,15 +88,57 @@ impl LineMachine for Upgrade {
     }
 }
 
-/// Puts out the line of the version, where no line was read before.
-fn put_opening<W: Sink>(sink: &mut W, written: u64, begun: bool) -> Result<u64, ToolFault>
+/// Gathers the line of the version, where no line was read before.
+fn gather_opening<W: Sink>(
+    sink: &mut W,
+    page: &mut Page,
+    written: u64,
+    begun: bool,
+) -> Result<u64, ToolFault>
     requires { W.failed sink.old ≡ false }
-    ensures put { (lines : List LineContent) → begun ≡ is_begun lines →
-        Put (W.taken sink.old) (W.taken sink.new) written result (opening lines) }
+    ensures gathered { (lines : List LineContent) → begun ≡ is_begun lines →
+        Gathered (out (W.taken sink.old) page.old) (out (W.taken sink.new) page.new) written result (opening lines) }
     ensures failed { W.failed sink.new ≡ is_err result }
 {
     if begun {
         return Ok(written);
     }
-    put(sink, written, b"capture 2\n")
+    gather(sink, page, written, b"capture 2\n")
+}
+
+/// Gathers a line; the version stands in front alone.
+fn gather_line<W: Sink>(
+    sink: &mut W,
+    page: &mut Page,
+    written: u64,
+    line: &Line<'_>,
+) -> Result<u64, ToolFault>
+    requires { W.failed sink.old ≡ false }
+    ensures gathered { Gathered (out (W.taken sink.old) page.old) (out (W.taken sink.new) page.new) written result (written_line line.now) }
+    ensures failed { W.failed sink.new ≡ is_err result }
+{
+    match line {
+        Line::Version => Ok(written),
+        _ => gather_spelling(sink, page, written, line),
+    }
+}
+
+/// Gathers the text of a line.
+fn gather_spelling<W: Sink>(
+    sink: &mut W,
+    page: &mut Page,
+    written: u64,
+    line: &Line<'_>,
+) -> Result<u64, ToolFault>
+    requires { W.failed sink.old ≡ false }
+    ensures gathered { Gathered (out (W.taken sink.old) page.old) (out (W.taken sink.new) page.new) written result (line_spelling line.now) }
+    ensures failed { W.failed sink.new ≡ is_err result }
+{
+    match make_room(sink, page, written, LONGEST_SPELLING) {
+        Ok(after) => {
+            page.append_line(line);
+            Ok(after)
+        }
+        Err(fault) => Err(fault),
+    }
 }

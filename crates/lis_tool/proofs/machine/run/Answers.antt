@@ -28,26 +28,26 @@ returns-in-Err-clause-ran g c =
     (so_far_unsent g.M.Machine.takes_memory g.M.Machine.means s.bytes false _ _ _ c.loop-turn.written s.text
     (g.met.M.Machine.goes_on _ _ _ s.stood) s.wrote s.counted c.in-Err.ensures.taken))
 
-pub returns-in-Ok-end-clause-ran : goal.returns-in-Ok-end-clause-ran
-returns-in-Ok-end-clause-ran g c =
+pub returns-in-Ok-end_page-clause-ran : goal.returns-in-Ok-end_page-clause-ran
+returns-in-Ok-end_page-clause-ran g c =
     let s = c.loop-turn.invariant.so_far in
     let few : length s.bytes < 2 ^ 44 = omega (arith, s.short) in
-    let puts = c.in-Ok-end.ensures.ends s.bytes s.text s.stood few in
+    let puts = c.in-Ok-end_page.ensures.ends s.bytes s.text s.stood few in
     told_ran g.M.Machine.takes_memory g.M.Machine.means s.bytes _ _ _ _ _ c.halted.result
     (consumes_end _ _ _ s.bytes _ c.in-Ok.count s.read c.in-Ok.ensures.bytes.0 c.if-count-eq0.true)
     (rw (is_end _ c.in-Ok.count c.if-count-eq0.true c.in-Ok.ensures.ended)
-    (step_halts g.M.Machine.takes_memory g.M.Machine.means s.bytes true _ _ _ _ _ c.loop-turn.written s.text c.in-Ok-end.halt c.halted.result
+    (step_halts g.M.Machine.takes_memory g.M.Machine.means s.bytes true _ _ _ _ _ c.loop-turn.written s.text c.in-Ok-end_page.halt c.halted.result
     (appends_kept _ _ _ _ s.wrote c.in_default.ensures.taken) s.counted _ puts puts.behind c.halted.ensures.taken c.halted.ensures.told))
 
-pub returns-in-Err-end-clause-ran : goal.returns-in-Err-end-clause-ran
-returns-in-Err-end-clause-ran g c =
+pub returns-in-Err-end_page-clause-ran : goal.returns-in-Err-end_page-clause-ran
+returns-in-Err-end_page-clause-ran g c =
     let s = c.loop-turn.invariant.so_far in
     let few : length s.bytes < 2 ^ 44 = omega (arith, s.short) in
-    told_ran g.M.Machine.takes_memory g.M.Machine.means s.bytes _ _ _ _ _ (Err c.in-Err-end.fault)
+    told_ran g.M.Machine.takes_memory g.M.Machine.means s.bytes _ _ _ _ _ (Err c.in-Err-end_page.fault)
     (consumes_end _ _ _ s.bytes _ c.in-Ok.count s.read c.in-Ok.ensures.bytes.0 c.if-count-eq0.true)
     (rw (is_end _ c.in-Ok.count c.if-count-eq0.true c.in-Ok.ensures.ended)
-    (fails_told g.M.Machine.takes_memory g.M.Machine.means s.bytes true _ _ _ c.loop-turn.written s.text c.in-Err-end.fault
-    (appends_kept _ _ _ _ s.wrote c.in_default.ensures.taken) s.counted (c.in-Err-end.ensures.ends s.bytes s.text s.stood few)))
+    (fails_told g.M.Machine.takes_memory g.M.Machine.means s.bytes true _ _ _ c.loop-turn.written s.text c.in-Err-end_page.fault
+    (appends_kept _ _ _ _ s.wrote c.in_default.ensures.taken) s.counted (c.in-Err-end_page.ensures.ends s.bytes s.text s.stood few)))
 
 pub returns-in-Ok-Off-clause-ran : goal.returns-in-Ok-Off-clause-ran
 returns-in-Ok-Off-clause-ran g c =
@@ -73,16 +73,16 @@ returns-in-Ok-Off-clause-stops g c =
     c.in-Ok.ensures.failed (c.halted-in-Ok-Off.ensures.sent refl) (λ ended. cc)
     (omega (arith, c.in-Ok.ensures.made, c.loop-turn.invariant.made, c.loop-turn-test.true))
 
-pub returns-in-Err-feed-clause-ran : goal.returns-in-Err-feed-clause-ran
-returns-in-Err-feed-clause-ran g c =
+pub returns-in-Err-feed_page-clause-ran : goal.returns-in-Err-feed_page-clause-ran
+returns-in-Err-feed_page-clause-ran g c =
     let s = c.loop-turn.invariant.so_far in
     let more = c.split_at.result.0.now in
     let few : length s.bytes + length more < 2 ^ 44 = omega (arith, s.short) in
-    told_ran g.M.Machine.takes_memory g.M.Machine.means (s.bytes ++ more) _ _ _ _ _ (Err c.in-Err-feed.fault)
+    told_ran g.M.Machine.takes_memory g.M.Machine.means (s.bytes ++ more) _ _ _ _ _ (Err c.in-Err-feed_page.fault)
     (consumes_then _ _ _ s.bytes more s.read (rw c.split_at.ensures.front c.in-Ok.ensures.bytes.0))
     (rw (no_end _ c.in-Ok.count c.if-count-eq0.false c.in-Ok.ensures.ended)
-    (fails_told g.M.Machine.takes_memory g.M.Machine.means (s.bytes ++ more) false _ _ _ c.loop-turn.written s.text c.in-Err-feed.fault
-    (appends_kept _ _ _ _ s.wrote c.in_default.ensures.taken) s.counted (c.in-Err-feed.ensures.steps s.bytes s.text s.stood few)))
+    (fails_told g.M.Machine.takes_memory g.M.Machine.means (s.bytes ++ more) false _ _ _ c.loop-turn.written s.text c.in-Err-feed_page.fault
+    (appends_kept _ _ _ _ s.wrote c.in_default.ensures.taken) s.counted (c.in-Err-feed_page.ensures.steps s.bytes s.text s.stood few)))
 
 pub loop-turn-preserved : goal.loop-turn-preserved
 loop-turn-preserved g c =

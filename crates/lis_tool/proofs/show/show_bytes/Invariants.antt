@@ -1,9 +1,9 @@
-use Rattle.std.proofs.Common.{◌≡◌, ℕ, false, ◌≤◌, List, Option, length}
+use Rattle.std.proofs.Common.{◌≡◌, ℕ, false, ◌≤◌, List, length}
 use Rattle.std.specs.declared.result.Result.{Result}
 use Rattle.lis_frame.specs.Scanner.{StandsFor}
 use Rattle.lis_frame.specs.Stream.{stream_with, signals_after}
 use Rattle.lis_tool.specs.declared.fault.ToolFault.{ToolFault}
-use Rattle.lis_tool.specs.Output.{Put, most_counted}
+use Rattle.lis_tool.specs.Output.{Gathered, Out, most_counted, out}
 use Rattle.lis_tool.specs.Show.{signal_lines}
 use Rattle.lis_tool.proofs.show.show_bytes.Given as goal
 
@@ -15,9 +15,9 @@ invariant-loop-byte g l = record {
   goes_on :
       (past : List ℕ) → StandsFor g.row.N l.fn.scanner past →
       (here : List ℕ) × StandsFor g.row.N l.scanner here × (stream_with here l.rest ≡ stream_with past l.bytes)
-      × ((new : Option (List ℕ)) (r : Result ℕ ToolFault) →
-      Put (g.W.Sink.taken l.sink) new l.after r (signal_lines (signals_after g.row.N here l.rest)) →
-      Put (g.W.Sink.taken l.fn.sink) new l.written r (signal_lines (signals_after g.row.N past l.bytes)));
+      × ((new : Out) (r : Result ℕ ToolFault) →
+      Gathered (out (g.W.Sink.taken l.sink) l.page) new l.after r (signal_lines (signals_after g.row.N here l.rest)) →
+      Gathered (out (g.W.Sink.taken l.fn.sink) l.fn.page) new l.written r (signal_lines (signals_after g.row.N past l.bytes)));
 }
 
 abbrev pub decreases-loop-byte : goal.decreases-loop-byte

@@ -1,5 +1,6 @@
 use Rattle.std.proofs.Common.{◌≡◌, ◌+◌, ◌^◌, ◌<◌, ℕ, false, List, length}
 use Rattle.lis_tool.specs.LineOutcome.{IsLined}
+use Rattle.lis_tool.specs.Output.{out}
 use Rattle.lis_tool.proofs.LineLaws.{IsAt}
 use Rattle.lis_tool.proofs.lines.LinesMachine.feed.Given as goal
 
@@ -10,7 +11,7 @@ invariant-loop-rest g l = record {
       (past text : List ℕ) →
       IsLined g.C.LineMachine.writes (g.C.LineMachine.stands l.fn.self.command) l.fn.self.reader past text →
       length past + length l.fn.bytes < 2 ^ 44 →
-      IsAt g.C.LineMachine.writes (g.C.LineMachine.stands l.self.command) l.self.reader (g.W.Sink.taken l.fn.sink) (g.W.Sink.taken l.sink)
+      IsAt g.C.LineMachine.writes (g.C.LineMachine.stands l.self.command) l.self.reader (out (g.W.Sink.taken l.fn.sink) l.fn.page) (out (g.W.Sink.taken l.sink) l.page)
       l.written l.after past text l.rest l.fn.bytes;
 }
 

@@ -1,6 +1,7 @@
 use Rattle.std.proofs.Common.{◌<◌, [], length, refl, arith, ◌∙◌}
 use Rattle.std.proofs.lemmas.Bool.Decides.{nat_tests}
-use Rattle.lis_tool.proofs.PutLaws.{put_nothing}
+use Rattle.lis_tool.specs.Output.{out}
+use Rattle.lis_tool.proofs.GatherLaws.{gathered_nothing}
 use Rattle.lis_tool.proofs.HearingLaws.{all_heard, hears_failing, hears_on, hears_starved}
 use Rattle.lis_tool.proofs.playing.Playing.hear.Goals as goal
 
@@ -14,7 +15,7 @@ loop-rest-init g c = record {
     here_count = count;
     hearing = hearing;
     so_far = [];
-    put = put_nothing _ c.args.written (omega arith);
+    put = gathered_nothing _ c.args.written (omega arith);
     heard_is = refl;
     replies_are = refl;
     count_is = refl;
@@ -55,10 +56,15 @@ returns-in-Err-clause-steps g c = λ r collected count hearing few.
     let made = c.bytes-count.ensures.step at.here at.hearing.receiver_is took.0 in
     hears_failing g.T.Teller.account g.row.N c.args.number _ _ _ _ _ c.args.written c.loop-rest.after r collected count c.loop-rest.rest.now c.args.bytes.now at
     c.bytes-count.new.self c.bytes-count.result.count c.bytes-count.result.step (c.bytes-count.ensures.count at.here at.hearing.receiver_is) made
-    _ c.in-Err.fault took.1
+    (out (g.W.Sink.taken c.take.new.sink) c.take.new.page) c.in-Err.fault took.1
 
 pub returns-clause-steps : goal.returns-clause-steps
 returns-clause-steps g c = λ r collected count hearing few.
     let at = c.loop-rest.invariant.goes_on r collected count hearing few in
     all_heard g.T.Teller.account g.row.N c.args.number _ _ _ _ _ c.args.written c.loop-rest.after r collected count c.loop-rest.rest.now c.args.bytes.now at
     (grind (arith, nat_tests, c.loop-rest-test.false, c.is_empty.ensures))
+
+pub loop-rest-smaller : goal.loop-rest-smaller
+loop-rest-smaller g c =
+    let some : 0 < length c.loop-rest.rest.now = grind (arith, nat_tests, c.loop-rest-test.true, c.is_empty.ensures) in
+    omega (arith, c.bytes-count.ensures.some some, c.bytes-count.ensures.bound, c.split_at.ensures.back_len)

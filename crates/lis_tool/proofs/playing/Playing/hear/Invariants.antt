@@ -1,5 +1,6 @@
 use Rattle.std.proofs.Common.{◌≡◌, ◌+◌, ◌^◌, ◌≤◌, ℕ, List, false, length}
 use Rattle.lis_link.specs.Receiver.{ReceiverState}
+use Rattle.lis_tool.specs.Output.{out}
 use Rattle.lis_tool.specs.Playing.{IsHearing}
 use Rattle.lis_tool.proofs.HearingLaws.{IsHearingOn}
 use Rattle.lis_tool.proofs.playing.Playing.hear.Given as goal
@@ -11,7 +12,7 @@ invariant-loop-rest g l = record {
   goes_on :
       (r : ReceiverState) (collected : List ℕ) (count : ℕ) →
       IsHearing g.T.Teller.account g.row.N l.fn.self.receiver l.fn.self.replies.items l.fn.self.texts r collected count → count + length l.bytes ≤ 2 ^ 63 →
-      IsHearingOn g.T.Teller.account g.row.N l.number l.self.receiver l.self.replies.items l.self.texts (g.W.Sink.taken l.fn.sink) (g.W.Sink.taken l.sink)
+      IsHearingOn g.T.Teller.account g.row.N l.number l.self.receiver l.self.replies.items l.self.texts (out (g.W.Sink.taken l.fn.sink) l.fn.page) (out (g.W.Sink.taken l.sink) l.page)
       l.written l.after r collected count l.rest l.bytes;
 }
 

@@ -1,7 +1,7 @@
 use Rattle.std.proofs.Common.{◌≤◌, [], ◌++◌, Ok, Some, refl, ap, sym, arith}
 use Rattle.lis_tool.specs.Output.{most_counted}
 use Rattle.lis_tool.specs.Show.{clean, show}
-use Rattle.lis_tool.proofs.PutLaws.{put_nothing}
+use Rattle.lis_tool.proofs.GatherLaws.{gathered_nothing}
 use Rattle.lis_tool.proofs.show.ShowMachine.end.Goals as goal
 
 pub returns-clause-ends : goal.returns-clause-ends
@@ -9,6 +9,6 @@ returns-clause-ends g c = λ past text stood few.
     let fits : c.args.written ≤ most_counted = omega arith in
     record {
       more = [];
-      put = put_nothing _ c.args.written fits;
+      put = gathered_nothing _ c.args.written fits;
       behind = (record { text = show g.row.N past; closing = []; halt = Some (Ok clean) }, refl, refl, ap (λ l. l ++ []) (sym stood.0));
     }

@@ -10,7 +10,7 @@ returns-in-Ok-clause-steps g c = λ past text stood few.
     let bytes = c.args.bytes.now in
     record {
       more = signal_lines (signals_after g.row.N (stream_with [] past) bytes);
-      put = c.in-Ok.ensures.put (stream_with [] past) stood.1;
+      put = c.in-Ok.ensures.gathered (stream_with [] past) stood.1;
       behind = (
         shown_more g.row.N past bytes text stood.0,
         rw (stream_with-append [] past bytes) (c.in-Ok.ensures.stands (stream_with [] past) stood.1),
@@ -26,5 +26,5 @@ returns-in-Err-clause-steps g c = λ past text stood few.
       more = signal_lines (signals_after g.row.N (stream_with [] past) bytes);
       rest = [];
       joined = ap (λ l. l ++ []) (sym (shown_more g.row.N past bytes text stood.0));
-      put = c.in-Err.ensures.put (stream_with [] past) stood.1;
+      put = c.in-Err.ensures.gathered (stream_with [] past) stood.1;
     }

@@ -1,0 +1,4 @@
+use Rattle.lis_tool.proofs.replay.gather_difference.Goals as goal
+
+pub returns-clause-gathered : goal.returns-clause-gathered
+returns-clause-gathered g c = rw (c.or_dash.ensures, c.or_dash-2.ensures) at c.gather_parts.ensures.gathered

@@ -1,0 +1,155 @@
+//! Gathering text on a page, which goes out in one piece where it is full.
+
+ghost use Rattle.std.specs.Prelude.{◌≡◌, ◌+◌, ◌≤◌, ◌++◌, [], decimal, false, is_err, length, OnOk};
+ghost use Rattle.hex.specs.Hex.{encode_lower};
+ghost use Rattle.lis_capture.specs.declared.page.TheConstants.{PAGE_ROOM};
+ghost use Rattle.lis_tool.specs.Output.{Gathered, Put, out};
+
+use crate::fault::ToolFault;
+use crate::output::put;
+use itoa::Buffer;
+use lis_capture::Page;
+use lis_port::Sink;
+
+/// The bytes that are turned into digits at a time.
+const CHUNK: usize = 1024;
+
+/// The room for a number in decimal digits.
+const NUMBER_ROOM: usize = 40;
+
+/// Puts out the page, behind `written` bytes of this run, and lets go of it.
+pub(crate) fn put_page<W: Sink>(
+    sink: &mut W,
+    page: &mut Page,
+    written: u64,
+) -> Result<u64, ToolFault>
+    requires { W.failed sink.old ≡ false }
+    ensures put { Put (W.taken sink.old) (W.taken sink.new) written result page.old }
+    ensures empty { page.new ≡ [] }
+    ensures failed { W.failed sink.new ≡ is_err result }
+{
+    let result = put(sink, written, page.as_slice());
+    page.clear();
+    result
+}
+
+/// Sees to it that there is room for so many bytes: where there is less, the page goes out.
+#[inline(always)]
+pub(crate) fn make_room<W: Sink>(
+    sink: &mut W,
+    page: &mut Page,
+    written: u64,
+    count: usize,
+) -> Result<u64, ToolFault>
+    requires working { W.failed sink.old ≡ false }
+    requires fits { count ≤ PAGE_ROOM }
+    ensures gathered { Gathered (out (W.taken sink.old) page.old) (out (W.taken sink.new) page.new) written result [] }
+    ensures room { OnOk result (length page.new + count ≤ PAGE_ROOM) }
+    ensures failed { W.failed sink.new ≡ is_err result }
+{
+    if count <= page.room() {
+        return Ok(written);
+    }
+    put_page(sink, page, written)
+}
+
+/// Gathers a text. One that there is no room for goes out by itself.
+#[inline(always)]
+pub(crate) fn gather<W: Sink>(
+    sink: &mut W,
+    page: &mut Page,
+    written: u64,
+    text: &[u8],
+) -> Result<u64, ToolFault>
+    requires { W.failed sink.old ≡ false }
+    ensures gathered { Gathered (out (W.taken sink.old) page.old) (out (W.taken sink.new) page.new) written result text.now }
+    ensures failed { W.failed sink.new ≡ is_err result }
+{
+    if text.len() <= page.room() {
+        page.append(text);
+        return Ok(written);
+    }
+    match put_page(sink, page, written) {
+        Ok(after) => put(sink, after, text),
+        Err(fault) => Err(fault),
+    }
+}
+
+/// Gathers a number in decimal digits.
+#[inline(always)]
+pub(crate) fn gather_number<W: Sink>(
+    sink: &mut W,
+    page: &mut Page,
+    written: u64,
+    number: u64,
+) -> Result<u64, ToolFault>
+    requires { W.failed sink.old ≡ false }
+    ensures gathered { Gathered (out (W.taken sink.old) page.old) (out (W.taken sink.new) page.new) written result (decimal number) }
+    ensures failed { W.failed sink.new ≡ is_err result }
+{
+    match make_room(sink, page, written, NUMBER_ROOM) {
+        Ok(after) => {
+            append_number(page, number);
+            Ok(after)
+        }
+        Err(fault) => Err(fault),
+    }
+}
+
+/// Puts a number in decimal digits behind the page.
+#[inline(always)]
+pub(crate) fn append_number(page: &mut Page, number: u64)
+    requires { length page.old + NUMBER_ROOM ≤ PAGE_ROOM }
+    ensures value { page.new ≡ page.old ++ decimal number }
+    ensures short { length page.new ≤ length page.old + NUMBER_ROOM }
+{
+    let mut buffer = Buffer::new();
+    page.append(buffer.format(number).as_bytes());
+}
+
+/// Gathers the pairs of hexadecimal digits of bytes.
+#[inline(always)]
+pub(crate) fn gather_digits<W: Sink>(
+    sink: &mut W,
+    page: &mut Page,
+    written: u64,
+    bytes: &[u8],
+) -> Result<u64, ToolFault>
+    requires { W.failed sink.old ≡ false }
+    ensures gathered { Gathered (out (W.taken sink.old) page.old) (out (W.taken sink.new) page.new) written result (encode_lower bytes.now) }
+    ensures failed { W.failed sink.new ≡ is_err result }
+{
+    let mut rest = bytes;
+    let mut after = written;
+    while rest.len() > CHUNK {
+        let (front, left) = rest.split_at(CHUNK);
+        match gather_chunk(sink, page, after, front) {
+            Ok(next) => after = next,
+            Err(fault) => return Err(fault),
+        }
+        rest = left;
+    }
+    gather_chunk(sink, page, after, rest)
+}
+
+/// The same of a chunk of them.
+#[inline(always)]
+fn gather_chunk<W: Sink>(
+    sink: &mut W,
+    page: &mut Page,
+    written: u64,
+    bytes: &[u8],
+) -> Result<u64, ToolFault>
+    requires working { W.failed sink.old ≡ false }
+    requires short { length bytes.now ≤ CHUNK }
+    ensures gathered { Gathered (out (W.taken sink.old) page.old) (out (W.taken sink.new) page.new) written result (encode_lower bytes.now) }
+    ensures failed { W.failed sink.new ≡ is_err result }
+{
+    match make_room(sink, page, written, 2 * bytes.len()) {
+        Ok(after) => {
+            page.append_digits(bytes);
+            Ok(after)
+        }
+        Err(fault) => Err(fault),
+    }
+}
