@@ -3,6 +3,7 @@
 
 pub mod commands;
 pub mod fault;
+pub mod laws;
 mod line;
 pub mod lines;
 pub mod machine;
