@@ -6,4 +6,5 @@ pub mod CaptureLemmas
 pub mod SizeLemmas
 pub mod ReaderLemmas
 pub mod SpellingLemmas
+pub mod VersionLemmas
 mod DefinitionRows

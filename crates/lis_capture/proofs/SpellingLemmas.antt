@@ -292,7 +292,7 @@ spelled_more line lines spelled plain is =
       ended = ap begun parts;
     }
 
-version_of-upgraded_lines : (lines : List Line) → version_of (upgraded_lines lines) ≡ Second
+pub version_of-upgraded_lines : (lines : List Line) → version_of (upgraded_lines lines) ≡ Second
 version_of-upgraded_lines [] = refl
 version_of-upgraded_lines (Version ∷ lines) = version_of-upgraded_lines lines
 version_of-upgraded_lines (Empty ∷ lines) = rw (version_of-upgraded_lines lines) refl
@@ -303,7 +303,7 @@ version_of-upgraded_lines (Restart ∷ lines) = rw (version_of-upgraded_lines li
 version_of-upgraded_lines (SetReady readiness ∷ lines) = rw (version_of-upgraded_lines lines) refl
 
 -- the lines but for those of the version
-upgraded_other : (line : Line) (lines : List Line) → is_version line ≡ false
+pub upgraded_other : (line : Line) (lines : List Line) → is_version line ≡ false
     → upgraded_lines (line ∷ lines) ≡ line ∷ upgraded_lines lines
 upgraded_other Empty lines other = refl
 upgraded_other (FromAnalyzer bytes) lines other = refl

@@ -7,3 +7,5 @@ pub mod PutLaws
 mod ReplayRows
 pub mod RunLaws
 pub mod ShowLaws
+pub mod UpgradeLaws
+mod UpgradeRows

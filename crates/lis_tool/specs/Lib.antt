@@ -12,3 +12,4 @@ pub mod Replay
 pub mod Playing
 pub mod Words
 pub mod Commands
+pub mod Laws

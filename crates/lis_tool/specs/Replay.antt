@@ -120,14 +120,18 @@ all_differences limit lines = count_with (played limit lines).replies (differenc
 abbrev pub status_of : ℕ → Report
 status_of differences = record { status = if nat_lt 0 differences then 1 else 0 }
 
--- what is written for each line and at the end, and the report
-abbrev pub replay_writes : ℕ → Writes
-replay_writes limit =
+-- what is written for each line and at the end, and the report, where the first line has this number
+abbrev pub replay_writes_from : (first : ℕ) → ℕ → Writes
+replay_writes_from first limit =
     record {
-      line = λ lines line. replay_line limit (length lines + 1) line (played limit lines);
+      line = λ lines line. replay_line limit (length lines + first) line (played limit lines);
       last = λ lines. left_line (played limit lines).replies ++ counts_line (text_count limit lines) (all_differences limit lines);
       report = λ lines. status_of (all_differences limit lines);
     }
+
+-- lines are numbered from 1
+abbrev pub replay_writes : ℕ → Writes
+replay_writes limit = replay_writes_from 1 limit
 
 -- all that is written of a capture
 abbrev pub replay : ℕ → List ℕ → List ℕ

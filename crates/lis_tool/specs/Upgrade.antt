@@ -1,9 +1,11 @@
 -- What `upgrade` writes: the lines of a capture as those of version 2.
 use Rattle.std.specs.Prelude.{ℕ, Bool, List, [], ◌∷◌, ◌++◌, true, false}
+use Rattle.lis_frame.specs.Stream.{stream_with}
 use Rattle.lis_capture.specs.declared.line.Line.{Line}
 use Rattle.lis_capture.specs.declared.line.Line.TheVariants.{Version}
 use Rattle.lis_capture.specs.Spelling.{line_spelling}
-use Rattle.lis_tool.specs.LineOutcome.{Writes}
+use Rattle.lis_tool.specs.LineOutcome.{Writes, capture_outcome}
+use Rattle.lis_tool.specs.Outcome.{whole}
 use Rattle.lis_tool.specs.Show.{clean}
 
 -- a line as it is written; the version stands in front alone
@@ -17,7 +19,12 @@ opening [] = line_spelling Version
 opening (line ∷ lines) = []
 
 abbrev pub upgrade_writes : Writes
-upgrade_writes = record { line = λ lines line. opening lines ++ written_line line; last = opening; report = λ lines. clean }
+upgrade_writes =
+    record { line = λ lines line. opening lines ++ written_line line; last = opening; report = λ lines. clean }
+
+-- all that is written of a capture
+abbrev pub upgrade : List ℕ → List ℕ
+upgrade bytes = whole (capture_outcome upgrade_writes (stream_with [] bytes) true)
 
 -- whether a line was there
 abbrev pub is_begun : List Line → Bool

@@ -4,6 +4,7 @@
 pub mod commands;
 pub mod fault;
 mod gather;
+pub mod laws;
 pub mod lines;
 pub mod machine;
 mod output;

@@ -69,7 +69,12 @@ impl<C: LineMachine> Lines<C> {
     }
 
     /// The command takes the line that was read last.
-    fn take_line<W: Sink>(&mut self, sink: &mut W, page: &mut Page, written: u64) -> Result<Turn, ToolFault>
+    fn take_line<W: Sink>(
+        &mut self,
+        sink: &mut W,
+        page: &mut Page,
+        written: u64,
+    ) -> Result<Turn, ToolFault>
         requires { W.failed sink.old ≡ false }
         ensures steps { (lines : List LineContent) → C.stands self.old.command lines → self.old.reader.known.number ≡ length lines + 1 →
             self.old.reader.known.number < 2 ^ 44 →

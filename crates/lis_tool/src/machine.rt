@@ -47,7 +47,13 @@ pub trait Machine: Drop {
 
     /// Takes bytes that were read, behind `written` bytes of the run, and gathers what they come to on the page.
     /// Where the sink fails, or memory is refused, it is a part of the text of all these bytes.
-    fn feed<W: Sink>(&mut self, sink: &mut W, page: &mut Page, written: u64, bytes: &[u8]) -> Result<Turn, ToolFault>
+    fn feed<W: Sink>(
+        &mut self,
+        sink: &mut W,
+        page: &mut Page,
+        written: u64,
+        bytes: &[u8],
+    ) -> Result<Turn, ToolFault>
         requires { W.failed sink.old ≡ false }
         ensures steps { (past text : List ℕ) → stands self.old past text → length past + length bytes.now < 2 ^ 44 →
             Steps takes_memory (stands self.new (past ++ bytes.now)) (means (past ++ bytes.now) false)

@@ -152,7 +152,14 @@ impl<const N: usize, T: Teller> Playing<N, T> {
             return Ok(Turn::Off(starved(written)));
         }
         self.texts = self.texts.saturating_add(count_of(&step.message));
-        match gather_message(sink, page, written, self.teller.account(), number, &step.message) {
+        match gather_message(
+            sink,
+            page,
+            written,
+            self.teller.account(),
+            number,
+            &step.message,
+        ) {
             Ok(after) => Ok(Turn::On(after)),
             Err(fault) => Err(fault),
         }
@@ -254,7 +261,13 @@ impl<const N: usize, T: Teller> LineMachine for Playing<N, T> {
             Line::Empty => Ok(Turn::On(written)),
             Line::Version => Ok(Turn::On(written)),
             Line::FromAnalyzer(bytes) => self.hear(sink, page, written, number, bytes.as_slice()),
-            Line::FromComputer(bytes) => self.compare(sink, page, written, number, bytes.as_slice()),
+            Line::FromComputer(bytes) => self.compare(
+                sink,
+                page,
+                written,
+                number,
+                bytes.as_slice(),
+            ),
             Line::Timer => {
                 let _ = self.receiver.timer();
                 Ok(Turn::On(written))

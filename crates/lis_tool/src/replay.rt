@@ -98,7 +98,12 @@ pub(crate) fn gather_compared<'x, W: Sink>(
 }
 
 /// Gathers the difference at the end, where replies are left.
-pub(crate) fn gather_left<W: Sink>(sink: &mut W, page: &mut Page, written: u64, left: &[u8]) -> Result<u64, ToolFault>
+pub(crate) fn gather_left<W: Sink>(
+    sink: &mut W,
+    page: &mut Page,
+    written: u64,
+    left: &[u8],
+) -> Result<u64, ToolFault>
     requires { W.failed sink.old ≡ false }
     ensures gathered { Gathered (out (W.taken sink.old) page.old) (out (W.taken sink.new) page.new) written result (left_line left.now) }
     ensures failed { W.failed sink.new ≡ is_err result }

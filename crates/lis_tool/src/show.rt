@@ -99,7 +99,12 @@ impl<const N: usize> Machine for Show<N> {
         }
     }
 
-    fn end<W: Sink>(self, _sink: &mut W, _page: &mut Page, written: u64) -> Result<Halt, ToolFault> {
+    fn end<W: Sink>(
+        self,
+        _sink: &mut W,
+        _page: &mut Page,
+        written: u64,
+    ) -> Result<Halt, ToolFault> {
         Ok(Halt {
             written,
             result: Ok(Report { status: 0 }),

@@ -1,5 +1,6 @@
 ghost use Rattle.std.specs.Prelude.{◌≤◌};
 
+mod memory;
 mod replay;
 mod upgrade;
 

@@ -72,12 +72,7 @@ impl LineMachine for Upgrade {
         }
     }
 
-    fn end<W: Sink>(
-        self,
-        sink: &mut W,
-        page: &mut Page,
-        written: u64,
-    ) -> Result<Halt, ToolFault> {
+    fn end<W: Sink>(self, sink: &mut W, page: &mut Page, written: u64) -> Result<Halt, ToolFault> {
         match gather_opening(sink, page, written, self.begun) {
             Ok(written) => Ok(Halt {
                 written,

@@ -28,7 +28,7 @@ loop-part-preserved g c =
 pub returns-in-Err-clause-gathered : goal.returns-in-Err-clause-gathered
 returns-in-Err-clause-gathered g c =
     let at = parts_at c.args.parts.now c.loop-part.part-index _ c.loop-part-test.true in
-    c.loop-part.invariant.goes_on (out (g.W.Sink.taken c.gather_part.new.sink) c.gather_part.new.page) (Err c.in-Err.fault) 
+    c.loop-part.invariant.goes_on (out (g.W.Sink.taken c.gather_part.new.sink) c.gather_part.new.page) (Err c.in-Err.fault)
     (rw at
     (gathered_stops (out (g.W.Sink.taken c.loop-part.sink) c.loop-part.page) (out (g.W.Sink.taken c.gather_part.new.sink) c.gather_part.new.page)
     c.loop-part.after c.in-Err.fault _ _ c.in-Err.ensures.gathered))
