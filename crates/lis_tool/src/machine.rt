@@ -78,6 +78,8 @@ pub trait Machine: Drop {
 
 /// Feeds a machine with what a source gives, to its end, by at most `reads` calls of read. The sink is
 /// flushed before each that may wait for bytes, so that no line waits with it, and where the run ends.
+// A command has a frame of its own on the stack: that of the longest frames is 200 KB, which the others need not touch.
+#[inline(never)]
 pub fn run<M: Machine, R: Source, W: Sink>(
     machine: M,
     source: &mut R,
