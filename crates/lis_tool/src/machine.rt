@@ -76,9 +76,9 @@ pub trait Machine: Drop {
     ghost goes_on: { (machine : Self) (past text : List ℕ) → stands machine past text → means past false (going text) };
 }
 
+// Each command has a frame of its own on the stack: that of the longest link frames has 200 KB, which others need not touch.
 /// Feeds a machine with what a source gives, to its end, by at most `reads` calls of read. The sink is
 /// flushed before each that may wait for bytes, so that no line waits with it, and where the run ends.
-// A command has a frame of its own on the stack: that of the longest frames is 200 KB, which the others need not touch.
 #[inline(never)]
 pub fn run<M: Machine, R: Source, W: Sink>(
     machine: M,
