@@ -1,5 +1,5 @@
 -- The bytes that a stretch in fixed buffers keeps, and what further ones do to them.
-use Rattle.std.proofs.Common.{◌≡◌, ℕ, zero, suc, ◌+◌, ◌-◌, ◌≤◌, ◌<◌, Bool, true, false, List, [], ◌∷◌, ◌++◌, Some, None, Ok, Err, MatchResult, length, take, get_or, zero-add, refl, ap, arith, sym, ◌∙◌, append_assoc, append-nil, length-append, length-take, length-take-le}
+use Rattle.std.proofs.Common.{◌≡◌, ℕ, zero, suc, ◌+◌, ◌-◌, ◌≤◌, ◌<◌, Bool, true, false, List, [], ◌∷◌, ◌++◌, Option, Some, None, Ok, Err, MatchResult, length, take, get_or, zero-add, refl, ap, arith, sym, ◌∙◌, append_assoc, append-nil, length-append, length-take, length-take-le}
 use Rattle.std.proofs.lemmas.List.{take_all, take-append-le, take-take}
 use Rattle.std.proofs.lemmas.Simd.{take_more_put_chunk}
 use Rattle.std.proofs.Math.Seq.{take-append-add}
@@ -9,6 +9,7 @@ use Rattle.std.proofs.lemmas.Bool.Decides.{nat_tests}
 use Rattle.std.specs.declared.result.Result.{Result}
 use Rattle.lis_frame.specs.declared.frame.FrameFault.{FrameFault}
 use Rattle.lis_frame.specs.declared.frame.FrameFault.TheVariants.{Shape}
+use Rattle.lis_frame.specs.declared.scanner.SignalOf.{SignalOf}
 use Rattle.lis_frame.specs.declared.scanner.SignalOf.TheVariants.{Good, Bad}
 use Rattle.lis_frame.specs.Scanner.{outside, beyond, kept, with_bytes, ended_held}
 use Rattle.lis_frame.specs.Kept.{kept_held}
@@ -33,87 +34,111 @@ with_bytes-kept limit s [] = rw (append-nil s) refl
 with_bytes-kept limit s (b ∷ run) =
     rw (← kept-push limit s b) (with_bytes-kept limit (s ++ b ∷ []) run ∙ ap (kept limit) (append_assoc s (b ∷ []) run))
 
--- what the fields hold, whose buffers have room for the greatest stretch
+-- the bytes that the fields hold
+abbrev pub kept_bytes : ℕ → ℕ → List ℕ → List ℕ
+kept_bytes count number behind = take count (number ∷ behind)
+
+-- whose buffers have room for the greatest stretch
 module _ (limit count number : ℕ) (behind : List ℕ) (room : length behind ≡ limit + 4) where
-  length-kept : count ≤ limit + 5 → length (take count (number ∷ behind)) ≡ count
+  length-kept : count ≤ limit + 5 → length (kept_bytes count number behind) ≡ count
   length-kept fits = length-take-le count (number ∷ behind) (omega (arith, room, fits))
 
-  -- is such a stretch
-  kept_held-kept : count ≤ limit + 5 → kept_held limit count number behind ≡ kept limit (take count (number ∷ behind))
+  -- they are held as they are
+  kept_held-kept : count ≤ limit + 5 → kept_held limit count number behind ≡ kept limit (kept_bytes count number behind)
   kept_held-kept fits =
       let now : nat_lt (limit + 5) count ≡ false = grind (arith, nat_tests) in
-      let held : nat_lt (limit + 5) (length (take count (number ∷ behind))) ≡ false = rw (length-kept fits) now in
+      let held : nat_lt (limit + 5) (length (kept_bytes count number behind)) ≡ false = rw (length-kept fits) now in
       rw (now, held) refl
 
-  length-further : (run : List ℕ) (taken : ℕ) → length run ≡ taken → count ≤ limit + 5 → length (take count (number ∷ behind) ++ run) ≡ count + taken
-  length-further run taken long fits = omega (arith, length-append (take count (number ∷ behind)) run, length-kept fits, long)
+  -- and so with a run
+  with_bytes-run :
+      (run : List ℕ) → count ≤ limit + 5 →
+      with_bytes limit (kept_held limit count number behind) run ≡ kept limit (kept_bytes count number behind ++ run)
+  with_bytes-run run fits = rw (kept_held-kept fits) (with_bytes-kept limit (kept_bytes count number behind) run)
 
-  -- with a run that a frame has room for
+  length-run :
+      (run : List ℕ) (taken : ℕ) → length run ≡ taken → count ≤ limit + 5 →
+      length (kept_bytes count number behind ++ run) ≡ count + taken
+  length-run run taken long fits = omega (arith, length-append (kept_bytes count number behind) run, length-kept fits, long)
+
+  -- a run that a frame has room for
   pub kept_held-run :
       (taken number' : ℕ) (behind' run : List ℕ) → length run ≡ taken → count + taken ≤ limit + 5 →
-      take (count + taken) (number' ∷ behind') ≡ take count (number ∷ behind) ++ run →
+      kept_bytes (count + taken) number' behind' ≡ kept_bytes count number behind ++ run →
       kept_held limit (count + taken) number' behind' ≡ with_bytes limit (kept_held limit count number behind) run
   kept_held-run taken number' behind' run long fits bytes =
       let now : nat_lt (limit + 5) (count + taken) ≡ false = grind (arith, nat_tests) in
       let before : count ≤ limit + 5 = omega (arith, fits) in
-      let held : nat_lt (limit + 5) (length (take count (number ∷ behind) ++ run)) ≡ false = rw (length-further run taken long before) now in
-      rw (kept_held-kept before, with_bytes-kept limit (take count (number ∷ behind)) run, now, held, bytes) refl
+      let held : nat_lt (limit + 5) (length (kept_bytes count number behind ++ run)) ≡ false =
+      rw (length-run run taken long before) now in
+      rw (with_bytes-run run before, now, held, bytes) refl
 
-  -- with one that no frame has room for
+  -- one that no frame has room for
   pub kept_held-over :
       (taken : ℕ) (run : List ℕ) → length run ≡ taken → limit + 5 < count + taken →
       beyond ≡ with_bytes limit (kept_held limit count number behind) run
   kept_held-over taken run long over = by (nat_lt (limit + 5) count) refl
     where
-      by : (test : Bool) → nat_lt (limit + 5) count ≡ test → beyond ≡ with_bytes limit (kept_held limit count number behind) run
+      by :
+          (test : Bool) → nat_lt (limit + 5) count ≡ test →
+          beyond ≡ with_bytes limit (kept_held limit count number behind) run
       by true e = rw e (sym (with_bytes-beyond limit run))
       by false e =
           let fits : count ≤ limit + 5 = grind (arith, nat_tests) in
-          let held : nat_lt (limit + 5) (length (take count (number ∷ behind) ++ run)) ≡ true =
-          rw (length-further run taken long fits) (grind (arith, nat_tests)) in
-          rw (kept_held-kept fits, with_bytes-kept limit (take count (number ∷ behind)) run, held) refl
+          let held : nat_lt (limit + 5) (length (kept_bytes count number behind ++ run)) ≡ true =
+          rw (length-run run taken long fits) (grind (arith, nat_tests)) in
+          rw (with_bytes-run run fits, held) refl
 
 -- fewer than five bytes are no frame
 pub ended-few :
-    (limit count number : ℕ) (behind : List ℕ) → count < 5 → Some (Bad Shape) ≡ ended_held limit (kept_held limit count number behind)
+    (limit count number : ℕ) (behind : List ℕ) → count < 5 →
+    Some (Bad Shape) ≡ ended_held limit (kept_held limit count number behind)
 ended-few limit count number behind few =
+    let s = kept_bytes count number behind in
     let test : nat_lt (limit + 5) count ≡ false = grind (arith, nat_tests) in
-    let short : length (take count (number ∷ behind)) ≤ count = omega (arith, length-take count (number ∷ behind)) in
-    rw (test, stretch_fault-few limit (take count (number ∷ behind)) (omega (arith, short, few)) (omega (arith, short, few))) refl
+    let short : length s ≤ count = omega (arith, length-take count (number ∷ behind)) in
+    rw (test, stretch_fault-few limit s (omega (arith, short, few)) (omega (arith, short, few))) refl
 
 -- the parts of five bytes or more
 pub kept-parts :
     (count number : ℕ) (front back : List ℕ) → 5 ≤ count → count ≤ length front + 5 → length back ≡ 4 →
-    take count (number ∷ (front ++ back))
-    ≡ stretch_of number (take (count - 5) front) (get_or (front ++ back) (count - 5) 0) (get_or (front ++ back) (count - 5 + 1) 0)
+    kept_bytes count number (front ++ back)
+    ≡ stretch_of number (take (count - 5) front)
+    (get_or (front ++ back) (count - 5) 0) (get_or (front ++ back) (count - 5 + 1) 0)
     (get_or (front ++ back) (count - 5 + 2) 0) (get_or (front ++ back) (count - 5 + 3) 0)
 kept-parts count number front back five fits four =
     let more : count ≡ suc (count - 5 + 4) = omega (arith, five) in
     let long : count - 5 + 4 ≤ length (front ++ back) = omega (arith, length-append front back, fits, four, five) in
-    rw (ap (λ n. take n (number ∷ (front ++ back))) more, ← take-append-le (count - 5) front back (omega (arith, fits, five)))
+    rw (
+      ap (λ n. take n (number ∷ (front ++ back))) more,
+      ← take-append-le (count - 5) front back (omega (arith, fits, five)),
+    )
     (ap (λ (xs : List ℕ). number ∷ xs) (last_four_at (front ++ back) (count - 5) long))
 
--- what an LF tells of them
+-- what is found in a stretch, and what an LF tells by it
+abbrev pub Found : ℕ → List ℕ → Result FrameContent FrameFault → Type 0
+Found limit s r =
+    MatchResult r (λ frame. (frame ≡ content_of s) × (stretch_fault limit s ≡ None)) (λ fault. stretch_fault limit s ≡ Some fault)
+
+abbrev pub Told : (limit : ℕ) → Option (SignalOf limit) → Result FrameContent FrameFault → Type 0
+Told limit told r = MatchResult r (λ frame. Some (Good frame) ≡ told) (λ fault. Some (Bad fault) ≡ told)
+
+found-told : (limit : ℕ) (s : List ℕ) (r : Result FrameContent FrameFault) → Found limit s r → Told limit (Some (read_stretch limit s)) r
+found-told limit s (Ok frame) found = rw (found.1, found.0) refl
+found-told limit s (Err fault) found = rw found refl
+
 pub told-parts :
-    (limit count number : ℕ) (behind s : List ℕ) (r : Result FrameContent FrameFault) → count ≤ limit + 5 → take count (number ∷ behind) ≡ s →
-    MatchResult r (λ frame. (frame ≡ content_of s) × (stretch_fault limit s ≡ None)) (λ fault. stretch_fault limit s ≡ Some fault) →
-    MatchResult r (λ frame. Some (Good frame) ≡ ended_held limit (kept_held limit count number behind))
-    (λ fault. Some (Bad fault) ≡ ended_held limit (kept_held limit count number behind))
-told-parts limit count number behind s r fits is places =
+    (limit count number : ℕ) (behind s : List ℕ) (r : Result FrameContent FrameFault) → count ≤ limit + 5 →
+    kept_bytes count number behind ≡ s → Found limit s r → Told limit (ended_held limit (kept_held limit count number behind)) r
+told-parts limit count number behind s r fits is found =
     let test : nat_lt (limit + 5) count ≡ false = grind (arith, nat_tests) in
-    rw (test, is) (by r places)
-  where
-    by :
-        (r : Result FrameContent FrameFault) →
-        MatchResult r (λ frame. (frame ≡ content_of s) × (stretch_fault limit s ≡ None)) (λ fault. stretch_fault limit s ≡ Some fault) →
-        MatchResult r (λ frame. Some (Good frame) ≡ Some (read_stretch limit s)) (λ fault. Some (Bad fault) ≡ Some (read_stretch limit s))
-    by (Ok frame) places = rw (places.1, places.0) refl
-    by (Err fault) places = rw places refl
+    rw (test, is) (found-told limit s r found)
 
 -- bytes put behind the number, or behind nothing
 pub kept-more :
-    (count taken number : ℕ) (xs ys run : List ℕ) → 0 < count → take (count - 1 + taken) ys ≡ take (count - 1) xs ++ run →
-    take (count + taken) (number ∷ ys) ≡ take count (number ∷ xs) ++ run
+    (count taken number : ℕ) (xs ys run : List ℕ) → 0 < count →
+    take (count - 1 + taken) ys ≡ take (count - 1) xs ++ run →
+    kept_bytes (count + taken) number ys ≡ kept_bytes count number xs ++ run
 kept-more zero taken number xs ys run some put = absurd (omega (arith, some))
 kept-more (suc k) taken number xs ys run some put =
     let next : suc k + taken ≡ suc (k + taken) = omega arith in
@@ -121,8 +146,9 @@ kept-more (suc k) taken number xs ys run some put =
     rw next (ap (λ (zs : List ℕ). number ∷ zs) (rw before at put))
 
 pub kept-first :
-    (count taken number : ℕ) (xs behind ys : List ℕ) → count ≡ 0 → 0 < taken → take (0 + (taken - 1)) ys ≡ take (taken - 1) behind →
-    take (count + taken) (number ∷ ys) ≡ take count xs ++ take taken (number ∷ behind)
+    (count taken number : ℕ) (xs behind ys : List ℕ) → count ≡ 0 → 0 < taken →
+    take (0 + (taken - 1)) ys ≡ take (taken - 1) behind →
+    kept_bytes (count + taken) number ys ≡ take count xs ++ take taken (number ∷ behind)
 kept-first count zero number xs behind ys none some put = absurd (omega (arith, some))
 kept-first count (suc k) number xs behind ys none some put =
     let all : count + suc k ≡ suc k = omega (arith, none) in
@@ -132,7 +158,8 @@ kept-first count (suc k) number xs behind ys none some put =
 -- bytes put at a place of two buffers that stand for one: in the first
 module _ (place taken : ℕ) (front back front' back' run : List ℕ) where
   pub put-front :
-      place + taken ≤ length front → length front' ≡ length front → take (place + taken) front' ≡ take place front ++ run →
+      place + taken ≤ length front → length front' ≡ length front →
+      take (place + taken) front' ≡ take place front ++ run →
       take (place + taken) (front' ++ back') ≡ take place (front ++ back) ++ run
   put-front fits same put =
       take-append-le (place + taken) front' back' (omega (arith, fits, same))
@@ -149,16 +176,19 @@ module _ (place taken : ℕ) (front back front' back' run : List ℕ) where
       ∙ take-append-add front back' (place - length front + taken)
       ∙ ap (λ (xs : List ℕ). front ++ xs) put
       ∙ sym (append_assoc front (take (place - length front) back) run)
-      ∙ ap (λ (xs : List ℕ). xs ++ run) (sym (ap (λ n. take n (front ++ back)) old ∙ take-append-add front back (place - length front)))
+      ∙ ap (λ (xs : List ℕ). xs ++ run)
+      (sym (ap (λ n. take n (front ++ back)) old ∙ take-append-add front back (place - length front)))
 
   -- in both
   pub put-across :
-      (first second : List ℕ) → first ++ second ≡ run → place + length first ≡ length front → length first + length second ≡ taken →
-      length front' ≡ length front → take (place + length first) front' ≡ take place front ++ first → take (0 + length second) back' ≡ second →
+      (first second : List ℕ) → first ++ second ≡ run →
+      place + length first ≡ length front → length first + length second ≡ taken → length front' ≡ length front →
+      take (place + length first) front' ≡ take place front ++ first → take (0 + length second) back' ≡ second →
       take (place + taken) (front' ++ back') ≡ take place (front ++ back) ++ run
   put-across first second both full all same put put' =
       let new : place + taken ≡ length front' + length second = omega (arith, all, full, same) in
-      let filled : front' ≡ take place front ++ first = sym (take_all (place + length first) front' (omega (arith, full, same))) ∙ put in
+      let filled : front' ≡ take place front ++ first =
+      sym (take_all (place + length first) front' (omega (arith, full, same))) ∙ put in
       ap (λ n. take n (front' ++ back')) new
       ∙ take-append-add front' back' (length second)
       ∙ ap (λ (xs : List ℕ). front' ++ xs) (rw (zero-add (length second)) at put')

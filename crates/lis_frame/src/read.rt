@@ -179,7 +179,11 @@ fn front_text<const N: usize>(number: u8, behind: &[u8]) -> Option<usize>
     requires { is_number_byte number ≡ true }
     ensures bound { IfSome result (λ place. place + 5 ≤ length behind.now) }
     ensures frame { IfSome result (λ place. IsFrame N (STX ∷ take (place + 6) (number ∷ behind.now))
-        (record { number = number - 48; last = slice_index (drop place behind.now) 0 == ETX; text = take place behind.now })) }
+        (record {
+          number = number - 48;
+          last = slice_index (drop place behind.now) 0 == ETX;
+          text = take place behind.now;
+        })) }
 {
     let Some(place) = first_forbidden(behind) else {
         return None;

@@ -13,8 +13,8 @@ use std::marker::Model;
 use std::simd::prelude::*;
 
 /// The bytes since STX: how many, the number, and those behind it, in two buffers of which `back` goes on where
-/// `front` is full. What stands there past the count is nothing. The count stops one past the greatest length of a
-/// stretch.
+/// `front` is full. What stands there past the count was left behind and is nothing. The count stops one past the
+/// greatest length of a stretch.
 #[derive(Drop)]
 pub(crate) struct StretchOf<const N: usize> {
     count: usize,
@@ -139,13 +139,14 @@ fn at_behind(front: &[u8], back: &[u8], place: usize) -> u8
     }
 }
 
-/// Puts the first bytes of these, so many, at a place of two buffers that stand for one. What stands behind them
-/// there is then nothing.
+/// Puts the first bytes of these, so many, at a place of two buffers that stand for one. What then stands behind them
+/// is nothing.
 #[inline(always)]
 fn put_behind(front: &mut [u8], back: &mut [u8], place: usize, bytes: &[u8], taken: usize)
     requires fits { place + taken ≤ length front.old + length back.old }
     requires there { taken ≤ length bytes.now }
-    ensures { take (place + taken) (front.new ++ back.new) ≡ take place (front.old ++ back.old) ++ take taken bytes.now }
+    ensures { take (place + taken) (front.new ++ back.new)
+        ≡ take place (front.old ++ back.old) ++ take taken bytes.now }
 {
     let room = front.len();
     // Most runs are short: they go with what stands behind them, at once.

@@ -6,5 +6,11 @@ add_six n = omega arith
 
 pub returns-clause-frame : goal.returns-clause-frame
 returns-clause-frame g c =
-    rw (c.in-Some.ensures.cases.0, add_six c.in-Some-front_text.place, c.of_parts-frame.ensures, c.split_at.ensures.front, c.split_at.ensures.back)
+    rw (
+      c.in-Some.ensures.cases.0,
+      add_six c.in-Some-front_text.place,
+      c.of_parts-frame.ensures,
+      c.split_at.ensures.front,
+      c.split_at.ensures.back,
+    )
     c.in-Some-front_text.ensures.frame

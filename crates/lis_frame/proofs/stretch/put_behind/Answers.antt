@@ -5,5 +5,8 @@ use Rattle.lis_frame.proofs.stretch.put_behind.Goals as goal
 
 pub returns-then-place-room : goal.returns-then-place-room
 returns-then-place-room c =
-    put-front c.args.place c.args.taken c.args.front.now c.args.back.now _ c.args.back.now _ (omega arith) (length-put_chunk c.args.place c.args.front.now (take 16 c.args.bytes.now))
-    (put-sixteen c.args.place c.args.taken c.args.front.now c.args.bytes.now (omega arith) (omega arith) (omega arith))
+    let front = c.args.front.now in
+    let sixteen = take 16 c.args.bytes.now in
+    put-front c.args.place c.args.taken front c.args.back.now _ c.args.back.now _ (omega arith)
+    (length-put_chunk c.args.place front sixteen)
+    (put-sixteen c.args.place c.args.taken front c.args.bytes.now (omega arith) (omega arith) (omega arith))
