@@ -1,103 +1,23 @@
--- The bytes that a stretch in fixed buffers keeps, and what one more does to them.
-use Rattle.std.proofs.Common.{◌≡◌, ℕ, zero, suc, ◌+◌, ◌-◌, ◌≤◌, ◌<◌, Bool, true, false, List, [], ◌∷◌, ◌++◌, Some, length, drop, refl, ap, arith, sym, ◌∙◌, append_assoc, append-nil, length-append, length-drop, add-one}
+-- The bytes that a stretch in fixed buffers keeps, and what further ones do to them.
+use Rattle.std.proofs.Common.{◌≡◌, ℕ, zero, suc, ◌+◌, ◌-◌, ◌≤◌, ◌<◌, Bool, true, false, List, [], ◌∷◌, ◌++◌, Option, Some, None, Ok, Err, MatchResult, length, take, get_or, zero-add, refl, ap, arith, sym, ◌∙◌, append_assoc, append-nil, length-append, length-take, length-take-le}
+use Rattle.std.proofs.lemmas.List.{take_all, take-append-le, take-take}
+use Rattle.std.proofs.lemmas.Simd.{take_more_put_chunk}
+use Rattle.std.proofs.Math.Seq.{take-append-add}
+use lib.Lanes.{put_chunk}
 use Rattle.std.specs.Prelude.{nat_lt}
 use Rattle.std.proofs.lemmas.Bool.Decides.{nat_tests}
+use Rattle.std.specs.declared.result.Result.{Result}
+use Rattle.lis_frame.specs.declared.frame.FrameFault.{FrameFault}
 use Rattle.lis_frame.specs.declared.frame.FrameFault.TheVariants.{Shape}
-use Rattle.lis_frame.specs.declared.scanner.SignalOf.TheVariants.{Bad}
-use Rattle.lis_frame.specs.Scanner.{outside, beyond, kept, with_byte, with_bytes, ended_held}
-use Rattle.lis_frame.specs.Kept.{kept_bytes, kept_held}
-use Rattle.lis_frame.proofs.StretchLemmas.{stretch_fault-few}
+use Rattle.lis_frame.specs.declared.scanner.SignalOf.{SignalOf}
+use Rattle.lis_frame.specs.declared.scanner.SignalOf.TheVariants.{Good, Bad}
+use Rattle.lis_frame.specs.Scanner.{outside, beyond, kept, with_bytes, ended_held}
+use Rattle.lis_frame.specs.Kept.{kept_held}
+use Rattle.lis_frame.specs.Frame.{FrameContent}
+use Rattle.lis_frame.specs.Stretch.{stretch_of, content_of, stretch_fault}
+use Rattle.lis_frame.specs.Stream.{read_stretch}
+use Rattle.lis_frame.proofs.StretchLemmas.{last_four_at, stretch_fault-few}
 use Rattle.lis_frame.proofs.ScannerLemmas.{kept-push}
-
-pub length-kept_bytes :
-    (count number : ℕ) (text last : List ℕ) → length last ≡ 4 → length text ≡ count - 5 →
-    length (kept_bytes count number text last) ≡ count
-length-kept_bytes zero number text last four settled = refl
-length-kept_bytes (suc k) number text last four settled =
-    omega (arith, length-append text (drop (4 - k) last), length-drop (4 - k) last)
-
--- where no byte is settled
-kept_bytes-first :
-    (k number : ℕ) (text : List ℕ) (end high low close b : ℕ) → k < 4 →
-    kept_bytes (suc k + 1) number text (high ∷ low ∷ close ∷ b ∷ [])
-    ≡ kept_bytes (suc k) number text (end ∷ high ∷ low ∷ close ∷ []) ++ b ∷ []
-kept_bytes-first zero number text end high low close b h = ap (λ (xs : List ℕ). number ∷ xs) (sym (append_assoc text [] (b ∷ [])))
-kept_bytes-first (suc zero) number text end high low close b h =
-    ap (λ (xs : List ℕ). number ∷ xs) (sym (append_assoc text (close ∷ []) (b ∷ [])))
-kept_bytes-first (suc (suc zero)) number text end high low close b h =
-    ap (λ (xs : List ℕ). number ∷ xs) (sym (append_assoc text (low ∷ close ∷ []) (b ∷ [])))
-kept_bytes-first (suc (suc (suc zero))) number text end high low close b h =
-    ap (λ (xs : List ℕ). number ∷ xs) (sym (append_assoc text (high ∷ low ∷ close ∷ []) (b ∷ [])))
-kept_bytes-first (suc (suc (suc (suc k)))) number text end high low close b h = absurd (omega arith)
-
-no_drop : (n : ℕ) (xs : List ℕ) → n ≡ 0 → drop n xs ≡ xs
-no_drop zero xs e = refl
-no_drop (suc n) xs e = cc
-
--- where the byte that leaves the last four is settled as text
-kept_bytes-settled :
-    (k number : ℕ) (text : List ℕ) (end high low close b : ℕ) → 4 ≤ k →
-    kept_bytes (suc k + 1) number (text ++ end ∷ []) (high ∷ low ∷ close ∷ b ∷ [])
-    ≡ kept_bytes (suc k) number text (end ∷ high ∷ low ∷ close ∷ []) ++ b ∷ []
-kept_bytes-settled k number text end high low close b h =
-    let before : drop (4 - k) (end ∷ high ∷ low ∷ close ∷ []) ≡ end ∷ high ∷ low ∷ close ∷ [] = no_drop _ _ (omega arith) in
-    let after : drop (4 - suc k) (high ∷ low ∷ close ∷ b ∷ []) ≡ high ∷ low ∷ close ∷ b ∷ [] = no_drop _ _ (omega arith) in
-    rw (add-one (suc k), before, after)
-    (ap (λ (xs : List ℕ). number ∷ xs)
-    (append_assoc text (end ∷ []) (high ∷ low ∷ close ∷ b ∷ []) ∙ sym (append_assoc text (end ∷ high ∷ low ∷ close ∷ []) (b ∷ []))))
-
--- the same by the count
-pub kept_bytes-few :
-    (count number : ℕ) (text : List ℕ) (end high low close b : ℕ) → (count ≡ 0 → ⊥) → count < 5 →
-    kept_bytes (count + 1) number text (high ∷ low ∷ close ∷ b ∷ [])
-    ≡ kept_bytes count number text (end ∷ high ∷ low ∷ close ∷ []) ++ b ∷ []
-kept_bytes-few zero number text end high low close b some few = absurd (some refl)
-kept_bytes-few (suc k) number text end high low close b some few = kept_bytes-first k number text end high low close b (omega arith)
-
-pub kept_bytes-many :
-    (count number : ℕ) (text : List ℕ) (end high low close b : ℕ) → 5 ≤ count →
-    kept_bytes (count + 1) number (text ++ end ∷ []) (high ∷ low ∷ close ∷ b ∷ [])
-    ≡ kept_bytes count number text (end ∷ high ∷ low ∷ close ∷ []) ++ b ∷ []
-kept_bytes-many zero number text end high low close b many = absurd (omega arith)
-kept_bytes-many (suc k) number text end high low close b many = kept_bytes-settled k number text end high low close b (omega arith)
-
--- one more byte, while a frame may have as many
-pub kept_held-push :
-    (limit count number number' : ℕ) (text text' last last' : List ℕ) (b : ℕ) →
-    count < limit + 5 → length last ≡ 4 → length text ≡ count - 5 →
-    kept_bytes (count + 1) number' text' last' ≡ kept_bytes count number text last ++ b ∷ [] →
-    kept_held limit (count + 1) number' text' last' ≡ with_byte limit (kept_held limit count number text last) b
-kept_held-push limit count number number' text text' last last' b room four settled bytes =
-    let now : nat_lt (limit + 5) count ≡ false = grind (arith, nat_tests) in
-    let then' : nat_lt (limit + 5) (count + 1) ≡ false = grind (arith, nat_tests) in
-    let held : nat_lt (limit + 5) (length (kept_bytes count number text last ++ b ∷ [])) ≡ false =
-    rw (length-append (kept_bytes count number text last) (b ∷ []), length-kept_bytes count number text last four settled) then' in
-    rw (now, then', bytes, held) refl
-
--- the byte that no frame has room for
-pub kept_held-beyond :
-    (limit count number : ℕ) (text last : List ℕ) (b : ℕ) →
-    limit + 5 ≤ count → length last ≡ 4 → (count ≤ limit + 5 → length text ≡ count - 5) →
-    beyond ≡ with_byte limit (kept_held limit count number text last) b
-kept_held-beyond limit count number text last b full four settled = by (nat_lt (limit + 5) count) refl
-  where
-    by : (test : Bool) → nat_lt (limit + 5) count ≡ test → beyond ≡ with_byte limit (kept_held limit count number text last) b
-    by true e = rw e refl
-    by false e =
-        let just : count ≤ limit + 5 = grind (arith, nat_tests) in
-        let held : nat_lt (limit + 5) (length (kept_bytes count number text last ++ b ∷ [])) ≡ true =
-        rw (length-append (kept_bytes count number text last) (b ∷ []), length-kept_bytes count number text last four (settled just))
-        (grind (arith, nat_tests)) in
-        rw (e, held) refl
-
--- a stretch of fewer than five bytes
-pub ended-few :
-    (limit count number : ℕ) (text last : List ℕ) → count < 5 → length last ≡ 4 → (count ≤ limit + 5 → length text ≡ count - 5) →
-    Some (Bad Shape) ≡ ended_held limit (kept_held limit count number text last)
-ended-few limit count number text last few four settled =
-    let test : nat_lt (limit + 5) count ≡ false = grind (arith, nat_tests) in
-    let length_is : length (kept_bytes count number text last) ≡ count = length-kept_bytes count number text last four (settled (omega arith)) in
-    rw (test, stretch_fault-few limit (kept_bytes count number text last) (omega arith) (omega arith)) refl
 
 -- a run of plain bytes is kept as one
 pub with_bytes-beyond : (limit : ℕ) (run : List ℕ) → with_bytes limit beyond run ≡ beyond
@@ -109,52 +29,184 @@ with_bytes-outside limit [] = refl
 with_bytes-outside limit (b ∷ run) = with_bytes-outside limit run
 
 -- behind a stretch that is held
-pub with_bytes-kept : (limit : ℕ) (s run : List ℕ) → with_bytes limit (kept limit s) run ≡ kept limit (s ++ run)
+with_bytes-kept : (limit : ℕ) (s run : List ℕ) → with_bytes limit (kept limit s) run ≡ kept limit (s ++ run)
 with_bytes-kept limit s [] = rw (append-nil s) refl
 with_bytes-kept limit s (b ∷ run) =
     rw (← kept-push limit s b) (with_bytes-kept limit (s ++ b ∷ []) run ∙ ap (kept limit) (append_assoc s (b ∷ []) run))
 
--- what the fields hold is such a stretch
-kept_held-kept :
-    (limit count number : ℕ) (text last : List ℕ) → length last ≡ 4 → count ≤ limit + 5 → length text ≡ count - 5 →
-    kept_held limit count number text last ≡ kept limit (kept_bytes count number text last)
-kept_held-kept limit count number text last four fits settled =
-    let now : nat_lt (limit + 5) count ≡ false = grind (arith, nat_tests) in
-    let held : nat_lt (limit + 5) (length (kept_bytes count number text last)) ≡ false = rw (length-kept_bytes count number text last four settled) now in
-    rw (now, held) refl
+-- the bytes that the fields hold
+abbrev pub kept_bytes : ℕ → ℕ → List ℕ → List ℕ
+kept_bytes count number behind = take count (number ∷ behind)
 
-kept_bytes-five : (count number : ℕ) (text last : List ℕ) → 5 ≤ count → kept_bytes count number text last ≡ number ∷ (text ++ last)
-kept_bytes-five zero number text last five = absurd (omega arith)
-kept_bytes-five (suc k) number text last five = ap (λ (xs : List ℕ). number ∷ (text ++ xs)) (no_drop (4 - k) last (omega arith))
+-- whose buffers have room for the greatest stretch
+module _ (limit count number : ℕ) (behind : List ℕ) (room : length behind ≡ limit + 4) where
+  length-kept : count ≤ limit + 5 → length (kept_bytes count number behind) ≡ count
+  length-kept fits = length-take-le count (number ∷ behind) (omega (arith, room, fits))
 
--- a run at once: the last four are settled, and those of the run but its last four
-pub kept_held-run :
-    (limit count number : ℕ) (text last most four run : List ℕ) →
-    5 ≤ count → count + length run ≤ limit + 5 → length last ≡ 4 → length four ≡ 4 → length text ≡ count - 5 → run ≡ most ++ four →
-    kept_held limit (count + length run) number (text ++ last ++ most) four ≡ with_bytes limit (kept_held limit count number text last) run
-kept_held-run limit count number text last most four run five fits four_last four_new settled is =
-    let length_run : length run ≡ length most + 4 = rw is (length-append most four ∙ ap (λ (n : ℕ). length most + n) four_new) in
-    let longer : length (text ++ last ++ most) ≡ count + length run - 5 =
-    omega (arith, length-append (text ++ last) most, length-append text last, length_run) in
-    let bytes : kept_bytes (count + length run) number (text ++ last ++ most) four ≡ kept_bytes count number text last ++ run =
-    kept_bytes-five (count + length run) number (text ++ last ++ most) four (omega arith)
-    ∙ rw (kept_bytes-five count number text last five, is) (ap (λ (xs : List ℕ). number ∷ xs) (append_assoc (text ++ last) most four)) in
-    kept_held-kept limit (count + length run) number (text ++ last ++ most) four four_new fits longer
-    ∙ rw (kept_held-kept limit count number text last four_last (omega arith) settled, bytes)
-    (sym (with_bytes-kept limit (kept_bytes count number text last) run))
+  -- they are held as they are
+  kept_held-kept : count ≤ limit + 5 → kept_held limit count number behind ≡ kept limit (kept_bytes count number behind)
+  kept_held-kept fits =
+      let now : nat_lt (limit + 5) count ≡ false = grind (arith, nat_tests) in
+      let held : nat_lt (limit + 5) (length (kept_bytes count number behind)) ≡ false = rw (length-kept fits) now in
+      rw (now, held) refl
 
--- a run that no frame has room for
-pub kept_held-over :
-    (limit count number : ℕ) (text last run : List ℕ) →
-    limit + 5 < count + length run → length last ≡ 4 → (count ≤ limit + 5 → length text ≡ count - 5) →
-    beyond ≡ with_bytes limit (kept_held limit count number text last) run
-kept_held-over limit count number text last run over four settled = by (nat_lt (limit + 5) count) refl
-  where
-    by : (test : Bool) → nat_lt (limit + 5) count ≡ test → beyond ≡ with_bytes limit (kept_held limit count number text last) run
-    by true e = rw e (sym (with_bytes-beyond limit run))
-    by false e =
-        let fits : count ≤ limit + 5 = grind (arith, nat_tests) in
-        let long : nat_lt (limit + 5) (length (kept_bytes count number text last ++ run)) ≡ true =
-        rw (length-append (kept_bytes count number text last) run, length-kept_bytes count number text last four (settled fits)) (grind (arith, nat_tests)) in
-        sym (ap (λ held. with_bytes limit held run) (kept_held-kept limit count number text last four fits (settled fits))
-        ∙ with_bytes-kept limit (kept_bytes count number text last) run ∙ rw long refl)
+  -- and so with a run
+  with_bytes-run :
+      (run : List ℕ) → count ≤ limit + 5 →
+      with_bytes limit (kept_held limit count number behind) run ≡ kept limit (kept_bytes count number behind ++ run)
+  with_bytes-run run fits = rw (kept_held-kept fits) (with_bytes-kept limit (kept_bytes count number behind) run)
+
+  length-run :
+      (run : List ℕ) (taken : ℕ) → length run ≡ taken → count ≤ limit + 5 →
+      length (kept_bytes count number behind ++ run) ≡ count + taken
+  length-run run taken long fits = omega (arith, length-append (kept_bytes count number behind) run, length-kept fits, long)
+
+  -- a run that a frame has room for
+  pub kept_held-run :
+      (taken number' : ℕ) (behind' run : List ℕ) → length run ≡ taken → count + taken ≤ limit + 5 →
+      kept_bytes (count + taken) number' behind' ≡ kept_bytes count number behind ++ run →
+      kept_held limit (count + taken) number' behind' ≡ with_bytes limit (kept_held limit count number behind) run
+  kept_held-run taken number' behind' run long fits bytes =
+      let now : nat_lt (limit + 5) (count + taken) ≡ false = grind (arith, nat_tests) in
+      let before : count ≤ limit + 5 = omega (arith, fits) in
+      let held : nat_lt (limit + 5) (length (kept_bytes count number behind ++ run)) ≡ false =
+      rw (length-run run taken long before) now in
+      rw (with_bytes-run run before, now, held, bytes) refl
+
+  -- one that no frame has room for
+  pub kept_held-over :
+      (taken : ℕ) (run : List ℕ) → length run ≡ taken → limit + 5 < count + taken →
+      beyond ≡ with_bytes limit (kept_held limit count number behind) run
+  kept_held-over taken run long over = by (nat_lt (limit + 5) count) refl
+    where
+      by :
+          (test : Bool) → nat_lt (limit + 5) count ≡ test →
+          beyond ≡ with_bytes limit (kept_held limit count number behind) run
+      by true e = rw e (sym (with_bytes-beyond limit run))
+      by false e =
+          let fits : count ≤ limit + 5 = grind (arith, nat_tests) in
+          let held : nat_lt (limit + 5) (length (kept_bytes count number behind ++ run)) ≡ true =
+          rw (length-run run taken long fits) (grind (arith, nat_tests)) in
+          rw (with_bytes-run run fits, held) refl
+
+-- fewer than five bytes are no frame
+pub ended-few :
+    (limit count number : ℕ) (behind : List ℕ) → count < 5 →
+    Some (Bad Shape) ≡ ended_held limit (kept_held limit count number behind)
+ended-few limit count number behind few =
+    let s = kept_bytes count number behind in
+    let test : nat_lt (limit + 5) count ≡ false = grind (arith, nat_tests) in
+    let short : length s ≤ count = omega (arith, length-take count (number ∷ behind)) in
+    rw (test, stretch_fault-few limit s (omega (arith, short, few)) (omega (arith, short, few))) refl
+
+-- the parts of five bytes or more
+pub kept-parts :
+    (count number : ℕ) (front back : List ℕ) → 5 ≤ count → count ≤ length front + 5 → length back ≡ 4 →
+    kept_bytes count number (front ++ back)
+    ≡ stretch_of number (take (count - 5) front)
+    (get_or (front ++ back) (count - 5) 0) (get_or (front ++ back) (count - 5 + 1) 0)
+    (get_or (front ++ back) (count - 5 + 2) 0) (get_or (front ++ back) (count - 5 + 3) 0)
+kept-parts count number front back five fits four =
+    let more : count ≡ suc (count - 5 + 4) = omega (arith, five) in
+    let long : count - 5 + 4 ≤ length (front ++ back) = omega (arith, length-append front back, fits, four, five) in
+    rw (
+      ap (λ n. take n (number ∷ (front ++ back))) more,
+      ← take-append-le (count - 5) front back (omega (arith, fits, five)),
+    )
+    (ap (λ (xs : List ℕ). number ∷ xs) (last_four_at (front ++ back) (count - 5) long))
+
+-- what is found in a stretch, and what an LF tells by it
+abbrev pub Found : ℕ → List ℕ → Result FrameContent FrameFault → Type 0
+Found limit s r =
+    MatchResult r (λ frame. (frame ≡ content_of s) × (stretch_fault limit s ≡ None)) (λ fault. stretch_fault limit s ≡ Some fault)
+
+abbrev pub Told : (limit : ℕ) → Option (SignalOf limit) → Result FrameContent FrameFault → Type 0
+Told limit told r = MatchResult r (λ frame. Some (Good frame) ≡ told) (λ fault. Some (Bad fault) ≡ told)
+
+found-told : (limit : ℕ) (s : List ℕ) (r : Result FrameContent FrameFault) → Found limit s r → Told limit (Some (read_stretch limit s)) r
+found-told limit s (Ok frame) found = rw (found.1, found.0) refl
+found-told limit s (Err fault) found = rw found refl
+
+pub told-parts :
+    (limit count number : ℕ) (behind s : List ℕ) (r : Result FrameContent FrameFault) → count ≤ limit + 5 →
+    kept_bytes count number behind ≡ s → Found limit s r → Told limit (ended_held limit (kept_held limit count number behind)) r
+told-parts limit count number behind s r fits is found =
+    let test : nat_lt (limit + 5) count ≡ false = grind (arith, nat_tests) in
+    rw (test, is) (found-told limit s r found)
+
+-- bytes put behind the number, or behind nothing
+pub kept-more :
+    (count taken number : ℕ) (xs ys run : List ℕ) → 0 < count →
+    take (count - 1 + taken) ys ≡ take (count - 1) xs ++ run →
+    kept_bytes (count + taken) number ys ≡ kept_bytes count number xs ++ run
+kept-more zero taken number xs ys run some put = absurd (omega (arith, some))
+kept-more (suc k) taken number xs ys run some put =
+    let next : suc k + taken ≡ suc (k + taken) = omega arith in
+    let before : suc k - 1 ≡ k = omega arith in
+    rw next (ap (λ (zs : List ℕ). number ∷ zs) (rw before at put))
+
+pub kept-first :
+    (count taken number : ℕ) (xs behind ys : List ℕ) → count ≡ 0 → 0 < taken →
+    take (0 + (taken - 1)) ys ≡ take (taken - 1) behind →
+    kept_bytes (count + taken) number ys ≡ take count xs ++ take taken (number ∷ behind)
+kept-first count zero number xs behind ys none some put = absurd (omega (arith, some))
+kept-first count (suc k) number xs behind ys none some put =
+    let all : count + suc k ≡ suc k = omega (arith, none) in
+    let before : suc k - 1 ≡ k = omega arith in
+    rw (all, none) (ap (λ (zs : List ℕ). number ∷ zs) (rw (before, zero-add k) at put))
+
+-- bytes put at a place of two buffers that stand for one: in the first
+module _ (place taken : ℕ) (front back front' back' run : List ℕ) where
+  pub put-front :
+      place + taken ≤ length front → length front' ≡ length front →
+      take (place + taken) front' ≡ take place front ++ run →
+      take (place + taken) (front' ++ back') ≡ take place (front ++ back) ++ run
+  put-front fits same put =
+      take-append-le (place + taken) front' back' (omega (arith, fits, same))
+      ∙ put ∙ ap (λ (xs : List ℕ). xs ++ run) (sym (take-append-le place front back (omega (arith, fits))))
+
+  -- in the second
+  pub put-back :
+      length front ≤ place → take (place - length front + taken) back' ≡ take (place - length front) back ++ run →
+      take (place + taken) (front ++ back') ≡ take place (front ++ back) ++ run
+  put-back behind put =
+      let old : place ≡ length front + (place - length front) = omega (arith, behind) in
+      let new : place + taken ≡ length front + (place - length front + taken) = omega (arith, behind) in
+      ap (λ n. take n (front ++ back')) new
+      ∙ take-append-add front back' (place - length front + taken)
+      ∙ ap (λ (xs : List ℕ). front ++ xs) put
+      ∙ sym (append_assoc front (take (place - length front) back) run)
+      ∙ ap (λ (xs : List ℕ). xs ++ run)
+      (sym (ap (λ n. take n (front ++ back)) old ∙ take-append-add front back (place - length front)))
+
+  -- in both
+  pub put-across :
+      (first second : List ℕ) → first ++ second ≡ run →
+      place + length first ≡ length front → length first + length second ≡ taken → length front' ≡ length front →
+      take (place + length first) front' ≡ take place front ++ first → take (0 + length second) back' ≡ second →
+      take (place + taken) (front' ++ back') ≡ take place (front ++ back) ++ run
+  put-across first second both full all same put put' =
+      let new : place + taken ≡ length front' + length second = omega (arith, all, full, same) in
+      let filled : front' ≡ take place front ++ first =
+      sym (take_all (place + length first) front' (omega (arith, full, same))) ∙ put in
+      ap (λ n. take n (front' ++ back')) new
+      ∙ take-append-add front' back' (length second)
+      ∙ ap (λ (xs : List ℕ). front' ++ xs) (rw (zero-add (length second)) at put')
+      ∙ ap (λ (xs : List ℕ). xs ++ second) filled
+      ∙ append_assoc (take place front) first second
+      ∙ rw (both, take-append-le place front back (omega (arith, full))) refl
+
+-- sixteen bytes put, of which not all count
+pub put-sixteen :
+    (place taken : ℕ) (front bytes : List ℕ) → taken ≤ 16 → 16 ≤ length bytes → place + 16 ≤ length front →
+    take (place + taken) (put_chunk place front (take 16 bytes)) ≡ take place front ++ take taken bytes
+put-sixteen place taken front bytes few there fits =
+    let sixteen : length (take 16 bytes) ≡ 16 = length-take-le 16 bytes there in
+    let before : length (take place front) ≡ place = length-take-le place front (omega (arith, fits)) in
+    let all : take (place + 16) (put_chunk place front (take 16 bytes)) ≡ take place front ++ take 16 bytes =
+    take_more_put_chunk place front (take 16 bytes) (place + 16) (omega (arith, sixteen)) (omega (arith, sixteen, fits)) in
+    sym (take-take (place + taken) (place + 16) (put_chunk place front (take 16 bytes)) (omega (arith, few)))
+    ∙ ap (take (place + taken)) all
+    ∙ ap (λ n. take (n + taken) (take place front ++ take 16 bytes)) (sym before)
+    ∙ take-append-add (take place front) (take 16 bytes) taken
+    ∙ ap (λ xs. take place front ++ xs) (take-take taken 16 bytes few)

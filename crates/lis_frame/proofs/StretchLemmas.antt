@@ -1,6 +1,6 @@
 -- A stretch of five bytes or more and its parts.
 use Rattle.std.proofs.Common.{◌≡◌, ℕ, ◌+◌, ◌-◌, ◌%◌, ◌≤◌, ◌<◌, Bool, true, false, List, [], ◌∷◌, ◌++◌, Option, None, Some, length, take, drop, get_or, refl, ap, arith, sym, ◌∙◌, suc, length-drop, add-zero}
-use Rattle.std.proofs.lemmas.List.{get_or-append-add, get_or-drop, length-append, take-append-drop}
+use Rattle.std.proofs.lemmas.List.{get_or-append-add, get_or-drop, get_or-take, length-append, length-take-le, take-append-drop, take-take}
 use Rattle.std.proofs.Math.Seq.{take-append_seam}
 use Rattle.std.specs.Prelude.{◌==◌, ◌&&◌, ◌||◌, nat_lt, nat_le, slice_index}
 use Rattle.std.proofs.lemmas.Bool.Decides.{nat_tests}
@@ -100,16 +100,19 @@ split_last_four xs m e =
     simp (get_or-drop, add-zero) at (four_items (drop m xs) four) in
     rw items (take-append-drop m xs)
 
--- the same by the length
-pub last_four :
-    (xs : List ℕ) → 4 ≤ length xs →
-    xs ≡ take (length xs - 4) xs
-    ++ (get_or xs (length xs - 4) 0 ∷ get_or xs (length xs - 3) 0 ∷ get_or xs (length xs - 2) 0 ∷ get_or xs (length xs - 1) 0 ∷ [])
-last_four xs four =
-    let third : length xs - 3 ≡ length xs - 4 + 1 = omega arith in
-    let second : length xs - 2 ≡ length xs - 4 + 2 = omega arith in
-    let first : length xs - 1 ≡ length xs - 4 + 3 = omega arith in
-    rw (third, second, first) (sym (split_last_four xs (length xs - 4) (omega arith)))
+-- four bytes behind so many
+pub last_four_at :
+    (xs : List ℕ) (m : ℕ) → m + 4 ≤ length xs →
+    take (m + 4) xs ≡ take m xs ++ (get_or xs m 0 ∷ get_or xs (m + 1) 0 ∷ get_or xs (m + 2) 0 ∷ get_or xs (m + 3) 0 ∷ [])
+last_four_at xs m fits =
+    let parts = split_last_four (take (m + 4) xs) m (sym (length-take-le (m + 4) xs fits)) in
+    sym (rw (
+      take-take m (m + 4) xs (omega arith),
+      get_or-take (m + 4) xs m 0 (omega arith),
+      get_or-take (m + 4) xs (m + 1) 0 (omega arith),
+      get_or-take (m + 4) xs (m + 2) 0 (omega arith),
+      get_or-take (m + 4) xs (m + 3) 0 (omega arith),
+    ) at parts)
 
 -- a stretch of five bytes or more is its parts, whose places the equations give
 pub stretch_parts :

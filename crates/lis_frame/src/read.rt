@@ -1,6 +1,6 @@
 //! Reading a frame from the bytes between its STX and its LF.
 
-ghost use Rattle.std.specs.Prelude.{◌≡◌, ◌+◌, ◌%◌, ◌≤◌, ◌<◌, ◌==◌, ◌&&◌, ◌||◌, false, [], ◌∷◌, ◌++◌, None, Some, Ok, IfOk, IfErr, IfNone, IfSome, MatchResult, length, take};
+ghost use Rattle.std.specs.Prelude.{◌≡◌, ◌+◌, ◌-◌, ◌%◌, ◌≤◌, ◌<◌, ◌==◌, ◌&&◌, ◌||◌, false, true, [], ◌∷◌, ◌++◌, None, Some, Ok, IfOk, IfErr, IfNone, IfSome, MatchResult, length, take, drop, slice_index};
 ghost use Rattle.std.specs.List.{sum};
 ghost use Rattle.lis_frame.specs.Limit.{IsLimit};
 ghost use Rattle.lis_frame.specs.Frame.{FrameContent, IsContent, IsFrame, digit_value};
@@ -44,7 +44,7 @@ fn lend_frame<const N: usize>(stretch: &[u8]) -> Result<LentFrame<'_>, FrameFaul
     let Some(parts) = Parts::of(stretch) else {
         return Err(FrameFault::Shape);
     };
-    parts.lent::<N>(first_forbidden(parts.text))
+    parts.lent::<N>()
 }
 
 /// The frame that stands between STX and LF, with the usual limit.
@@ -93,50 +93,66 @@ impl<'a> Parts<'a> {
         })
     }
 
-    /// The frame of the parts, its text lent, or the first fault behind the length. The place of the text's
-    /// first forbidden byte is given, since who calls may have come upon it.
-    pub(crate) fn lent<const N: usize>(
-        &self,
-        forbidden: Option<usize>,
-    ) -> Result<LentFrame<'a>, FrameFault>
-        requires room { length self.now.text.now ≤ N }
-        requires placed { forbidden ≡ first_forbidden self.now.text.now }
+    /// The frame of the parts, its text lent, or the first fault behind the length.
+    pub(crate) fn lent<const N: usize>(&self) -> Result<LentFrame<'a>, FrameFault>
+        requires { length self.now.text.now ≤ N }
         ensures places { let stretch = stretch_of self.now.number self.now.text.now self.now.end self.now.high self.now.low self.now.close in
             MatchResult result (λ frame. (frame ≡ content_of stretch) × (stretch_fault N stretch ≡ None))
             (λ fault. stretch_fault N stretch ≡ Some fault) }
         ensures content { IfOk result (IsContent N) }
     {
-        match self.fault(forbidden) {
+        match self.fault() {
             Some(fault) => Err(fault),
             None => Ok(LentFrame::of_parts(self.number - b'0', self.end == ETX, self.text)),
         }
     }
 
     /// The first fault of the parts: shape, number, text, sum.
-    fn fault(&self, forbidden: Option<usize>) -> Option<FrameFault>
+    fn fault(&self) -> Option<FrameFault>
         ensures { result ≡ first_fault false (self.now.close == CR && (self.now.end == ETX || self.now.end == ETB))
-            (is_number_byte self.now.number) forbidden
+            (is_number_byte self.now.number) (first_forbidden self.now.text.now)
             (is_value (pair_value (digit_value self.now.high) (digit_value self.now.low))
             (((self.now.number + sum self.now.text.now) % 256 + self.now.end) % 256)) }
     {
-        if self.close != CR || self.end != ETX && self.end != ETB {
+        if !self.is_shaped() {
             return Some(FrameFault::Shape);
         }
-        if self.number < b'0' || b'7' < self.number {
+        if !is_number(self.number) {
             return Some(FrameFault::Number);
         }
-        if let Some(place) = forbidden {
+        if let Some(place) = first_forbidden(self.text) {
             return Some(FrameFault::Text(place));
         }
+        if self.is_summed() {
+            None
+        } else {
+            Some(FrameFault::Sum)
+        }
+    }
+
+    /// Whether the text is followed by an end byte, and the digits by CR.
+    fn is_shaped(&self) -> bool
+        ensures { result ≡ (self.now.close == CR && (self.now.end == ETX || self.now.end == ETB)) }
+    {
+        self.close == CR && (self.end == ETX || self.end == ETB)
+    }
+
+    /// Whether the digits are those of the checksum.
+    #[inline(always)]
+    fn is_summed(&self) -> bool
+        ensures { result ≡ is_value (pair_value (digit_value self.now.high) (digit_value self.now.low))
+            (((self.now.number + sum self.now.text.now) % 256 + self.now.end) % 256) }
+    {
         let sum = total_of(self.number, self.text).wrapping_add(self.end);
         match pair_value(self.high, self.low) {
-            Some(value) if value == sum => None,
-            _ => Some(FrameFault::Sum),
+            Some(value) => value == sum,
+            None => false,
         }
     }
 }
 
 /// The frame whose STX stands before these bytes, and how many of them it has, where a good one stands there whole.
+#[inline(always)]
 pub(crate) fn front_frame<const N: usize>(bytes: &[u8]) -> Option<(LentFrame<'_>, usize)>
     ensures bound { IfSome result (λ found. found.1 ≤ length bytes.now) }
     ensures frame { IfSome result (λ found. IsFrame N (STX ∷ take found.1 bytes.now) found.0) }
@@ -144,6 +160,31 @@ pub(crate) fn front_frame<const N: usize>(bytes: &[u8]) -> Option<(LentFrame<'_>
     let Some((number, behind)) = bytes.split_first() else {
         return None;
     };
+    if !is_number(*number) {
+        return None;
+    }
+    let Some(place) = front_text::<N>(*number, behind) else {
+        return None;
+    };
+    let (text, rest) = behind.split_at(place);
+    let [end, _rest @ ..] = rest else {
+        return None;
+    };
+    let frame = LentFrame::of_parts(*number - b'0', *end == ETX, text);
+    Some((frame, place + FRAMING + 1))
+}
+
+/// How long the text is of the good frame that stands whole behind an STX and this number, where one does.
+fn front_text<const N: usize>(number: u8, behind: &[u8]) -> Option<usize>
+    requires { is_number_byte number ≡ true }
+    ensures bound { IfSome result (λ place. place + 5 ≤ length behind.now) }
+    ensures frame { IfSome result (λ place. IsFrame N (STX ∷ take (place + 6) (number ∷ behind.now))
+        (record {
+          number = number - 48;
+          last = slice_index (drop place behind.now) 0 == ETX;
+          text = take place behind.now;
+        })) }
+{
     let Some(place) = first_forbidden(behind) else {
         return None;
     };
@@ -151,21 +192,25 @@ pub(crate) fn front_frame<const N: usize>(bytes: &[u8]) -> Option<(LentFrame<'_>
     let [end, high, low, close, line_feed, _rest @ ..] = rest else {
         return None;
     };
-    if place > N || *line_feed != LF {
-        return None;
-    }
     let parts = Parts {
-        number: *number,
+        number,
         text,
         end: *end,
         high: *high,
         low: *low,
         close: *close,
     };
-    match parts.lent::<N>(None) {
-        Ok(frame) => Some((frame, place + FRAMING + 1)),
-        Err(_fault) => None,
+    if place > N || *line_feed != LF || !parts.is_shaped() || !parts.is_summed() {
+        return None;
     }
+    Some(place)
+}
+
+/// Whether a byte is a frame's number.
+fn is_number(byte: u8) -> bool
+    ensures { result ≡ is_number_byte byte }
+{
+    b'0' <= byte && byte <= b'7'
 }
 
 /// The sum of the number and the text, modulo 256.

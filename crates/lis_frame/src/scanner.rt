@@ -80,16 +80,14 @@ impl ByteSet for Marks {
     }
 }
 
-/// The bytes before the next mark.
-fn until_mark(bytes: &[u8]) -> &[u8]
-    ensures { result.now ≡ take (unmarked_length bytes.now) bytes.now }
+/// How many bytes stand before the next mark.
+fn until_mark(bytes: &[u8]) -> usize
+    ensures length { result ≡ unmarked_length bytes.now }
+    ensures bound { result ≤ length bytes.now }
 {
     match first_in::<Marks>(bytes) {
-        Some(place) => {
-            let (run, _) = bytes.split_at(place);
-            run
-        }
-        None => bytes,
+        Some(place) => place,
+        None => bytes.len(),
     }
 }
 
@@ -157,6 +155,7 @@ impl<const N: usize> ScannerOf<N> {
 
     /// The signal that this byte gives where it comes next, if it gives one; a frame is lent from what the
     /// scanner holds. With `take` behind it this is `push`, and no text is copied.
+    #[inline(always)]
     pub fn told(&self, byte: u8) -> Option<Heard<'_>>
         ensures signal { (past : List ℕ) → StandsFor N self.now past → heard_signal result ≡ signal_after N past byte }
         ensures limit { IsLimit N }
@@ -166,6 +165,7 @@ impl<const N: usize> ScannerOf<N> {
     }
 
     /// Reads one byte, and leaves its signal untold.
+    #[inline(always)]
     pub fn take(&mut self, byte: u8)
         ensures { (past : List ℕ) → StandsFor N self.old past → StandsFor N self.new (byte ∷ past) }
     {
@@ -178,6 +178,7 @@ impl<const N: usize> ScannerOf<N> {
     ///
     /// Whatever stream the scanner stands for, newest byte first, the bytes that were read give the
     /// frame that is lent and no other signal, and afterwards the scanner stands for the stream with them.
+    #[inline(always)]
     pub fn scan<'a>(&mut self, bytes: &'a [u8]) -> (usize, Option<LentFrame<'a>>)
         ensures bound { result.0 ≤ length bytes.now }
         ensures frame { IfSome result.1 (λ frame. IsFrame N (take result.0 bytes.now) frame) }
@@ -191,6 +192,10 @@ impl<const N: usize> ScannerOf<N> {
             return (0, None);
         };
         if *byte != STX {
+            // Most often it is a mark, which is read by itself.
+            if Marks::has(*byte) {
+                return (0, None);
+            }
             return (self.run_on(bytes), None);
         }
         if let Some((frame, count)) = front_frame::<N>(behind) {
@@ -202,13 +207,16 @@ impl<const N: usize> ScannerOf<N> {
     }
 
     /// Reads bytes up to the next mark, and answers how many they are.
+    #[inline(never)]
     fn run_on(&mut self, bytes: &[u8]) -> usize
         ensures count { result ≡ unmarked_length bytes.now }
         ensures held { self.new ≡ with_bytes N self.old (take (unmarked_length bytes.now) bytes.now) }
     {
-        let run = until_mark(bytes);
-        self.hold_run(run);
-        run.len()
+        let count = until_mark(bytes);
+        if self.is_open {
+            self.stretch.extend(bytes, count);
+        }
+        count
     }
 
     /// The signal of a byte, by what is held.
@@ -239,19 +247,8 @@ impl<const N: usize> ScannerOf<N> {
             }
             ENQ | EOT | LF => self.is_open = false,
             _ => {
-                if self.is_open {
-                    self.stretch.push(byte);
-                }
+                self.run_on(&[byte]);
             }
-        }
-    }
-
-    /// The same after bytes that are no marks.
-    fn hold_run(&mut self, run: &[u8])
-        ensures { self.new ≡ with_bytes N self.old run.now }
-    {
-        if self.is_open {
-            self.stretch.extend(run);
         }
     }
 }

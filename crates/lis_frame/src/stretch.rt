@@ -1,43 +1,38 @@
-//! The bytes since the last STX, in fixed buffers: its text stands in one piece, so that a run of bytes is
-//! taken at once.
+//! The bytes since the last STX, in fixed buffers: its text stands in one piece, and a run of bytes is taken at once.
 
-ghost use Rattle.std.specs.Prelude.{◌≡◌, [], Some, IfOk, MatchResult};
-ghost use Rattle.std.specs.Bool.{MatchBool};
+ghost use Rattle.std.specs.Prelude.{◌≡◌, ◌+◌, ◌≤◌, ◌<◌, [], ◌++◌, Some, IfOk, MatchResult, length, take, slice_index};
 ghost use Rattle.lis_frame.specs.Frame.{IsContent};
 ghost use Rattle.lis_frame.specs.Limit.{IsLimit};
-ghost use Rattle.lis_frame.specs.Scanner.{within, with_byte, with_bytes, ended_held};
+ghost use Rattle.lis_frame.specs.Scanner.{within, with_bytes, ended_held};
 ghost use Rattle.lis_frame.specs.declared.scanner.SignalOf.TheVariants.{Good, Bad};
 
 use crate::frame::FrameFault;
 use crate::lent::LentFrame;
 use crate::read::{FRAMING, Parts};
-use crate::text::{append, first_forbidden};
-use arrayvec::ArrayVec;
 use std::marker::Model;
+use std::simd::prelude::*;
 
-/// The bytes since STX: the number, the settled text, and the last four, which are text only if
-/// further bytes come. The count stops one past the greatest length of a stretch.
+/// The bytes since STX: how many, the number, and those behind it, in two buffers of which `back` goes on where
+/// `front` is full. What stands there past the count was left behind and is nothing. The count stops one past the
+/// greatest length of a stretch.
 #[derive(Drop)]
 pub(crate) struct StretchOf<const N: usize> {
     count: usize,
     number: u8,
-    text: ArrayVec<u8, N>,
-    end: u8,
-    high: u8,
-    low: u8,
-    close: u8,
+    front: [u8; N],
+    back: [u8; 4],
 }
 
 impl<const N: usize> Model for StretchOf<N> {
-    ghost use Rattle.std.specs.Prelude.{[], ◌∷◌};
+    ghost use Rattle.std.specs.Prelude.{◌++◌};
     ghost use Rattle.lis_frame.specs.Scanner.{Held};
     ghost use Rattle.lis_frame.specs.Kept.{kept_held, IsKept};
 
     ghost Value = { Held };
 
-    ghost view = { λ s. kept_held N s.count s.number s.text.items (s.end ∷ s.high ∷ s.low ∷ s.close ∷ []) };
+    ghost view = { λ s. kept_held N s.count s.number (s.front ++ s.back) };
 
-    ghost invariant = { λ s. IsKept N s.count s.text.items };
+    ghost invariant = { λ s. IsKept N s.count };
 }
 
 impl<const N: usize> StretchOf<N> {
@@ -49,11 +44,8 @@ impl<const N: usize> StretchOf<N> {
         StretchOf {
             count: 0,
             number: 0,
-            text: ArrayVec::new(),
-            end: 0,
-            high: 0,
-            low: 0,
-            close: 0,
+            front: [0; N],
+            back: [0; 4],
         }
     }
 
@@ -64,11 +56,8 @@ impl<const N: usize> StretchOf<N> {
         StretchOf {
             count: self.count,
             number: self.number,
-            text: copied(&self.text),
-            end: self.end,
-            high: self.high,
-            low: self.low,
-            close: self.close,
+            front: self.front,
+            back: self.back,
         }
     }
 
@@ -77,74 +66,39 @@ impl<const N: usize> StretchOf<N> {
         ensures { self.new ≡ within [] }
     {
         self.count = 0;
-        self.text.clear();
     }
 
-    /// Takes a byte that is no mark.
-    pub(crate) fn push(&mut self, byte: u8)
-        ensures { self.new ≡ with_byte N self.old byte }
+    /// Takes the first bytes of these, so many, none of which is a mark.
+    #[inline(always)]
+    pub(crate) fn extend(&mut self, bytes: &[u8], taken: usize)
+        requires { taken ≤ length bytes.now }
+        ensures { self.new ≡ with_bytes N self.old (take taken bytes.now) }
     {
-        if self.count >= N + FRAMING {
+        let count = self.count + taken;
+        if count > N + FRAMING {
             self.count = N + FRAMING + 1;
             return;
         }
-        if self.count == 0 {
-            self.number = byte;
-            self.count = 1;
+        if taken == 0 {
             return;
         }
-        let leaving = self.end;
-        self.end = self.high;
-        self.high = self.low;
-        self.low = self.close;
-        self.close = byte;
-        self.count += 1;
-        if self.count <= FRAMING {
+        if self.count > 0 {
+            put_behind(
+                &mut self.front,
+                &mut self.back,
+                self.count - 1,
+                bytes,
+                taken,
+            );
+            self.count = count;
             return;
         }
-        self.text.push(leaving);
-    }
-
-    /// Takes bytes that are no marks.
-    pub(crate) fn extend(&mut self, run: &[u8])
-        ensures { self.new ≡ with_bytes N self.old run.now }
-    {
-        let mut rest = run;
-        while let Some((byte, behind)) = rest.split_first() {
-            if self.take_run(rest) {
-                return;
-            }
-            self.push(*byte);
-            rest = behind;
-        }
-    }
-
-    /// Takes a run of bytes that are no marks at once, where five bytes are there and the run has at
-    /// least four. Else it takes none and answers false.
-    fn take_run(&mut self, run: &[u8]) -> bool
-        ensures { MatchBool result (self.new ≡ with_bytes N self.old run.now) (self.new ≡ self.old) }
-    {
-        let [most @ .., end, high, low, close] = run else {
-            return false;
+        let Some((number, behind)) = bytes.split_first() else {
+            return;
         };
-        if self.count < FRAMING {
-            return false;
-        }
-        if self.count > N + FRAMING {
-            return true;
-        }
-        if run.len() > N + FRAMING - self.count {
-            self.count = N + FRAMING + 1;
-            return true;
-        }
-        append(&mut self.text, &[self.end, self.high, self.low, self.close]);
-        append(&mut self.text, most);
-        self.end = *end;
-        self.high = *high;
-        self.low = *low;
-        self.close = *close;
-        self.count += run.len();
-        true
+        self.number = *number;
+        put_behind(&mut self.front, &mut self.back, 0, behind, taken - 1);
+        self.count = count;
     }
 
     /// The frame that an LF ends, its text lent, or the first fault.
@@ -159,24 +113,73 @@ impl<const N: usize> StretchOf<N> {
         if self.count < FRAMING {
             return Err(FrameFault::Shape);
         }
+        let place = self.count - FRAMING;
+        let (text, _) = self.front.split_at(place);
         let parts = Parts {
             number: self.number,
-            text: self.text.as_slice(),
-            end: self.end,
-            high: self.high,
-            low: self.low,
-            close: self.close,
+            text,
+            end: at_behind(&self.front, &self.back, place),
+            high: at_behind(&self.front, &self.back, place + 1),
+            low: at_behind(&self.front, &self.back, place + 2),
+            close: at_behind(&self.front, &self.back, place + 3),
         };
-        parts.lent::<N>(first_forbidden(parts.text))
+        parts.lent::<N>()
     }
 }
 
-/// The same bytes in a buffer of their own.
-fn copied<const N: usize>(bytes: &ArrayVec<u8, N>) -> ArrayVec<u8, N>
-    requires { IsLimit N }
-    ensures { result ≡ bytes.now }
+/// The byte at a place of two buffers that stand for one.
+fn at_behind(front: &[u8], back: &[u8], place: usize) -> u8
+    requires { place < length front.now + length back.now }
+    ensures { result ≡ slice_index (front.now ++ back.now) place }
 {
-    let mut copy = ArrayVec::new();
-    append(&mut copy, bytes.as_slice());
-    copy
+    if place < front.len() {
+        front[place]
+    } else {
+        back[place - front.len()]
+    }
+}
+
+/// Puts the first bytes of these, so many, at a place of two buffers that stand for one. What then stands behind them
+/// is nothing.
+#[inline(always)]
+fn put_behind(front: &mut [u8], back: &mut [u8], place: usize, bytes: &[u8], taken: usize)
+    requires fits { place + taken ≤ length front.old + length back.old }
+    requires there { taken ≤ length bytes.now }
+    ensures { take (place + taken) (front.new ++ back.new)
+        ≡ take place (front.old ++ back.old) ++ take taken bytes.now }
+{
+    let room = front.len();
+    // Most runs are short: they go with what stands behind them, at once.
+    if taken <= 16 && bytes.len() >= 16 && room >= 16 && place <= room - 16 {
+        u8x16::from_slice(bytes).copy_to_slice(&mut front[place..]);
+        return;
+    }
+    let (run, _) = bytes.split_at(taken);
+    put_run(front, back, place, run);
+}
+
+/// The same of all of these bytes.
+fn put_run(front: &mut [u8], back: &mut [u8], place: usize, run: &[u8])
+    requires { place + length run.now ≤ length front.old + length back.old }
+    ensures { take (place + length run.now) (front.new ++ back.new) ≡ take place (front.old ++ back.old) ++ run.now }
+{
+    let room = front.len();
+    if place + run.len() <= room {
+        put_at(front, place, run);
+    } else if place < room {
+        let (first, second) = run.split_at(room - place);
+        put_at(front, place, first);
+        put_at(back, 0, second);
+    } else {
+        put_at(back, place - room, run);
+    }
+}
+
+/// Puts bytes at a place of a buffer.
+fn put_at(buffer: &mut [u8], place: usize, bytes: &[u8])
+    requires { place + length bytes.now ≤ length buffer.old }
+    ensures bytes { take (place + length bytes.now) buffer.new ≡ take place buffer.old ++ bytes.now }
+    ensures len { length buffer.new ≡ length buffer.old }
+{
+    buffer[place..place + bytes.len()].copy_from_slice(bytes);
 }

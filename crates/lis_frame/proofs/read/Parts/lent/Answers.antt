@@ -5,13 +5,12 @@ use Rattle.lis_frame.proofs.StretchLemmas.{stretch_fault-parts, content_of-stret
 use Rattle.lis_frame.proofs.read.Parts.lent.Goals as goal
 
 pub returns-in-Some-clause-places : goal.returns-in-Some-clause-places
-returns-in-Some-clause-places g c =
-    stretch_fault-parts _ _ _ _ _ _ g.row.N c.requires.room ∙ rw (← c.requires.placed) (sym c.in-Some.ensures)
+returns-in-Some-clause-places g c = stretch_fault-parts _ _ _ _ _ _ g.row.N c.requires ∙ sym c.in-Some.ensures
 
 pub returns-in-None-clause-places : goal.returns-in-None-clause-places
 returns-in-None-clause-places g c = (
   c.of_parts.ensures ∙ sym (content_of-stretch_of _ _ _ _ _ _),
-  stretch_fault-parts _ _ _ _ _ _ g.row.N c.requires.room ∙ rw (← c.requires.placed) (sym c.in-None.ensures),
+  stretch_fault-parts _ _ _ _ _ _ g.row.N c.requires ∙ sym c.in-None.ensures,
 )
 
 pub returns-in-None-clause-content : goal.returns-in-None-clause-content
@@ -19,4 +18,4 @@ returns-in-None-clause-content g c =
     let parts = c.args.self.now in
     found-content g.row.N (stretch_of parts.number parts.text.now parts.end parts.high parts.low parts.close) _
     (c.of_parts.ensures ∙ sym (content_of-stretch_of _ _ _ _ _ _))
-    (stretch_fault-parts _ _ _ _ _ _ g.row.N c.requires.room ∙ rw (← c.requires.placed) (sym c.in-None.ensures))
+    (stretch_fault-parts _ _ _ _ _ _ g.row.N c.requires ∙ sym c.in-None.ensures)

@@ -1,8 +1,9 @@
-use Rattle.std.proofs.Common.{ap, length, ◌∙◌}
-use Rattle.std.specs.Prelude.{not}
-use Rattle.std.proofs.lemmas.List.Folds.{length-prefix_len}
-use Rattle.lis_frame.specs.Stream.{is_mark}
+use Rattle.std.proofs.Common.{sym, take}
+use Rattle.lis_frame.specs.Scanner.{unmarked_length}
+use Rattle.lis_frame.proofs.KeptLemmas.{with_bytes-outside}
 use Rattle.lis_frame.proofs.scanner.ScannerOf.run_on.Goals as goal
 
-pub returns-clause-count : goal.returns-clause-count
-returns-clause-count g c = ap length c.until_mark-run.ensures ∙ length-prefix_len (λ b. not (is_mark b)) c.args.bytes.now
+pub returns-else-self-clause-held : goal.returns-else-self-clause-held
+returns-else-self-clause-held g c =
+    let run = take (unmarked_length c.args.bytes.now) c.args.bytes.now in
+    rw (← c.self.view_is, c.if-self.false) (sym (with_bytes-outside g.row.N run))

@@ -1,0 +1,41 @@
+use Rattle.std.proofs.Common.{◌≡◌, ◌∙◌, None, get_or, refl, sym, arith}
+use Rattle.lis_frame.specs.Stretch.{stretch_of, stretch_fault}
+use Rattle.lis_frame.specs.Text.{is_forbidden, first_forbidden}
+use Rattle.lis_frame.proofs.ChunkLemmas.{clean-before}
+use Rattle.lis_frame.proofs.FrontLemmas.{front-frame}
+use Rattle.lis_frame.proofs.StretchLemmas.{content_of-stretch_of, stretch_fault-parts}
+use Rattle.lis_frame.proofs.read.front_text.Goals as goal
+
+pub split_at-requires : goal.split_at-requires
+split_at-requires g c =
+    let before = clean-before is_forbidden c.args.behind.now c.in-Some.place (sym c.in-Some.ensures) in
+    omega (arith, before.0)
+
+pub returns-clause-frame : goal.returns-clause-frame
+returns-clause-frame g c =
+    let before = clean-before is_forbidden c.args.behind.now c.in-Some.place (sym c.in-Some.ensures) in
+    let text = c.split_at.result.0.now in
+    let rest = c.split_at.result.1.now in
+    let end = get_or rest 0 0 in
+    let high = get_or rest 1 0 in
+    let low = get_or rest 2 0 in
+    let close = get_or rest 3 0 in
+    let clean : first_forbidden text ≡ None = rw c.split_at.ensures.front before.1 in
+    let sound : stretch_fault g.row.N (stretch_of c.args.number text end high low close) ≡ None =
+    stretch_fault-parts c.args.number text end high low close g.row.N (omega (arith, c.split_at.ensures.front_len))
+    ∙ rw (
+      ← c.is_shaped.ensures,
+      c.if-not-is_shaped.false,
+      c.requires,
+      clean,
+      ← c.is_summed.ensures,
+      c.if-not-is_summed.false,
+    )
+    refl in
+    let is = sym (content_of-stretch_of c.args.number text end high low close) in
+    let place = c.in-Some.place in
+    front-frame g.row.N c.args.number place c.args.behind.now _ (omega (arith, before.0))
+    (rw c.split_at.ensures.back at c.in-len5-up.len_at_least)
+    (rw c.split_at.ensures.back at c.if-line_feed-ne-LF.false)
+    (rw (c.split_at.ensures.front, c.split_at.ensures.back) at sound)
+    (rw (c.split_at.ensures.front, c.split_at.ensures.back) at is)
