@@ -10,12 +10,12 @@ use Rattle.lis_record.specs.declared.records.TheConstants.{RECORD_LIMIT}
 use Rattle.lis_record.specs.Delimiters.{DelimiterBytes, IsDelimiters}
 use Rattle.lis_record.specs.Relation.{IsRecord}
 use Rattle.lis_record.specs.Shape.{RecordContent}
-use Rattle.lis_message.specs.Begun.{Begun}
-use Rattle.lis_message.specs.Level.{Level, outside, closed, next_level, level_after, misplaced, StandsFrom}
-use Rattle.lis_message.specs.Stream.{ended, kinds_of, level_of, AreMessage, IsCut, LacksReturn}
+use Rattle.lis_tree.specs.Begun.{Begun, level_of}
+use Rattle.lis_tree.specs.Level.{outside, closed, next_level, misplaced}
+use Rattle.lis_message.specs.Stream.{ended, AreMessage, IsCut, LacksReturn}
 use Rattle.lis_message.specs.Taking.{begun_with, Taken, header, inner, closing}
-use Rattle.lis_message.specs.Tree.{MessageTree, IsTree, flatten}
-use Rattle.lis_message.proofs.Levels.{map_append, level_append, stands_append}
+use Rattle.lis_tree.specs.Tree.{MessageTree, IsTree, flatten}
+use Rattle.lis_tree.proofs.Levels.{level_more, next_unclosed, stands_more}
 use Rattle.lis_message.proofs.Lines.{lacks_append}
 
 -- nothing is read of no bytes
@@ -56,24 +56,6 @@ header_open k h e = let f : next_level outside kinds.H ≡ closed = ap (next_lev
 some_snoc : (rs : List RecordContent) (r : RecordContent) → rs ++ r ∷ [] ≢ []
 some_snoc [] r e = cc
 some_snoc (x ∷ rs) r e = cc
-
--- a record that doesn't close a message leaves it open
-pub next_unclosed : (l : Level) (k : Kind) → l ≢ closed → k ≢ kinds.L → next_level l k ≢ closed
-next_unclosed l kinds.H u o e = cc
-next_unclosed l kinds.P u o e = cc
-next_unclosed l kinds.O u o e = cc
-next_unclosed l kinds.R u o e = u e
-next_unclosed l kinds.C u o e = u e
-next_unclosed l kinds.Q u o e = cc
-next_unclosed l kinds.M u o e = u e
-next_unclosed l kinds.S u o e = u e
-next_unclosed l kinds.L u o e = o refl
-
-pub level_more : (rs : List RecordContent) (r : RecordContent) → level_after outside (kinds_of (rs ++ r ∷ [])) ≡ next_level (level_after outside (kinds_of rs)) r.kind
-level_more rs r = ap (level_after outside) (map_append rs (r ∷ [])) ∙ level_append outside (kinds_of rs) (r.kind ∷ [])
-
-pub stands_more : (rs : List RecordContent) (r : RecordContent) → StandsFrom outside (kinds_of rs) → misplaced (level_after outside (kinds_of rs)) r.kind ≡ None → StandsFrom outside (kinds_of (rs ++ r ∷ []))
-stands_more rs r p q = subst (StandsFrom outside) (sym (map_append rs (r ∷ []))) (stands_append outside (kinds_of rs) (r.kind ∷ []) p (q, tt))
 
 cut_header : (stream : List ℕ) (messages : List MessageTree) (held : List ℕ) (c : IsCut stream messages None held) (d : DelimiterBytes) (r : RecordContent) → IsDelimiters d → IsRecord d held r → r.kind ≡ kinds.H
     → IsCut (stream ++ 13 ∷ []) messages (begun_with d (r ∷ [])) []

@@ -1,12 +1,12 @@
 -- A stream is refused in one way at most.
 use Rattle.std.proofs.Common.{◌≡◌, ℕ, ◌⊎◌, inl, inr, ⊎_elim, List, [], ◌∷◌, ◌++◌, Option, Some, None, refl, sym, ◌∙◌, ap, subst, append_assoc, arith}
 use Rattle.std.proofs.lemmas.List.{append-nil}
-use Rattle.lis_message.specs.declared.fault.MessageFault.{MessageFault}
-use Rattle.lis_message.specs.declared.fault.Reason.{Reason}
-use Rattle.lis_message.specs.Begun.{Begun}
+use Rattle.lis_tree.specs.declared.fault.MessageFault.{MessageFault}
+use Rattle.lis_tree.specs.declared.fault.Reason.{Reason}
+use Rattle.lis_tree.specs.Begun.{Begun}
 use Rattle.lis_message.specs.Feeding.{next_place}
 use Rattle.lis_message.specs.Stream.{ended, refusal, IsRefused, IsRefusedText, IsLongText, LacksReturn}
-use Rattle.lis_message.specs.Tree.{MessageTree}
+use Rattle.lis_tree.specs.Tree.{MessageTree}
 use Rattle.lis_message.proofs.Lines.{AllLack, line_one, longer_front, ended_cons}
 use Rattle.lis_message.proofs.Reading.{State, Run, Step, start, all_texts, cut_runs, cut_lines, run_lacks, run_one, run_split, step_lacks}
 use Rattle.lis_message.proofs.Refusals.{read_short, read_unrefused}

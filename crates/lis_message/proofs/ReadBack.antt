@@ -8,12 +8,12 @@ use Rattle.lis_record.specs.Relation.{IsRecord}
 use Rattle.lis_record.specs.Shape.{RecordContent, IsRecordShape}
 use Rattle.lis_record.specs.Spelling.{spelled, written}
 use Rattle.lis_record.proofs.ReadBack.{IsRecord-spelled}
-use Rattle.lis_message.specs.declared.fault.MessageFault.{MessageFault}
-use Rattle.lis_message.specs.declared.fault.Reason.TheVariants as reasons
-use Rattle.lis_message.specs.Begun.{Begun}
+use Rattle.lis_tree.specs.declared.fault.MessageFault.{MessageFault}
+use Rattle.lis_tree.specs.declared.fault.Reason.TheVariants as reasons
+use Rattle.lis_tree.specs.Begun.{Begun}
 use Rattle.lis_message.specs.Feeding.{ReadsWhole, Stops, IsFrontCut, IsCutShort, at_end}
 use Rattle.lis_message.specs.Stream.{ended, AreMessage, IsMessage, IsCut, IsRefused}
-use Rattle.lis_message.specs.Tree.{MessageTree, IsTree, flatten}
+use Rattle.lis_tree.specs.Tree.{MessageTree, IsTree, flatten}
 use Rattle.lis_message.specs.Writing.{message_bytes, records_bytes, AreWritable, IsWritable}
 use Rattle.lis_message.proofs.Reading.{cut_one}
 use Rattle.lis_message.proofs.Refusals.{refused_uncut}

@@ -2,18 +2,17 @@
 use Rattle.std.proofs.Common.{◌≡◌, ◌≢◌, ℕ, List, [], ◌∷◌, ◌++◌, Option, Some, None, refl, sym, ◌∙◌, ap, subst, append_assoc}
 use Rattle.std.specs.List.{AllZip, flat_map}
 use Rattle.std.proofs.lemmas.List.{append-nil}
-use Rattle.lis_record.specs.declared.kinds.Kind.{Kind}
 use Rattle.lis_record.specs.declared.kinds.Kind.TheVariants as kinds
 use Rattle.lis_record.specs.Delimiters.{DelimiterBytes, IsDelimiters, delimiter_list}
 use Rattle.lis_record.specs.Relation.{IsRecord, declared_part}
 use Rattle.lis_record.specs.Shape.{RecordContent}
 use Rattle.lis_record.proofs.RecordTexts.{IsRecord-one}
-use Rattle.lis_message.specs.Begun.{Begun}
-use Rattle.lis_message.specs.Level.{Level, outside, in_header, in_patient, in_order, in_query, closed, next_level, level_after, misplaced, StandsFrom}
-use Rattle.lis_message.specs.Stream.{ended, kinds_of, level_of, AreMessage, AreLeft, IsCut, LacksReturn}
-use Rattle.lis_message.specs.Tree.{MessageTree, IsTree, flatten, group_records}
-use Rattle.lis_message.proofs.Flatten.{flatten_one}
-use Rattle.lis_message.proofs.Levels.{IsInside, map_append, level_append, tree_leads}
+use Rattle.lis_tree.specs.Begun.{Begun, level_of}
+use Rattle.lis_tree.specs.Level.{Level, outside, in_header, in_patient, in_order, in_query, closed, next_level, level_after, misplaced, StandsFrom, kinds_of}
+use Rattle.lis_message.specs.Stream.{ended, AreMessage, AreLeft, IsCut, LacksReturn}
+use Rattle.lis_tree.specs.Tree.{MessageTree, IsTree, flatten, group_records}
+use Rattle.lis_tree.proofs.Flatten.{flatten_one}
+use Rattle.lis_tree.proofs.Levels.{IsInside, header_first, level_append, map_append, next_begun, other_kind, tree_leads, unclosed_first}
 use Rattle.lis_message.proofs.Lines.{AllLack, text_lacks, lines_one, ended_append}
 
 -- the messages that are read, and what is left
@@ -119,55 +118,6 @@ run_split s [] ys e h = (s, refl, h)
 run_split s (x ∷ xs) ys e h = let below = run_split h.0 xs ys e h.2 in (below.0, (h.0, h.1, below.1), below.2)
 
 -- ---- a cut is a run
-
--- after its end a message takes nothing but a header, which is one too many
-pub nothing_closed : (k : Kind) → misplaced closed k ≡ None → ⊥
-nothing_closed kinds.H e = cc
-nothing_closed kinds.P e = cc
-nothing_closed kinds.O e = cc
-nothing_closed kinds.R e = cc
-nothing_closed kinds.C e = cc
-nothing_closed kinds.Q e = cc
-nothing_closed kinds.M e = cc
-nothing_closed kinds.S e = cc
-nothing_closed kinds.L e = cc
-
-pub header_first : (k : Kind) → misplaced outside k ≡ None → k ≡ kinds.H
-header_first kinds.H e = refl
-header_first kinds.P e = absurd cc
-header_first kinds.O e = absurd cc
-header_first kinds.R e = absurd cc
-header_first kinds.C e = absurd cc
-header_first kinds.Q e = absurd cc
-header_first kinds.M e = absurd cc
-header_first kinds.S e = absurd cc
-header_first kinds.L e = absurd cc
-
--- the first record of a run that doesn't end a message doesn't end it
-pub unclosed_first : (l : Level) (k : Kind) (ks : List Kind) → StandsFrom l (k ∷ ks) → level_after l (k ∷ ks) ≢ closed → k ≢ kinds.L
-unclosed_first l k [] p u e = u (ap (next_level l) e)
-unclosed_first l k (j ∷ ks) p u e =
-    nothing_closed j (subst (λ m. misplaced m j ≡ None) (ap (next_level l) e) p.1.0)
-
--- inside a message no header stands
-pub other_kind : (l : Level) (k : Kind) → l ≢ outside → misplaced l k ≡ None → k ≢ kinds.H
-other_kind outside k o p e = o refl
-other_kind in_header k o p e = let h : misplaced in_header kinds.H ≡ None = ap (misplaced in_header) (sym e) ∙ p in cc
-other_kind in_patient k o p e = let h : misplaced in_patient kinds.H ≡ None = ap (misplaced in_patient) (sym e) ∙ p in cc
-other_kind in_order k o p e = let h : misplaced in_order kinds.H ≡ None = ap (misplaced in_order) (sym e) ∙ p in cc
-other_kind in_query k o p e = let h : misplaced in_query kinds.H ≡ None = ap (misplaced in_query) (sym e) ∙ p in cc
-other_kind closed k o p e = nothing_closed k p
-
-pub next_begun : (l : Level) (k : Kind) → l ≢ outside → next_level l k ≢ outside
-next_begun l kinds.H o e = cc
-next_begun l kinds.P o e = cc
-next_begun l kinds.O o e = cc
-next_begun l kinds.R o e = o e
-next_begun l kinds.C o e = o e
-next_begun l kinds.Q o e = cc
-next_begun l kinds.M o e = o e
-next_begun l kinds.S o e = o e
-next_begun l kinds.L o e = cc
 
 -- one record more
 abbrev with_one : Begun → RecordContent → Begun

@@ -11,13 +11,13 @@ use Rattle.lis_record.specs.Faults.{header_fault, record_fault}
 use Rattle.lis_record.specs.Relation.{IsRecord, declared_part}
 use Rattle.lis_record.specs.Shape.{RecordContent}
 use Rattle.lis_record.proofs.FaultLaws.{header_fault-IsRecord, record_fault-IsRecord}
-use Rattle.lis_message.specs.declared.fault.MessageFault.{MessageFault}
-use Rattle.lis_message.specs.declared.fault.Reason.{Reason}
-use Rattle.lis_message.specs.declared.fault.Reason.TheVariants as reasons
-use Rattle.lis_message.specs.Begun.{Begun}
-use Rattle.lis_message.specs.Level.{misplaced}
-use Rattle.lis_message.specs.Stream.{ended, level_of, kind_refusal, letter_refusal, refusal, IsCut, IsRefused, IsRefusedText, IsLongText, LacksReturn}
-use Rattle.lis_message.specs.Tree.{MessageTree}
+use Rattle.lis_tree.specs.declared.fault.MessageFault.{MessageFault}
+use Rattle.lis_tree.specs.declared.fault.Reason.{Reason}
+use Rattle.lis_tree.specs.declared.fault.Reason.TheVariants as reasons
+use Rattle.lis_tree.specs.Begun.{Begun, level_of}
+use Rattle.lis_tree.specs.Level.{misplaced}
+use Rattle.lis_message.specs.Stream.{ended, kind_refusal, letter_refusal, refusal, IsCut, IsRefused, IsRefusedText, IsLongText, LacksReturn}
+use Rattle.lis_tree.specs.Tree.{MessageTree}
 use Rattle.lis_message.proofs.Lines.{line_one, lines_front, longer_front, ended_cons, no_return_in}
 use Rattle.lis_message.proofs.Reading.{State, Step, StepFrom, Run, start, all_texts, cut_runs, cut_lines, run_lacks, run_one, run_split, step_lacks}
 

@@ -4,13 +4,13 @@ use Rattle.std.specs.Option.{option_to_list}
 use Rattle.std.specs.List.{flat_map}
 use Rattle.std.proofs.lemmas.List.{append-nil, take-append-drop}
 use Rattle.lis_record.specs.declared.records.TheConstants.{RECORD_LIMIT}
-use Rattle.lis_message.specs.declared.fault.MessageFault.{MessageFault}
-use Rattle.lis_message.specs.declared.fault.Reason.TheVariants as reasons
-use Rattle.lis_message.specs.Begun.{Begun}
+use Rattle.lis_tree.specs.declared.fault.MessageFault.{MessageFault}
+use Rattle.lis_tree.specs.declared.fault.Reason.TheVariants as reasons
+use Rattle.lis_tree.specs.Begun.{Begun}
 use Rattle.lis_message.specs.Feeding.{Unended, Stops, Goes, StopsIn, next_place}
 use Rattle.lis_message.specs.Stream.{ended, refusal, IsCut, IsRefused, LacksReturn}
 use Rattle.lis_message.specs.Taking.{Taken}
-use Rattle.lis_message.specs.Tree.{MessageTree}
+use Rattle.lis_tree.specs.Tree.{MessageTree}
 use Rattle.lis_message.proofs.Cuts.{cut_hold, cut_taken}
 use Rattle.lis_message.proofs.Lines.{lacks_append}
 

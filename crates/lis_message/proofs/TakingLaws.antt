@@ -11,11 +11,11 @@ use Rattle.lis_record.specs.Kinds.{kind_of}
 use Rattle.lis_record.specs.Relation.{IsRecord}
 use Rattle.lis_record.specs.Shape.{RecordContent}
 use Rattle.lis_record.proofs.FaultLaws.{record_fault-IsRecord}
-use Rattle.lis_message.specs.declared.fault.Reason.{Reason}
-use Rattle.lis_message.specs.declared.fault.Reason.TheVariants as reasons
-use Rattle.lis_message.specs.Begun.{Begun}
-use Rattle.lis_message.specs.Level.{misplaced}
-use Rattle.lis_message.specs.Stream.{kind_refusal, letter_refusal, level_of, refusal}
+use Rattle.lis_tree.specs.declared.fault.Reason.{Reason}
+use Rattle.lis_tree.specs.declared.fault.Reason.TheVariants as reasons
+use Rattle.lis_tree.specs.Begun.{Begun, level_of}
+use Rattle.lis_tree.specs.Level.{misplaced}
+use Rattle.lis_message.specs.Stream.{kind_refusal, letter_refusal, refusal}
 use Rattle.lis_message.specs.Taking.{front_refusal, letter_front, reason_of}
 use Rattle.lis_message.proofs.Refusals.{refusal_at, refusal-header, refusal-other}
 

@@ -1,10 +1,10 @@
 -- A stream that is read whole.
 use Rattle.std.proofs.Common.{◌≡◌, ℕ, List, [], ◌∷◌, ◌++◌, Option, Some, None, Ok, Err, inl, inr, refl, sym, ◌∙◌, ap, subst}
-use Rattle.lis_message.specs.declared.fault.MessageFault.{MessageFault}
-use Rattle.lis_message.specs.Begun.{Begun}
+use Rattle.lis_tree.specs.declared.fault.MessageFault.{MessageFault}
+use Rattle.lis_tree.specs.Begun.{Begun}
 use Rattle.lis_message.specs.Feeding.{ReaderState, Reads, ReadsWhole, at_end, finished}
 use Rattle.lis_message.specs.Stream.{IsCut}
-use Rattle.lis_message.specs.Tree.{MessageTree}
+use Rattle.lis_tree.specs.Tree.{MessageTree}
 use Rattle.lis_message.proofs.Cuts.{cut_start}
 
 -- what a reader gives and keeps that is fed at the start of a stream

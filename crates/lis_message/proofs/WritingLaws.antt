@@ -2,7 +2,7 @@
 use Rattle.std.proofs.Common.{◌≡◌, ℕ, zero, suc, ◌+◌, ◌-◌, ◌<◌, ◌≤◌, Bool, true, false, List, [], ◌∷◌, ◌++◌, length, map, take, drop, Option, Some, None, Result, Ok, Err, refl, sym, ◌∙◌, ap, subst, append_assoc, arith, length-append, length-drop, length-take}
 use Rattle.std.specs.Io.KnownBytes.{Appends}
 use Rattle.std.specs.Option.{option_or}
-use Rattle.lis_message.specs.Tree.{MessageTree, flatten}
+use Rattle.lis_tree.specs.Tree.{MessageTree, flatten}
 use Rattle.std.specs.Prelude.{IfErr, option_map, nat_lt, if◌then◌else◌}
 use Rattle.std.proofs.lemmas.List.{append-nil, drop-drop}
 use Rattle.lis_record.specs.declared.faults.WriteFault.{WriteFault}
@@ -14,7 +14,7 @@ use Rattle.lis_record.specs.Shape.{RecordContent}
 use Rattle.lis_record.specs.Spelling.{spelled, written}
 use Rattle.lis_record.specs.Writing.{Wrote, is_io}
 use Rattle.lis_message.specs.declared.fault.MessageWriteFault.{MessageWriteFault}
-use Rattle.lis_message.specs.Stream.{capped}
+use Rattle.lis_tree.specs.Places.{capped}
 use Rattle.lis_message.specs.Writing.{records_bytes, AreWritable, CanResume, refusal_from, first_bytes, first_length, front_of, StoppedIn, WroteRecords}
 
 -- ---- refusals

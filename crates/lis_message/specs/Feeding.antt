@@ -1,10 +1,11 @@
 -- What a message reader keeps of a stream, and what it answers to a piece of it.
 use Rattle.std.specs.Prelude.{◌≡◌, ℕ, List, [], ◌++◌, Option, Some, None, Result, Ok, Err, ◌⊎◌, ◌+◌}
-use Rattle.lis_message.specs.declared.fault.MessageFault.{MessageFault}
-use Rattle.lis_message.specs.declared.fault.Reason.TheVariants as reasons
-use Rattle.lis_message.specs.Begun.{Begun}
-use Rattle.lis_message.specs.Stream.{IsCut, IsRefused, count_of, capped}
-use Rattle.lis_message.specs.Tree.{MessageTree}
+use Rattle.lis_tree.specs.declared.fault.MessageFault.{MessageFault}
+use Rattle.lis_tree.specs.declared.fault.Reason.TheVariants as reasons
+use Rattle.lis_tree.specs.Begun.{Begun}
+use Rattle.lis_tree.specs.Places.{capped}
+use Rattle.lis_message.specs.Stream.{IsCut, IsRefused, count_of}
+use Rattle.lis_tree.specs.Tree.{MessageTree}
 
 -- what follows the whole messages of a stream: a message that isn't closed, and bytes of a record that isn't ended
 pub record Unended : Type 0 where

@@ -1,16 +1,5 @@
-pub mod Begun
 pub mod Feeding
-pub mod Findings
-pub mod Front
-pub mod Hierarchy
-pub mod Level
-pub mod Nodes
-pub mod Numbers
-pub mod Open
-pub mod Spine
 pub mod Stream
 pub mod Taking
 pub mod Texts
-pub mod Tree
-pub mod Walk
 pub mod Writing

@@ -1,5 +1,5 @@
 -- A stream of record texts, each ended by CR, and the messages that it holds (LIS02-A2).
-use Rattle.std.specs.Prelude.{◌≡◌, ◌≢◌, ℕ, ◌+◌, ◌≤◌, min, List, [], ◌∷◌, ◌++◌, length, map, Option, Some, None, option_map, ◌⊎◌}
+use Rattle.std.specs.Prelude.{◌≡◌, ◌≢◌, ℕ, ◌+◌, ◌≤◌, List, [], ◌∷◌, ◌++◌, length, Option, Some, None, option_map, ◌⊎◌}
 use Rattle.std.specs.List.{AllZip, AllByRecursion, flat_map}
 use Rattle.std.specs.Option.{option_or}
 use Rattle.lis_record.specs.declared.kinds.Kind.{Kind}
@@ -10,13 +10,13 @@ use Rattle.lis_record.specs.Delimiters.{IsDelimiters}
 use Rattle.lis_record.specs.Faults.{header_fault, record_fault}
 use Rattle.lis_record.specs.Kinds.{kind_of}
 use Rattle.lis_record.specs.Relation.{IsRecord}
-use Rattle.lis_record.specs.Shape.{RecordContent}
-use Rattle.lis_message.specs.declared.fault.MessageFault.{MessageFault}
-use Rattle.lis_message.specs.declared.fault.Reason.{Reason}
-use Rattle.lis_message.specs.declared.fault.Reason.TheVariants as reasons
-use Rattle.lis_message.specs.Begun.{Begun}
-use Rattle.lis_message.specs.Level.{Level, outside, closed, level_after, misplaced, StandsFrom}
-use Rattle.lis_message.specs.Tree.{MessageTree, IsTree, flatten}
+use Rattle.lis_tree.specs.declared.fault.MessageFault.{MessageFault}
+use Rattle.lis_tree.specs.declared.fault.Reason.{Reason}
+use Rattle.lis_tree.specs.declared.fault.Reason.TheVariants as reasons
+use Rattle.lis_tree.specs.Begun.{Begun, level_of}
+use Rattle.lis_tree.specs.Level.{outside, closed, kinds_of, level_after, misplaced, StandsFrom}
+use Rattle.lis_tree.specs.Places.{capped}
+use Rattle.lis_tree.specs.Tree.{MessageTree, IsTree, flatten}
 
 -- a text and its CR
 abbrev pub line : List ℕ → List ℕ
@@ -29,10 +29,6 @@ ended texts = flat_map line texts
 -- no CR stands there
 abbrev pub LacksReturn : List ℕ → Type 0
 LacksReturn bytes = AllByRecursion (λ b. b ≢ 13) bytes
-
--- the kinds of records
-abbrev pub kinds_of : List RecordContent → List Kind
-kinds_of records = map (λ r. r.kind) records
 
 -- These texts are the message's records, under the delimiters of its header's text.
 pub record AreMessage (texts : List (List ℕ)) (message : MessageTree) : Type 0 where
@@ -68,19 +64,10 @@ pub record IsCut (stream : List ℕ) (messages : List MessageTree) (left : Optio
 
 -- ---- what can't be read
 
--- where the next record would stand
-abbrev pub level_of : Option Begun → Level
-level_of None = outside
-level_of (Some begun) = level_after outside (kinds_of begun.records)
-
 -- how many records of the message are read
 abbrev pub count_of : Option Begun → ℕ
 count_of None = 0
 count_of (Some begun) = length begun.records
-
--- a place in a message, which stays at the greatest number
-abbrev pub capped : ℕ → ℕ
-capped n = min n 18446744073709551615
 
 -- the first reason that a text with a letter of this kind can't come next
 unfoldable pub kind_refusal : Option Begun → Kind → List ℕ → Option Reason
@@ -123,26 +110,3 @@ pub record IsRefused (stream : List ℕ) (messages : List MessageTree) (fault : 
   pub lacks : LacksReturn text
   pub place : fault.place ≡ capped (count_of left + 1)
   pub refused : IsRefusedText left text more fault.reason ⊎ IsLongText text fault.reason
-
--- ---- a list of records
-
--- a record of a list that can't stand where it does, the first of them
-pub record IsMisplacedAt (ks : List Kind) (fault : MessageFault) : Type 0 where
-  pub before : List Kind
-  pub kind : Kind
-  pub behind : List Kind
-  pub whole : ks ≡ before ++ kind ∷ behind
-  pub placed : StandsFrom outside before
-  pub why : misplaced (level_after outside before) kind ≡ Some fault.reason
-  pub place : fault.place ≡ capped (length before + 1)
-
--- a list whose message isn't closed
-pub record IsUnclosed (ks : List Kind) (fault : MessageFault) : Type 0 where
-  pub placed : StandsFrom outside ks
-  pub unclosed : level_after outside ks ≢ closed
-  pub why : fault.reason ≡ reasons.Unfinished
-  pub place : fault.place ≡ capped (length ks + 1)
-
--- why records are not one message
-abbrev pub IsListFault : List Kind → MessageFault → Type 0
-IsListFault ks fault = IsMisplacedAt ks fault ⊎ IsUnclosed ks fault

@@ -6,14 +6,13 @@ use Rattle.lis_record.specs.declared.faults.RecordFault.{RecordFault}
 use Rattle.lis_record.specs.declared.faults.RecordFault.TheVariants as record_faults
 use Rattle.lis_record.specs.declared.kinds.Kind.{Kind}
 use Rattle.lis_record.specs.Kinds.{kind_of}
-use Rattle.lis_message.specs.declared.fault.Reason.{Reason}
-use Rattle.lis_message.specs.declared.fault.Reason.TheVariants as reasons
+use Rattle.lis_tree.specs.declared.fault.Reason.{Reason}
+use Rattle.lis_tree.specs.declared.fault.Reason.TheVariants as reasons
 use Rattle.lis_record.specs.Relation.{IsRecord}
 use Rattle.lis_record.specs.Shape.{RecordContent}
-use Rattle.lis_message.specs.Begun.{Begun}
-use Rattle.lis_message.specs.Level.{misplaced}
-use Rattle.lis_message.specs.Stream.{level_of}
-use Rattle.lis_message.specs.Tree.{MessageTree, IsTree, flatten}
+use Rattle.lis_tree.specs.Begun.{Begun, level_of}
+use Rattle.lis_tree.specs.Level.{misplaced}
+use Rattle.lis_tree.specs.Tree.{MessageTree, IsTree, flatten}
 
 -- a message with these records
 abbrev pub begun_with : DelimiterBytes → List RecordContent → Option Begun

@@ -2,7 +2,7 @@
 use Rattle.std.specs.Prelude.{◌≡◌, ◌<◌, ◌≤◌, length, Some, None}
 use Rattle.lis_message.specs.declared.texts.TextsFault.{TextsFault}
 use Rattle.lis_message.specs.declared.texts.TextsFault.TheVariants.{BadRecord, TooMany, OutOfMemory}
-use Rattle.lis_message.specs.Tree.{MessageTree, flatten}
+use Rattle.lis_tree.specs.Tree.{MessageTree, flatten}
 use Rattle.lis_message.specs.Writing.{write_refusal}
 
 -- a record that can't be written, else too many records, else want of memory

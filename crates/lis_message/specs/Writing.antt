@@ -10,8 +10,8 @@ use Rattle.lis_record.specs.Shape.{RecordContent}
 use Rattle.lis_record.specs.Spelling.{written}
 use Rattle.lis_record.specs.Writing.{is_io}
 use Rattle.lis_message.specs.declared.fault.MessageWriteFault.{MessageWriteFault}
-use Rattle.lis_message.specs.Stream.{capped}
-use Rattle.lis_message.specs.Tree.{MessageTree, flatten}
+use Rattle.lis_tree.specs.Places.{capped}
+use Rattle.lis_tree.specs.Tree.{MessageTree, flatten}
 
 -- the records' spellings in order, CR after each
 abbrev pub records_bytes : DelimiterBytes → List RecordContent → List ℕ

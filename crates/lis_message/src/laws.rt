@@ -1,17 +1,14 @@
 //! What holds of all messages and streams, over the definitions that the contracts cite.
 ghost use Rattle.std.specs.Prelude.{◌≡◌, ℕ, List, [], Option, None};
 ghost use Rattle.std.specs.List.{AllByRecursion, flat_map};
-ghost use Rattle.lis_record.specs.declared.kinds.Kind.{Kind};
 ghost use Rattle.lis_record.specs.declared.kinds.Kind.TheVariants as kinds;
 ghost use Rattle.lis_record.specs.Delimiters.{DelimiterBytes};
 ghost use Rattle.lis_record.specs.Relation.{IsRecord};
 ghost use Rattle.lis_record.specs.Shape.{RecordContent};
-ghost use Rattle.lis_message.specs.declared.fault.MessageFault.{MessageFault};
-ghost use Rattle.lis_message.specs.Begun.{Begun};
-ghost use Rattle.lis_message.specs.Hierarchy.{IsViable};
-ghost use Rattle.lis_message.specs.Level.{StandsFrom, outside};
+ghost use Rattle.lis_tree.specs.declared.fault.MessageFault.{MessageFault};
+ghost use Rattle.lis_tree.specs.Begun.{Begun};
 ghost use Rattle.lis_message.specs.Stream.{IsCut, IsMessage, IsRefused};
-ghost use Rattle.lis_message.specs.Tree.{MessageTree, IsTree, flatten};
+ghost use Rattle.lis_tree.specs.Tree.{MessageTree, IsTree, flatten};
 ghost use Rattle.lis_message.specs.Writing.{message_bytes, IsWritable};
 
 /// Messages that can be written are read back: the bytes of one are that message, and those of several in a row are cut
@@ -41,10 +38,4 @@ pub fn one_tree()
     ensures tree { (m n : MessageTree) → IsTree m → IsTree n → m.delimiters ≡ n.delimiters → flatten m ≡ flatten n → m ≡ n }
     ensures delimiters { (d e : DelimiterBytes) (text : List ℕ) (r s : RecordContent) → IsRecord d text r → IsRecord e text s
         → r.kind ≡ kinds.H → s.kind ≡ kinds.H → d ≡ e }
-{}
-
-/// The hierarchy by the place of the next record is that in the standard's words.
-pub fn hierarchy()
-    ensures viable { (ks : List Kind) → StandsFrom outside ks → IsViable ks }
-    ensures stands { (ks : List Kind) → IsViable ks → StandsFrom outside ks }
 {}

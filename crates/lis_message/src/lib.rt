@@ -1,18 +1,20 @@
-//! Messages of LIS02-A2: the tree of a message's records, a reader over a stream that comes in pieces, a writer, and
-//! the findings on sequence numbers.
+//! Messages of LIS02-A2 as bytes: a reader over a stream that comes in pieces, a writer, and the link texts of a message.
 #![tactic(auto)]
 
-pub mod fault;
-pub mod findings;
+mod fault;
 pub mod laws;
-pub mod lists;
-pub mod message;
-mod open;
-pub mod reader;
-mod spine;
+mod reader;
 #[cfg(test)]
 mod tests;
-pub mod texts;
-pub mod tree;
-mod walk;
-pub mod writer;
+mod texts;
+mod writer;
+
+pub use fault::MessageWriteFault;
+pub use lis_frame::{LinkText, Texts};
+pub use lis_record::{Delimiters, Kind, Record, RecordFault, WriteFault};
+pub use lis_tree::{
+    Group, Message, MessageFault, Order, Patient, Query, Reason, Records, ResultEntry,
+};
+pub use reader::{Fed, MessageReader, Messages, read_messages};
+pub use texts::{TextsFault, message_texts};
+pub use writer::{write_message, write_message_from};

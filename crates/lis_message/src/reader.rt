@@ -2,26 +2,27 @@
 ghost use Rattle.std.specs.Prelude.{◌≡◌, ◌≢◌, ℕ, true, false, ◌+◌, ◌<◌, ◌≤◌, ◌∷◌, [], ◌++◌, ◌⊎◌, List, Option, IfOk, IfErr, OnOk, OnSome, IfSome, IfNone, MatchOption, None, Some, length};
 ghost use Rattle.std.specs.Option.{option_to_list};
 ghost use Rattle.lis_record.specs.declared.records.TheConstants.{RECORD_LIMIT};
-ghost use Rattle.lis_message.specs.declared.fault.Reason.TheVariants as reasons;
+ghost use Rattle.lis_tree.specs.declared.fault.Reason.TheVariants as reasons;
 ghost use Rattle.lis_record.specs.declared.kinds.Kind.TheVariants as kinds;
 ghost use Rattle.lis_record.specs.Relation.{IsRecord};
-ghost use Rattle.lis_message.specs.Level.{misplaced};
-ghost use Rattle.lis_message.specs.Stream.{IsCut, LacksReturn, refusal, level_of};
+ghost use Rattle.lis_tree.specs.Level.{misplaced};
+ghost use Rattle.lis_tree.specs.Begun.{level_of};
+ghost use Rattle.lis_message.specs.Stream.{IsCut, LacksReturn, refusal};
 ghost use Rattle.lis_message.specs.Taking.{Taken, front_refusal, reason_of};
-ghost use Rattle.lis_message.specs.Tree.{MessageTree, IsTree};
+ghost use Rattle.lis_tree.specs.Tree.{MessageTree, IsTree};
 ghost use Rattle.lis_message.specs.Writing.{message_bytes, IsWritable};
 ghost use Rattle.std.specs.List.{AllByRecursion, flat_map};
 ghost use Rattle.lis_message.specs.Feeding.{Goes, StopsIn, Reads, ReadsWhole, at_end, finished, next_place};
 
-use crate::fault::{MessageFault, Reason};
-use crate::lists::Messages;
-use crate::message::Message;
-use crate::open::OpenMessage;
 use lis_record::{Delimiters, Kind, RECORD_LIMIT, Record, RecordFault, read_header, read_record};
+use lis_tree::{Message, MessageFault, OpenMessage, Reason};
 use std::alloc::Global;
 use std::marker::Model;
 
 const CR: u8 = 0x0d;
+
+/// A list of messages.
+pub type Messages = lis_frame::List<Message>;
 
 /// What follows the whole messages of a stream: the message that isn't closed, and the bytes of the record that isn't
 /// ended.

@@ -2,20 +2,15 @@
 
 mod memory;
 
-use crate::fault::{MessageFault, MessageWriteFault, Reason};
-use crate::findings::findings;
-use crate::lists::Records;
-use crate::message::Message;
+use crate::fault::MessageWriteFault;
 use crate::reader::{Fed, MessageReader, read_messages};
 use crate::texts::{TextsFault, message_texts};
-use crate::tree::Group;
-use crate::walk::Walk;
 use crate::writer::{write_message, write_message_from};
 use lis_port::Slow;
 use lis_record::{
-    Component, Delimiters, Field, Kind, Record, RecordFault, Repeat, Sym, WriteFault, read_header,
-    read_record,
+    Component, Delimiters, Field, Kind, Record, RecordFault, Repeat, Sym, WriteFault,
 };
+use lis_tree::{Group, Message, MessageFault, Reason, Records, Walk};
 use std::alloc::Global;
 use std::process::Abort;
 use std::test::Fail;
@@ -37,29 +32,13 @@ fn faulty(place: u64, reason: Reason) -> Option<MessageFault> {
 }
 
 #[test]
-fn a_message_is_read(rt: HostRuntime) -> Result<(), Fail> {
+fn a_message_is_read(rt: HostRuntime) {
     let message = one_message(&rt, rt.alloc(), WHOLE);
     assert_eq!(rt; message.len(), 6);
     assert_eq!(rt; message.delimiters(), Delimiters::usual());
     assert_eq!(rt; message.header().kind(), Kind::H);
     assert_eq!(rt; message.closing().kind(), Kind::L);
-    assert_eq!(rt; message.notes().len(), 0);
     assert_eq!(rt; message.groups().len(), 1);
-    let Group::Patient(patient) = &message.groups()[0] else {
-        return Err(Fail::from("no patient"));
-    };
-    assert_eq!(rt; patient.head().kind(), Kind::P);
-    assert_eq!(rt; patient.notes().len(), 0);
-    assert_eq!(rt; patient.orders().len(), 1);
-    let order = &patient.orders()[0];
-    assert_eq!(rt; order.head().kind(), Kind::O);
-    assert_eq!(rt; order.notes().len(), 0);
-    assert_eq!(rt; order.results().len(), 1);
-    let entry = &order.results()[0];
-    assert_eq!(rt; entry.head().kind(), Kind::R);
-    assert_eq!(rt; entry.head().len(), 8);
-    assert_eq!(rt; entry.notes().len(), 1);
-    Ok(())
 }
 
 #[test]
@@ -259,51 +238,6 @@ fn a_long_record_is_told_before_its_end(rt: HostRuntime) -> Result<(), Fail> {
     Ok(())
 }
 
-// The records of the message, read one by one.
-fn records_of<A: Abort>(rt: &A, alloc: Global, texts: &[&[u8]]) -> Records {
-    let mut records = Records::new(alloc);
-    for text in texts {
-        let entry = match text.first() {
-            Some(b'H') => read_header(alloc, text).expect(rt, "a header").1,
-            _ => read_record(alloc, &Delimiters::usual(), text).expect(rt, "a record"),
-        };
-        assert!(rt; records.push(entry).is_ok());
-    }
-    records
-}
-
-const TEXTS: [&[u8]; 6] = [
-    b"H|\\^&",
-    b"P|1",
-    b"O|1|S7",
-    b"R|1|^^^GLU|5.4|mmol/L|3.9 to 6.1|N||F",
-    b"C|1|I|fasting",
-    b"L|1|N",
-];
-
-#[test]
-fn a_message_is_made_of_records(rt: HostRuntime) -> Result<(), Fail> {
-    let alloc = rt.alloc();
-    let records = records_of(&rt, alloc, TEXTS.as_slice());
-    let message = Message::from_records(alloc, Delimiters::usual(), records).expect(
-        &rt,
-        "a message",
-    );
-    assert_eq!(rt; message.len(), 6);
-    let none = Message::from_records(alloc, Delimiters::usual(), Records::new(alloc));
-    assert_eq!(rt; none.err(), faulty(1, Reason::Unfinished));
-    for (kind, reason) in [
-        (Kind::L, Reason::NotHeader),
-        (Kind::H, Reason::SecondHeader),
-    ] {
-        let mut more = records_of(&rt, alloc, TEXTS.as_slice());
-        assert!(rt; more.push(Record::new(alloc, kind)).is_ok());
-        let two = Message::from_records(alloc, Delimiters::usual(), more);
-        assert_eq!(rt; two.err(), faulty(7, reason));
-    }
-    Ok(())
-}
-
 #[test]
 fn a_message_is_written(rt: HostRuntime) {
     let messages: [&[u8]; 2] = [WHOLE, UNUSUAL];
@@ -359,24 +293,12 @@ fn texts_are_one_for_each_record(rt: HostRuntime) {
 }
 
 #[test]
-fn numbers_that_are_wrong_are_found(rt: HostRuntime) -> Result<(), Fail> {
-    let message = one_message(&rt, rt.alloc(), WHOLE);
-    assert_eq!(rt; findings(rt.alloc(), &message)?.len(), 0);
-    let other = one_message(&rt, rt.alloc(), b"H|\\^&\rP|1\rO|2|S7\rR|01\rR|x\rL|1|N\r");
-    let found = findings(rt.alloc(), &other)?;
-    assert_eq!(rt; found.len(), 2);
-    assert_eq!(rt; found.as_slice()[0].place, 3);
-    assert_eq!(rt; found.as_slice()[0].kind, Kind::O);
-    assert_eq!(rt; found.as_slice()[0].expected, 1);
-    assert_eq!(rt; found.as_slice()[1].place, 5);
-    assert_eq!(rt; found.as_slice()[1].expected, 2);
-    Ok(())
-}
-
-#[test]
 fn a_record_that_cannot_be_written_is_told_first(rt: HostRuntime) -> Result<(), Fail> {
     let alloc = rt.alloc();
-    let mut records = records_of(&rt, alloc, &TEXTS[..5]);
+    let mut records = Records::new(alloc);
+    for kind in [Kind::H, Kind::P, Kind::O, Kind::R, Kind::C] {
+        records.push(Record::new(alloc, kind))?;
+    }
     let mut symbols = Component::new(alloc);
     symbols.push(Sym::Char(0x0d))?;
     let mut comment = Record::new(alloc, Kind::C);
@@ -399,25 +321,6 @@ fn a_record_that_cannot_be_written_is_told_first(rt: HostRuntime) -> Result<(), 
         Some(TextsFault::BadRecord { place: 6, fault })
     );
     Ok(())
-}
-
-#[test]
-fn lists_hold_what_is_pushed(rt: HostRuntime) -> Result<(), Fail> {
-    let alloc = rt.alloc();
-    let mut records = Records::new(alloc);
-    records.push(Record::new(alloc, Kind::P))?;
-    records.push(Record::new(alloc, Kind::L))?;
-    assert_eq!(rt; records.len(), 2);
-    assert!(rt; records.get(2).is_none());
-    Ok(())
-}
-
-#[test]
-fn a_walk_goes_over_all_records(rt: HostRuntime) {
-    let message = one_message(&rt, rt.alloc(), WHOLE);
-    let mut walk = Walk::new(&message);
-    assert_eq!(rt; walk.next().map(Record::kind), Some(Kind::H));
-    assert_eq!(rt; walk.next().map(Record::kind), Some(Kind::P));
 }
 
 #[test]

@@ -7,12 +7,11 @@ ghost use Rattle.lis_record.specs.Spelling.{written};
 ghost use Rattle.lis_message.specs.Texts.{HasNoTexts};
 ghost use Rattle.lis_message.specs.Writing.{AreWritable, message_bytes, message_texts_of};
 
-use crate::message::Message;
-use crate::walk::Walk;
 use crate::writer::check_records;
 use lis_frame::{LinkText, MOST_TEXTS, Texts};
 use lis_port::{Failed, Sink};
 use lis_record::{Delimiters, Record, WriteFault, write_record};
+use lis_tree::{Message, Walk};
 use std::alloc::{AllocError, Global};
 
 /// Why a message has no texts.

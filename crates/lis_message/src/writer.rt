@@ -2,14 +2,13 @@
 ghost use Rattle.std.specs.Prelude.{◌≡◌, ◌-◌, ◌≤◌, ◌<◌, false, None, Some, Result, OnOk, IfErr, MatchResult, length, drop};
 ghost use Rattle.lis_record.specs.Spelling.{written};
 ghost use Rattle.lis_message.specs.Stream.{IsMessage};
-ghost use Rattle.lis_message.specs.Tree.{flatten};
+ghost use Rattle.lis_tree.specs.Tree.{flatten};
 ghost use Rattle.lis_message.specs.Writing.{AreWritable, CanResume, WroteMessage, WroteRecords, first_length, is_sink_fault, message_bytes, refusal_from};
 
 use crate::fault::MessageWriteFault;
-use crate::message::Message;
-use crate::walk::Walk;
 use lis_port::Sink;
 use lis_record::{Delimiters, check_record, write_record_from};
+use lis_tree::{Message, Walk};
 
 /// Tests the records that are left, the first of which has this place.
 pub(crate) fn check_records(delimiters: Delimiters, walk: Walk<'_>) -> Result<(), MessageWriteFault>

@@ -1,16 +1,12 @@
 //! What is answered where memory is refused. Each of these tests holds whichever growth is refused, and where none is;
 //! docs/PROOF.md tells how they are run with each refused in turn.
 
-use crate::fault::{MessageFault, Reason};
-use crate::findings::{Finding, Findings, findings};
-use crate::lists::{Messages, Records};
-use crate::message::Message;
-use crate::reader::{Fed, MessageReader, read_messages};
+use crate::reader::{Fed, MessageReader, Messages, read_messages};
 use crate::texts::{TextsFault, message_texts};
 use crate::writer::write_message;
 use lis_frame::Texts;
 use lis_port::Slow;
-use lis_record::{Delimiters, Kind, Record};
+use lis_tree::{Message, MessageFault, Reason};
 use std::alloc::Global;
 use std::process::Abort;
 
@@ -111,45 +107,6 @@ fn a_refused_growth_is_told_at_its_record(rt: HostRuntime) {
     assert!(rt; reader.finish().is_ok());
 }
 
-// Records of a message, unless memory is refused.
-fn records_of(alloc: Global) -> Option<Records> {
-    let mut records = Records::new(alloc);
-    for kind in [
-        Kind::H,
-        Kind::C,
-        Kind::P,
-        Kind::O,
-        Kind::R,
-        Kind::C,
-        Kind::R,
-        Kind::Q,
-        Kind::L,
-    ] {
-        records.push(Record::new(alloc, kind)).ok()?;
-    }
-    Some(records)
-}
-
-#[test]
-fn records_are_a_message_unless_memory_is_refused(rt: HostRuntime) {
-    let mut refused = 0u8;
-    for _ in 0..2 {
-        let Some(records) = records_of(rt.alloc()) else {
-            refused = refused.saturating_add(1);
-            continue;
-        };
-        match Message::from_records(rt.alloc(), Delimiters::usual(), records) {
-            Ok(message) => assert_eq!(rt; message.len(), 9),
-            Err(fault) => {
-                assert_eq!(rt; fault.reason, Reason::OutOfMemory);
-                assert!(rt; fault.place >= 1 && fault.place <= 9);
-                refused = refused.saturating_add(1);
-            }
-        }
-    }
-    assert!(rt; refused <= 1, "one refused growth spoils the next call");
-}
-
 // The message of six records, unless memory is refused.
 fn read_one(alloc: Global) -> Option<Message> {
     let Fed { messages, fault } = read_messages(alloc, MESSAGES[2]);
@@ -181,44 +138,6 @@ fn texts_are_made_unless_memory_is_refused(rt: HostRuntime) {
                 assert_eq!(rt; fault, TextsFault::OutOfMemory);
                 refused = refused.saturating_add(1);
             }
-        }
-    }
-    assert!(rt; refused <= 1, "one refused growth spoils the next call");
-}
-
-// None of the records has a number, so each that is examined is found.
-fn assert_found<A: Abort>(rt: &A, found: &Findings) {
-    let want = [
-        (2, Kind::P),
-        (3, Kind::O),
-        (4, Kind::R),
-        (5, Kind::C),
-        (6, Kind::L),
-    ];
-    assert_eq!(rt; found.len(), 5);
-    for (finding, (place, kind)) in found.as_slice().iter().zip(want) {
-        let expected = 1;
-        assert_eq!(rt;
-            *finding,
-            Finding {
-                place,
-                kind,
-                expected
-            }
-        );
-    }
-}
-
-#[test]
-fn findings_are_made_unless_memory_is_refused(rt: HostRuntime) {
-    let Some(message) = read_one(rt.alloc()) else {
-        return;
-    };
-    let mut refused = 0u8;
-    for _ in 0..2 {
-        match findings(rt.alloc(), &message) {
-            Ok(found) => assert_found(&rt, &found),
-            Err(_) => refused = refused.saturating_add(1),
         }
     }
     assert!(rt; refused <= 1, "one refused growth spoils the next call");

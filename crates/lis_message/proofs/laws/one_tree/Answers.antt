@@ -1,4 +1,4 @@
-use Rattle.lis_message.proofs.Flatten.{flatten_one}
+use Rattle.lis_tree.proofs.Flatten.{flatten_one}
 use Rattle.lis_message.proofs.Reading.{delimiters_one}
 use Rattle.lis_message.proofs.laws.one_tree.Goals as goal
 

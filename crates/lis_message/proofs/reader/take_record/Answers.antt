@@ -1,6 +1,6 @@
 use Rattle.std.proofs.Common.{Some, refl, sym, ◌∙◌, ap}
-use Rattle.lis_message.specs.Level.{misplaced}
-use Rattle.lis_message.specs.Stream.{level_of}
+use Rattle.lis_tree.specs.Level.{misplaced}
+use Rattle.lis_tree.specs.Begun.{level_of}
 use Rattle.lis_message.specs.Taking.{inner, closing}
 use Rattle.lis_message.proofs.reader.take_record.Goals as goal
 

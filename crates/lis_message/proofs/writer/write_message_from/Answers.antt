@@ -1,5 +1,5 @@
 use Rattle.std.proofs.Common.{◌-◌, ap, drop, sym, ◌∙◌}
-use Rattle.lis_message.specs.Tree.{flatten}
+use Rattle.lis_tree.specs.Tree.{flatten}
 use Rattle.lis_message.proofs.ReadBack.{on_ok, written_back}
 use Rattle.lis_message.proofs.WritingLaws.{all_writable, refusal_no_io, refused_resumes, writable_as, wrote_as, wrote_resumes, writable_drop}
 use Rattle.lis_message.proofs.writer.write_message_from.Goals as goal

@@ -1,7 +1,0 @@
-use Rattle.std.proofs.Common.{◌≡◌, ◌+◌, ◌^◌, ◌≤◌, drop}
-use Rattle.lis_message.specs.Numbers.{digits_from}
-use Rattle.lis_message.proofs.findings.component_number.Given as goal
-
-abbrev pub invariant-loop-place : goal.invariant-loop-place
-invariant-loop-place l =
-    (digits_from 0 l.component ≡ digits_from l.number (drop l.place l.component)) × (l.number + 1 ≤ 10 ^ l.place)

@@ -1,8 +1,0 @@
-use Rattle.lis_message.proofs.Viable.{from_viable, viable_from}
-use Rattle.lis_message.proofs.laws.hierarchy.Goals as goal
-
-pub returns-clause-viable : goal.returns-clause-viable
-returns-clause-viable c = viable_from
-
-pub returns-clause-stands : goal.returns-clause-stands
-returns-clause-stands c = from_viable

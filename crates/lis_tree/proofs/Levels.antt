@@ -1,0 +1,306 @@
+-- Where the next record stands after the records of a tree's parts, and that each of these stands where it may.
+use Rattle.std.proofs.Common.{◌≡◌, ◌≢◌, List, [], ◌∷◌, ◌++◌, None, refl, sym, ◌∙◌, ap, subst}
+use Rattle.std.specs.List.{AllByRecursion, flat_map}
+use Rattle.lis_record.specs.declared.kinds.Kind.{Kind}
+use Rattle.lis_record.specs.declared.kinds.Kind.TheVariants as kinds
+use Rattle.lis_record.specs.Shape.{RecordContent}
+use Rattle.lis_tree.specs.Nodes.{Noted, OrderTree, PatientTree}
+use Rattle.lis_tree.specs.Front.{FrontTree}
+use Rattle.lis_tree.specs.declared.tree.Group.{Group}
+use Rattle.lis_tree.specs.declared.tree.Group.TheVariants as groups
+use Rattle.lis_tree.specs.declared.spine.Spine.{Spine}
+use Rattle.lis_tree.specs.declared.spine.Spine.TheVariants as spines
+use Rattle.lis_tree.specs.Level.{Level, outside, in_header, in_patient, in_order, in_query, closed, next_level, level_after, misplaced, StandsFrom, kinds_of}
+use Rattle.lis_tree.specs.Tree.{MessageTree, noted_records, order_records, patient_records, group_records, IsNote, AreNotes, IsNoted, IsOrder, IsPatient, IsGroup, IsTree}
+use Rattle.lis_tree.specs.Spine.{front_records, spine_records, spine_level, IsFront, IsSpine}
+
+-- a run of kinds that all stand, and where it leads
+pub record Leads (from : Level) (ks : List Kind) (to : Level) : Type 0 where
+  pub stands : StandsFrom from ks
+  pub arrives : level_after from ks ≡ to
+
+abbrev LeadsBy : Level → List RecordContent → Level → Type 0
+LeadsBy from rs to = Leads from (kinds_of rs) to
+
+pub map_append : (xs ys : List RecordContent) → kinds_of (xs ++ ys) ≡ kinds_of xs ++ kinds_of ys
+map_append [] ys = refl
+map_append (x ∷ xs) ys = ap (λ ks. x.kind ∷ ks) (map_append xs ys)
+
+pub level_append : (l : Level) (xs ys : List Kind) → level_after l (xs ++ ys) ≡ level_after (level_after l xs) ys
+level_append l [] ys = refl
+level_append l (x ∷ xs) ys = level_append (next_level l x) xs ys
+
+pub stands_append : (l : Level) (xs ys : List Kind) → StandsFrom l xs → StandsFrom (level_after l xs) ys → StandsFrom l (xs ++ ys)
+stands_append l [] ys p q = q
+stands_append l (x ∷ xs) ys p q = (p.0, stands_append (next_level l x) xs ys p.1 q)
+
+pub stands_front : (l : Level) (xs ys : List Kind) → StandsFrom l (xs ++ ys) → StandsFrom l xs
+stands_front l [] ys p = tt
+stands_front l (x ∷ xs) ys p = (p.0, stands_front (next_level l x) xs ys p.1)
+
+pub stands_back : (l : Level) (xs ys : List Kind) → StandsFrom l (xs ++ ys) → StandsFrom (level_after l xs) ys
+stands_back l [] ys p = p
+stands_back l (x ∷ xs) ys p = stands_back (next_level l x) xs ys p.1
+
+leads_kinds : (a b c : Level) (xs ys : List Kind) → Leads a xs b → Leads b ys c → Leads a (xs ++ ys) c
+leads_kinds a b c xs ys p q = record {
+  stands = stands_append a xs ys p.stands (subst (λ l. StandsFrom l ys) (sym p.arrives) q.stands);
+  arrives = level_append a xs ys ∙ ap (λ l. level_after l ys) p.arrives ∙ q.arrives;
+}
+
+pub leads_then : (a b c : Level) (xs ys : List RecordContent) → LeadsBy a xs b → LeadsBy b ys c → LeadsBy a (xs ++ ys) c
+leads_then a b c xs ys p q = subst (λ ks. Leads a ks c) (sym (map_append xs ys)) (leads_kinds a b c (kinds_of xs) (kinds_of ys) p q)
+
+-- inside a message a note stands anywhere
+pub data IsInside : Level → Type 0 where
+  header : IsInside in_header
+  patient : IsInside in_patient
+  order : IsInside in_order
+  query : IsInside in_query
+
+note_stands : (l : Level) (k : Kind) → IsInside l → IsNote k → (misplaced l k ≡ None) × (next_level l k ≡ l)
+note_stands in_header kinds.C i n = (refl, refl)
+note_stands in_header kinds.M i n = (refl, refl)
+note_stands in_header kinds.S i n = (refl, refl)
+note_stands in_patient kinds.C i n = (refl, refl)
+note_stands in_patient kinds.M i n = (refl, refl)
+note_stands in_patient kinds.S i n = (refl, refl)
+note_stands in_order kinds.C i n = (refl, refl)
+note_stands in_order kinds.M i n = (refl, refl)
+note_stands in_order kinds.S i n = (refl, refl)
+note_stands in_query kinds.C i n = (refl, refl)
+note_stands in_query kinds.M i n = (refl, refl)
+note_stands in_query kinds.S i n = (refl, refl)
+note_stands outside k i n = elim i [ ]
+note_stands closed k i n = elim i [ ]
+note_stands in_header kinds.H i n = absurd n
+note_stands in_header kinds.P i n = absurd n
+note_stands in_header kinds.O i n = absurd n
+note_stands in_header kinds.R i n = absurd n
+note_stands in_header kinds.Q i n = absurd n
+note_stands in_header kinds.L i n = absurd n
+note_stands in_patient kinds.H i n = absurd n
+note_stands in_patient kinds.P i n = absurd n
+note_stands in_patient kinds.O i n = absurd n
+note_stands in_patient kinds.R i n = absurd n
+note_stands in_patient kinds.Q i n = absurd n
+note_stands in_patient kinds.L i n = absurd n
+note_stands in_order kinds.H i n = absurd n
+note_stands in_order kinds.P i n = absurd n
+note_stands in_order kinds.O i n = absurd n
+note_stands in_order kinds.R i n = absurd n
+note_stands in_order kinds.Q i n = absurd n
+note_stands in_order kinds.L i n = absurd n
+note_stands in_query kinds.H i n = absurd n
+note_stands in_query kinds.P i n = absurd n
+note_stands in_query kinds.O i n = absurd n
+note_stands in_query kinds.R i n = absurd n
+note_stands in_query kinds.Q i n = absurd n
+note_stands in_query kinds.L i n = absurd n
+
+pub notes_lead : (l : Level) (notes : List RecordContent) → IsInside l → AreNotes notes → LeadsBy l notes l
+notes_lead l [] i n = record { stands = tt; arrives = refl }
+notes_lead l (x ∷ xs) i n =
+    let s = note_stands l x.kind i n.0 in
+    let rest = notes_lead l xs i n.1 in
+    record {
+      stands = (s.0, subst (λ m. StandsFrom m (kinds_of xs)) (sym s.1) rest.stands);
+      arrives = ap (λ m. level_after m (kinds_of xs)) s.1 ∙ rest.arrives;
+    }
+
+head_leads : (l : Level) (head : RecordContent) (notes : List RecordContent) (k : Kind) (to : Level) → head.kind ≡ k → misplaced l k ≡ None → next_level l k ≡ to → IsInside to → AreNotes notes → LeadsBy l (head ∷ notes) to
+head_leads l head notes k to is placed goes inside notes_are =
+    let rest = notes_lead to notes inside notes_are in
+    let goes' : next_level l head.kind ≡ to = ap (next_level l) is ∙ goes in
+    record {
+      stands = (ap (misplaced l) is ∙ placed, subst (λ m. StandsFrom m (kinds_of notes)) (sym goes') rest.stands);
+      arrives = ap (λ m. level_after m (kinds_of notes)) goes' ∙ rest.arrives;
+    }
+
+pub noted_leads : (l : Level) (n : Noted) (k : Kind) (to : Level) → IsNoted k n → misplaced l k ≡ None → next_level l k ≡ to → IsInside to → LeadsBy l (noted_records n) to
+noted_leads l n k to is placed goes inside = head_leads l n.head n.notes k to is.head placed goes inside is.notes
+
+results_lead : (rs : List Noted) → AllByRecursion (IsNoted kinds.R) rs → LeadsBy in_order (flat_map noted_records rs) in_order
+results_lead [] a = record { stands = tt; arrives = refl }
+results_lead (r ∷ rs) a =
+    leads_then in_order in_order in_order (noted_records r) (flat_map noted_records rs) (noted_leads in_order r kinds.R in_order a.0 refl refl order) (results_lead rs a.1)
+
+pub order_leads : (l : Level) (o : OrderTree) → IsOrder o → misplaced l kinds.O ≡ None → LeadsBy l (order_records o) in_order
+order_leads l o is placed =
+    leads_then l in_order in_order (o.head ∷ o.notes) (flat_map noted_records o.results)
+    (head_leads l o.head o.notes kinds.O in_order is.head placed refl order is.notes)
+    (results_lead o.results is.results)
+
+-- right under a patient, or after one of its orders
+pub data IsUnderPatient : Level → Type 0 where
+  first : IsUnderPatient in_patient
+  later : IsUnderPatient in_order
+
+takes_order : (l : Level) → IsUnderPatient l → misplaced l kinds.O ≡ None
+takes_order in_patient u = refl
+takes_order in_order u = refl
+takes_order in_header u = elim u [ ]
+takes_order in_query u = elim u [ ]
+takes_order outside u = elim u [ ]
+takes_order closed u = elim u [ ]
+
+orders_lead : (l : Level) (os : List OrderTree) → IsUnderPatient l → AllByRecursion IsOrder os → (to : Level) × IsUnderPatient to × LeadsBy l (flat_map order_records os) to
+orders_lead l [] u a = (l, u, record { stands = tt; arrives = refl })
+orders_lead l (o ∷ os) u a =
+    let rest = orders_lead in_order os later a.1 in
+    (rest.0, rest.1, leads_then l in_order rest.0 (order_records o) (flat_map order_records os) (order_leads l o a.0 (takes_order l u)) rest.2)
+
+pub patient_leads : (l : Level) (p : PatientTree) → IsPatient p → misplaced l kinds.P ≡ None → (to : Level) × IsUnderPatient to × LeadsBy l (patient_records p) to
+patient_leads l p is placed =
+    let rest = orders_lead in_patient p.orders first is.orders in (
+      rest.0,
+      rest.1,
+      leads_then l in_patient rest.0 (p.head ∷ p.notes) (flat_map order_records p.orders)
+          (head_leads l p.head p.notes kinds.P in_patient is.head placed refl patient is.notes) rest.2,
+    )
+
+inside_under : (l : Level) → IsUnderPatient l → IsInside l
+inside_under in_patient u = patient
+inside_under in_order u = order
+inside_under in_header u = elim u [ ]
+inside_under in_query u = elim u [ ]
+inside_under outside u = elim u [ ]
+inside_under closed u = elim u [ ]
+
+-- inside a message a patient, a query and the closing record stand anywhere
+pub inside_takes : (l : Level) → IsInside l → (misplaced l kinds.P ≡ None) × (misplaced l kinds.Q ≡ None) × (misplaced l kinds.L ≡ None)
+inside_takes in_header i = (refl, refl, refl)
+inside_takes in_patient i = (refl, refl, refl)
+inside_takes in_order i = (refl, refl, refl)
+inside_takes in_query i = (refl, refl, refl)
+inside_takes outside i = elim i [ ]
+inside_takes closed i = elim i [ ]
+
+group_leads : (l : Level) (g : Group) → IsInside l → IsGroup g → (to : Level) × IsInside to × LeadsBy l (group_records g) to
+group_leads l (groups.Patient p) i is =
+    let r = patient_leads l p is (inside_takes l i).0 in (r.0, inside_under r.0 r.1, r.2)
+group_leads l (groups.Query q) i is =
+    (in_query, query, noted_leads l q kinds.Q in_query is (inside_takes l i).1 refl query)
+
+pub groups_lead : (l : Level) (gs : List Group) → IsInside l → AllByRecursion IsGroup gs → (to : Level) × IsInside to × LeadsBy l (flat_map group_records gs) to
+groups_lead l [] i a = (l, i, record { stands = tt; arrives = refl })
+groups_lead l (g ∷ gs) i a =
+    let here = group_leads l g i a.0 in
+    let rest = groups_lead here.0 gs here.1 a.1 in
+    (rest.0, rest.1, leads_then l here.0 rest.0 (group_records g) (flat_map group_records gs) here.2 rest.2)
+
+pub front_leads : (f : FrontTree) → IsFront f → (to : Level) × IsInside to × LeadsBy outside (front_records f) to
+front_leads f is =
+    let rest = groups_lead in_header f.groups header is.groups in (
+      rest.0,
+      rest.1,
+      leads_then outside in_header rest.0 (f.header ∷ f.notes) (flat_map group_records f.groups)
+          (head_leads outside f.header f.notes kinds.H in_header is.header refl refl header is.notes) rest.2,
+    )
+
+-- the records of a message that isn't whole lead to where the next one will stand
+pub spine_leads : (s : Spine) → IsSpine s → LeadsBy outside (spine_records s) (spine_level s)
+spine_leads (spines.Header item) is = noted_leads outside item kinds.H in_header is refl refl header
+spine_leads (spines.Query f item) is =
+    let front = front_leads f is.0 in
+    leads_then outside front.0 in_query (front_records f) (noted_records item) front.2
+    (noted_leads front.0 item kinds.Q in_query is.1 (inside_takes front.0 front.1).1 refl query)
+spine_leads (spines.Patient f item) is =
+    let front = front_leads f is.0 in
+    leads_then outside front.0 in_patient (front_records f) (noted_records item) front.2
+    (noted_leads front.0 item kinds.P in_patient is.1 (inside_takes front.0 front.1).0 refl patient)
+spine_leads (spines.Order f p item) is =
+    let front = front_leads f is.0 in
+    let above = patient_leads front.0 p is.1 (inside_takes front.0 front.1).0 in
+    leads_then outside above.0 in_order (front_records f ++ patient_records p) (noted_records item)
+    (leads_then outside front.0 above.0 (front_records f) (patient_records p) front.2 above.2)
+    (noted_leads above.0 item kinds.O in_order is.2 (takes_order above.0 above.1) refl order)
+spine_leads (spines.Entry f p o item) is =
+    let front = front_leads f is.0 in
+    let above = patient_leads front.0 p is.1 (inside_takes front.0 front.1).0 in
+    leads_then outside in_order in_order (front_records f ++ patient_records p ++ order_records o) (noted_records item)
+    (leads_then outside above.0 in_order (front_records f ++ patient_records p) (order_records o)
+    (leads_then outside front.0 above.0 (front_records f) (patient_records p) front.2 above.2)
+    (order_leads above.0 o is.2 (takes_order above.0 above.1)))
+    (noted_leads in_order item kinds.R in_order is.3 refl refl order)
+
+-- the records of a whole message stand, and lead to its end
+pub tree_leads : (m : MessageTree) → IsTree m → (to : Level) × IsInside to × LeadsBy outside ((m.header ∷ m.notes) ++ flat_map group_records m.groups) to
+tree_leads m is =
+    let rest = groups_lead in_header m.groups header is.groups in (
+      rest.0,
+      rest.1,
+      leads_then outside in_header rest.0 (m.header ∷ m.notes) (flat_map group_records m.groups)
+          (head_leads outside m.header m.notes kinds.H in_header is.header refl refl header is.notes) rest.2,
+    )
+
+-- ---- one record more
+
+-- a record that doesn't close a message leaves it open
+pub next_unclosed : (l : Level) (k : Kind) → l ≢ closed → k ≢ kinds.L → next_level l k ≢ closed
+next_unclosed l kinds.H u o e = cc
+next_unclosed l kinds.P u o e = cc
+next_unclosed l kinds.O u o e = cc
+next_unclosed l kinds.R u o e = u e
+next_unclosed l kinds.C u o e = u e
+next_unclosed l kinds.Q u o e = cc
+next_unclosed l kinds.M u o e = u e
+next_unclosed l kinds.S u o e = u e
+next_unclosed l kinds.L u o e = o refl
+
+pub level_more : (rs : List RecordContent) (r : RecordContent) → level_after outside (kinds_of (rs ++ r ∷ [])) ≡ next_level (level_after outside (kinds_of rs)) r.kind
+level_more rs r = ap (level_after outside) (map_append rs (r ∷ [])) ∙ level_append outside (kinds_of rs) (r.kind ∷ [])
+
+pub stands_more : (rs : List RecordContent) (r : RecordContent) → StandsFrom outside (kinds_of rs) → misplaced (level_after outside (kinds_of rs)) r.kind ≡ None → StandsFrom outside (kinds_of (rs ++ r ∷ []))
+stands_more rs r p q = subst (StandsFrom outside) (sym (map_append rs (r ∷ []))) (stands_append outside (kinds_of rs) (r.kind ∷ []) p (q, tt))
+
+-- ---- where a record of a kind may stand
+
+-- after its end a message takes nothing but a header, which is one too many
+pub nothing_closed : (k : Kind) → misplaced closed k ≡ None → ⊥
+nothing_closed kinds.H e = cc
+nothing_closed kinds.P e = cc
+nothing_closed kinds.O e = cc
+nothing_closed kinds.R e = cc
+nothing_closed kinds.C e = cc
+nothing_closed kinds.Q e = cc
+nothing_closed kinds.M e = cc
+nothing_closed kinds.S e = cc
+nothing_closed kinds.L e = cc
+
+pub header_first : (k : Kind) → misplaced outside k ≡ None → k ≡ kinds.H
+header_first kinds.H e = refl
+header_first kinds.P e = absurd cc
+header_first kinds.O e = absurd cc
+header_first kinds.R e = absurd cc
+header_first kinds.C e = absurd cc
+header_first kinds.Q e = absurd cc
+header_first kinds.M e = absurd cc
+header_first kinds.S e = absurd cc
+header_first kinds.L e = absurd cc
+
+-- the first record of a run that doesn't end a message doesn't end it
+pub unclosed_first : (l : Level) (k : Kind) (ks : List Kind) → StandsFrom l (k ∷ ks) → level_after l (k ∷ ks) ≢ closed → k ≢ kinds.L
+unclosed_first l k [] p u e = u (ap (next_level l) e)
+unclosed_first l k (j ∷ ks) p u e =
+    nothing_closed j (subst (λ m. misplaced m j ≡ None) (ap (next_level l) e) p.1.0)
+
+-- inside a message no header stands
+pub other_kind : (l : Level) (k : Kind) → l ≢ outside → misplaced l k ≡ None → k ≢ kinds.H
+other_kind outside k o p e = o refl
+other_kind in_header k o p e = let h : misplaced in_header kinds.H ≡ None = ap (misplaced in_header) (sym e) ∙ p in cc
+other_kind in_patient k o p e = let h : misplaced in_patient kinds.H ≡ None = ap (misplaced in_patient) (sym e) ∙ p in cc
+other_kind in_order k o p e = let h : misplaced in_order kinds.H ≡ None = ap (misplaced in_order) (sym e) ∙ p in cc
+other_kind in_query k o p e = let h : misplaced in_query kinds.H ≡ None = ap (misplaced in_query) (sym e) ∙ p in cc
+other_kind closed k o p e = nothing_closed k p
+
+pub next_begun : (l : Level) (k : Kind) → l ≢ outside → next_level l k ≢ outside
+next_begun l kinds.H o e = cc
+next_begun l kinds.P o e = cc
+next_begun l kinds.O o e = cc
+next_begun l kinds.R o e = o e
+next_begun l kinds.C o e = o e
+next_begun l kinds.Q o e = cc
+next_begun l kinds.M o e = o e
+next_begun l kinds.S o e = o e
+next_begun l kinds.L o e = cc

@@ -1,0 +1,299 @@
+-- The machine over the kinds and the standard's words say the same.
+use Rattle.std.proofs.Common.{◌≡◌, ◌≢◌, Bool, true, false, List, [], ◌∷◌, ◌++◌, Option, Some, None, refl, sym, ◌∙◌, ap, subst, append_assoc}
+use Rattle.std.specs.Prelude.{if◌then◌else◌}
+use Rattle.std.specs.List.{AllByRecursion}
+use Rattle.std.specs.Option.{option_or}
+use Rattle.lis_record.specs.declared.kinds.Kind.{Kind}
+use Rattle.lis_record.specs.declared.kinds.Kind.TheVariants as kinds
+use Rattle.lis_tree.specs.Hierarchy.{last_of, is_group, is_group_or_order, HasParent, HasHeaderFirst, IsViable}
+use Rattle.lis_tree.specs.Level.{Level, outside, in_header, in_patient, in_order, in_query, closed, next_level, level_after, misplaced, StandsFrom}
+use Rattle.lis_tree.proofs.Levels.{level_append, stands_append, stands_back, stands_front, header_first, next_begun, nothing_closed, other_kind, unclosed_first}
+
+-- whether an order, or a result, stands at a place
+abbrev takes_order : Level → Bool
+takes_order in_patient = true
+takes_order in_order = true
+takes_order l = false
+
+abbrev takes_result : Level → Bool
+takes_result in_order = true
+takes_result l = false
+
+-- what the last kind of a test tells; with none, what was so before
+abbrev patient_or : Option Kind → Bool → Bool
+patient_or None b = b
+patient_or (Some kinds.P) b = true
+patient_or (Some k) b = false
+
+abbrev order_or : Option Kind → Bool → Bool
+order_or None b = b
+order_or (Some kinds.O) b = true
+order_or (Some k) b = false
+
+order_step : (l : Level) (k : Kind) → misplaced l k ≡ None → k ≢ kinds.L → k ≢ kinds.H → takes_order (next_level l k) ≡ patient_or (if is_group k then Some k else None) (takes_order l)
+order_step l kinds.H p o h = absurd (h refl)
+order_step l kinds.P p o h = refl
+order_step in_patient kinds.O p o h = refl
+order_step in_order kinds.O p o h = refl
+order_step in_header kinds.O p o h = absurd cc
+order_step in_query kinds.O p o h = absurd cc
+order_step outside kinds.O p o h = absurd cc
+order_step closed kinds.O p o h = absurd cc
+order_step l kinds.R p o h = refl
+order_step l kinds.C p o h = refl
+order_step l kinds.Q p o h = refl
+order_step l kinds.M p o h = refl
+order_step l kinds.S p o h = refl
+order_step l kinds.L p o h = absurd (o refl)
+
+result_step : (l : Level) (k : Kind) → misplaced l k ≡ None → k ≢ kinds.L → k ≢ kinds.H → takes_result (next_level l k) ≡ order_or (if is_group_or_order k then Some k else None) (takes_result l)
+result_step l kinds.H p o h = absurd (h refl)
+result_step l kinds.P p o h = refl
+result_step l kinds.O p o h = refl
+result_step l kinds.R p o h = refl
+result_step l kinds.C p o h = refl
+result_step l kinds.Q p o h = refl
+result_step l kinds.M p o h = refl
+result_step l kinds.S p o h = refl
+result_step l kinds.L p o h = absurd (o refl)
+
+patient_then : (a b : Option Kind) (c : Bool) → patient_or (option_or a b) c ≡ patient_or a (patient_or b c)
+patient_then None b c = refl
+patient_then (Some kinds.H) b c = refl
+patient_then (Some kinds.P) b c = refl
+patient_then (Some kinds.O) b c = refl
+patient_then (Some kinds.R) b c = refl
+patient_then (Some kinds.C) b c = refl
+patient_then (Some kinds.Q) b c = refl
+patient_then (Some kinds.M) b c = refl
+patient_then (Some kinds.S) b c = refl
+patient_then (Some kinds.L) b c = refl
+
+order_then : (a b : Option Kind) (c : Bool) → order_or (option_or a b) c ≡ order_or a (order_or b c)
+order_then None b c = refl
+order_then (Some kinds.H) b c = refl
+order_then (Some kinds.P) b c = refl
+order_then (Some kinds.O) b c = refl
+order_then (Some kinds.R) b c = refl
+order_then (Some kinds.C) b c = refl
+order_then (Some kinds.Q) b c = refl
+order_then (Some kinds.M) b c = refl
+order_then (Some kinds.S) b c = refl
+order_then (Some kinds.L) b c = refl
+
+-- the place tells the last patient or query, and whether an order stands since
+order_told : (l : Level) (ks : List Kind) → StandsFrom l ks → l ≢ outside → level_after l ks ≢ closed → takes_order (level_after l ks) ≡ patient_or (last_of is_group ks) (takes_order l)
+order_told l [] s o u = refl
+order_told l (k ∷ ks) s o u =
+    order_told (next_level l k) ks s.1 (next_begun l k o) u
+    ∙ ap (patient_or (last_of is_group ks)) (order_step l k s.0 (unclosed_first l k ks s u) (other_kind l k o s.0))
+    ∙ sym (patient_then (last_of is_group ks) (if is_group k then Some k else None) (takes_order l))
+
+result_told : (l : Level) (ks : List Kind) → StandsFrom l ks → l ≢ outside → level_after l ks ≢ closed → takes_result (level_after l ks) ≡ order_or (last_of is_group_or_order ks) (takes_result l)
+result_told l [] s o u = refl
+result_told l (k ∷ ks) s o u =
+    result_told (next_level l k) ks s.1 (next_begun l k o) u
+    ∙ ap (order_or (last_of is_group_or_order ks)) (result_step l k s.0 (unclosed_first l k ks s u) (other_kind l k o s.0))
+    ∙ sym (order_then (last_of is_group_or_order ks) (if is_group_or_order k then Some k else None) (takes_result l))
+
+-- ---- each way
+
+patient_is : (o : Option Kind) → patient_or o false ≡ true → o ≡ Some kinds.P
+patient_is None e = absurd cc
+patient_is (Some kinds.P) e = refl
+patient_is (Some kinds.H) e = absurd cc
+patient_is (Some kinds.O) e = absurd cc
+patient_is (Some kinds.R) e = absurd cc
+patient_is (Some kinds.C) e = absurd cc
+patient_is (Some kinds.Q) e = absurd cc
+patient_is (Some kinds.M) e = absurd cc
+patient_is (Some kinds.S) e = absurd cc
+patient_is (Some kinds.L) e = absurd cc
+
+order_is : (o : Option Kind) → order_or o false ≡ true → o ≡ Some kinds.O
+order_is None e = absurd cc
+order_is (Some kinds.O) e = refl
+order_is (Some kinds.H) e = absurd cc
+order_is (Some kinds.P) e = absurd cc
+order_is (Some kinds.R) e = absurd cc
+order_is (Some kinds.C) e = absurd cc
+order_is (Some kinds.Q) e = absurd cc
+order_is (Some kinds.M) e = absurd cc
+order_is (Some kinds.S) e = absurd cc
+order_is (Some kinds.L) e = absurd cc
+
+order_stands : (l : Level) → misplaced l kinds.O ≡ None → (takes_order l ≡ true) × (l ≢ closed)
+order_stands in_patient e = (refl, λ x. cc)
+order_stands in_order e = (refl, λ x. cc)
+order_stands in_header e = absurd cc
+order_stands in_query e = absurd cc
+order_stands outside e = absurd cc
+order_stands closed e = absurd cc
+
+result_stands : (l : Level) → misplaced l kinds.R ≡ None → (takes_result l ≡ true) × (l ≢ closed)
+result_stands in_order e = (refl, λ x. cc)
+result_stands in_patient e = absurd cc
+result_stands in_header e = absurd cc
+result_stands in_query e = absurd cc
+result_stands outside e = absurd cc
+result_stands closed e = absurd cc
+
+takes_then_order : (l : Level) → takes_order l ≡ true → misplaced l kinds.O ≡ None
+takes_then_order in_patient e = refl
+takes_then_order in_order e = refl
+takes_then_order in_header e = absurd cc
+takes_then_order in_query e = absurd cc
+takes_then_order outside e = absurd cc
+takes_then_order closed e = absurd cc
+
+takes_then_result : (l : Level) → takes_result l ≡ true → misplaced l kinds.R ≡ None
+takes_then_result in_order e = refl
+takes_then_result in_patient e = absurd cc
+takes_then_result in_header e = absurd cc
+takes_then_result in_query e = absurd cc
+takes_then_result outside e = absurd cc
+takes_then_result closed e = absurd cc
+
+-- behind a header: a record that stands has its parent, and the other way round
+parent_from : (ks : List Kind) (k : Kind) → StandsFrom in_header ks → misplaced (level_after in_header ks) k ≡ None → HasParent (kinds.H ∷ ks) k
+parent_from ks kinds.O s p =
+    let at = order_stands (level_after in_header ks) p in
+    let none = patient_is (last_of is_group ks) (sym (order_told in_header ks s (λ e. cc) at.1) ∙ at.0) in
+    ap (λ o. option_or o None) none
+parent_from ks kinds.R s p =
+    let at = result_stands (level_after in_header ks) p in
+    let none = order_is (last_of is_group_or_order ks) (sym (result_told in_header ks s (λ e. cc) at.1) ∙ at.0) in
+    ap (λ o. option_or o None) none
+parent_from ks kinds.H s p = tt
+parent_from ks kinds.P s p = tt
+parent_from ks kinds.C s p = tt
+parent_from ks kinds.Q s p = tt
+parent_from ks kinds.M s p = tt
+parent_from ks kinds.S s p = tt
+parent_from ks kinds.L s p = tt
+
+option_or_none : (o : Option Kind) → option_or o None ≡ o
+option_or_none None = refl
+option_or_none (Some k) = refl
+
+inside_free : (l : Level) (k : Kind) → l ≢ outside → l ≢ closed → k ≢ kinds.H → k ≢ kinds.O → k ≢ kinds.R → misplaced l k ≡ None
+inside_free outside k o c h x r = absurd (o refl)
+inside_free closed k o c h x r = absurd (c refl)
+inside_free l kinds.H o c h x r = absurd (h refl)
+inside_free l kinds.O o c h x r = absurd (x refl)
+inside_free l kinds.R o c h x r = absurd (r refl)
+inside_free in_header kinds.P o c h x r = refl
+inside_free in_header kinds.C o c h x r = refl
+inside_free in_header kinds.Q o c h x r = refl
+inside_free in_header kinds.M o c h x r = refl
+inside_free in_header kinds.S o c h x r = refl
+inside_free in_header kinds.L o c h x r = refl
+inside_free in_patient kinds.P o c h x r = refl
+inside_free in_patient kinds.C o c h x r = refl
+inside_free in_patient kinds.Q o c h x r = refl
+inside_free in_patient kinds.M o c h x r = refl
+inside_free in_patient kinds.S o c h x r = refl
+inside_free in_patient kinds.L o c h x r = refl
+inside_free in_order kinds.P o c h x r = refl
+inside_free in_order kinds.C o c h x r = refl
+inside_free in_order kinds.Q o c h x r = refl
+inside_free in_order kinds.M o c h x r = refl
+inside_free in_order kinds.S o c h x r = refl
+inside_free in_order kinds.L o c h x r = refl
+inside_free in_query kinds.P o c h x r = refl
+inside_free in_query kinds.C o c h x r = refl
+inside_free in_query kinds.Q o c h x r = refl
+inside_free in_query kinds.M o c h x r = refl
+inside_free in_query kinds.S o c h x r = refl
+inside_free in_query kinds.L o c h x r = refl
+
+begun_after : (l : Level) (ks : List Kind) → l ≢ outside → level_after l ks ≢ outside
+begun_after l [] o = o
+begun_after l (k ∷ ks) o = begun_after (next_level l k) ks (next_begun l k o)
+
+place_from : (ks : List Kind) (k : Kind) → StandsFrom in_header ks → level_after in_header ks ≢ closed → k ≢ kinds.H → HasParent (kinds.H ∷ ks) k → misplaced (level_after in_header ks) k ≡ None
+place_from ks kinds.O s u h p =
+    takes_then_order (level_after in_header ks) (order_told in_header ks s (λ e. cc) u ∙ ap (λ o. patient_or o false) (sym (option_or_none (last_of is_group ks)) ∙ p))
+place_from ks kinds.R s u h p =
+    takes_then_result (level_after in_header ks) (result_told in_header ks s (λ e. cc) u ∙ ap (λ o. order_or o false) (sym (option_or_none (last_of is_group_or_order ks)) ∙ p))
+place_from ks kinds.H s u h p = absurd (h refl)
+place_from ks kinds.P s u h p = inside_free (level_after in_header ks) kinds.P (begun_after in_header ks (λ e. cc)) u h (λ e. cc) (λ e. cc)
+place_from ks kinds.C s u h p = inside_free (level_after in_header ks) kinds.C (begun_after in_header ks (λ e. cc)) u h (λ e. cc) (λ e. cc)
+place_from ks kinds.Q s u h p = inside_free (level_after in_header ks) kinds.Q (begun_after in_header ks (λ e. cc)) u h (λ e. cc) (λ e. cc)
+place_from ks kinds.M s u h p = inside_free (level_after in_header ks) kinds.M (begun_after in_header ks (λ e. cc)) u h (λ e. cc) (λ e. cc)
+place_from ks kinds.S s u h p = inside_free (level_after in_header ks) kinds.S (begun_after in_header ks (λ e. cc)) u h (λ e. cc) (λ e. cc)
+place_from ks kinds.L s u h p = inside_free (level_after in_header ks) kinds.L (begun_after in_header ks (λ e. cc)) u h (λ e. cc) (λ e. cc)
+
+no_header : (l : Level) (ks : List Kind) → l ≢ outside → StandsFrom l ks → AllByRecursion (λ j. j ≢ kinds.H) ks
+no_header l [] o s = tt
+no_header l (k ∷ ks) o s = (other_kind l k o s.0, no_header (next_level l k) ks (next_begun l k o) s.1)
+
+nothing_behind : (ks : List Kind) → StandsFrom closed ks → ks ≡ []
+nothing_behind [] s = refl
+nothing_behind (k ∷ ks) s = absurd (nothing_closed k s.0)
+
+in_header_at : (k : Kind) → k ≡ kinds.H → next_level outside k ≡ in_header
+in_header_at k e = ap (next_level outside) e
+
+closing_last : (ks before behind : List Kind) → StandsFrom outside ks → ks ≡ before ++ kinds.L ∷ behind → behind ≡ []
+closing_last ks before behind s e = nothing_behind behind (stands_back outside before (kinds.L ∷ behind) (subst (StandsFrom outside) e s)).1
+
+parents_stand : (before behind : List Kind) (k : Kind) → StandsFrom outside (before ++ k ∷ behind) → HasParent before k
+parents_stand [] behind k s = subst (HasParent []) (sym (header_first k s.0)) tt
+parents_stand (b ∷ before) behind k s =
+    let is : b ≡ kinds.H = header_first b s.0 in
+    let rest : StandsFrom in_header (before ++ k ∷ behind) = subst (λ l. StandsFrom l (before ++ k ∷ behind)) (in_header_at b is) s.1 in
+    subst (λ h. HasParent (h ∷ before) k) (sym is)
+    (parent_from before k (stands_front in_header before (k ∷ behind) rest) (stands_back in_header before (k ∷ behind) rest).0)
+
+header_stands : (ks : List Kind) → StandsFrom outside ks → HasHeaderFirst ks
+header_stands [] s = tt
+header_stands (k ∷ ks) s =
+    let is = header_first k s.0 in
+    (is, no_header in_header ks (λ e. cc) (subst (λ l. StandsFrom l ks) (in_header_at k is) s.1))
+
+-- what the machine takes is viable
+pub viable_from : (ks : List Kind) → StandsFrom outside ks → IsViable ks
+viable_from ks s = record {
+  header = header_stands ks s;
+  closing = λ before behind e. closing_last ks before behind s e;
+  parents = λ before behind k e. parents_stand before behind k (subst (StandsFrom outside) e s);
+}
+
+stays_open : (l : Level) (k : Kind) → l ≢ closed → k ≢ kinds.L → next_level l k ≢ closed
+stays_open l kinds.H u o e = cc
+stays_open l kinds.P u o e = cc
+stays_open l kinds.O u o e = cc
+stays_open l kinds.R u o e = u e
+stays_open l kinds.C u o e = u e
+stays_open l kinds.Q u o e = cc
+stays_open l kinds.M u o e = u e
+stays_open l kinds.S u o e = u e
+stays_open l kinds.L u o e = o refl
+
+module _ (whole : List Kind) (viable : IsViable whole) where
+  not_last : (before : List Kind) (k i : Kind) (rest : List Kind) → whole ≡ before ++ k ∷ i ∷ rest → k ≢ kinds.L
+  not_last before k i rest e l =
+      let none : i ∷ rest ≡ [] = viable.closing before (i ∷ rest) (subst (λ j. whole ≡ before ++ j ∷ i ∷ rest) l e) in cc
+
+  rest_from : (done rest : List Kind) → whole ≡ kinds.H ∷ (done ++ rest) → StandsFrom in_header done → level_after in_header done ≢ closed → AllByRecursion (λ j. j ≢ kinds.H) rest
+      → StandsFrom (level_after in_header done) rest
+  rest_from done [] e s u h = tt
+  rest_from done (k ∷ []) e s u h = (place_from done k s u h.0 (viable.parents (kinds.H ∷ done) [] k e), tt)
+  rest_from done (k ∷ i ∷ rest) e s u h =
+      let placed = place_from done k s u h.0 (viable.parents (kinds.H ∷ done) (i ∷ rest) k e) in
+      let goes : level_after in_header (done ++ k ∷ []) ≡ next_level (level_after in_header done) k = level_append in_header done (k ∷ []) in
+      let more = stands_append in_header done (k ∷ []) s (placed, tt) in
+      let still : level_after in_header (done ++ k ∷ []) ≢ closed =
+      subst (λ l. l ≢ closed) (sym goes) (stays_open (level_after in_header done) k u (not_last (kinds.H ∷ done) k i rest e)) in
+      let below = rest_from (done ++ k ∷ []) (i ∷ rest) (e ∙ ap (λ l. kinds.H ∷ l) (sym (append_assoc done (k ∷ []) (i ∷ rest)))) more still h.1 in
+      (placed, subst (λ l. StandsFrom l (i ∷ rest)) goes below)
+
+-- what is viable the machine takes
+pub from_viable : (ks : List Kind) → IsViable ks → StandsFrom outside ks
+from_viable [] v = tt
+from_viable (k ∷ ks) v =
+    let is = v.header.0 in
+    let whole : k ∷ ks ≡ kinds.H ∷ ([] ++ ks) = ap (λ j. j ∷ ks) is in
+    let rest = rest_from (k ∷ ks) v [] ks whole tt (λ e. cc) v.header.1 in
+    (ap (misplaced outside) is, subst (λ l. StandsFrom l ks) (sym (in_header_at k is)) rest)

@@ -1,0 +1,22 @@
+-- The findings on a message's sequence numbers.
+use Rattle.std.specs.Prelude.{ℕ, ◌+◌, not, ◌&&◌, if◌then◌else◌, List, [], ◌∷◌, ◌++◌}
+use Rattle.lis_record.specs.declared.kinds.Kind.{Kind}
+use Rattle.lis_record.specs.Shape.{RecordContent, field_at}
+use Rattle.lis_tree.specs.declared.numbering.Finding.{Finding}
+use Rattle.lis_tree.specs.Numbers.{expected_number, field_number, is_number, is_numbered}
+use Rattle.lis_tree.specs.Places.{capped}
+use Rattle.lis_tree.specs.Tree.{MessageTree, flatten}
+
+-- the finding on a record, if there is one
+abbrev pub finding_on : List Kind → ℕ → RecordContent → List Finding
+finding_on earlier place r =
+    if is_numbered r.kind && not (is_number (field_number (field_at r 2)) (capped (expected_number r.kind earlier)))
+    then record { place = capped place; kind = r.kind; expected = capped (expected_number r.kind earlier) } ∷ [] else []
+
+abbrev pub findings_from : List Kind → ℕ → List RecordContent → List Finding
+findings_from earlier place [] = []
+findings_from earlier place (r ∷ records) = finding_on earlier place r ++ findings_from (r.kind ∷ earlier) (place + 1) records
+
+-- the findings on a message, in the order of its records
+abbrev pub findings_of : MessageTree → List Finding
+findings_of message = findings_from [] 1 (flatten message)

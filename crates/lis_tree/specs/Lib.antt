@@ -1,0 +1,13 @@
+pub mod Begun
+pub mod Findings
+pub mod Front
+pub mod Hierarchy
+pub mod Level
+pub mod ListFaults
+pub mod Nodes
+pub mod Numbers
+pub mod Open
+pub mod Places
+pub mod Spine
+pub mod Tree
+pub mod Walk

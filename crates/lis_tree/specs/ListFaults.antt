@@ -1,0 +1,28 @@
+-- Why a list of records is not one message.
+use Rattle.std.specs.Prelude.{◌≡◌, ◌≢◌, ◌+◌, List, ◌∷◌, ◌++◌, length, Some, ◌⊎◌}
+use Rattle.lis_record.specs.declared.kinds.Kind.{Kind}
+use Rattle.lis_tree.specs.declared.fault.MessageFault.{MessageFault}
+use Rattle.lis_tree.specs.declared.fault.Reason.TheVariants as reasons
+use Rattle.lis_tree.specs.Level.{outside, closed, level_after, misplaced, StandsFrom}
+use Rattle.lis_tree.specs.Places.{capped}
+
+-- a record of a list that can't stand where it does, the first of them
+pub record IsMisplacedAt (ks : List Kind) (fault : MessageFault) : Type 0 where
+  pub before : List Kind
+  pub kind : Kind
+  pub behind : List Kind
+  pub whole : ks ≡ before ++ kind ∷ behind
+  pub placed : StandsFrom outside before
+  pub why : misplaced (level_after outside before) kind ≡ Some fault.reason
+  pub place : fault.place ≡ capped (length before + 1)
+
+-- a list whose message isn't closed
+pub record IsUnclosed (ks : List Kind) (fault : MessageFault) : Type 0 where
+  pub placed : StandsFrom outside ks
+  pub unclosed : level_after outside ks ≢ closed
+  pub why : fault.reason ≡ reasons.Unfinished
+  pub place : fault.place ≡ capped (length ks + 1)
+
+-- why records are not one message
+abbrev pub IsListFault : List Kind → MessageFault → Type 0
+IsListFault ks fault = IsMisplacedAt ks fault ⊎ IsUnclosed ks fault

@@ -1,0 +1,14 @@
+-- What an open message keeps.
+use Rattle.std.specs.Prelude.{◌≡◌, ℕ, length}
+use Rattle.std.specs.List.{AllByRecursion}
+use Rattle.lis_record.specs.Delimiters.{DelimiterBytes, IsDelimiters}
+use Rattle.lis_record.specs.Shape.{IsRecordShape}
+use Rattle.lis_tree.specs.Spine.{spine_records, IsSpine}
+use Rattle.lis_tree.specs.Places.{capped}
+use Rattle.lis_tree.specs.declared.spine.Spine.{Spine}
+
+pub record IsOpen (delimiters : DelimiterBytes) (spine : Spine) (count : ℕ) : Type 0 where
+  pub marks : IsDelimiters delimiters
+  pub shape : IsSpine spine
+  pub records : AllByRecursion IsRecordShape (spine_records spine)
+  pub counted : count ≡ capped (length (spine_records spine))

@@ -1,0 +1,24 @@
+//! The tree of a message's records (LIS02-A2): the hierarchy, a message that is still open, a walk over the records,
+//! and the findings on sequence numbers.
+#![tactic(auto)]
+
+mod fault;
+pub mod laws;
+mod lists;
+mod message;
+mod numbering;
+mod open;
+mod spine;
+#[cfg(test)]
+mod tests;
+mod tree;
+mod walk;
+
+pub use fault::{MessageFault, Reason};
+pub use lis_record::{Delimiters, Kind, Record, RecordFault};
+pub use lists::Records;
+pub use message::Message;
+pub use numbering::{Finding, Findings, findings};
+pub use open::OpenMessage;
+pub use tree::{Group, Order, Patient, Query, ResultEntry};
+pub use walk::Walk;

@@ -1,0 +1,189 @@
+ghost use Rattle.std.specs.Prelude.{◌≡◌, ◌+◌, ◌∷◌, [], ◌++◌, ◌⊎◌, IfOk, IfErr, MatchResult, MatchOption, None, Some, length};
+ghost use Rattle.lis_record.specs.declared.kinds.Kind.TheVariants as kinds;
+ghost use Rattle.lis_tree.specs.declared.fault.Reason.TheVariants as reasons;
+ghost use Rattle.lis_tree.specs.Level.{misplaced, closed, kinds_of};
+ghost use Rattle.lis_tree.specs.ListFaults.{IsListFault};
+ghost use Rattle.lis_tree.specs.Places.{capped};
+ghost use Rattle.lis_tree.specs.Tree.{MessageTree, IsTree, flatten};
+
+use crate::fault::{MessageFault, Reason};
+use crate::lists::Records;
+use crate::open::OpenMessage;
+use crate::tree::Group;
+use crate::walk::{Walk, count};
+use lis_record::{Delimiters, Kind, Record};
+use std::alloc::Global;
+use std::marker::Model;
+
+/// A whole message: its header with notes, its patients and queries, and the record that closes it.
+#[derive(Drop)]
+pub struct Message {
+    delimiters: Delimiters,
+    header: Record,
+    notes: Records,
+    groups: Vec<Group>,
+    closing: Record,
+}
+
+impl Model for Message {
+    ghost use Rattle.lis_tree.specs.Tree.{MessageTree, IsTree};
+
+    ghost Value = { MessageTree };
+
+    ghost view = { λ m. record { delimiters = m.delimiters; header = m.header; notes = m.notes; groups = m.groups.items; closing = m.closing } };
+
+    ghost invariant = { λ m. IsTree (record { delimiters = m.delimiters; header = m.header; notes = m.notes; groups = m.groups.items; closing = m.closing }) };
+}
+
+impl Message {
+    pub(crate) fn new(
+        delimiters: Delimiters,
+        header: Record,
+        notes: Records,
+        groups: Vec<Group>,
+        closing: Record,
+    ) -> Self
+        requires { IsTree (record { delimiters = delimiters; header = header; notes = notes; groups = groups.items; closing = closing }) }
+        ensures { result ≡ record { delimiters = delimiters; header = header; notes = notes; groups = groups.items; closing = closing } }
+    {
+        Message {
+            delimiters,
+            header,
+            notes,
+            groups,
+            closing,
+        }
+    }
+
+    /// The message that these records are under these delimiters. The records are used up, also on a fault: the first
+    /// that can't stand where it does, or `Unfinished` at the place after the last, or want of memory.
+    pub fn from_records(
+        alloc: Global,
+        delimiters: Delimiters,
+        records: Records,
+    ) -> Result<Message, MessageFault>
+        ensures delimiters { IfOk result (λ m. m.delimiters ≡ delimiters) }
+        ensures records { IfOk result (λ m. flatten m ≡ records) }
+        ensures shape { IfOk result IsTree }
+        ensures only { (m : MessageTree) → IsTree m → m.delimiters ≡ delimiters → flatten m ≡ records
+            → MatchResult result (λ found. found ≡ m) (λ fault. fault.reason ≡ reasons.OutOfMemory) }
+        ensures err { IfErr result (λ fault. (fault.reason ≡ reasons.OutOfMemory) ⊎ IsListFault (kinds_of records) fault) }
+    {
+        let mut rest = records.into_vec().into_iter();
+        let Some(header) = rest.next() else {
+            return Err(MessageFault {
+                place: 1,
+                reason: Reason::Unfinished,
+            });
+        };
+        let Kind::H = header.kind() else {
+            return Err(MessageFault {
+                place: 1,
+                reason: Reason::NotHeader,
+            });
+        };
+        let mut begun = OpenMessage::new(alloc, delimiters, header);
+        while let Some(entry) = rest.next() {
+            let place = begun.next_place();
+            let kind = entry.kind();
+            if let Some(reason) = begun.place_fault(kind) {
+                return Err(MessageFault { place, reason });
+            }
+            if let Kind::L = kind {
+                match close(alloc, begun, entry, rest.next()) {
+                    Ok(message) => return Ok(message),
+                    Err(fault) => return Err(fault),
+                }
+            }
+            match begun.with_record(alloc, entry) {
+                Ok(next) => begun = next,
+                Err(_) => return Err(MessageFault {
+                    place,
+                    reason: Reason::OutOfMemory,
+                }),
+            }
+        }
+        Err(MessageFault {
+            place: begun.next_place(),
+            reason: Reason::Unfinished,
+        })
+    }
+
+    /// The delimiters that its header names.
+    pub fn delimiters(&self) -> Delimiters
+        ensures value { result ≡ self.now.delimiters }
+        ensures shape { IsTree self.now }
+    {
+        self.delimiters
+    }
+
+    /// The H record.
+    pub fn header(&self) -> &Record
+        ensures { result.now ≡ self.now.header }
+    {
+        &self.header
+    }
+
+    /// The notes on the header.
+    pub fn notes(&self) -> &Records
+        ensures { result.now ≡ self.now.notes }
+    {
+        &self.notes
+    }
+
+    /// The patients and queries, in order.
+    pub fn groups(&self) -> &[Group]
+        ensures { result.now ≡ self.now.groups }
+    {
+        self.groups.as_slice()
+    }
+
+    /// How many records there are; it stays at the greatest number.
+    pub fn len(&self) -> u64
+        ensures { result ≡ capped (length (flatten self.now)) }
+    {
+        count(Walk::new(self))
+    }
+
+    /// The L record.
+    pub fn closing(&self) -> &Record
+        ensures { result.now ≡ self.now.closing }
+    {
+        &self.closing
+    }
+}
+
+// The message that a record closes, where none follows.
+fn close(
+    alloc: Global,
+    begun: OpenMessage,
+    closing: Record,
+    next: Option<Record>,
+) -> Result<Message, MessageFault>
+    requires { closing.kind ≡ kinds.L }
+    ensures alone { IfOk result (λ m. next ≡ None) }
+    ensures delimiters { IfOk result (λ m. m.delimiters ≡ begun.delimiters) }
+    ensures records { IfOk result (λ m. flatten m ≡ begun.records ++ closing ∷ []) }
+    ensures shape { IfOk result IsTree }
+    ensures err { IfErr result (λ fault. MatchOption next (fault.reason ≡ reasons.OutOfMemory)
+        (λ r. (misplaced closed r.kind ≡ Some fault.reason) × (fault.place ≡ capped (length begun.records + 2)))) }
+{
+    let place = begun.next_place();
+    if let Some(extra) = next {
+        let reason = match extra.kind() {
+            Kind::H => Reason::SecondHeader,
+            _ => Reason::NotHeader,
+        };
+        return Err(MessageFault {
+            place: place.saturating_add(1),
+            reason,
+        });
+    }
+    match begun.closed(alloc, closing) {
+        Ok(message) => Ok(message),
+        Err(_) => Err(MessageFault {
+            place,
+            reason: Reason::OutOfMemory,
+        }),
+    }
+}

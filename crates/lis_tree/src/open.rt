@@ -1,0 +1,113 @@
+//! A message whose closing record hasn't come yet.
+ghost use Rattle.std.specs.Prelude.{◌≡◌, ◌≢◌, ◌+◌, ◌∷◌, [], ◌++◌, IfOk, None, Some, length};
+ghost use Rattle.lis_record.specs.declared.kinds.Kind.TheVariants as kinds;
+ghost use Rattle.lis_record.specs.Delimiters.{IsDelimiters};
+ghost use Rattle.lis_tree.specs.Level.{misplaced};
+ghost use Rattle.lis_tree.specs.Begun.{level_of};
+ghost use Rattle.lis_tree.specs.Places.{capped};
+ghost use Rattle.lis_tree.specs.Tree.{flatten, IsTree};
+
+use crate::fault::Reason;
+use crate::message::Message;
+use crate::spine::{Spine, headed, place_fault, whole_front, with_record};
+use lis_record::{Delimiters, Kind, Record};
+use std::alloc::{AllocError, Global};
+use std::marker::Model;
+
+/// A message that isn't closed yet.
+#[derive(Drop)]
+pub struct OpenMessage {
+    delimiters: Delimiters,
+    spine: Spine,
+    /// How many records there are; it stays at the greatest number.
+    count: u64,
+}
+
+impl Model for OpenMessage {
+    ghost use Rattle.std.specs.Prelude.{◌≡◌, length};
+    ghost use Rattle.lis_tree.specs.Begun.{Begun};
+
+    ghost Value = { Begun };
+
+    ghost use Rattle.lis_tree.specs.Open.{IsOpen};
+    ghost use Rattle.lis_tree.specs.Spine.{spine_records};
+
+    ghost view = { λ m. record { delimiters = m.delimiters; records = spine_records m.spine } };
+
+    ghost invariant = { λ m. IsOpen m.delimiters m.spine m.count };
+}
+
+impl OpenMessage {
+    /// The message that begins with this header.
+    pub fn new(alloc: Global, delimiters: Delimiters, header: Record) -> Self
+        requires { header.kind ≡ kinds.H }
+        ensures { result ≡ record { delimiters = delimiters; records = header ∷ [] } }
+    {
+        let _ = delimiters.field();
+        let _ = header.kind();
+        OpenMessage {
+            delimiters,
+            spine: headed(alloc, header),
+            count: 1,
+        }
+    }
+
+    /// The delimiters that its header names.
+    pub fn delimiters(&self) -> Delimiters
+        ensures value { result ≡ self.now.delimiters }
+        ensures shape { IsDelimiters result }
+    {
+        self.delimiters
+    }
+
+    /// The place of the next record, from 1 for the header.
+    pub fn next_place(&self) -> u64
+        ensures { result ≡ capped (length self.now.records + 1) }
+    {
+        self.count.saturating_add(1)
+    }
+
+    /// Why a record of this kind can't come next.
+    pub fn place_fault(&self, kind: Kind) -> Option<Reason>
+        ensures { result ≡ misplaced (level_of (Some self.now)) kind }
+    {
+        place_fault(&self.spine, kind)
+    }
+
+    /// The message with one more record, which may stand there and doesn't close it.
+    pub fn with_record(self, alloc: Global, entry: Record) -> Result<OpenMessage, AllocError>
+        requires placed { misplaced (level_of (Some self)) entry.kind ≡ None }
+        requires open { entry.kind ≢ kinds.L }
+        ensures { IfOk result (λ m. m ≡ record { delimiters = self.delimiters; records = self.records ++ entry ∷ [] }) }
+    {
+        let OpenMessage {
+            delimiters,
+            spine,
+            count,
+        } = self;
+        let kind = entry.kind();
+        let spine = with_record(alloc, spine, kind, entry)?;
+        Ok(OpenMessage {
+            delimiters,
+            spine,
+            count: count.saturating_add(1),
+        })
+    }
+
+    /// The message that this record closes.
+    pub fn closed(self, alloc: Global, closing: Record) -> Result<Message, AllocError>
+        requires { closing.kind ≡ kinds.L }
+        ensures delimiters { IfOk result (λ m. m.delimiters ≡ self.delimiters) }
+        ensures records { IfOk result (λ m. flatten m ≡ self.records ++ closing ∷ []) }
+        ensures shape { IfOk result (λ m. IsTree m) }
+    {
+        let OpenMessage {
+            delimiters,
+            spine,
+            count: _,
+        } = self;
+        let _ = closing.kind();
+        let front = whole_front(alloc, spine)?;
+        Ok(front.into_message(delimiters, closing))
+    }
+}

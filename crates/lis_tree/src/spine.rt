@@ -1,0 +1,370 @@
+//! The tree of a message while its records come: what is whole stands in lists, and the node that still grows stands
+//! by itself.
+ghost use Rattle.std.specs.Prelude.{◌≡◌, ◌∷◌, [], ◌++◌, ◌≢◌, IfOk, None};
+ghost use Rattle.lis_record.specs.declared.kinds.Kind.TheVariants as kinds;
+ghost use Rattle.lis_tree.specs.Level.{misplaced};
+ghost use Rattle.lis_tree.specs.Tree.{noted_records, order_records, patient_records, group_records, IsNote, IsNoted, IsOrder, IsPatient, IsGroup, IsTree};
+ghost use Rattle.lis_tree.specs.Spine.{front_records, spine_records, spine_level, IsFront, IsSpine};
+
+use crate::fault::Reason;
+use crate::lists::Records;
+use crate::message::Message;
+use crate::tree::{Group, Order, Patient, Query, ResultEntry};
+use lis_record::{Delimiters, Kind, Record};
+use std::alloc::{AllocError, Global};
+use std::marker::Model;
+
+/// A node that has no children yet.
+#[derive(Drop)]
+pub(crate) struct Item {
+    head: Record,
+    notes: Records,
+}
+
+impl Model for Item {
+    ghost use Rattle.lis_tree.specs.Nodes.{Noted};
+
+    ghost Value = { Noted };
+
+    ghost view = { λ i. record { head = i.head; notes = i.notes } };
+}
+
+impl Item {
+    fn new(alloc: Global, head: Record) -> Self
+        ensures { result ≡ record { head = head; notes = [] } }
+    {
+        Item {
+            head,
+            notes: Records::new(alloc),
+        }
+    }
+
+    fn with_note(self, note: Record) -> Result<Item, AllocError>
+        ensures { IfOk result (λ i. i ≡ record { head = self.head; notes = self.notes ++ note ∷ [] }) }
+    {
+        let Item { head, mut notes } = self;
+        match notes.push(note) {
+            Ok(()) => Ok(Item { head, notes }),
+            Err(_) => Err(AllocError),
+        }
+    }
+
+    fn into_entry(self) -> ResultEntry
+        ensures { result ≡ self }
+    {
+        let Item { head, notes } = self;
+        ResultEntry::new(head, notes)
+    }
+
+    fn into_query(self) -> Query
+        ensures { result ≡ self }
+    {
+        let Item { head, notes } = self;
+        Query::new(head, notes)
+    }
+
+    fn into_order(self, alloc: Global) -> Order
+        ensures { result ≡ record { head = self.head; notes = self.notes; results = [] } }
+    {
+        let Item { head, notes } = self;
+        Order::new(head, notes, Vec::new(alloc))
+    }
+
+    fn into_patient(self, alloc: Global) -> Patient
+        ensures { result ≡ record { head = self.head; notes = self.notes; orders = [] } }
+    {
+        let Item { head, notes } = self;
+        Patient::new(head, notes, Vec::new(alloc))
+    }
+}
+
+/// The header with its notes, and the groups that are whole.
+#[derive(Drop)]
+pub(crate) struct Front {
+    header: Record,
+    notes: Records,
+    groups: Vec<Group>,
+}
+
+impl Model for Front {
+    ghost use Rattle.lis_tree.specs.Front.{FrontTree};
+
+    ghost Value = { FrontTree };
+
+    ghost view = { λ f. record { header = f.header; notes = f.notes; groups = f.groups.items } };
+}
+
+impl Front {
+    fn new(alloc: Global, item: Item) -> Self
+        ensures { result ≡ record { header = item.head; notes = item.notes; groups = [] } }
+    {
+        let Item { head, notes } = item;
+        Front {
+            header: head,
+            notes,
+            groups: Vec::new(alloc),
+        }
+    }
+
+    fn with_group(self, group: Group) -> Result<Front, AllocError>
+        ensures { IfOk result (λ f. f ≡ record { header = self.header; notes = self.notes; groups = self.groups ++ group ∷ [] }) }
+    {
+        let Front {
+            header,
+            notes,
+            mut groups,
+        } = self;
+        match groups.push(group) {
+            Ok(()) => Ok(Front {
+                header,
+                notes,
+                groups,
+            }),
+            Err(_) => Err(AllocError),
+        }
+    }
+
+    /// The message that the closing record makes of it.
+    pub(crate) fn into_message(self, delimiters: Delimiters, closing: Record) -> Message
+        requires { IsTree (record { delimiters = delimiters; header = self.header; notes = self.notes; groups = self.groups; closing = closing }) }
+        ensures { result ≡ record { delimiters = delimiters; header = self.header; notes = self.notes; groups = self.groups; closing = closing } }
+    {
+        let Front {
+            header,
+            notes,
+            groups,
+        } = self;
+        Message::new(delimiters, header, notes, groups, closing)
+    }
+}
+
+/// A message that isn't whole yet. The last item is the node that the next note belongs to.
+#[derive(Drop)]
+pub(crate) enum Spine {
+    Header(Item),
+    Query(Front, Item),
+    Patient(Front, Item),
+    Order(Front, Patient, Item),
+    Entry(Front, Patient, Order, Item),
+}
+
+/// The order with one more result.
+fn close_result(mut order: Order, item: Item) -> Result<Order, AllocError>
+    ensures records { IfOk result (λ o. order_records o ≡ order_records order ++ noted_records item) }
+    ensures shape { IfOk result (λ o. IsOrder order → IsNoted kinds.R item → IsOrder o) }
+{
+    match order.push(item.into_entry()) {
+        Ok(()) => Ok(order),
+        Err(_) => Err(AllocError),
+    }
+}
+
+/// The patient with one more order.
+fn close_order(mut patient: Patient, order: Order) -> Result<Patient, AllocError>
+    ensures records { IfOk result (λ p. patient_records p ≡ patient_records patient ++ order_records order) }
+    ensures shape { IfOk result (λ p. IsPatient patient → IsOrder order → IsPatient p) }
+{
+    match patient.push(order) {
+        Ok(()) => Ok(patient),
+        Err(_) => Err(AllocError),
+    }
+}
+
+/// The front with one more group.
+fn close_group(front: Front, group: Group) -> Result<Front, AllocError>
+    ensures records { IfOk result (λ f. front_records f ≡ front_records front ++ group_records group) }
+    ensures shape { IfOk result (λ f. IsFront front → IsGroup group → IsFront f) }
+{
+    front.with_group(group)
+}
+
+/// The order that an item alone is.
+fn order_of(alloc: Global, item: Item) -> Order
+    ensures records { order_records result ≡ noted_records item }
+    ensures shape { IsNoted kinds.O item → IsOrder result }
+{
+    item.into_order(alloc)
+}
+
+/// The patient that an item alone is.
+fn patient_of(alloc: Global, item: Item) -> Patient
+    ensures records { patient_records result ≡ noted_records item }
+    ensures shape { IsNoted kinds.P item → IsPatient result }
+{
+    item.into_patient(alloc)
+}
+
+/// The patient with the order that grew last.
+#[tactic(auto, using(crate::proofs::Appends::appends))]
+fn close_entry(patient: Patient, order: Order, item: Item) -> Result<Patient, AllocError>
+    ensures records { IfOk result (λ p. patient_records p ≡ patient_records patient ++ order_records order ++ noted_records item) }
+    ensures shape { IfOk result (λ p. IsPatient patient → IsOrder order → IsNoted kinds.R item → IsPatient p) }
+{
+    let order = close_result(order, item)?;
+    close_order(patient, order)
+}
+
+/// The front with the patient that grew last.
+#[tactic(auto, using(crate::proofs::Appends::appends))]
+fn close_below(front: Front, patient: Patient, order: Order) -> Result<Front, AllocError>
+    ensures records { IfOk result (λ f. front_records f ≡ front_records front ++ patient_records patient ++ order_records order) }
+    ensures shape { IfOk result (λ f. IsFront front → IsPatient patient → IsOrder order → IsFront f) }
+{
+    let patient = close_order(patient, order)?;
+    close_group(front, Group::Patient(patient))
+}
+
+/// The front with all that stands below it.
+#[tactic(auto, using(crate::proofs::Appends::appends))]
+pub(crate) fn whole_front(alloc: Global, spine: Spine) -> Result<Front, AllocError>
+    ensures records { IfOk result (λ f. front_records f ≡ spine_records spine) }
+    ensures shape { IfOk result (λ f. IsSpine spine → IsFront f) }
+{
+    match spine {
+        Spine::Header(item) => Ok(Front::new(alloc, item)),
+        Spine::Query(front, item) => close_group(front, Group::Query(item.into_query())),
+        Spine::Patient(front, item) => {
+            close_group(front, Group::Patient(patient_of(alloc, item)))
+        }
+        Spine::Order(front, patient, item) => { close_below(front, patient, order_of(alloc, item)) }
+        Spine::Entry(front, patient, order, item) => {
+            let order = close_result(order, item)?;
+            close_below(front, patient, order)
+        }
+    }
+}
+
+fn with_note(spine: Spine, note: Record) -> Result<Spine, AllocError>
+    ensures records { IfOk result (λ s. spine_records s ≡ spine_records spine ++ note ∷ []) }
+    ensures shape { IfOk result (λ s. IsSpine spine → IsNote note.kind → IsSpine s) }
+{
+    match spine {
+        Spine::Header(item) => {
+            let item = item.with_note(note)?;
+            Ok(Spine::Header(item))
+        }
+        Spine::Query(front, item) => {
+            let item = item.with_note(note)?;
+            Ok(Spine::Query(front, item))
+        }
+        Spine::Patient(front, item) => {
+            let item = item.with_note(note)?;
+            Ok(Spine::Patient(front, item))
+        }
+        Spine::Order(front, patient, item) => {
+            let item = item.with_note(note)?;
+            Ok(Spine::Order(front, patient, item))
+        }
+        Spine::Entry(front, patient, order, item) => {
+            let item = item.with_note(note)?;
+            Ok(Spine::Entry(front, patient, order, item))
+        }
+    }
+}
+
+fn with_patient(alloc: Global, spine: Spine, head: Record) -> Result<Spine, AllocError>
+    ensures records { IfOk result (λ s. spine_records s ≡ spine_records spine ++ head ∷ []) }
+    ensures shape { IfOk result (λ s. IsSpine spine → head.kind ≡ kinds.P → IsSpine s) }
+{
+    let front = whole_front(alloc, spine)?;
+    Ok(Spine::Patient(front, Item::new(alloc, head)))
+}
+
+fn with_query(alloc: Global, spine: Spine, head: Record) -> Result<Spine, AllocError>
+    ensures records { IfOk result (λ s. spine_records s ≡ spine_records spine ++ head ∷ []) }
+    ensures shape { IfOk result (λ s. IsSpine spine → head.kind ≡ kinds.Q → IsSpine s) }
+{
+    let front = whole_front(alloc, spine)?;
+    Ok(Spine::Query(front, Item::new(alloc, head)))
+}
+
+fn with_order(alloc: Global, spine: Spine, head: Record) -> Result<Spine, AllocError>
+    requires { misplaced (spine_level spine) kinds.O ≡ None }
+    ensures records { IfOk result (λ s. spine_records s ≡ spine_records spine ++ head ∷ []) }
+    ensures shape { IfOk result (λ s. IsSpine spine → head.kind ≡ kinds.O → IsSpine s) }
+{
+    match spine {
+        Spine::Header(_) | Spine::Query(..) => unreachable!(),
+        Spine::Patient(front, item) => {
+            let patient = patient_of(alloc, item);
+            Ok(Spine::Order(front, patient, Item::new(alloc, head)))
+        }
+        Spine::Order(front, patient, item) => {
+            let patient = close_order(patient, order_of(alloc, item))?;
+            Ok(Spine::Order(front, patient, Item::new(alloc, head)))
+        }
+        Spine::Entry(front, patient, order, item) => {
+            let patient = close_entry(patient, order, item)?;
+            Ok(Spine::Order(front, patient, Item::new(alloc, head)))
+        }
+    }
+}
+
+fn with_result(alloc: Global, spine: Spine, head: Record) -> Result<Spine, AllocError>
+    requires { misplaced (spine_level spine) kinds.R ≡ None }
+    ensures records { IfOk result (λ s. spine_records s ≡ spine_records spine ++ head ∷ []) }
+    ensures shape { IfOk result (λ s. IsSpine spine → head.kind ≡ kinds.R → IsSpine s) }
+{
+    match spine {
+        Spine::Header(_) | Spine::Query(..) | Spine::Patient(..) => unreachable!(),
+        Spine::Order(front, patient, item) => {
+            let order = order_of(alloc, item);
+            Ok(Spine::Entry(front, patient, order, Item::new(alloc, head)))
+        }
+        Spine::Entry(front, patient, order, item) => {
+            let order = close_result(order, item)?;
+            Ok(Spine::Entry(front, patient, order, Item::new(alloc, head)))
+        }
+    }
+}
+
+/// Why a record of this kind can't come next.
+pub(crate) fn place_fault(spine: &Spine, kind: Kind) -> Option<Reason>
+    ensures { result ≡ misplaced (spine_level spine.now) kind }
+{
+    let has_parent = match kind {
+        Kind::H => return Some(Reason::SecondHeader),
+        Kind::O => matches!(
+            spine,
+            Spine::Patient(..) | Spine::Order(..) | Spine::Entry(..)
+        ),
+        Kind::R => matches!(spine, Spine::Order(..) | Spine::Entry(..)),
+        Kind::P | Kind::C | Kind::Q | Kind::M | Kind::S | Kind::L => true,
+    };
+    if has_parent {
+        None
+    } else {
+        Some(Reason::NoParent(kind))
+    }
+}
+
+/// The message so far with one more record, which may stand there.
+pub(crate) fn with_record(
+    alloc: Global,
+    spine: Spine,
+    kind: Kind,
+    entry: Record,
+) -> Result<Spine, AllocError>
+    requires kind { entry.kind ≡ kind }
+    requires placed { misplaced (spine_level spine) kind ≡ None }
+    requires open { kind ≢ kinds.L }
+    ensures records { IfOk result (λ s. spine_records s ≡ spine_records spine ++ entry ∷ []) }
+    ensures shape { IfOk result (λ s. IsSpine spine → IsSpine s) }
+{
+    match kind {
+        Kind::H | Kind::L => unreachable!(),
+        Kind::P => with_patient(alloc, spine, entry),
+        Kind::O => with_order(alloc, spine, entry),
+        Kind::R => with_result(alloc, spine, entry),
+        Kind::Q => with_query(alloc, spine, entry),
+        Kind::C | Kind::M | Kind::S => with_note(spine, entry),
+    }
+}
+
+/// The message that begins with this header.
+pub(crate) fn headed(alloc: Global, header: Record) -> Spine
+    ensures records { spine_records result ≡ header ∷ [] }
+    ensures shape { header.kind ≡ kinds.H → IsSpine result }
+{
+    Spine::Header(Item::new(alloc, header))
+}

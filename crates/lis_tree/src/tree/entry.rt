@@ -1,0 +1,42 @@
+ghost use Rattle.std.specs.Prelude.{◌≡◌};
+
+use crate::lists::Records;
+use lis_record::Record;
+use std::marker::Model;
+
+/// A result with its notes.
+#[derive(Drop)]
+pub struct ResultEntry {
+    head: Record,
+    notes: Records,
+}
+
+impl Model for ResultEntry {
+    ghost use Rattle.lis_tree.specs.Nodes.{Noted};
+
+    ghost Value = { Noted };
+
+    ghost view = { λ e. record { head = e.head; notes = e.notes } };
+}
+
+impl ResultEntry {
+    pub(crate) fn new(head: Record, notes: Records) -> Self
+        ensures { result ≡ record { head = head; notes = notes } }
+    {
+        ResultEntry { head, notes }
+    }
+
+    /// The R record.
+    pub fn head(&self) -> &Record
+        ensures { result.now ≡ self.now.head }
+    {
+        &self.head
+    }
+
+    /// The notes on it.
+    pub fn notes(&self) -> &Records
+        ensures { result.now ≡ self.now.notes }
+    {
+        &self.notes
+    }
+}
