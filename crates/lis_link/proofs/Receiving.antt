@@ -8,7 +8,7 @@ use Rattle.lis_link.specs.declared.receiver.Step.{Step}
 use Rattle.lis_link.specs.Joining.{held_after, completed}
 use Rattle.lis_frame.specs.Scanner.{Held}
 use Rattle.lis_link.specs.Kept.{KeptLine, kept_of}
-use Rattle.lis_link.specs.Receiver.{ReceiverState, judged_by, judged, on_judged, heard_by, held_text}
+use Rattle.lis_link.specs.Receiver.{ReceiverState, judged_by, judged, on_judged, heard_by, held_text, held_while}
 use Rattle.lis_link.specs.Stands.{IsIn, IsTaken, Makes}
 use Rattle.lis_link.proofs.JoiningLaws.{rest-append}
 
@@ -19,7 +19,7 @@ taken_step :
     → IsTaken old f n result new
     → Makes limit (on_judged r f (Accepted n)) result (kept_of new scanner)
 taken_step limit scanner old new r f n result is_in open_is taken =
-    let held : old.held ≡ held_text r = is_in.held_is open_is in
+    let held : old.held ≡ held_text r = is_in.held_is ∙ ap (λ o. held_while o (held_text r)) open_is in
     record {
       answer = record {
         reply_is = taken.reply_is;
@@ -31,7 +31,9 @@ taken_step limit scanner old new r f n result is_in open_is taken =
         accepted_is = ap (λ k. k + 1) is_in.accepted_is ∙ sym (length_push r.accepted f);
         readiness_is = is_in.readiness_is;
         room_is = is_in.room_is;
-        held_is = λ e. ap (λ t. held_after t f) held ∙ sym (rest-append [] r.accepted (f ∷ []));
+        held_is =
+            ap (λ t. held_after t f) held ∙ sym (rest-append [] r.accepted (f ∷ []))
+            ∙ sym (ap (λ o. held_while o (held_text (record r { accepted = r.accepted ++ f ∷ [] }))) open_is);
         stream_is = is_in.stream_is;
       });
     }
@@ -46,7 +48,7 @@ pub accepted_step :
     → Makes limit (heard_by {limit = limit} r.is_open (Good f) r) result (kept_of new scanner)
 accepted_step limit scanner old new r f n result is_in is_open found taken =
     let open_is : r.is_open ≡ true = sym is_in.open_is ∙ is_open in
-    let held : length old.held ≡ length (held_text r) = ap length (is_in.held_is open_is) in
+    let held : length old.held ≡ length (held_text r) = ap length (is_in.held_is ∙ ap (λ o. held_while o (held_text r)) open_is) in
     let found_is : Accepted n ≡ judged r f =
     found
     ∙ ap (λ a. judged_by a (length old.held) old.room f.number (length f.text)) is_in.accepted_is

@@ -41,6 +41,11 @@ new_receiver = record { is_open = false; accepted = []; readiness = Ready; room 
 abbrev pub held_text : ReceiverState → List ℕ
 held_text r = rest [] r.accepted
 
+-- a receiver whose line isn't open holds none
+abbrev pub held_while : Bool → List ℕ → List ℕ
+held_while true text = text
+held_while false text = []
+
 -- the greatest number of frames that a receiver counts in a session
 abbrev pub most_frames : ℕ
 most_frames = 4294967295
@@ -150,9 +155,5 @@ abbrev pub receiver_restarted : ReceiverState → ReceiverState
 receiver_restarted r = record r { is_open = false; readiness = Ready; room = true; past = [] }
 
 -- how many bytes are held
-abbrev pub held_length_by : Bool → ReceiverState → ℕ
-held_length_by true r = length (held_text r)
-held_length_by false r = 0
-
 abbrev pub held_length : ReceiverState → ℕ
-held_length r = held_length_by r.is_open r
+held_length r = length (held_while r.is_open (held_text r))

@@ -1,5 +1,5 @@
 -- What a receiver of the program stands for: it counts the frames that it accepted and keeps the held text alone.
-use Rattle.std.specs.Prelude.{◌≡◌, ◌≢◌, ℕ, ◌+◌, ◌<◌, ◌≤◌, true, false, List, length, take, drop, Option, None, Some}
+use Rattle.std.specs.Prelude.{◌≡◌, ◌≢◌, ℕ, ◌+◌, ◌<◌, ◌≤◌, false, List, length, take, drop, Option, None, Some}
 use Rattle.lis_frame.specs.declared.control.TheConstants.{ACK, NAK}
 use Rattle.lis_frame.specs.Frame.{FrameContent}
 use Rattle.lis_frame.specs.Scanner.{StandsFor}
@@ -8,7 +8,7 @@ use Rattle.lis_link.specs.declared.receiver.Note.TheVariants.{Accepted, OutOfMem
 use Rattle.lis_link.specs.declared.receiver.Step.{Step}
 use Rattle.lis_link.specs.Joining.{completed, held_after}
 use Rattle.lis_link.specs.Kept.{Kept, KeptLine}
-use Rattle.lis_link.specs.Receiver.{ReceiverState, ReceiverStep, answers, held_text, heard_on, on_bytes, with_heard}
+use Rattle.lis_link.specs.Receiver.{ReceiverState, ReceiverStep, answers, held_text, held_while, heard_on, on_bytes, with_heard}
 
 -- a receiver that keeps this is in this state
 pub record IsIn (limit : ℕ) (kept : Kept) (r : ReceiverState) : Type 0 where
@@ -16,7 +16,7 @@ pub record IsIn (limit : ℕ) (kept : Kept) (r : ReceiverState) : Type 0 where
   pub accepted_is : kept.accepted ≡ length r.accepted
   pub readiness_is : kept.readiness ≡ r.readiness
   pub room_is : kept.room ≡ r.room
-  pub held_is : r.is_open ≡ true → kept.held ≡ held_text r
+  pub held_is : kept.held ≡ held_while r.is_open (held_text r)
   pub stream_is : StandsFor limit kept.scanner r.past
 
 -- the program's answer is the definition's

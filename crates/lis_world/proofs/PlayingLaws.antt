@@ -13,7 +13,7 @@ use Rattle.lis_link.specs.declared.receiver.Readiness.TheVariants.{Ready}
 use Rattle.lis_link.specs.declared.receiver.Note.{Note}
 use Rattle.lis_link.specs.declared.receiver.Note.TheVariants.{Accepted, Duplicate, Opened, OutOfMemory, Quiet}
 use Rattle.lis_link.specs.declared.receiver.Step.{Step}
-use Rattle.lis_link.specs.Receiver.{ReceiverState, ReceiverStep, ReceiverHearing, bid_with, judged, on_judged, heard_by, heard, on_byte, on_bytes, heard_on, with_heard}
+use Rattle.lis_link.specs.Receiver.{ReceiverState, ReceiverStep, ReceiverHearing, bid_with, judged, on_judged, heard_by, heard, on_byte, on_bytes, heard_on, with_heard, with_room}
 use Rattle.lis_link.specs.Kept.{Kept}
 use Rattle.lis_link.specs.Stands.{IsIn, IsStep, Makes}
 use Rattle.lis_link.proofs.HearingLaws.{on_byte-quiet}
@@ -24,7 +24,7 @@ use Rattle.lis_link.specs.Sender.{SenderState, SenderStep, on_sender_timer}
 use Rattle.lis_world.specs.declared.event.Event.{Event}
 use Rattle.lis_world.specs.Unit.{Load, one_frame}
 use Rattle.lis_world.specs.World.{World, Desk, new_world, booked, noted, hears}
-use Rattle.lis_world.specs.Steps.{emitted, with_sender, sender_steps, given_up, after_event, is_noticed, runs, world}
+use Rattle.lis_world.specs.Steps.{emitted, with_sender, sender_steps, given_up, after_event, is_noticed, room_at, runs, world}
 use Rattle.lis_world.specs.Playing.{KeptWorld, world_at, IsWorld, IsPlaying, kept_given_up, KeptDesk, desk_at, IsDesk, OnlyLoad, IsLoad, TakesLoad}
 
 -- what is accepted is a good frame that was heard
@@ -270,6 +270,25 @@ pub is_world :
     → IsWorld limit new w
 is_world limit old new r w is_in same e =
     subst (IsWorld limit new) e (record { receiver_is = subst (λ k. IsIn limit k r) (sym same) is_in; world_is = refl })
+
+-- bytes that came while there was no room
+pub without_room :
+    {A E : Type 0} (outcome : Result A E) (limit s : ℕ) (bytes : List ℕ) (old without heard_it new : KeptDesk) (r : ReceiverState)
+    → IsDesk limit without (room_at false (desk_at old r))
+    → ((q : ReceiverState)
+    → IsIn limit without.receiver q
+    → OnOk outcome (IsDesk limit heard_it (hears limit s bytes (record (desk_at without q) { replies = [] }))))
+    → ((q : ReceiverState)
+    → IsIn limit heard_it.receiver q
+    → IsDesk limit new (record (desk_at heard_it q) { receiver = with_room true q }))
+    → IsOk outcome
+    → IsDesk limit new (room_at true (hears limit s bytes (room_at false (record (desk_at old r) { replies = [] }))))
+without_room (Ok x) limit s bytes old without heard_it new r closed comes opens is_ok =
+    let came =
+    subst (λ (d : Desk). IsDesk limit heard_it (hears limit s bytes (record d { replies = [] }))) closed.desk_is
+    (comes (with_room false r) closed.receiver_is) in
+    subst (λ (d : Desk). IsDesk limit new (room_at true d)) came.desk_is (opens _ came.receiver_is)
+without_room (Err x) limit s bytes old without heard_it new r closed comes opens is_ok = absurd cc
 
 -- the sender's timer
 given_up_sender : (phase : Phase) (kept : KeptWorld) → (kept_given_up phase kept).sender ≡ kept.sender

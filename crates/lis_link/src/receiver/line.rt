@@ -104,10 +104,9 @@ impl Line {
         ensures line { self.new ≡ record idle_line { accepted = self.old.accepted; spare = self.new.spare } }
         ensures spare { self.old.spare ≤ self.new.spare }
     {
-        self.is_open = false;
+        self.close();
         self.readiness = Readiness::Ready;
         self.room = true;
-        self.held.clear();
     }
 
     /// Makes room for `bytes` more bytes of held text. Where memory is refused the line is as before.
@@ -129,9 +128,17 @@ impl Line {
         if !self.is_open {
             return Step::of(None, Note::Quiet);
         }
+        self.close();
+        Step::of(None, Note::TimedOut)
+    }
+
+    /// The line isn't open any more, and nothing is held.
+    fn close(&mut self)
+        ensures line { self.new ≡ record self.old { is_open = false; held = []; spare = self.new.spare } }
+        ensures spare { self.old.spare ≤ self.new.spare }
+    {
         self.is_open = false;
         self.held.clear();
-        Step::of(None, Note::TimedOut)
     }
 
     /// Answers what the scanner tells, by the table of the receiver's steps. The text of a frame is copied once,
@@ -166,19 +173,15 @@ impl Line {
         ensures note { result.note ≢ Notes.OutOfMemory }
         ensures spare { self.old.spare ≤ self.new.spare }
     {
-        self.held.clear();
+        self.close();
         match self.readiness {
             Readiness::Ready => {
                 self.is_open = true;
                 self.accepted = 0;
                 Step::of(Some(ACK), Note::Opened)
             }
-            Readiness::Busy => {
-                self.is_open = false;
-                Step::of(Some(NAK), Note::NotReady)
-            }
+            Readiness::Busy => Step::of(Some(NAK), Note::NotReady),
             Readiness::Contending => {
-                self.is_open = false;
                 self.readiness = Readiness::Ready;
                 Step::of(Some(ENQ), Note::NotReady)
             }
@@ -195,8 +198,7 @@ impl Line {
         if !self.is_open {
             return Step::of(None, Note::Quiet);
         }
-        self.is_open = false;
-        self.held.clear();
+        self.close();
         Step::of(None, Note::Ended)
     }
 

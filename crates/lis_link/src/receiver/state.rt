@@ -27,10 +27,6 @@ impl<const N: usize> ReceiverOf<N> {
         ensures value { (r : ReceiverState) → IsIn N self.now r → result ≡ held_length r }
         ensures bound { result ≤ longest_text }
     {
-        if self.line.is_open() {
-            self.line.held()
-        } else {
-            0
-        }
+        self.line.held()
     }
 }

@@ -102,6 +102,33 @@ fn a_line_that_is_not_open_is_quiet(rt: HostRuntime) -> Result<(), Fail> {
     Ok(())
 }
 
+/// A receiver whose line is open, and which holds the text of a frame.
+fn holding(alloc: Global) -> Receiver {
+    let mut receiver = opened(alloc);
+    let _ = last_step(&mut receiver, b"\x021A\x1789\r\n");
+    receiver
+}
+
+#[test]
+fn a_line_that_is_closed_holds_nothing(rt: HostRuntime) -> Result<(), Fail> {
+    assert_eq!(rt; holding(rt.alloc()).held(), 1);
+    for byte in b"\x04\x05" {
+        for readiness in &[Readiness::Busy, Readiness::Contending] {
+            let mut receiver = holding(rt.alloc());
+            receiver.set_ready(*readiness);
+            let _ = receiver.byte(*byte);
+            assert_eq!(rt; (receiver.is_open(), receiver.held()), (false, 0));
+        }
+    }
+    let mut receiver = holding(rt.alloc());
+    receiver.restart();
+    assert_eq!(rt; (receiver.is_open(), receiver.held()), (false, 0));
+    let mut receiver = holding(rt.alloc());
+    let _ = receiver.timer();
+    assert_eq!(rt; (receiver.is_open(), receiver.held()), (false, 0));
+    Ok(())
+}
+
 #[test]
 fn readiness_answers_the_enquiry(rt: HostRuntime) -> Result<(), Fail> {
     let mut receiver = Receiver::new(rt.alloc());
