@@ -207,6 +207,7 @@ impl<const N: usize> ScannerOf<N> {
     }
 
     /// Reads bytes up to the next mark, and answers how many they are.
+    // Within the loops of its callers the search for the mark would be laid out less well.
     #[inline(never)]
     fn run_on(&mut self, bytes: &[u8]) -> usize
         ensures count { result ≡ unmarked_length bytes.now }
