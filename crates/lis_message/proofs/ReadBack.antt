@@ -3,9 +3,9 @@ use Rattle.std.proofs.Common.{◌≡◌, ℕ, List, [], ◌∷◌, ◌++◌, map
 use Rattle.std.specs.List.{AllByRecursion, AllZip, flat_map}
 use Rattle.std.specs.Prelude.{MatchOption, OnOk}
 use Rattle.std.proofs.lemmas.List.{append-nil}
-use Rattle.lis_record.specs.Delimiters.{DelimiterBytes, IsDelimiters}
+use Rattle.lis_field.specs.Delimiters.{DelimiterBytes, IsDelimiters}
 use Rattle.lis_record.specs.Relation.{IsRecord}
-use Rattle.lis_record.specs.Shape.{RecordContent, IsRecordShape}
+use Rattle.lis_field.specs.Shape.{RecordContent, IsRecordShape}
 use Rattle.lis_record.specs.Spelling.{spelled, written}
 use Rattle.lis_record.proofs.ReadBack.{IsRecord-spelled}
 use Rattle.lis_tree.specs.declared.fault.MessageFault.{MessageFault}

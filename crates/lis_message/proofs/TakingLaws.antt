@@ -4,12 +4,12 @@ use Rattle.std.specs.Prelude.{option_map, is_some}
 use Rattle.std.specs.Option.{option_or}
 use Rattle.lis_record.specs.declared.faults.RecordFault.{RecordFault}
 use Rattle.lis_record.specs.declared.faults.RecordFault.TheVariants as record_faults
-use Rattle.lis_record.specs.declared.kinds.Kind.{Kind}
-use Rattle.lis_record.specs.declared.kinds.Kind.TheVariants as kinds
+use Rattle.lis_field.specs.declared.kinds.Kind.{Kind}
+use Rattle.lis_field.specs.declared.kinds.Kind.TheVariants as kinds
 use Rattle.lis_record.specs.Faults.{TellsFault, header_fault, record_fault}
-use Rattle.lis_record.specs.Kinds.{kind_of}
+use Rattle.lis_field.specs.Kinds.{kind_of}
 use Rattle.lis_record.specs.Relation.{IsRecord}
-use Rattle.lis_record.specs.Shape.{RecordContent}
+use Rattle.lis_field.specs.Shape.{RecordContent}
 use Rattle.lis_record.proofs.FaultLaws.{record_fault-IsRecord}
 use Rattle.lis_tree.specs.declared.fault.Reason.{Reason}
 use Rattle.lis_tree.specs.declared.fault.Reason.TheVariants as reasons

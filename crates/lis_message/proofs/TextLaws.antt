@@ -6,8 +6,8 @@ use Rattle.std.proofs.lemmas.Bool.Decides.{nat_tests}
 use Rattle.std.proofs.lemmas.List.Elements.{recursion_from_All}
 use Rattle.lis_frame.specs.Text.{is_forbidden, longest_text, text_fault}
 use Rattle.lis_frame.specs.declared.text.TextFault.TheVariants.{TooLong, Forbidden}
-use Rattle.lis_record.specs.Delimiters.{DelimiterBytes, IsDelimiters}
-use Rattle.lis_record.specs.Shape.{RecordContent, IsRecordShape}
+use Rattle.lis_field.specs.Delimiters.{DelimiterBytes, IsDelimiters}
+use Rattle.lis_field.specs.Shape.{RecordContent, IsRecordShape}
 use Rattle.lis_record.specs.Spelling.{spelled, written}
 use Rattle.lis_record.specs.Text.{is_text_byte}
 use Rattle.lis_record.proofs.ReadBack.{IsRecord-spelled}

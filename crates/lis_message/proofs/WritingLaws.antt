@@ -7,10 +7,10 @@ use Rattle.std.specs.Prelude.{IfErr, option_map, nat_lt, if◌then◌else◌}
 use Rattle.std.proofs.lemmas.List.{append-nil, drop-drop}
 use Rattle.lis_record.specs.declared.faults.WriteFault.{WriteFault}
 use Rattle.lis_record.specs.declared.faults.WriteFault.TheVariants as write_faults
-use Rattle.lis_record.specs.Delimiters.{DelimiterBytes}
+use Rattle.lis_field.specs.Delimiters.{DelimiterBytes}
 use Rattle.lis_record.specs.Faults.{bad_field_number, check_fault}
-use Rattle.lis_record.specs.declared.records.TheConstants.{RECORD_LIMIT}
-use Rattle.lis_record.specs.Shape.{RecordContent}
+use Rattle.lis_record.specs.declared.texts.TheConstants.{RECORD_LIMIT}
+use Rattle.lis_field.specs.Shape.{RecordContent}
 use Rattle.lis_record.specs.Spelling.{spelled, written}
 use Rattle.lis_record.specs.Writing.{Wrote, is_io}
 use Rattle.lis_message.specs.declared.fault.MessageWriteFault.{MessageWriteFault}

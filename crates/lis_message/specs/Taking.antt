@@ -1,15 +1,15 @@
 -- What a record text makes of what is left of a stream.
 use Rattle.std.specs.Prelude.{◌≡◌, ◌≢◌, ℕ, List, [], ◌∷◌, ◌++◌, Bool, true, false, Option, Some, None}
-use Rattle.lis_record.specs.declared.kinds.Kind.TheVariants as kinds
-use Rattle.lis_record.specs.Delimiters.{DelimiterBytes, IsDelimiters}
+use Rattle.lis_field.specs.declared.kinds.Kind.TheVariants as kinds
+use Rattle.lis_field.specs.Delimiters.{DelimiterBytes, IsDelimiters}
 use Rattle.lis_record.specs.declared.faults.RecordFault.{RecordFault}
 use Rattle.lis_record.specs.declared.faults.RecordFault.TheVariants as record_faults
-use Rattle.lis_record.specs.declared.kinds.Kind.{Kind}
-use Rattle.lis_record.specs.Kinds.{kind_of}
+use Rattle.lis_field.specs.declared.kinds.Kind.{Kind}
+use Rattle.lis_field.specs.Kinds.{kind_of}
 use Rattle.lis_tree.specs.declared.fault.Reason.{Reason}
 use Rattle.lis_tree.specs.declared.fault.Reason.TheVariants as reasons
 use Rattle.lis_record.specs.Relation.{IsRecord}
-use Rattle.lis_record.specs.Shape.{RecordContent}
+use Rattle.lis_field.specs.Shape.{RecordContent}
 use Rattle.lis_tree.specs.Begun.{Begun, level_of}
 use Rattle.lis_tree.specs.Level.{misplaced}
 use Rattle.lis_tree.specs.Tree.{MessageTree, IsTree, flatten}

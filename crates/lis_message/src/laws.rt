@@ -1,10 +1,10 @@
 //! What holds of all messages and streams, over the definitions that the contracts cite.
 ghost use Rattle.std.specs.Prelude.{◌≡◌, ℕ, List, [], Option, None};
 ghost use Rattle.std.specs.List.{AllByRecursion, flat_map};
-ghost use Rattle.lis_record.specs.declared.kinds.Kind.TheVariants as kinds;
-ghost use Rattle.lis_record.specs.Delimiters.{DelimiterBytes};
+ghost use Rattle.lis_field.specs.declared.kinds.Kind.TheVariants as kinds;
+ghost use Rattle.lis_field.specs.Delimiters.{DelimiterBytes};
 ghost use Rattle.lis_record.specs.Relation.{IsRecord};
-ghost use Rattle.lis_record.specs.Shape.{RecordContent};
+ghost use Rattle.lis_field.specs.Shape.{RecordContent};
 ghost use Rattle.lis_tree.specs.declared.fault.MessageFault.{MessageFault};
 ghost use Rattle.lis_tree.specs.Begun.{Begun};
 ghost use Rattle.lis_message.specs.Stream.{IsCut, IsMessage, IsRefused};

@@ -1,9 +1,9 @@
 //! Reading messages from a stream that comes in pieces. What is kept is the open message and one record's bytes.
 ghost use Rattle.std.specs.Prelude.{◌≡◌, ◌≢◌, ℕ, true, false, ◌+◌, ◌<◌, ◌≤◌, ◌∷◌, [], ◌++◌, ◌⊎◌, List, Option, IfOk, IfErr, OnOk, OnSome, IfSome, IfNone, MatchOption, None, Some, length};
 ghost use Rattle.std.specs.Option.{option_to_list};
-ghost use Rattle.lis_record.specs.declared.records.TheConstants.{RECORD_LIMIT};
+ghost use Rattle.lis_record.specs.declared.texts.TheConstants.{RECORD_LIMIT};
 ghost use Rattle.lis_tree.specs.declared.fault.Reason.TheVariants as reasons;
-ghost use Rattle.lis_record.specs.declared.kinds.Kind.TheVariants as kinds;
+ghost use Rattle.lis_field.specs.declared.kinds.Kind.TheVariants as kinds;
 ghost use Rattle.lis_record.specs.Relation.{IsRecord};
 ghost use Rattle.lis_tree.specs.Level.{misplaced};
 ghost use Rattle.lis_tree.specs.Begun.{level_of};
@@ -34,7 +34,7 @@ struct Unended {
 
 impl Model for Unended {
     ghost use Rattle.std.specs.Prelude.{◌≤◌, length};
-    ghost use Rattle.lis_record.specs.declared.records.TheConstants.{RECORD_LIMIT};
+    ghost use Rattle.lis_record.specs.declared.texts.TheConstants.{RECORD_LIMIT};
     ghost use Rattle.lis_message.specs.Feeding.{Unended};
 
     ghost Value = { Unended };

@@ -1,28 +1,23 @@
 -- A component's text: the relation by cases, and reading from the front.
-use Rattle.lis_record.specs.declared.symbols.Sym.{Sym}
-use Rattle.std.proofs.Common.{◌≡◌, ◌≢◌, ℕ, zero, suc, ◌+◌, ◌<◌, ◌≤◌, ◌==◌, true, false, ltb, ◌⊎◌, inl, inr, List, [], ◌∷◌, ◌++◌, length, take, drop, Option, Some, None, Result, Ok, Err, refl, sym, ap, ◌∙◌, eq-eqb, length-append, option_map, one-add, arith, add-one}
+use Rattle.lis_field.specs.declared.symbols.Sym.{Sym}
+use Rattle.std.proofs.Common.{◌≡◌, ◌≢◌, ℕ, zero, suc, ◌+◌, ◌<◌, ◌==◌, true, false, ltb, ◌⊎◌, inl, inr, List, [], ◌∷◌, ◌++◌, length, take, drop, Option, Some, None, Result, Ok, Err, refl, sym, ap, ◌∙◌, eq-eqb, length-append, option_map, one-add, arith, add-one}
 use Rattle.std.proofs.lemmas.Bool.Decides.{nat_tests, eqb_tells}
-use Rattle.std.proofs.lemmas.Bool.{cases_eq, cases_lt, lt-ltb}
+use Rattle.std.proofs.lemmas.Bool.{cases_eq, lt-ltb}
 use Rattle.hex.proofs.HexLemmas.{decode_of-ok}
 use Rattle.std.proofs.lemmas.List.{take_at}
 use Rattle.std.proofs.lemmas.List.Elements.{All-head, All-tail, All-cons, All-nil, All-weaker}
 use Rattle.std.specs.List.{AllPass, position_or_len}
 use Rattle.hex.specs.Hex.{decode_of, is_hex_digit}
 use Rattle.hex.specs.declared.error.FromHexError.{FromHexError}
-use Rattle.lis_record.specs.declared.symbols.Sym.TheVariants.{Char}
-use Rattle.lis_record.specs.Delimiters.{DelimiterBytes, IsDelimiters, is_punctuation}
+use Rattle.lis_field.specs.declared.symbols.Sym.TheVariants.{Char}
+use Rattle.lis_field.specs.Delimiters.{DelimiterBytes, IsDelimiters, is_punctuation}
+use Rattle.lis_field.proofs.FirstFaults.{ltb_tells, some_none, test_false}
 use Rattle.lis_record.specs.Escapes.{IsComponent, nothing, plain, escape, lone, BeginsEscape, escape_of, letter_symbol, raw_symbols}
 use Rattle.lis_record.specs.FrontReading.{escape_at, symbols_after, symbols_of}
 use Rattle.lis_record.specs.Relation.{Lacks}
-use Rattle.lis_record.specs.Shape.{Symbols}
+use Rattle.lis_field.specs.Shape.{Symbols}
 
 -- ---- no escape holds an escape byte
-
-pub differ : (a b : ℕ) → (a == b) ≡ false → a ≢ b
-differ a b h same = elim (eqb_tells a b) [ inl test ↦ cc (h, test.0) | inr other ↦ other.1 same ]
-
-pub test_false : (a b : ℕ) → a ≢ b → (a == b) ≡ false
-test_false a b h = grind (arith, nat_tests)
 
 -- a punctuation byte is no letter of an escape
 letter_symbol-punctuation : (d : DelimiterBytes) (byte : ℕ) → is_punctuation byte ≡ true → letter_symbol d byte ≡ None
@@ -33,9 +28,6 @@ letter_symbol-punctuation d byte h = grind (arith, nat_tests)
 is_hex_digit-punctuation : (byte : ℕ) → is_punctuation byte ≡ true → is_hex_digit byte ≡ false
 unfolding is_punctuation
 is_hex_digit-punctuation byte h = grind (arith, nat_tests)
-
-pub some_none : {X : Type 0} (x : X) → (o : Option X) → o ≡ Some x → o ≡ None → ⊥
-some_none x o h k = cc
 
 pub option_map-some : {X Y : Type 0} (f : X → Y) (o : Option X) (y : Y) → option_map f o ≡ Some y → (x : X) × (o ≡ Some x) × (f x ≡ y)
 option_map-some f None y h = cc
@@ -82,12 +74,6 @@ Lacks-inside d good (letter ∷ digit ∷ digits) symbols h =
           let none : None ≡ Some symbols = rw (test_false letter 88 other) at h in
           cc none
     ]
-
-pub ltb-past : (m n : ℕ) → n ≤ m → ltb m n ≡ false
-ltb-past m n h = grind (arith, nat_tests)
-
-pub ltb_tells : (m n : ℕ) → ((ltb m n ≡ true) × (m < n)) ⊎ ((ltb m n ≡ false) × (n ≤ m))
-ltb_tells m n = elim (cases_lt m n) [ inl below ↦ inl (lt-ltb m n below, below) | inr past ↦ inr (ltb-past m n past, past) ]
 
 -- ---- where an escape ends
 

@@ -1,46 +1,25 @@
 -- A text is a record exactly where none of the faults stands.
 use Rattle.lis_record.specs.declared.faults.RecordFault.{RecordFault}
 use Rattle.lis_record.specs.declared.faults.DelimiterPartFault.{DelimiterPartFault}
-use Rattle.lis_record.specs.declared.delimiting.DelimiterFault.{DelimiterFault}
-use Rattle.std.proofs.Common.{◌≡◌, ◌≢◌, ℕ, ◌≤◌, ◌==◌, Bool, true, false, not, ◌||◌, cond, ltb, List, [], ◌∷◌, ◌++◌, length, Option, Some, None, option_map, refl, sym, ap, ◌∙◌, eq-eqb, arith, get_or, inl, inr, drop, ◌<◌}
-use Rattle.std.specs.Option.{option_or}
-use Rattle.std.specs.List.{AllPass, position, position_or_len, flat_map}
-use Rattle.std.proofs.lemmas.List.Sums.{fails_before_first, position_or_len_is}
-use Rattle.std.proofs.lemmas.Bool.Decides.{eqb_tells, nat_tests}
-use Rattle.lis_record.specs.declared.kinds.Kind.{Kind}
-use Rattle.lis_record.specs.declared.kinds.Kind.TheVariants as kinds
+use Rattle.lis_field.specs.declared.delimiting.DelimiterFault.{DelimiterFault}
+use Rattle.std.proofs.Common.{◌≡◌, ◌≢◌, ℕ, ◌≤◌, Bool, true, false, cond, ltb, List, [], ◌∷◌, ◌++◌, length, Option, Some, None, option_map, refl, sym, ap, ◌∙◌, eq-eqb, arith, get_or, inl, inr, drop, ◌<◌}
+use Rattle.std.specs.List.{flat_map}
+use Rattle.std.proofs.lemmas.Bool.Decides.{eqb_tells}
+use Rattle.lis_field.specs.declared.kinds.Kind.{Kind}
+use Rattle.lis_field.specs.declared.kinds.Kind.TheVariants as kinds
 use Rattle.lis_record.specs.declared.faults.DelimiterPartFault.TheVariants.{Trailing, Short, Fault}
 use Rattle.lis_record.specs.declared.faults.RecordFault.TheVariants as record_faults
-use Rattle.lis_record.specs.declared.records.TheConstants.{RECORD_LIMIT}
-use Rattle.lis_record.specs.Delimiters.{DelimiterBytes, IsDelimiters, delimiter_fault, delimiter_list, delimiters_of, is_punctuation, repeated_from}
-use Rattle.lis_record.specs.declared.delimiting.DelimiterFault.TheVariants.{NotPunctuation, Repeated}
-use Rattle.std.proofs.lemmas.List.Elements.{All-cons, All-nil}
+use Rattle.lis_record.specs.declared.texts.TheConstants.{RECORD_LIMIT}
+use Rattle.lis_field.specs.Delimiters.{DelimiterBytes, IsDelimiters, delimiter_fault, delimiters_of}
 use Rattle.lis_record.specs.Faults.{delimiter_part_fault, header_fault, is_other_kind, record_fault, text_fault, trailing_byte, is_header_kind}
 use Rattle.lis_record.specs.FrontReading.{fields_of}
-use Rattle.lis_record.specs.Kinds.{kind_of}
+use Rattle.lis_field.specs.Kinds.{kind_of}
 use Rattle.lis_record.specs.Relation.{AreFieldTexts, IsRecord, declared_part}
-use Rattle.lis_record.specs.Shape.{RecordContent}
+use Rattle.lis_field.specs.Shape.{RecordContent}
 use Rattle.lis_record.specs.Text.{IsText, is_text_byte, bad_byte_place}
-use Rattle.lis_record.proofs.Components.{ltb-past, ltb_tells, test_false}
+use Rattle.lis_field.proofs.FirstFaults.{AllPass-position, ltb-past, ltb_tells, option_map-none, option_or-none, position-AllPass}
+use Rattle.lis_field.proofs.DelimiterFaults.{IsDelimiters-delimiters_of, delimiter_fault-IsDelimiters}
 use Rattle.lis_record.proofs.RecordTexts.{AreFieldTexts-fields_of, AreFieldTexts-none}
-
-not-false : (b : Bool) → not b ≡ false → b ≡ true
-not-false true h = refl
-not-false false h = cc
-
-not-true : (b : Bool) → b ≡ true → not b ≡ false
-not-true true h = refl
-not-true false h = cc
-
--- ---- the first of two faults
-
-pub option_or-none : {X : Type 0} (o p : Option X) → option_or o p ≡ None → (o ≡ None) × (p ≡ None)
-option_or-none None p h = (refl, h)
-option_or-none (Some x) p h = cc
-
-pub option_map-none : {X Y : Type 0} (f : X → Y) (o : Option X) → option_map f o ≡ None → o ≡ None
-option_map-none f None h = refl
-option_map-none f (Some x) h = cc
 
 cond_none : {X : Type 0} (b : Bool) (x : X) → cond b None (Some x) ≡ None → b ≡ true
 cond_none true x h = refl
@@ -49,24 +28,6 @@ cond_none false x h = cc
 pub none_cond : {X : Type 0} (b : Bool) (x : X) → cond b (Some x) None ≡ None → b ≡ false
 none_cond true x h = cc
 none_cond false x h = refl
-
--- ---- a first place that fails
-
-module _ {X : Type 0} (p : X → Bool) where
-  pub AllPass-position : (xs : List X) → position (λ x. not (p x)) xs ≡ None → AllPass p xs
-  AllPass-position xs h =
-      elim (ltb_tells (position_or_len (λ x. not (p x)) xs) (length xs)) [
-        | inl within ↦ let g : Some (position_or_len (λ x. not (p x)) xs) ≡ None = rw within.0 at h in cc
-        | inr past ↦ λ k d below. not-false (p (get_or xs k d)) (fails_before_first (λ x. not (p x)) xs k d (omega (arith, past.1)))
-      ]
-
-  pub position-AllPass : (xs : List X) → AllPass p xs → position (λ x. not (p x)) xs ≡ None
-  position-AllPass [] h = refl
-  position-AllPass (x ∷ xs) h =
-      let all : position_or_len (λ y. not (p y)) (x ∷ xs) ≡ length (x ∷ xs) =
-      position_or_len_is (λ y. not (p y)) (x ∷ xs) (length (x ∷ xs)) x (omega arith)
-      (λ k below. not-true (p (get_or (x ∷ xs) k x)) (h k x below)) (λ below. absurd (omega arith)) in
-      rw (all, ltb-past (length (x ∷ xs)) (length (x ∷ xs)) (omega arith)) refl
 
 -- ---- text bytes, and not too many
 
@@ -160,78 +121,6 @@ record_fault-IsRecord d text content other h =
     rw (bare, h.kind_is, is_other_kind-other content.kind other, second, texts) refl
 
 -- ---- headers
-
-cond_none_both : {X : Type 0} (b : Bool) (x : X) (o : Option X) → cond b (Some x) o ≡ None → (b ≡ false) × (o ≡ None)
-cond_none_both true x o h = cc
-cond_none_both false x o h = (refl, h)
-
--- four bytes of which none stands earlier too
-pub record AreDistinct (f r c e : ℕ) : Type 0 where
-  pub field_repeat : f ≢ r
-  pub field_component : f ≢ c
-  pub field_escape : f ≢ e
-  pub repeat_component : r ≢ c
-  pub repeat_escape : r ≢ e
-  pub component_escape : c ≢ e
-
-AreDistinct-repeated_from : (f r c e : ℕ) → repeated_from [] 0 (f ∷ r ∷ c ∷ e ∷ []) ≡ None → AreDistinct f r c e
-AreDistinct-repeated_from f r c e h =
-    let second = cond_none_both (f == r || false) 1 _ h in
-    let third = cond_none_both (r == c || (f == c || false)) 2 _ second.1 in
-    let fourth = cond_none_both (c == e || (r == e || (f == e || false))) 3 None third.1 in
-    let h2 : (f == r || false) ≡ false = second.0 in
-    let h3 : (r == c || (f == c || false)) ≡ false = third.0 in
-    let h4 : (c == e || (r == e || (f == e || false))) ≡ false = fourth.0 in
-    record {
-      field_repeat = λ same. grind (arith, nat_tests);
-      field_component = λ same. grind (arith, nat_tests);
-      field_escape = λ same. grind (arith, nat_tests);
-      repeat_component = λ same. grind (arith, nat_tests);
-      repeat_escape = λ same. grind (arith, nat_tests);
-      component_escape = λ same. grind (arith, nat_tests);
-    }
-
-repeated_from-AreDistinct : (f r c e : ℕ) → AreDistinct f r c e → repeated_from [] 0 (f ∷ r ∷ c ∷ e ∷ []) ≡ None
-repeated_from-AreDistinct f r c e h =
-    rw (test_false f r h.field_repeat, test_false r c h.repeat_component, test_false f c h.field_component, test_false c e h.component_escape, test_false r e h.repeat_escape, test_false f e h.field_escape) refl
-
-pub IsDelimiters-delimiters_of : (f r c e : ℕ) → delimiter_fault (f ∷ r ∷ c ∷ e ∷ []) ≡ None → IsDelimiters (delimiters_of f r c e)
-unfolding delimiter_fault
-IsDelimiters-delimiters_of f r c e h =
-    let bytes = f ∷ r ∷ c ∷ e ∷ [] in
-    let both = option_or-none (option_map NotPunctuation (position (λ b. not (is_punctuation b)) bytes)) (option_map Repeated (repeated_from [] 0 bytes)) h in
-    let marks = AllPass-position is_punctuation bytes (option_map-none NotPunctuation (position (λ b. not (is_punctuation b)) bytes) both.0) in
-    let apart = AreDistinct-repeated_from f r c e (option_map-none Repeated (repeated_from [] 0 bytes) both.1) in
-    record {
-      field_is = marks 0 0 (omega arith);
-      repeat_is = marks 1 0 (omega arith);
-      component_is = marks 2 0 (omega arith);
-      escape_is = marks 3 0 (omega arith);
-      field_repeat = apart.field_repeat;
-      field_component = apart.field_component;
-      field_escape = apart.field_escape;
-      repeat_component = apart.repeat_component;
-      repeat_escape = apart.repeat_escape;
-      component_escape = apart.component_escape;
-    }
-
-pub delimiter_fault-IsDelimiters : (d : DelimiterBytes) → IsDelimiters d → delimiter_fault (delimiter_list d) ≡ None
-unfolding delimiter_fault
-delimiter_fault-IsDelimiters d good =
-    let P : ℕ → Type 0 = λ b. is_punctuation b ≡ true in
-    let marks : AllPass is_punctuation (delimiter_list d) =
-    All-cons P d.field (d.repeat ∷ d.component ∷ d.escape ∷ []) good.field_is (All-cons P d.repeat (d.component ∷ d.escape ∷ []) good.repeat_is (All-cons P d.component (d.escape ∷ []) good.component_is (All-cons P d.escape [] good.escape_is (All-nil P)))) in
-    let apart : AreDistinct d.field d.repeat d.component d.escape = record {
-      field_repeat = good.field_repeat;
-      field_component = good.field_component;
-      field_escape = good.field_escape;
-      repeat_component = good.repeat_component;
-      repeat_escape = good.repeat_escape;
-      component_escape = good.component_escape;
-    } in
-    let first = position-AllPass is_punctuation (delimiter_list d) marks in
-    let second = repeated_from-AreDistinct d.field d.repeat d.component d.escape apart in
-    ap (λ o. option_or (option_map NotPunctuation o) (option_map Repeated (repeated_from [] 0 (delimiter_list d)))) first ∙ ap (option_map Repeated) second
 
 -- a text in which no fault stands is a header, under the delimiters that it declares
 pub IsRecord-header : (letter f r c e : ℕ) (bytes : List ℕ) → kind_of letter ≡ Some kinds.H → delimiter_fault (f ∷ r ∷ c ∷ e ∷ []) ≡ None → trailing_byte f bytes ≡ None

@@ -1,13 +1,14 @@
 -- What a text without fault opens with, and the record that it then is.
 use Rattle.std.proofs.Common.{◌≡◌, ◌≢◌, ℕ, List, ◌∷◌, None, refl, ap, ◌∙◌}
-use Rattle.lis_record.specs.declared.kinds.Kind.{Kind}
-use Rattle.lis_record.specs.declared.kinds.Kind.TheVariants as kinds
-use Rattle.lis_record.specs.Delimiters.{DelimiterBytes, IsDelimiters}
+use Rattle.lis_field.specs.declared.kinds.Kind.{Kind}
+use Rattle.lis_field.specs.declared.kinds.Kind.TheVariants as kinds
+use Rattle.lis_field.specs.Delimiters.{DelimiterBytes, IsDelimiters}
 use Rattle.lis_record.specs.Faults.{delimiter_part_fault, header_fault, record_fault}
 use Rattle.lis_record.specs.FrontReading.{DeclaresDelimiters, OpensHeader, OpensRecord, fields_of}
 use Rattle.lis_record.specs.Relation.{IsRecord}
-use Rattle.lis_record.specs.Shape.{Fields, RecordContent}
-use Rattle.lis_record.proofs.FaultLaws.{IsRecord-fields_of, IsRecord-header, delimiter_fault-IsDelimiters, delimiter_part_fault-trailing, header_fault-IsRecord, record_fault-IsRecord}
+use Rattle.lis_field.specs.Shape.{Fields, RecordContent}
+use Rattle.lis_field.proofs.DelimiterFaults.{delimiter_fault-IsDelimiters}
+use Rattle.lis_record.proofs.FaultLaws.{IsRecord-fields_of, IsRecord-header, delimiter_part_fault-trailing, header_fault-IsRecord, record_fault-IsRecord}
 use Rattle.lis_record.proofs.RecordTexts.{IsRecord-header_one, IsRecord-one}
 
 -- delimiters that are declared are no fault

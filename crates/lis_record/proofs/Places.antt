@@ -1,6 +1,6 @@
 -- The first place of a delimiter, as the code finds it.
 use Rattle.std.specs.Option.{is_some}
-use Rattle.lis_record.specs.declared.symbols.Sym.{Sym}
+use Rattle.lis_field.specs.declared.symbols.Sym.{Sym}
 use Rattle.hex.specs.Hex.{decode_of}
 use Rattle.std.proofs.lemmas.Bool.{lt-ltb}
 use Rattle.std.proofs.Common.{◌≡◌, ◌≢◌, ℕ, ◌+◌, ◌<◌, ◌≤◌, ◌==◌, true, false, ltb, List, [], ◌∷◌, ◌++◌, length, take, drop, Option, Some, None, option_map, unwrap_or, refl, sym, ap, ◌∙◌, arith, inl, inr, append_assoc}
@@ -8,12 +8,13 @@ use Rattle.std.specs.List.{position, position_or_len}
 use Rattle.std.proofs.lemmas.List.{drop_all, drop_more, take_all}
 use Rattle.std.proofs.lemmas.List.Splits.{slice_split_first, slice_split_none}
 use Rattle.std.proofs.lemmas.List.Sums.{fails_before_first}
-use Rattle.lis_record.specs.declared.symbols.Sym.TheVariants.{Char}
-use Rattle.lis_record.specs.Delimiters.{DelimiterBytes}
+use Rattle.lis_field.specs.declared.symbols.Sym.TheVariants.{Char}
+use Rattle.lis_field.specs.Delimiters.{DelimiterBytes}
 use Rattle.lis_record.specs.Escapes.{escape_of, letter_symbol, raw_symbols}
 use Rattle.lis_record.specs.FrontReading.{escape_at, parts_behind, parts_of, symbols_of, with_escape}
-use Rattle.lis_record.specs.Shape.{Symbols}
-use Rattle.lis_record.proofs.Components.{ltb_tells, symbols_of-escape, symbols_of-lone, test_false}
+use Rattle.lis_field.specs.Shape.{Symbols}
+use Rattle.lis_field.proofs.FirstFaults.{ltb_tells, test_false}
+use Rattle.lis_record.proofs.Components.{symbols_of-escape, symbols_of-lone}
 
 module _ (mark : ℕ) (text : List ℕ) where
   first : ℕ

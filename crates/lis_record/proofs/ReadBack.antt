@@ -7,22 +7,23 @@ use Rattle.std.proofs.lemmas.List.Elements.{All-append, All-cons, All-head, All-
 use Rattle.std.proofs.lemmas.List.Sums.{AllPass-from_list_all}
 use Rattle.hex.specs.Hex.{IsBytes, encode_lower, encode_with, is_hex_digit}
 use Rattle.hex.proofs.HexLemmas.{decode_of-encode_lower, decode_of-ok}
-use Rattle.lis_record.specs.declared.kinds.Kind.{Kind}
-use Rattle.lis_record.specs.declared.kinds.Kind.TheVariants as kinds
-use Rattle.lis_record.specs.declared.symbols.Sym.{Sym}
-use Rattle.lis_record.specs.declared.symbols.Sym.TheVariants.{Char, Raw, On, Off}
-use Rattle.lis_record.specs.Delimiters.{DelimiterBytes, IsDelimiters, is_punctuation}
+use Rattle.lis_field.specs.declared.kinds.Kind.{Kind}
+use Rattle.lis_field.specs.declared.kinds.Kind.TheVariants as kinds
+use Rattle.lis_field.specs.declared.symbols.Sym.{Sym}
+use Rattle.lis_field.specs.declared.symbols.Sym.TheVariants.{Char, Raw, On, Off}
+use Rattle.lis_field.specs.Delimiters.{DelimiterBytes, IsDelimiters, is_punctuation}
 use Rattle.lis_record.specs.Escapes.{IsComponent, escape, escape_of, nothing, plain, raw_symbols}
 use Rattle.lis_record.specs.Faults.{check_fault, is_text_component, is_text_field, is_text_repeat, is_text_symbol, long_fault}
-use Rattle.lis_record.specs.Kinds.{kind_of, letter_of}
+use Rattle.lis_field.specs.Kinds.{kind_of, letter_of}
 use Rattle.lis_record.specs.Relation.{AreFieldTexts, IsField, IsRecord, IsRepeat, Lacks, declared_part}
-use Rattle.lis_record.specs.Shape.{first_number, AreSymbols, Components, Fields, IsFieldShape, IsRecordShape, IsRepeatShape, IsSymbol, RecordContent, Repeats, Symbols}
+use Rattle.lis_field.specs.Shape.{first_number, AreSymbols, Components, Fields, IsFieldShape, IsRecordShape, IsRepeatShape, IsSymbol, RecordContent, Repeats, Symbols}
 use Rattle.lis_record.specs.Spelling.{letter_spelling, spelled, spelled_component, spelled_field, spelled_repeat, spelled_symbol}
 use Rattle.lis_record.specs.Text.{IsText, is_text_byte}
-use Rattle.lis_record.specs.declared.records.TheConstants.{RECORD_LIMIT}
+use Rattle.lis_record.specs.declared.texts.TheConstants.{RECORD_LIMIT}
 use Rattle.lis_record.specs.declared.faults.WriteFault.TheVariants.{CharNotText, TooLong}
-use Rattle.lis_record.proofs.Components.{ltb_tells}
-use Rattle.lis_record.proofs.FaultLaws.{AllPass-position, none_cond, option_map-none, option_or-none}
+use Rattle.lis_field.proofs.FirstFaults.{ltb_tells}
+use Rattle.lis_field.proofs.FirstFaults.{AllPass-position, option_map-none, option_or-none}
+use Rattle.lis_record.proofs.FaultLaws.{none_cond}
 
 -- ---- what can be written
 

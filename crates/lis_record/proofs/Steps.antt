@@ -1,12 +1,12 @@
 -- The bytes that are left to write, step by step.
-use Rattle.lis_record.specs.declared.symbols.Sym.TheVariants.{Char, Raw, On, Off}
+use Rattle.lis_field.specs.declared.symbols.Sym.TheVariants.{Char, Raw, On, Off}
 use Rattle.std.proofs.lemmas.List.{nil_from_length}
 use Rattle.std.proofs.Common.{◌≡◌, ℕ, ◌<◌, List, [], ◌∷◌, ◌++◌, length, map, refl, sym, ap, ◌∙◌, append-nil, append_assoc, arith, Option, Some, None}
 use Rattle.std.specs.List.{flat_map, join_with_byte}
-use Rattle.lis_record.specs.declared.symbols.Sym.{Sym}
-use Rattle.lis_record.specs.Delimiters.{DelimiterBytes}
+use Rattle.lis_field.specs.declared.symbols.Sym.{Sym}
+use Rattle.lis_field.specs.Delimiters.{DelimiterBytes}
 use Rattle.lis_record.specs.Remaining.{more_components, more_fields, more_repeats, remaining}
-use Rattle.lis_record.specs.Shape.{Components, Fields, Repeats, Symbols}
+use Rattle.lis_field.specs.Shape.{Components, Fields, Repeats, Symbols}
 use Rattle.lis_record.specs.Spelling.{spelled_component, spelled_field, spelled_repeat, spelled_symbol, char_spelling, delimiter_letter}
 
 -- a join is its first part, and each other one behind a delimiter

@@ -6,14 +6,15 @@ use Rattle.std.proofs.lemmas.List.{drop-take, length-drop}
 use Rattle.std.specs.Option.{option_or}
 use Rattle.lis_record.specs.declared.faults.WriteFault.{WriteFault}
 use Rattle.lis_record.specs.declared.faults.WriteFault.TheVariants as write_faults
-use Rattle.lis_record.specs.declared.records.TheConstants.{RECORD_LIMIT}
-use Rattle.lis_record.specs.Delimiters.{DelimiterBytes}
+use Rattle.lis_record.specs.declared.texts.TheConstants.{RECORD_LIMIT}
+use Rattle.lis_field.specs.Delimiters.{DelimiterBytes}
 use Rattle.lis_record.specs.Faults.{bad_field_number, check_fault, field_char_fault, field_fault, is_text_field, long_fault}
-use Rattle.lis_record.specs.Shape.{RecordContent, Repeats}
+use Rattle.lis_field.specs.Shape.{RecordContent, Repeats}
 use Rattle.lis_record.specs.Spelling.{spelled, spelled_field, written}
 use Rattle.lis_record.specs.Writing.{Sent, Wrote, WroteAny, is_io}
-use Rattle.lis_record.proofs.Components.{ltb-past, ltb_tells}
-use Rattle.lis_record.proofs.FaultLaws.{none_cond, option_or-none}
+use Rattle.lis_field.proofs.FirstFaults.{ltb-past, ltb_tells}
+use Rattle.lis_field.proofs.FirstFaults.{option_or-none}
+use Rattle.lis_record.proofs.FaultLaws.{none_cond}
 use Rattle.lis_record.proofs.Sinks.{Keeps-same}
 
 -- ---- a spelling that is too long

@@ -1,11 +1,11 @@
 -- Escapes, and the relation between a text and the parts of a record (LIS02-A2, Delimiters).
-use Rattle.lis_record.specs.declared.symbols.Sym.{Sym}
+use Rattle.lis_field.specs.declared.symbols.Sym.{Sym}
 use Rattle.std.specs.Prelude.{◌≡◌, ◌≢◌, ℕ, ◌==◌, if◌then◌else◌, List, [], ◌∷◌, ◌++◌, map, Option, Some, None, option_map, Result, Ok, Err}
 use Rattle.hex.specs.Hex.{decode_of}
 use Rattle.hex.specs.declared.error.FromHexError.{FromHexError}
-use Rattle.lis_record.specs.declared.symbols.Sym.TheVariants.{Char, Raw, On, Off}
-use Rattle.lis_record.specs.Delimiters.{DelimiterBytes}
-use Rattle.lis_record.specs.Shape.{Symbols}
+use Rattle.lis_field.specs.declared.symbols.Sym.TheVariants.{Char, Raw, On, Off}
+use Rattle.lis_field.specs.Delimiters.{DelimiterBytes}
+use Rattle.lis_field.specs.Shape.{Symbols}
 
 -- the symbol of an escape of one letter: H, N, F, S, R or E
 abbrev pub letter_symbol : DelimiterBytes → ℕ → Option Sym

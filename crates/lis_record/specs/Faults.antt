@@ -8,14 +8,14 @@ use Rattle.lis_record.specs.declared.faults.RecordFault.{RecordFault}
 use Rattle.lis_record.specs.declared.faults.RecordFault.TheVariants as record_faults
 use Rattle.lis_record.specs.declared.faults.WriteFault.{WriteFault}
 use Rattle.lis_record.specs.declared.faults.WriteFault.TheVariants as write_faults
-use Rattle.lis_record.specs.declared.kinds.Kind.{Kind}
-use Rattle.lis_record.specs.declared.kinds.Kind.TheVariants as kinds
-use Rattle.lis_record.specs.declared.records.TheConstants.{RECORD_LIMIT}
-use Rattle.lis_record.specs.declared.symbols.Sym.{Sym}
-use Rattle.lis_record.specs.declared.symbols.Sym.TheVariants.{Char}
-use Rattle.lis_record.specs.Delimiters.{DelimiterBytes, delimiter_fault}
-use Rattle.lis_record.specs.Kinds.{kind_of}
-use Rattle.lis_record.specs.Shape.{Symbols, Components, Repeats, RecordContent, first_number}
+use Rattle.lis_field.specs.declared.kinds.Kind.{Kind}
+use Rattle.lis_field.specs.declared.kinds.Kind.TheVariants as kinds
+use Rattle.lis_record.specs.declared.texts.TheConstants.{RECORD_LIMIT}
+use Rattle.lis_field.specs.declared.symbols.Sym.{Sym}
+use Rattle.lis_field.specs.declared.symbols.Sym.TheVariants.{Char}
+use Rattle.lis_field.specs.Delimiters.{DelimiterBytes, delimiter_fault}
+use Rattle.lis_field.specs.Kinds.{kind_of}
+use Rattle.lis_field.specs.Shape.{Symbols, Components, Repeats, RecordContent, first_number}
 use Rattle.lis_record.specs.Spelling.{spelled, spelled_field}
 use Rattle.lis_record.specs.Text.{is_text_byte, bad_byte_place}
 

@@ -1,15 +1,15 @@
 -- Reading a text from its front, once: the same symbols, components, repeats and fields as the relation has.
-use Rattle.lis_record.specs.declared.kinds.Kind.{Kind}
+use Rattle.lis_field.specs.declared.kinds.Kind.{Kind}
 use Rattle.std.specs.Prelude.{◌≡◌, ◌≢◌, ℕ, zero, suc, ◌+◌, ◌==◌, nat_lt, cond, if◌then◌else◌, List, [], ◌∷◌, ◌++◌, map, take, length, Option, Some, None, option_map}
 use Rattle.std.specs.List.{position_or_len, slice_split}
-use Rattle.lis_record.specs.declared.symbols.Sym.{Sym}
-use Rattle.lis_record.specs.declared.symbols.Sym.TheVariants.{Char}
-use Rattle.lis_record.specs.Delimiters.{DelimiterBytes, IsDelimiters, delimiter_list}
+use Rattle.lis_field.specs.declared.symbols.Sym.{Sym}
+use Rattle.lis_field.specs.declared.symbols.Sym.TheVariants.{Char}
+use Rattle.lis_field.specs.Delimiters.{DelimiterBytes, IsDelimiters, delimiter_list}
 use Rattle.lis_record.specs.Escapes.{escape_of}
-use Rattle.lis_record.specs.declared.kinds.Kind.TheVariants as kinds
+use Rattle.lis_field.specs.declared.kinds.Kind.TheVariants as kinds
 use Rattle.lis_record.specs.Faults.{text_fault, trailing_byte}
-use Rattle.lis_record.specs.Kinds.{kind_of}
-use Rattle.lis_record.specs.Shape.{Symbols, Components, Repeats, Fields}
+use Rattle.lis_field.specs.Kinds.{kind_of}
+use Rattle.lis_field.specs.Shape.{Symbols, Components, Repeats, Fields}
 
 -- the parts of a text round a byte
 abbrev pub parts_of : ℕ → List ℕ → List (List ℕ)

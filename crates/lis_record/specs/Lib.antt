@@ -1,11 +1,8 @@
-pub mod Delimiters
 pub mod Escapes
 pub mod Faults
 pub mod FrontReading
-pub mod Kinds
 pub mod Relation
 pub mod Remaining
-pub mod Shape
 pub mod Spelling
 pub mod Text
 pub mod Writing

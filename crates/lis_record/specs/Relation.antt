@@ -1,13 +1,13 @@
 -- Which text is which record (LIS02-A2, Delimiters, and Data Record Usage Overview).
 use Rattle.std.specs.Prelude.{◌≡◌, ◌≢◌, ℕ, ◌<◌, ◌≤◌, List, [], ◌∷◌, ◌++◌, length, Some}
 use Rattle.std.specs.List.{All, AllZip, flat_map, join_with_byte}
-use Rattle.lis_record.specs.declared.kinds.Kind.{Kind}
-use Rattle.lis_record.specs.declared.kinds.Kind.TheVariants as kinds
-use Rattle.lis_record.specs.declared.records.TheConstants.{RECORD_LIMIT}
-use Rattle.lis_record.specs.Delimiters.{DelimiterBytes, delimiter_list}
+use Rattle.lis_field.specs.declared.kinds.Kind.{Kind}
+use Rattle.lis_field.specs.declared.kinds.Kind.TheVariants as kinds
+use Rattle.lis_record.specs.declared.texts.TheConstants.{RECORD_LIMIT}
+use Rattle.lis_field.specs.Delimiters.{DelimiterBytes, delimiter_list}
 use Rattle.lis_record.specs.Escapes.{IsComponent}
-use Rattle.lis_record.specs.Kinds.{kind_of}
-use Rattle.lis_record.specs.Shape.{Components, Repeats, Fields, RecordContent}
+use Rattle.lis_field.specs.Kinds.{kind_of}
+use Rattle.lis_field.specs.Shape.{Components, Repeats, Fields, RecordContent}
 use Rattle.lis_record.specs.Text.{IsText}
 
 -- the byte stands nowhere in the text

@@ -1,8 +1,8 @@
 -- What is left to write, while a record goes out in chunks.
 use Rattle.std.specs.Prelude.{ℕ, List, ◌∷◌, ◌++◌}
 use Rattle.std.specs.List.{flat_map}
-use Rattle.lis_record.specs.Delimiters.{DelimiterBytes}
-use Rattle.lis_record.specs.Shape.{Components, Fields, Repeats, Symbols}
+use Rattle.lis_field.specs.Delimiters.{DelimiterBytes}
+use Rattle.lis_field.specs.Shape.{Components, Fields, Repeats, Symbols}
 use Rattle.lis_record.specs.Spelling.{spelled_component, spelled_field, spelled_repeat}
 
 -- components behind the first one of a repeat

@@ -2,12 +2,12 @@
 use Rattle.std.specs.Prelude.{ℕ, ◌==◌, if◌then◌else◌, List, [], ◌∷◌, ◌++◌, map, Option, Some, None}
 use Rattle.std.specs.List.{flat_map, join_with_byte}
 use Rattle.hex.specs.Hex.{encode_lower}
-use Rattle.lis_record.specs.declared.symbols.Sym.{Sym}
-use Rattle.lis_record.specs.declared.symbols.Sym.TheVariants.{Char, Raw, On, Off}
-use Rattle.lis_record.specs.Delimiters.{DelimiterBytes}
-use Rattle.lis_record.specs.Kinds.{letter_of}
+use Rattle.lis_field.specs.declared.symbols.Sym.{Sym}
+use Rattle.lis_field.specs.declared.symbols.Sym.TheVariants.{Char, Raw, On, Off}
+use Rattle.lis_field.specs.Delimiters.{DelimiterBytes}
+use Rattle.lis_field.specs.Kinds.{letter_of}
 use Rattle.lis_record.specs.Relation.{declared_part}
-use Rattle.lis_record.specs.Shape.{Symbols, Components, Repeats, RecordContent}
+use Rattle.lis_field.specs.Shape.{Symbols, Components, Repeats, RecordContent}
 
 -- an escape of one letter
 abbrev pub letter_spelling : DelimiterBytes → ℕ → List ℕ

@@ -2,10 +2,9 @@
 
 ghost use Rattle.std.specs.Prelude.{◌≡◌, ◌+◌, ◌<◌, ◌≤◌, ◌++◌, ◌∷◌, [], ◌==◌, length};
 ghost use Rattle.lis_record.specs.Spelling.{delimiter_letter, letter_spelling, spelled_component, spelled_symbol};
-ghost use Rattle.lis_record.specs.declared.symbols.Sym.TheVariants.{Char, Raw};
+ghost use Rattle.lis_field.specs.declared.symbols.Sym.TheVariants.{Char, Raw};
 
-use crate::delimiting::Delimiters;
-use crate::symbols::Sym;
+use lis_field::{Delimiters, Sym};
 use std::marker::Model;
 
 // The letter of the escape that a delimiter is written as.

@@ -1,14 +1,12 @@
 //! What is left of a record or a field while it is written.
 
 ghost use Rattle.std.specs.Prelude.{◌≡◌, ◌+◌, ◌<◌, ◌≤◌, ◌++◌, [], length, IsTrue, IsFalse};
-ghost use Rattle.lis_record.specs.Delimiters.{DelimiterBytes};
+ghost use Rattle.lis_field.specs.Delimiters.{DelimiterBytes};
 ghost use Rattle.lis_record.specs.Remaining.{more_components, more_fields, more_repeats, remaining};
 ghost use Rattle.lis_record.specs.Spelling.{spelled_component, spelled_field, spelled_repeat};
 
 use crate::chunk::{CHUNK, Chunk, LONGEST_SYMBOL};
-use crate::delimiting::Delimiters;
-use crate::parts::{Component, Field, Repeat};
-use crate::symbols::Sym;
+use lis_field::{Component, Delimiters, Field, Repeat, Sym};
 use std::marker::Model;
 
 // The rest of a component, the components behind it in its repeat, the repeats behind that in its field,
@@ -49,8 +47,8 @@ fn open_repeat(repeat: &Repeat) -> (&[Sym], &[Component])
     ensures { (d : DelimiterBytes) → spelled_repeat d repeat.now
         ≡ spelled_component d result.0.now ++ more_components d result.1.now }
 {
-    match repeat.as_slice().split_first() {
-        Some((component, components)) => (component.as_slice(), components),
+    match repeat.components().split_first() {
+        Some((component, components)) => (component.symbols(), components),
         None => (&[], &[]),
     }
 }
@@ -60,7 +58,7 @@ fn open_field(field: &Field) -> (&[Sym], &[Component], &[Repeat])
     ensures { (d : DelimiterBytes) → spelled_field d field.now
         ≡ spelled_component d result.0.now ++ (more_components d result.1.now ++ more_repeats d result.2.now) }
 {
-    match field.as_slice().split_first() {
+    match field.repeats().split_first() {
         Some((repeat, repeats)) => {
             let (symbols, components) = open_repeat(repeat);
             (symbols, components, repeats)
@@ -113,7 +111,7 @@ impl<'a> Cursor<'a> {
         }
         if let Some((component, components)) = self.components.split_first() {
             chunk.push(self.delimiters.component());
-            self.symbols = component.as_slice();
+            self.symbols = component.symbols();
             self.components = components;
             return true;
         }

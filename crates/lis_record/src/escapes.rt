@@ -1,16 +1,14 @@
 //! Reading a component's symbols, and the escapes among them (LIS02-A2, Delimiters).
 
 ghost use Rattle.std.specs.Prelude.{◌≡◌, ◌≤◌, ◌++◌, ◌∷◌, ◌==◌, [], length, map, is_some, option_map, IfOk, Result, Ok, Err, Some, None};
-ghost use Rattle.lis_record.specs.declared.symbols.Sym.TheVariants.{Raw};
+ghost use Rattle.lis_field.specs.declared.symbols.Sym.TheVariants.{Raw};
 ghost use Rattle.hex.specs.Hex.{decode_of};
 ghost use Rattle.lis_record.specs.Escapes.{escape_of, letter_symbol, raw_symbols};
 ghost use Rattle.lis_record.specs.FrontReading.{symbols_of, with_escape};
 
-use crate::delimiting::Delimiters;
-use crate::parts::Component;
-use crate::symbols::Sym;
 use crate::texts::place_of;
 use hex::FromHexError;
+use lis_field::{Component, Delimiters, Sym};
 use std::alloc::{AllocError, Global};
 
 // The symbol of an escape of one letter.

@@ -1,6 +1,6 @@
 //! Why a text is no record, and why a record is not written.
 
-use crate::delimiting::DelimiterFault;
+use lis_field::DelimiterFault;
 
 /// Why the bytes after a header's letter declare no delimiters.
 #[derive(Clone, Copy, Debug, PartialEq, Eq)]

@@ -1,12 +1,12 @@
 //! What holds of all records, over the definitions that the contracts cite.
 
 ghost use Rattle.std.specs.Prelude.{◌≡◌, ℕ, List, None};
-ghost use Rattle.lis_record.specs.Delimiters.{DelimiterBytes, IsDelimiters};
+ghost use Rattle.lis_field.specs.Delimiters.{DelimiterBytes, IsDelimiters};
 ghost use Rattle.lis_record.specs.Faults.{check_fault};
 ghost use Rattle.lis_record.specs.Relation.{IsRecord};
-ghost use Rattle.lis_record.specs.Shape.{IsRecordShape, RecordContent};
+ghost use Rattle.lis_field.specs.Shape.{IsRecordShape, RecordContent};
 ghost use Rattle.lis_record.specs.Spelling.{spelled};
-ghost use Rattle.lis_record.specs.declared.kinds.Kind.TheVariants as kinds;
+ghost use Rattle.lis_field.specs.declared.kinds.Kind.TheVariants as kinds;
 
 /// A record that can be written is read back: its spelling is a text of it, and of no other record.
 pub fn read_back()

@@ -1,22 +1,19 @@
 //! Reading a record from its text (LIS02-A2, Delimiters, and Data Record Usage Overview).
 
 ghost use Rattle.std.specs.Prelude.{◌≡◌, ◌≢◌, IfOk, IfErr, MatchOption, MatchResult, Option, Some, None, true, false};
-ghost use Rattle.lis_record.specs.Delimiters.{DelimiterBytes, IsDelimiters};
+ghost use Rattle.lis_field.specs.Delimiters.{DelimiterBytes, IsDelimiters};
 ghost use Rattle.lis_record.specs.Faults.{TellsFault, delimiter_part_fault, header_fault, is_header_kind, is_other_kind, record_fault, text_fault, trailing_byte};
 ghost use Rattle.lis_record.specs.FrontReading.{DeclaresDelimiters, OpensHeader, OpensRecord, components_of, fields_of, repeats_of};
 ghost use Rattle.lis_record.specs.Relation.{IsRecord};
-ghost use Rattle.lis_record.specs.Shape.{RecordContent};
-ghost use Rattle.lis_record.specs.declared.kinds.Kind.TheVariants as kinds;
+ghost use Rattle.lis_field.specs.Shape.{RecordContent};
+ghost use Rattle.lis_field.specs.declared.kinds.Kind.TheVariants as kinds;
 ghost use Rattle.lis_record.specs.declared.faults.RecordFault.TheVariants.{OutOfMemory};
-ghost use Rattle.lis_record.specs.Kinds.{kind_of};
+ghost use Rattle.lis_field.specs.Kinds.{kind_of};
 
-use crate::delimiting::Delimiters;
 use crate::escapes::read_component;
 use crate::faults::{DelimiterPartFault, RecordFault};
-use crate::kinds::Kind;
-use crate::parts::{Field, Repeat};
-use crate::records::{RECORD_LIMIT, Record};
-use crate::texts::{bad_byte_place, first_part};
+use crate::texts::{RECORD_LIMIT, bad_byte_place, first_part};
+use lis_field::{Delimiters, Field, Kind, Record, Repeat};
 use std::alloc::{AllocError, Global};
 
 // A byte that is no text byte, else too many bytes.

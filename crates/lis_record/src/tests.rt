@@ -65,29 +65,6 @@ fn long_text(alloc: Global, front: &[u8], letters: usize, letter: u8) -> Result<
 }
 
 #[test]
-fn delimiters_are_four_distinct_punctuation_bytes(rt: HostRuntime) -> Result<(), Fail> {
-    let usual = Delimiters::usual();
-    assert_eq!(rt; Delimiters::new(b'|', b'\\', b'^', b'&'), Ok(usual));
-    assert_eq!(rt; usual.field(), b'|');
-    assert_eq!(rt; usual.repeat(), b'\\');
-    assert_eq!(rt; usual.component(), b'^');
-    assert_eq!(rt; usual.escape(), b'&');
-    assert_eq!(rt;
-        Delimiters::new(b'|', b'\\', b'^', b'A'),
-        Err(DelimiterFault::NotPunctuation(3))
-    );
-    assert_eq!(rt;
-        Delimiters::new(b'|', b'\\', b'|', b'&'),
-        Err(DelimiterFault::Repeated(2))
-    );
-    assert_eq!(rt;
-        Delimiters::new(b'|', b'|', b'^', b'A'),
-        Err(DelimiterFault::NotPunctuation(3))
-    );
-    Ok(())
-}
-
-#[test]
 fn a_header_declares_its_delimiters(rt: HostRuntime) -> Result<(), Fail> {
     let (delimiters, header) = read_header(rt.alloc(), b"H@!~$@A$F$B")?;
     assert_eq!(rt; delimiters, Delimiters::new(b'@', b'!', b'~', b'$')?);

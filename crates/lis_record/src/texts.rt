@@ -4,6 +4,9 @@ ghost use Rattle.std.specs.Prelude.{◌≡◌, ◌≤◌, ◌∷◌, ◌==◌, l
 ghost use Rattle.lis_record.specs.FrontReading.{parts_behind, parts_of};
 ghost use Rattle.lis_record.specs.Text.{bad_byte_place, is_text_byte};
 
+/// The most bytes that a record has, without its CR.
+pub const RECORD_LIMIT: usize = 65_536;
+
 /// Whether a byte may stand in a record: 7, 9, 11, 12, 32 to 126 and 128 to 254.
 #[tactic(auto, unfolding(crate::specs::Text::is_text_byte))]
 pub(crate) fn is_text_byte(byte: u8) -> bool

@@ -4,19 +4,15 @@ ghost use Rattle.std.specs.Prelude.{◌≡◌, ◌+◌, ◌<◌, ◌≤◌, ◌+
 ghost use Rattle.std.specs.Io.KnownBytes.{Appends};
 ghost use Rattle.lis_record.specs.Faults.{bad_field_number, check_fault, field_char_fault, field_fault, is_text_component, is_text_field, is_text_repeat, is_text_symbol};
 ghost use Rattle.lis_record.specs.Relation.{IsRecord, declared_part};
-ghost use Rattle.lis_record.specs.Shape.{IsRecordShape, first_number};
+ghost use Rattle.lis_field.specs.Shape.{IsRecordShape, first_number};
 ghost use Rattle.lis_record.specs.Spelling.{spelled, spelled_field, written};
 ghost use Rattle.lis_record.specs.Writing.{Sent, Wrote, WroteAny, is_io};
 
 use crate::chunk::Chunk;
 use crate::cursor::Cursor;
-use crate::delimiting::Delimiters;
 use crate::faults::WriteFault;
-use crate::kinds::Kind;
-use crate::parts::{Component, Field, Repeat};
-use crate::records::{RECORD_LIMIT, Record};
-use crate::symbols::Sym;
-use crate::texts::is_text_byte;
+use crate::texts::{RECORD_LIMIT, is_text_byte};
+use lis_field::{Component, Delimiters, Field, Kind, Record, Repeat, Sym};
 use lis_port::Sink;
 
 // Writes all of the bytes; else how many the sink took before it failed.
@@ -118,7 +114,7 @@ fn is_text_component(component: &Component) -> bool
     ensures { result ≡ is_text_component component.now }
 {
     component
-        .as_slice()
+        .symbols()
         .iter()
         .all(|symbol| is_text_symbol(symbol))
 }
@@ -127,7 +123,7 @@ fn is_text_repeat(repeat: &Repeat) -> bool
     ensures { result ≡ is_text_repeat repeat.now }
 {
     repeat
-        .as_slice()
+        .components()
         .iter()
         .all(|component| is_text_component(component))
 }
@@ -135,7 +131,7 @@ fn is_text_repeat(repeat: &Repeat) -> bool
 fn is_text_field(field: &Field) -> bool
     ensures { result ≡ is_text_field field.now }
 {
-    field.as_slice().iter().all(|repeat| is_text_repeat(repeat))
+    field.repeats().iter().all(|repeat| is_text_repeat(repeat))
 }
 
 // The place of the first field with a character that is no text byte.
@@ -151,7 +147,7 @@ fn bad_field_number(entry: &Record) -> Option<usize>
     ensures shape { IsRecordShape entry.now }
 {
     let first = entry.kind().first_number();
-    match bad_field_place(entry.as_slice()) {
+    match bad_field_place(entry.fields()) {
         Some(place) => Some(place + first),
         None => None,
     }
@@ -170,7 +166,7 @@ fn begin_record<'a>(
 {
     chunk.push(entry.kind().letter());
     push_declared(chunk, delimiters, entry.kind());
-    let mut cursor = Cursor::of_fields(delimiters, entry.as_slice(), end);
+    let mut cursor = Cursor::of_fields(delimiters, entry.fields(), end);
     cursor.fill(chunk);
     cursor
 }
@@ -210,7 +206,7 @@ pub fn check_record(delimiters: &Delimiters, entry: &Record) -> Result<(), Write
     // What can be written is a text of the record.
     ensures related { OnOk result (IsRecord delimiters.now (spelled delimiters.now entry.now) entry.now) }
 {
-    delimiters.known();
+    let _ = delimiters.field();
     if let Some(number) = bad_field_number(entry) {
         return Err(WriteFault::CharNotText(number));
     }

@@ -1,9 +1,9 @@
 -- Where the next record stands after the records of a tree's parts, and that each of these stands where it may.
 use Rattle.std.proofs.Common.{◌≡◌, ◌≢◌, List, [], ◌∷◌, ◌++◌, None, refl, sym, ◌∙◌, ap, subst}
 use Rattle.std.specs.List.{AllByRecursion, flat_map}
-use Rattle.lis_record.specs.declared.kinds.Kind.{Kind}
-use Rattle.lis_record.specs.declared.kinds.Kind.TheVariants as kinds
-use Rattle.lis_record.specs.Shape.{RecordContent}
+use Rattle.lis_field.specs.declared.kinds.Kind.{Kind}
+use Rattle.lis_field.specs.declared.kinds.Kind.TheVariants as kinds
+use Rattle.lis_field.specs.Shape.{RecordContent}
 use Rattle.lis_tree.specs.Nodes.{Noted, OrderTree, PatientTree}
 use Rattle.lis_tree.specs.Front.{FrontTree}
 use Rattle.lis_tree.specs.declared.tree.Group.{Group}

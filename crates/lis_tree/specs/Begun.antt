@@ -1,7 +1,7 @@
 -- A message that isn't closed yet.
 use Rattle.std.specs.Prelude.{List, Option, Some, None}
-use Rattle.lis_record.specs.Delimiters.{DelimiterBytes}
-use Rattle.lis_record.specs.Shape.{RecordContent}
+use Rattle.lis_field.specs.Delimiters.{DelimiterBytes}
+use Rattle.lis_field.specs.Shape.{RecordContent}
 use Rattle.lis_tree.specs.Level.{Level, outside, kinds_of, level_after}
 
 -- its header's delimiters, and its records so far

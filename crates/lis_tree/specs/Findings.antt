@@ -1,7 +1,7 @@
 -- The findings on a message's sequence numbers.
 use Rattle.std.specs.Prelude.{ℕ, ◌+◌, not, ◌&&◌, if◌then◌else◌, List, [], ◌∷◌, ◌++◌}
-use Rattle.lis_record.specs.declared.kinds.Kind.{Kind}
-use Rattle.lis_record.specs.Shape.{RecordContent, field_at}
+use Rattle.lis_field.specs.declared.kinds.Kind.{Kind}
+use Rattle.lis_field.specs.Shape.{RecordContent, field_at}
 use Rattle.lis_tree.specs.declared.numbering.Finding.{Finding}
 use Rattle.lis_tree.specs.Numbers.{expected_number, field_number, is_number, is_numbered}
 use Rattle.lis_tree.specs.Places.{capped}

@@ -1,6 +1,6 @@
 -- The front of a message that isn't whole yet.
 use Rattle.std.specs.Prelude.{List}
-use Rattle.lis_record.specs.Shape.{RecordContent}
+use Rattle.lis_field.specs.Shape.{RecordContent}
 use Rattle.lis_tree.specs.declared.tree.Group.{Group}
 
 -- the header, its notes, and the groups that are whole

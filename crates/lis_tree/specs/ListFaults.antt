@@ -1,6 +1,6 @@
 -- Why a list of records is not one message.
 use Rattle.std.specs.Prelude.{◌≡◌, ◌≢◌, ◌+◌, List, ◌∷◌, ◌++◌, length, Some, ◌⊎◌}
-use Rattle.lis_record.specs.declared.kinds.Kind.{Kind}
+use Rattle.lis_field.specs.declared.kinds.Kind.{Kind}
 use Rattle.lis_tree.specs.declared.fault.MessageFault.{MessageFault}
 use Rattle.lis_tree.specs.declared.fault.Reason.TheVariants as reasons
 use Rattle.lis_tree.specs.Level.{outside, closed, level_after, misplaced, StandsFrom}

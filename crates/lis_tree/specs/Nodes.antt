@@ -1,6 +1,6 @@
 -- The nodes of a message below its groups.
 use Rattle.std.specs.Prelude.{List}
-use Rattle.lis_record.specs.Shape.{RecordContent}
+use Rattle.lis_field.specs.Shape.{RecordContent}
 
 -- a record with the notes that belong to it: a result, a query
 pub record Noted : Type 0 where

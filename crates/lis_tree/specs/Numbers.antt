@@ -1,11 +1,11 @@
 -- Sequence numbers (LIS02-A2): the second field of a record is its position among the records of its kind under its
 -- parent.
 use Rattle.std.specs.Prelude.{◌≡◌, ℕ, ◌+◌, ◌*◌, ◌-◌, ◌==◌, nat_le, Bool, true, false, ◌&&◌, if◌then◌else◌, List, [], ◌∷◌, length, Option, Some, None}
-use Rattle.lis_record.specs.declared.kinds.Kind.{Kind}
-use Rattle.lis_record.specs.declared.kinds.Kind.TheVariants as kinds
-use Rattle.lis_record.specs.declared.symbols.Sym.{Sym}
-use Rattle.lis_record.specs.declared.symbols.Sym.TheVariants.{Char}
-use Rattle.lis_record.specs.Shape.{Repeats, Symbols}
+use Rattle.lis_field.specs.declared.kinds.Kind.{Kind}
+use Rattle.lis_field.specs.declared.kinds.Kind.TheVariants as kinds
+use Rattle.lis_field.specs.declared.symbols.Sym.{Sym}
+use Rattle.lis_field.specs.declared.symbols.Sym.TheVariants.{Char}
+use Rattle.lis_field.specs.Shape.{Repeats, Symbols}
 use Rattle.lis_tree.specs.Places.{capped}
 
 -- whether records of this kind carry a number that is examined: not headers, manufacturer and scientific records

@@ -1,8 +1,8 @@
 -- What an open message keeps.
 use Rattle.std.specs.Prelude.{◌≡◌, ℕ, length}
 use Rattle.std.specs.List.{AllByRecursion}
-use Rattle.lis_record.specs.Delimiters.{DelimiterBytes, IsDelimiters}
-use Rattle.lis_record.specs.Shape.{IsRecordShape}
+use Rattle.lis_field.specs.Delimiters.{DelimiterBytes, IsDelimiters}
+use Rattle.lis_field.specs.Shape.{IsRecordShape}
 use Rattle.lis_tree.specs.Spine.{spine_records, IsSpine}
 use Rattle.lis_tree.specs.Places.{capped}
 use Rattle.lis_tree.specs.declared.spine.Spine.{Spine}

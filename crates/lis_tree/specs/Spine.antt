@@ -1,8 +1,8 @@
 -- A message that isn't whole yet: its records in order, and where the next one will stand.
 use Rattle.std.specs.Prelude.{◌≡◌, List, ◌∷◌, ◌++◌}
 use Rattle.std.specs.List.{flat_map, AllByRecursion}
-use Rattle.lis_record.specs.declared.kinds.Kind.TheVariants as kinds
-use Rattle.lis_record.specs.Shape.{RecordContent}
+use Rattle.lis_field.specs.declared.kinds.Kind.TheVariants as kinds
+use Rattle.lis_field.specs.Shape.{RecordContent}
 use Rattle.lis_tree.specs.Front.{FrontTree}
 use Rattle.lis_tree.specs.Tree.{noted_records, order_records, patient_records, group_records, AreNotes, IsNoted, IsOrder, IsPatient, IsGroup}
 use Rattle.lis_tree.specs.Level.{Level, in_header, in_patient, in_order, in_query}

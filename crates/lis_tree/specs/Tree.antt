@@ -1,10 +1,10 @@
 -- The tree of a message, and the order in which its records stand.
 use Rattle.std.specs.Prelude.{◌≡◌, List, [], ◌∷◌, ◌++◌, ⊤}
 use Rattle.std.specs.List.{flat_map, AllByRecursion}
-use Rattle.lis_record.specs.declared.kinds.Kind.{Kind}
-use Rattle.lis_record.specs.declared.kinds.Kind.TheVariants as kinds
-use Rattle.lis_record.specs.Shape.{RecordContent, IsRecordShape}
-use Rattle.lis_record.specs.Delimiters.{DelimiterBytes, IsDelimiters}
+use Rattle.lis_field.specs.declared.kinds.Kind.{Kind}
+use Rattle.lis_field.specs.declared.kinds.Kind.TheVariants as kinds
+use Rattle.lis_field.specs.Shape.{RecordContent, IsRecordShape}
+use Rattle.lis_field.specs.Delimiters.{DelimiterBytes, IsDelimiters}
 use Rattle.lis_tree.specs.Nodes.{Noted, OrderTree, PatientTree}
 use Rattle.lis_tree.specs.declared.tree.Group.{Group}
 use Rattle.lis_tree.specs.declared.tree.Group.TheVariants as groups

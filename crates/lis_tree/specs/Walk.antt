@@ -2,7 +2,7 @@
 use Rattle.std.specs.Prelude.{List, ◌++◌, Option}
 use Rattle.std.specs.List.{flat_map}
 use Rattle.std.specs.Option.{option_to_list}
-use Rattle.lis_record.specs.Shape.{RecordContent}
+use Rattle.lis_field.specs.Shape.{RecordContent}
 use Rattle.lis_tree.specs.Nodes.{Noted, OrderTree}
 use Rattle.lis_tree.specs.declared.tree.Group.{Group}
 use Rattle.lis_tree.specs.Tree.{noted_records, order_records, group_records}

@@ -1,6 +1,6 @@
 //! What holds of the kinds of all lists of records, over the definitions that the contracts cite.
 ghost use Rattle.std.specs.Prelude.{List};
-ghost use Rattle.lis_record.specs.declared.kinds.Kind.{Kind};
+ghost use Rattle.lis_field.specs.declared.kinds.Kind.{Kind};
 ghost use Rattle.lis_tree.specs.Hierarchy.{IsViable};
 ghost use Rattle.lis_tree.specs.Level.{StandsFrom, outside};
 

@@ -1,5 +1,5 @@
 ghost use Rattle.std.specs.Prelude.{◌≡◌, ◌+◌, ◌∷◌, [], ◌++◌, ◌⊎◌, IfOk, IfErr, MatchResult, MatchOption, None, Some, length};
-ghost use Rattle.lis_record.specs.declared.kinds.Kind.TheVariants as kinds;
+ghost use Rattle.lis_field.specs.declared.kinds.Kind.TheVariants as kinds;
 ghost use Rattle.lis_tree.specs.declared.fault.Reason.TheVariants as reasons;
 ghost use Rattle.lis_tree.specs.Level.{misplaced, closed, kinds_of};
 ghost use Rattle.lis_tree.specs.ListFaults.{IsListFault};

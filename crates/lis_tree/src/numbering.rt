@@ -1,9 +1,9 @@
 //! Findings on sequence numbers (LIS02-A2).
 ghost use Rattle.std.specs.Prelude.{◌≡◌, ◌≢◌, ℕ, ◌+◌, ◌<◌, ◌∷◌, [], ◌++◌, List as Listed, Some, IfSome, IfOk, OnOk};
-ghost use Rattle.lis_record.specs.declared.kinds.Kind.{Kind as KindOf};
+ghost use Rattle.lis_field.specs.declared.kinds.Kind.{Kind as KindOf};
 ghost use Rattle.lis_tree.specs.Findings.{finding_on, findings_of};
 ghost use Rattle.std.specs.Option.{option_to_list};
-ghost use Rattle.lis_record.specs.Shape.{field_at};
+ghost use Rattle.lis_field.specs.Shape.{field_at};
 ghost use Rattle.lis_tree.specs.Places.{capped};
 ghost use Rattle.lis_tree.specs.Numbers.{CountsOf, symbol_digit, digits_number, field_number, is_number, is_numbered};
 
@@ -38,7 +38,7 @@ struct Counts {
 
 impl Counts {
     ghost use Rattle.lis_tree.specs.Numbers.{expected_number};
-    ghost use Rattle.lis_record.specs.declared.kinds.Kind.TheVariants as kinds;
+    ghost use Rattle.lis_field.specs.declared.kinds.Kind.TheVariants as kinds;
 
     fn none() -> Self
         ensures { CountsOf [] result.patients result.queries result.orders result.results result.comments }

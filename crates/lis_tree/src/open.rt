@@ -1,7 +1,7 @@
 //! A message whose closing record hasn't come yet.
 ghost use Rattle.std.specs.Prelude.{◌≡◌, ◌≢◌, ◌+◌, ◌∷◌, [], ◌++◌, IfOk, None, Some, length};
-ghost use Rattle.lis_record.specs.declared.kinds.Kind.TheVariants as kinds;
-ghost use Rattle.lis_record.specs.Delimiters.{IsDelimiters};
+ghost use Rattle.lis_field.specs.declared.kinds.Kind.TheVariants as kinds;
+ghost use Rattle.lis_field.specs.Delimiters.{IsDelimiters};
 ghost use Rattle.lis_tree.specs.Level.{misplaced};
 ghost use Rattle.lis_tree.specs.Begun.{level_of};
 ghost use Rattle.lis_tree.specs.Places.{capped};

@@ -1,7 +1,7 @@
 //! The tree of a message while its records come: what is whole stands in lists, and the node that still grows stands
 //! by itself.
 ghost use Rattle.std.specs.Prelude.{◌≡◌, ◌∷◌, [], ◌++◌, ◌≢◌, IfOk, None};
-ghost use Rattle.lis_record.specs.declared.kinds.Kind.TheVariants as kinds;
+ghost use Rattle.lis_field.specs.declared.kinds.Kind.TheVariants as kinds;
 ghost use Rattle.lis_tree.specs.Level.{misplaced};
 ghost use Rattle.lis_tree.specs.Tree.{noted_records, order_records, patient_records, group_records, IsNote, IsNoted, IsOrder, IsPatient, IsGroup, IsTree};
 ghost use Rattle.lis_tree.specs.Spine.{front_records, spine_records, spine_level, IsFront, IsSpine};

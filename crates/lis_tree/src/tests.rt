@@ -7,7 +7,7 @@ use crate::lists::Records;
 use crate::message::Message;
 use crate::numbering::findings;
 use crate::open::OpenMessage;
-use crate::tree::Group;
+use crate::tree::{Group, Patient};
 use crate::walk::Walk;
 use lis_record::{Delimiters, Kind, Record, read_header, read_record};
 use std::alloc::Global;
@@ -47,7 +47,7 @@ fn faulty(place: u64, reason: Reason) -> Option<MessageFault> {
 }
 
 #[test]
-fn a_message_is_the_tree_of_its_records(rt: HostRuntime) -> Result<(), Fail> {
+fn a_message_is_the_tree_of_its_records(rt: HostRuntime) {
     let message = message_of(&rt, rt.alloc(), TEXTS.as_slice());
     assert_eq!(rt; message.len(), 6);
     assert_eq!(rt; message.delimiters(), Delimiters::usual());
@@ -55,20 +55,33 @@ fn a_message_is_the_tree_of_its_records(rt: HostRuntime) -> Result<(), Fail> {
     assert_eq!(rt; message.closing().kind(), Kind::L);
     assert_eq!(rt; message.notes().len(), 0);
     assert_eq!(rt; message.groups().len(), 1);
-    let Group::Patient(patient) = &message.groups()[0] else {
-        return Err(Fail::from("no patient"));
-    };
+}
+
+// The patient of the message.
+fn assert_patient<A: Abort>(rt: &A, patient: &Patient) {
     assert_eq!(rt; patient.head().kind(), Kind::P);
     assert_eq!(rt; patient.notes().len(), 0);
     assert_eq!(rt; patient.orders().len(), 1);
-    let order = &patient.orders()[0];
-    assert_eq!(rt; order.head().kind(), Kind::O);
-    assert_eq!(rt; order.notes().len(), 0);
-    assert_eq!(rt; order.results().len(), 1);
-    let entry = &order.results()[0];
-    assert_eq!(rt; entry.head().kind(), Kind::R);
-    assert_eq!(rt; entry.head().len(), 8);
-    assert_eq!(rt; entry.notes().len(), 1);
+    for order in patient.orders() {
+        assert_eq!(rt; order.head().kind(), Kind::O);
+        assert_eq!(rt; order.notes().len(), 0);
+        assert_eq!(rt; order.results().len(), 1);
+        for entry in order.results() {
+            assert_eq!(rt; entry.head().kind(), Kind::R);
+            assert_eq!(rt; entry.head().len(), 8);
+            assert_eq!(rt; entry.notes().len(), 1);
+        }
+    }
+}
+
+#[test]
+fn a_patient_has_orders_and_they_have_results(rt: HostRuntime) -> Result<(), Fail> {
+    let message = message_of(&rt, rt.alloc(), TEXTS.as_slice());
+    assert_eq!(rt; message.groups().len(), 1);
+    let Group::Patient(patient) = &message.groups()[0] else {
+        return Err(Fail::from("no patient"));
+    };
+    assert_patient(&rt, patient);
     Ok(())
 }
 

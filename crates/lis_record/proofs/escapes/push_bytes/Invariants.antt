@@ -1,5 +1,5 @@
 use Rattle.std.proofs.Common.{◌≡◌, ◌++◌, map, take}
-use Rattle.lis_record.specs.declared.symbols.Sym.TheVariants.{Raw}
+use Rattle.lis_field.specs.declared.symbols.Sym.TheVariants.{Raw}
 use Rattle.lis_record.proofs.escapes.push_bytes.Given as goal
 
 abbrev pub invariant-loop-byte : goal.invariant-loop-byte

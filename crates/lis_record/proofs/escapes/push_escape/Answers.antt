@@ -1,6 +1,6 @@
 use Rattle.std.proofs.Common.{◌≡◌, ◌≢◌, sym, ◌∙◌, length, refl}
 use Rattle.std.proofs.lemmas.Bool.{eqb-true}
-use Rattle.lis_record.proofs.Components.{differ}
+use Rattle.lis_field.proofs.FirstFaults.{differ}
 use Rattle.lis_record.proofs.Places.{escape_of-digits, escape_of-empty, escape_of-letter, escape_of-other}
 use Rattle.lis_record.proofs.escapes.push_escape.Goals as goal
 

@@ -1,6 +1,6 @@
 use Rattle.std.proofs.Common.{◌≢◌, ℕ, sym, ◌∙◌, ap, List, ◌∷◌, ◌++◌, append-nil}
 use Rattle.std.proofs.lemmas.List.{nil_from_length}
-use Rattle.lis_record.specs.declared.symbols.Sym.TheVariants.{Char}
+use Rattle.lis_field.specs.declared.symbols.Sym.TheVariants.{Char}
 use Rattle.lis_record.specs.FrontReading.{symbols_after, symbols_of}
 use Rattle.lis_record.proofs.Components.{symbols_of-plain}
 use Rattle.lis_record.proofs.Places.{one_read}

@@ -1,6 +1,6 @@
 use Rattle.std.proofs.Common.{◌≡◌, ℕ, ◌+◌, ◌-◌, sym, ◌∙◌, ap, List, ◌∷◌, ◌++◌, length, take, drop}
 use Rattle.std.proofs.lemmas.List.{drop-drop, take_rest}
-use Rattle.lis_record.specs.declared.symbols.Sym.TheVariants.{Char}
+use Rattle.lis_field.specs.declared.symbols.Sym.TheVariants.{Char}
 use Rattle.lis_record.specs.Escapes.{escape_of}
 use Rattle.lis_record.specs.FrontReading.{symbols_of}
 use Rattle.lis_record.proofs.Places.{escape_read, no_escape_read, one_read, symbols_of-open}

@@ -1,5 +1,5 @@
 use Rattle.std.proofs.Common.{inr, refl}
-use Rattle.lis_record.proofs.Components.{some_none}
+use Rattle.lis_field.proofs.FirstFaults.{some_none}
 use Rattle.lis_record.proofs.FaultLaws.{header_fault-IsRecord}
 use Rattle.lis_record.proofs.Opening.{header_fault-opened, header_found, header_only}
 use Rattle.lis_record.specs.Faults.{header_fault}

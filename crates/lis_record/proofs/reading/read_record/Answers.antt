@@ -1,5 +1,5 @@
 use Rattle.std.proofs.Common.{inr, refl}
-use Rattle.lis_record.proofs.Components.{some_none}
+use Rattle.lis_field.proofs.FirstFaults.{some_none}
 use Rattle.lis_record.proofs.FaultLaws.{record_fault-IsRecord}
 use Rattle.lis_record.proofs.Opening.{record_fault-opened, record_found, record_only}
 use Rattle.lis_record.specs.Faults.{record_fault}

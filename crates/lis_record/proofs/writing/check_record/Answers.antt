@@ -22,6 +22,6 @@ returns-clause-fault c =
 pub returns-clause-related : goal.returns-clause-related
 returns-clause-related c =
     let text = spelled c.args.delimiters.now c.args.entry.now in
-    IsRecord-spelled c.args.delimiters.now c.known.ensures c.args.entry.now c.bad_field_number.ensures.shape
+    IsRecord-spelled c.args.delimiters.now c.field.ensures.shape c.args.entry.now c.bad_field_number.ensures.shape
     (check_fault-none c.args.delimiters.now c.args.entry.now (sym c.bad_field_number.ensures.number ∙ c.in_default.is)
     (within_true c.is_within.result _ text c.is_within.ensures (c.begin_record-cursor.ensures.whole ∙ append-nil text) c.if-not-is_within.false))

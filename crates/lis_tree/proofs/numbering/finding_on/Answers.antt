@@ -1,5 +1,5 @@
 use Rattle.std.proofs.Common.{sym, ◌∙◌, ap}
-use Rattle.lis_record.specs.Shape.{field_at}
+use Rattle.lis_field.specs.Shape.{field_at}
 use Rattle.lis_tree.specs.Numbers.{expected_number, field_number, is_number, is_numbered}
 use Rattle.lis_tree.specs.Places.{capped}
 use Rattle.lis_tree.proofs.Counting.{finding_right, finding_wrong, numbered_other, same_finding}

@@ -12,8 +12,8 @@ returns-then-not-is_empty-clause-same c =
 pub returns-in-Some-clause-same : goal.returns-in-Some-clause-same
 returns-in-Some-clause-same c =
     let i = c.self.inside in
-    component_case i.delimiters c.args.chunk.now c.push.new.self c.args.self.now i.symbols.now c.as_slice-self-inside.result.now c.in-Some.component.now i.components.now c.in-Some.components.now i.repeats.now i.fields.now i.end.now
-    c.self.view_is (eqb-true (length i.symbols.now) 0 (sym c.is_empty.ensures ∙ c.if-not-is_empty.false)) c.in-Some.ensures.cases.0 c.as_slice-self-inside.ensures.value (rw c.component.ensures at c.push.ensures)
+    component_case i.delimiters c.args.chunk.now c.push.new.self c.args.self.now i.symbols.now c.symbols-self-inside.result.now c.in-Some.component.now i.components.now c.in-Some.components.now i.repeats.now i.fields.now i.end.now
+    c.self.view_is (eqb-true (length i.symbols.now) 0 (sym c.is_empty.ensures ∙ c.if-not-is_empty.false)) c.in-Some.ensures.cases.0 c.symbols-self-inside.ensures.value (rw c.component.ensures at c.push.ensures)
 
 pub returns-in-Some-split_first-clause-same : goal.returns-in-Some-split_first-clause-same
 returns-in-Some-split_first-clause-same c =

@@ -1,8 +1,8 @@
 //! The nine kinds of record and their letters (LIS02-A2, Data Record Usage Overview).
 
 ghost use Rattle.std.specs.Prelude.{◌≡◌, ◌≤◌};
-ghost use Rattle.lis_record.specs.Kinds.{kind_of, letter_of};
-ghost use Rattle.lis_record.specs.Shape.{first_number};
+ghost use Rattle.lis_field.specs.Kinds.{kind_of, letter_of};
+ghost use Rattle.lis_field.specs.Shape.{first_number};
 
 /// What a record tells, by its first letter.
 #[derive(Clone, Copy, Debug, PartialEq, Eq)]
@@ -64,8 +64,8 @@ impl Kind {
         }
     }
 
-    // The number of the first field after the letter, or after a header's delimiters.
-    pub(crate) fn first_number(self) -> usize
+    /// The number of the first field after the letter, or after a header's delimiters.
+    pub fn first_number(self) -> usize
         ensures number { result ≡ first_number self }
         ensures small { result ≤ 3 }
     {

@@ -1,6 +1,6 @@
 //! What a component holds.
 
-ghost use Rattle.lis_record.specs.Shape.{IsSymbol};
+ghost use Rattle.lis_field.specs.Shape.{IsSymbol};
 
 /// One symbol of a component: a text byte, a byte written in hexadecimal digits, or the start or the
 /// end of highlighted text.

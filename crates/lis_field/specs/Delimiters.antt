@@ -2,8 +2,8 @@
 use Rattle.std.specs.Prelude.{◌≢◌, ℕ, ◌==◌, ◌+◌, nat_le, Bool, ◌&&◌, ◌||◌, not, cond, List, [], ◌∷◌, Option, Some, None, option_map, IsTrue, position}
 use Rattle.std.specs.List.{list_any}
 use Rattle.std.specs.Option.{option_or}
-use Rattle.lis_record.specs.declared.delimiting.DelimiterFault.{DelimiterFault}
-use Rattle.lis_record.specs.declared.delimiting.DelimiterFault.TheVariants.{NotPunctuation, Repeated}
+use Rattle.lis_field.specs.declared.delimiting.DelimiterFault.{DelimiterFault}
+use Rattle.lis_field.specs.declared.delimiting.DelimiterFault.TheVariants.{NotPunctuation, Repeated}
 
 -- the bytes that separate fields, repeats and components, and the one that begins and ends an escape
 pub record DelimiterBytes : Type 0 where

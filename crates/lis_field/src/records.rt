@@ -2,15 +2,12 @@
 
 ghost use Rattle.std.specs.Prelude.{◌≡◌, ◌++◌, ◌∷◌, [], length, IfErr, OnOk};
 ghost use Rattle.std.specs.Option.{option_copied};
-ghost use Rattle.lis_record.specs.Shape.{AreFields, IsRecordShape, field_at, first_number};
+ghost use Rattle.lis_field.specs.Shape.{AreFields, IsRecordShape, field_at, first_number};
 
 use crate::kinds::Kind;
 use crate::parts::Field;
 use std::alloc::{AllocFailed, Global};
 use std::marker::Model;
-
-/// The most bytes that a record has, without its CR.
-pub const RECORD_LIMIT: usize = 65_536;
 
 /// A record: its kind and the fields after its letter, or after a header's delimiters.
 #[derive(Debug, Drop)]
@@ -20,7 +17,7 @@ pub struct Record {
 }
 
 impl Model for Record {
-    ghost use Rattle.lis_record.specs.Shape.{RecordContent, AreFields};
+    ghost use Rattle.lis_field.specs.Shape.{RecordContent, AreFields};
 
     ghost Value = { RecordContent };
 
@@ -45,7 +42,7 @@ impl Record {
         ensures ok { OnOk result (self.new ≡ record self.old { fields = self.old.fields ++ field ∷ [] }) }
         ensures err { IfErr result (λ refused. (refused.value ≡ field) × (self.new ≡ self.old)) }
     {
-        let _ = field.as_slice();
+        let _ = field.repeats();
         self.fields.push(field)
     }
 
@@ -74,8 +71,8 @@ impl Record {
             .get(number.checked_sub(self.kind.first_number())?)
     }
 
-    // The fields, for writing.
-    pub(crate) fn as_slice(&self) -> &[Field]
+    /// The fields after the letter, or after a header's delimiters, in order.
+    pub fn fields(&self) -> &[Field]
         ensures value { result.now ≡ self.now.fields }
         ensures shape { IsRecordShape self.now }
     {

@@ -1,10 +1,10 @@
 -- What contracts see of components, repeats, fields and records, and what each value of those types keeps.
 use Rattle.std.specs.Prelude.{◌<◌, List, length, ℕ, ◌-◌, nat_lt, if◌then◌else◌, slice_get, Option, None}
 use Rattle.std.specs.List.{All}
-use Rattle.lis_record.specs.declared.symbols.Sym.{Sym}
-use Rattle.lis_record.specs.declared.symbols.Sym.TheVariants.{Char, Raw, On, Off}
-use Rattle.lis_record.specs.declared.kinds.Kind.{Kind}
-use Rattle.lis_record.specs.declared.kinds.Kind.TheVariants as kinds
+use Rattle.lis_field.specs.declared.symbols.Sym.{Sym}
+use Rattle.lis_field.specs.declared.symbols.Sym.TheVariants.{Char, Raw, On, Off}
+use Rattle.lis_field.specs.declared.kinds.Kind.{Kind}
+use Rattle.lis_field.specs.declared.kinds.Kind.TheVariants as kinds
 
 -- a component: its symbols
 abbrev pub Symbols : Type 0

@@ -1,8 +1,8 @@
 use Rattle.std.proofs.Common.{sym, ◌∙◌, refl}
-use Rattle.lis_record.specs.Delimiters.{delimiters_of}
-use Rattle.lis_record.proofs.Components.{some_none}
-use Rattle.lis_record.proofs.FaultLaws.{IsDelimiters-delimiters_of, delimiter_fault-IsDelimiters}
-use Rattle.lis_record.proofs.delimiting.Delimiters.new.Goals as goal
+use Rattle.lis_field.specs.Delimiters.{delimiters_of}
+use Rattle.lis_field.proofs.FirstFaults.{some_none}
+use Rattle.lis_field.proofs.DelimiterFaults.{IsDelimiters-delimiters_of, delimiter_fault-IsDelimiters}
+use Rattle.lis_field.proofs.delimiting.Delimiters.new.Goals as goal
 
 pub returns-in-Some-clause-only : goal.returns-in-Some-clause-only
 returns-in-Some-clause-only c = λ good.

@@ -1,7 +1,7 @@
 -- The letters of the nine kinds of record (LIS02-A2, Data Record Usage Overview).
 use Rattle.std.specs.Prelude.{ℕ, ◌+◌, ◌==◌, Bool, ◌||◌, cond, Option, Some, None}
-use Rattle.lis_record.specs.declared.kinds.Kind.{Kind}
-use Rattle.lis_record.specs.declared.kinds.Kind.TheVariants as kinds
+use Rattle.lis_field.specs.declared.kinds.Kind.{Kind}
+use Rattle.lis_field.specs.declared.kinds.Kind.TheVariants as kinds
 
 -- the letter that is written
 abbrev pub letter_of : Kind → ℕ

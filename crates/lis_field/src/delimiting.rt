@@ -1,7 +1,7 @@
 //! The four delimiters that a header declares for its message (LIS02-A2, Delimiters).
 
 ghost use Rattle.std.specs.Prelude.{◌≡◌, ◌∷◌, [], IfOk, IsOk, MatchResult, Some, None, not, position};
-ghost use Rattle.lis_record.specs.Delimiters.{DelimiterBytes, IsDelimiters, delimiter_fault, delimiters_of, is_punctuation, repeated_from, usual};
+ghost use Rattle.lis_field.specs.Delimiters.{DelimiterBytes, IsDelimiters, delimiter_fault, delimiters_of, is_punctuation, repeated_from, usual};
 
 use std::marker::Model;
 
@@ -16,7 +16,7 @@ pub struct Delimiters {
 
 impl Model for Delimiters {
     ghost use Rattle.std.specs.Prelude.{◌≡◌};
-    ghost use Rattle.lis_record.specs.Delimiters.{DelimiterBytes, IsDelimiters};
+    ghost use Rattle.lis_field.specs.Delimiters.{DelimiterBytes, IsDelimiters};
 
     ghost Value = { DelimiterBytes };
 
@@ -109,13 +109,6 @@ impl Delimiters {
             component: b'^',
             escape: b'&',
         }
-    }
-
-    // Any delimiters are distinct punctuation bytes.
-    pub(crate) fn known(self)
-        ensures { IsDelimiters self }
-    {
-        let _ = self.field;
     }
 
     /// The byte before each field.

@@ -2,7 +2,7 @@
 
 ghost use Rattle.std.specs.Prelude.{◌≡◌, ◌++◌, ◌∷◌, [], length, slice_get, IfErr, IfOk, OnOk};
 ghost use Rattle.std.specs.Option.{option_copied};
-ghost use Rattle.lis_record.specs.Shape.{AreSymbols, IsFieldShape, IsRepeatShape};
+ghost use Rattle.lis_field.specs.Shape.{AreSymbols, IsFieldShape, IsRepeatShape};
 
 use crate::symbols::Sym;
 use std::alloc::{AllocFailed, Global};
@@ -15,7 +15,7 @@ pub struct Component {
 }
 
 impl Model for Component {
-    ghost use Rattle.lis_record.specs.Shape.{Symbols, AreSymbols};
+    ghost use Rattle.lis_field.specs.Shape.{Symbols, AreSymbols};
 
     ghost Value = { Symbols };
 
@@ -57,8 +57,8 @@ impl Component {
         self.symbols.get(place)
     }
 
-    // The symbols, for reading and writing.
-    pub(crate) fn as_slice(&self) -> &[Sym]
+    /// The symbols, in order.
+    pub fn symbols(&self) -> &[Sym]
         ensures value { result.now ≡ self.now }
         ensures shape { AreSymbols self.now }
     {
@@ -73,7 +73,7 @@ pub struct Repeat {
 }
 
 impl Model for Repeat {
-    ghost use Rattle.lis_record.specs.Shape.{Components, IsRepeatShape};
+    ghost use Rattle.lis_field.specs.Shape.{Components, IsRepeatShape};
 
     ghost Value = { Components };
 
@@ -88,7 +88,7 @@ impl Repeat {
         ensures ok { IfOk result (λ repeat. repeat ≡ component ∷ []) }
         ensures err { IfErr result (λ refused. refused.value ≡ component) }
     {
-        let _ = component.as_slice();
+        let _ = component.symbols();
         let mut components = Vec::new(alloc);
         components.push(component)?;
         Ok(Repeat { components })
@@ -99,7 +99,7 @@ impl Repeat {
         ensures ok { OnOk result (self.new ≡ self.old ++ component ∷ []) }
         ensures err { IfErr result (λ refused. (refused.value ≡ component) × (self.new ≡ self.old)) }
     {
-        let _ = component.as_slice();
+        let _ = component.symbols();
         self.components.push(component)
     }
 
@@ -117,8 +117,8 @@ impl Repeat {
         self.components.get(place)
     }
 
-    // The components, for reading and writing.
-    pub(crate) fn as_slice(&self) -> &[Component]
+    /// The components, in order.
+    pub fn components(&self) -> &[Component]
         ensures value { result.now ≡ self.now }
         ensures shape { IsRepeatShape self.now }
     {
@@ -133,7 +133,7 @@ pub struct Field {
 }
 
 impl Model for Field {
-    ghost use Rattle.lis_record.specs.Shape.{Repeats, IsFieldShape};
+    ghost use Rattle.lis_field.specs.Shape.{Repeats, IsFieldShape};
 
     ghost Value = { Repeats };
 
@@ -148,7 +148,7 @@ impl Field {
         ensures ok { IfOk result (λ field. field ≡ repeat ∷ []) }
         ensures err { IfErr result (λ refused. refused.value ≡ repeat) }
     {
-        let _ = repeat.as_slice();
+        let _ = repeat.components();
         let mut repeats = Vec::new(alloc);
         repeats.push(repeat)?;
         Ok(Field { repeats })
@@ -159,7 +159,7 @@ impl Field {
         ensures ok { OnOk result (self.new ≡ self.old ++ repeat ∷ []) }
         ensures err { IfErr result (λ refused. (refused.value ≡ repeat) × (self.new ≡ self.old)) }
     {
-        let _ = repeat.as_slice();
+        let _ = repeat.components();
         self.repeats.push(repeat)
     }
 
@@ -177,8 +177,8 @@ impl Field {
         self.repeats.get(place)
     }
 
-    // The repeats, for reading and writing.
-    pub(crate) fn as_slice(&self) -> &[Repeat]
+    /// The repeats, in order.
+    pub fn repeats(&self) -> &[Repeat]
         ensures value { result.now ≡ self.now }
         ensures shape { IsFieldShape self.now }
     {

@@ -1,0 +1,2 @@
+pub mod DelimiterFaults
+pub mod FirstFaults

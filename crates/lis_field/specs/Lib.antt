@@ -1,0 +1,3 @@
+pub mod Delimiters
+pub mod Kinds
+pub mod Shape

@@ -1,0 +1,16 @@
+//! What a record of a laboratory message is made of (LIS02-A2): delimiters, kinds, symbols, components, repeats, fields.
+#![tactic(auto)]
+
+mod delimiting;
+mod kinds;
+mod parts;
+mod records;
+mod symbols;
+#[cfg(test)]
+mod tests;
+
+pub use delimiting::{DelimiterFault, Delimiters};
+pub use kinds::Kind;
+pub use parts::{Component, Field, Repeat};
+pub use records::Record;
+pub use symbols::Sym;

@@ -1,0 +1,74 @@
+use super::*;
+use std::alloc::{AllocFailed, Global};
+use std::test::Fail;
+
+// A component of these characters.
+fn component_of(alloc: Global, text: &[u8]) -> Result<Component, AllocFailed<Sym>> {
+    let mut component = Component::new(alloc);
+    for byte in text {
+        component.push(Sym::Char(*byte))?;
+    }
+    Ok(component)
+}
+
+#[test]
+fn delimiters_are_four_distinct_punctuation_bytes(rt: HostRuntime) -> Result<(), Fail> {
+    let usual = Delimiters::usual();
+    assert_eq!(rt; Delimiters::new(b'|', b'\\', b'^', b'&'), Ok(usual));
+    assert_eq!(rt; usual.field(), b'|');
+    assert_eq!(rt; usual.repeat(), b'\\');
+    assert_eq!(rt; usual.component(), b'^');
+    assert_eq!(rt; usual.escape(), b'&');
+    assert_eq!(rt;
+        Delimiters::new(b'|', b'\\', b'^', b'A'),
+        Err(DelimiterFault::NotPunctuation(3))
+    );
+    assert_eq!(rt;
+        Delimiters::new(b'|', b'\\', b'|', b'&'),
+        Err(DelimiterFault::Repeated(2))
+    );
+    assert_eq!(rt;
+        Delimiters::new(b'|', b'|', b'^', b'A'),
+        Err(DelimiterFault::NotPunctuation(3))
+    );
+    Ok(())
+}
+
+#[test]
+fn a_letter_names_a_kind(rt: HostRuntime) {
+    for (letter, kind) in [(b'H', Kind::H), (b'q', Kind::Q), (b'S', Kind::S)] {
+        assert_eq!(rt; Kind::of_letter(letter), Some(kind));
+        assert_eq!(rt; kind.letter(), letter.to_ascii_uppercase());
+    }
+    assert_eq!(rt; Kind::of_letter(b'X'), None);
+    assert_eq!(rt; Kind::H.first_number(), 3);
+    assert_eq!(rt; Kind::P.first_number(), 2);
+}
+
+#[test]
+fn a_record_is_made_of_its_parts(rt: HostRuntime) -> Result<(), Fail> {
+    let alloc = rt.alloc();
+    let mut second = Repeat::new(alloc, component_of(alloc, b"b")?)?;
+    second.push(component_of(alloc, b"cd")?)?;
+    let mut field = Field::new(alloc, Repeat::new(alloc, component_of(alloc, b"a")?)?)?;
+    field.push(second)?;
+    let mut record = Record::new(alloc, Kind::C);
+    record.push(field)?;
+    assert_eq!(rt; record.kind(), Kind::C);
+    assert_eq!(rt; record.len(), 1);
+    assert_eq!(rt; record.fields().len(), 1);
+    assert!(rt; record.field(1).is_none());
+    assert!(rt; record.field(3).is_none());
+    let field = record.field(2).ok_or("no field 2")?;
+    assert_eq!(rt; field.len(), 2);
+    assert_eq!(rt; field.repeats().len(), 2);
+    let repeat = field.get(1).ok_or("no second repeat")?;
+    assert_eq!(rt; repeat.len(), 2);
+    assert_eq!(rt; repeat.components().len(), 2);
+    let component = repeat.get(1).ok_or("no second component")?;
+    assert_eq!(rt; component.len(), 2);
+    assert_eq!(rt; component.get(1), Some(&Sym::Char(b'd')));
+    let want = [Sym::Char(b'c'), Sym::Char(b'd')];
+    assert_eq!(rt; component.symbols(), want.as_slice());
+    Ok(())
+}
