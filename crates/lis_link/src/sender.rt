@@ -145,8 +145,9 @@ impl<const N: usize> SenderOf<N> {
         Ok(EmitOf::Enq)
     }
 
-    /// Why a start with these texts is refused.
-    fn start_fault(&self, texts: &Texts) -> Option<StartFault>
+    /// Why a start with these texts would be refused, if it would: a session goes on, there is no text, or one of them is
+    /// no link text (LIS01-A2, 6.3).
+    pub fn start_fault(&self, texts: &Texts) -> Option<StartFault>
         ensures { result ≡ start_fault self.now texts.now }
     {
         match self.phase {

@@ -1,6 +1,6 @@
 //! Events, one by one, on a link between a real sender and a real receiver.
 
-ghost use Rattle.std.specs.Prelude.{◌≡◌, ◌∷◌, ◌++◌, [], length, OnOk, IfOk};
+ghost use Rattle.std.specs.Prelude.{◌≡◌, ◌∷◌, ◌++◌, [], None, length, OnOk, OnErr, IfOk};
 ghost use Rattle.lis_frame.specs.Limit.{IsLimit};
 ghost use Rattle.lis_frame.specs.Stream.{signals_after};
 ghost use Rattle.lis_link.specs.Receiver.{ReceiverState};
@@ -107,11 +107,15 @@ impl<const N: usize> RunOf<N> {
         desk.into_sessions()
     }
 
-    /// The sender is started, if the start isn't refused.
+    /// The sender is started, if the start isn't refused. One that is refused takes no memory, so it can't end the play.
     fn start(&mut self, texts: Texts) -> Result<(), AllocError>
-        ensures { (r : ReceiverState) → IsIn N self.old.desk.receiver r →
+        ensures world { (r : ReceiverState) → IsIn N self.old.desk.receiver r →
             OnOk result (IsWorld N self.new (begins N (start_fault self.old.sender texts) texts (world_at self.old r))) }
+        ensures refused { OnErr result (start_fault self.old.sender texts ≡ None) }
     {
+        if self.sender.start_fault(&texts).is_some() {
+            return Ok(());
+        }
         let kept = copy_of(self.alloc, &texts)?;
         if self.sender.start(texts).is_err() {
             return Ok(());

@@ -1,0 +1,45 @@
+"""Times the calls of the crates that lislink doesn't make by themselves, through crates/timed_calls.
+
+The receiver hears a session's bytes at once, 65,536 from each read; MB/s of link bytes, reading them included. A session
+of 1,000 full frames is played event by event; milliseconds of one. Both are medians, and each answer is compared with
+what the input holds.
+"""
+import os
+import statistics
+import subprocess
+import time
+
+PLAYED, FRAMES = 50, 1000
+
+
+def build(root):
+    crate = os.path.join(root, "crates/timed_calls")
+    done = subprocess.run(["rt", "run", "--", "play", "0"], cwd=crate, stdout=subprocess.PIPE, stderr=subprocess.STDOUT)
+    if done.returncode:
+        raise SystemExit(done.stdout.decode())
+    return os.path.join(crate, "out/timed_calls")
+
+
+def seconds(program, words, path, answer):
+    """Wall seconds of one run, which must answer so."""
+    with open(path, "rb") as source:
+        start = time.perf_counter()
+        run = subprocess.run([program, *words], stdin=source, stdout=subprocess.PIPE, check=True)
+        ended = time.perf_counter() - start
+    if int(run.stdout) != answer:
+        raise SystemExit(f"timed_calls {' '.join(words)}: {run.stdout.decode()} in place of {answer}")
+    return ended
+
+
+def hear(program, path, texts, size, rounds):
+    """MB/s of link bytes."""
+    times = [seconds(program, ["bytes"], path, texts) for _ in range(rounds)]
+    return size / 1e6 / statistics.median(times)
+
+
+def play(programs, rounds):
+    """Milliseconds of a session for each program, played in turn, and the time of the last for one of the first."""
+    words, answer = ["play", str(PLAYED)], PLAYED * FRAMES
+    times = [[seconds(program, words, os.devnull, answer) for program in programs] for _ in range(rounds)]
+    each = [statistics.median(one[who] for one in times) * 1000 / PLAYED for who in range(len(programs))]
+    return each, statistics.median(one[-1] / one[0] for one in times)
