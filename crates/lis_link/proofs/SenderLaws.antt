@@ -21,7 +21,6 @@ pub started_sender :
 started_sender limit queue texts is_limit faultless few texts_are left_is = record {
   is_limit = is_limit;
   stands = left_is ∙ ap (session_frames limit) (sym texts_are);
-  counted = omega arith;
   few = subst (λ ts. length (session_frames limit ts) < 4294967295) (sym texts_are)
       (few-session_frames limit texts is_limit (texts-faultless texts faultless) few);
   fits = refl;
@@ -44,7 +43,6 @@ advanced_sender limit queue next acknowledged phase tries h below texts_are left
       stands =
           left_is ∙ ap (drop 1) h.stands ∙ drop-drop 1 acknowledged frames
           ∙ ap (λ ts. drop (acknowledged + 1) (session_frames limit ts)) (sym texts_are);
-      counted = omega arith;
       few = omega arith;
       fits = tt;
       few_tries = h.few_tries;

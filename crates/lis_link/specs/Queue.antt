@@ -31,7 +31,7 @@ pub record IsPlace (limit : ℕ) (texts : List (List ℕ)) (index offset number 
   pub offset_within : (offset ≡ 0) ⊎ (offset < length (slice_index_or texts index []))
   pub at_end : index ≡ length texts → offset ≡ 0
 
--- the frames of a sender's session
+-- the frames of a sender's session; none where no session goes on
 abbrev pub frames_of : ℕ → Option Queue → List FrameContent
 frames_of limit None = []
 frames_of limit (Some queue) = session_frames limit queue.texts
@@ -53,7 +53,6 @@ PhaseFits AwaitReply acknowledged frames = acknowledged < frames
 pub record IsSender (limit : ℕ) (queue : Option Queue) (acknowledged : ℕ) (phase : Phase) (tries : ℕ) : Type 0 where
   pub is_limit : IsLimit limit
   pub stands : StandsBehind limit queue acknowledged
-  pub counted : acknowledged ≤ length (frames_of limit queue)
   pub few : length (frames_of limit queue) < 4294967295
   pub fits : PhaseFits phase acknowledged (length (frames_of limit queue))
   pub few_tries : tries ≤ 6

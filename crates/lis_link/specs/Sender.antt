@@ -14,7 +14,7 @@ use Rattle.lis_link.specs.declared.sender.StartFault.TheVariants.{InSession, NoT
 use Rattle.lis_link.specs.declared.sender.EmitOf.{EmitOf}
 use Rattle.lis_link.specs.declared.sender.EmitOf.TheVariants.{Nothing, Enq, Eot, Nak, Frame}
 
--- a sender: the frames of its session, how many of them are acknowledged, the phase,
+-- a sender: the frames of its session, none once it is over; how many of them are, or were, acknowledged; the phase;
 -- how often the present frame was sent, and how the last session ended
 pub record SenderState : Type 0 where
   pub frames : List FrameContent
@@ -39,9 +39,13 @@ new_sender = record { frames = []; acknowledged = 0; phase = Neutral; tries = 0;
 abbrev pub most_tries : ℕ
 most_tries = 6
 
--- the session ends with EOT
+-- the session is over: nothing of its texts is kept
+abbrev pub over : Outcome → SenderState → SenderState
+over outcome s = record s { frames = []; phase = Neutral; outcome = Some outcome }
+
+-- it ends with EOT
 abbrev pub ends : {limit : ℕ} → Outcome → SenderState → SenderStep limit
-ends outcome s = gives Eot (record s { phase = Neutral; outcome = Some outcome })
+ends outcome s = gives Eot (over outcome s)
 
 -- the first of the frames that are left is sent for the first time; where none is left, the session is done
 abbrev pub sends : {limit : ℕ} → List FrameContent → SenderState → SenderStep limit
@@ -87,10 +91,10 @@ on_sender_timer s = timer_in s.phase s
 -- the sender is restarted, by phases
 abbrev pub restart_in : Phase → SenderState → SenderState
 restart_in Neutral s = s
-restart_in AwaitLine s = record s { phase = Neutral; outcome = Some Restarted }
-restart_in Busy s = record s { phase = Neutral; outcome = Some Restarted }
-restart_in Contention s = record s { phase = Neutral; outcome = Some Restarted }
-restart_in AwaitReply s = record s { phase = Neutral; outcome = Some Restarted }
+restart_in AwaitLine s = over Restarted s
+restart_in Busy s = over Restarted s
+restart_in Contention s = over Restarted s
+restart_in AwaitReply s = over Restarted s
 
 abbrev pub sender_restarted : SenderState → SenderState
 sender_restarted s = restart_in s.phase s

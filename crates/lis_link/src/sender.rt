@@ -5,7 +5,7 @@ ghost use Rattle.lis_frame.specs.Limit.{IsLimit};
 ghost use Rattle.lis_link.specs.declared.sender.EmitOf.TheVariants as Emits;
 ghost use Rattle.lis_link.specs.declared.sender.Phase.TheVariants as Phases;
 ghost use Rattle.lis_link.specs.Queue.{first_frame};
-ghost use Rattle.lis_link.specs.Sender.{SenderState, reply_in, new_sender, bad_text, start_fault, started, sends, is_accepted, sends_again, on_reply, on_sender_timer, sender_restarted};
+ghost use Rattle.lis_link.specs.Sender.{SenderState, reply_in, new_sender, over, bad_text, start_fault, started, sends, is_accepted, sends_again, on_reply, on_sender_timer, sender_restarted};
 
 use crate::queue::QueueOf;
 use lis_frame::control::{ACK, ENQ, EOT};
@@ -81,8 +81,8 @@ pub struct StartRefused {
 /// How often a frame is sent before its session is given up.
 const MOST_TRIES: u8 = 6;
 
-/// The sending end. It keeps the texts of its session and makes each frame when it is due; it takes
-/// no memory.
+/// The sending end. It keeps the texts of its session until that is over and makes each frame when it is due; it
+/// takes no memory.
 #[derive(Drop)]
 pub struct SenderOf<const N: usize> {
     queue: Option<QueueOf<N>>,
@@ -206,20 +206,25 @@ impl<const N: usize> SenderOf<N> {
     {
         match self.phase {
             Phase::Neutral => {}
-            _ => {
-                self.phase = Phase::Neutral;
-                self.outcome = Some(Outcome::Restarted);
-            }
+            _ => self.close(Outcome::Restarted),
         }
+    }
+
+    /// The session is over: its texts are let go of.
+    fn close(&mut self, outcome: Outcome)
+        ensures { self.new ≡ over outcome self.old }
+    {
+        self.queue = None;
+        self.phase = Phase::Neutral;
+        self.outcome = Some(outcome);
     }
 
     /// The session ends with EOT.
     fn end(&mut self, outcome: Outcome) -> EmitOf<N>
         ensures emit { result ≡ Emits.Eot }
-        ensures after { self.new ≡ record self.old { phase = Phases.Neutral; outcome = Some outcome } }
+        ensures after { self.new ≡ over outcome self.old }
     {
-        self.phase = Phase::Neutral;
-        self.outcome = Some(outcome);
+        self.close(outcome);
         EmitOf::Eot
     }
 

@@ -10,7 +10,7 @@ use Rattle.lis_world.specs.Session.{Session, new_session, session_at, changed, f
 use Rattle.lis_world.specs.World.{World}
 use Rattle.lis_world.specs.Steps.{placed, with_sender, forgotten}
 use Rattle.lis_world.proofs.SessionLemmas.{length-changed, at-changed_same, at-changed, kept-changed}
-use Rattle.lis_world.proofs.Invariant.{IsSound, Line, Pending, Unsent, Waits, Behind, Leads, Front, IsCurrent, InPhase, Holds}
+use Rattle.lis_world.proofs.Invariant.{IsSound, Line, Pending, Unsent, Waits, Behind, Leads, Front, KeepsFrames, IsCurrent, InPhase, Holds}
 use Rattle.lis_world.proofs.Leaving.{leads_from_waits}
 
 pub record Base (limit : ℕ) (w : World) : Type 0 where
@@ -143,7 +143,7 @@ are_same_followed c sender ss = record {
 
 -- what the sender's new state has to keep of its session
 pub record CanFollow (limit : ℕ) (sender : SenderState) (x : Session) : Type 0 where
-  pub frames_are : sender.frames ≡ session_frames limit x.texts
+  pub frames_are : KeepsFrames sender.phase sender.frames (session_frames limit x.texts)
   pub acknowledged_of_accepted : sender.acknowledged ≤ length x.accepted
   pub done_acknowledged : sender.outcome ≡ Some Done → length (session_frames limit x.texts) ≤ sender.acknowledged
 

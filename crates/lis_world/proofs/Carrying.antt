@@ -9,6 +9,7 @@ use Rattle.lis_frame.specs.Frame.{FrameContent}
 use Rattle.lis_frame.specs.Pieces.{session_frames}
 use Rattle.lis_frame.specs.Stream.{signal_after, signals_after, stream_with}
 use Rattle.lis_link.specs.declared.sender.Outcome.TheVariants.{Done}
+use Rattle.lis_link.specs.declared.sender.Phase.TheVariants.{AwaitLine}
 use Rattle.lis_link.specs.declared.receiver.Readiness.TheVariants as Readinesses
 use Rattle.lis_link.specs.Joining.{groups}
 use Rattle.lis_link.specs.Sender.{sends, started, most_tries}
@@ -22,7 +23,7 @@ use Rattle.lis_world.specs.World.{World, new_world, Desk, desk_of, booked, hears
 use Rattle.lis_world.specs.Steps.{begins, delivered, delivered_no_room, damaged, is_noticed, room_at, replied, reply_damaged, sender_steps, after_event, runs, world}
 use Rattle.lis_world.specs.Safe.{IsPrefix}
 use Rattle.lis_world.specs.Progress.{Round, undisturbed, without_room, bad_frame, bad_reply, round_events, rounds_events, IsBadStretch, IsNoticed, AreNoticed, good_rounds, FewInARow, IsCalm, session_events, done_session, IsCarried, AreSendable, AreEnough, undisturbed_rounds, quiet_events, CarriesThrough, RunsQuietly}
-use Rattle.lis_world.proofs.Invariant.{IsSound, Holds}
+use Rattle.lis_world.proofs.Invariant.{IsSound, Holds, kept_frames}
 use Rattle.lis_world.proofs.Leaving.{heard_replies}
 use Rattle.lis_world.proofs.Hearing.{at_past}
 use Rattle.lis_world.proofs.BadHeard.{signals-bad_stretch}
@@ -30,25 +31,25 @@ use Rattle.lis_link.proofs.Counting.{few-session_frames}
 use Rattle.lis_world.proofs.Starting.{can_start}
 use Rattle.lis_world.proofs.Sending.{zero_mute}
 use Rattle.lis_world.proofs.Safety.{event_holds, runs_hold, new_holds, whole_prefix, prefix_trans, hands_out_all_from_sound}
-use Rattle.lis_world.proofs.Rounds.{IsSent, IsFinished, GoesOn, GoesOnOrAgain, by_signals, awaiting_of, sent_on, undisturbed_round, disturbed_round}
+use Rattle.lis_world.proofs.Rounds.{IsSent, IsFinished, GoesOn, GoesOnOrAgain, by_signals, awaiting_of, sender_frames, sent_on, undisturbed_round, disturbed_round}
 
 -- EOT closes the line
-record IsClosed (n : ℕ) (d : Desk) : Type 0 where
+record IsClosed (ss : List Session) (d : Desk) : Type 0 where
   no_reply : d.replies ≡ []
   is_closed : d.receiver.is_open ≡ false
-  length_is : length d.sessions ≡ n
+  sessions_are : d.sessions ≡ ss
 
-ending_heard : (limit s : ℕ) (d : Desk) → d.replies ≡ [] → IsClosed (length d.sessions) (hears limit s (EOT ∷ []) d)
+ending_heard : (limit s : ℕ) (d : Desk) → d.replies ≡ [] → IsClosed d.sessions (hears limit s (EOT ∷ []) d)
 unfolding signal_after
 ending_heard limit s d none =
-    by_signals (IsClosed (length d.sessions)) limit s (EOT ∷ []) d (Eot ∷ []) refl (go d.receiver.is_open refl)
+    by_signals (IsClosed d.sessions) limit s (EOT ∷ []) d (Eot ∷ []) refl (go d.receiver.is_open refl)
   where
     go :
         (is_open : Bool)
         → d.receiver.is_open ≡ is_open
-        → IsClosed (length d.sessions) (at_past (stream_with d.receiver.past (EOT ∷ [])) (booked s (heard_by {limit = limit} is_open Eot d.receiver) d))
-    go true e = record { no_reply = none; is_closed = refl; length_is = refl }
-    go false e = record { no_reply = none; is_closed = e; length_is = refl }
+        → IsClosed d.sessions (at_past (stream_with d.receiver.past (EOT ∷ [])) (booked s (heard_by {limit = limit} is_open Eot d.receiver) d))
+    go true e = record { no_reply = none; is_closed = refl; sessions_are = refl }
+    go false e = record { no_reply = none; is_closed = e; sessions_are = refl }
 
 -- a session that is over stays so
 record IsOver (limit c : ℕ) (frames : List FrameContent) (w : World) : Type 0 where
@@ -59,7 +60,7 @@ closed_after :
     (limit c : ℕ) (frames : List FrameContent) (w w2 : World) (d : Desk)
     → IsFinished limit c frames w
     → Holds limit w2
-    → IsClosed (length w.sessions) d
+    → IsClosed w.sessions d
     → w2 ≡ settled [] d w
     → IsOver limit c frames w2
 closed_after limit c frames w w2 d finished holds closed e =
@@ -68,8 +69,9 @@ closed_after limit c frames w w2 d finished holds closed e =
         tracked = record {
           holds = subst (Holds limit) e holds;
           current_is = finished.tracked.current_is;
-          length_is = closed.length_is ∙ finished.tracked.length_is;
-          frames_are = finished.tracked.frames_are;
+          length_is = ap length closed.sessions_are ∙ finished.tracked.length_is;
+          frames_are =
+              ap (λ ss. session_frames limit (session_at w.current ss).texts) closed.sessions_are ∙ finished.tracked.frames_are;
         };
         neutral = finished.neutral;
         outcome_is = finished.outcome_is;
@@ -105,7 +107,7 @@ finished_no_room limit c frames w is_limit finished = go finished.traffic
         let closed = ending_heard limit one.0 d refl in
         (closed_after limit c frames w (after_event limit DeliverNoRoom w) (room_at true (hears limit one.0 (EOT ∷ []) d)) finished
         (event_holds limit DeliverNoRoom w is_limit finished.tracked.holds)
-        (record { no_reply = closed.no_reply; is_closed = closed.is_closed; length_is = closed.length_is })
+        (record { no_reply = closed.no_reply; is_closed = closed.is_closed; sessions_are = closed.sessions_are })
         (ap (λ us. delivered_no_room limit us w) one.1)).finished
     go (inr none) = subst (IsFinished limit c frames) (sym (ap (λ us. delivered_no_room limit us w) none.0)) finished
 
@@ -178,7 +180,7 @@ some_remaining limit c frames k t w sent =
     let remaining = sent.remaining in
     let counted = awaiting.acknowledged_is in
     let whole : length frames ≡ length awaiting.before + suc (length awaiting.left) =
-    ap length (sym sent.tracked.frames_are ∙ awaiting.frames_are) ∙ length-append awaiting.before (awaiting.frame ∷ awaiting.left) in
+    ap length (sym (sender_frames limit c frames w sent.tracked sent.awaits) ∙ awaiting.frames_are) ∙ length-append awaiting.before (awaiting.frame ∷ awaiting.left) in
     omega arith
 
 -- rounds, one by one
@@ -285,7 +287,8 @@ begun limit texts w is_limit h calm holds =
     sent_on limit c (session_frames limit texts) (length (session_frames limit texts)) (started limit texts) w3 (after_event limit Reply w2)
     refl (opened.length_is ∙ more_sessions w.sessions (new_session texts)) holds2.mute_within
     (event_holds limit Reply w2 is_limit (event_holds limit Deliver w1 is_limit holds))
-    refl refl opened.is_open opened.room_is refl (omega arith) (session_frames limit texts) e3
+    refl refl opened.is_open opened.room_is (sym (kept_frames limit (settled [] after w1) AwaitLine holds2 refl)) (omega arith)
+    (session_frames limit texts) e3
   where
     more_sessions : (ss : List Session) (x : Session) → length (ss ++ x ∷ []) ≡ suc (length ss)
     more_sessions ss x =
@@ -302,7 +305,7 @@ session_over limit c texts w finished =
     let h = finished.tracked.holds in
     let x : Session = session_at w.current w.sessions in
     let sound : IsSound limit x = h.sound w.current in
-    let frames_same : session_frames limit x.texts ≡ frames = sym h.current.frames_are ∙ finished.tracked.frames_are in
+    let frames_same : session_frames limit x.texts ≡ frames = finished.tracked.frames_are in
     let texts_is : x.texts ≡ texts =
     sym (groups-session_frames limit x.texts) ∙ ap (groups []) frames_same ∙ groups-session_frames limit texts in
     let done : x.outcome ≡ Some Done = sym h.current.outcome_is ∙ finished.outcome_is in

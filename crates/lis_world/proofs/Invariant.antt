@@ -1,5 +1,5 @@
 -- What holds of the world after each event.
-use Rattle.std.proofs.Common.{◌≡◌, ℕ, ◌<◌, ◌≤◌, ◌⊎◌, Bool, true, List, [], ◌∷◌, ◌++◌, length, drop, Some}
+use Rattle.std.proofs.Common.{◌≡◌, ℕ, ◌<◌, ◌≤◌, ◌⊎◌, Bool, true, List, [], ◌∷◌, ◌++◌, length, drop, Some, subst}
 use Rattle.std.specs.Prelude.{All}
 use Rattle.lis_frame.specs.declared.control.TheConstants.{ACK, EOT}
 use Rattle.lis_frame.specs.Text.{IsText, longest_text}
@@ -58,9 +58,17 @@ abbrev pub Front : List Session → Bool → ℕ → List Travelling → Type 0
 Front ss is_open owner [] = Unit {0}
 Front ss is_open owner (u ∷ us) = Leads ss is_open owner u.session u.load × Behind ss us
 
+-- what a sender keeps are the frames of its session, while that goes on
+abbrev pub KeepsFrames : Phase → List FrameContent → List FrameContent → Type 0
+KeepsFrames Neutral kept frames = Unit {0}
+KeepsFrames AwaitLine kept frames = kept ≡ frames
+KeepsFrames Busy kept frames = kept ≡ frames
+KeepsFrames Contention kept frames = kept ≡ frames
+KeepsFrames AwaitReply kept frames = kept ≡ frames
+
 -- the sender's session is the present one
 pub record IsCurrent (limit : ℕ) (sender : SenderState) (x : Session) : Type 0 where
-  pub frames_are : sender.frames ≡ session_frames limit x.texts
+  pub frames_are : KeepsFrames sender.phase sender.frames (session_frames limit x.texts)
   pub acknowledged_is : sender.acknowledged ≡ x.acknowledged
   pub outcome_is : sender.outcome ≡ x.outcome
 
@@ -137,6 +145,15 @@ pub record Holds (limit : ℕ) (w : World) : Type 0 where
   pub front : Front w.sessions w.receiver.is_open w.opened w.units
   pub current : IsCurrent limit w.sender (session_at w.current w.sessions)
   pub phase : InPhase w.sender.phase w
+
+-- what the sender keeps in a phase
+pub kept_frames :
+    (limit : ℕ) (w : World) (p : Phase)
+    → Holds limit w
+    → w.sender.phase ≡ p
+    → KeepsFrames p w.sender.frames (session_frames limit (session_at w.current w.sessions).texts)
+kept_frames limit w p h is =
+    subst (λ q. KeepsFrames q w.sender.frames (session_frames limit (session_at w.current w.sessions).texts)) is h.current.frames_are
 
 -- the sessions differ in what was accepted and handed out alone
 pub record IsKept (x y : Session) : Type 0 where

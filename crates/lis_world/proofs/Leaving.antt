@@ -7,7 +7,7 @@ use Rattle.lis_link.specs.Sender.{SenderState}
 use Rattle.lis_world.specs.Unit.{Load, enquiry, ending, one_frame, Travelling}
 use Rattle.lis_world.specs.Session.{Session, session_at}
 use Rattle.lis_world.specs.World.{World, Desk, desk_of, replies_with, lowered, settled}
-use Rattle.lis_world.proofs.Invariant.{Unsent, Waits, Behind, Leads, Front, IsCurrent, AllEndings, BidsBy, Bids, BidAnswer, FrameAnswer, IsAwaiting, InPhase, Holds, IsKept, AreKept, IsLeft}
+use Rattle.lis_world.proofs.Invariant.{Unsent, Waits, Behind, Leads, Front, KeepsFrames, IsCurrent, AllEndings, BidsBy, Bids, BidAnswer, FrameAnswer, IsAwaiting, InPhase, Holds, IsKept, AreKept, IsLeft}
 
 pub unsent_kept : (ss ss' : List Session) (s : ℕ) → AreKept ss ss' → Unsent ss s → Unsent ss' s
 unsent_kept ss ss' s kept unsent =
@@ -38,7 +38,8 @@ lowered_within (suc m) n h = omega arith
 
 pub current_kept : (limit : ℕ) (sender : SenderState) (x y : Session) → IsKept x y → IsCurrent limit sender x → IsCurrent limit sender y
 current_kept limit sender x y kept h = record {
-  frames_are = h.frames_are ∙ ap (session_frames limit) (sym kept.texts_same);
+  frames_are =
+      subst (λ texts. KeepsFrames sender.phase sender.frames (session_frames limit texts)) (sym kept.texts_same) h.frames_are;
   acknowledged_is = h.acknowledged_is ∙ sym kept.acknowledged_same;
   outcome_is = h.outcome_is ∙ sym kept.outcome_same;
 }

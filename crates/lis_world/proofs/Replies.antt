@@ -1,5 +1,5 @@
 -- A reply comes to the sender, in time; or another byte does, or none.
-use Rattle.std.proofs.Common.{◌≡◌, ℕ, ◌+◌, ◌≤◌, ◌⊎◌, inl, inr, true, false, List, [], ◌∷◌, ◌++◌, length, drop, Some, refl, sym, ap, ◌∙◌, subst, arith}
+use Rattle.std.proofs.Common.{◌≡◌, ℕ, ◌+◌, ◌≤◌, ◌⊎◌, inl, inr, true, false, List, [], ◌∷◌, ◌++◌, length, drop, refl, sym, ap, ◌∙◌, subst, arith}
 use Rattle.std.specs.Prelude.{nat_lt, ◌==◌, ◌||◌}
 use Rattle.std.proofs.lemmas.Bool.{cond_both, or_cases, or_parts, eqb-true, eqb-false}
 use Rattle.std.proofs.lemmas.List.{length_push, append_assoc, drop_all, drop_at}
@@ -11,12 +11,12 @@ use Rattle.lis_link.specs.declared.sender.Phase.TheVariants.{Neutral, AwaitLine,
 use Rattle.lis_link.specs.declared.sender.Outcome.TheVariants.{Done, SixTries}
 use Rattle.lis_link.specs.declared.sender.EmitOf.TheVariants.{Nothing}
 use Rattle.lis_link.specs.declared.sender.EmitOf.TheVariants as Emits
-use Rattle.lis_link.specs.Sender.{SenderState, gives, ends, sends, sends_again, is_accepted, reply_in, on_reply, most_tries}
+use Rattle.lis_link.specs.Sender.{SenderState, over, gives, ends, sends, sends_again, is_accepted, reply_in, on_reply, most_tries}
 use Rattle.lis_world.specs.Unit.{one_frame, Travelling}
 use Rattle.lis_world.specs.Session.{session_at, changed, follows}
 use Rattle.lis_world.specs.World.{World}
 use Rattle.lis_world.specs.Steps.{with_sender, sender_steps, replied, reply_damaged, reply_lost}
-use Rattle.lis_world.proofs.Invariant.{Unsent, AllEndings, Bids, IsYes, BidAnswer, FrameAnswer, IsBidding, IsWaiting, IsAwaiting, InPhase, Holds}
+use Rattle.lis_world.proofs.Invariant.{Unsent, AllEndings, Bids, IsYes, BidAnswer, FrameAnswer, IsBidding, IsWaiting, IsAwaiting, KeepsFrames, InPhase, Holds, kept_frames}
 use Rattle.lis_world.proofs.Arrival.{accepted_of_unsent}
 use Rattle.lis_world.proofs.Base.{base_of, holds_of, CanFollow, base_replies, base_followed, current_followed, unsent_same, are_same_followed}
 use Rattle.lis_world.proofs.Sending.{ended_with_ending, frame_sent_holds}
@@ -53,28 +53,29 @@ line_given :
     → w.units ≡ []
     → bs ≡ []
     → (w.receiver.is_open ≡ true → w.opened ≡ w.current)
+    → w.sender.frames ≡ session_frames limit (session_at w.current w.sessions).texts
     → (frames : List FrameContent)
     → w.sender.frames ≡ frames
     → Holds limit (sender_steps {limit = limit} (sends frames w.sender) (record w { replies = bs }))
-line_given limit w bs h unsent zero_is no_unit no_reply owner [] frames_are =
+line_given limit w bs h unsent zero_is no_unit no_reply owner kept [] frames_are =
     let can = can_follow limit w h in
-    ended_with_ending limit (record w.sender { phase = Neutral; outcome = Some Done }) (record w { replies = bs })
+    ended_with_ending limit (over Done w.sender) (record w { replies = bs })
     (base_replies limit bs w (base_of limit w h)) unsent.0
     (record {
-      frames_are = can.frames_are;
+      frames_are = tt;
       acknowledged_of_accepted = can.acknowledged_of_accepted;
       done_acknowledged = λ done.
-          let none : session_frames limit (session_at w.current w.sessions).texts ≡ [] = sym can.frames_are ∙ frames_are in
+          let none : session_frames limit (session_at w.current w.sessions).texts ≡ [] = sym kept ∙ frames_are in
           subst (λ xs. length xs ≤ w.sender.acknowledged) (sym none) (omega arith);
     })
     refl no_reply (live_none w.mute w.units no_unit)
-line_given limit w bs h unsent zero_is no_unit no_reply owner (f ∷ left) frames_are =
+line_given limit w bs h unsent zero_is no_unit no_reply owner kept (f ∷ left) frames_are =
     let can = can_follow limit w h in
     frame_sent_holds limit (record w.sender { phase = AwaitReply; tries = 1 }) (record w { replies = bs }) [] f left
     (base_replies limit bs w (base_of limit w h))
     (record {
       can = record {
-        frames_are = can.frames_are;
+        frames_are = kept;
         acknowledged_of_accepted = can.acknowledged_of_accepted;
         done_acknowledged = can.done_acknowledged;
       };
@@ -97,13 +98,14 @@ line_refused :
     → w.sender.acknowledged ≡ 0
     → w.units ≡ []
     → bs ≡ []
+    → KeepsFrames p w.sender.frames (session_frames limit (session_at w.current w.sessions).texts)
     → ((v : World) → IsWaiting v → InPhase p v)
     → Holds limit (sender_steps {limit = limit} (gives Nothing (record w.sender { phase = p })) (record w { replies = bs }))
-line_refused limit w bs p h unsent zero_is no_unit no_reply waits =
+line_refused limit w bs p h unsent zero_is no_unit no_reply kept waits =
     let can = can_follow limit w h in
     let sender : SenderState = record w.sender { phase = p } in
     let now : CanFollow limit sender (session_at w.current w.sessions) = record {
-      frames_are = can.frames_are;
+      frames_are = kept;
       acknowledged_of_accepted = can.acknowledged_of_accepted;
       done_acknowledged = can.done_acknowledged;
     } in
@@ -121,9 +123,10 @@ bid_answered :
     (limit : ℕ) (b : ℕ) (bs : List ℕ) (w : World)
     → Holds limit w
     → w.replies ≡ b ∷ bs
+    → w.sender.frames ≡ session_frames limit (session_at w.current w.sessions).texts
     → IsBidding w
     → Replied limit AwaitLine b bs w
-bid_answered limit b bs w h are bidding = go bidding.traffic
+bid_answered limit b bs w h are kept bidding = go bidding.traffic
   where
     go :
         ((w.replies ≡ []) × Bids w.current (drop w.mute w.units))
@@ -136,42 +139,43 @@ bid_answered limit b bs w h are bidding = go bidding.traffic
         let e : b ∷ bs ≡ one.1.0 ∷ [] = sym are ∙ one.1.1 in
         let no_reply : bs ≡ [] = cc in
         cond_both (b == ACK) (sends w.sender.frames w.sender) _ (λ step. Holds limit (sender_steps {limit = limit} step (record w { replies = bs })))
-        (λ ack. line_given limit w bs h bidding.unsent bidding.none_acknowledged one.0 no_reply one.1.2 w.sender.frames refl)
+        (λ ack. line_given limit w bs h bidding.unsent bidding.none_acknowledged one.0 no_reply one.1.2 kept w.sender.frames refl)
         (λ other. cond_both (b == ENQ) (gives Nothing (record w.sender { phase = Contention })) (gives Nothing (record w.sender { phase = Busy }))
         (λ step. Holds limit (sender_steps {limit = limit} step (record w { replies = bs })))
-        (λ enq. line_refused limit w bs Contention h bidding.unsent bidding.none_acknowledged one.0 no_reply (λ v waiting. waiting))
-        (λ nak. line_refused limit w bs Busy h bidding.unsent bidding.none_acknowledged one.0 no_reply (λ v waiting. waiting)))
+        (λ enq. line_refused limit w bs Contention h bidding.unsent bidding.none_acknowledged one.0 no_reply kept (λ v waiting. waiting))
+        (λ nak. line_refused limit w bs Busy h bidding.unsent bidding.none_acknowledged one.0 no_reply kept (λ v waiting. waiting)))
 
 -- a frame was acknowledged
 next_sent :
     (limit : ℕ) (w : World) (bs : List ℕ)
     → Holds limit w
     → (awaiting : IsAwaiting w)
+    → w.sender.frames ≡ session_frames limit (session_at w.current w.sessions).texts
     → w.units ≡ []
     → bs ≡ []
     → (session_at w.current w.sessions).accepted ≡ awaiting.before ++ awaiting.frame ∷ []
     → (left : List FrameContent)
     → awaiting.left ≡ left
     → Holds limit (sender_steps {limit = limit} (sends left (record w.sender { acknowledged = w.sender.acknowledged + 1 })) (record w { replies = bs }))
-next_sent limit w bs h awaiting no_unit no_reply accepted [] none =
+next_sent limit w bs h awaiting kept no_unit no_reply accepted [] none =
     let can = can_follow limit w h in
     let before = awaiting.before in
     let f = awaiting.frame in
     let counted = awaiting.acknowledged_is in
     let frames : session_frames limit (session_at w.current w.sessions).texts ≡ before ++ f ∷ [] =
-    sym can.frames_are ∙ awaiting.frames_are ∙ ap (λ xs. before ++ f ∷ xs) none in
+    sym kept ∙ awaiting.frames_are ∙ ap (λ xs. before ++ f ∷ xs) none in
     let more = length_push before f in
-    ended_with_ending limit (record w.sender { acknowledged = w.sender.acknowledged + 1; phase = Neutral; outcome = Some Done }) (record w { replies = bs })
+    ended_with_ending limit (over Done (record w.sender { acknowledged = w.sender.acknowledged + 1 })) (record w { replies = bs })
     (base_replies limit bs w (base_of limit w h)) awaiting.pending.is_session
     (record {
-      frames_are = can.frames_are;
+      frames_are = tt;
       acknowledged_of_accepted =
           subst (λ xs. w.sender.acknowledged + 1 ≤ length xs) (sym accepted) (omega arith);
       done_acknowledged = λ done.
           subst (λ xs. length xs ≤ w.sender.acknowledged + 1) (sym frames) (omega arith);
     })
     refl no_reply (live_none w.mute w.units no_unit)
-next_sent limit w bs h awaiting no_unit no_reply accepted (g ∷ left) some =
+next_sent limit w bs h awaiting kept no_unit no_reply accepted (g ∷ left) some =
     let can = can_follow limit w h in
     let before = awaiting.before in
     let f = awaiting.frame in
@@ -184,7 +188,7 @@ next_sent limit w bs h awaiting no_unit no_reply accepted (g ∷ left) some =
     (base_replies limit bs w (base_of limit w h))
     (record {
       can = record {
-        frames_are = can.frames_are;
+        frames_are = kept;
         acknowledged_of_accepted =
             subst (λ xs. w.sender.acknowledged + 1 ≤ length xs) (sym accepted) (omega arith);
         done_acknowledged = λ done.
@@ -214,7 +218,7 @@ same_sent :
 same_sent limit w bs h awaiting awaits no_unit no_reply =
     let can = can_follow limit w h in
     let again : SenderState = record w.sender { tries = w.sender.tries + 1 } in
-    let given_up : SenderState = record w.sender { phase = Neutral; outcome = Some SixTries } in
+    let given_up : SenderState = over SixTries w.sender in
     cond_both (nat_lt w.sender.tries most_tries) (gives {limit = limit} (Emits.Frame awaiting.frame) again) (ends {limit = limit} SixTries w.sender)
     (λ step. Holds limit (sender_steps {limit = limit} step (record w { replies = bs })))
     (λ few. frame_sent_holds limit again (record w { replies = bs }) awaiting.before awaiting.frame awaiting.left
@@ -238,7 +242,7 @@ same_sent limit w bs h awaiting awaits no_unit no_reply =
     (λ many. ended_with_ending limit given_up (record w { replies = bs })
     (base_replies limit bs w (base_of limit w h)) awaiting.pending.is_session
     (record {
-      frames_are = can.frames_are;
+      frames_are = tt;
       acknowledged_of_accepted = can.acknowledged_of_accepted;
       done_acknowledged = λ done. cc;
     })
@@ -280,7 +284,7 @@ frame_answered limit b bs w h are awaits awaiting = go awaiting.traffic
         (λ yes.
         subst (λ xs. Holds limit (sender_steps {limit = limit} (sends xs (record w.sender { acknowledged = w.sender.acknowledged + 1 })) (record w { replies = bs })))
         (sym left_then)
-        (next_sent limit w bs h awaiting no_unit no_reply (accepted (is_yes (or_cases (b == ACK) (b == EOT) yes))) awaiting.left refl))
+        (next_sent limit w bs h awaiting (kept_frames limit w AwaitReply h awaits) no_unit no_reply (accepted (is_yes (or_cases (b == ACK) (b == EOT) yes))) awaiting.left refl))
         (λ no.
         subst (λ xs. Holds limit (sender_steps {limit = limit} (sends_again xs w.sender) (record w { replies = bs })))
         (sym same_then)
@@ -322,7 +326,7 @@ reply_phase :
 reply_phase limit b bs w Neutral h are is resting =
     let e : b ∷ bs ≡ [] = sym are ∙ resting.no_reply in
     absurd (cc)
-reply_phase limit b bs w AwaitLine h are is bidding = bid_answered limit b bs w h are bidding
+reply_phase limit b bs w AwaitLine h are is bidding = bid_answered limit b bs w h are (kept_frames limit w AwaitLine h is) bidding
 reply_phase limit b bs w Busy h are is waiting =
     let e : b ∷ bs ≡ [] = sym are ∙ waiting.no_reply in
     absurd (cc)

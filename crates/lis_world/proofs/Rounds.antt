@@ -17,7 +17,7 @@ use Rattle.lis_link.specs.declared.receiver.Note.{Note}
 use Rattle.lis_link.specs.declared.receiver.Note.TheVariants.{Accepted, Duplicate, NoRoom}
 use Rattle.lis_frame.specs.Text.{longest_text}
 use Rattle.lis_link.specs.Joining.{rest}
-use Rattle.lis_link.specs.Sender.{SenderState, gives, ends, sends, sends_again, is_accepted, reply_in, on_reply, most_tries}
+use Rattle.lis_link.specs.Sender.{SenderState, over, gives, ends, sends, sends_again, is_accepted, reply_in, on_reply, most_tries}
 use Rattle.lis_link.specs.Receiver.{judged, on_judged, heard_by, held_text, most_frames}
 use Rattle.lis_world.specs.declared.event.Event.TheVariants.{Deliver, DeliverNoRoom, Damage, Reply, DamageReply}
 use Rattle.lis_frame.specs.Frame.{frame_bytes}
@@ -26,8 +26,8 @@ use Rattle.lis_world.specs.Session.{Session, session_at, changed, follows, sends
 use Rattle.lis_world.specs.World.{World, Desk, desk_of, booked, hears, settled}
 use Rattle.lis_world.specs.Steps.{sender_steps, delivered, delivered_no_room, damaged, is_noticed, room_at, replied, reply_damaged, after_event, runs}
 use Rattle.lis_world.specs.Progress.{Round, undisturbed, without_room, bad_frame, bad_reply, round_events, IsBadStretch, IsNoticed}
-use Rattle.lis_world.proofs.SessionLemmas.{length-changed}
-use Rattle.lis_world.proofs.Invariant.{IsYes, FrameAnswer, IsAwaiting, InPhase, Holds}
+use Rattle.lis_world.proofs.SessionLemmas.{length-changed, kept-changed}
+use Rattle.lis_world.proofs.Invariant.{IsYes, FrameAnswer, IsAwaiting, InPhase, Holds, kept_frames}
 use Rattle.lis_world.proofs.Leaving.{heard_replies}
 use Rattle.lis_world.proofs.Hearing.{at_past, hears_signal, hears_signals, hears-heard}
 use Rattle.lis_world.proofs.Arrival.{judged_new, judged_again}
@@ -43,7 +43,7 @@ pub record IsTracked (limit c : ℕ) (frames : List FrameContent) (w : World) : 
   pub holds : Holds limit w
   pub current_is : w.current ≡ c
   pub length_is : length w.sessions ≡ suc c
-  pub frames_are : w.sender.frames ≡ frames
+  pub frames_are : session_frames limit (session_at w.current w.sessions).texts ≡ frames
 
 -- a frame is on the link, sent for the t-th time, and k frames are not acknowledged
 pub record IsSent (limit c : ℕ) (frames : List FrameContent) (k t : ℕ) (w : World) : Type 0 where
@@ -81,7 +81,26 @@ pub record IsFinished (limit c : ℕ) (frames : List FrameContent) (w : World) :
 abbrev pub GoesOn : ℕ → ℕ → List FrameContent → ℕ → World → Type 0
 GoesOn limit c frames k w = IsFinished limit c frames w ⊎ IsSent limit c frames k 1 w
 
--- a sender's step keeps the number of sessions
+-- the sender of a frame that awaits its reply keeps the session's frames
+pub sender_frames :
+    (limit c : ℕ) (frames : List FrameContent) (w : World)
+    → IsTracked limit c frames w
+    → w.sender.phase ≡ AwaitReply
+    → w.sender.frames ≡ frames
+sender_frames limit c frames w tracked awaits = kept_frames limit w AwaitReply tracked.holds awaits ∙ tracked.frames_are
+
+-- a sender's step keeps the texts of each session
+texts-followed :
+    (limit c : ℕ) (sender : SenderState) (ss : List Session)
+    → session_frames limit (session_at c (changed c (follows sender) ss)).texts ≡ session_frames limit (session_at c ss).texts
+texts-followed limit c sender ss = ap (session_frames limit) (kept-changed (λ (x : Session). x.texts) c (follows sender) ss (λ x. refl) c)
+
+texts-sent :
+    (limit c : ℕ) (f : FrameContent) (ss : List Session)
+    → session_frames limit (session_at c (changed c (sends_frame f) ss)).texts ≡ session_frames limit (session_at c ss).texts
+texts-sent limit c f ss = ap (session_frames limit) (kept-changed (λ (x : Session). x.texts) c (sends_frame f) ss (λ x. refl) c)
+
+-- and their number
 pub length-followed : (c : ℕ) (sender : SenderState) (ss : List Session) (n : ℕ) → length ss ≡ n → length (changed c (follows sender) ss) ≡ n
 length-followed c sender ss n e = length-changed c (follows sender) ss ∙ e
 
@@ -99,7 +118,7 @@ pub sent_on :
     → w.replies ≡ []
     → w.receiver.is_open ≡ true
     → w.receiver.room ≡ true
-    → sender.frames ≡ frames
+    → session_frames limit (session_at w.current w.sessions).texts ≡ frames
     → sender.acknowledged + k ≡ length frames
     → (left : List FrameContent)
     → w2 ≡ sender_steps {limit = limit} (sends left sender) w
@@ -109,8 +128,8 @@ sent_on limit c frames k sender w w2 current_is length_is mute_within holds no_u
       tracked = record {
         holds = subst (Holds limit) e holds;
         current_is = current_is;
-        length_is = length-followed w.current (record sender { phase = Neutral; outcome = Some Done }) w.sessions (suc c) length_is;
-        frames_are = frames_are;
+        length_is = length-followed w.current (over Done sender) w.sessions (suc c) length_is;
+        frames_are = texts-followed limit w.current (over Done sender) w.sessions ∙ frames_are;
       };
       neutral = refl;
       outcome_is = refl;
@@ -127,7 +146,9 @@ sent_on limit c frames k sender w w2 current_is length_is mute_within holds no_u
         length_is =
             length-changed w.current (sends_frame f) (changed w.current (follows next) w.sessions)
             ∙ length-followed w.current next w.sessions (suc c) length_is;
-        frames_are = frames_are;
+        frames_are =
+            texts-sent limit w.current f (changed w.current (follows next) w.sessions)
+            ∙ texts-followed limit w.current next w.sessions ∙ frames_are;
       };
       awaits = refl;
       tries_is = refl;
@@ -155,7 +176,7 @@ after_yes limit c frames k t w is_limit answered =
     ∙ ap (λ p. sender_steps {limit = limit} (reply_in p ACK w.sender) w1) answered.awaits in
     let remaining = answered.remaining in
     let some : length frames ≡ w.sender.acknowledged + suc (length awaiting.left) =
-    ap length (sym answered.tracked.frames_are ∙ awaiting.frames_are)
+    ap length (sym (sender_frames limit c frames w answered.tracked answered.awaits) ∙ awaiting.frames_are)
     ∙ length-append awaiting.before (awaiting.frame ∷ awaiting.left)
     ∙ ap (λ n. n + suc (length awaiting.left)) (sym awaiting.acknowledged_is) in
     sent_on limit c frames (k - 1) sender w1 (after_event limit Reply w)
@@ -199,7 +220,9 @@ after_no limit c frames k t b r w w2 answered refused few holds e =
         length_is =
             length-changed w.current (sends_frame f) (changed w.current (follows again) w.sessions)
             ∙ length-followed w.current again w.sessions (suc c) answered.tracked.length_is;
-        frames_are = answered.tracked.frames_are;
+        frames_are =
+            texts-sent limit w.current f (changed w.current (follows again) w.sessions)
+            ∙ texts-followed limit w.current again w.sessions ∙ answered.tracked.frames_are;
       };
       awaits = answered.awaits;
       tries_is = ap (λ n. n + 1) tries_is;
@@ -352,13 +375,14 @@ due_in limit c frames k t w is_limit few sent =
     let g : FrameContent = awaiting.frame in
     let before : List FrameContent = awaiting.before in
     let x : Session = session_at w.current w.sessions in
-    let texts_frames : session_frames limit x.texts ≡ before ++ g ∷ awaiting.left = sym h.current.frames_are ∙ awaiting.frames_are in
+    let texts_frames : session_frames limit x.texts ≡ before ++ g ∷ awaiting.left =
+    sym (kept_frames limit w AwaitReply h sent.awaits) ∙ awaiting.frames_are in
     let next = next_frame limit x before g is_limit (h.sound w.current) awaiting.pending.sent_is in
     let owner : w.opened ≡ w.current = awaiting.pending.owner_is sent.is_open in
     let held : w.receiver.accepted ≡ x.accepted =
     (h.line sent.is_open).1 ∙ ap (λ s. (session_at s w.sessions).accepted) owner in
     let count : length frames ≡ length before + suc (length awaiting.left) =
-    ap length (sym sent.tracked.frames_are ∙ awaiting.frames_are) ∙ length-append before (g ∷ awaiting.left) in
+    ap length (sym (sender_frames limit c frames w sent.tracked sent.awaits) ∙ awaiting.frames_are) ∙ length-append before (g ∷ awaiting.left) in
     let here : IsDueIn limit w g = record {
       before = before;
       content = next.content;
@@ -388,12 +412,14 @@ answered_after :
     → IsAnswered limit c frames k t b w2
 answered_after limit c frames k t b w w2 d sent holds is_replied e =
     let awaiting = awaiting_of limit w sent.tracked.holds sent.awaits in
+    let holds3 : Holds limit (settled [] d w) = subst (Holds limit) e holds in
     subst (IsAnswered limit c frames k t b) (sym e) (record {
       tracked = record {
-        holds = subst (Holds limit) e holds;
+        holds = holds3;
         current_is = sent.tracked.current_is;
         length_is = is_replied.length_is ∙ sent.tracked.length_is;
-        frames_are = sent.tracked.frames_are;
+        frames_are =
+            sym (kept_frames limit (settled [] d w) AwaitReply holds3 sent.awaits) ∙ sender_frames limit c frames w sent.tracked sent.awaits;
       };
       awaits = sent.awaits;
       tries_is = sent.tries_is;

@@ -50,7 +50,7 @@ new_holds limit = record {
   mute_within = omega arith;
   line = λ e. absurd (cc);
   front = tt;
-  current = record { frames_are = refl; acknowledged_is = refl; outcome_is = refl };
+  current = record { frames_are = tt; acknowledged_is = refl; outcome_is = refl };
   phase = record { no_reply = refl; live_endings = tt };
 }
 

@@ -14,7 +14,7 @@ use Rattle.lis_world.specs.World.{World}
 use Rattle.lis_world.specs.Safe.{IsPrefix}
 use Rattle.lis_world.specs.Steps.{placed, with_sender}
 use Rattle.lis_world.proofs.SessionLemmas.{length-changed, at-changed_same, at-changed, kept-changed}
-use Rattle.lis_world.proofs.Invariant.{IsSound, Pending, Front, IsCurrent, AllEndings, InPhase, Holds}
+use Rattle.lis_world.proofs.Invariant.{IsSound, Pending, Front, KeepsFrames, IsCurrent, AllEndings, InPhase, Holds}
 use Rattle.lis_world.proofs.Base.{Base, holds_of, CanFollow, base_placed, base_followed, current_followed, sound_followed}
 
 pub in_phase : (p q : Phase) (w : World) → q ≡ p → InPhase p w → InPhase q w
@@ -130,6 +130,8 @@ frame_sent_holds limit sender w before f left base can_send =
     let x : Session = session_at c ss in
     let y : Session = follows sender x in
     let base1 = base_followed limit sender w can_send.can base in
+    let kept : sender.frames ≡ session_frames limit x.texts =
+    subst (λ p. KeepsFrames p sender.frames (session_frames limit x.texts)) can_send.awaits can_send.can.frames_are in
     let within1 : c < length ss1 = subst (λ n. c < n) (sym (length-changed c (follows sender) ss)) can_send.within in
     let within2 : c < length ss2 = subst (λ n. c < n) (sym (length-changed c (sends_frame f) ss1)) within1 in
     let at1 : session_at c ss1 ≡ y = at-changed_same c (follows sender) ss can_send.within in
@@ -137,7 +139,7 @@ frame_sent_holds limit sender w before f left base can_send =
     let sent2 : (sends_frame f y).sent ≡ before ++ f ∷ [] = sent_then f before y can_send.acknowledged_is can_send.sent_is in
     let sound2 : IsSound limit (sends_frame f y) =
     sound_sent limit f before left y (sound_followed limit sender x can_send.can (base.sound c))
-    (sym can_send.can.frames_are ∙ can_send.frames_are) sent2 can_send.accepted_is in
+    (sym kept ∙ can_send.frames_are) sent2 can_send.accepted_is in
     let accepted2 : (k : ℕ) → (session_at k ss2).accepted ≡ (session_at k ss).accepted = λ k.
     kept-changed (λ (z : Session). z.accepted) c (sends_frame f) ss1 (λ z. refl) k
     ∙ kept-changed (λ (z : Session). z.accepted) c (follows sender) ss (λ z. refl) k in

@@ -2,17 +2,18 @@
 use Rattle.std.proofs.Common.{◌≡◌, ℕ, ◌<◌, ◌⊎◌, inl, inr, Bool, true, false, List, [], ◌∷◌, ◌++◌, length, drop, Some, refl, sym, ap, ◌∙◌, subst, arith}
 use Rattle.std.proofs.lemmas.List.{drop_all}
 use Rattle.lis_frame.specs.Frame.{FrameContent}
+use Rattle.lis_frame.specs.Pieces.{session_frames}
 use Rattle.lis_link.specs.declared.sender.Phase.{Phase}
 use Rattle.lis_link.specs.declared.sender.Phase.TheVariants.{Neutral, AwaitLine, Busy, Contention, AwaitReply}
 use Rattle.lis_link.specs.declared.sender.Outcome.{Outcome}
 use Rattle.lis_link.specs.declared.sender.Outcome.TheVariants.{Done, TimedOut, Restarted}
-use Rattle.lis_link.specs.Sender.{SenderState, timer_in, restart_in}
+use Rattle.lis_link.specs.Sender.{SenderState, over, timer_in, restart_in}
 use Rattle.lis_link.specs.Receiver.{ReceiverState, timer_by, on_receiver_timer}
 use Rattle.lis_world.specs.Unit.{Load, enquiry, ending, one_frame, Travelling}
 use Rattle.lis_world.specs.Session.{Session, session_at, changed, follows}
 use Rattle.lis_world.specs.World.{World}
 use Rattle.lis_world.specs.Steps.{placed, with_sender, sender_steps, forgotten, given_up}
-use Rattle.lis_world.proofs.Invariant.{Pending, Unsent, Leads, Front, AllEndings, Bids, BidAnswer, IsWaiting, InPhase, Holds}
+use Rattle.lis_world.proofs.Invariant.{Pending, Unsent, Leads, Front, AllEndings, Bids, BidAnswer, IsWaiting, KeepsFrames, InPhase, Holds}
 use Rattle.lis_world.proofs.Base.{base_of, holds_of, CanFollow, base_forgotten, base_placed, base_followed, current_followed, unsent_same, are_same_followed, with_sender_same}
 use Rattle.lis_world.proofs.Sending.{zero_mute, ended_holds, ended_with_ending}
 use Rattle.lis_world.proofs.Replies.{can_follow}
@@ -25,31 +26,32 @@ can_stop :
     (limit : ℕ) (w : World) (outcome : Outcome)
     → Holds limit w
     → (Some outcome ≡ Some Done → ⊥)
-    → CanFollow limit (record w.sender { phase = Neutral; outcome = Some outcome }) (session_at w.current w.sessions)
+    → CanFollow limit (over outcome w.sender) (session_at w.current w.sessions)
 can_stop limit w outcome h other =
     let can = can_follow limit w h in
     record {
-      frames_are = can.frames_are;
+      frames_are = tt;
       acknowledged_of_accepted = can.acknowledged_of_accepted;
       done_acknowledged = λ done. absurd (other done);
     }
 
 timed_out : (limit : ℕ) (w : World) → Holds limit w → w.current < length w.sessions → Holds limit (sender_steps {limit = limit} (timer_in AwaitLine w.sender) (forgotten w))
 timed_out limit w h within =
-    ended_with_ending limit (record w.sender { phase = Neutral; outcome = Some TimedOut }) (forgotten w)
+    ended_with_ending limit (over TimedOut w.sender) (forgotten w)
     (base_forgotten limit w (base_of limit w h)) within (can_stop limit w TimedOut h (λ e. cc)) refl refl (all_muted w.units)
 
 -- the sender asks for the line once more
 asks_again :
     (limit : ℕ) (w : World)
     → Holds limit w
+    → w.sender.frames ≡ session_frames limit (session_at w.current w.sessions).texts
     → IsWaiting w
     → Holds limit (sender_steps {limit = limit} (timer_in Busy w.sender) w)
-asks_again limit w h waiting =
+asks_again limit w h kept waiting =
     let can = can_follow limit w h in
     let sender : SenderState = record w.sender { phase = AwaitLine } in
     let now : CanFollow limit sender (session_at w.current w.sessions) = record {
-      frames_are = can.frames_are;
+      frames_are = kept;
       acknowledged_of_accepted = can.acknowledged_of_accepted;
       done_acknowledged = can.done_acknowledged;
     } in
@@ -71,25 +73,26 @@ asks_again limit w h waiting =
 sender_timer_phase :
     (limit : ℕ) (w : World) (p : Phase)
     → Holds limit w
+    → KeepsFrames p w.sender.frames (session_frames limit (session_at w.current w.sessions).texts)
     → InPhase p w
     → Holds limit (sender_steps {limit = limit} (timer_in p w.sender) (given_up p w))
-sender_timer_phase limit w Neutral h resting = subst (Holds limit) (sym (with_sender_same limit w h.current)) h
-sender_timer_phase limit w AwaitLine h bidding = timed_out limit w h bidding.unsent.0
-sender_timer_phase limit w Busy h waiting = asks_again limit w h waiting
-sender_timer_phase limit w Contention h waiting = asks_again limit w h waiting
-sender_timer_phase limit w AwaitReply h awaiting = timed_out limit w h awaiting.pending.is_session
+sender_timer_phase limit w Neutral h kept resting = subst (Holds limit) (sym (with_sender_same limit w h.current)) h
+sender_timer_phase limit w AwaitLine h kept bidding = timed_out limit w h bidding.unsent.0
+sender_timer_phase limit w Busy h kept waiting = asks_again limit w h kept waiting
+sender_timer_phase limit w Contention h kept waiting = asks_again limit w h kept waiting
+sender_timer_phase limit w AwaitReply h kept awaiting = timed_out limit w h awaiting.pending.is_session
 
 pub sender_timer_holds :
     (limit : ℕ) (w : World) → Holds limit w → Holds limit (sender_steps {limit = limit} (timer_in w.sender.phase w.sender) (given_up w.sender.phase w))
-sender_timer_holds limit w h = sender_timer_phase limit w w.sender.phase h h.phase
+sender_timer_holds limit w h = sender_timer_phase limit w w.sender.phase h h.current.frames_are h.phase
 
 restarted_in :
     (limit : ℕ) (w : World)
     → Holds limit w
     → w.current < length w.sessions
-    → Holds limit (with_sender (record w.sender { phase = Neutral; outcome = Some Restarted }) (forgotten w))
+    → Holds limit (with_sender (over Restarted w.sender) (forgotten w))
 restarted_in limit w h within =
-    ended_holds limit (record w.sender { phase = Neutral; outcome = Some Restarted }) (forgotten w)
+    ended_holds limit (over Restarted w.sender) (forgotten w)
     (base_forgotten limit w (base_of limit w h)) within (can_stop limit w Restarted h (λ e. cc)) refl refl (all_muted w.units)
 
 restart_phase :
