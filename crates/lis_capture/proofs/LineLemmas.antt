@@ -1,7 +1,7 @@
 -- The CR at the end of a line.
 use Rattle.std.proofs.Common.{◌≡◌, ℕ, ◌≤◌, ◌==◌, Bool, true, false, List, [], ◌∷◌, ◌++◌, length, refl, ap, arith}
 use Rattle.std.proofs.Common.{if◌then◌else◌}
-use Rattle.lis_frame.specs.declared.control.TheConstants.{CR}
+use Rattle.lis_text.specs.Control.{CR}
 use Rattle.lis_capture.specs.Line.{without_return}
 
 pub return_dropped : (front : List ℕ) (last : ℕ) → (last == CR) ≡ true → without_return (front ++ last ∷ []) ≡ front

@@ -4,7 +4,7 @@ use Rattle.std.proofs.Common.{◌≡◌, ℕ, ◌+◌, Bool, true, false, List, 
 use Rattle.std.proofs.Common.{unwrap_or, length, slice_index, take, refl, sym, ◌∙◌, ap, subst, arith, if◌then◌else◌}
 use Rattle.std.proofs.lemmas.Bool.{eqb-true}
 use Rattle.std.proofs.lemmas.List.{take_all, take_more}
-use Rattle.lis_frame.specs.declared.control.TheConstants.{LF}
+use Rattle.lis_text.specs.Control.{LF}
 use Rattle.lis_frame.specs.Stream.{stream_with}
 use Rattle.memchr.specs.Find.{IsFirstByte, is_byte}
 use Rattle.lis_capture.specs.declared.line.CaptureVersion.{CaptureVersion}

@@ -14,7 +14,7 @@ use Rattle.hex.specs.declared.error.FromHexError.{FromHexError}
 use Rattle.std.specs.declared.result.Result.{Result}
 use Rattle.std.specs.declared.result.Result.TheVariants.{Ok, Err}
 use Rattle.hex.proofs.HexLemmas.{decode_of-encode_lower, decode_of-ok, length-encode_with}
-use Rattle.lis_frame.specs.declared.control.TheConstants.{CR, LF}
+use Rattle.lis_text.specs.Control.{CR, LF}
 use Rattle.lis_frame.specs.Stream.{stream_with}
 use Rattle.lis_link.specs.declared.receiver.Readiness.TheVariants.{Ready, Busy, Contending}
 use Rattle.lis_capture.specs.declared.line.CaptureVersion.{CaptureVersion}

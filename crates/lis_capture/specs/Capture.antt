@@ -1,7 +1,7 @@
 -- A capture: what a stream of bytes says line by line. Bytes and lines are kept newest first.
 use Rattle.std.specs.Prelude.{ℕ, ◌+◌, ◌==◌, nat_lt, not, Bool, true, false, List, [], ◌∷◌, ◌++◌, length, Option, None}
 use Rattle.std.specs.Prelude.{Some, if◌then◌else◌}
-use Rattle.lis_frame.specs.declared.control.TheConstants.{LF}
+use Rattle.lis_text.specs.Control.{LF}
 use Rattle.lis_capture.specs.declared.line.CaptureVersion.{CaptureVersion}
 use Rattle.lis_capture.specs.declared.line.CaptureVersion.TheVariants.{Untold}
 use Rattle.lis_capture.specs.declared.line.Line.{Line}

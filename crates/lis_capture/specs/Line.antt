@@ -2,7 +2,7 @@
 use Rattle.std.specs.Prelude.{ℕ, ◌==◌, nat_lt, List, [], ◌∷◌, length, codes, Option, None, Some, if◌then◌else◌}
 use Rattle.std.specs.Option.{option_or}
 use Rattle.std.specs.Str.{bytes_eq}
-use Rattle.lis_frame.specs.declared.control.TheConstants.{CR}
+use Rattle.lis_text.specs.Control.{CR}
 use Rattle.lis_link.specs.declared.receiver.Readiness.TheVariants.{Ready, Busy, Contending}
 use Rattle.lis_capture.specs.declared.line.CaptureVersion.{CaptureVersion}
 use Rattle.lis_capture.specs.declared.line.CaptureVersion.TheVariants.{Untold, First, Second}

@@ -1,7 +1,7 @@
 -- How lines are written: in version 2, with digits in lower case, without CR, and an LF behind each.
 use Rattle.std.specs.Prelude.{ℕ, List, [], ◌∷◌, ◌++◌, codes}
 use Rattle.hex.specs.Hex.{encode_lower}
-use Rattle.lis_frame.specs.declared.control.TheConstants.{LF}
+use Rattle.lis_text.specs.Control.{LF}
 use Rattle.lis_link.specs.declared.receiver.Readiness.{Readiness}
 use Rattle.lis_link.specs.declared.receiver.Readiness.TheVariants.{Ready, Busy, Contending}
 use Rattle.lis_capture.specs.declared.line.Line.{Line}

@@ -8,8 +8,8 @@ ghost use Rattle.lis_capture.specs.Line.{added_line, line_of, plain_line, said, 
 ghost use Rattle.lis_capture.specs.Told.{line_with};
 
 use crate::digits::{are_pairs, decode};
-use lis_frame::control::CR;
 use lis_link::Readiness;
+use lis_text::CR;
 use std::marker::Model;
 
 /// The most bytes of a line before its LF.

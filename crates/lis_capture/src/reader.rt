@@ -9,7 +9,7 @@ ghost use Rattle.lis_capture.specs.Reader.{known_of, known_with};
 
 use crate::line::{CaptureVersion, LONGEST_LINE, Line, Told, version_after};
 use arrayvec::ArrayVec;
-use lis_frame::control::LF;
+use lis_text::LF;
 use memchr::memchr;
 use std::marker::Model;
 

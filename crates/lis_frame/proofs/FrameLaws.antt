@@ -5,9 +5,9 @@ use Rattle.std.specs.Prelude.{◌==◌, ◌&&◌, ◌||◌, nat_lt, nat_le}
 use Rattle.std.specs.List.{sum}
 use Rattle.std.specs.declared.result.Result.{Result}
 use Rattle.std.proofs.lemmas.Bool.Decides.{nat_tests}
-use Rattle.lis_frame.specs.declared.control.TheConstants.{STX, ETX, ETB, CR, LF}
+use Rattle.lis_text.specs.Control.{STX, ETX, ETB, CR, LF}
 use Rattle.lis_frame.specs.declared.frame.FrameFault.{FrameFault}
-use Rattle.lis_frame.specs.Text.{first_forbidden}
+use Rattle.lis_text.specs.Text.{first_forbidden}
 use Rattle.lis_frame.specs.Frame.{FrameContent, IsContent, IsDigits, IsFrame, number_byte, end_byte, checksum, digit_value, upper_digit, frame_bytes}
 use Rattle.lis_frame.specs.Stretch.{stretch_of, text_of, end_of, content_of, has_shape, digits_value, is_number_byte, pair_value, is_value, first_fault, stretch_fault}
 use Rattle.lis_frame.proofs.StretchLemmas.{stretch_fault-stretch_of, content_of-stretch_of, stretch_parts, number_byte-back, end_byte-back}

@@ -1,7 +1,7 @@
 -- A frame at the front of bytes, whatever follows it.
 use Rattle.std.proofs.Common.{◌≡◌, ℕ, suc, ◌+◌, ◌≤◌, List, [], ◌∷◌, ◌++◌, None, length, take, drop, get_or, refl, ap, sym, ◌∙◌, arith, append_assoc, length-take, take-append-drop}
 use Rattle.std.proofs.Math.Seq.{take-append-add}
-use Rattle.lis_frame.specs.declared.control.TheConstants.{STX, LF}
+use Rattle.lis_text.specs.Control.{STX, LF}
 use Rattle.lis_frame.specs.Frame.{FrameContent, IsFrame}
 use Rattle.lis_frame.specs.Stretch.{stretch_of, content_of, stretch_fault}
 use Rattle.lis_frame.proofs.FrameLaws.{found}

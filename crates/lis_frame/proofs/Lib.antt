@@ -1,8 +1,8 @@
-pub mod ChunkLemmas
 mod DefinitionRows
 pub mod FrameLaws
 pub mod FrontLemmas
 pub mod KeptLemmas
+pub mod MarkLemmas
 pub mod PieceLaws
 pub mod ScannerLemmas
 pub mod StreamLaws

@@ -1,64 +1,12 @@
 -- The pieces of a text, one by one.
-use Rattle.std.proofs.Common.{◌≡◌, ℕ, zero, suc, ◌+◌, ◌-◌, ◌*◌, ◌/◌, ◌%◌, ◌≤◌, ◌<◌, ◌⊎◌, inl, inr, Bool, true, false, List, [], ◌∷◌, ◌++◌, Option, None, Some, length, take, drop, cond, refl, ap, sym, ◌∙◌, arith, length-drop, length-take, take_all, append_assoc, add-one, zero-add}
-use Rattle.std.specs.Prelude.{nat_lt, nat_le, slice_get}
-use Rattle.std.specs.List.{position_from}
-use Rattle.std.specs.Option.{option_map}
+use Rattle.std.proofs.Common.{◌≡◌, ℕ, zero, suc, ◌+◌, ◌-◌, ◌*◌, ◌/◌, ◌%◌, ◌≤◌, ◌<◌, ◌⊎◌, inl, inr, true, false, List, [], ◌∷◌, ◌++◌, None, Some, length, take, drop, refl, ap, sym, ◌∙◌, arith, length-drop, length-take, take_all, append_assoc, add-one, zero-add}
+use Rattle.std.specs.Prelude.{nat_le, slice_get}
 use Rattle.std.proofs.lemmas.Bool.Decides.{nat_tests}
 use Rattle.std.proofs.Math.Nat.{div-lt_iff_lt-mul, le-div_iff_mul-le, add-div_right, div-eq_of_lt, mod-add-div'}
-use Rattle.lis_frame.specs.declared.text.TextFault.TheVariants.{TooLong, Forbidden}
-use Rattle.lis_frame.specs.Text.{is_forbidden, first_forbidden, text_fault, IsText}
+use Rattle.lis_text.specs.Text.{IsText, text_fault}
+use Rattle.lis_text.proofs.TextLemmas.{none-drop, none-take, text_fault-none}
 use Rattle.lis_frame.specs.Frame.{FrameContent}
 use Rattle.lis_frame.specs.Pieces.{pieces, pieces_from, next_number, text_frames}
-
--- a part of a text without a forbidden byte has none
-none_from : (i j : ℕ) (text : List ℕ) → position_from is_forbidden i text ≡ None → position_from is_forbidden j text ≡ None
-none_from i j [] none = refl
-none_from i j (b ∷ text) none = by (is_forbidden b) none (none_from (i + 1) (j + 1) text)
-  where
-    by :
-        (test : Bool) → cond test (Some i) (position_from is_forbidden (i + 1) text) ≡ None →
-        (position_from is_forbidden (i + 1) text ≡ None → position_from is_forbidden (j + 1) text ≡ None) →
-        cond test (Some j) (position_from is_forbidden (j + 1) text) ≡ None
-    by true none later = cc
-    by false none later = later none
-
-none-drop : (n i : ℕ) (text : List ℕ) → position_from is_forbidden i text ≡ None → position_from is_forbidden i (drop n text) ≡ None
-none-drop zero i text none = none
-none-drop (suc n) i [] none = refl
-none-drop (suc n) i (b ∷ text) none = by (is_forbidden b) none (λ later. none-drop n i text (none_from (i + 1) i text later))
-  where
-    by :
-        (test : Bool) → cond test (Some i) (position_from is_forbidden (i + 1) text) ≡ None →
-        (position_from is_forbidden (i + 1) text ≡ None → position_from is_forbidden i (drop n text) ≡ None) →
-        position_from is_forbidden i (drop n text) ≡ None
-    by true none later = cc
-    by false none later = later none
-
-none-take : (n i : ℕ) (text : List ℕ) → position_from is_forbidden i text ≡ None → position_from is_forbidden i (take n text) ≡ None
-none-take zero i text none = refl
-none-take (suc n) i [] none = refl
-none-take (suc n) i (b ∷ text) none = by (is_forbidden b) none (none-take n (i + 1) text)
-  where
-    by :
-        (test : Bool) → cond test (Some i) (position_from is_forbidden (i + 1) text) ≡ None →
-        (position_from is_forbidden (i + 1) text ≡ None → position_from is_forbidden (i + 1) (take n text) ≡ None) →
-        cond test (Some i) (position_from is_forbidden (i + 1) (take n text)) ≡ None
-    by true none later = cc
-    by false none later = later none
-
--- what a text without fault is
-pub text_fault-none : (limit : ℕ) (text : List ℕ) → text_fault limit text ≡ None → IsText limit text
-text_fault-none limit text none = by (nat_lt limit (length text)) refl none
-  where
-    by :
-        (test : Bool) → nat_lt limit (length text) ≡ test →
-        cond test (Some TooLong) (option_map Forbidden (first_forbidden text)) ≡ None → IsText limit text
-    by true e none = cc
-    by false e none = record { short = grind (arith, nat_tests); clean = clean_by (first_forbidden text) none }
-      where
-        clean_by : (o : Option ℕ) → option_map Forbidden o ≡ None → o ≡ None
-        clean_by None none = refl
-        clean_by (Some place) none = cc
 
 -- any part of it that is short enough is a frame's text
 pub IsText-piece :

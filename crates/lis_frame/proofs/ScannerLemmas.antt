@@ -3,7 +3,7 @@ use Rattle.std.proofs.Common.{◌≡◌, ℕ, ◌+◌, ◌<◌, Bool, true, fals
 use Rattle.std.specs.Prelude.{nat_lt, ◌==◌, ◌||◌, if◌then◌else◌}
 use Rattle.std.specs.Option.{option_map}
 use Rattle.std.proofs.lemmas.Bool.Decides.{nat_tests}
-use Rattle.lis_frame.specs.declared.control.TheConstants.{STX, EOT, ENQ, LF}
+use Rattle.lis_text.specs.Control.{STX, EOT, ENQ, LF}
 use Rattle.lis_frame.specs.declared.scanner.SignalOf.{SignalOf}
 use Rattle.lis_frame.specs.declared.scanner.SignalOf.TheVariants.{Enq, Eot}
 use Rattle.lis_frame.specs.Stream.{look_back, open_stretch, signal_after, ended_stretch, read_stretch}

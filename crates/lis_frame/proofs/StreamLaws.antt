@@ -3,10 +3,10 @@ use Rattle.std.proofs.Common.{suc, take, ◌≡◌, ℕ, ◌+◌, ◌/◌, ◌%�
 use Rattle.std.specs.Prelude.{not, nat_le, ◌==◌, ◌||◌}
 use Rattle.std.specs.List.{position_from}
 use Rattle.std.proofs.lemmas.Bool.Decides.{nat_tests}
-use Rattle.lis_frame.specs.declared.control.TheConstants.{STX, EOT, ENQ, CR, LF}
+use Rattle.lis_text.specs.Control.{STX, EOT, ENQ, CR, LF}
 use Rattle.lis_frame.specs.declared.scanner.SignalOf.{SignalOf}
 use Rattle.lis_frame.specs.declared.scanner.SignalOf.TheVariants.{Good}
-use Rattle.lis_frame.specs.Text.{is_forbidden, first_forbidden}
+use Rattle.lis_text.specs.Text.{is_forbidden, first_forbidden}
 use Rattle.lis_frame.specs.Scanner.{Held, held_after, outside, quiet_length, unmarked_length, with_byte, with_bytes, StandsFor}
 use Rattle.lis_frame.specs.Frame.{FrameContent, IsContent, IsFrame, number_byte, end_byte, checksum, digit_value, upper_digit, frame_bytes}
 use Rattle.lis_frame.specs.Stretch.{stretch_of}

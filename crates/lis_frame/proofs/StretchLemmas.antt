@@ -5,10 +5,10 @@ use Rattle.std.proofs.Math.Seq.{take-append_seam}
 use Rattle.std.specs.Prelude.{◌==◌, ◌&&◌, ◌||◌, nat_lt, nat_le, slice_index}
 use Rattle.std.proofs.lemmas.Bool.Decides.{nat_tests}
 use Rattle.std.specs.List.{sum}
-use Rattle.lis_frame.specs.declared.control.TheConstants.{ETX, ETB, CR}
+use Rattle.lis_text.specs.Control.{ETX, ETB, CR}
 use Rattle.lis_frame.specs.declared.frame.FrameFault.TheVariants.{TooLong, Shape}
 use Rattle.lis_frame.specs.Frame.{number_byte, end_byte, digit_value}
-use Rattle.lis_frame.specs.Text.{first_forbidden}
+use Rattle.lis_text.specs.Text.{first_forbidden}
 use Rattle.lis_frame.specs.Stretch.{stretch_of, text_of, end_of, content_of, digits_value, is_number_byte, pair_value, is_value, first_fault, stretch_fault}
 
 -- the sum is asked for only in a stretch of the right shape with a number

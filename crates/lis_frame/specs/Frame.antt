@@ -1,7 +1,7 @@
 -- A frame: its parts, its checksum and its spelling (LIS01-A2, 6.3).
 use Rattle.std.specs.Prelude.{◌≡◌, ℕ, ◌+◌, ◌*◌, ◌-◌, ◌/◌, ◌%◌, ◌≤◌, Bool, List, [], ◌∷◌, ◌++◌, Option, None, Some, if◌then◌else◌, nat_lt, nat_le, ◌&&◌, sum}
-use Rattle.lis_frame.specs.declared.control.TheConstants.{STX, ETX, ETB, CR, LF}
-use Rattle.lis_frame.specs.Text.{IsText}
+use Rattle.lis_text.specs.Control.{STX, ETX, ETB, CR, LF}
+use Rattle.lis_text.specs.Text.{IsText}
 
 -- the parts that a frame carries: its number, whether it is the last of its message, and its text
 pub record FrameContent : Type 0 where

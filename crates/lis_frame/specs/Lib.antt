@@ -1,6 +1,5 @@
 -- What a frame, a stream of link bytes and the frames of a text are, in the terms of LIS01-A2.
 pub mod Limit
-pub mod Text
 pub mod Frame
 pub mod Stretch
 pub mod Stream
@@ -8,4 +7,3 @@ pub mod Scanner
 pub mod Kept
 pub mod Pieces
 pub mod Laws
-pub mod Texts

@@ -1,6 +1,6 @@
 -- The signals of a stream of link bytes (LIS01-A2, 6.2 to 6.5). A stream is kept newest byte first.
 use Rattle.std.specs.Prelude.{ℕ, Bool, List, [], ◌∷◌, Option, None, Some, if◌then◌else◌, ◌==◌, ◌||◌}
-use Rattle.lis_frame.specs.declared.control.TheConstants.{STX, EOT, ENQ, LF}
+use Rattle.lis_text.specs.Control.{STX, EOT, ENQ, LF}
 use Rattle.lis_frame.specs.declared.frame.FrameFault.{FrameFault}
 use Rattle.lis_frame.specs.declared.scanner.SignalOf.{SignalOf}
 use Rattle.lis_frame.specs.declared.scanner.SignalOf.TheVariants.{Enq, Eot, Good, Bad}

@@ -1,9 +1,9 @@
 -- Reading the bytes between an STX and the next LF: their parts by places, and what is wrong with them first.
 use Rattle.std.specs.Prelude.{ℕ, ◌+◌, ◌-◌, ◌*◌, Bool, true, false, List, [], ◌∷◌, ◌++◌, Option, None, Some, length, drop, take, slice_index, nat_lt, nat_le, ◌==◌, ◌&&◌, ◌||◌}
-use Rattle.lis_frame.specs.declared.control.TheConstants.{ETX, ETB, CR}
+use Rattle.lis_text.specs.Control.{ETX, ETB, CR}
 use Rattle.lis_frame.specs.declared.frame.FrameFault.{FrameFault}
 use Rattle.lis_frame.specs.declared.frame.FrameFault.TheVariants.{TooLong, Shape, Number, Text, Sum}
-use Rattle.lis_frame.specs.Text.{first_forbidden}
+use Rattle.lis_text.specs.Text.{first_forbidden}
 use Rattle.lis_frame.specs.Frame.{FrameContent, digit_value, checksum}
 
 -- the places of a stretch's parts: the number first; then the text; end byte, two digits and CR last

@@ -4,13 +4,12 @@ ghost use Rattle.std.specs.Prelude.{◌≡◌, ◌+◌, ◌-◌, ◌%◌, ◌≤
 ghost use Rattle.std.specs.List.{sum};
 ghost use Rattle.lis_frame.specs.Limit.{IsLimit};
 ghost use Rattle.lis_frame.specs.Frame.{FrameContent, IsContent, IsFrame, digit_value};
-ghost use Rattle.lis_frame.specs.Text.{first_forbidden};
+ghost use Rattle.lis_text.specs.Text.{first_forbidden};
 ghost use Rattle.lis_frame.specs.Stretch.{stretch_of, stretch_fault, content_of, first_fault, is_number_byte, is_value, pair_value};
 
-use crate::control::{CR, ETB, ETX, LF, STX};
 use crate::frame::{Frame, FrameFault, FrameOf};
 use crate::lent::LentFrame;
-use crate::text::first_forbidden;
+use lis_text::{CR, ETB, ETX, LF, STX, first_forbidden};
 
 /// The bytes of a stretch that aren't its text: number, end byte, two digits, CR (LIS01-A2, 6.3.1).
 pub(crate) const FRAMING: usize = 5;

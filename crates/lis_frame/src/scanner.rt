@@ -6,12 +6,11 @@ ghost use Rattle.lis_frame.specs.Limit.{IsLimit};
 ghost use Rattle.lis_frame.specs.Stream.{is_mark, signal_after, signals_after, stream_with};
 ghost use Rattle.lis_frame.specs.Scanner.{IsHeardWithin, StandsFor, held_signal, held_after, heard_signal, lent_signals, quiet_length, unmarked_length, with_bytes};
 
-use crate::control::{ENQ, EOT, LF, STX};
 use crate::frame::{FrameFault, FrameOf};
 use crate::lent::LentFrame;
 use crate::read::front_frame;
-use crate::search::{ByteSet, first_in};
 use crate::stretch::StretchOf;
+use lis_text::{ByteSet, ENQ, EOT, LF, STX, first_in};
 use std::marker::Model;
 use std::simd::prelude::*;
 

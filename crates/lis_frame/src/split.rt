@@ -2,13 +2,13 @@
 
 ghost use Rattle.std.specs.Prelude.{◌≡◌, ◌+◌, ◌%◌, ◌/◌, ◌≤◌, ◌<◌, ◌⊎◌, nat_le, None, Some, IfOk, length, take, drop, slice_get};
 ghost use Rattle.lis_frame.specs.Limit.{IsLimit};
-ghost use Rattle.lis_frame.specs.Text.{text_fault, longest_text};
+ghost use Rattle.lis_text.specs.LinkText.{longest_text};
+ghost use Rattle.lis_text.specs.Text.{text_fault};
 ghost use Rattle.lis_frame.specs.Pieces.{pieces, text_frames};
 
 use crate::frame::{Frame, FrameOf};
-use crate::link_text::LinkText;
-use crate::list::List;
 use crate::text::TextOf;
+use lis_text::{LinkText, List};
 use std::alloc::{AllocError, Global};
 
 /// The frames of a text, or of several.

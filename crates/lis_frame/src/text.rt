@@ -1,23 +1,13 @@
 //! The text of a frame.
 
-ghost use Rattle.std.specs.Prelude.{◌≡◌, ◌+◌, ◌≤◌, ◌++◌, None, Some, ◌<◌, IfSome, MatchResult, length, map, take};
+ghost use Rattle.std.specs.Prelude.{◌≡◌, ◌+◌, ◌≤◌, ◌++◌, None, Some, MatchResult, length};
 ghost use Rattle.arrayvec.specs.ArrayVec.{array_vec_len};
 ghost use Rattle.lis_frame.specs.Limit.{IsLimit};
-ghost use Rattle.lis_frame.specs.Text.{IsText, first_forbidden, is_forbidden, text_fault};
+ghost use Rattle.lis_text.specs.Text.{IsText, text_fault};
 
-use crate::search::{ByteSet, first_in};
 use arrayvec::ArrayVec;
+use lis_text::{TextFault, check_bytes};
 use std::marker::Model;
-use std::simd::prelude::*;
-
-/// Why bytes are no text of a frame or of a link text.
-#[derive(Debug, Clone, Copy, PartialEq, Eq)]
-pub enum TextFault {
-    /// There are more bytes than the limit allows.
-    TooLong,
-    /// The byte at this place, from 0, is the first that a text may not hold.
-    Forbidden(usize),
-}
 
 /// The text of one frame: at most `N` bytes, none of them forbidden (LIS01-A2, 6.3 and 6.5).
 #[derive(Drop)]
@@ -28,7 +18,7 @@ pub struct TextOf<const N: usize> {
 impl<const N: usize> Model for TextOf<N> {
     ghost use Rattle.std.specs.Prelude.{ℕ, List};
     ghost use Rattle.lis_frame.specs.Limit.{IsLimit};
-    ghost use Rattle.lis_frame.specs.Text.{IsText};
+    ghost use Rattle.lis_text.specs.Text.{IsText};
 
     ghost Value = { List ℕ };
 
@@ -47,7 +37,7 @@ impl<const N: usize> TextOf<N> {
         ensures { MatchResult result (λ text. (text ≡ bytes.now) × (text_fault N bytes.now ≡ None))
             (λ fault. text_fault N bytes.now ≡ Some fault) }
     {
-        examine(bytes, N)?;
+        check_bytes(bytes, N)?;
         Ok(TextOf::copied(bytes))
     }
 
@@ -76,51 +66,6 @@ impl<const N: usize> TextOf<N> {
         ensures text { IsText N result.now }
     {
         self.bytes.as_slice()
-    }
-}
-
-/// The bytes that no text may hold: SOH to ACK, LF, and DLE to ETB.
-struct ForbiddenBytes;
-
-impl ByteSet for ForbiddenBytes {
-    ghost member = { is_forbidden };
-
-    fn has(byte: u8) -> bool {
-        matches!(byte, 1..=6 | 10 | 16..=23)
-    }
-
-    #[inline(always)]
-    fn bits(bytes: &[u8]) -> u64 {
-        let sixteen = u8x16::from_slice(bytes);
-        // No byte over 23 is forbidden, and few of a text are under it.
-        if sixteen.simd_le(u8x16::splat(23)).to_bitmask() == 0 {
-            return 0;
-        }
-        let low = sixteen.simd_ge(u8x16::splat(1)) & sixteen.simd_le(u8x16::splat(6));
-        let line_feed = sixteen.simd_eq(u8x16::splat(10));
-        let high = sixteen.simd_ge(u8x16::splat(16)) & sixteen.simd_le(u8x16::splat(23));
-        (low | line_feed | high).to_bitmask()
-    }
-}
-
-/// The place of the first forbidden byte, from 0.
-pub(crate) fn first_forbidden(bytes: &[u8]) -> Option<usize>
-    ensures { result ≡ first_forbidden bytes.now }
-{
-    first_in::<ForbiddenBytes>(bytes)
-}
-
-/// Whether bytes are a text of at most `limit` bytes; if not, why.
-pub(crate) fn examine(bytes: &[u8], limit: usize) -> Result<(), TextFault>
-    ensures { MatchResult result (λ _. text_fault limit bytes.now ≡ None)
-        (λ fault. text_fault limit bytes.now ≡ Some fault) }
-{
-    if bytes.len() > limit {
-        return Err(TextFault::TooLong);
-    }
-    match first_forbidden(bytes) {
-        None => Ok(()),
-        Some(place) => Err(TextFault::Forbidden(place)),
     }
 }
 

@@ -3,11 +3,11 @@
 ghost use Rattle.std.specs.Prelude.{◌≡◌, ◌+◌, ◌≤◌, ◌<◌};
 ghost use Rattle.lis_frame.specs.Frame.{checksum, end_byte, frame_bytes, upper_digit};
 
-use crate::control::{CR, ETB, ETX, LF, STX};
 use crate::frame::{Frame, FrameOf};
 use crate::read::total_of;
 use crate::text::append;
 use arrayvec::ArrayVec;
+use lis_text::{CR, ETB, ETX, LF, STX};
 
 /// The bytes of a frame: STX, number, text, ETX or ETB, the checksum in two upper-case digits, CR
 /// and LF. `B` has room for the longest frame.

@@ -3,13 +3,13 @@ use Rattle.std.proofs.Common.{◌≡◌, ◌≢◌, ℕ, suc, ◌+◌, ◌%◌, 
 use Rattle.std.proofs.lemmas.List.{length-take-le}
 use Rattle.std.specs.Prelude.{nat_lt, nat_le, ◌==◌, ◌&&◌, not, if◌then◌else◌}
 use Rattle.std.proofs.lemmas.Bool.Decides.{nat_tests}
-use Rattle.lis_frame.specs.declared.control.TheConstants.{STX, CR, LF, ENQ, EOT}
+use Rattle.lis_text.specs.Control.{STX, CR, LF, ENQ, EOT}
 use Rattle.lis_frame.specs.declared.scanner.SignalOf.{SignalOf}
 use Rattle.lis_frame.specs.declared.scanner.SignalOf.TheVariants.{Enq, Eot, Good, Bad}
 use Rattle.lis_frame.specs.Frame.{FrameContent, IsFrame, number_byte, end_byte, digit_value}
 use Rattle.lis_frame.specs.Scanner.{Held, StandsFor, held_of}
 use Rattle.lis_frame.specs.Stream.{open_stretch, signal_after, signals_after, with_signal, stream_with}
-use Rattle.lis_frame.specs.Text.{longest_text}
+use Rattle.lis_text.specs.LinkText.{longest_text}
 use Rattle.lis_frame.proofs.StreamLaws.{signals_after-append, clean_run}
 use Rattle.lis_link.specs.declared.receiver.Hearing.{Hearing}
 use Rattle.lis_link.specs.declared.receiver.Note.{Note}

@@ -2,9 +2,10 @@
 use Rattle.std.proofs.Common.{◌≡◌, ℕ, ◌+◌, List, [], ◌∷◌, Option, None, Some, refl}
 use Rattle.std.specs.Prelude.{All}
 use Rattle.std.proofs.lemmas.List.Elements.{All-nil, All-cons, All-weaker}
-use Rattle.lis_frame.specs.declared.text.TextFault.{TextFault}
-use Rattle.lis_frame.specs.Text.{IsText, longest_text, text_fault}
-use Rattle.lis_frame.proofs.PieceLaws.{text_fault-none}
+use Rattle.lis_text.specs.declared.text.TextFault.{TextFault}
+use Rattle.lis_text.specs.LinkText.{longest_text}
+use Rattle.lis_text.specs.Text.{IsText, text_fault}
+use Rattle.lis_text.proofs.TextLemmas.{text_fault-none}
 use Rattle.lis_link.specs.declared.sender.Phase.{Phase}
 use Rattle.lis_link.specs.declared.sender.Phase.TheVariants.{Neutral, AwaitLine, Busy, Contention, AwaitReply}
 use Rattle.lis_link.specs.Sender.{bad_text_or, bad_text, start_fault_in}

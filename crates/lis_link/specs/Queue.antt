@@ -2,7 +2,8 @@
 use Rattle.std.specs.Prelude.{◌≡◌, ℕ, ◌<◌, ◌≤◌, ◌%◌, ◌⊎◌, List, [], ◌∷◌, ◌++◌, length, drop, Option, None, Some, slice_index_or, All}
 use Rattle.lis_frame.specs.Frame.{FrameContent}
 use Rattle.lis_frame.specs.Limit.{IsLimit}
-use Rattle.lis_frame.specs.Text.{longest_text, most_texts, text_fault}
+use Rattle.lis_text.specs.LinkText.{longest_text, most_texts}
+use Rattle.lis_text.specs.Text.{text_fault}
 use Rattle.lis_frame.specs.Pieces.{Piece, pieces, all_pieces, numbered, session_frames}
 use Rattle.lis_link.specs.declared.sender.Phase.{Phase}
 use Rattle.lis_link.specs.declared.sender.Phase.TheVariants.{Neutral, AwaitLine, Busy, Contention, AwaitReply}

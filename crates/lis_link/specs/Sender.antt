@@ -1,8 +1,9 @@
 -- The sending end: its state, and the table of its steps (LIS01-A2, 6.3 to 6.6).
 use Rattle.std.specs.Prelude.{ℕ, ◌+◌, List, [], ◌∷◌, drop, Option, None, Some, if◌then◌else◌, nat_lt, ◌==◌, ◌||◌}
-use Rattle.lis_frame.specs.declared.control.TheConstants.{EOT, ENQ, ACK}
-use Rattle.lis_frame.specs.declared.text.TextFault.{TextFault}
-use Rattle.lis_frame.specs.Text.{text_fault, longest_text}
+use Rattle.lis_text.specs.Control.{EOT, ENQ, ACK}
+use Rattle.lis_text.specs.declared.text.TextFault.{TextFault}
+use Rattle.lis_text.specs.LinkText.{longest_text}
+use Rattle.lis_text.specs.Text.{text_fault}
 use Rattle.lis_frame.specs.Frame.{FrameContent}
 use Rattle.lis_frame.specs.Pieces.{session_frames}
 use Rattle.lis_link.specs.declared.sender.Phase.{Phase}

@@ -1,6 +1,6 @@
 -- What a receiver of the program stands for: it counts the frames that it accepted and keeps the held text alone.
 use Rattle.std.specs.Prelude.{◌≡◌, ◌≢◌, ℕ, ◌+◌, ◌<◌, ◌≤◌, false, List, length, take, drop, Option, None, Some}
-use Rattle.lis_frame.specs.declared.control.TheConstants.{ACK, NAK}
+use Rattle.lis_text.specs.Control.{ACK, NAK}
 use Rattle.lis_frame.specs.Frame.{FrameContent}
 use Rattle.lis_frame.specs.Scanner.{StandsFor}
 use Rattle.lis_link.specs.declared.receiver.Hearing.{Hearing}

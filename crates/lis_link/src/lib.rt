@@ -3,10 +3,12 @@
 
 pub mod laws;
 mod queue;
-pub mod receiver;
-pub mod sender;
+mod receiver;
+mod sender;
 #[cfg(test)]
 mod tests;
 
+pub use lis_frame::{FrameFault, FrameOf, ScannerOf};
+pub use lis_text::{LinkText, TextFault, Texts};
 pub use receiver::{Hearing, MOST_FRAMES, Note, Readiness, Receiver, ReceiverOf, Step};
 pub use sender::{Emit, EmitOf, Outcome, Phase, Sender, SenderOf, StartFault, StartRefused};

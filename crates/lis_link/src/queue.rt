@@ -2,10 +2,12 @@
 
 ghost use Rattle.std.specs.Prelude.{◌≡◌, ◌<◌, ◌≤◌, ◌==◌, ◌∷◌, None, All, length, drop};
 ghost use Rattle.lis_frame.specs.Limit.{IsLimit};
-ghost use Rattle.lis_frame.specs.Text.{longest_text, text_fault};
+ghost use Rattle.lis_text.specs.LinkText.{longest_text};
+ghost use Rattle.lis_text.specs.Text.{text_fault};
 ghost use Rattle.lis_frame.specs.Pieces.{session_frames};
 
-use lis_frame::{FrameOf, Texts, next_number, split_at_of};
+use lis_frame::{FrameOf, next_number, split_at_of};
+use lis_text::Texts;
 use std::marker::Model;
 
 /// The texts of a session, and where its present frame stands: the text, the offset in it, and the

@@ -2,14 +2,15 @@
 
 ghost use Rattle.std.specs.Prelude.{◌≡◌, ◌≢◌, ◌≤◌, ◌<◌, ◌∷◌, length, take, OnOk, None};
 ghost use Rattle.lis_frame.specs.Limit.{IsLimit};
-ghost use Rattle.lis_frame.specs.Text.{longest_text};
+ghost use Rattle.lis_text.specs.LinkText.{longest_text};
 ghost use Rattle.lis_frame.specs.Scanner.{StandsFor};
 ghost use Rattle.lis_link.specs.Receiver.{ReceiverState, new_receiver, on_byte, on_bytes, on_receiver_timer, receiver_restarted, with_heard, with_readiness, with_room};
 ghost use Rattle.lis_link.specs.declared.receiver.Note.TheVariants as Notes;
 ghost use Rattle.lis_link.specs.Stands.{IsIn, Makes, IsRefused, SpareAfter, HearsFront};
 
 use crate::receiver::line::Line;
-use lis_frame::{FrameFault, LinkText, ScannerOf};
+use lis_frame::{FrameFault, ScannerOf};
+use lis_text::LinkText;
 use std::alloc::{AllocError, Global};
 use std::marker::Model;
 

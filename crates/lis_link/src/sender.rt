@@ -8,8 +8,8 @@ ghost use Rattle.lis_link.specs.Queue.{first_frame};
 ghost use Rattle.lis_link.specs.Sender.{SenderState, reply_in, new_sender, over, bad_text, start_fault, started, sends, is_accepted, sends_again, on_reply, on_sender_timer, sender_restarted};
 
 use crate::queue::QueueOf;
-use lis_frame::control::{ACK, ENQ, EOT};
-use lis_frame::{FrameOf, LinkText, TextFault, Texts, check_text};
+use lis_frame::FrameOf;
+use lis_text::{ACK, ENQ, EOT, LinkText, TextFault, Texts, check_text};
 use std::marker::Model;
 
 mod state;

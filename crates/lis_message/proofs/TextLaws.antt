@@ -4,8 +4,9 @@ use Rattle.std.specs.Prelude.{option_map, nat_lt, if◌then◌else◌}
 use Rattle.std.specs.List.{AllByRecursion, flat_map, position_from}
 use Rattle.std.proofs.lemmas.Bool.Decides.{nat_tests}
 use Rattle.std.proofs.lemmas.List.Elements.{recursion_from_All}
-use Rattle.lis_frame.specs.Text.{is_forbidden, longest_text, text_fault}
-use Rattle.lis_frame.specs.declared.text.TextFault.TheVariants.{TooLong, Forbidden}
+use Rattle.lis_text.specs.LinkText.{longest_text}
+use Rattle.lis_text.specs.Text.{is_forbidden, text_fault}
+use Rattle.lis_text.specs.declared.text.TextFault.TheVariants.{TooLong, Forbidden}
 use Rattle.lis_field.specs.Delimiters.{DelimiterBytes, IsDelimiters}
 use Rattle.lis_field.specs.Shape.{RecordContent, IsRecordShape}
 use Rattle.lis_record.specs.Spelling.{spelled, written}

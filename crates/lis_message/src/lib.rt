@@ -10,8 +10,8 @@ mod texts;
 mod writer;
 
 pub use fault::MessageWriteFault;
-pub use lis_frame::{LinkText, Texts};
 pub use lis_record::{Delimiters, Kind, Record, RecordFault, WriteFault};
+pub use lis_text::{LinkText, List, Texts};
 pub use lis_tree::{
     Group, Message, MessageFault, Order, Patient, Query, Reason, Records, ResultEntry,
 };

@@ -22,7 +22,7 @@ use std::marker::Model;
 const CR: u8 = 0x0d;
 
 /// A list of messages.
-pub type Messages = lis_frame::List<Message>;
+pub type Messages = lis_text::List<Message>;
 
 /// What follows the whole messages of a stream: the message that isn't closed, and the bytes of the record that isn't
 /// ended.

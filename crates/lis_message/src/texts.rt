@@ -1,16 +1,17 @@
 //! The link texts of a message, one for each record.
 ghost use Rattle.std.specs.Prelude.{◌≡◌, IfOk, IfErr, None, Some, false, map};
 ghost use Rattle.std.specs.List.{AllByRecursion, flat_map};
-ghost use Rattle.lis_frame.specs.Text.{longest_text, text_fault};
+ghost use Rattle.lis_text.specs.LinkText.{longest_text};
+ghost use Rattle.lis_text.specs.Text.{text_fault};
 ghost use Rattle.lis_record.specs.Faults.{check_fault};
 ghost use Rattle.lis_record.specs.Spelling.{written};
 ghost use Rattle.lis_message.specs.Texts.{HasNoTexts};
 ghost use Rattle.lis_message.specs.Writing.{AreWritable, message_bytes, message_texts_of};
 
 use crate::writer::check_records;
-use lis_frame::{LinkText, MOST_TEXTS, Texts};
 use lis_port::{Failed, Sink};
 use lis_record::{Delimiters, Record, WriteFault, write_record};
+use lis_text::{LinkText, MOST_TEXTS, Texts};
 use lis_tree::{Message, Walk};
 use std::alloc::{AllocError, Global};
 

@@ -20,9 +20,9 @@ use crate::machine::{Halt, Turn};
 use crate::replay::{gather_compared, gather_counts, gather_left, gather_text_line};
 use crate::report::Report;
 use lis_capture::{Line, Page};
-use lis_frame::LinkText;
 use lis_link::{Hearing, Note, ReceiverOf, Step};
 use lis_port::Sink;
+use lis_text::LinkText;
 use std::alloc::Global;
 
 /// What a command tells of what is played.

@@ -16,6 +16,7 @@ mod walk;
 
 pub use fault::{MessageFault, Reason};
 pub use lis_record::{Delimiters, Kind, Record, RecordFault};
+pub use lis_text::List;
 pub use lists::Records;
 pub use message::Message;
 pub use numbering::{Finding, Findings, findings};

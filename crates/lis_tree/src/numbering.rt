@@ -9,8 +9,8 @@ ghost use Rattle.lis_tree.specs.Numbers.{CountsOf, symbol_digit, digits_number, 
 
 use crate::message::Message;
 use crate::walk::Walk;
-use lis_frame::List;
 use lis_record::{Component, Field, Kind, Record, Sym};
+use lis_text::List;
 use std::alloc::{AllocError, Global};
 
 /// A record whose second field isn't the expected number.

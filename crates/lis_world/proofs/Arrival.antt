@@ -4,7 +4,7 @@ use Rattle.std.specs.Prelude.{if◌then◌else◌, nat_lt, ◌==◌, ◌&&◌}
 use Rattle.std.specs.Option.{option_to_list}
 use Rattle.std.proofs.lemmas.Bool.{cond_both, lt-ltb, eq-eqb, ne_eqb, and_from, and_right}
 use Rattle.std.proofs.lemmas.List.{append-nil, length_push}
-use Rattle.lis_frame.specs.declared.control.TheConstants.{ACK, NAK, ENQ}
+use Rattle.lis_text.specs.Control.{ACK, NAK, ENQ}
 use Rattle.lis_frame.specs.declared.frame.FrameFault.{FrameFault}
 use Rattle.lis_frame.specs.declared.scanner.SignalOf.TheVariants.{Enq, Eot, Good, Bad}
 use Rattle.lis_frame.specs.Frame.{FrameContent}
@@ -12,7 +12,7 @@ use Rattle.lis_link.specs.declared.receiver.Readiness.{Readiness}
 use Rattle.lis_link.specs.declared.receiver.Readiness.TheVariants.{Ready, Busy, Contending}
 use Rattle.lis_link.specs.declared.receiver.Note.{Note}
 use Rattle.lis_link.specs.declared.receiver.Note.TheVariants.{Accepted, Duplicate, NoRoom, TooLong, TooMany}
-use Rattle.lis_frame.specs.Text.{longest_text}
+use Rattle.lis_text.specs.LinkText.{longest_text}
 use Rattle.lis_link.specs.Joining.{completed, groups, rest}
 use Rattle.lis_link.specs.Receiver.{ReceiverState, bid_with, judged, on_judged, heard_by, held_text, most_frames}
 use Rattle.lis_link.proofs.JoiningLaws.{groups-append}

@@ -2,7 +2,7 @@
 use Rattle.std.proofs.Common.{◌≡◌, ℕ, zero, suc, ◌+◌, ◌-◌, ◌<◌, ◌≤◌, ◌⊎◌, inl, inr, Bool, true, false, List, [], ◌∷◌, ◌++◌, length, get_or, None, Some, refl, sym, ap, ◌∙◌, subst, arith}
 use Rattle.std.proofs.lemmas.Bool.{cond-false}
 use Rattle.std.proofs.lemmas.List.{length-append, length_push}
-use Rattle.lis_frame.specs.declared.control.TheConstants.{ACK, ENQ, EOT, STX, LF}
+use Rattle.lis_text.specs.Control.{ACK, ENQ, EOT, STX, LF}
 use Rattle.lis_frame.specs.declared.scanner.SignalOf.TheVariants.{Enq, Eot}
 use Rattle.lis_frame.specs.Limit.{IsLimit}
 use Rattle.lis_frame.specs.Frame.{FrameContent}

@@ -5,7 +5,8 @@ use Rattle.std.specs.List.{position_from}
 use Rattle.std.proofs.lemmas.List.{length-take, length-drop}
 use Rattle.std.proofs.lemmas.List.Elements.{All-nil, All-cons, All-head, All-tail, All-take, All-drop}
 use Rattle.lis_frame.specs.Limit.{IsLimit}
-use Rattle.lis_frame.specs.Text.{is_forbidden, IsText, longest_text}
+use Rattle.lis_text.specs.LinkText.{longest_text}
+use Rattle.lis_text.specs.Text.{is_forbidden, IsText}
 use Rattle.lis_frame.specs.Frame.{FrameContent, IsContent}
 use Rattle.lis_frame.specs.Pieces.{Piece, pieces_from, pieces, all_pieces, next_number, numbered, session_frames}
 

@@ -1,8 +1,9 @@
 -- What holds of the world after each event.
 use Rattle.std.proofs.Common.{◌≡◌, ℕ, ◌<◌, ◌≤◌, ◌⊎◌, Bool, true, List, [], ◌∷◌, ◌++◌, length, drop, Some, subst}
 use Rattle.std.specs.Prelude.{All}
-use Rattle.lis_frame.specs.declared.control.TheConstants.{ACK, EOT}
-use Rattle.lis_frame.specs.Text.{IsText, longest_text}
+use Rattle.lis_text.specs.Control.{ACK, EOT}
+use Rattle.lis_text.specs.LinkText.{longest_text}
+use Rattle.lis_text.specs.Text.{IsText}
 use Rattle.lis_frame.specs.Frame.{FrameContent}
 use Rattle.lis_frame.specs.Pieces.{session_frames}
 use Rattle.lis_link.specs.declared.sender.Phase.{Phase}

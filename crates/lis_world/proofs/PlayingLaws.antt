@@ -1,7 +1,7 @@
 -- What the program that plays events keeps is the computer's side of the definition.
 use Rattle.std.proofs.Common.{IsOk, ◌≡◌, ◌≢◌, ℕ, suc, ◌+◌, Bool, true, false, List, [], ◌∷◌, Option, None, Some, OnOk, drop, refl, sym, ap, ◌∙◌, subst, arith}
 use Rattle.std.specs.Prelude.{Result, Ok, Err}
-use Rattle.lis_frame.specs.declared.control.TheConstants.{ENQ, EOT}
+use Rattle.lis_text.specs.Control.{ENQ, EOT}
 use Rattle.lis_frame.specs.declared.scanner.SignalOf.{SignalOf}
 use Rattle.lis_frame.specs.declared.scanner.SignalOf.TheVariants.{Enq, Eot, Good, Bad}
 use Rattle.lis_frame.specs.Frame.{FrameContent, IsContent, frame_bytes}

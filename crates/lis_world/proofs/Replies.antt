@@ -3,7 +3,7 @@ use Rattle.std.proofs.Common.{◌≡◌, ℕ, ◌+◌, ◌≤◌, ◌⊎◌, inl
 use Rattle.std.specs.Prelude.{nat_lt, ◌==◌, ◌||◌}
 use Rattle.std.proofs.lemmas.Bool.{cond_both, or_cases, or_parts, eqb-true, eqb-false}
 use Rattle.std.proofs.lemmas.List.{length_push, append_assoc, drop_all, drop_at}
-use Rattle.lis_frame.specs.declared.control.TheConstants.{ACK, ENQ, EOT}
+use Rattle.lis_text.specs.Control.{ACK, ENQ, EOT}
 use Rattle.lis_frame.specs.Frame.{FrameContent}
 use Rattle.lis_frame.specs.Pieces.{session_frames}
 use Rattle.lis_link.specs.declared.sender.Phase.{Phase}

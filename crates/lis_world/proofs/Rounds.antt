@@ -3,7 +3,7 @@ use Rattle.std.proofs.Common.{◌≡◌, ℕ, suc, ◌+◌, ◌-◌, ◌%◌, �
 use Rattle.std.specs.Prelude.{nat_lt, ◌==◌, ◌||◌}
 use Rattle.std.proofs.lemmas.Bool.{cond-true, cond-false, lt-ltb, le-ltb, ne_eqb, or_from}
 use Rattle.std.proofs.lemmas.List.{drop_at, length-append}
-use Rattle.lis_frame.specs.declared.control.TheConstants.{ACK, NAK, EOT, STX, LF}
+use Rattle.lis_text.specs.Control.{ACK, NAK, EOT, STX, LF}
 use Rattle.lis_frame.specs.declared.scanner.SignalOf.{SignalOf}
 use Rattle.lis_frame.specs.declared.scanner.SignalOf.TheVariants.{Good, Bad}
 use Rattle.lis_frame.specs.Limit.{IsLimit}
@@ -15,7 +15,7 @@ use Rattle.lis_link.specs.declared.sender.Outcome.TheVariants.{Done, SixTries}
 use Rattle.lis_link.specs.declared.sender.EmitOf.TheVariants as Emits
 use Rattle.lis_link.specs.declared.receiver.Note.{Note}
 use Rattle.lis_link.specs.declared.receiver.Note.TheVariants.{Accepted, Duplicate, NoRoom}
-use Rattle.lis_frame.specs.Text.{longest_text}
+use Rattle.lis_text.specs.LinkText.{longest_text}
 use Rattle.lis_link.specs.Joining.{rest}
 use Rattle.lis_link.specs.Sender.{SenderState, over, gives, ends, sends, sends_again, is_accepted, reply_in, on_reply, most_tries}
 use Rattle.lis_link.specs.Receiver.{judged, on_judged, heard_by, held_text, most_frames}

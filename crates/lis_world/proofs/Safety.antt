@@ -3,7 +3,8 @@ use Rattle.std.proofs.Common.{◌≡◌, ℕ, ◌+◌, ◌≤◌, List, [], ◌�
 use Rattle.std.proofs.lemmas.List.{append-nil, append_assoc, length-append, nil_from_length}
 use Rattle.std.proofs.lemmas.List.Elements.{All-nil, All-from_get_or}
 use Rattle.lis_frame.specs.Limit.{IsLimit}
-use Rattle.lis_frame.specs.Text.{IsText, longest_text}
+use Rattle.lis_text.specs.LinkText.{longest_text}
+use Rattle.lis_text.specs.Text.{IsText}
 use Rattle.lis_frame.specs.Frame.{FrameContent}
 use Rattle.lis_frame.specs.Pieces.{session_frames}
 use Rattle.lis_link.specs.Joining.{groups, rest}

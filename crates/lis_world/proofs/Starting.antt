@@ -5,9 +5,10 @@ use Rattle.std.specs.Option.{option_map}
 use Rattle.std.proofs.lemmas.Bool.{ltb-false}
 use Rattle.std.proofs.lemmas.List.{length_push, drop-append-le}
 use Rattle.std.proofs.lemmas.List.Elements.{All-nil, All-cons}
-use Rattle.lis_frame.specs.declared.text.TextFault.{TextFault}
-use Rattle.lis_frame.specs.declared.text.TextFault.TheVariants.{TooLong, Forbidden}
-use Rattle.lis_frame.specs.Text.{IsText, text_fault, first_forbidden, longest_text}
+use Rattle.lis_text.specs.declared.text.TextFault.{TextFault}
+use Rattle.lis_text.specs.declared.text.TextFault.TheVariants.{TooLong, Forbidden}
+use Rattle.lis_text.specs.LinkText.{longest_text}
+use Rattle.lis_text.specs.Text.{IsText, text_fault, first_forbidden}
 use Rattle.lis_frame.specs.Pieces.{session_frames}
 use Rattle.lis_link.specs.declared.sender.Phase.{Phase}
 use Rattle.lis_link.specs.declared.sender.Phase.TheVariants.{Neutral, AwaitLine, Busy, Contention, AwaitReply}

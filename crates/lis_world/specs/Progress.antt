@@ -1,8 +1,8 @@
 -- When a session is carried through: enough undisturbed rounds, and never six disturbed ones in a row.
 use Rattle.std.specs.Prelude.{◌≡◌, ◌≢◌, ℕ, zero, suc, ◌<◌, ◌≤◌, Bool, true, false, List, [], ◌∷◌, ◌++◌, length, None, Some, All, ◌==◌, ◌||◌}
-use Rattle.lis_frame.specs.declared.control.TheConstants.{STX, EOT, ENQ, ACK, LF}
+use Rattle.lis_text.specs.Control.{STX, EOT, ENQ, ACK, LF}
 use Rattle.lis_frame.specs.declared.frame.FrameFault.{FrameFault}
-use Rattle.lis_frame.specs.Text.{most_texts}
+use Rattle.lis_text.specs.LinkText.{most_texts}
 use Rattle.lis_frame.specs.Pieces.{session_frames}
 use Rattle.lis_frame.specs.Stretch.{stretch_fault}
 use Rattle.lis_link.specs.declared.sender.Phase.TheVariants.{Neutral}

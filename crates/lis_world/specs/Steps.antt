@@ -1,6 +1,6 @@
 -- What each event does to the world; one that isn't allowed does nothing.
 use Rattle.std.specs.Prelude.{ℕ, Bool, true, false, List, [], ◌∷◌, ◌++◌, length, Option, None, Some, if◌then◌else◌, ◌==◌, ◌||◌}
-use Rattle.lis_frame.specs.declared.control.TheConstants.{EOT, ACK}
+use Rattle.lis_text.specs.Control.{EOT, ACK}
 use Rattle.lis_frame.specs.declared.scanner.SignalOf.{SignalOf}
 use Rattle.lis_frame.specs.declared.scanner.SignalOf.TheVariants.{Bad}
 use Rattle.lis_frame.specs.Stream.{signals_after}

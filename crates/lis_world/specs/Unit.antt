@@ -1,6 +1,6 @@
 -- What travels to the receiver: ENQ, EOT or a frame, of a session.
 use Rattle.std.specs.Prelude.{ℕ, List, [], ◌∷◌}
-use Rattle.lis_frame.specs.declared.control.TheConstants.{ENQ, EOT}
+use Rattle.lis_text.specs.Control.{ENQ, EOT}
 use Rattle.lis_frame.specs.Frame.{FrameContent, frame_bytes}
 
 pub data Load : Type 0 where

@@ -16,9 +16,9 @@ ghost use Rattle.lis_world.specs.Playing.{IsDesk, desk_at, OnlyLoad, TakesLoad, 
 use crate::session::SessionOf;
 use crate::unit::{LoadOf, TravellingOf};
 use arrayvec::ArrayVec;
-use lis_frame::control::{ENQ, EOT};
-use lis_frame::{FrameOf, Heard, LinkText, frame_bytes_of};
+use lis_frame::{FrameOf, Heard, frame_bytes_of};
 use lis_link::{Hearing, Note, Outcome, Readiness, ReceiverOf, Step};
+use lis_text::{ENQ, EOT, LinkText};
 use std::alloc::{AllocError, Global};
 use std::collections::VecDeque;
 use std::marker::Model;

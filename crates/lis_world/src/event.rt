@@ -1,6 +1,6 @@
 //! What can happen on the link.
 
-use lis_frame::{LinkText, List, Texts};
+use lis_text::{LinkText, List, Texts};
 
 /// One event. Where it isn't allowed, it does nothing.
 #[derive(Drop)]

@@ -3,15 +3,18 @@
 #![tactic(auto)]
 
 mod desk;
-pub mod event;
+mod event;
 pub mod laws;
-pub mod playing;
+mod playing;
 mod run;
-pub mod session;
+mod session;
 #[cfg(test)]
 mod tests;
 mod unit;
 
 pub use event::{Event, Events};
+pub use lis_frame::{FrameOf, FramesOf};
+pub use lis_link::Outcome;
+pub use lis_text::{LinkText, List, Texts};
 pub use playing::{History, HistoryOf, PlayFault, play, play_of};
 pub use session::{Session, SessionOf};

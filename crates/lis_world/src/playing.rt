@@ -8,7 +8,7 @@ ghost use Rattle.lis_world.specs.Steps.{world};
 use crate::event::Events;
 use crate::run::RunOf;
 use crate::session::SessionOf;
-use lis_frame::List;
+use lis_text::List;
 use std::alloc::Global;
 use std::collections::VecDeque;
 

@@ -4,8 +4,9 @@ ghost use Rattle.std.specs.Prelude.{◌≡◌, ◌∷◌, ◌++◌, [], OnOk, So
 ghost use Rattle.lis_world.specs.Playing.{sends};
 ghost use Rattle.lis_world.specs.Session.{new_session, with_more};
 
-use lis_frame::{FrameOf, FramesOf, LinkText, List};
+use lis_frame::{FrameOf, FramesOf};
 use lis_link::Outcome;
+use lis_text::{LinkText, List};
 use std::alloc::{AllocError, Global};
 use std::marker::Model;
 

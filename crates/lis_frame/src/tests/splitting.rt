@@ -1,11 +1,9 @@
 ghost use Rattle.lis_frame.specs.Limit.{IsLimit};
 
+use super::memory::letters;
 use crate::*;
+use lis_text::check_text;
 use std::test::Fail;
-
-fn letters(alloc: std::alloc::Global, count: usize) -> Result<LinkText, Fail> {
-    Ok(List::from_vec(vec![in alloc; 0x41; count]?))
-}
 
 /// The frames of so many letters A from number 1.
 fn frames_of<const N: usize>(alloc: std::alloc::Global, count: usize) -> Result<FramesOf<N>, Fail>
@@ -14,61 +12,6 @@ fn frames_of<const N: usize>(alloc: std::alloc::Global, count: usize) -> Result<
     let text = letters(alloc, count)?;
     check_text(text.as_slice())?;
     Ok(split_all_of(alloc, &text, 1)?)
-}
-
-#[test]
-fn a_list_keeps_its_items_in_order(rt: HostRuntime) -> Result<(), Fail> {
-    let mut text = LinkText::new(rt.alloc());
-    assert!(rt; text.is_empty());
-    text.extend(&[0x41, 0x42])?;
-    text.push(0x43)?;
-    assert_eq!(rt; text.len(), 3);
-    assert_eq!(rt; text.as_slice(), [0x41, 0x42, 0x43].as_slice());
-    assert_eq!(rt; text.get(2).copied(), Some(0x43));
-    assert_eq!(rt; text.get(3).copied(), None);
-    assert_eq!(rt; text.into_vec().as_slice(), [0x41, 0x42, 0x43].as_slice());
-
-    let mut frames = Frames::new(rt.alloc());
-    frames
-        .push(read_frame(b"1\x0334\r").ok().ok_or("a frame")?)
-        .ok()
-        .ok_or("room")?;
-    frames
-        .push(read_frame(b"2L|1|N\r\x0305\r").ok().ok_or("a frame")?)
-        .ok()
-        .ok_or("room")?;
-    assert_eq!(rt; frames.len(), 2);
-    assert_eq!(rt; frames.get(1).map(|frame| frame.number()), Some(2));
-    assert!(rt; frames.get(2).is_none());
-    Ok(())
-}
-
-#[test]
-fn texts_are_at_most_65536(rt: HostRuntime) -> Result<(), Fail> {
-    let mut texts = Texts::new(rt.alloc());
-    assert!(rt; texts.is_empty());
-    for _ in 0..MOST_TEXTS {
-        assert!(rt; texts.push(LinkText::new(rt.alloc())).is_ok());
-    }
-    assert_eq!(rt; texts.len(), 65_536);
-    assert!(rt; texts.get(65_535).is_some());
-    assert!(rt; texts.get(65_536).is_none());
-    match texts.push(letters(rt.alloc(), 3)?) {
-        Err(TextRefused::Full(text)) => assert_eq!(rt; text.len(), 3),
-        _ => panic!(rt; "a text too many was taken"),
-    }
-    assert_eq!(rt; texts.as_slice().len(), 65_536);
-    Ok(())
-}
-
-#[test]
-fn a_link_text_is_tested_for_its_length_first(rt: HostRuntime) -> Result<(), Fail> {
-    let long = letters(rt.alloc(), 1_048_577)?;
-    assert_eq!(rt; check_text(long.as_slice()), Err(TextFault::TooLong));
-    let (most, _) = long.as_slice().split_at(1_048_576);
-    assert_eq!(rt; check_text(most), Ok(()));
-    assert_eq!(rt; check_text(b"A\n"), Err(TextFault::Forbidden(1)));
-    Ok(())
 }
 
 #[test]

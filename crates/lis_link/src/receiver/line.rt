@@ -1,18 +1,18 @@
 //! The line as a receiver has it: all of its state but the scanner. It answers what the scanner tells.
 
 ghost use Rattle.std.specs.Prelude.{◌≡◌, ◌≢◌, ◌≤◌, ◌<◌, ◌+◌, ◌^◌, ℕ, length, [], IsTrue, OnOk, None, Some, false};
-ghost use Rattle.lis_frame.specs.Text.{longest_text};
+ghost use Rattle.lis_text.specs.LinkText.{longest_text};
 ghost use Rattle.lis_frame.specs.Scanner.{Held, heard_signal};
 ghost use Rattle.lis_frame.specs.declared.scanner.SignalOf.TheVariants as Signals;
-ghost use Rattle.lis_frame.specs.declared.control.TheConstants.{NAK};
+ghost use Rattle.lis_text.specs.Control.{NAK};
 ghost use Rattle.lis_link.specs.declared.receiver.Note.TheVariants as Notes;
 ghost use Rattle.lis_link.specs.Kept.{idle_line, kept_of};
 ghost use Rattle.lis_link.specs.Receiver.{ReceiverState, bid_with, judged_by, found_reply, heard_by, heard, on_receiver_timer};
 ghost use Rattle.lis_link.specs.Stands.{IsIn, Makes, IsRefused, IsTaken, SpareAfter};
 
 use crate::receiver::{MOST_FRAMES, Note, Readiness, Step};
-use lis_frame::control::{ACK, ENQ, NAK};
-use lis_frame::{FrameFault, Heard, LONGEST_TEXT, LentFrame, LinkText, List};
+use lis_frame::{FrameFault, Heard, LentFrame};
+use lis_text::{ACK, ENQ, LONGEST_TEXT, LinkText, List, NAK};
 use std::alloc::{AllocError, Global};
 use std::marker::Model;
 use std::mem;
@@ -31,7 +31,7 @@ pub(crate) struct Line {
 
 impl Model for Line {
     ghost use Rattle.std.specs.Prelude.{◌-◌, ◌≤◌, length, vec_len, vec_capacity};
-    ghost use Rattle.lis_frame.specs.Text.{longest_text};
+    ghost use Rattle.lis_text.specs.LinkText.{longest_text};
     ghost use Rattle.lis_link.specs.Kept.{KeptLine};
 
     ghost Value = { KeptLine };

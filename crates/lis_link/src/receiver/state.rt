@@ -1,7 +1,7 @@
 //! What a receiver tells of its state.
 
 ghost use Rattle.std.specs.Prelude.{◌≡◌, ◌≤◌, length};
-ghost use Rattle.lis_frame.specs.Text.{longest_text};
+ghost use Rattle.lis_text.specs.LinkText.{longest_text};
 ghost use Rattle.lis_link.specs.Receiver.{ReceiverState, held_length};
 ghost use Rattle.lis_link.specs.Stands.{IsIn};
 

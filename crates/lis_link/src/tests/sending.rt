@@ -1,5 +1,6 @@
 use crate::*;
-use lis_frame::{LinkText, List, TextFault, TextRefused, Texts, frame_bytes};
+use lis_frame::frame_bytes;
+use lis_text::{LinkText, List, TextFault, TextRefused, Texts};
 use std::alloc::Global;
 use std::test::Fail;
 

@@ -4,8 +4,8 @@
 use crate::reader::{Fed, MessageReader, Messages, read_messages};
 use crate::texts::{TextsFault, message_texts};
 use crate::writer::write_message;
-use lis_frame::Texts;
 use lis_port::Slow;
+use lis_text::Texts;
 use lis_tree::{Message, MessageFault, Reason};
 use std::alloc::Global;
 use std::process::Abort;

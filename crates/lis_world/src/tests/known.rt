@@ -1,7 +1,7 @@
 use crate::tests::scripts::{event_of, events_of};
 use crate::*;
-use lis_frame::{LinkText, List};
 use lis_link::Outcome;
+use lis_text::{LinkText, List};
 use std::alloc::Global;
 use std::test::Fail;
 

@@ -2,8 +2,8 @@
 //! bytes where the ends keep counts and a scanner.
 
 use crate::*;
-use lis_frame::Texts;
 use lis_link::{Outcome, Phase, Readiness};
+use lis_text::Texts;
 use std::alloc::Global;
 use std::test::Fail;
 

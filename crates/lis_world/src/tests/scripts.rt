@@ -1,7 +1,7 @@
 //! Lists of events, written as one letter each.
 
 use crate::*;
-use lis_frame::{LinkText, List, Texts};
+use lis_text::{LinkText, List, Texts};
 use std::alloc::{AllocError, Global};
 
 /// One event, by its letter: `A` to `H` start a session of one text of that letter, `L` one of 500

@@ -1,7 +1,7 @@
 use Rattle.std.proofs.Common.{◌≡◌, ◌∙◌, None, get_or, refl, sym, arith}
 use Rattle.lis_frame.specs.Stretch.{stretch_of, stretch_fault}
-use Rattle.lis_frame.specs.Text.{is_forbidden, first_forbidden}
-use Rattle.lis_frame.proofs.ChunkLemmas.{clean-before}
+use Rattle.lis_text.specs.Text.{is_forbidden, first_forbidden}
+use Rattle.lis_text.proofs.SearchLemmas.{clean-before}
 use Rattle.lis_frame.proofs.FrontLemmas.{front-frame}
 use Rattle.lis_frame.proofs.StretchLemmas.{content_of-stretch_of, stretch_fault-parts}
 use Rattle.lis_frame.proofs.read.front_text.Goals as goal

@@ -1,6 +1,6 @@
 use Rattle.std.proofs.Common.{arith, sym}
 use Rattle.lis_frame.specs.Stream.{is_mark}
-use Rattle.lis_frame.proofs.ChunkLemmas.{clean-before, prefix-found, prefix-none}
+use Rattle.lis_text.proofs.SearchLemmas.{clean-before, prefix-found, prefix-none}
 use Rattle.lis_frame.proofs.scanner.until_mark.Goals as goal
 
 pub returns-in-Some-clause-length : goal.returns-in-Some-clause-length

@@ -1,5 +1,5 @@
 use Rattle.std.proofs.Common.{rules, arith, length-drop}
-use Rattle.lis_frame.specs.Text.{longest_text}
+use Rattle.lis_text.specs.LinkText.{longest_text}
 use Rattle.lis_frame.proofs.PieceLaws.{IsText-piece, IsText-rest, piece_at, last_piece_at}
 use Rattle.lis_frame.proofs.split.split_at_of.Goals as goal
 

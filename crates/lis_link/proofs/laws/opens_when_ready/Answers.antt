@@ -1,5 +1,5 @@
 use Rattle.std.proofs.Common.{◌≡◌, ◌∷◌, ℕ, Bool, true, false, Some, refl}
-use Rattle.lis_frame.specs.declared.control.TheConstants.{ACK}
+use Rattle.lis_text.specs.Control.{ACK}
 use Rattle.lis_frame.specs.declared.scanner.SignalOf.TheVariants.{Enq}
 use Rattle.lis_frame.specs.Stream.{signal_after}
 use Rattle.lis_link.specs.declared.receiver.Readiness.{Readiness}

@@ -1,6 +1,7 @@
 use Rattle.std.proofs.Common.{◌≡◌, None, ◌∙◌, ap, sym, subst}
 use Rattle.std.specs.List.{AllByRecursion, flat_map}
-use Rattle.lis_frame.specs.Text.{longest_text, text_fault}
+use Rattle.lis_text.specs.LinkText.{longest_text}
+use Rattle.lis_text.specs.Text.{text_fault}
 use Rattle.lis_tree.specs.Tree.{flatten}
 use Rattle.lis_message.proofs.TextLaws.{text_sent, texts_joined}
 use Rattle.lis_message.proofs.WritingLaws.{all_writable, writable_as, written_as}

@@ -1,5 +1,5 @@
 use Rattle.std.proofs.Common.{take, arith, length-take}
-use Rattle.lis_frame.proofs.ChunkLemmas.{lanes-marks}
+use Rattle.lis_frame.proofs.MarkLemmas.{lanes-marks}
 use Rattle.lis_frame.proofs.scanner.MarksByteSet.bits.Goals as goal
 
 pub returns : goal.returns

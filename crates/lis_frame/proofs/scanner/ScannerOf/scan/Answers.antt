@@ -1,7 +1,7 @@
 use Rattle.std.proofs.Common.{◌≡◌, ◌∙◌, add-one, arith, false}
 use Rattle.std.specs.Prelude.{◌==◌}
 use Rattle.std.proofs.lemmas.Bool.Decides.{nat_tests}
-use Rattle.lis_frame.specs.declared.control.TheConstants.{STX}
+use Rattle.lis_text.specs.Control.{STX}
 use Rattle.lis_frame.proofs.StreamLaws.{heard_frame, quiet_length-other, quiet_length-start, started_run, unmarked_run}
 use Rattle.lis_frame.proofs.scanner.ScannerOf.scan.Goals as goal
 

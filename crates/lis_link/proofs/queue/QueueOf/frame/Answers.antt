@@ -1,7 +1,8 @@
 use Rattle.std.proofs.Common.{◌≡◌, ◌<◌, ◌⊎◌, None, [], ◌∷◌, length, sym, ap, ◌∙◌, subst, arith, drop}
 use Rattle.std.specs.Option.{option_copied}
 use Rattle.std.proofs.lemmas.List.Elements.{All-get_or}
-use Rattle.lis_frame.specs.Text.{text_fault, longest_text}
+use Rattle.lis_text.specs.LinkText.{longest_text}
+use Rattle.lis_text.specs.Text.{text_fault}
 use Rattle.lis_link.proofs.QueueLaws.{some-left, left-some, within-at}
 use Rattle.lis_link.proofs.queue.QueueOf.frame.Goals as goal
 

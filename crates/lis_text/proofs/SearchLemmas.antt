@@ -1,17 +1,13 @@
 -- The first place that passes a test, by the lanes of a vector.
-use Rattle.std.proofs.Common.{append-nil, ◌≡◌, ℕ, zero, suc, ◌+◌, ◌-◌, ◌*◌, ◌≤◌, ◌%◌, ◌^◌, ◌<◌, Bool, true, false, cond, leb, eqb, List, [], ◌∷◌, ◌++◌, Option, None, Some, length, map, take, drop, length-take, take-append-drop, replicate, bit_and, bit_or, refl, ap, sym, ◌∙◌, arith, zero-add, add-zero}
-use Rattle.std.specs.Prelude.{nat_lt, not, ◌&&◌, ◌||◌}
+use Rattle.std.proofs.Common.{append-nil, ◌≡◌, ℕ, zero, suc, ◌+◌, ◌-◌, ◌*◌, ◌≤◌, ◌<◌, Bool, true, false, cond, List, [], ◌∷◌, ◌++◌, Option, None, Some, length, map, take, drop, length-take, take-append-drop, refl, sym, arith, zero-add, add-zero}
+use Rattle.std.specs.Prelude.{nat_lt, not}
 use Rattle.std.specs.List.{position_from, prefix_len}
 use Rattle.std.specs.Option.{option_map}
-use Rattle.std.specs.Simd.Lanes.{zip2, mask_l, top}
+use Rattle.std.specs.Simd.Lanes.{mask_l}
 use Rattle.std.specs.Int.Count.{count_trailing_zeros}
-use mir.Syntax.{w8}
-use Rattle.std.proofs.lemmas.Simd.{bitmask_splat, leading_from_mask_l, trailing_mask_l, zip2_splat, zip2_splat_left, zip2_of_maps, map-map, mask_l-mod}
-use Rattle.std.proofs.lemmas.List.{length-map}
+use Rattle.std.proofs.lemmas.Simd.{leading_from_mask_l, trailing_mask_l}
 use Rattle.std.proofs.lemmas.List.Sums.{prefix_len-le-length}
 use Rattle.std.proofs.lemmas.Bool.Decides.{nat_tests}
-use Rattle.lis_frame.specs.Stream.{is_mark}
-use Rattle.lis_frame.specs.Text.{is_forbidden}
 
 -- a run in which no byte passes is passed over
 pub position-none :
@@ -152,142 +148,7 @@ pub position-behind :
     (f : ℕ → Bool) (i : ℕ) (xs : List ℕ) (o : Option ℕ) → o ≡ position_from f 0 xs → option_map (λ k. i + k) o ≡ position_from f i xs
 position-behind f i xs o e = rw e (sym (rw (add-zero i) at (position-shift f i 0 xs)))
 
-same_map : (f g : ℕ → Bool) → ((b : ℕ) → f b ≡ g b) → (xs : List ℕ) → map f xs ≡ map g xs
+-- tests that agree on each byte
+pub same_map : (f g : ℕ → Bool) → ((b : ℕ) → f b ≡ g b) → (xs : List ℕ) → map f xs ≡ map g xs
 same_map f g same [] = refl
 same_map f g same (x ∷ xs) = rw (same x, same_map f g same xs) refl
-
--- a lane of the tests
-abbrev lane : ℕ → ℕ
-lane b =
-    bit_or
-    (bit_or (bit_and (cond (leb 1 b) 255 0) (cond (leb b 6) 255 0)) (cond (eqb b 10) 255 0))
-    (bit_and (cond (leb 16 b) 255 0) (cond (leb b 23) 255 0))
-
-lane_top : (b : ℕ) → top 7 (lane b) ≡ is_forbidden b
-lane_top b = by (leb 1 b) (leb b 6) (eqb b 10) (leb 16 b) (leb b 23)
-  where
-    by :
-        (a b c d e : Bool) →
-        top 7 (bit_or (bit_or (bit_and (cond a 255 0) (cond b 255 0)) (cond c 255 0)) (bit_and (cond d 255 0) (cond e 255 0)))
-        ≡ (a && b || c || d && e)
-    by true true true true true = refl
-    by true true true true false = refl
-    by true true true false true = refl
-    by true true true false false = refl
-    by true true false true true = refl
-    by true true false true false = refl
-    by true true false false true = refl
-    by true true false false false = refl
-    by true false true true true = refl
-    by true false true true false = refl
-    by true false true false true = refl
-    by true false true false false = refl
-    by true false false true true = refl
-    by true false false true false = refl
-    by true false false false true = refl
-    by true false false false false = refl
-    by false true true true true = refl
-    by false true true true false = refl
-    by false true true false true = refl
-    by false true true false false = refl
-    by false true false true true = refl
-    by false true false true false = refl
-    by false true false false true = refl
-    by false true false false false = refl
-    by false false true true true = refl
-    by false false true true false = refl
-    by false false true false true = refl
-    by false false true false false = refl
-    by false false false true true = refl
-    by false false false true false = refl
-    by false false false false true = refl
-    by false false false false false = refl
-
-ge : (xs : List ℕ) → length xs ≡ 16 → (n : ℕ) → zip2 {C = ℕ} (λ a b. cond (leb a b) 255 0) (replicate 16 n) xs ≡ map {B = ℕ} (λ b. cond (leb n b) 255 0) xs
-ge xs long n = zip2_splat_left {Z = ℕ} (λ a b. cond (leb a b) 255 0) n 16 xs long
-
-le : (xs : List ℕ) → length xs ≡ 16 → (n : ℕ) → zip2 {C = ℕ} (λ a b. cond (leb a b) 255 0) xs (replicate 16 n) ≡ map {B = ℕ} (λ b. cond (leb b n) 255 0) xs
-le xs long n = zip2_splat {Z = ℕ} (λ a b. cond (leb a b) 255 0) xs 16 n long
-
--- the bits of the lanes of sixteen bytes
-pub lanes-forbidden :
-    (xs : List ℕ) → length xs ≡ 16 →
-    mask_l (map (top 7)
-    (zip2 bit_or
-    (zip2 bit_or
-    (zip2 bit_and (zip2 {C = ℕ} (λ a b. cond (leb a b) 255 0) (replicate 16 1) xs) (zip2 {C = ℕ} (λ a b. cond (leb a b) 255 0) xs (replicate 16 6)))
-    (zip2 {C = ℕ} (λ a b. cond (eqb a b) 255 0) xs (replicate 16 10)))
-    (zip2 bit_and (zip2 {C = ℕ} (λ a b. cond (leb a b) 255 0) (replicate 16 16) xs) (zip2 {C = ℕ} (λ a b. cond (leb a b) 255 0) xs (replicate 16 23))))) % 2 ^ 64
-    ≡ mask_l (map is_forbidden xs)
-lanes-forbidden xs long =
-    let line_feed : zip2 {C = ℕ} (λ a b. cond (eqb a b) 255 0) xs (replicate 16 10) ≡ map {B = ℕ} (λ b. cond (eqb b 10) 255 0) xs = zip2_splat {Z = ℕ} (λ a b. cond (eqb a b) 255 0) xs 16 10 long in
-    let low = zip2_of_maps bit_and _ _ xs (ge xs long 1) (le xs long 6) in
-    let high = zip2_of_maps bit_and _ _ xs (ge xs long 16) (le xs long 23) in
-    let all = zip2_of_maps bit_or _ _ xs (zip2_of_maps bit_or _ _ xs low line_feed) high in
-    ap (λ (lanes : List ℕ). mask_l (map (top 7) lanes) % 2 ^ 64) all
-    ∙ ap (λ (ms : List Bool). mask_l ms % 2 ^ 64) (map-map (top 7) lane xs ∙ same_map (λ b. top 7 (lane b)) is_forbidden lane_top xs)
-    ∙ mask_l-mod (map is_forbidden xs) 64 (omega (arith, length-map xs is_forbidden))
-
--- where no byte is under 24, none is forbidden
-none_low : (xs : List ℕ) → mask_l (map (λ b. leb b 23) xs) ≡ 0 → 0 ≡ mask_l (map is_forbidden xs)
-none_low [] none = refl
-none_low (b ∷ xs) none = by (leb b 23) refl none (none_low xs)
-  where
-    by :
-        (low : Bool) → leb b 23 ≡ low → cond low 1 0 + 2 * mask_l (map (λ b. leb b 23) xs) ≡ 0 →
-        (mask_l (map (λ b. leb b 23) xs) ≡ 0 → 0 ≡ mask_l (map is_forbidden xs)) → 0 ≡ mask_l (map is_forbidden (b ∷ xs))
-    by true t none later = absurd (omega arith)
-    by false t none later =
-        let allowed : is_forbidden b ≡ false = grind (arith, nat_tests, t) in
-        rw allowed (omega (arith, later (omega arith)))
-
-pub lanes-none :
-    (xs : List ℕ) → length xs ≡ 16 →
-    mask_l (map (top 7) (zip2 {C = ℕ} (λ a b. cond (leb a b) 255 0) xs (replicate 16 23))) % 2 ^ 64 ≡ 0 → 0 ≡ mask_l (map is_forbidden xs)
-lanes-none xs long none = none_low xs (sym (bitmask_splat w8 leb xs 16 23 long (omega arith)) ∙ none)
-
--- a lane of the tests for marks
-abbrev lane_of_mark : ℕ → ℕ
-lane_of_mark b =
-    bit_or (bit_or (cond (eqb b 2) 255 0) (cond (eqb b 10) 255 0)) (bit_or (cond (eqb b 4) 255 0) (cond (eqb b 5) 255 0))
-
-lane_of_mark_top : (b : ℕ) → top 7 (lane_of_mark b) ≡ is_mark b
-lane_of_mark_top b = by (eqb b 2) (eqb b 10) (eqb b 4) (eqb b 5)
-  where
-    by :
-        (s l t q : Bool) →
-        top 7 (bit_or (bit_or (cond s 255 0) (cond l 255 0)) (bit_or (cond t 255 0) (cond q 255 0))) ≡ (s || l || (t || q))
-    by true true true true = refl
-    by true true true false = refl
-    by true true false true = refl
-    by true true false false = refl
-    by true false true true = refl
-    by true false true false = refl
-    by true false false true = refl
-    by true false false false = refl
-    by false true true true = refl
-    by false true true false = refl
-    by false true false true = refl
-    by false true false false = refl
-    by false false true true = refl
-    by false false true false = refl
-    by false false false true = refl
-    by false false false false = refl
-
-equal : (xs : List ℕ) → length xs ≡ 16 → (n : ℕ) → zip2 {C = ℕ} (λ a b. cond (eqb a b) 255 0) xs (replicate 16 n) ≡ map {B = ℕ} (λ b. cond (eqb b n) 255 0) xs
-equal xs long n = zip2_splat {Z = ℕ} (λ a b. cond (eqb a b) 255 0) xs 16 n long
-
-pub lanes-marks :
-    (xs : List ℕ) → length xs ≡ 16 →
-    mask_l (map (top 7)
-    (zip2 bit_or
-    (zip2 bit_or (zip2 {C = ℕ} (λ a b. cond (eqb a b) 255 0) xs (replicate 16 2)) (zip2 {C = ℕ} (λ a b. cond (eqb a b) 255 0) xs (replicate 16 10)))
-    (zip2 bit_or (zip2 {C = ℕ} (λ a b. cond (eqb a b) 255 0) xs (replicate 16 4)) (zip2 {C = ℕ} (λ a b. cond (eqb a b) 255 0) xs (replicate 16 5))))) % 2 ^ 64
-    ≡ mask_l (map is_mark xs)
-lanes-marks xs long =
-    let starts = zip2_of_maps bit_or _ _ xs (equal xs long 2) (equal xs long 10) in
-    let ends = zip2_of_maps bit_or _ _ xs (equal xs long 4) (equal xs long 5) in
-    let all = zip2_of_maps bit_or _ _ xs starts ends in
-    ap (λ (lanes : List ℕ). mask_l (map (top 7) lanes) % 2 ^ 64) all
-    ∙ ap (λ (ms : List Bool). mask_l ms % 2 ^ 64) (map-map (top 7) lane_of_mark xs ∙ same_map (λ b. top 7 (lane_of_mark b)) is_mark lane_of_mark_top xs)
-    ∙ mask_l-mod (map is_mark xs) 64 (omega (arith, length-map xs is_mark))

@@ -1,6 +1,6 @@
 use Rattle.std.proofs.Common.{None, Some, sym, ◌∙◌, arith}
-use Rattle.lis_frame.proofs.ChunkLemmas.{passed-chunk, found-chunk, position-behind}
-use Rattle.lis_frame.proofs.search.first_in.Goals as goal
+use Rattle.lis_text.proofs.SearchLemmas.{passed-chunk, found-chunk, position-behind}
+use Rattle.lis_text.proofs.search.first_in.Goals as goal
 
 pub returns-then-bits-ne0 : goal.returns-then-bits-ne0
 returns-then-bits-ne0 g c =

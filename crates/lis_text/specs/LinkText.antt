@@ -1,8 +1,14 @@
--- When a text is not put to the others of a session.
+-- What a session carries: link texts, and when one more is refused.
 use Rattle.std.specs.Prelude.{◌≡◌, ℕ, ◌≤◌, ◌<◌, List, length}
-use Rattle.lis_frame.specs.Text.{most_texts}
-use Rattle.lis_frame.specs.declared.link_text.TextRefused.{TextRefused}
-use Rattle.lis_frame.specs.declared.link_text.TextRefused.TheVariants.{Full, OutOfMemory}
+use Rattle.lis_text.specs.declared.link_text.TextRefused.{TextRefused}
+use Rattle.lis_text.specs.declared.link_text.TextRefused.TheVariants.{Full, OutOfMemory}
+
+-- the greatest length of a link text, and the greatest number of texts of a session
+abbrev pub longest_text : ℕ
+longest_text = 1048576
+
+abbrev pub most_texts : ℕ
+most_texts = 65536
 
 -- there are already as many as a session has; else memory was refused. The text comes back
 abbrev pub IsTextRefused : List (List ℕ) → List ℕ → TextRefused → Type 0

@@ -1,6 +1,6 @@
 use Rattle.std.proofs.Common.{take, arith, length-take}
-use Rattle.lis_frame.proofs.ChunkLemmas.{lanes-forbidden, lanes-none}
-use Rattle.lis_frame.proofs.text.ForbiddenBytesByteSet.bits.Goals as goal
+use Rattle.lis_text.proofs.TextLemmas.{lanes-forbidden, lanes-none}
+use Rattle.lis_text.proofs.text.ForbiddenBytesByteSet.bits.Goals as goal
 
 pub returns : goal.returns
 returns c = lanes-forbidden (take 16 c.args.bytes.now) (omega (arith, length-take 16 c.args.bytes.now))

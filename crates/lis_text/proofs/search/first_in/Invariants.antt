@@ -1,6 +1,6 @@
 use Rattle.std.proofs.Common.{◌≡◌, ℕ, Bool, ◌+◌, List, length}
 use Rattle.std.specs.List.{position_from}
-use Rattle.lis_frame.proofs.search.first_in.Given as goal
+use Rattle.lis_text.proofs.search.first_in.Given as goal
 
 -- what was passed holds no byte of the set
 pub record Passed (f : ℕ → Bool) (place : ℕ) (rest bytes : List ℕ) : Type 0 where

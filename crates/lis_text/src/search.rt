@@ -5,7 +5,7 @@ ghost use Rattle.std.specs.List.{position_from};
 ghost use Rattle.std.specs.Simd.Lanes.{mask_l};
 
 /// A set of bytes.
-pub(crate) trait ByteSet {
+pub trait ByteSet {
     // Whether a byte is in the set.
     ghost member: { ℕ → Bool };
 
@@ -20,7 +20,7 @@ pub(crate) trait ByteSet {
 }
 
 /// The place of the first byte that is in the set, from 0.
-pub(crate) fn first_in<S: ByteSet>(bytes: &[u8]) -> Option<usize>
+pub fn first_in<S: ByteSet>(bytes: &[u8]) -> Option<usize>
     ensures { result ≡ position_from S.member 0 bytes.now }
 {
     let mut rest = bytes;

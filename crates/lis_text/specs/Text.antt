@@ -1,9 +1,9 @@
--- The text of a frame, and of a whole link text (LIS01-A2, 6.3 and 6.5).
+-- The bytes of a text, be it a frame's or a whole link text (LIS01-A2, 6.3 and 6.5).
 use Rattle.std.specs.Prelude.{◌≡◌, ℕ, ◌≤◌, Bool, List, Option, None, Some, length, if◌then◌else◌, nat_lt, nat_le, ◌==◌, ◌&&◌, ◌||◌}
 use Rattle.std.specs.Option.{option_map}
 use Rattle.std.specs.List.{position_from}
-use Rattle.lis_frame.specs.declared.text.TextFault.{TextFault}
-use Rattle.lis_frame.specs.declared.text.TextFault.TheVariants.{TooLong, Forbidden}
+use Rattle.lis_text.specs.declared.text.TextFault.{TextFault}
+use Rattle.lis_text.specs.declared.text.TextFault.TheVariants.{TooLong, Forbidden}
 
 -- a byte that no text may hold: SOH, STX, ETX, EOT, ENQ, ACK (1 to 6), LF (10), and DLE to ETB (16 to 23)
 abbrev pub is_forbidden : ℕ → Bool
@@ -21,10 +21,3 @@ pub record IsText (limit : ℕ) (bytes : List ℕ) : Type 0 where
 -- what is wrong with a text: its length is told before a byte of it
 abbrev pub text_fault : ℕ → List ℕ → Option TextFault
 text_fault limit bytes = if nat_lt limit (length bytes) then Some TooLong else option_map Forbidden (first_forbidden bytes)
-
--- the greatest length of a link text, and the greatest number of texts of a session
-abbrev pub longest_text : ℕ
-longest_text = 1048576
-
-abbrev pub most_texts : ℕ
-most_texts = 65536

@@ -2,11 +2,11 @@
 
 ghost use Rattle.std.specs.Prelude.{◌≡◌, ◌==◌, ◌≤◌, ◌++◌, ◌∷◌, [], None, Some, MatchResult, IfErr, OnOk, length, slice_get};
 ghost use Rattle.std.specs.Option.{option_copied};
-ghost use Rattle.lis_frame.specs.Text.{text_fault, longest_text};
-ghost use Rattle.lis_frame.specs.Texts.{IsTextRefused};
+ghost use Rattle.lis_text.specs.LinkText.{IsTextRefused, longest_text};
+ghost use Rattle.lis_text.specs.Text.{text_fault};
 
 use crate::list::List;
-use crate::text::{TextFault, examine};
+use crate::text::{TextFault, check_bytes};
 use std::alloc::Global;
 use std::marker::Model;
 
@@ -24,7 +24,7 @@ pub fn check_text(bytes: &[u8]) -> Result<(), TextFault>
     ensures { MatchResult result (λ _. text_fault longest_text bytes.now ≡ None)
         (λ fault. text_fault longest_text bytes.now ≡ Some fault) }
 {
-    examine(bytes, LONGEST_TEXT)
+    check_bytes(bytes, LONGEST_TEXT)
 }
 
 /// The texts of a session, at most 65,536.
