@@ -1,12 +1,12 @@
 -- The bytes of digits in parts.
 use Rattle.std.proofs.Common.{◌≡◌, ℕ, zero, suc, ◌+◌, ◌-◌, ◌*◌, ◌%◌, ◌^◌, ◌<◌, ◌≤◌, ◌&&◌, Bool, true, false, not, cond, eqb, ltb, leb}
 use Rattle.std.proofs.Common.{List, [], ◌∷◌, ◌++◌, length, map, take, drop, replicate, unwrap_or, is_some, Option, None, Some, Ok}
-use Rattle.std.proofs.Common.{refl, sym, ap, ◌∙◌, arith, length-take, length-drop, take_all, append-nil}
+use Rattle.std.proofs.Common.{refl, sym, ap, ◌∙◌, arith, length-take, length-drop, take_all, append-nil, slice_set}
 use Rattle.std.specs.Prelude.{if◌then◌else◌, nat_lt}
 use Rattle.std.specs.List.{list_all}
 use Rattle.std.specs.Simd.Lanes.{mask_l, pick_l, put_chunk, sel_l, top, zip2}
 use Rattle.std.proofs.lemmas.Bool.{and_parts}
-use Rattle.std.proofs.Math.Bool.{and-false}
+use Rattle.std.proofs.Math.Bool.{and-false, and-true}
 use Rattle.std.proofs.lemmas.List.{drop_all, length-map, take-append-drop, take-take}
 use Rattle.std.proofs.lemmas.List.Folds.{list_all-append}
 use Rattle.std.proofs.lemmas.Slice.{drop-put_mid, take-put_mid}
@@ -343,3 +343,19 @@ last_read digits out chunk true n place last k pairs room ends less width is tol
     bytes_of-paired n digits pairs (omega arith) (ap (list_all is_hex_digit) (sym all) ∙ read.all)
     ∙ ap (λ (l : List ℕ). Some l)
     (ap paired (sym all) ∙ sym read.bytes ∙ front)
+
+-- ---- one pair
+
+pub pair_read :
+    (high low byte : ℕ) (bytes : List ℕ) → length bytes ≡ 1 → (is_hex_digit high && is_hex_digit low) ≡ true → byte ≡ by_value high low
+    → bytes_of (high ∷ low ∷ []) ≡ Some (slice_set bytes 0 byte)
+pair_read high low byte [] room both is = cc
+pair_read high low byte (b ∷ c ∷ bytes) room both is = absurd (omega arith)
+pair_read high low byte (b ∷ []) room both is =
+    let parts = and_parts (is_hex_digit high) (is_hex_digit low) both in
+    let all : list_all is_hex_digit (high ∷ low ∷ []) ≡ true = (λ i. parts.0 i && (parts.1 i && true)) in
+    bytes_of-paired 1 (high ∷ low ∷ []) refl (omega arith) all ∙ ap (λ (n : ℕ). Some (n ∷ [])) (sym is)
+
+pub pair_other : (high low : ℕ) → (is_hex_digit high && is_hex_digit low) ≡ false → bytes_of (high ∷ low ∷ []) ≡ None
+pair_other high low other =
+    bytes_of-other (high ∷ low ∷ []) (ap (λ b. is_hex_digit high && b) (and-true (is_hex_digit low)) ∙ other)

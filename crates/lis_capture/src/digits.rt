@@ -1,6 +1,6 @@
 //! Pairs of hexadecimal digits: read by loops over slices that look at every byte, and written sixteen bytes at a time.
 
-ghost use Rattle.std.specs.Prelude.{◌≡◌, ◌*◌, ◌<◌, ◌≤◌, IsTrue, None, Some, if◌then◌else◌, is_some, length, map, slice_index, take, unwrap_or, ◌+◌};
+ghost use Rattle.std.specs.Prelude.{◌≡◌, ◌*◌, ◌<◌, ◌≤◌, ◌∷◌, [], IsTrue, None, Some, if◌then◌else◌, is_some, length, map, slice_index, take, unwrap_or, ◌+◌};
 ghost use Rattle.std.specs.List.{list_all};
 ghost use Rattle.std.specs.Simd.Lanes.{Each1};
 ghost use Rattle.hex.specs.Hex.{encode_lower, hex_digit_value, is_hex_digit, lower_digits};
@@ -54,6 +54,10 @@ pub(crate) fn decode(digits: &[u8], bytes: &mut [u8]) -> bool
     requires { length digits.now ≡ 2 * length bytes.old }
     ensures { bytes_of digits.now ≡ (if result then Some bytes.new else None) }
 {
+    // Most replies are one byte.
+    if let [high, low] = digits {
+        return decode_pair(*high, *low, bytes);
+    }
     if bytes.len() < 16 {
         if !are_pairs(digits) {
             return false;
@@ -70,6 +74,19 @@ pub(crate) fn decode(digits: &[u8], bytes: &mut [u8]) -> bool
         place += 16;
     }
     decode_sixteen(&digits[2 * last..], &mut bytes[last..])
+}
+
+/// The same of two digits.
+#[inline(always)]
+fn decode_pair(high: u8, low: u8, bytes: &mut [u8]) -> bool
+    requires { length bytes.old ≡ 1 }
+    ensures { bytes_of (high ∷ low ∷ []) ≡ (if result then Some bytes.new else None) }
+{
+    let both = is_digit(high) & is_digit(low);
+    if both {
+        bytes[0] = byte_of(high, low);
+    }
+    both
 }
 
 /// The same of the first thirty-two digits.
