@@ -30,11 +30,11 @@ all_from_each p (x ∷ xs) each =
 -- ---- the byte of two digits, tried at every two
 
 -- a test of n numbers from `low` on
-abbrev passes : (ℕ → Bool) → ℕ → ℕ → Bool
+abbrev pub passes : (ℕ → Bool) → ℕ → ℕ → Bool
 passes p low zero = true
 passes p low (suc n) = p low && passes p (low + 1) n
 
-passes_at : (p : ℕ → Bool) (low n b : ℕ) → passes p low n ≡ true → low ≤ b → b < low + n → p b ≡ true
+pub passes_at : (p : ℕ → Bool) (low n b : ℕ) → passes p low n ≡ true → low ≤ b → b < low + n → p b ≡ true
 passes_at p low zero b all from below = absurd (omega arith)
 passes_at p low (suc n) b all from below =
     let parts = and_parts (p low) (passes p (low + 1) n) all in
@@ -84,7 +84,7 @@ abbrev by_halves : ℕ → ℕ → ℕ
 by_halves high low =
     bit_and (bit_or (values (high + low * 256) * 16 % 65536) (values (high + low * 256) / 256)) 255
 
-abbrev by_value : ℕ → ℕ → ℕ
+abbrev pub by_value : ℕ → ℕ → ℕ
 by_value high low = 16 * unwrap_or (hex_digit_value high) 0 + unwrap_or (hex_digit_value low) 0
 
 all_agree : digits_pass (λ high. digits_pass (λ low. by_halves high low == by_value high low)) ≡ true

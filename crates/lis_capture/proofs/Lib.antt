@@ -8,3 +8,5 @@ pub mod ReaderLemmas
 pub mod SpellingLemmas
 pub mod VersionLemmas
 mod DefinitionRows
+mod DecodeLemmas
+mod LaneLemmas

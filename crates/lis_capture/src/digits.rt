@@ -1,10 +1,10 @@
 //! Pairs of hexadecimal digits: read by loops over slices that look at every byte, and written sixteen bytes at a time.
 
-ghost use Rattle.std.specs.Prelude.{◌≡◌, ◌*◌, ◌<◌, ◌≤◌, IsTrue, Some, is_some, length, map, slice_index, take, unwrap_or, ◌+◌};
+ghost use Rattle.std.specs.Prelude.{◌≡◌, ◌*◌, ◌<◌, ◌≤◌, ◌∷◌, [], IsTrue, None, Some, if◌then◌else◌, is_some, length, map, slice_index, take, unwrap_or, ◌+◌};
 ghost use Rattle.std.specs.List.{list_all};
 ghost use Rattle.std.specs.Simd.Lanes.{Each1};
 ghost use Rattle.hex.specs.Hex.{encode_lower, hex_digit_value, is_hex_digit, lower_digits};
-ghost use Rattle.lis_capture.specs.Digits.{bytes_of};
+ghost use Rattle.lis_capture.specs.Digits.{bytes_of, told_digit};
 
 use std::simd::prelude::*;
 
@@ -28,7 +28,7 @@ fn byte_of(high: u8, low: u8) -> u8
 }
 
 /// Whether a text is one or more pairs of digits.
-pub(crate) fn are_pairs(text: &[u8]) -> bool
+fn are_pairs(text: &[u8]) -> bool
     ensures { result ≡ is_some (bytes_of text.now) }
 {
     if text.is_empty() {
@@ -48,8 +48,78 @@ fn are_digits(bytes: &[u8]) -> bool
     all
 }
 
+/// Writes the bytes of pairs of digits, sixteen at a time; the last sixteen may be written over some that stand there.
+/// Answers whether the text is one or more such pairs; what stands in the place of the bytes is nothing where it isn't.
+pub(crate) fn decode(digits: &[u8], bytes: &mut [u8]) -> bool
+    requires { length digits.now ≡ 2 * length bytes.old }
+    ensures { bytes_of digits.now ≡ (if result then Some bytes.new else None) }
+{
+    // Most replies are one byte.
+    if let [high, low] = digits {
+        return decode_pair(*high, *low, bytes);
+    }
+    if bytes.len() < 16 {
+        if !are_pairs(digits) {
+            return false;
+        }
+        decode_few(digits, bytes);
+        return true;
+    }
+    let last = bytes.len() - 16;
+    let mut place = 0;
+    while place < last {
+        if !decode_sixteen(&digits[2 * place..], &mut bytes[place..place + 16]) {
+            return false;
+        }
+        place += 16;
+    }
+    decode_sixteen(&digits[2 * last..], &mut bytes[last..])
+}
+
+/// The same of two digits.
+#[inline(always)]
+fn decode_pair(high: u8, low: u8, bytes: &mut [u8]) -> bool
+    requires { length bytes.old ≡ 1 }
+    ensures { bytes_of (high ∷ low ∷ []) ≡ (if result then Some bytes.new else None) }
+{
+    let both = is_digit(high) & is_digit(low);
+    if both {
+        bytes[0] = byte_of(high, low);
+    }
+    both
+}
+
+/// The same of the first thirty-two digits.
+#[inline(always)]
+fn decode_sixteen(digits: &[u8], bytes: &mut [u8]) -> bool
+    requires many { 32 ≤ length digits.now }
+    requires room { length bytes.old ≡ 16 }
+    ensures { bytes_of (take 32 digits.now) ≡ (if result then Some bytes.new else None) }
+{
+    let front = u8x16::from_slice(digits);
+    let (_, behind) = digits.split_at(16);
+    let back = u8x16::from_slice(behind);
+    let (first, second) = front.deinterleave(back);
+    let high = values_of(first);
+    let low = values_of(second);
+    let values = (high << u8x16::splat(4)) + low;
+    values.copy_to_slice(bytes);
+    high.simd_max(low).simd_ge(u8x16::splat(16)).to_bitmask() == 0
+}
+
+/// The values of sixteen digits; 16 or more in the place of a byte that is none.
+#[inline(always)]
+fn values_of(digits: u8x16) -> u8x16
+    requires { length digits ≡ 16 }
+    ensures { map told_digit result ≡ map hex_digit_value digits }
+{
+    let decimals = (digits + u8x16::splat(198)).saturating_sub(u8x16::splat(6)) - u8x16::splat(240);
+    let letters = ((digits & u8x16::splat(223)) - u8x16::splat(b'A')).saturating_add(u8x16::splat(10));
+    decimals.simd_min(letters)
+}
+
 /// Writes the bytes of pairs of digits.
-pub(crate) fn decode(digits: &[u8], bytes: &mut [u8])
+fn decode_few(digits: &[u8], bytes: &mut [u8])
     requires pairs { IsTrue (is_some (bytes_of digits.now)) }
     requires room { length digits.now ≡ 2 * length bytes.old }
     ensures { bytes_of digits.now ≡ Some bytes.new }
@@ -128,3 +198,4 @@ fn digits_of(values: u8x16) -> u8x16
 {
     u8x16::from_array(*b"0123456789abcdef").swizzle_dyn(values)
 }
+

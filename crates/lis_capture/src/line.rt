@@ -7,7 +7,7 @@ ghost use Rattle.lis_capture.specs.Digits.{bytes_of};
 ghost use Rattle.lis_capture.specs.Line.{added_line, line_of, plain_line, said, version_after, without_return};
 ghost use Rattle.lis_capture.specs.Told.{line_with};
 
-use crate::digits::{are_pairs, decode};
+use crate::digits::decode;
 use lis_link::Readiness;
 use lis_text::CR;
 use std::marker::Model;
@@ -86,24 +86,27 @@ enum LineKind {
     Version,
 }
 
-/// The line that was read last. Its bytes stand in a fixed buffer.
+/// The line that was read last. Its bytes stand in one of two fixed buffers; those of the next line go to the other,
+/// so that a line that is refused half way leaves the line before it as it was.
 #[derive(Drop)]
 pub(crate) struct Told {
     kind: LineKind,
-    bytes: [u8; MOST_BYTES],
+    front: [u8; MOST_BYTES],
+    back: [u8; MOST_BYTES],
+    in_back: bool,
     len: usize,
 }
 
 impl Model for Told {
-    ghost use Rattle.std.specs.Prelude.{◌≡◌, ◌≤◌, length, take};
+    ghost use Rattle.std.specs.Prelude.{◌≡◌, ◌≤◌, if◌then◌else◌, length, take};
     ghost use Rattle.lis_capture.specs.declared.line.Line.{Line};
     ghost use Rattle.lis_capture.specs.Told.{line_with};
 
     ghost Value = { Line };
 
-    ghost view = { λ t. line_with t.kind (take t.len t.bytes) };
+    ghost view = { λ t. line_with t.kind (take t.len (if t.in_back then t.back else t.front)) };
 
-    ghost invariant = { λ t. (t.len ≤ 2047) × (length t.bytes ≡ 2047) };
+    ghost invariant = { λ t. (t.len ≤ 2047) × (length t.front ≡ 2047) × (length t.back ≡ 2047) };
 }
 
 impl Told {
@@ -113,7 +116,9 @@ impl Told {
     {
         Told {
             kind: LineKind::Empty,
-            bytes: [0; MOST_BYTES],
+            front: [0; MOST_BYTES],
+            back: [0; MOST_BYTES],
+            in_back: false,
             len: 0,
         }
     }
@@ -122,7 +127,12 @@ impl Told {
     pub(crate) fn line(&self) -> Line<'_>
         ensures { result ≡ self.now }
     {
-        let (bytes, _) = self.bytes.split_at(self.len);
+        let buffer = if self.in_back {
+            &self.back
+        } else {
+            &self.front
+        };
+        let (bytes, _) = buffer.split_at(self.len);
         match self.kind {
             LineKind::Empty => Line::Empty,
             LineKind::FromAnalyzer => Line::FromAnalyzer(LineBytes { bytes }),
@@ -204,20 +214,27 @@ impl Told {
         false
     }
 
-    /// The same of the digits of a line of this kind. No byte is written unless all are digits.
+    /// The same of the digits of a line of this kind.
     fn read_digits(&mut self, kind: LineKind, digits: &[u8]) -> bool
         requires { length digits.now ≤ 4094 }
         ensures said { result ≡ is_some (bytes_of digits.now) }
         ensures line { self.new ≡ unwrap_or (option_map (line_with kind) (bytes_of digits.now)) self.old }
     {
-        if !are_pairs(digits) {
+        if digits.len() % 2 == 1 {
             return false;
         }
         let len = digits.len() / 2;
-        decode(digits, &mut self.bytes[..len]);
-        self.len = len;
-        self.kind = kind;
-        true
+        let told = if self.in_back {
+            decode(digits, &mut self.front[..len])
+        } else {
+            decode(digits, &mut self.back[..len])
+        };
+        if told {
+            self.in_back = !self.in_back;
+            self.len = len;
+            self.kind = kind;
+        }
+        told
     }
 
     /// Tells a line that has no bytes.

@@ -177,6 +177,15 @@ impl<const N: usize> ReceiverOf<N> {
         self.line.reserve(bytes)
     }
 
+    /// Takes back a text that was handed out and is needed no more: its room is kept for the texts that follow, where it
+    /// is more than the receiver has, so that those take no memory. Nothing else changes.
+    pub fn reuse(&mut self, text: LinkText)
+        ensures state { (r : ReceiverState) → IsIn N self.old r → IsIn N self.new r }
+        ensures spare { self.old.spare ≤ self.new.spare }
+    {
+        self.line.reuse(text);
+    }
+
     /// Hears one byte and answers it. A byte that gives no signal is quiet; ENQ, EOT and frames are
     /// answered by the table of the receiver's steps.
     ///

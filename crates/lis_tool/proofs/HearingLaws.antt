@@ -116,12 +116,12 @@ module _
 
     -- it was taken
     pub hears_on :
-        (c : Out) (next : ℕ) (now : Kept) (new_replies : List ℕ) (new_texts : ℕ) → now ≡ new → 0 < n → n ≤ length rest → count + length bytes ≤ 2 ^ 63
+        (c : Out) (next : ℕ) (now : Kept) (new_replies : List ℕ) (new_texts : ℕ) → ((s : ReceiverState) → IsIn limit new s → IsIn limit now s) → 0 < n → n ≤ length rest → count + length bytes ≤ 2 ^ 63
         → (account ≡ Lines → new_replies ≡ kept_replies ++ option_to_list step.reply)
         → new_texts ≡ min (kept_texts + length (option_to_list step.message)) most_counted
         → Gathered b c after (Ok next) (text_parts account number (option_to_list step.message))
         → IsHearingOn account limit number now new_replies new_texts a c before next r collected count left bytes
-    hears_on c next now new_replies new_texts same_kept some fits small replies_with texts_with put =
+    hears_on c next now new_replies new_texts kept_on some fits small replies_with texts_with put =
         let same : length (option_to_list step.message) ≡ length (option_to_list meant.message) =
         ap (λ (o : Option (List ℕ)). length (option_to_list o)) made.answer.message_is in
         record {
@@ -129,7 +129,7 @@ module _
           here_collected = at.here_collected ++ option_to_list meant.reply;
           here_count = at.here_count + length (option_to_list meant.message);
           hearing = record {
-            receiver_is = subst (λ (k : Kept). IsIn limit k meant.after) (sym same_kept) made.state;
+            receiver_is = kept_on meant.after made.state;
             replies_are = λ lines.
                 replies_with lines ∙ ap (λ (l : List ℕ). l ++ option_to_list step.reply) (at.hearing.replies_are lines)
                 ∙ ap (λ (o : Option ℕ). at.here_collected ++ option_to_list o) made.answer.reply_is;

@@ -6,6 +6,7 @@ ghost use Rattle.lis_frame.specs.Limit.{IsLimit};
 ghost use Rattle.lis_capture.specs.declared.line.Line.{Line as LineContent};
 ghost use Rattle.lis_capture.specs.declared.line.Line.TheVariants as line_kinds;
 ghost use Rattle.lis_link.specs.Receiver.{ReceiverState};
+ghost use Rattle.lis_link.specs.Stands.{IsIn};
 ghost use Rattle.lis_tool.specs.declared.playing.Account.{Account as AccountOf};
 ghost use Rattle.lis_tool.specs.declared.playing.Account.TheVariants as accounts;
 ghost use Rattle.lis_tool.specs.LineOutcome.{LineEnds, LineSteps};
@@ -128,7 +129,8 @@ impl<const N: usize, T: Teller> Playing<N, T> {
         Ok(Turn::On(after))
     }
 
-    /// Takes a step of the receiver: its reply is kept, and what is told of its text goes out.
+    /// Takes a step of the receiver: its reply is kept, what is told of its text goes out, and the text's room is used
+    /// again.
     fn take<W: Sink>(
         &mut self,
         sink: &mut W,
@@ -141,25 +143,32 @@ impl<const N: usize, T: Teller> Playing<N, T> {
         ensures took { Took T.account number step self.old.replies.items self.new.replies.items
             (vec_len self.old.replies) (vec_capacity self.old.replies) self.old.texts self.new.texts
             (out (W.taken sink.old) page.old) (out (W.taken sink.new) page.new) written result }
-        ensures receiver { self.new.receiver ≡ self.old.receiver }
+        ensures receiver { (r : ReceiverState) → IsIn N self.old.receiver r → IsIn N self.new.receiver r }
         ensures differences { self.new.differences ≡ self.old.differences }
         ensures failed { W.failed sink.new ≡ is_err result }
     {
-        if let Note::OutOfMemory = step.note {
+        let Step {
+            reply,
+            message,
+            note,
+        } = step;
+        if let Note::OutOfMemory = note {
             return Ok(Turn::Off(starved(written)));
         }
-        if !self.collect(step.reply) {
+        if !self.collect(reply) {
             return Ok(Turn::Off(starved(written)));
         }
-        self.texts = self.texts.saturating_add(count_of(&step.message));
-        match gather_message(
+        self.texts = self.texts.saturating_add(count_of(&message));
+        let told = gather_message(
             sink,
             page,
             written,
             self.teller.account(),
             number,
-            &step.message,
-        ) {
+            &message,
+        );
+        self.reuse(message);
+        match told {
             Ok(after) => Ok(Turn::On(after)),
             Err(fault) => Err(fault),
         }
@@ -182,6 +191,18 @@ impl<const N: usize, T: Teller> Playing<N, T> {
         }
     }
 
+    /// The room of a text that was told is used again.
+    fn reuse(&mut self, message: Option<LinkText>)
+        ensures receiver { (r : ReceiverState) → IsIn N self.old.receiver r → IsIn N self.new.receiver r }
+        ensures replies { self.new.replies ≡ self.old.replies }
+        ensures texts { self.new.texts ≡ self.old.texts }
+        ensures differences { self.new.differences ≡ self.old.differences }
+    {
+        if let Some(text) = message {
+            self.receiver.reuse(text);
+        }
+    }
+
     /// Compares the bytes of the computer with the replies, which are let go.
     fn compare<W: Sink>(
         &mut self,
@@ -194,7 +215,7 @@ impl<const N: usize, T: Teller> Playing<N, T> {
         requires { W.failed sink.old ≡ false }
         ensures steps { (lines : List LineContent) →
             IsPlaying T.account N self.old.receiver self.old.replies.items self.old.texts self.old.differences lines →
-            number ≡ length lines + 1 → number < 2 ^ 44 →
+            number ≡ length lines + 1 → number < 2 ^ 47 →
             LineSteps true
             (IsPlaying T.account N self.new.receiver self.new.replies.items self.new.texts self.new.differences
             (line_kinds.FromComputer bytes.now ∷ lines))
@@ -222,7 +243,7 @@ impl<const N: usize, T: Teller> Playing<N, T> {
         requires lines { T.account ≡ accounts.Lines }
         ensures ends { (lines : List LineContent) →
             IsPlaying T.account N self.receiver self.replies.items self.texts self.differences lines →
-            length lines < 2 ^ 44 →
+            length lines < 2 ^ 47 →
             LineEnds ((replay_writes N).report lines) (out (W.taken sink.old) page.old) (out (W.taken sink.new) page.new) written ((replay_writes N).last lines) result }
         ensures failed { W.failed sink.new ≡ is_err result }
     {

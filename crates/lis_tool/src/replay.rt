@@ -1,7 +1,8 @@
 //! The command `replay`: what a receiver answers to the analyzer's bytes of a capture, beside the computer's.
 
-ghost use Rattle.std.specs.Prelude.{◌≡◌, ◌≤◌, false, true, is_err, IfOk};
+ghost use Rattle.std.specs.Prelude.{◌≡◌, ◌+◌, ◌≤◌, ◌++◌, ℕ, List, false, true, is_err, length, IfOk};
 ghost use Rattle.lis_frame.specs.Limit.{IsLimit};
+ghost use Rattle.lis_capture.specs.declared.page.TheConstants.{PAGE_ROOM};
 ghost use Rattle.lis_tool.specs.CaptureRuns.{CaptureRan};
 ghost use Rattle.lis_tool.specs.Output.{Gathered, out};
 ghost use Rattle.lis_tool.specs.Parts.{part_text};
@@ -9,6 +10,7 @@ ghost use Rattle.lis_tool.specs.Replay.{compared_line, counts_line, difference_l
 ghost use Rattle.lis_tool.specs.Runs.{IsFresh, Stops};
 
 use crate::fault::ToolFault;
+use crate::gather::{append_number, make_room};
 use crate::lines::Lines;
 use crate::machine::run;
 use crate::parts::{Part, gather_parts};
@@ -17,6 +19,9 @@ use crate::report::Report;
 use lis_capture::Page;
 use lis_port::{Sink, Source};
 use std::alloc::Global;
+
+/// The room for the line of a text: its words and two numbers.
+const TEXT_LINE_ROOM: usize = 100;
 
 /// Plays a capture to a new receiver whose frames have at most `N` bytes of text (LIS01-A2, 6.3): it hears what the
 /// analyzer sent, and what it replies is compared with what the computer sent. A line tells each text that it hands
@@ -68,14 +73,26 @@ pub(crate) fn gather_text_line<W: Sink>(
     ensures gathered { Gathered (out (W.taken sink.old) page.old) (out (W.taken sink.new) page.new) written result (text_line number text.now) }
     ensures failed { W.failed sink.new ≡ is_err result }
 {
-    let parts = [
-        Part::Text(b"text "),
-        Part::Number(number),
-        Part::Text(b" "),
-        Part::Number(text.len() as u64),
-        Part::Text(b"\n"),
-    ];
-    gather_parts(sink, page, written, &parts)
+    match make_room(sink, page, written, TEXT_LINE_ROOM) {
+        Ok(after) => {
+            append_text_line(page, number, text.len() as u64);
+            Ok(after)
+        }
+        Err(fault) => Err(fault),
+    }
+}
+
+/// Puts the line of a text of so many bytes behind the page.
+#[inline(always)]
+fn append_text_line(page: &mut Page, number: u64, len: u64)
+    requires { length page.old + TEXT_LINE_ROOM ≤ PAGE_ROOM }
+    ensures { (text : List ℕ) → len ≡ length text → page.new ≡ page.old ++ text_line number text }
+{
+    page.append(b"text ");
+    append_number(page, number);
+    page.append(b" ");
+    append_number(page, len);
+    page.append(b"\n");
 }
 
 /// Gathers the difference of the computer's bytes and the replies, where there is one.

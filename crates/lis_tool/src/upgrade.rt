@@ -84,6 +84,7 @@ impl LineMachine for Upgrade {
 }
 
 /// Gathers the line of the version, where no line was read before.
+#[inline(always)]
 fn gather_opening<W: Sink>(
     sink: &mut W,
     page: &mut Page,
@@ -102,6 +103,7 @@ fn gather_opening<W: Sink>(
 }
 
 /// Gathers a line; the version stands in front alone.
+#[inline(always)]
 fn gather_line<W: Sink>(
     sink: &mut W,
     page: &mut Page,

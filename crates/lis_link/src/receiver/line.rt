@@ -119,6 +119,18 @@ impl Line {
         self.held.reserve(bytes as usize)
     }
 
+    /// Takes the room of a text for the held text, where there is none yet that is held and more room in the other.
+    pub(crate) fn reuse(&mut self, text: LinkText)
+        ensures line { self.new ≡ record self.old { spare = self.new.spare } }
+        ensures spare { self.old.spare ≤ self.new.spare }
+    {
+        let mut room = text.into_vec();
+        if self.held.is_empty() && self.held.capacity() < room.capacity() {
+            room.clear();
+            self.held = room;
+        }
+    }
+
     /// The receiver's timer runs out.
     pub(crate) fn timer(&mut self) -> Step
         ensures step { (limit : ℕ) (scanner : Held) (r : ReceiverState) → IsIn limit (kept_of self.old scanner) r →

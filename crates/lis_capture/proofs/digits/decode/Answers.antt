@@ -1,34 +1,19 @@
-use Rattle.std.proofs.Common.{◌+◌, ◌*◌, slice_index, arith, ◌∙◌}
-use Rattle.hex.specs.Hex.{is_hex_digit}
-use Rattle.hex.proofs.Pairs.{decode_step, decode_done}
-use Rattle.hex.proofs.HexLemmas.{decode_of-even}
-use Rattle.lis_capture.proofs.DigitsLemmas.{all_at, bytes_of-decoded, pair_of_digits, pairs_from_some}
+use Rattle.std.proofs.Common.{arith, length}
+use Rattle.lis_capture.proofs.DecodeLemmas.{last_read, more_read, none_behind}
 use Rattle.lis_capture.proofs.digits.decode.Goals as goal
 
-pub byte_of-requires-clause-high : goal.byte_of-requires-clause-high
-byte_of-requires-clause-high c =
-    all_at is_hex_digit c.args.digits.now (2 * c.bytes.i) 0 (pairs_from_some c.args.digits.now c.requires.pairs).2
-    (omega arith)
+pub returns-then-not-decode_sixteen : goal.returns-then-not-decode_sixteen
+returns-then-not-decode_sixteen c =
+    none_behind c.args.digits.now c.decode_sixteen.new.bytes (length c.args.bytes.now) c.loop-place.place c.requires (omega (arith, c.loop-place-test.true))
+    c.if-not-decode_sixteen.ensures
 
-pub byte_of-requires-clause-low : goal.byte_of-requires-clause-low
-byte_of-requires-clause-low c =
-    all_at is_hex_digit c.args.digits.now (2 * c.bytes.i + 1) 0 (pairs_from_some c.args.digits.now c.requires.pairs).2
-    (omega arith)
-
-pub bytes-preserved : goal.bytes-preserved
-bytes-preserved c =
-    let i = c.bytes.i in
-    let digits = c.args.digits.now in
-    let all = (pairs_from_some digits c.requires.pairs).2 in
-    decode_step _ _ i _ (omega arith) (omega arith)
-    (rw c.byte_of.ensures
-    (pair_of_digits (slice_index digits (2 * i)) (slice_index digits (2 * i + 1)) (2 * i)
-    (all_at is_hex_digit digits (2 * i) 0 all (omega arith))
-    (all_at is_hex_digit digits (2 * i + 1) 0 all (omega arith)))) c.bytes.invariant
+pub loop-place-preserved : goal.loop-place-preserved
+loop-place-preserved c =
+    more_read c.args.digits.now c.loop-place.bytes c.decode_sixteen.new.bytes (length c.args.bytes.now) c.loop-place.place _ c.requires
+    c.loop-place.auto.bytes (omega (arith, c.loop-place-test.true)) c.loop-place.invariant c.if-not-decode_sixteen.ensures
 
 pub returns : goal.returns
 returns c =
-    let pairs = pairs_from_some c.args.digits.now c.requires.pairs in
-    bytes_of-decoded c.args.digits.now c.bytes.bytes pairs.0
-    (decode_of-even c.args.digits.now (omega arith)
-    ∙ decode_done _ c.bytes.bytes c.bytes.i (omega arith) (omega arith) c.bytes.invariant)
+    last_read c.args.digits.now c.loop-place.bytes c.decode_sixteen-2.new.bytes c.decode_sixteen-2.result (length c.args.bytes.now) c.loop-place.place
+    _ _ c.requires c.loop-place.auto.bytes (omega (arith, c.if-bytes-lt16.false)) c.loop-place-test.false (omega (arith, c.loop-place.auto.bytes, c.if-bytes-lt16.false))
+    c.loop-place.invariant c.decode_sixteen-2.ensures

@@ -1,8 +1,10 @@
-use Rattle.std.proofs.Common.{◌≡◌, ◌*◌, take, drop}
-use Rattle.hex.specs.Hex.{decode_pairs}
-use Rattle.hex.proofs.Pairs.{prepend}
+use Rattle.std.proofs.Common.{◌-◌}
+use Rattle.lis_capture.proofs.DecodeLemmas.{IsRead}
 use Rattle.lis_capture.proofs.digits.decode.Given as goal
 
-abbrev pub invariant-bytes : goal.invariant-bytes
-invariant-bytes l =
-    decode_pairs 0 l.fn.digits ≡ prepend (take l.i l.bytes) (decode_pairs (2 * l.i) (drop (2 * l.i) l.fn.digits))
+-- so many bytes are read
+abbrev pub invariant-loop-place : goal.invariant-loop-place
+invariant-loop-place l = IsRead l.fn.digits l.bytes l.place
+
+abbrev pub decreases-loop-place : goal.decreases-loop-place
+decreases-loop-place l = l.last - l.place

@@ -1,4 +1,6 @@
-use Rattle.std.proofs.Common.{arith}
+use Rattle.std.proofs.Common.{arith, subst, sym}
+use Rattle.lis_link.specs.Kept.{Kept}
+use Rattle.lis_link.specs.Stands.{IsIn}
 use Rattle.lis_tool.proofs.GatherLaws.{gathered_nothing}
 use Rattle.lis_tool.proofs.playing.Playing.take.Goals as goal
 
@@ -16,7 +18,7 @@ returns-then-not-collect g c = record {
     λ other. c.collect.ensures.full c.if-not-collect.true,
     rw c.starved-then-not-collect.ensures.written (gathered_nothing _ c.args.written (omega arith)),
   );
-  receiver = c.collect.ensures.receiver;
+  receiver = λ r is. subst (λ (k : Kept). IsIn g.row.N k r) (sym c.collect.ensures.receiver) is;
   differences = c.collect.ensures.differences;
   failed = c.requires;
 }

@@ -1,0 +1,79 @@
+-- The values of digits, lane by lane.
+use Rattle.std.proofs.Common.{◌≡◌, ℕ, zero, suc, ◌+◌, ◌-◌, ◌%◌, ◌<◌, ◌==◌, Bool, true, false, cond, ltb, List, [], ◌∷◌, length, map}
+use Rattle.std.proofs.Common.{replicate, bit_and, Option, None, Some, refl, ap, arith}
+use Rattle.std.specs.Simd.Lanes.{Each1, sel_l, top, zip2}
+use Rattle.std.proofs.lemmas.Bool.{eqb-true}
+use mir.Syntax.{w8}
+use mir.Val.{Fits}
+use Rattle.hex.specs.Hex.{hex_digit_value}
+use Rattle.lis_capture.specs.Digits.{told_digit}
+use Rattle.lis_capture.proofs.DigitsLemmas.{passes, passes_at}
+
+-- ---- the value of a digit, tried at every byte
+
+abbrev plus : ℕ → ℕ → ℕ
+plus a b = (a + b) % 256
+
+abbrev less : ℕ → ℕ → ℕ
+less a b = (a + (256 - b)) % 256
+
+abbrev below : ℕ → ℕ → ℕ
+below a b = cond (ltb a b) 255 0
+
+-- the numbers that the lanes of a vector have: by way of the decimal digits, and of the letters
+abbrev decimals : ℕ → ℕ
+decimals b = less (less (cond (top 7 (below (plus b 198) 6)) 6 (plus b 198)) 6) 240
+
+abbrev letters : ℕ → ℕ
+letters b =
+    plus (less (bit_and b 223) 65)
+    (cond (top 7 (below 10 (255 - less (bit_and b 223) 65))) 10 (255 - less (bit_and b 223) 65))
+
+abbrev value : ℕ → ℕ
+value b = cond (top 7 (below (decimals b) (letters b))) (decimals b) (letters b)
+
+abbrev same_told : Option ℕ → Option ℕ → Bool
+same_told None None = true
+same_told None (Some b) = false
+same_told (Some a) None = false
+same_told (Some a) (Some b) = a == b
+
+same_told-true : (a b : Option ℕ) → same_told a b ≡ true → a ≡ b
+same_told-true None None same = refl
+same_told-true None (Some b) same = cc
+same_told-true (Some a) None same = cc
+same_told-true (Some a) (Some b) same = ap (λ (n : ℕ). Some n) (eqb-true a b same)
+
+all_told : passes (λ b. same_told (told_digit (value b)) (hex_digit_value b)) 0 256 ≡ true
+all_told = refl
+
+value_told : (b : ℕ) → b < 256 → told_digit (value b) ≡ hex_digit_value b
+value_told b fits =
+    same_told-true (told_digit (value b)) (hex_digit_value b)
+    (passes_at (λ b. same_told (told_digit (value b)) (hex_digit_value b)) 0 256 b all_told (omega arith) (omega arith))
+
+-- and of the lanes of a vector
+abbrev decimals_of : ℕ → List ℕ → List ℕ
+decimals_of n bytes =
+    zip2 less
+    (zip2 less
+    (sel_l (map (top 7) (zip2 below (zip2 plus bytes (replicate n 198)) (replicate n 6))) (replicate n 6)
+    (zip2 plus bytes (replicate n 198))) (replicate n 6)) (replicate n 240)
+
+abbrev letters_of : ℕ → List ℕ → List ℕ
+letters_of n bytes =
+    let from_a : List ℕ = zip2 less (zip2 bit_and bytes (replicate n 223)) (replicate n 65) in
+    let room : List ℕ = map (λ (a : ℕ). 255 - a) from_a in
+    zip2 plus from_a (sel_l (map (top 7) (zip2 below (replicate n 10) room)) (replicate n 10) room)
+
+abbrev values_of : ℕ → List ℕ → List ℕ
+values_of n bytes =
+    sel_l (map (top 7) (zip2 below (decimals_of n bytes) (letters_of n bytes))) (decimals_of n bytes) (letters_of n bytes)
+
+pub values_told :
+    (n : ℕ) (bytes : List ℕ) → length bytes ≡ n → Each1 (Fits w8) bytes →
+    map told_digit (values_of n bytes) ≡ map hex_digit_value bytes
+values_told n [] long fits = refl
+values_told zero (b ∷ bytes) long fits = absurd (omega arith)
+values_told (suc n) (b ∷ bytes) long fits =
+    λ i. value_told b fits.0.fits i ∷ values_told n bytes (omega arith) fits.1 i
