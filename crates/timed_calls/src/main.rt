@@ -5,8 +5,8 @@
 //!     timed_calls play 40     plays a session of 1,000 full frames so many times, and tells how many were accepted
 #![tactic(auto)]
 
+use lis_link::{Outcome, Receiver};
 use lis_text::{LinkText, Texts};
-use lis_link::{Note, Outcome, Receiver};
 use lis_world::{Event, Events, play};
 use std::alloc::Global;
 use std::env;
