@@ -4,7 +4,7 @@ ghost use Rattle.std.specs.Prelude.{◌≡◌, IfOk};
 ghost use Rattle.lis_record.specs.FrontReading.{components_of, fields_of, repeats_of};
 
 use crate::escapes::read_component;
-use crate::texts::first_part;
+use crate::texts::{count_parts, first_part};
 use lis_field::{Delimiters, Field, Kind, Record, Repeat};
 use std::alloc::{AllocError, Global};
 
@@ -49,7 +49,8 @@ pub(crate) fn read_fields(
 ) -> Result<Record, AllocError>
     ensures { IfOk result (λ content. content ≡ record { kind = kind; fields = fields_of delimiters text.now }) }
 {
-    let mut record = Record::new(alloc, kind);
+    let count = count_parts(text, delimiters.field()).saturating_sub(1);
+    let mut record = Record::with_capacity(alloc, kind, count)?;
     let mut rest = text;
     while let Some((_delimiter, more)) = rest.split_first() {
         let (part, others) = first_part(more, delimiters.field());

@@ -194,7 +194,8 @@ pub(crate) fn read_component(
 ) -> Result<Component, AllocError>
     ensures { IfOk result (λ component. component ≡ symbols_of delimiters text.now) }
 {
-    let mut component = Component::new(alloc);
+    // No symbol has less than a byte, so this is taken once.
+    let mut component = Component::with_capacity(alloc, text.len())?;
     let mut symbols = LentSymbols::of_text(delimiters, text);
     while let Some(symbol) = symbols.next() {
         component.push(symbol)?;
