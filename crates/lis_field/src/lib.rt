@@ -3,6 +3,7 @@
 
 mod delimiting;
 mod kinds;
+mod one_or_more;
 mod parts;
 mod records;
 mod symbols;

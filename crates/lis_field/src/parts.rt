@@ -4,8 +4,9 @@ ghost use Rattle.std.specs.Prelude.{◌≡◌, ◌++◌, ◌∷◌, [], length, 
 ghost use Rattle.std.specs.Option.{option_copied};
 ghost use Rattle.lis_field.specs.Shape.{AreSymbols, IsFieldShape, IsRepeatShape};
 
+use crate::one_or_more::OneOrMore;
 use crate::symbols::Sym;
-use std::alloc::{AllocFailed, Global};
+use std::alloc::{AllocError, AllocFailed, Global};
 use std::marker::Model;
 
 /// A list of symbols.
@@ -32,6 +33,15 @@ impl Component {
         Component {
             symbols: Vec::new(alloc),
         }
+    }
+
+    /// A component without a symbol, with memory for so many.
+    pub fn with_capacity(alloc: Global, symbols: usize) -> Result<Self, AllocError>
+        ensures { IfOk result (λ component. component ≡ []) }
+    {
+        Ok(Component {
+            symbols: Vec::with_capacity(alloc, symbols)?,
+        })
     }
 
     /// Puts a symbol at the end. Where memory is refused it comes back, and the component is as before.
@@ -69,7 +79,7 @@ impl Component {
 /// One or more components.
 #[derive(Debug, Drop)]
 pub struct Repeat {
-    components: Vec<Component>,
+    components: OneOrMore<Component>,
 }
 
 impl Model for Repeat {
@@ -77,9 +87,9 @@ impl Model for Repeat {
 
     ghost Value = { Components };
 
-    ghost view = { λ r. r.components.items };
+    ghost view = { λ r. r.components };
 
-    ghost invariant = { λ r. IsRepeatShape r.components.items };
+    ghost invariant = { λ r. IsRepeatShape r.components };
 }
 
 impl Repeat {
@@ -89,9 +99,9 @@ impl Repeat {
         ensures err { IfErr result (λ refused. refused.value ≡ component) }
     {
         let _ = component.symbols();
-        let mut components = Vec::new(alloc);
-        components.push(component)?;
-        Ok(Repeat { components })
+        Ok(Repeat {
+            components: OneOrMore::new(alloc, component),
+        })
     }
 
     /// Puts a component at the end. Where memory is refused it comes back, and the repeat is as before.
@@ -107,14 +117,14 @@ impl Repeat {
     pub fn len(&self) -> usize
         ensures { result ≡ length self.now }
     {
-        self.components.len()
+        self.components().len()
     }
 
     /// The component at a place, from 0.
     pub fn get(&self, place: usize) -> Option<&Component>
         ensures { option_copied result ≡ slice_get self.now place }
     {
-        self.components.get(place)
+        self.components().get(place)
     }
 
     /// The components, in order.
@@ -129,7 +139,7 @@ impl Repeat {
 /// One or more repeats.
 #[derive(Debug, Drop)]
 pub struct Field {
-    repeats: Vec<Repeat>,
+    repeats: OneOrMore<Repeat>,
 }
 
 impl Model for Field {
@@ -137,9 +147,9 @@ impl Model for Field {
 
     ghost Value = { Repeats };
 
-    ghost view = { λ f. f.repeats.items };
+    ghost view = { λ f. f.repeats };
 
-    ghost invariant = { λ f. IsFieldShape f.repeats.items };
+    ghost invariant = { λ f. IsFieldShape f.repeats };
 }
 
 impl Field {
@@ -149,9 +159,9 @@ impl Field {
         ensures err { IfErr result (λ refused. refused.value ≡ repeat) }
     {
         let _ = repeat.components();
-        let mut repeats = Vec::new(alloc);
-        repeats.push(repeat)?;
-        Ok(Field { repeats })
+        Ok(Field {
+            repeats: OneOrMore::new(alloc, repeat),
+        })
     }
 
     /// Puts a repeat at the end. Where memory is refused it comes back, and the field is as before.
@@ -167,14 +177,14 @@ impl Field {
     pub fn len(&self) -> usize
         ensures { result ≡ length self.now }
     {
-        self.repeats.len()
+        self.repeats().len()
     }
 
     /// The repeat at a place, from 0.
     pub fn get(&self, place: usize) -> Option<&Repeat>
         ensures { option_copied result ≡ slice_get self.now place }
     {
-        self.repeats.get(place)
+        self.repeats().get(place)
     }
 
     /// The repeats, in order.

@@ -1,12 +1,12 @@
 //! A record: its kind and its fields (LIS02-A2, Data Record Usage Overview).
 
-ghost use Rattle.std.specs.Prelude.{◌≡◌, ◌++◌, ◌∷◌, [], length, IfErr, OnOk};
+ghost use Rattle.std.specs.Prelude.{◌≡◌, ◌++◌, ◌∷◌, [], length, IfErr, IfOk, OnOk};
 ghost use Rattle.std.specs.Option.{option_copied};
 ghost use Rattle.lis_field.specs.Shape.{AreFields, IsRecordShape, field_at, first_number};
 
 use crate::kinds::Kind;
 use crate::parts::Field;
-use std::alloc::{AllocFailed, Global};
+use std::alloc::{AllocError, AllocFailed, Global};
 use std::marker::Model;
 
 /// A record: its kind and the fields after its letter, or after a header's delimiters.
@@ -35,6 +35,14 @@ impl Record {
             kind,
             fields: Vec::new(alloc),
         }
+    }
+
+    /// A record of this kind without a field, with memory for so many.
+    pub fn with_capacity(alloc: Global, kind: Kind, fields: usize) -> Result<Self, AllocError>
+        ensures { IfOk result (λ entry. entry ≡ record { kind = kind; fields = [] }) }
+    {
+        let fields = Vec::with_capacity(alloc, fields)?;
+        Ok(Record { kind, fields })
     }
 
     /// Puts a field at the end. Where memory is refused it comes back, and the record is as before.

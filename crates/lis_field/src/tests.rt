@@ -72,3 +72,42 @@ fn a_record_is_made_of_its_parts(rt: HostRuntime) -> Result<(), Fail> {
     assert_eq!(rt; component.symbols(), want.as_slice());
     Ok(())
 }
+
+#[test]
+fn a_field_has_any_number_of_repeats_from_one(rt: HostRuntime) -> Result<(), Fail> {
+    let alloc = rt.alloc();
+    let texts = [
+        b"a".as_slice(),
+        b"bc".as_slice(),
+        b"".as_slice(),
+        b"d".as_slice(),
+    ];
+    let mut field = Field::new(alloc, Repeat::new(alloc, component_of(alloc, texts[0])?)?)?;
+    assert_eq!(rt; field.len(), 1);
+    for text in &texts[1..] {
+        field.push(Repeat::new(alloc, component_of(alloc, text)?)?)?;
+    }
+    assert_eq!(rt; field.len(), 4);
+    for (place, text) in texts.iter().enumerate() {
+        let repeat = field.get(place).ok_or("no repeat")?;
+        let component = repeat.get(0).ok_or("no component")?;
+        assert_eq!(rt; component.len(), text.len());
+    }
+    assert!(rt; field.get(4).is_none());
+    Ok(())
+}
+
+#[test]
+fn memory_is_taken_before_it_is_used(rt: HostRuntime) -> Result<(), Fail> {
+    let alloc = rt.alloc();
+    let mut component = Component::with_capacity(alloc, 2)?;
+    assert_eq!(rt; component.len(), 0);
+    component.push(Sym::On)?;
+    assert_eq!(rt; component.get(0), Some(&Sym::On));
+    let mut record = Record::with_capacity(alloc, Kind::O, 1)?;
+    assert_eq!(rt; record.kind(), Kind::O);
+    assert_eq!(rt; record.len(), 0);
+    record.push(Field::new(alloc, Repeat::new(alloc, component)?)?)?;
+    assert_eq!(rt; record.len(), 1);
+    Ok(())
+}

@@ -21,7 +21,7 @@ parts_of-some byte (b ∷ bs) =
       | inr other ↦ rw other.0 (onto_first-some b (parts_of byte bs))
     ]
 
-onto_first-apart : (byte b : ℕ) → b ≢ byte → (parts : List (List ℕ)) → All (Lacks byte) parts → All (Lacks byte) (onto_first b parts)
+pub onto_first-apart : (byte b : ℕ) → b ≢ byte → (parts : List (List ℕ)) → All (Lacks byte) parts → All (Lacks byte) (onto_first b parts)
 onto_first-apart byte b other [] h = All-cons (Lacks byte) (b ∷ []) [] (All-cons (λ c. c ≢ byte) b [] other (All-nil (λ c. c ≢ byte))) (All-nil (Lacks byte))
 onto_first-apart byte b other (part ∷ parts) h =
     All-cons (Lacks byte) (b ∷ part) parts (All-cons (λ c. c ≢ byte) b part other (All-head (Lacks byte) part parts h)) (All-tail (Lacks byte) part parts h)

@@ -2,7 +2,9 @@ mod DefinitionRows
 pub mod Components
 pub mod FaultLaws
 pub mod Joins
+pub mod LentTexts
 pub mod Opening
+pub mod Pairs
 pub mod Places
 pub mod ReadBack
 pub mod RecordTexts

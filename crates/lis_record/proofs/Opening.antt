@@ -1,10 +1,12 @@
 -- What a text without fault opens with, and the record that it then is.
-use Rattle.std.proofs.Common.{◌≡◌, ◌≢◌, ℕ, List, ◌∷◌, None, refl, ap, ◌∙◌}
+use Rattle.std.proofs.Common.{◌≡◌, ◌≢◌, ℕ, List, ◌∷◌, None, Result, Ok, refl, ap, ◌∙◌}
 use Rattle.lis_field.specs.declared.kinds.Kind.{Kind}
 use Rattle.lis_field.specs.declared.kinds.Kind.TheVariants as kinds
 use Rattle.lis_field.specs.Delimiters.{DelimiterBytes, IsDelimiters}
 use Rattle.lis_record.specs.Faults.{delimiter_part_fault, header_fault, record_fault}
 use Rattle.lis_record.specs.FrontReading.{DeclaresDelimiters, OpensHeader, OpensRecord, fields_of}
+use Rattle.lis_record.specs.Lent.{Lent, lent}
+use Rattle.lis_record.specs.declared.faults.RecordFault.{RecordFault}
 use Rattle.lis_record.specs.Relation.{IsRecord}
 use Rattle.lis_field.specs.Shape.{Fields, RecordContent}
 use Rattle.lis_field.proofs.DelimiterFaults.{delimiter_fault-IsDelimiters}
@@ -15,6 +17,10 @@ use Rattle.lis_record.proofs.RecordTexts.{IsRecord-header_one, IsRecord-one}
 pub delimiter_part_fault-declares : (text : List ℕ) (d : DelimiterBytes) (rest : List ℕ) → DeclaresDelimiters text d rest → delimiter_part_fault text ≡ None
 delimiter_part_fault-declares text d rest h =
     delimiter_part_fault-trailing text d.field d.repeat d.component d.escape rest None h.whole (delimiter_fault-IsDelimiters d h.marks) h.trailing
+
+-- the answer that finds this record
+abbrev pub Read : Lent RecordContent → Result (Lent RecordContent) RecordFault
+Read entry = Ok entry
 
 content_with : Kind → Fields → RecordContent
 content_with kind fields = record { kind = kind; fields = fields }
@@ -32,6 +38,21 @@ module _ (d : DelimiterBytes) (good : IsDelimiters d) (text : List ℕ) (kind : 
 
   pub record_only : (content : RecordContent) → content ≡ record { kind = kind; fields = fields_of d rest } → (other : RecordContent) → IsRecord d text other → content ≡ other
   record_only content read other r = read ∙ IsRecord-one d good text (record { kind = kind; fields = fields_of d rest }) other IsRecord-opened r
+
+  pub lent_found : (entry : Lent RecordContent) → entry ≡ lent d (record { kind = kind; fields = fields_of d rest }) → (entry.delimiters ≡ d) × IsRecord d text entry.content × (entry.content.kind ≢ kinds.H)
+  lent_found entry is =
+      let found = record_found entry.content (ap (λ (e : Lent RecordContent). e.content) is) in
+      (ap (λ (e : Lent RecordContent). e.delimiters) is, found.0, found.1)
+
+  pub lent_only : (entry : Lent RecordContent) → entry ≡ lent d (record { kind = kind; fields = fields_of d rest }) → (other : RecordContent) → IsRecord d text other → Read entry ≡ Read (lent d other)
+  lent_only entry is other r =
+      ap Read (is ∙ ap (lent d) (record_only (record { kind = kind; fields = fields_of d rest }) refl other r))
+
+-- a record that was found is the one that is meant
+pub same_lent : (entry : Lent RecordContent) (d : DelimiterBytes) (content : RecordContent) → Read entry ≡ Read (lent d content) → (entry.delimiters ≡ d) × (entry.content ≡ content)
+same_lent entry d content h =
+    let e : entry ≡ lent d content = cc in
+    (ap (λ (x : Lent RecordContent). x.delimiters) e, ap (λ (x : Lent RecordContent). x.content) e)
 
 module _ (text : List ℕ) (d : DelimiterBytes) (rest : List ℕ) (h : OpensHeader text d rest) where
   whole_header : text ≡ h.letter ∷ d.field ∷ d.repeat ∷ d.component ∷ d.escape ∷ rest
@@ -51,3 +72,14 @@ module _ (text : List ℕ) (d : DelimiterBytes) (rest : List ℕ) (h : OpensHead
   header_only content read e other r =
       let one = IsRecord-header_one d e h.declares.marks text (record { kind = kinds.H; fields = fields_of d rest }) other refl IsRecord-opened_header r in
       (one.0, read ∙ one.1)
+
+  pub lent_header_found : (entry : Lent RecordContent) → entry ≡ lent d (record { kind = kinds.H; fields = fields_of d rest })
+      → IsDelimiters entry.delimiters × IsRecord entry.delimiters text entry.content × (entry.content.kind ≡ kinds.H)
+  lent_header_found entry is = rw is (header_found (record { kind = kinds.H; fields = fields_of d rest }) refl)
+
+  pub lent_header_only : (entry : Lent RecordContent) → entry ≡ lent d (record { kind = kinds.H; fields = fields_of d rest })
+      → (e : DelimiterBytes) (other : RecordContent) → IsRecord e text other → Read entry ≡ Read (lent e other)
+  lent_header_only entry is e other r =
+      let content : RecordContent = record { kind = kinds.H; fields = fields_of d rest } in
+      let same = header_only content refl e other r in
+      ap Read (is ∙ ap (λ (x : DelimiterBytes). lent x content) same.0 ∙ ap (lent e) same.1)

@@ -3,18 +3,33 @@ use Rattle.std.specs.Option.{is_some}
 use Rattle.lis_field.specs.declared.symbols.Sym.{Sym}
 use Rattle.hex.specs.Hex.{decode_of}
 use Rattle.std.proofs.lemmas.Bool.{lt-ltb}
-use Rattle.std.proofs.Common.{◌≡◌, ◌≢◌, ℕ, ◌+◌, ◌<◌, ◌≤◌, ◌==◌, true, false, ltb, List, [], ◌∷◌, ◌++◌, length, take, drop, Option, Some, None, option_map, unwrap_or, refl, sym, ap, ◌∙◌, arith, inl, inr, append_assoc}
-use Rattle.std.specs.List.{position, position_or_len}
-use Rattle.std.proofs.lemmas.List.{drop_all, drop_more, take_all}
+use Rattle.std.proofs.Common.{◌≡◌, ◌≢◌, ℕ, zero, suc, ◌+◌, ◌-◌, ◌<◌, ◌≤◌, ◌==◌, ◌||◌, Bool, not, slice_get, slice_index, sub-one, true, false, ltb, List, [], ◌∷◌, ◌++◌, length, take, drop, Option, Some, None, option_map, unwrap_or, refl, sym, ap, ◌∙◌, arith, inl, inr}
+use Rattle.std.specs.List.{AllPass, list_any, position, position_or_len}
+use Rattle.std.proofs.lemmas.List.Elements.{All-cons, All-nil}
+use Rattle.memchr.specs.Find.{IsFirstByte, is_byte}
+use Rattle.std.proofs.lemmas.List.{drop-drop, drop_all, drop_more, nil_from_length, take_all, take_rest}
 use Rattle.std.proofs.lemmas.List.Splits.{slice_split_first, slice_split_none}
-use Rattle.std.proofs.lemmas.List.Sums.{fails_before_first}
+use Rattle.std.proofs.lemmas.List.Sums.{fails_before_first, position_or_len_is}
 use Rattle.lis_field.specs.declared.symbols.Sym.TheVariants.{Char}
 use Rattle.lis_field.specs.Delimiters.{DelimiterBytes}
 use Rattle.lis_record.specs.Escapes.{escape_of, letter_symbol, raw_symbols}
-use Rattle.lis_record.specs.FrontReading.{escape_at, parts_behind, parts_of, symbols_of, with_escape}
+use Rattle.lis_record.specs.FrontReading.{ArePairs, digit_symbols, escape_at, parts_behind, parts_of, symbols_after, symbols_left, symbols_of}
 use Rattle.lis_field.specs.Shape.{Symbols}
-use Rattle.lis_field.proofs.FirstFaults.{ltb_tells, test_false}
-use Rattle.lis_record.proofs.Components.{symbols_of-escape, symbols_of-lone}
+use Rattle.lis_field.proofs.FirstFaults.{ltb-past, ltb_tells, position-AllPass, test_false}
+use Rattle.lis_record.proofs.Components.{symbols_of-escape, symbols_of-lone, symbols_of-plain}
+use Rattle.lis_record.proofs.Pairs.{ArePairs-none, digit_symbols-none, raw_of_others, raw_of_pairs}
+
+cases_false : (b : Bool) → ¬ (b ≡ true) → b ≡ false
+cases_false true h = absurd (h refl)
+cases_false false h = refl
+
+or_false : (a b : Bool) → (a || b) ≡ false → (a ≡ false) × (b ≡ false)
+or_false true b h = cc h
+or_false false b h = (refl, h)
+
+not_false : (b : Bool) → not b ≡ false → b ≡ true
+not_false true h = refl
+not_false false h = cc h
 
 module _ (mark : ℕ) (text : List ℕ) where
   first : ℕ
@@ -60,6 +75,50 @@ module _ (mark : ℕ) (text : List ℕ) where
       go : (o : Option ℕ) → position (λ b. b == mark) text ≡ o → parts_of mark text ≡ take end text ∷ parts_behind mark (drop end text)
       go None e = rw (h ∙ ap (λ (o : Option ℕ). unwrap_or o (length text)) e) (parts_of-none (past-position e))
       go (Some n) e = rw (h ∙ ap (λ (o : Option ℕ). unwrap_or o (length text)) e) (parts_of-some n (IsFound-position n e))
+
+-- what a search for a byte answers is its first place
+pub position-IsFirstByte : (mark : ℕ) (text : List ℕ) (r : Option ℕ) → IsFirstByte (is_byte mark) text r → r ≡ position (λ b. b == mark) text
+position-IsFirstByte mark text None none =
+    let test = λ (b : ℕ). b == mark in
+    let e : position_or_len test text ≡ length text =
+    position_or_len_is test text (length text) 0 (omega arith) (λ k below. cases_false (slice_index text k == mark) (none k (omega arith) below)) (λ past. absurd (omega arith)) in
+    let g : ltb (length text) (length text) ≡ false = ltb-past (length text) (length text) (omega arith) in
+    rw (e, g) refl
+position-IsFirstByte mark text (Some k) first =
+    let test = λ (b : ℕ). b == mark in
+    let inside : k < length text = first.0.high in
+    let e : position_or_len test text ≡ k =
+    position_or_len_is test text k 0 (omega arith) (λ j below. cases_false (slice_index text j == mark) (first.0.before j (omega arith) below)) (λ within. first.1) in
+    let g : ltb k (length text) ≡ true = lt-ltb k (length text) inside in
+    rw (e, g) refl
+
+-- where no byte fails a test, none is found
+pub position-none_bad : (p : ℕ → Bool) (text : List ℕ) → list_any (λ b. not (p b)) text ≡ false → position (λ b. not (p b)) text ≡ None
+position-none_bad p text h = position-AllPass p text (all_pass text h)
+  where
+    all_pass : (l : List ℕ) → list_any (λ b. not (p b)) l ≡ false → AllPass p l
+    all_pass [] none = All-nil (λ b. p b ≡ true)
+    all_pass (x ∷ xs) none =
+        let both = or_false (not (p x)) (list_any (λ b. not (p b)) xs) none in
+        All-cons (λ b. p b ≡ true) x xs (not_false (p x) both.0) (all_pass xs both.1)
+
+-- the parts behind the first one
+pub slice_get-behind : {A : Type 0} (parts others : List A) (part : A) (place : ℕ) → parts ≡ part ∷ others → 0 < place → slice_get parts place ≡ slice_get others (place - 1)
+slice_get-behind parts others part zero is some = absurd (omega arith)
+slice_get-behind parts others part (suc place) is some = rw (is, sub-one) refl
+
+pub part_step : (mark : ℕ) (parts : List (List ℕ)) (part others more : List ℕ) (delimiter left : ℕ) → parts ≡ part ∷ parts_behind mark others → others ≡ delimiter ∷ more → 0 < left
+    → slice_get parts left ≡ slice_get (parts_of mark more) (left - 1)
+part_step mark parts part others more delimiter left is behind some =
+    slice_get-behind parts (parts_behind mark others) part left is some ∙ ap (λ (l : List ℕ). slice_get (parts_behind mark l) (left - 1)) behind
+
+pub part_past : (mark : ℕ) (parts : List (List ℕ)) (part others : List ℕ) (left : ℕ) → parts ≡ part ∷ parts_behind mark others → length others ≡ 0 → 0 < left
+    → slice_get parts left ≡ None
+part_past mark parts part others left is none some =
+    slice_get-behind parts (parts_behind mark others) part left is some ∙ ap (λ (l : List ℕ). slice_get (parts_behind mark l) (left - 1)) (nil_from_length others none)
+
+pub part_first : (parts others : List (List ℕ)) (part : List ℕ) → parts ≡ part ∷ others → Some part ≡ slice_get parts 0
+part_first parts others part is = rw is refl
 
 -- ---- what stands between two escape bytes
 
@@ -119,22 +178,52 @@ pub symbols_of-closed : (d : DelimiterBytes) (text : List ℕ) (end : ℕ) (mean
 symbols_of-closed d text end meant h some =
     symbols_of-escape d text (meant, end + 1) (escape_at-found d text end h ∙ ap (option_map (λ (symbols : Symbols). (symbols, end + 1))) some)
 
--- ---- the steps of reading a component: what is read and what is left are the whole
+-- ---- the first symbol of a text
 
--- one symbol was read
-pub one_read : (d : DelimiterBytes) (old new : Symbols) (symbol : Sym) (rest text : List ℕ) → new ≡ old ++ symbol ∷ [] → symbols_of d text ≡ symbol ∷ symbols_of d rest
-    → new ++ symbols_of d rest ≡ old ++ symbols_of d text
-one_read d old new symbol rest text pushed read = rw (pushed, read, append_assoc) refl
+pub symbols_left-none : (d : DelimiterBytes) (text : List ℕ) → symbols_left d [] text ≡ symbols_of d text
+symbols_left-none d text = ap (λ (l : Symbols). l ++ symbols_of d text) digit_symbols-none
 
--- an escape was read
-pub escape_read : (d : DelimiterBytes) (old new : Symbols) (o : Option Symbols) (text : List ℕ) (end : ℕ) → position (λ b. b == d.escape) text ≡ Some end → escape_of d (take end text) ≡ o
-    → is_some o ≡ true → new ≡ with_escape old o → new ++ symbols_of d (drop (end + 1) text) ≡ old ++ symbols_of d (d.escape ∷ text)
-escape_read d old new None text end h e some added = cc some
-escape_read d old new (Some meant) text end h e some added = rw (added, symbols_of-closed d text end meant h e, append_assoc) refl
+lone_first : (d : DelimiterBytes) (byte : ℕ) (text rest : List ℕ) → symbols_of d text ≡ Char byte ∷ symbols_of d rest → symbols_of d text ≡ Char byte ∷ symbols_left d [] rest
+lone_first d byte text rest h = h ∙ ap (λ (l : Symbols). Char byte ∷ l) (sym (symbols_left-none d rest))
 
--- none was
-pub no_escape_read : (d : DelimiterBytes) (old new pushed : Symbols) (o : Option Symbols) (text : List ℕ) (end : ℕ) → position (λ b. b == d.escape) text ≡ Some end → escape_of d (take end text) ≡ o
-    → is_some o ≡ false → new ≡ with_escape old o → pushed ≡ new ++ Char d.escape ∷ [] → pushed ++ symbols_of d text ≡ old ++ symbols_of d (d.escape ∷ text)
-no_escape_read d old new pushed (Some meant) text end h e none added lone = cc none
-no_escape_read d old new pushed None text end h e none added lone =
-    one_read d old pushed (Char d.escape) text (d.escape ∷ text) (rw added at lone) (symbols_of-no_escape d text end h e)
+pub symbols_of-nil : (d : DelimiterBytes) (text : List ℕ) → length text ≡ 0 → symbols_of d text ≡ []
+unfolding symbols_after
+symbols_of-nil d [] h = refl
+symbols_of-nil d (b ∷ bs) h = absurd (omega arith)
+
+pub plain_first : (d : DelimiterBytes) (byte : ℕ) (text rest : List ℕ) → text ≡ byte ∷ rest → byte ≢ d.escape → symbols_of d text ≡ Char byte ∷ symbols_left d [] rest
+plain_first d byte text rest whole other = ap (symbols_of d) whole ∙ lone_first d byte (byte ∷ rest) rest (symbols_of-plain d byte rest other)
+
+module _ (d : DelimiterBytes) (escape : ℕ) (is : escape ≡ d.escape) (text : List ℕ) where
+  -- no other escape byte follows
+  pub open_first : position (λ b. b == escape) text ≡ None → symbols_of d (d.escape ∷ text) ≡ Char escape ∷ symbols_left d [] text
+  open_first h = ap (λ (b : ℕ). symbols_of d (b ∷ text)) (sym is) ∙ lone_first d escape (escape ∷ text) text (rw is (symbols_of-open d text (rw is at h)))
+
+  -- what stands before the next one is no escape
+  pub other_first : (end : ℕ) → position (λ b. b == escape) text ≡ Some end → escape_of d (take end text) ≡ None → symbols_of d (d.escape ∷ text) ≡ Char escape ∷ symbols_left d [] text
+  other_first end h none = ap (λ (b : ℕ). symbols_of d (b ∷ text)) (sym is) ∙ lone_first d escape (escape ∷ text) text (rw is (symbols_of-no_escape d text end (rw is at h) none))
+
+  -- it is one
+  pub escape_first : (end : ℕ) (back digits : List ℕ) (symbol : Sym) → position (λ b. b == escape) text ≡ Some end → escape_of d (take end text) ≡ Some (symbol ∷ digit_symbols digits)
+      → back ≡ drop end text → symbols_of d (d.escape ∷ text) ≡ symbol ∷ symbols_left d digits (take (length back - 1) (drop 1 back))
+  escape_first end back digits symbol h means behind =
+      let rest : take (length back - 1) (drop 1 back) ≡ drop (end + 1) text = take_rest back 1 ∙ (ap (drop 1) behind ∙ drop-drop 1 end text) in
+      symbols_of-closed d text end (symbol ∷ digit_symbols digits) (rw is at h) means
+      ∙ ap (λ (l : List ℕ). symbol ∷ symbols_left d digits l) (sym rest)
+
+-- ---- what an escape means
+
+module _ (d : DelimiterBytes) (inside digits : List ℕ) (letter : ℕ) (whole : inside ≡ letter ∷ digits) where
+  pub letter_meant : (symbol : Sym) → length digits ≡ 0 → letter_symbol d letter ≡ Some symbol → (escape_of d inside ≡ Some (symbol ∷ digit_symbols [])) × ArePairs []
+  letter_meant symbol none is =
+      let add = λ (s : Sym). s ∷ [] in
+      (escape_of-letter d inside digits letter whole none ∙ ap (option_map add) is ∙ ap (λ (l : Symbols). Some (symbol ∷ l)) (sym digit_symbols-none), ArePairs-none)
+
+  pub no_letter_meant : length digits ≡ 0 → letter_symbol d letter ≡ None → escape_of d inside ≡ None
+  no_letter_meant none is = let add = λ (s : Sym). s ∷ [] in escape_of-letter d inside digits letter whole none ∙ ap (option_map add) is
+
+  pub pairs_meant : (symbol : Sym) (rest : List ℕ) → length digits ≢ 0 → letter ≡ 88 → ArePairs digits → digit_symbols digits ≡ symbol ∷ digit_symbols rest → escape_of d inside ≡ Some (symbol ∷ digit_symbols rest)
+  pairs_meant symbol rest some is pairs first = escape_of-digits d inside digits letter whole some is ∙ raw_of_pairs digits pairs ∙ ap (λ (l : Symbols). Some l) first
+
+  pub others_meant : length digits ≢ 0 → letter ≡ 88 → is_some (raw_symbols (decode_of digits)) ≡ false → escape_of d inside ≡ None
+  others_meant some is none = escape_of-digits d inside digits letter whole some is ∙ raw_of_others digits none

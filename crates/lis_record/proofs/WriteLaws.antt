@@ -1,5 +1,5 @@
 -- When a record or a field is refused, and what a call that writes answers.
-use Rattle.std.proofs.Common.{◌≡◌, ℕ, ◌+◌, ◌-◌, ◌<◌, ◌≤◌, Bool, true, false, cond, ltb, List, [], ◌∷◌, length, take, drop, Option, Some, None, option_map, Result, Ok, Err, refl, sym, ap, ◌∙◌, length-append, arith, inl, inr, zero-add, zero-le}
+use Rattle.std.proofs.Common.{◌≡◌, ℕ, ◌+◌, ◌-◌, ◌<◌, ◌≤◌, Bool, true, false, cond, ltb, List, [], ◌∷◌, length, take, drop, Option, Some, None, option_map, Result, Ok, Err, refl, sym, ap, ◌∙◌, subst, length-append, arith, inl, inr, zero-add, zero-le}
 use Rattle.std.specs.Prelude.{◌↔◌}
 use Rattle.std.proofs.lemmas.Bool.{cases_lt, lt-ltb}
 use Rattle.std.proofs.lemmas.List.{drop-take, length-drop}
@@ -145,3 +145,7 @@ Wrote-any refusal bytes old new (Err (write_faults.Io told)) weaker none weak sh
     (none, zero-le, rw exact less, rw exact taken)
 Wrote-any refusal bytes old new (Err (write_faults.CharNotText number)) weaker none weak short h = let e : None ≡ Some (write_faults.CharNotText number) = sym weak ∙ h.0 in cc
 Wrote-any refusal bytes old new (Err write_faults.TooLong) weaker none weak short h = let e : None ≡ Some write_faults.TooLong = sym weak ∙ h.0 in cc
+
+-- bytes that are equal to those that were written
+pub WroteAny-same : (bytes text : List ℕ) (old new : Option (List ℕ)) (r : Result Unit WriteFault) → bytes ≡ text → WroteAny None text old new r → WroteAny None bytes old new r
+WroteAny-same bytes text old new r is wrote = subst (λ (l : List ℕ). WroteAny None l old new r) (sym is) wrote

@@ -1,11 +1,12 @@
 -- Reading a text from its front, once: the same symbols, components, repeats and fields as the relation has.
 use Rattle.lis_field.specs.declared.kinds.Kind.{Kind}
-use Rattle.std.specs.Prelude.{◌≡◌, ◌≢◌, ℕ, zero, suc, ◌+◌, ◌==◌, nat_lt, cond, if◌then◌else◌, List, [], ◌∷◌, ◌++◌, map, take, length, Option, Some, None, option_map}
+use Rattle.std.specs.Prelude.{◌≡◌, ◌≢◌, ℕ, zero, suc, ◌+◌, ◌==◌, nat_lt, cond, if◌then◌else◌, List, [], ◌∷◌, ◌++◌, map, take, length, Option, Some, None, option_map, is_some, unwrap_or, IsTrue}
 use Rattle.std.specs.List.{position_or_len, slice_split}
 use Rattle.lis_field.specs.declared.symbols.Sym.{Sym}
 use Rattle.lis_field.specs.declared.symbols.Sym.TheVariants.{Char}
 use Rattle.lis_field.specs.Delimiters.{DelimiterBytes, IsDelimiters, delimiter_list}
-use Rattle.lis_record.specs.Escapes.{escape_of}
+use Rattle.hex.specs.Hex.{decode_of}
+use Rattle.lis_record.specs.Escapes.{escape_of, raw_symbols}
 use Rattle.lis_field.specs.declared.kinds.Kind.TheVariants as kinds
 use Rattle.lis_record.specs.Faults.{text_fault, trailing_byte}
 use Rattle.lis_field.specs.Kinds.{kind_of}
@@ -52,10 +53,17 @@ parts_behind byte (delimiter ∷ bytes) = parts_of byte bytes
 abbrev pub fields_of : DelimiterBytes → List ℕ → Fields
 fields_of d text = map (repeats_of d) (parts_behind d.field text)
 
--- symbols, and behind them what an escape means
-abbrev pub with_escape : Symbols → Option Symbols → Symbols
-with_escape symbols None = symbols
-with_escape symbols (Some meant) = symbols ++ meant
+-- pairs of hexadecimal digits
+abbrev pub ArePairs : List ℕ → Type 0
+ArePairs digits = IsTrue (is_some (raw_symbols (decode_of digits)))
+
+-- the raw bytes that pairs of digits are
+abbrev pub digit_symbols : List ℕ → Symbols
+digit_symbols digits = unwrap_or (raw_symbols (decode_of digits)) []
+
+-- what is left of a component: the digits of an escape that was begun, and the text behind it
+abbrev pub symbols_left : DelimiterBytes → List ℕ → List ℕ → Symbols
+symbols_left d digits text = digit_symbols digits ++ symbols_of d text
 
 -- A text without fault opens with the letter of a record other than a header, and its fields follow.
 pub record OpensRecord (d : DelimiterBytes) (text : List ℕ) (kind : Kind) (rest : List ℕ) : Type 0 where

@@ -1,6 +1,7 @@
 pub mod Escapes
 pub mod Faults
 pub mod FrontReading
+pub mod Lent
 pub mod Relation
 pub mod Remaining
 pub mod Spelling

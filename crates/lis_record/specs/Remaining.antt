@@ -1,8 +1,9 @@
 -- What is left to write, while a record goes out in chunks.
-use Rattle.std.specs.Prelude.{ℕ, List, ◌∷◌, ◌++◌}
+use Rattle.std.specs.Prelude.{ℕ, List, [], ◌∷◌, ◌++◌, map}
 use Rattle.std.specs.List.{flat_map}
 use Rattle.lis_field.specs.Delimiters.{DelimiterBytes}
 use Rattle.lis_field.specs.Shape.{Components, Fields, Repeats, Symbols}
+use Rattle.lis_record.specs.FrontReading.{components_of, parts_behind, symbols_of}
 use Rattle.lis_record.specs.Spelling.{spelled_component, spelled_field, spelled_repeat}
 
 -- components behind the first one of a repeat
@@ -21,3 +22,8 @@ more_fields d fields = flat_map (λ field. d.field ∷ spelled_field d field) fi
 unfoldable pub remaining : DelimiterBytes → Symbols → Components → Repeats → Fields → List ℕ → List ℕ
 remaining d symbols components repeats fields end =
     spelled_component d symbols ++ (more_components d components ++ (more_repeats d repeats ++ (more_fields d fields ++ end)))
+
+-- the same of what stands in a text: the texts of the components and of the repeats that follow, each behind its delimiter
+abbrev pub remaining_text : DelimiterBytes → Symbols → List ℕ → List ℕ → List ℕ
+remaining_text d symbols components repeats =
+    remaining d symbols (map (symbols_of d) (parts_behind d.component components)) (map (components_of d) (parts_behind d.repeat repeats)) [] []

@@ -1,6 +1,6 @@
 //! What is left of a record or a field while it is written.
 
-ghost use Rattle.std.specs.Prelude.{◌≡◌, ◌+◌, ◌<◌, ◌≤◌, ◌++◌, [], length, IsTrue, IsFalse};
+ghost use Rattle.std.specs.Prelude.{◌≡◌, ◌+◌, ◌<◌, ◌≤◌, ◌++◌, [], ℕ, List, length, IsTrue, IsFalse};
 ghost use Rattle.lis_field.specs.Delimiters.{DelimiterBytes};
 ghost use Rattle.lis_record.specs.Remaining.{more_components, more_fields, more_repeats, remaining};
 ghost use Rattle.lis_record.specs.Spelling.{spelled_component, spelled_field, spelled_repeat};
@@ -8,6 +8,17 @@ ghost use Rattle.lis_record.specs.Spelling.{spelled_component, spelled_field, sp
 use crate::chunk::{CHUNK, Chunk, LONGEST_SYMBOL};
 use lis_field::{Component, Delimiters, Field, Repeat, Sym};
 use std::marker::Model;
+
+// What is left of a spelling, which goes out in chunks.
+pub(crate) trait Spelling {
+    // The bytes that are left.
+    ghost left: { Self → List ℕ };
+
+    // Fills the chunk with what comes next, until a symbol may find no room in it.
+    fn fill(&mut self, chunk: &mut Chunk)
+        ensures same { chunk.new ++ left self.new ≡ chunk.old ++ left self.old }
+        ensures done { length chunk.new ≡ 0 → left self.new ≡ [] };
+}
 
 // The rest of a component, the components behind it in its repeat, the repeats behind that in its field,
 // the fields behind that, and the bytes that end it all.
@@ -139,12 +150,12 @@ impl<'a> Cursor<'a> {
         }
         false
     }
+}
 
-    // Fills the chunk with what comes next, until a symbol may find no room in it.
-    pub(crate) fn fill(&mut self, chunk: &mut Chunk)
-        ensures same { chunk.new ++ self.new ≡ chunk.old ++ self.old }
-        ensures done { length chunk.new ≡ 0 → self.new ≡ [] }
-    {
+impl Spelling for Cursor<'_> {
+    ghost left = { λ c. c };
+
+    fn fill(&mut self, chunk: &mut Chunk) {
         while chunk.len() <= CHUNK - LONGEST_SYMBOL {
             if !self.step(chunk) {
                 return;

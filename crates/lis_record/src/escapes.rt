@@ -1,15 +1,16 @@
-//! Reading a component's symbols, and the escapes among them (LIS02-A2, Delimiters).
+//! A component's symbols, and the escapes among them, read where they stand (LIS02-A2, Delimiters).
 
-ghost use Rattle.std.specs.Prelude.{◌≡◌, ◌≤◌, ◌++◌, ◌∷◌, ◌==◌, [], length, map, is_some, option_map, IfOk, Result, Ok, Err, Some, None};
+ghost use Rattle.std.specs.Prelude.{◌≡◌, ◌<◌, ◌++◌, ◌∷◌, [], IfOk, IsTrue, MatchOption, Some, None, is_some, unwrap_or};
+ghost use Rattle.std.specs.List.{list_all};
 ghost use Rattle.lis_field.specs.declared.symbols.Sym.TheVariants.{Raw};
-ghost use Rattle.hex.specs.Hex.{decode_of};
+ghost use Rattle.hex.specs.Hex.{decode_of, hex_digit_value, is_hex_digit};
 ghost use Rattle.lis_record.specs.Escapes.{escape_of, letter_symbol, raw_symbols};
-ghost use Rattle.lis_record.specs.FrontReading.{symbols_of, with_escape};
+ghost use Rattle.lis_record.specs.FrontReading.{ArePairs, digit_symbols, symbols_left, symbols_of};
 
 use crate::texts::place_of;
-use hex::FromHexError;
 use lis_field::{Component, Delimiters, Sym};
 use std::alloc::{AllocError, Global};
+use std::marker::Model;
 
 // The symbol of an escape of one letter.
 fn letter_symbol(delimiters: Delimiters, letter: u8) -> Option<Sym>
@@ -26,95 +27,163 @@ fn letter_symbol(delimiters: Delimiters, letter: u8) -> Option<Sym>
     }
 }
 
-// Puts each byte at the end of the component.
-fn push_bytes(component: &mut Component, bytes: &[u8]) -> Result<(), AllocError>
-    ensures { IfOk result (λ _. component.new ≡ component.old ++ map Raw bytes.now) }
+// The value of a hexadecimal digit, in either case; 0 for any other byte.
+fn digit_value(digit: u8) -> u8
+    ensures value { result ≡ unwrap_or (hex_digit_value digit) 0 }
+    ensures small { result < 16 }
 {
-    for byte in bytes {
-        component.push(Sym::Raw(*byte))?;
-    }
-    Ok(())
-}
-
-// Puts what an escape of one letter means at the end of the component; false where it is none.
-fn push_letter(
-    delimiters: Delimiters,
-    component: &mut Component,
-    letter: u8,
-) -> Result<bool, AllocError>
-    ensures found { IfOk result (λ found. found ≡ is_some (option_map (λ symbol. symbol ∷ []) (letter_symbol delimiters letter))) }
-    ensures after { IfOk result (λ _. component.new ≡ with_escape component.old (option_map (λ symbol. symbol ∷ []) (letter_symbol delimiters letter))) }
-{
-    match letter_symbol(delimiters, letter) {
-        Some(symbol) => {
-            component.push(symbol)?;
-            Ok(true)
-        }
-        None => Ok(false),
+    match digit {
+        b'0'..=b'9' => digit - b'0',
+        b'A'..=b'F' => digit - b'A' + 10,
+        b'a'..=b'f' => digit - b'a' + 10,
+        _ => 0,
     }
 }
 
-// Puts the bytes of pairs of hexadecimal digits at the end of the component; false where the digits are
-// no such pairs.
-fn push_raw(alloc: Global, component: &mut Component, digits: &[u8]) -> Result<bool, AllocError>
-    ensures found { IfOk result (λ found. found ≡ is_some (raw_symbols (decode_of digits.now))) }
-    ensures after { IfOk result (λ _. component.new ≡ with_escape component.old (raw_symbols (decode_of digits.now))) }
+// Whether a byte is a hexadecimal digit, in either case.
+fn is_digit(byte: u8) -> bool
+    ensures { result ≡ is_hex_digit byte }
 {
-    match hex::decode(alloc, digits) {
-        Ok(bytes) => {
-            push_bytes(component, bytes.as_slice())?;
-            Ok(true)
-        }
-        Err(FromHexError::OutOfMemory) => Err(AllocError),
-        Err(_) => Ok(false),
-    }
+    matches!(byte, b'0'..=b'9' | b'A'..=b'F' | b'a'..=b'f')
 }
 
-// Puts what an escape means at the end of the component; false where this is no escape.
-fn push_escape(
-    alloc: Global,
-    delimiters: Delimiters,
-    component: &mut Component,
-    inside: &[u8],
-) -> Result<bool, AllocError>
-    ensures found { IfOk result (λ found. found ≡ is_some (escape_of delimiters inside.now)) }
-    ensures after { IfOk result (λ _. component.new ≡ with_escape component.old (escape_of delimiters inside.now)) }
+// Whether all bytes are hexadecimal digits.
+fn are_digits(text: &[u8]) -> bool
+    ensures { result ≡ list_all is_hex_digit text.now }
+{
+    text.iter().all(|byte| is_digit(*byte))
+}
+
+// Whether a text is pairs of hexadecimal digits.
+fn are_pairs(text: &[u8]) -> bool
+    ensures { result ≡ is_some (raw_symbols (decode_of text.now)) }
+{
+    if text.len() % 2 != 0 {
+        return false;
+    }
+    are_digits(text)
+}
+
+// The byte of the first pair of digits, and the digits behind it.
+fn first_pair(digits: &[u8]) -> Option<(u8, &[u8])>
+    requires { ArePairs digits.now }
+    ensures { MatchOption result (digits.now ≡ [])
+        (λ pair. (digit_symbols digits.now ≡ Raw pair.0 ∷ digit_symbols pair.1.now) × ArePairs pair.1.now) }
+{
+    let Some((high, behind)) = digits.split_first() else {
+        return None;
+    };
+    let Some((low, rest)) = behind.split_first() else {
+        return None;
+    };
+    Some((digit_value(*high) * 16 + digit_value(*low), rest))
+}
+
+// The first symbol of what an escape means, and the digits of those behind it; none where this is no escape.
+fn escape_meaning(delimiters: Delimiters, inside: &[u8]) -> Option<(Sym, &[u8])>
+    ensures { MatchOption result (escape_of delimiters inside.now ≡ None)
+        (λ found. (escape_of delimiters inside.now ≡ Some (found.0 ∷ digit_symbols found.1.now)) × ArePairs found.1.now) }
 {
     let Some((letter, digits)) = inside.split_first() else {
-        return Ok(false);
+        return None;
     };
     if digits.is_empty() {
-        return push_letter(delimiters, component, *letter);
+        return match letter_symbol(delimiters, *letter) {
+            Some(symbol) => Some((symbol, &[])),
+            None => None,
+        };
     }
-    if *letter == b'X' {
-        return push_raw(alloc, component, digits);
+    if *letter != b'X' {
+        return None;
     }
-    Ok(false)
+    if !are_pairs(digits) {
+        return None;
+    }
+    match first_pair(digits) {
+        Some((byte, rest)) => Some((Sym::Raw(byte), rest)),
+        None => None,
+    }
 }
 
-// Reads what an escape byte begins, and answers what is left behind it. Where it begins no escape, it is
-// itself, and the text is left.
-fn read_escape<'t>(
-    alloc: Global,
-    delimiters: Delimiters,
-    component: &mut Component,
-    text: &'t [u8],
-) -> Result<&'t [u8], AllocError>
-    ensures after { IfOk result (λ rest. component.new ++ symbols_of delimiters rest.now
-        ≡ component.old ++ symbols_of delimiters (delimiters.escape ∷ text.now)) }
-    ensures shorter { IfOk result (λ rest. length rest.now ≤ length text.now) }
+// The first symbol behind an escape byte, the digits of an escape that are left and the text behind it. Where
+// the escape byte begins no escape, it is itself, and the text is left.
+fn escape_symbol(delimiters: Delimiters, text: &[u8]) -> (Sym, &[u8], &[u8])
+    ensures same { symbols_of delimiters (delimiters.escape ∷ text.now) ≡ result.0 ∷ symbols_left delimiters result.1.now result.2.now }
+    ensures pairs { ArePairs result.1.now }
 {
     let escape = delimiters.escape();
     let Some(end) = place_of(text, escape) else {
-        component.push(Sym::Char(escape))?;
-        return Ok(text);
+        return (Sym::Char(escape), &[], text);
     };
     let (inside, rest) = text.split_at(end);
-    if !push_escape(alloc, delimiters, component, inside)? {
-        component.push(Sym::Char(escape))?;
-        return Ok(text);
+    match escape_meaning(delimiters, inside) {
+        Some((symbol, digits)) => (symbol, digits, &rest[1..]),
+        None => (Sym::Char(escape), &[], text),
     }
-    Ok(&rest[1..])
+}
+
+// The first symbol of a text, the digits of an escape that are left and the text behind it.
+fn first_symbol(delimiters: Delimiters, text: &[u8]) -> Option<(Sym, &[u8], &[u8])>
+    ensures { MatchOption result (symbols_of delimiters text.now ≡ [])
+        (λ found. (symbols_of delimiters text.now ≡ found.0 ∷ symbols_left delimiters found.1.now found.2.now) × ArePairs found.1.now) }
+{
+    let Some((byte, rest)) = text.split_first() else {
+        return None;
+    };
+    if *byte == delimiters.escape() {
+        return Some(escape_symbol(delimiters, rest));
+    }
+    Some((Sym::Char(*byte), &[], rest))
+}
+
+/// The symbols of a component that stands in a text, taken from the front.
+#[derive(Drop)]
+pub struct LentSymbols<'a> {
+    delimiters: Delimiters,
+    digits: &'a [u8],
+    text: &'a [u8],
+}
+
+impl<'a> Model for LentSymbols<'a> {
+    ghost use Rattle.lis_field.specs.Shape.{Symbols};
+    ghost use Rattle.lis_record.specs.FrontReading.{ArePairs, symbols_left};
+
+    ghost Value = { Symbols };
+
+    ghost view = { λ s. symbols_left s.delimiters s.digits.now s.text.now };
+
+    ghost invariant = { λ s. ArePairs s.digits.now };
+}
+
+impl<'a> LentSymbols<'a> {
+    // The symbols of a component's text.
+    pub(crate) fn of_text(delimiters: Delimiters, text: &'a [u8]) -> Self
+        ensures { result ≡ symbols_of delimiters text.now }
+    {
+        LentSymbols {
+            delimiters,
+            digits: &[],
+            text,
+        }
+    }
+
+    /// Takes the first symbol; none where no symbol is left.
+    pub fn next(&mut self) -> Option<Sym>
+        ensures { MatchOption result ((self.old ≡ []) × (self.new ≡ [])) (λ symbol. self.old ≡ symbol ∷ self.new) }
+    {
+        if let Some((byte, digits)) = first_pair(self.digits) {
+            self.digits = digits;
+            return Some(Sym::Raw(byte));
+        }
+        match first_symbol(self.delimiters, self.text) {
+            Some((symbol, digits, text)) => {
+                self.digits = digits;
+                self.text = text;
+                Some(symbol)
+            }
+            None => None,
+        }
+    }
 }
 
 // Reads a component from its front.
@@ -125,15 +194,11 @@ pub(crate) fn read_component(
 ) -> Result<Component, AllocError>
     ensures { IfOk result (λ component. component ≡ symbols_of delimiters text.now) }
 {
-    let mut component = Component::new(alloc);
-    let mut rest = text;
-    while let Some((byte, more)) = rest.split_first() {
-        if *byte == delimiters.escape() {
-            rest = read_escape(alloc, delimiters, &mut component, more)?;
-        } else {
-            component.push(Sym::Char(*byte))?;
-            rest = more;
-        }
+    // No symbol has less than a byte, so this is taken once.
+    let mut component = Component::with_capacity(alloc, text.len())?;
+    let mut symbols = LentSymbols::of_text(delimiters, text);
+    while let Some(symbol) = symbols.next() {
+        component.push(symbol)?;
     }
     Ok(component)
 }

@@ -1,19 +1,24 @@
 //! Records of a laboratory message as texts (LIS02-A2): how they are read and written, and their escapes.
 #![tactic(auto)]
 
+mod building;
 mod chunk;
 mod cursor;
 mod escapes;
 mod faults;
 pub mod laws;
+mod lent;
+mod lent_cursor;
 mod reading;
 #[cfg(test)]
 mod tests;
 mod texts;
 mod writing;
 
+pub use escapes::LentSymbols;
 pub use faults::{DelimiterPartFault, RecordFault, WriteFault};
+pub use lent::{LentComponent, LentField, LentRecord, LentRepeat};
 pub use lis_field::{Component, DelimiterFault, Delimiters, Field, Kind, Record, Repeat, Sym};
-pub use reading::{read_header, read_record};
+pub use reading::{lend_header, lend_record, read_header, read_record};
 pub use texts::RECORD_LIMIT;
 pub use writing::{check_record, put_field, write_field, write_record, write_record_from};

@@ -1,19 +1,20 @@
 //! Reading a record from its text (LIS02-A2, Delimiters, and Data Record Usage Overview).
 
-ghost use Rattle.std.specs.Prelude.{◌≡◌, ◌≢◌, IfOk, IfErr, MatchOption, MatchResult, Option, Some, None, true, false};
+ghost use Rattle.std.specs.Prelude.{◌≡◌, ◌≢◌, IfOk, IfErr, MatchOption, MatchResult, Ok, Option, Some, None, true, false};
 ghost use Rattle.lis_field.specs.Delimiters.{DelimiterBytes, IsDelimiters};
 ghost use Rattle.lis_record.specs.Faults.{TellsFault, delimiter_part_fault, header_fault, is_header_kind, is_other_kind, record_fault, text_fault, trailing_byte};
-ghost use Rattle.lis_record.specs.FrontReading.{DeclaresDelimiters, OpensHeader, OpensRecord, components_of, fields_of, repeats_of};
+ghost use Rattle.lis_record.specs.FrontReading.{DeclaresDelimiters, OpensHeader, OpensRecord};
+ghost use Rattle.lis_record.specs.Lent.{lent};
 ghost use Rattle.lis_record.specs.Relation.{IsRecord};
 ghost use Rattle.lis_field.specs.Shape.{RecordContent};
 ghost use Rattle.lis_field.specs.declared.kinds.Kind.TheVariants as kinds;
 ghost use Rattle.lis_record.specs.declared.faults.RecordFault.TheVariants.{OutOfMemory};
 ghost use Rattle.lis_field.specs.Kinds.{kind_of};
 
-use crate::escapes::read_component;
 use crate::faults::{DelimiterPartFault, RecordFault};
-use crate::texts::{RECORD_LIMIT, bad_byte_place, first_part};
-use lis_field::{Delimiters, Field, Kind, Record, Repeat};
+use crate::lent::LentRecord;
+use crate::texts::{RECORD_LIMIT, bad_byte_place};
+use lis_field::{Delimiters, Kind, Record};
 use std::alloc::{AllocError, Global};
 
 // A byte that is no text byte, else too many bytes.
@@ -117,51 +118,49 @@ fn open_header(text: &[u8]) -> Result<(Delimiters, &[u8]), RecordFault>
     }
 }
 
-// Reads a repeat, component by component.
-fn read_repeat(alloc: Global, delimiters: Delimiters, text: &[u8]) -> Result<Repeat, AllocError>
-    ensures { IfOk result (λ repeat. repeat ≡ components_of delimiters text.now) }
+/// Finds the record other than a header that a text without CR is, under these delimiters, where it stands.
+///
+/// The answer is the record, else the first of these faults: `Empty`; `UnknownKind`, where the first byte
+/// is no letter of such a record, in either case, or the second byte isn't the field delimiter; `Byte`;
+/// `TooLong`. It takes no memory.
+pub fn lend_record<'a>(
+    delimiters: &Delimiters,
+    text: &'a [u8],
+) -> Result<LentRecord<'a>, RecordFault>
+    // What is found is the record that the text is.
+    ensures found { IfOk result (λ entry. (entry.delimiters ≡ delimiters.now)
+        × IsRecord delimiters.now text.now entry.content × (entry.content.kind ≢ kinds.H)) }
+    // A text that is a record is found to be it.
+    ensures only { (content : RecordContent) → IsRecord delimiters.now text.now content → content.kind ≢ kinds.H
+        → result ≡ Ok (lent delimiters.now content) }
+    // Which fault it is.
+    ensures fault { MatchResult result (λ _. record_fault delimiters.now text.now ≡ None)
+        (λ fault. record_fault delimiters.now text.now ≡ Some fault) }
 {
-    let (part, mut rest) = first_part(text, delimiters.component());
-    let mut repeat = Repeat::new(alloc, read_component(alloc, delimiters, part)?)?;
-    while let Some((_delimiter, more)) = rest.split_first() {
-        let (part, others) = first_part(more, delimiters.component());
-        repeat.push(read_component(alloc, delimiters, part)?)?;
-        rest = others;
+    match open_record(*delimiters, text) {
+        Err(fault) => Err(fault),
+        Ok((kind, rest)) => Ok(LentRecord::of_parts(*delimiters, kind, rest)),
     }
-    Ok(repeat)
 }
 
-// Reads a field, repeat by repeat.
-fn read_field(alloc: Global, delimiters: Delimiters, text: &[u8]) -> Result<Field, AllocError>
-    ensures { IfOk result (λ field. field ≡ repeats_of delimiters text.now) }
+/// Finds the header that a text without CR is, under the delimiters that it declares, where it stands.
+///
+/// The answer is the header, else the first of these faults: `Empty`; `UnknownKind`, where the first byte is
+/// neither H nor h; `DelimiterPart`; `Byte`; `TooLong`. It takes no memory.
+pub fn lend_header(text: &[u8]) -> Result<LentRecord<'_>, RecordFault>
+    // What is found is the header that the text is, under the delimiters that it declares.
+    ensures found { IfOk result (λ entry. IsDelimiters entry.delimiters
+        × IsRecord entry.delimiters text.now entry.content × (entry.content.kind ≡ kinds.H)) }
+    // A text that is a header is found to be it.
+    ensures only { (d : DelimiterBytes) (content : RecordContent) → IsDelimiters d → IsRecord d text.now content → content.kind ≡ kinds.H
+        → result ≡ Ok (lent d content) }
+    // Which fault it is.
+    ensures fault { MatchResult result (λ _. header_fault text.now ≡ None) (λ fault. header_fault text.now ≡ Some fault) }
 {
-    let (part, mut rest) = first_part(text, delimiters.repeat());
-    let mut field = Field::new(alloc, read_repeat(alloc, delimiters, part)?)?;
-    while let Some((_delimiter, more)) = rest.split_first() {
-        let (part, others) = first_part(more, delimiters.repeat());
-        field.push(read_repeat(alloc, delimiters, part)?)?;
-        rest = others;
+    match open_header(text) {
+        Err(fault) => Err(fault),
+        Ok(found) => Ok(LentRecord::of_parts(found.0, Kind::H, found.1)),
     }
-    Ok(field)
-}
-
-// Reads the fields that follow a record's letter, or a header's delimiters.
-fn read_fields(
-    alloc: Global,
-    delimiters: Delimiters,
-    kind: Kind,
-    text: &[u8],
-) -> Result<Record, AllocError>
-    ensures { IfOk result (λ content. content ≡ record { kind = kind; fields = fields_of delimiters text.now }) }
-{
-    let mut record = Record::new(alloc, kind);
-    let mut rest = text;
-    while let Some((_delimiter, more)) = rest.split_first() {
-        let (part, others) = first_part(more, delimiters.field());
-        record.push(read_field(alloc, delimiters, part)?)?;
-        rest = others;
-    }
-    Ok(record)
 }
 
 /// Reads a record other than a header, from its text without CR, under these delimiters.
@@ -182,9 +181,9 @@ pub fn read_record(
     // Which fault it is.
     ensures fault { IfErr result (λ fault. TellsFault fault (record_fault delimiters.now text.now)) }
 {
-    match open_record(*delimiters, text) {
+    match lend_record(delimiters, text) {
         Err(fault) => Err(fault),
-        Ok((kind, rest)) => match read_fields(alloc, *delimiters, kind, rest) {
+        Ok(entry) => match entry.to_record(alloc) {
             Ok(record) => Ok(record),
             Err(AllocError) => Err(RecordFault::OutOfMemory),
         },
@@ -205,10 +204,10 @@ pub fn read_header(alloc: Global, text: &[u8]) -> Result<(Delimiters, Record), R
     // Which fault it is.
     ensures fault { IfErr result (λ fault. TellsFault fault (header_fault text.now)) }
 {
-    match open_header(text) {
+    match lend_header(text) {
         Err(fault) => Err(fault),
-        Ok(found) => match read_fields(alloc, found.0, Kind::H, found.1) {
-            Ok(record) => Ok((found.0, record)),
+        Ok(entry) => match entry.to_record(alloc) {
+            Ok(record) => Ok((entry.delimiters(), record)),
             Err(AllocError) => Err(RecordFault::OutOfMemory),
         },
     }

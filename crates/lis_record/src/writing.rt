@@ -9,14 +9,14 @@ ghost use Rattle.lis_record.specs.Spelling.{spelled, spelled_field, written};
 ghost use Rattle.lis_record.specs.Writing.{Sent, Wrote, WroteAny, is_io};
 
 use crate::chunk::Chunk;
-use crate::cursor::Cursor;
+use crate::cursor::{Cursor, Spelling};
 use crate::faults::WriteFault;
 use crate::texts::{RECORD_LIMIT, is_text_byte};
 use lis_field::{Component, Delimiters, Field, Kind, Record, Repeat, Sym};
 use lis_port::Sink;
 
 // Writes all of the bytes; else how many the sink took before it failed.
-fn write_all<W: Sink>(sink: &mut W, bytes: &[u8]) -> Result<(), usize>
+pub(crate) fn write_all<W: Sink>(sink: &mut W, bytes: &[u8]) -> Result<(), usize>
     requires { W.failed sink.old ≡ false }
     ensures ok { OnOk result (Appends (W.taken sink.old) (W.taken sink.new) bytes.now) }
     ensures err { IfErr result (λ count. (count < length bytes.now)
@@ -38,17 +38,17 @@ fn write_all<W: Sink>(sink: &mut W, bytes: &[u8]) -> Result<(), usize>
 
 // Writes the chunk from `left` on, and then what the cursor has; where the sink fails, the fault counts those
 // that were passed before too.
-fn send<W: Sink>(
+pub(crate) fn send<W: Sink, S: Spelling>(
     sink: &mut W,
     chunk: &mut Chunk,
-    cursor: &mut Cursor<'_>,
+    cursor: &mut S,
     left: usize,
     passed: u64,
 ) -> Result<(), WriteFault>
     requires open_sink { W.failed sink.old ≡ false }
     requires within { left ≤ length chunk.old }
-    requires filled { length chunk.old ≡ 0 → cursor.old ≡ [] }
-    ensures sent { Sent passed (drop left chunk.old ++ cursor.old) (W.taken sink.old) (W.taken sink.new) result }
+    requires filled { length chunk.old ≡ 0 → S.left cursor.old ≡ [] }
+    ensures sent { Sent passed (drop left chunk.old ++ S.left cursor.old) (W.taken sink.old) (W.taken sink.new) result }
     ensures failed { W.failed sink.new ≡ is_io result }
 {
     let mut left = left;

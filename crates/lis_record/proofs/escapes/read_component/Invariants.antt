@@ -2,8 +2,8 @@ use Rattle.std.proofs.Common.{◌≡◌, ◌++◌, length}
 use Rattle.lis_record.specs.FrontReading.{symbols_of}
 use Rattle.lis_record.proofs.escapes.read_component.Given as goal
 
-abbrev pub invariant-loop-byte : goal.invariant-loop-byte
-invariant-loop-byte l = l.component ++ symbols_of l.delimiters l.rest ≡ symbols_of l.delimiters l.text
+abbrev pub invariant-loop-symbol : goal.invariant-loop-symbol
+invariant-loop-symbol l = l.component ++ l.symbols ≡ symbols_of l.fn.delimiters l.fn.text
 
-abbrev pub decreases-loop-byte : goal.decreases-loop-byte
-decreases-loop-byte l = length l.rest
+abbrev pub decreases-loop-symbol : goal.decreases-loop-symbol
+decreases-loop-symbol l = length l.symbols

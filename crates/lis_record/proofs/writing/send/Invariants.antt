@@ -8,10 +8,10 @@ abbrev pub invariant-loop-chunk : goal.invariant-loop-chunk
 invariant-loop-chunk g l = record {
   open_sink : g.W.Sink.failed l.sink ≡ false;
   within : l.left ≤ length l.chunk;
-  filled : length l.chunk ≡ 0 → l.cursor ≡ [];
-  goes_on : (new : Option (List ℕ)) (r : Result Unit WriteFault) → Sent l.passed (drop l.left l.chunk ++ l.cursor) (g.W.Sink.taken l.sink) new r
-      → Sent l.initial.passed (drop l.initial.left l.initial.chunk ++ l.initial.cursor) (g.W.Sink.taken l.initial.sink) new r;
+  filled : length l.chunk ≡ 0 → g.S.Spelling.left l.cursor ≡ [];
+  goes_on : (new : Option (List ℕ)) (r : Result Unit WriteFault) → Sent l.passed (drop l.left l.chunk ++ g.S.Spelling.left l.cursor) (g.W.Sink.taken l.sink) new r
+      → Sent l.initial.passed (drop l.initial.left l.initial.chunk ++ g.S.Spelling.left l.initial.cursor) (g.W.Sink.taken l.initial.sink) new r;
 }
 
 abbrev pub decreases-loop-chunk : goal.decreases-loop-chunk
-decreases-loop-chunk g l = length l.chunk + length l.cursor
+decreases-loop-chunk g l = length l.chunk + length (g.S.Spelling.left l.cursor)

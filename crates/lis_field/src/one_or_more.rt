@@ -1,0 +1,80 @@
+//! Lists that are never empty and keep an only item in place.
+
+ghost use Rattle.std.specs.Prelude.{◌≡◌, ◌<◌, ◌++◌, ◌∷◌, [], length, IfErr, OnOk};
+ghost use Rattle.std.specs.Mem.{FitsInMemory};
+
+use std::alloc::{AllocFailed, Global};
+use std::marker::Model;
+use std::{mem, slice};
+
+#[derive(Debug, Drop)]
+enum Items<T> {
+    One(T),
+    Many(Vec<T>),
+}
+
+// One or more items in order. An only item takes no memory beside its own.
+#[derive(Debug, Drop)]
+pub(crate) struct OneOrMore<T> {
+    alloc: Global,
+    items: Items<T>,
+}
+
+impl<T> Model for OneOrMore<T> {
+    ghost use Rattle.std.specs.Prelude.{List, ◌<◌, length};
+    ghost use Rattle.lis_field.specs.Shape.{items_of};
+
+    ghost Value = { List T };
+
+    ghost view = { λ o. items_of o.items };
+
+    ghost invariant = { λ o. 0 < length (items_of o.items) };
+}
+
+impl<T: Drop> OneOrMore<T> {
+    // A list of one item.
+    pub(crate) fn new(alloc: Global, first: T) -> Self
+        ensures { result ≡ first ∷ [] }
+    {
+        OneOrMore {
+            alloc,
+            items: Items::One(first),
+        }
+    }
+
+    // Puts an item at the end. Where memory is refused it comes back, and the list is as before.
+    pub(crate) fn push(&mut self, item: T) -> Result<(), AllocFailed<T>>
+        ensures ok { OnOk result (self.new ≡ self.old ++ item ∷ []) }
+        ensures err { IfErr result (λ refused. (refused.value ≡ item) × (self.new ≡ self.old)) }
+    {
+        match mem::replace(&mut self.items, Items::Many(Vec::new(self.alloc))) {
+            Items::Many(mut items) => {
+                let pushed = items.push(item);
+                self.items = Items::Many(items);
+                pushed
+            }
+            Items::One(first) => {
+                let Ok(mut items) = Vec::with_capacity(self.alloc, 2) else {
+                    self.items = Items::One(first);
+                    return Err(AllocFailed { value: item });
+                };
+                items.push_reserved(first);
+                items.push_reserved(item);
+                self.items = Items::Many(items);
+                Ok(())
+            }
+        }
+    }
+
+    // The items, in order.
+    pub(crate) fn as_slice(&self) -> &[T]
+        requires { FitsInMemory T.row }
+        ensures value { result.now ≡ self.now }
+        ensures some { 0 < length self.now }
+    {
+        match &self.items {
+            Items::One(first) => slice::from_ref(first),
+            Items::Many(items) => items.as_slice(),
+        }
+    }
+}

@@ -1,0 +1,249 @@
+//! Records and their parts where they stand in a text, without memory (LIS02-A2, Delimiters).
+
+ghost use Rattle.std.specs.Prelude.{◌≡◌, IfOk, length, option_map, slice_get, false};
+ghost use Rattle.lis_field.specs.Shape.{field_at};
+ghost use Rattle.lis_field.specs.declared.kinds.Kind.{Kind as KindOf};
+ghost use Rattle.lis_record.specs.FrontReading.{components_of, fields_of, repeats_of, symbols_of};
+ghost use Rattle.lis_record.specs.Lent.{lent};
+ghost use Rattle.lis_record.specs.Relation.{Lacks};
+ghost use Rattle.lis_record.specs.Spelling.{spelled_field};
+ghost use Rattle.lis_record.specs.Writing.{WroteAny, is_io};
+
+use crate::building::{read_field, read_fields};
+use crate::chunk::Chunk;
+use crate::cursor::Spelling;
+use crate::escapes::LentSymbols;
+use crate::faults::WriteFault;
+use crate::lent_cursor::LentCursor;
+use crate::texts::{count_parts, part_at, part_behind, place_of};
+use crate::writing::{send, write_all};
+use lis_field::{Delimiters, Field, Kind, Record};
+use lis_port::Sink;
+use std::alloc::{AllocError, Global};
+use std::marker::Model;
+
+/// A component that stands in a text.
+#[derive(Drop)]
+pub struct LentComponent<'a> {
+    delimiters: Delimiters,
+    text: &'a [u8],
+}
+
+impl<'a> Model for LentComponent<'a> {
+    ghost use Rattle.lis_field.specs.Shape.{Symbols};
+    ghost use Rattle.lis_record.specs.FrontReading.{symbols_of};
+    ghost use Rattle.lis_record.specs.Lent.{Lent, lent};
+
+    ghost Value = { Lent Symbols };
+
+    ghost view = { λ c. lent c.delimiters (symbols_of c.delimiters c.text.now) };
+}
+
+impl<'a> LentComponent<'a> {
+    /// The symbols, to be taken one after another.
+    pub fn symbols(&self) -> LentSymbols<'a>
+        ensures { result ≡ self.now.content }
+    {
+        LentSymbols::of_text(self.delimiters, self.text)
+    }
+}
+
+/// A repeat that stands in a text.
+#[derive(Drop)]
+pub struct LentRepeat<'a> {
+    delimiters: Delimiters,
+    text: &'a [u8],
+}
+
+impl<'a> Model for LentRepeat<'a> {
+    ghost use Rattle.lis_field.specs.Shape.{Components};
+    ghost use Rattle.lis_record.specs.FrontReading.{components_of};
+    ghost use Rattle.lis_record.specs.Lent.{Lent, lent};
+
+    ghost Value = { Lent Components };
+
+    ghost view = { λ r. lent r.delimiters (components_of r.delimiters r.text.now) };
+}
+
+impl<'a> LentRepeat<'a> {
+    /// The number of components.
+    pub fn len(&self) -> usize
+        ensures { result ≡ length self.now.content }
+    {
+        count_parts(self.text, self.delimiters.component())
+    }
+
+    /// The component at a place, from 0.
+    pub fn component(&self, place: usize) -> Option<LentComponent<'a>>
+        ensures { result ≡ option_map (lent self.now.delimiters) (slice_get self.now.content place) }
+    {
+        let Some(text) = part_at(self.text, self.delimiters.component(), place) else {
+            return None;
+        };
+        Some(LentComponent {
+            delimiters: self.delimiters,
+            text,
+        })
+    }
+}
+
+/// A field that stands in a text.
+#[derive(Drop)]
+pub struct LentField<'a> {
+    delimiters: Delimiters,
+    text: &'a [u8],
+}
+
+impl<'a> Model for LentField<'a> {
+    ghost use Rattle.lis_field.specs.Shape.{Repeats};
+    ghost use Rattle.lis_record.specs.FrontReading.{repeats_of};
+    ghost use Rattle.lis_record.specs.Lent.{Lent, lent};
+    ghost use Rattle.lis_record.specs.Relation.{Lacks};
+
+    ghost Value = { Lent Repeats };
+
+    ghost view = { λ f. lent f.delimiters (repeats_of f.delimiters f.text.now) };
+
+    ghost invariant = { λ f. Lacks f.delimiters.field f.text.now };
+}
+
+impl<'a> LentField<'a> {
+    /// The number of repeats.
+    pub fn len(&self) -> usize
+        ensures { result ≡ length self.now.content }
+    {
+        count_parts(self.text, self.delimiters.repeat())
+    }
+
+    /// The repeat at a place, from 0.
+    pub fn repeat(&self, place: usize) -> Option<LentRepeat<'a>>
+        ensures { result ≡ option_map (lent self.now.delimiters) (slice_get self.now.content place) }
+    {
+        let Some(text) = part_at(self.text, self.delimiters.repeat(), place) else {
+            return None;
+        };
+        Some(LentRepeat {
+            delimiters: self.delimiters,
+            text,
+        })
+    }
+
+    /// The field with memory of its own.
+    pub fn to_field(&self, alloc: Global) -> Result<Field, AllocError>
+        ensures { IfOk result (λ field. field ≡ self.now.content) }
+    {
+        read_field(alloc, self.delimiters, self.text)
+    }
+
+    /// Writes the field's spelling, of any length and without memory.
+    ///
+    /// On `Io(count)` the sink failed, and the first `count` bytes are out; the count stops at
+    /// 18,446,744,073,709,551,615. There is no other fault.
+    pub fn put<W: Sink>(&self, sink: &mut W) -> Result<(), WriteFault>
+        requires { W.failed sink.old ≡ false }
+        ensures wrote { WroteAny None (spelled_field self.now.delimiters self.now.content)
+            (W.taken sink.old) (W.taken sink.new) result }
+        ensures failed { W.failed sink.new ≡ is_io result }
+    {
+        if place_of(self.text, self.delimiters.escape()).is_some() {
+            return put_symbols(sink, self.delimiters, self.text);
+        }
+        // Without an escape byte the field is spelled as it stands.
+        match write_all(sink, self.text) {
+            Ok(()) => Ok(()),
+            Err(count) => Err(WriteFault::Io(count as u64)),
+        }
+    }
+}
+
+// Writes the spelling of a field's symbols.
+fn put_symbols<W: Sink>(sink: &mut W, delimiters: Delimiters, text: &[u8]) -> Result<(), WriteFault>
+    requires { W.failed sink.old ≡ false }
+    ensures wrote { WroteAny None (spelled_field delimiters (repeats_of delimiters text.now))
+        (W.taken sink.old) (W.taken sink.new) result }
+    ensures failed { W.failed sink.new ≡ is_io result }
+{
+    let mut chunk = Chunk::new();
+    let mut cursor = LentCursor::of_field(delimiters, text);
+    cursor.fill(&mut chunk);
+    send(sink, &mut chunk, &mut cursor, 0, 0)
+}
+
+/// A record that stands in a text, under the delimiters of its message.
+#[derive(Drop)]
+pub struct LentRecord<'a> {
+    delimiters: Delimiters,
+    kind: Kind,
+    fields: &'a [u8],
+}
+
+impl<'a> Model for LentRecord<'a> {
+    ghost use Rattle.lis_field.specs.Shape.{RecordContent};
+    ghost use Rattle.lis_record.specs.FrontReading.{fields_of};
+    ghost use Rattle.lis_record.specs.Lent.{Lent, lent};
+
+    ghost Value = { Lent RecordContent };
+
+    ghost view = { λ r. lent r.delimiters (record { kind = r.kind; fields = fields_of r.delimiters r.fields.now }) };
+}
+
+impl<'a> LentRecord<'a> {
+    // A record of this kind, whose fields are those of this text.
+    pub(crate) fn of_parts(delimiters: Delimiters, kind: Kind, fields: &'a [u8]) -> Self
+        ensures { result ≡ lent delimiters (record { kind = kind; fields = fields_of delimiters fields.now }) }
+    {
+        LentRecord {
+            delimiters,
+            kind,
+            fields,
+        }
+    }
+
+    /// The delimiters that the record is read under; a header's own.
+    pub fn delimiters(&self) -> Delimiters
+        ensures { result ≡ self.now.delimiters }
+    {
+        self.delimiters
+    }
+
+    /// What the record tells.
+    pub fn kind(&self) -> Kind
+        ensures { result ≡ self.now.content.kind }
+    {
+        self.kind
+    }
+
+    /// The number of fields after the letter, or after a header's delimiters.
+    pub fn len(&self) -> usize
+        ensures { result ≡ length self.now.content.fields }
+    {
+        match self.fields.split_first() {
+            Some((_delimiter, text)) => count_parts(text, self.delimiters.field()),
+            None => 0,
+        }
+    }
+
+    /// The field of this number. The letter is field 1; in a header the delimiters are field 2. Both are
+    /// none of these fields, and nor is one past the last.
+    pub fn field(&self, number: usize) -> Option<LentField<'a>>
+        ensures { result ≡ option_map (lent self.now.delimiters) (field_at self.now.content number) }
+    {
+        let Some(place) = number.checked_sub(self.kind.first_number()) else {
+            return None;
+        };
+        let Some(text) = part_behind(self.fields, self.delimiters.field(), place) else {
+            return None;
+        };
+        Some(LentField {
+            delimiters: self.delimiters,
+            text,
+        })
+    }
+
+    /// The record with memory of its own.
+    pub fn to_record(&self, alloc: Global) -> Result<Record, AllocError>
+        ensures { IfOk result (λ entry. entry ≡ self.now.content) }
+    {
+        read_fields(alloc, self.delimiters, self.kind, self.fields)
+    }
+}
