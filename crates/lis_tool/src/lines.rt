@@ -69,6 +69,7 @@ impl<C: LineMachine> Lines<C> {
     }
 
     /// The command takes the line that was read last.
+    #[inline(always)]
     fn take_line<W: Sink>(
         &mut self,
         sink: &mut W,

@@ -159,14 +159,7 @@ impl<const N: usize, T: Teller> Playing<N, T> {
             return Ok(Turn::Off(starved(written)));
         }
         self.texts = self.texts.saturating_add(count_of(&message));
-        let told = gather_message(
-            sink,
-            page,
-            written,
-            self.teller.account(),
-            number,
-            &message,
-        );
+        let told = gather_message(sink, page, written, self.teller.account(), number, &message);
         self.reuse(message);
         match told {
             Ok(after) => Ok(Turn::On(after)),
@@ -227,8 +220,9 @@ impl<const N: usize, T: Teller> Playing<N, T> {
             return Ok(Turn::On(written));
         }
         let got = self.replies.as_slice();
-        let differences = counted(self.differences, bytes == got);
-        let after = match gather_compared(sink, page, written, number, bytes, got) {
+        let same = bytes == got;
+        let differences = counted(self.differences, same);
+        let after = match gather_compared(sink, page, written, number, bytes, got, same) {
             Ok(after) => after,
             Err(fault) => return Err(fault),
         };
