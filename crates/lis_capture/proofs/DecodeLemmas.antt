@@ -188,12 +188,16 @@ read_sixteen digits bytes vs ws long room first second =
   where
     highs : List ℕ
     highs = pick_l 0 digits first_places
+
     lows : List ℕ
     lows = pick_l 0 digits second_places
+
     tests : List ℕ
     tests = zip2 (λ a b. cond (leb a b) 255 0) (replicate 16 16) (greater vs ws)
+
     woven_is : woven highs lows ≡ digits
     woven_is = woven_places digits long
+
     by : (t : Bool) → list_all is_hex_digit digits ≡ t
         → bytes_of digits ≡ (if t then Some (put_chunk 0 bytes (joined 16 vs ws)) else None)
     by false all = bytes_of-other digits all

@@ -114,7 +114,9 @@ fn values_of(digits: u8x16) -> u8x16
     ensures { map told_digit result ≡ map hex_digit_value digits }
 {
     let decimals = (digits + u8x16::splat(198)).saturating_sub(u8x16::splat(6)) - u8x16::splat(240);
-    let letters = ((digits & u8x16::splat(223)) - u8x16::splat(b'A')).saturating_add(u8x16::splat(10));
+    let letters = ((digits & u8x16::splat(223)) - u8x16::splat(b'A')).saturating_add(u8x16::splat(
+        10,
+    ));
     decimals.simd_min(letters)
 }
 
@@ -198,4 +200,3 @@ fn digits_of(values: u8x16) -> u8x16
 {
     u8x16::from_array(*b"0123456789abcdef").swizzle_dyn(values)
 }
-

@@ -14,6 +14,7 @@ pub const LONGEST_SPELLING: usize = 4097;
 impl Page {
     /// Puts a line behind the bytes: in version 2, with digits in lower case, without CR, and LF behind it.
     /// There must be room for [`LONGEST_SPELLING`] bytes.
+    #[inline(always)]
     pub fn append_line(&mut self, line: &Line)
         requires { length self.old + LONGEST_SPELLING ≤ PAGE_ROOM }
         ensures { self.new ≡ self.old ++ line_spelling line.now }
@@ -32,6 +33,7 @@ impl Page {
     }
 
     /// Puts a mark of two bytes, the digits of bytes, and LF behind the bytes.
+    #[inline(always)]
     fn append_bytes(&mut self, mark: &[u8], bytes: &LineBytes)
         requires room { length self.old + LONGEST_SPELLING ≤ PAGE_ROOM }
         requires mark { length mark.now ≤ 2 }

@@ -2,6 +2,7 @@
 
 ghost use Rattle.std.specs.Prelude.{◌≤◌};
 
+mod digits;
 mod line;
 mod reader;
 mod spelling;

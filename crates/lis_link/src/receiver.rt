@@ -242,6 +242,7 @@ impl<const N: usize> ReceiverOf<N> {
     }
 
     /// Hears the front of bytes: a whole frame, a run of bytes that a text may hold, or the first byte.
+    #[inline(always)]
     fn front(&mut self, bytes: &[u8]) -> Hearing
         requires { 0 < length bytes.now }
         ensures some { 0 < result.count }

@@ -145,14 +145,14 @@ pub record IsAt
   pub fine : (capture read false).refused ≡ false
   pub stood : stands (capture read false).lines
   pub joined : stream_with read rest ≡ stream_with [] (past ++ bytes)
-  pub few : length read + length rest < 2 ^ 47
+  pub few : length read + length rest < 2 ^ 44
   pub more : List ℕ
   pub put : Gathered old here before (Ok after) more
   pub text_is : text ++ more ≡ lines_text w (capture read false).lines
 
 pub at_start :
     (w : Writes) (stands : List Line → Type 0) (reader : Reading) (old : Out) (before : ℕ) (past text bytes : List ℕ)
-    → before ≤ most_counted → IsLined w stands reader past text → length past + length bytes < 2 ^ 47
+    → before ≤ most_counted → IsLined w stands reader past text → length past + length bytes < 2 ^ 44
     → IsAt w stands reader old old before before past text bytes bytes
 at_start w stands reader old before past text bytes fits lined few =
     record {
@@ -193,7 +193,7 @@ module _
   all_is : stream_with (stream_with at.read (take count rest)) (drop count rest) ≡ stream_with [] (past ++ bytes)
   all_is = front_stream count at.read rest ∙ at.joined
 
-  pub few_there : length (stream_with at.read (take count rest)) + length (drop count rest) < 2 ^ 47
+  pub few_there : length (stream_with at.read (take count rest)) + length (drop count rest) < 2 ^ 44
   few_there =
       let same = ap length (front_stream count at.read rest) in
       omega (arith, same, at.few, stream-length at.read rest, stream-length (stream_with at.read (take count rest)) (drop count rest))
@@ -246,7 +246,7 @@ module _
       ∙ capture-refused (stream_with at.read (take count rest)) (drop count rest) false (ap (λ (r : Lines). r.refused) here_is) ∙ here_is in
       let outcome_is : capture_outcome w (stream_with [] (past ++ bytes)) false ≡ lines_outcome w true false lines =
       ap (λ (r : Lines). lines_outcome w r.refused false r.lines) all in
-      let few : length lines + 1 < 2 ^ 47 =
+      let few : length lines + 1 < 2 ^ 44 =
       omega (
         arith,
         few_there,
@@ -272,9 +272,9 @@ module _
     said_there : capture (stream_with at.read (take count rest)) false ≡ record { lines = next.known.line ∷ (capture at.read false).lines; refused = false }
     said_there = found_is ∙ ap (λ (f : Found). found_lines (capture at.read false) f next.known.line) line_found
 
-    pub line_number : (next.known.number ≡ length (capture at.read false).lines + 1) × (next.known.number < 2 ^ 47)
+    pub line_number : (next.known.number ≡ length (capture at.read false).lines + 1) × (next.known.number < 2 ^ 44)
     line_number =
-        let few : length (capture at.read false).lines + 1 < 2 ^ 47 =
+        let few : length (capture at.read false).lines + 1 < 2 ^ 44 =
         omega (
           arith,
           few_there,
@@ -365,13 +365,13 @@ module _
 
 module _
     (w : Writes) (stands : List Line → Type 0) (reader next : Reading) (past text : List ℕ) (lined : IsLined w stands reader past text)
-    (few : length past < 2 ^ 47) (result : Found)
+    (few : length past < 2 ^ 44) (result : Found)
     (found_is : capture (stream_with [] past) true ≡ found_lines (capture (stream_with [] past) false) result next.known.line)
     (known_is : next.known ≡ known_of (capture (stream_with [] past) true)) where
-  few_lines : length (capture (stream_with [] past) true).lines + one_refused (capture (stream_with [] past) true).refused < 2 ^ 47
+  few_lines : length (capture (stream_with [] past) true).lines + one_refused (capture (stream_with [] past) true).refused < 2 ^ 44
   few_lines = omega (arith, few, lines-few (stream_with [] past) true, stream-length [] past)
 
-  pub few_before : length (capture (stream_with [] past) false).lines < 2 ^ 47
+  pub few_before : length (capture (stream_with [] past) false).lines < 2 ^ 44
   few_before = omega (arith, few, lines-few (stream_with [] past) false, stream-length [] past)
 
   outcome_here : (read : Lines) → capture (stream_with [] past) true ≡ read → capture_outcome w (stream_with [] past) true ≡ lines_outcome w read.refused true read.lines
@@ -431,7 +431,7 @@ module _
       let is : capture (stream_with [] past) true ≡ record { lines = lines; refused = true } =
       found_is ∙ ap (λ (f : Found). found_lines (capture (stream_with [] past) false) f next.known.line) refused in
       let outcome_is = outcome_here (record { lines = lines; refused = true }) is in
-      let small : length lines + 1 < 2 ^ 47 = subst (λ (r : Lines). length r.lines + one_refused r.refused < 2 ^ 47) is few_lines in
+      let small : length lines + 1 < 2 ^ 44 = subst (λ (r : Lines). length r.lines + one_refused r.refused < 2 ^ 44) is few_lines in
       let known : next.known.number ≡ min (length lines + 1) 18446744073709551615 =
       ap (λ (k : Known). k.number) known_is ∙ ap (λ (r : Lines). (known_of r).number) is in
       let number : next.known.number ≡ length lines + 1 = omega (arith, known, small) in
@@ -453,10 +453,10 @@ module _
     said_last : capture (stream_with [] past) true ≡ record { lines = next.known.line ∷ (capture (stream_with [] past) false).lines; refused = false }
     said_last = found_is ∙ ap (λ (f : Found). found_lines (capture (stream_with [] past) false) f next.known.line) line_found
 
-    pub last_number : (next.known.number ≡ length (capture (stream_with [] past) false).lines + 1) × (next.known.number < 2 ^ 47)
+    pub last_number : (next.known.number ≡ length (capture (stream_with [] past) false).lines + 1) × (next.known.number < 2 ^ 44)
     last_number =
-        let small : length (next.known.line ∷ (capture (stream_with [] past) false).lines) + 0 < 2 ^ 47 =
-        subst (λ (r : Lines). length r.lines + one_refused r.refused < 2 ^ 47) said_last few_lines in
+        let small : length (next.known.line ∷ (capture (stream_with [] past) false).lines) + 0 < 2 ^ 44 =
+        subst (λ (r : Lines). length r.lines + one_refused r.refused < 2 ^ 44) said_last few_lines in
         let known : next.known.number ≡ min (length (next.known.line ∷ (capture (stream_with [] past) false).lines)) 18446744073709551615 =
         ap (λ (k : Known). k.number) known_is ∙ ap (λ (r : Lines). (known_of r).number) said_last in
         (omega (arith, known, small), omega (arith, known, small))

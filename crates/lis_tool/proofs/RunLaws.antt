@@ -47,7 +47,7 @@ pub record IsSoFar (stands : List ℕ → List ℕ → Type 0) (left_old left ta
   pub read : Consumes left_old left bytes
   pub wrote : Appends taken_old taken text
   pub counted : written ≡ min (length text) most_counted
-  pub short : length bytes ≤ 32768 * turn
+  pub short : length bytes ≤ 4096 * turn
 
 -- what a run with this answer may have put out
 pub record Told (memory : Bool) (means : List ℕ → Bool → Outcome → Type 0) (given : List ℕ) (ended : Bool) (a b : Option (List ℕ)) (result : Result Report ToolFault) : Type 0 where

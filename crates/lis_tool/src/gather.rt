@@ -18,6 +18,8 @@ const CHUNK: usize = 1024;
 const NUMBER_ROOM: usize = 40;
 
 /// Puts out the page, behind `written` bytes of this run, and lets go of it.
+// It is seldom called, and within the loops of its callers it would take their registers.
+#[inline(never)]
 pub(crate) fn put_page<W: Sink>(
     sink: &mut W,
     page: &mut Page,

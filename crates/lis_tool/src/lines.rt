@@ -36,7 +36,7 @@ pub trait LineMachine: Drop {
         line: &Line<'_>,
     ) -> Result<Turn, ToolFault>
         requires { W.failed sink.old ≡ false }
-        ensures steps { (lines : List LineContent) → stands self.old lines → number ≡ length lines + 1 → number < 2 ^ 47 →
+        ensures steps { (lines : List LineContent) → stands self.old lines → number ≡ length lines + 1 → number < 2 ^ 44 →
             LineSteps takes_memory (stands self.new (line.now ∷ lines)) (out (W.taken sink.old) page.old) (out (W.taken sink.new) page.new) written
             (writes.line lines line.now) result }
         ensures failed { W.failed sink.new ≡ is_err result };
@@ -44,7 +44,7 @@ pub trait LineMachine: Drop {
     /// Takes the end of the input.
     fn end<W: Sink>(self, sink: &mut W, page: &mut Page, written: u64) -> Result<Halt, ToolFault>
         requires { W.failed sink.old ≡ false }
-        ensures ends { (lines : List LineContent) → stands self lines → length lines < 2 ^ 47 →
+        ensures ends { (lines : List LineContent) → stands self lines → length lines < 2 ^ 44 →
             LineEnds (writes.report lines) (out (W.taken sink.old) page.old) (out (W.taken sink.new) page.new) written (writes.last lines) result }
         ensures failed { W.failed sink.new ≡ is_err result };
 }
@@ -69,6 +69,7 @@ impl<C: LineMachine> Lines<C> {
     }
 
     /// The command takes the line that was read last.
+    #[inline(always)]
     fn take_line<W: Sink>(
         &mut self,
         sink: &mut W,
@@ -77,7 +78,7 @@ impl<C: LineMachine> Lines<C> {
     ) -> Result<Turn, ToolFault>
         requires { W.failed sink.old ≡ false }
         ensures steps { (lines : List LineContent) → C.stands self.old.command lines → self.old.reader.known.number ≡ length lines + 1 →
-            self.old.reader.known.number < 2 ^ 47 →
+            self.old.reader.known.number < 2 ^ 44 →
             LineSteps C.takes_memory (C.stands self.new.command (self.old.reader.known.line ∷ lines)) (out (W.taken sink.old) page.old) (out (W.taken sink.new) page.new) written
             (C.writes.line lines self.old.reader.known.line) result }
         ensures reader { self.new.reader ≡ self.old.reader }

@@ -14,8 +14,8 @@ use crate::report::Report;
 use lis_capture::Page;
 use lis_port::{Failed, Sink, Source, read_sent};
 
-/// The most bytes that are read at a time. A buffered reader with a buffer that is no longer hands them on uncopied.
-const ROOM: usize = 32_768;
+/// The most bytes that are read at a time.
+const ROOM: usize = 4096;
 
 /// How a run halts, and how many bytes of it went out.
 #[derive(Clone, Copy)]
@@ -55,7 +55,7 @@ pub trait Machine: Drop {
         bytes: &[u8],
     ) -> Result<Turn, ToolFault>
         requires { W.failed sink.old ≡ false }
-        ensures steps { (past text : List ℕ) → stands self.old past text → length past + length bytes.now < 2 ^ 47 →
+        ensures steps { (past text : List ℕ) → stands self.old past text → length past + length bytes.now < 2 ^ 44 →
             Steps takes_memory (stands self.new (past ++ bytes.now)) (means (past ++ bytes.now) false)
             (out (W.taken sink.old) page.old) (out (W.taken sink.new) page.new) written text result }
         ensures failed { W.failed sink.new ≡ is_err result };
@@ -63,7 +63,7 @@ pub trait Machine: Drop {
     /// Takes the end of the input.
     fn end<W: Sink>(self, sink: &mut W, page: &mut Page, written: u64) -> Result<Halt, ToolFault>
         requires { W.failed sink.old ≡ false }
-        ensures ends { (past text : List ℕ) → stands self past text → length past < 2 ^ 47 →
+        ensures ends { (past text : List ℕ) → stands self past text → length past < 2 ^ 44 →
             Ends takes_memory (means past true) (out (W.taken sink.old) page.old) (out (W.taken sink.new) page.new) written text result }
         ensures failed { W.failed sink.new ≡ is_err result }
         ensures silent { closes ≡ false → (is_err result ≡ false) × (W.sent sink.new ≡ W.sent sink.old) × (W.taken sink.new ≡ W.taken sink.old) × (page.new ≡ page.old) };
@@ -132,7 +132,7 @@ fn feed_page<M: Machine, W: Sink>(
     bytes: &[u8],
 ) -> Result<Turn, ToolFault>
     requires { W.failed sink.old ≡ false }
-    ensures steps { (past text : List ℕ) → M.stands machine.old past text → length past + length bytes.now < 2 ^ 47 →
+    ensures steps { (past text : List ℕ) → M.stands machine.old past text → length past + length bytes.now < 2 ^ 44 →
         Steps M.takes_memory (M.stands machine.new (past ++ bytes.now)) (M.means (past ++ bytes.now) false)
         (out (W.taken sink.old) []) (out (W.taken sink.new) []) written text result }
     ensures failed { W.failed sink.new ≡ is_err result }
@@ -162,7 +162,7 @@ fn end_page<M: Machine, W: Sink>(
     written: u64,
 ) -> Result<Halt, ToolFault>
     requires { W.failed sink.old ≡ false }
-    ensures ends { (past text : List ℕ) → M.stands machine past text → length past < 2 ^ 47 →
+    ensures ends { (past text : List ℕ) → M.stands machine past text → length past < 2 ^ 44 →
         Ends M.takes_memory (M.means past true) (out (W.taken sink.old) []) (out (W.taken sink.new) []) written text result }
     ensures failed { W.failed sink.new ≡ is_err result }
     ensures silent { M.closes ≡ false → (is_err result ≡ false) × (W.sent sink.new ≡ W.sent sink.old) × (W.taken sink.new ≡ W.taken sink.old) }

@@ -159,14 +159,7 @@ impl<const N: usize, T: Teller> Playing<N, T> {
             return Ok(Turn::Off(starved(written)));
         }
         self.texts = self.texts.saturating_add(count_of(&message));
-        let told = gather_message(
-            sink,
-            page,
-            written,
-            self.teller.account(),
-            number,
-            &message,
-        );
+        let told = gather_message(sink, page, written, self.teller.account(), number, &message);
         self.reuse(message);
         match told {
             Ok(after) => Ok(Turn::On(after)),
@@ -215,7 +208,7 @@ impl<const N: usize, T: Teller> Playing<N, T> {
         requires { W.failed sink.old ≡ false }
         ensures steps { (lines : List LineContent) →
             IsPlaying T.account N self.old.receiver self.old.replies.items self.old.texts self.old.differences lines →
-            number ≡ length lines + 1 → number < 2 ^ 47 →
+            number ≡ length lines + 1 → number < 2 ^ 44 →
             LineSteps true
             (IsPlaying T.account N self.new.receiver self.new.replies.items self.new.texts self.new.differences
             (line_kinds.FromComputer bytes.now ∷ lines))
@@ -227,8 +220,9 @@ impl<const N: usize, T: Teller> Playing<N, T> {
             return Ok(Turn::On(written));
         }
         let got = self.replies.as_slice();
-        let differences = counted(self.differences, bytes == got);
-        let after = match gather_compared(sink, page, written, number, bytes, got) {
+        let same = bytes == got;
+        let differences = counted(self.differences, same);
+        let after = match gather_compared(sink, page, written, number, bytes, got, same) {
             Ok(after) => after,
             Err(fault) => return Err(fault),
         };
@@ -243,7 +237,7 @@ impl<const N: usize, T: Teller> Playing<N, T> {
         requires lines { T.account ≡ accounts.Lines }
         ensures ends { (lines : List LineContent) →
             IsPlaying T.account N self.receiver self.replies.items self.texts self.differences lines →
-            length lines < 2 ^ 47 →
+            length lines < 2 ^ 44 →
             LineEnds ((replay_writes N).report lines) (out (W.taken sink.old) page.old) (out (W.taken sink.new) page.new) written ((replay_writes N).last lines) result }
         ensures failed { W.failed sink.new ≡ is_err result }
     {

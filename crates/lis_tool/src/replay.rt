@@ -1,6 +1,7 @@
 //! The command `replay`: what a receiver answers to the analyzer's bytes of a capture, beside the computer's.
 
 ghost use Rattle.std.specs.Prelude.{◌≡◌, ◌+◌, ◌≤◌, ◌++◌, ℕ, List, false, true, is_err, length, IfOk};
+ghost use Rattle.std.specs.Str.{bytes_eq};
 ghost use Rattle.lis_frame.specs.Limit.{IsLimit};
 ghost use Rattle.lis_capture.specs.declared.page.TheConstants.{PAGE_ROOM};
 ghost use Rattle.lis_tool.specs.CaptureRuns.{CaptureRan};
@@ -95,7 +96,8 @@ fn append_text_line(page: &mut Page, number: u64, len: u64)
     page.append(b"\n");
 }
 
-/// Gathers the difference of the computer's bytes and the replies, where there is one.
+/// Gathers the difference of the computer's bytes and the replies, where there is one; `same` tells that there is none.
+#[inline(always)]
 pub(crate) fn gather_compared<'x, W: Sink>(
     sink: &mut W,
     page: &mut Page,
@@ -103,12 +105,14 @@ pub(crate) fn gather_compared<'x, W: Sink>(
     number: u64,
     want: &'x [u8],
     got: &'x [u8],
+    same: bool,
 ) -> Result<u64, ToolFault>
-    requires { W.failed sink.old ≡ false }
+    requires working { W.failed sink.old ≡ false }
+    requires same { same ≡ bytes_eq want.now got.now }
     ensures gathered { Gathered (out (W.taken sink.old) page.old) (out (W.taken sink.new) page.new) written result (compared_line number want.now got.now) }
     ensures failed { W.failed sink.new ≡ is_err result }
 {
-    if want == got {
+    if same {
         return Ok(written);
     }
     gather_difference(sink, page, written, Part::Number(number), want, got)

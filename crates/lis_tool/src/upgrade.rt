@@ -121,6 +121,7 @@ fn gather_line<W: Sink>(
 }
 
 /// Gathers the text of a line.
+#[inline(always)]
 fn gather_spelling<W: Sink>(
     sink: &mut W,
     page: &mut Page,

@@ -228,6 +228,7 @@ impl Line {
     }
 
     /// Answers a good frame.
+    #[inline(always)]
     pub(crate) fn good(&mut self, frame: &LentFrame<'_>) -> Step
         ensures step { (limit : ℕ) (scanner : Held) (r : ReceiverState) → IsIn limit (kept_of self.old scanner) r →
             result.note ≢ Notes.OutOfMemory →

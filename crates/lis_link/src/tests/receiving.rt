@@ -49,6 +49,32 @@ fn frames_are_taken_in_turn(rt: HostRuntime) -> Result<(), Fail> {
 }
 
 #[test]
+fn a_text_that_is_given_back_is_gone(rt: HostRuntime) -> Result<(), Fail> {
+    let mut receiver = opened(rt.alloc());
+    let _ = last_step(&mut receiver, b"\x021A\x1789\r");
+    let step = receiver.byte(0x0a);
+    assert_eq!(rt; (step.reply, step.note), (Some(0x06), Note::Accepted(1)));
+    let _ = last_step(&mut receiver, b"\x022A\x0376\r");
+    let step = receiver.byte(0x0a);
+    match step.message {
+        Some(text) => {
+            assert_eq!(rt; text.as_slice(), b"AA".as_slice());
+            receiver.reuse(text);
+        }
+        None => assert!(rt; false),
+    }
+    assert_eq!(rt; receiver.held(), 0);
+    assert_eq!(rt; receiver.accepted(), 2);
+    let _ = last_step(&mut receiver, b"\x023A\x0377\r");
+    let step = receiver.byte(0x0a);
+    match step.message {
+        Some(text) => assert_eq!(rt; text.as_slice(), b"A".as_slice()),
+        None => assert!(rt; false),
+    }
+    Ok(())
+}
+
+#[test]
 fn a_repeated_frame_is_taken_once(rt: HostRuntime) -> Result<(), Fail> {
     let mut receiver = opened(rt.alloc());
     let more = b"\x021A\x1789\r\n";

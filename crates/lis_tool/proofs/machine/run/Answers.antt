@@ -31,7 +31,7 @@ returns-in-Err-clause-ran g c =
 pub returns-in-Ok-end_page-clause-ran : goal.returns-in-Ok-end_page-clause-ran
 returns-in-Ok-end_page-clause-ran g c =
     let s = c.loop-turn.invariant.so_far in
-    let few : length s.bytes < 2 ^ 47 = omega (arith, s.short) in
+    let few : length s.bytes < 2 ^ 44 = omega (arith, s.short) in
     let puts = c.in-Ok-end_page.ensures.ends s.bytes s.text s.stood few in
     told_ran g.M.Machine.takes_memory g.M.Machine.means s.bytes _ _ _ _ _ c.halted.result
     (consumes_end _ _ _ s.bytes _ c.in-Ok.count s.read c.in-Ok.ensures.bytes.0 c.if-count-eq0.true)
@@ -42,7 +42,7 @@ returns-in-Ok-end_page-clause-ran g c =
 pub returns-in-Err-end_page-clause-ran : goal.returns-in-Err-end_page-clause-ran
 returns-in-Err-end_page-clause-ran g c =
     let s = c.loop-turn.invariant.so_far in
-    let few : length s.bytes < 2 ^ 47 = omega (arith, s.short) in
+    let few : length s.bytes < 2 ^ 44 = omega (arith, s.short) in
     told_ran g.M.Machine.takes_memory g.M.Machine.means s.bytes _ _ _ _ _ (Err c.in-Err-end_page.fault)
     (consumes_end _ _ _ s.bytes _ c.in-Ok.count s.read c.in-Ok.ensures.bytes.0 c.if-count-eq0.true)
     (rw (is_end _ c.in-Ok.count c.if-count-eq0.true c.in-Ok.ensures.ended)
@@ -53,7 +53,7 @@ pub returns-in-Ok-Off-clause-ran : goal.returns-in-Ok-Off-clause-ran
 returns-in-Ok-Off-clause-ran g c =
     let s = c.loop-turn.invariant.so_far in
     let more = c.split_at.result.0.now in
-    let few : length s.bytes + length more < 2 ^ 47 = omega (arith, s.short) in
+    let few : length s.bytes + length more < 2 ^ 44 = omega (arith, s.short) in
     let puts = rw c.in-Ok-Off.field-0-is at (c.in-Ok-Off.ensures.steps s.bytes s.text s.stood few) in
     told_ran g.M.Machine.takes_memory g.M.Machine.means (s.bytes ++ more) _ _ _ _ _ c.halted-in-Ok-Off.result
     (consumes_then _ _ _ s.bytes more s.read (rw c.split_at.ensures.front c.in-Ok.ensures.bytes.0))
@@ -65,7 +65,7 @@ pub returns-in-Ok-Off-clause-stops : goal.returns-in-Ok-Off-clause-stops
 returns-in-Ok-Off-clause-stops g c =
     let s = c.loop-turn.invariant.so_far in
     let more = c.split_at.result.0.now in
-    let few : length s.bytes + length more < 2 ^ 47 = omega (arith, s.short) in
+    let few : length s.bytes + length more < 2 ^ 44 = omega (arith, s.short) in
     let puts = rw c.in-Ok-Off.field-0-is at (c.in-Ok-Off.ensures.steps s.bytes s.text s.stood few) in
     let going = no_end _ c.in-Ok.count c.if-count-eq0.false c.in-Ok.ensures.ended in
     halted_stops g.M.Machine.closes g.M.Machine.takes_memory (g.M.Machine.means (s.bytes ++ more) false) (s.text ++ puts.more) c.in-Ok-Off.halt
@@ -77,7 +77,7 @@ pub returns-in-Err-feed_page-clause-ran : goal.returns-in-Err-feed_page-clause-r
 returns-in-Err-feed_page-clause-ran g c =
     let s = c.loop-turn.invariant.so_far in
     let more = c.split_at.result.0.now in
-    let few : length s.bytes + length more < 2 ^ 47 = omega (arith, s.short) in
+    let few : length s.bytes + length more < 2 ^ 44 = omega (arith, s.short) in
     told_ran g.M.Machine.takes_memory g.M.Machine.means (s.bytes ++ more) _ _ _ _ _ (Err c.in-Err-feed_page.fault)
     (consumes_then _ _ _ s.bytes more s.read (rw c.split_at.ensures.front c.in-Ok.ensures.bytes.0))
     (rw (no_end _ c.in-Ok.count c.if-count-eq0.false c.in-Ok.ensures.ended)
@@ -89,7 +89,7 @@ loop-turn-preserved g c =
     let s = c.loop-turn.invariant.so_far in
     let more = c.split_at.result.0.now in
     let count : length more ≡ c.in-Ok.count = omega arith in
-    let few : length s.bytes + length more < 2 ^ 47 = omega (arith, s.short) in
+    let few : length s.bytes + length more < 2 ^ 44 = omega (arith, s.short) in
     let puts = rw c.in-Ok-On.field-0-is at (c.in-Ok-On.ensures.steps s.bytes s.text s.stood few) in
     let all =
     step_goes _ _ _ c.loop-turn.written c.in-Ok-On.after _ s.text (appends_kept _ _ _ _ s.wrote c.in_default.ensures.taken) s.counted puts in

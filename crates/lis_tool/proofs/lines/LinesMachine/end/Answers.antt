@@ -28,7 +28,7 @@ returns-in-Ok-On-clause-ends g c = λ past text lined few.
     let found_is = c.finish.ensures.found (stream_with [] past) lined.has_read in
     let number = last_number g.C.LineMachine.writes _ _ c.finish.new.self past text lined few c.finish.result found_is known_is c.in-Line.is in
     let steps = rw c.in-Ok-On.field-0-is at (c.in-Ok-On.ensures.steps (capture (stream_with [] past) false).lines lined.stood number.0 number.1) in
-    let many : length (c.finish.new.self.known.line ∷ (capture (stream_with [] past) false).lines) < 2 ^ 47 = omega (arith, number.0, number.1) in
+    let many : length (c.finish.new.self.known.line ∷ (capture (stream_with [] past) false).lines) < 2 ^ 44 = omega (arith, number.0, number.1) in
     last_taken g.C.LineMachine.writes _ _ c.finish.new.self past text lined few c.finish.result found_is known_is c.in-Line.is
     g.C.LineMachine.takes_memory _ _ _ c.args.written c.in-Ok-On.after c.end-in-Ok-On.result steps.0
     (c.end-in-Ok-On.ensures.ends (c.finish.new.self.known.line ∷ (capture (stream_with [] past) false).lines) steps.1 many)

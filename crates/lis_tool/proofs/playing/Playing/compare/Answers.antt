@@ -14,7 +14,7 @@ returns-clause-steps g c = λ lines playing number few.
       played_computer g.T.Teller.account g.row.N _ c.args.self.now.replies.items c.clear.new.self.items c.args.self.now.texts c.args.self.now.differences c.counted-differences.result lines
           c.args.bytes.now playing (λ is. c.clear.ensures.items)
           (λ is.
-          rw (c.eq.ensures, c.as_slice-got.ensures.value) at
+          rw (c.eq-same.ensures, c.as_slice-got.ensures.value) at
           (c.counted-differences.ensures (difference_count g.row.N lines) (playing.differences_are is) (omega (arith, difference_count-few g.row.N lines, number, few)))),
     )
 
