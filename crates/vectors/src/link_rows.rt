@@ -1,0 +1,98 @@
+//! Events on a link, and what became of each session.
+
+ghost use Rattle.lis_frame.specs.Limit.{IsLimit};
+
+use crate::answer::Answer;
+use crate::frame_rows::put_frame;
+use crate::sender_rows::put_outcome;
+use crate::words::{Trouble, byte_of, link_text_of, texts_of};
+use lis_frame::FramesOf;
+use lis_world::{Event, Events, SessionOf, play_of};
+use std::alloc::{AllocError, Global};
+
+/// Answers a call on a link.
+pub(crate) fn link_call<const N: usize>(
+    alloc: Global,
+    call: &str,
+    words: &[&str],
+    answer: &mut Answer,
+) -> Result<(), Trouble>
+    requires { IsLimit N }
+{
+    if call != "play" {
+        return Err(Trouble::NoCall);
+    }
+    let mut events = Events::new(alloc);
+    for word in words {
+        events.push(event_of(alloc, *word)?)?;
+    }
+    let Ok(history) = play_of::<N>(alloc, events) else {
+        return Err(Trouble::OutOfMemory);
+    };
+    answer.number("sessions=", history.len() as u64)?;
+    for session in history.as_slice() {
+        put_session(session, answer)?;
+    }
+    Ok(())
+}
+
+/// The event that a word tells.
+fn event_of(alloc: Global, word: &str) -> Result<Event, Trouble> {
+    if let Some((name, argument)) = word.split_once(':') {
+        return match name {
+            "Start" => Ok(Event::Start(texts_of(alloc, argument)?)),
+            "Damage" => Ok(Event::Damage(link_text_of(alloc, argument)?)),
+            "DamageReply" => Ok(Event::DamageReply(byte_of(argument)?)),
+            _ => Err(Trouble::NoCall),
+        };
+    }
+    match word {
+        "Deliver" => Ok(Event::Deliver),
+        "DeliverNoRoom" => Ok(Event::DeliverNoRoom),
+        "Lose" => Ok(Event::Lose),
+        "Reply" => Ok(Event::Reply),
+        "LoseReply" => Ok(Event::LoseReply),
+        "SenderTimer" => Ok(Event::SenderTimer),
+        "ReceiverTimer" => Ok(Event::ReceiverTimer),
+        "RestartSender" => Ok(Event::RestartSender),
+        "RestartReceiver" => Ok(Event::RestartReceiver),
+        "Ready" => Ok(Event::Ready),
+        "Busy" => Ok(Event::Busy),
+        "Contending" => Ok(Event::Contending),
+        _ => Err(Trouble::NoCall),
+    }
+}
+
+fn put_session<const N: usize>(
+    session: &SessionOf<N>,
+    answer: &mut Answer,
+) -> Result<(), AllocError>
+    requires { IsLimit N }
+{
+    answer.texts(" session texts=", session.texts())?;
+    put_frames(" sent=", session.sent(), answer)?;
+    put_frames(" accepted=", session.accepted(), answer)?;
+    answer.number(" acknowledged=", session.acknowledged())?;
+    answer.texts(" handed=", session.handed())?;
+    put_outcome(session.outcome(), answer)
+}
+
+fn put_frames<const N: usize>(
+    name: &str,
+    frames: &FramesOf<N>,
+    answer: &mut Answer,
+) -> Result<(), AllocError>
+    requires { IsLimit N }
+{
+    answer.text(name)?;
+    if frames.is_empty() {
+        return answer.text("none");
+    }
+    let mut between = "";
+    for frame in frames.as_slice() {
+        answer.text(between)?;
+        put_frame(frame, answer)?;
+        between = ",";
+    }
+    Ok(())
+}

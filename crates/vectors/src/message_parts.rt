@@ -1,0 +1,166 @@
+//! Messages and their faults in the rows.
+
+use crate::answer::Answer;
+use crate::narrow::WIDE;
+use crate::record_rows::put_record_fault;
+use crate::spelling::{put_delimiters, put_kind, put_record};
+use crate::words::Trouble;
+use crate::writing_rows::{put_write_fault, put_wrote};
+use lis_message::{
+    Group, Message, MessageFault, MessageWriteFault, Order, Patient, Reason, Records, TextsFault,
+    message_texts, write_message,
+};
+use lis_port::Slow;
+use lis_tree::findings;
+use std::alloc::{AllocError, Global};
+
+/// Puts a message: its delimiters, the number of its records, its tree, its findings, its texts, and what is written.
+pub(crate) fn put_message(
+    alloc: Global,
+    message: &Message,
+    answer: &mut Answer,
+) -> Result<(), Trouble> {
+    answer.word("message delimiters=")?;
+    put_delimiters(message.delimiters(), answer)?;
+    answer.number(" records=", message.len())?;
+    answer.text(" tree=")?;
+    put_tree(message, answer)?;
+    answer.text(" findings=")?;
+    put_findings(alloc, message, answer)?;
+    match message_texts(alloc, message) {
+        Ok(texts) => answer.texts(" texts=", texts.as_slice())?,
+        Err(fault) => {
+            answer.text(" texts=refused:")?;
+            put_texts_fault(fault, answer)?;
+        }
+    }
+    let mut sink = Slow::new(WIDE, WIDE);
+    let wrote = write_message(&mut sink, message);
+    answer.text(" written=")?;
+    put_message_wrote(wrote, sink.took(), answer)?;
+    Ok(())
+}
+
+fn put_findings(alloc: Global, message: &Message, answer: &mut Answer) -> Result<(), AllocError> {
+    let found = findings(alloc, message)?;
+    if found.is_empty() {
+        return answer.text("none");
+    }
+    let mut between = "";
+    for finding in found.as_slice() {
+        answer.number(between, finding.place)?;
+        answer.text(".")?;
+        put_kind(finding.kind, answer)?;
+        answer.number(".", finding.expected)?;
+        between = ",";
+    }
+    Ok(())
+}
+
+/// Puts a tree: `*` before each note, brackets round each patient, query, order and result.
+fn put_tree(message: &Message, answer: &mut Answer) -> Result<(), AllocError> {
+    put_record(message.header(), answer)?;
+    put_notes(message.notes(), answer)?;
+    for group in message.groups() {
+        answer.text("[")?;
+        match group {
+            Group::Patient(patient) => put_patient(patient, answer)?,
+            Group::Query(query) => {
+                put_record(query.head(), answer)?;
+                put_notes(query.notes(), answer)?;
+            }
+        }
+        answer.text("]")?;
+    }
+    put_record(message.closing(), answer)
+}
+
+fn put_patient(patient: &Patient, answer: &mut Answer) -> Result<(), AllocError> {
+    put_record(patient.head(), answer)?;
+    put_notes(patient.notes(), answer)?;
+    for order in patient.orders() {
+        answer.text("[")?;
+        put_order(order, answer)?;
+        answer.text("]")?;
+    }
+    Ok(())
+}
+
+fn put_order(order: &Order, answer: &mut Answer) -> Result<(), AllocError> {
+    put_record(order.head(), answer)?;
+    put_notes(order.notes(), answer)?;
+    for entry in order.results() {
+        answer.text("[")?;
+        put_record(entry.head(), answer)?;
+        put_notes(entry.notes(), answer)?;
+        answer.text("]")?;
+    }
+    Ok(())
+}
+
+fn put_notes(notes: &Records, answer: &mut Answer) -> Result<(), AllocError> {
+    for note in notes.as_slice() {
+        answer.text("*")?;
+        put_record(note, answer)?;
+    }
+    Ok(())
+}
+
+/// Puts a fault, or that there is none.
+pub(crate) fn put_fault(
+    fault: Option<MessageFault>,
+    answer: &mut Answer,
+) -> Result<(), AllocError> {
+    match fault {
+        None => answer.text("none"),
+        Some(fault) => put_place_fault(fault, answer),
+    }
+}
+
+/// Puts a fault: the place of its record, and the reason.
+pub(crate) fn put_place_fault(fault: MessageFault, answer: &mut Answer) -> Result<(), AllocError> {
+    answer.number("", fault.place)?;
+    match fault.reason {
+        Reason::BadRecord(fault) => {
+            answer.text(".BadRecord.")?;
+            put_record_fault(fault, answer)
+        }
+        Reason::NotHeader => answer.text(".NotHeader"),
+        Reason::NoParent(kind) => {
+            answer.text(".NoParent.")?;
+            put_kind(kind, answer)
+        }
+        Reason::SecondHeader => answer.text(".SecondHeader"),
+        Reason::Unfinished => answer.text(".Unfinished"),
+        Reason::RecordTooLong => answer.text(".RecordTooLong"),
+        Reason::OutOfMemory => answer.text(".OutOfMemory"),
+    }
+}
+
+fn put_texts_fault(fault: TextsFault, answer: &mut Answer) -> Result<(), AllocError> {
+    match fault {
+        TextsFault::BadRecord { place, fault } => {
+            answer.number("", place)?;
+            answer.text(".")?;
+            put_write_fault(fault, answer)
+        }
+        TextsFault::TooMany => answer.text("TooMany"),
+        TextsFault::OutOfMemory => answer.text("OutOfMemory"),
+    }
+}
+
+/// Puts how the writing of a message ended, and what the sink took.
+pub(crate) fn put_message_wrote(
+    wrote: Result<(), MessageWriteFault>,
+    took: &[u8],
+    answer: &mut Answer,
+) -> Result<(), AllocError> {
+    match wrote {
+        Ok(()) => put_wrote(Ok(()), took, answer),
+        Err(MessageWriteFault { place, fault }) => {
+            answer.number("", place)?;
+            answer.text(".")?;
+            put_wrote(Err(fault), took, answer)
+        }
+    }
+}

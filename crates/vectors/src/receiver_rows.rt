@@ -1,0 +1,158 @@
+//! Calls on a receiver.
+
+ghost use Rattle.lis_frame.specs.Limit.{IsLimit};
+
+use crate::answer::Answer;
+use crate::frame_rows::put_frame_fault;
+use crate::words::{Trouble, bytes_of, number_of};
+use lis_link::{Note, Readiness, ReceiverOf, Step};
+use lis_text::LONGEST_TEXT;
+use std::alloc::{AllocError, Global};
+
+/// Answers a call on a receiver: its steps that aren't quiet, and then its state. One receiver hears bytes one by one,
+/// the other at once; they must answer the same.
+pub(crate) fn receiver_call<const N: usize>(
+    alloc: Global,
+    receiver: &mut ReceiverOf<N>,
+    other: &mut ReceiverOf<N>,
+    call: &str,
+    words: &[&str],
+    answer: &mut Answer,
+) -> Result<(), Trouble>
+    requires { IsLimit N }
+{
+    let mut again = Answer::new(alloc);
+    if let ("bytes", [bytes]) = (call, words) {
+        let bytes = bytes_of(alloc, bytes)?;
+        hear_each(receiver, bytes.as_slice(), answer)?;
+        hear_all(other, bytes.as_slice(), &mut again)?;
+    } else {
+        event(alloc, receiver, call, words, answer)?;
+        event(alloc, other, call, words, &mut again)?;
+    }
+    put_state(receiver, answer)?;
+    put_state(other, &mut again)?;
+    if answer.line() != again.line() {
+        answer.word("at once: ")?;
+        answer.text(again.line())?;
+    }
+    Ok(())
+}
+
+fn event<const N: usize>(
+    alloc: Global,
+    receiver: &mut ReceiverOf<N>,
+    call: &str,
+    words: &[&str],
+    answer: &mut Answer,
+) -> Result<(), Trouble>
+    requires { IsLimit N }
+{
+    match (call, words) {
+        ("new", []) => *receiver = ReceiverOf::new(alloc),
+        ("timer", []) => put_step(0, &receiver.timer(), answer)?,
+        ("restart", []) => receiver.restart(),
+        ("ready", ["ready"]) => receiver.set_ready(Readiness::Ready),
+        ("ready", ["busy"]) => receiver.set_ready(Readiness::Busy),
+        ("ready", ["contending"]) => receiver.set_ready(Readiness::Contending),
+        ("room", ["on"]) => receiver.set_room(true),
+        ("room", ["off"]) => receiver.set_room(false),
+        ("reserve", [count]) => {
+            let count = number_of(count)?;
+            if count > LONGEST_TEXT as u64 {
+                return Err(Trouble::NoCall);
+            }
+            match receiver.reserve(count) {
+                Ok(()) => answer.word("ok")?,
+                Err(_) => return Err(Trouble::OutOfMemory),
+            }
+        }
+        _ => return Err(Trouble::NoCall),
+    }
+    Ok(())
+}
+
+fn hear_each<const N: usize>(
+    receiver: &mut ReceiverOf<N>,
+    bytes: &[u8],
+    answer: &mut Answer,
+) -> Result<(), AllocError>
+    requires { IsLimit N }
+{
+    for (place, byte) in bytes.iter().enumerate() {
+        put_step(place, &receiver.byte(*byte), answer)?;
+    }
+    Ok(())
+}
+
+fn hear_all<const N: usize>(
+    receiver: &mut ReceiverOf<N>,
+    bytes: &[u8],
+    answer: &mut Answer,
+) -> Result<(), AllocError>
+    requires { IsLimit N }
+{
+    let mut rest = bytes;
+    let mut heard = 0usize;
+    for _ in 0..bytes.len() {
+        if rest.is_empty() {
+            return Ok(());
+        }
+        let hearing = receiver.bytes(rest);
+        let (_, behind) = rest.split_at(hearing.count);
+        heard = heard.saturating_add(hearing.count);
+        put_step(heard.saturating_sub(1), &hearing.step, answer)?;
+        rest = behind;
+    }
+    Ok(())
+}
+
+/// Puts a step that isn't quiet: its place, its note, its reply, and the text that is handed out.
+fn put_step(place: usize, step: &Step, answer: &mut Answer) -> Result<(), AllocError> {
+    if let (Note::Quiet, None) = (step.note, step.reply) {
+        return Ok(());
+    }
+    answer.part()?;
+    answer.number("", place as u64)?;
+    put_note(step.note, answer)?;
+    match step.reply {
+        Some(reply) => answer.byte(":", reply)?,
+        None => answer.text(":none")?,
+    }
+    if let Some(text) = &step.message {
+        answer.bytes(":", text.as_slice())?;
+    }
+    Ok(())
+}
+
+fn put_note(note: Note, answer: &mut Answer) -> Result<(), AllocError> {
+    match note {
+        Note::Quiet => answer.text("=Quiet"),
+        Note::Opened => answer.text("=Opened"),
+        Note::NotReady => answer.text("=NotReady"),
+        Note::Ended => answer.text("=Ended"),
+        Note::Accepted(number) => answer.number("=Accepted.", number as u64),
+        Note::Duplicate(number) => answer.number("=Duplicate.", number as u64),
+        Note::OutOfTurn(number) => answer.number("=OutOfTurn.", number as u64),
+        Note::Refused(fault) => {
+            answer.text("=Refused.")?;
+            put_frame_fault(fault, answer)
+        }
+        Note::NoRoom => answer.text("=NoRoom"),
+        Note::TooLong => answer.text("=TooLong"),
+        Note::TooMany => answer.text("=TooMany"),
+        Note::OutOfMemory => answer.text("=OutOfMemory"),
+        Note::TimedOut => answer.text("=TimedOut"),
+    }
+}
+
+fn put_state<const N: usize>(
+    receiver: &ReceiverOf<N>,
+    answer: &mut Answer,
+) -> Result<(), AllocError>
+    requires { IsLimit N }
+{
+    answer.word(if receiver.is_open() { "open" } else { "shut" })?;
+    answer.number(" accepted=", receiver.accepted())?;
+    answer.number(" held=", receiver.held())
+}

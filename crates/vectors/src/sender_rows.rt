@@ -1,0 +1,90 @@
+//! Calls on a sender.
+
+ghost use Rattle.lis_frame.specs.Limit.{IsLimit};
+
+use crate::answer::Answer;
+use crate::frame_rows::{put_frame, put_text_fault};
+use crate::words::{Trouble, byte_of, texts_of};
+use lis_link::{EmitOf, Outcome, Phase, SenderOf, StartFault};
+use std::alloc::{AllocError, Global};
+
+/// Answers a call on a sender: what it emits, and then where it stands.
+pub(crate) fn sender_call<const N: usize>(
+    alloc: Global,
+    sender: &mut SenderOf<N>,
+    call: &str,
+    words: &[&str],
+    answer: &mut Answer,
+) -> Result<(), Trouble>
+    requires { IsLimit N }
+{
+    match (call, words) {
+        ("new", []) => *sender = SenderOf::new(),
+        ("start", [texts]) => match sender.start(texts_of(alloc, texts)?) {
+            Ok(emit) => put_emit(&emit, answer)?,
+            Err(refused) => {
+                answer.word("refused:")?;
+                put_start_fault(refused.fault, answer)?;
+                answer.texts(":", refused.texts.as_slice())?;
+            }
+        },
+        ("reply", [byte]) => put_emit(&sender.reply(byte_of(byte)?), answer)?,
+        ("timer", []) => put_emit(&sender.timer(), answer)?,
+        ("restart", []) => sender.restart(),
+        _ => return Err(Trouble::NoCall),
+    }
+    put_state(sender, answer)?;
+    Ok(())
+}
+
+fn put_emit<const N: usize>(emit: &EmitOf<N>, answer: &mut Answer) -> Result<(), AllocError>
+    requires { IsLimit N }
+{
+    match emit {
+        EmitOf::Nothing => answer.word("Nothing"),
+        EmitOf::Enq => answer.word("Enq"),
+        EmitOf::Eot => answer.word("Eot"),
+        EmitOf::Nak => answer.word("Nak"),
+        EmitOf::Frame(frame) => {
+            answer.word("frame:")?;
+            put_frame(frame, answer)
+        }
+    }
+}
+
+fn put_start_fault(fault: StartFault, answer: &mut Answer) -> Result<(), AllocError> {
+    match fault {
+        StartFault::InSession => answer.text("InSession"),
+        StartFault::NoText => answer.text("NoText"),
+        StartFault::BadText { index, fault } => {
+            answer.number("BadText.", index as u64)?;
+            answer.text(".")?;
+            put_text_fault(fault, answer)
+        }
+    }
+}
+
+fn put_state<const N: usize>(sender: &SenderOf<N>, answer: &mut Answer) -> Result<(), AllocError>
+    requires { IsLimit N }
+{
+    answer.word(match sender.phase() {
+        Phase::Neutral => "Neutral",
+        Phase::AwaitLine => "AwaitLine",
+        Phase::Busy => "Busy",
+        Phase::Contention => "Contention",
+        Phase::AwaitReply => "AwaitReply",
+    })?;
+    answer.number(" acknowledged=", sender.acknowledged())?;
+    put_outcome(sender.outcome(), answer)
+}
+
+/// Puts how a session ended.
+pub(crate) fn put_outcome(outcome: Option<Outcome>, answer: &mut Answer) -> Result<(), AllocError> {
+    answer.word(match outcome {
+        None => "outcome=none",
+        Some(Outcome::Done) => "outcome=Done",
+        Some(Outcome::TimedOut) => "outcome=TimedOut",
+        Some(Outcome::SixTries) => "outcome=SixTries",
+        Some(Outcome::Restarted) => "outcome=Restarted",
+    })
+}

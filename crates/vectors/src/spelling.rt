@@ -1,0 +1,162 @@
+//! Delimiters and records in the rows: `P/31/41;42,~0d+!`.
+
+ghost use Rattle.std.specs.Prelude.{◌<◌, IfOk};
+
+use crate::answer::Answer;
+use crate::words::{Trouble, bytes_of};
+use lis_record::{Component, Delimiters, Field, Kind, Record, Repeat, Sym};
+use std::alloc::{AllocError, Global};
+
+/// The delimiters that a word of four bytes tells.
+pub(crate) fn delimiters_of(alloc: Global, word: &str) -> Result<Delimiters, Trouble> {
+    let bytes = bytes_of(alloc, word)?;
+    let [field, repeat, component, escape] = bytes.as_slice() else {
+        return Err(Trouble::NoCall);
+    };
+    match Delimiters::new(*field, *repeat, *component, *escape) {
+        Ok(delimiters) => Ok(delimiters),
+        Err(_) => Err(Trouble::NoCall),
+    }
+}
+
+/// The record that a word tells: its letter, and `/` before each field.
+pub(crate) fn record_of(alloc: Global, word: &str) -> Result<Record, Trouble> {
+    let (letter, fields) = match word.split_once('/') {
+        Some((letter, fields)) => (letter, Some(fields)),
+        None => (word, None),
+    };
+    let [letter] = letter.as_bytes() else {
+        return Err(Trouble::NoCall);
+    };
+    let Some(kind) = Kind::of_letter(*letter) else {
+        return Err(Trouble::NoCall);
+    };
+    let mut entry = Record::new(alloc, kind);
+    let Some(fields) = fields else {
+        return Ok(entry);
+    };
+    for field in fields.split('/') {
+        entry.push(field_of(alloc, field)?)?;
+    }
+    Ok(entry)
+}
+
+/// The field that a text tells: `;` between two repeats.
+fn field_of(alloc: Global, text: &str) -> Result<Field, Trouble> {
+    let mut field = None;
+    for part in text.split(';') {
+        let repeat = repeat_of(alloc, part)?;
+        match &mut field {
+            None => field = Some(Field::new(alloc, repeat)?),
+            Some(field) => field.push(repeat)?,
+        }
+    }
+    field.ok_or(Trouble::NoCall)
+}
+
+/// The repeat that a text tells: `,` between two components.
+fn repeat_of(alloc: Global, text: &str) -> Result<Repeat, Trouble> {
+    let mut repeat = None;
+    for part in text.split(',') {
+        let component = component_of(alloc, part)?;
+        match &mut repeat {
+            None => repeat = Some(Repeat::new(alloc, component)?),
+            Some(repeat) => repeat.push(component)?,
+        }
+    }
+    repeat.ok_or(Trouble::NoCall)
+}
+
+/// The component that a text tells: two digits a character, `~` and two digits a raw byte, `+` and `!` the start and
+/// the end of highlighting.
+fn component_of(alloc: Global, text: &str) -> Result<Component, Trouble> {
+    let mut component = Component::new(alloc);
+    let mut rest = text.as_bytes();
+    for _ in 0..text.len() {
+        let (symbol, behind) = match rest {
+            [] => return Ok(component),
+            [b'+', behind @ ..] => (Sym::On, behind),
+            [b'!', behind @ ..] => (Sym::Off, behind),
+            [b'~', high, low, behind @ ..] => (Sym::Raw(pair_of(*high, *low)?), behind),
+            [high, low, behind @ ..] => (Sym::Char(pair_of(*high, *low)?), behind),
+            _ => return Err(Trouble::NoCall),
+        };
+        component.push(symbol)?;
+        rest = behind;
+    }
+    Ok(component)
+}
+
+/// The byte of two hexadecimal digits in lower case.
+fn pair_of(high: u8, low: u8) -> Result<u8, Trouble> {
+    Ok(digit_of(high)? * 16 + digit_of(low)?)
+}
+
+/// The value of a hexadecimal digit in lower case.
+fn digit_of(byte: u8) -> Result<u8, Trouble>
+    ensures { IfOk result (λ value. value < 16) }
+{
+    match byte {
+        b'0'..=b'9' => Ok(byte - b'0'),
+        b'a'..=b'f' => Ok(byte - b'a' + 10),
+        _ => Err(Trouble::NoCall),
+    }
+}
+
+/// Puts delimiters.
+pub(crate) fn put_delimiters(
+    delimiters: Delimiters,
+    answer: &mut Answer,
+) -> Result<(), AllocError> {
+    let bytes = [
+        delimiters.field(),
+        delimiters.repeat(),
+        delimiters.component(),
+        delimiters.escape(),
+    ];
+    answer.bytes("", &bytes)
+}
+
+/// Puts a record.
+pub(crate) fn put_record(entry: &Record, answer: &mut Answer) -> Result<(), AllocError> {
+    put_kind(entry.kind(), answer)?;
+    for field in entry.fields() {
+        let mut before = "/";
+        for repeat in field.repeats() {
+            for component in repeat.components() {
+                answer.text(before)?;
+                put_component(component, answer)?;
+                before = ",";
+            }
+            before = ";";
+        }
+    }
+    Ok(())
+}
+
+/// Puts the letter of a kind.
+pub(crate) fn put_kind(kind: Kind, answer: &mut Answer) -> Result<(), AllocError> {
+    answer.text(match kind {
+        Kind::H => "H",
+        Kind::P => "P",
+        Kind::O => "O",
+        Kind::R => "R",
+        Kind::C => "C",
+        Kind::Q => "Q",
+        Kind::M => "M",
+        Kind::S => "S",
+        Kind::L => "L",
+    })
+}
+
+fn put_component(component: &Component, answer: &mut Answer) -> Result<(), AllocError> {
+    for symbol in component.symbols() {
+        match symbol {
+            Sym::Char(byte) => answer.byte("", *byte)?,
+            Sym::Raw(byte) => answer.byte("~", *byte)?,
+            Sym::On => answer.text("+")?,
+            Sym::Off => answer.text("!")?,
+        }
+    }
+    Ok(())
+}

@@ -1,0 +1,131 @@
+//! What calls leave behind for the next: a sender and receivers of either limit, a reader and a message.
+
+ghost use Rattle.lis_frame.specs.Limit.{IsLimit};
+
+use crate::answer::Answer;
+use crate::frame_rows::{frame_call, text_call};
+use crate::link_rows::link_call;
+use crate::message_rows::Reading;
+use crate::receiver_rows::receiver_call;
+use crate::record_rows::record_call;
+use crate::sender_rows::sender_call;
+use crate::words::Trouble;
+use lis_link::{ReceiverOf, SenderOf};
+use std::alloc::Global;
+
+/// The usual limit on a frame's text, and the longest.
+const USUAL: usize = 240;
+
+const LONGEST: usize = 63_993;
+
+/// The two ends of a link of one limit.
+#[derive(Drop)]
+struct Ends<const N: usize> {
+    sender: SenderOf<N>,
+    receiver: ReceiverOf<N>,
+    other_receiver: ReceiverOf<N>,
+}
+
+impl<const N: usize> Ends<N> {
+    fn new(alloc: Global) -> Self
+        requires { IsLimit N }
+    {
+        Ends {
+            sender: SenderOf::new(),
+            receiver: ReceiverOf::new(alloc),
+            other_receiver: ReceiverOf::new(alloc),
+        }
+    }
+
+    /// Answers a call that has a limit.
+    fn call(
+        &mut self,
+        alloc: Global,
+        subject: &str,
+        call: &str,
+        words: &[&str],
+        answer: &mut Answer,
+    ) -> Result<(), Trouble>
+        requires { IsLimit N }
+    {
+        match subject {
+            "frame" => frame_call::<N>(alloc, call, words, answer),
+            "text" => text_call::<N>(alloc, call, words, answer),
+            "sender" => sender_call(alloc, &mut self.sender, call, words, answer),
+            "receiver" => {
+                receiver_call(
+                    alloc,
+                    &mut self.receiver,
+                    &mut self.other_receiver,
+                    call,
+                    words,
+                    answer,
+                )
+            }
+            "link" => link_call::<N>(alloc, call, words, answer),
+            _ => Err(Trouble::NoCall),
+        }
+    }
+}
+
+/// All that calls leave behind.
+#[derive(Drop)]
+pub(crate) struct State {
+    alloc: Global,
+    is_long: bool,
+    usual: Ends<USUAL>,
+    long: Ends<LONGEST>,
+    reading: Reading,
+}
+
+impl State {
+    /// The state before the first call.
+    pub(crate) fn new(alloc: Global) -> Self {
+        State {
+            alloc,
+            is_long: false,
+            usual: Ends::new(alloc),
+            long: Ends::new(alloc),
+            reading: Reading::new(),
+        }
+    }
+
+    /// Answers a line; an empty one by nothing.
+    pub(crate) fn call(&mut self, line: &str, answer: &mut Answer) -> Result<(), Trouble> {
+        if line.is_empty() {
+            return Ok(());
+        }
+        let words: Vec<&str> = line.split(' ').collect(self.alloc)?;
+        self.call_words(words.as_slice(), answer)
+    }
+
+    fn call_words(&mut self, words: &[&str], answer: &mut Answer) -> Result<(), Trouble> {
+        let [name, words @ ..] = words else {
+            return Err(Trouble::NoCall);
+        };
+        let Some((subject, call)) = name.split_once('.') else {
+            return self.limit(*name, words, answer);
+        };
+        if subject == "record" {
+            return record_call(self.alloc, call, words, answer);
+        }
+        if subject == "message" {
+            return self.reading.call(self.alloc, call, words, answer);
+        }
+        if self.is_long {
+            return self.long.call(self.alloc, subject, call, words, answer);
+        }
+        self.usual.call(self.alloc, subject, call, words, answer)
+    }
+
+    /// The limit of frames from here on.
+    fn limit(&mut self, name: &str, words: &[&str], answer: &mut Answer) -> Result<(), Trouble> {
+        self.is_long = match (name, words) {
+            ("limit", ["240"]) => false,
+            ("limit", ["63993"]) => true,
+            _ => return Err(Trouble::NoCall),
+        };
+        answer.word("ok")?;
+        Ok(())
+    }
+}

@@ -1,0 +1,82 @@
+//! Reading the words of a call: numbers, bytes, texts.
+
+use hex::FromHexError;
+use lis_text::{LinkText, Texts};
+use std::alloc::{AllocError, AllocFailed, Global};
+
+/// Why a call has no answer.
+#[derive(Debug, Clone, Copy, PartialEq, Eq)]
+pub(crate) enum Trouble {
+    /// The line is no call, or the call isn't possible where it stands.
+    NoCall,
+    /// Memory was refused.
+    OutOfMemory,
+}
+
+impl From<AllocError> for Trouble {
+    fn from(_refused: AllocError) -> Self {
+        Trouble::OutOfMemory
+    }
+}
+
+impl<T: Drop> From<AllocFailed<T>> for Trouble {
+    fn from(_refused: AllocFailed<T>) -> Self {
+        Trouble::OutOfMemory
+    }
+}
+
+/// The number that a word is.
+pub(crate) fn number_of(word: &str) -> Result<u64, Trouble> {
+    match word.parse() {
+        Ok(number) => Ok(number),
+        Err(_) => Err(Trouble::NoCall),
+    }
+}
+
+/// The number that a word is, where a size is told.
+pub(crate) fn size_of_word(word: &str) -> Result<usize, Trouble> {
+    match word.parse() {
+        Ok(number) => Ok(number),
+        Err(_) => Err(Trouble::NoCall),
+    }
+}
+
+/// The bytes of a word: pairs of hexadecimal digits, or `-` for none.
+pub(crate) fn bytes_of(alloc: Global, word: &str) -> Result<Vec<u8>, Trouble> {
+    if word == "-" {
+        return Ok(Vec::new(alloc));
+    }
+    match hex::decode(alloc, word) {
+        Ok(bytes) => Ok(bytes),
+        Err(FromHexError::OutOfMemory) => Err(Trouble::OutOfMemory),
+        Err(_) => Err(Trouble::NoCall),
+    }
+}
+
+/// The byte of two hexadecimal digits.
+pub(crate) fn byte_of(word: &str) -> Result<u8, Trouble> {
+    let mut byte = [0];
+    match hex::decode_to_slice(word, &mut byte) {
+        Ok(()) => Ok(byte[0]),
+        Err(_) => Err(Trouble::NoCall),
+    }
+}
+
+/// The link text of a word of bytes.
+pub(crate) fn link_text_of(alloc: Global, word: &str) -> Result<LinkText, Trouble> {
+    Ok(LinkText::from_vec(bytes_of(alloc, word)?))
+}
+
+/// The texts of a word: bytes with `,` between two texts, or `none`.
+pub(crate) fn texts_of(alloc: Global, word: &str) -> Result<Texts, Trouble> {
+    let mut texts = Texts::new(alloc);
+    if word == "none" {
+        return Ok(texts);
+    }
+    for text in word.split(',') {
+        if texts.push(link_text_of(alloc, text)?).is_err() {
+            return Err(Trouble::OutOfMemory);
+        }
+    }
+    Ok(texts)
+}
