@@ -11,7 +11,7 @@ use std::io::{self, BufReader, BufWriter};
 use std::process::ExitCode;
 
 /// The room of the buffers on standard input and output.
-const ROOM: usize = 16_384;
+const ROOM: usize = 32_768;
 
 fn main(rt: HostRuntime) -> ExitCode {
     let Ok(Ok(words)) = env::args(&rt).map(|args| args.collect::<Vec<String>>(rt.alloc())) else {
