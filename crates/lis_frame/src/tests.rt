@@ -1,6 +1,6 @@
-//! Frames and streams whose bytes and answers are known from outside.
+//! What no contract and no conformance row says of frames: pieces that are scanned at once, the longest frames, and
+//! refused growths.
 
 mod memory;
-mod reading;
 mod scanning;
 mod splitting;

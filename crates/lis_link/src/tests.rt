@@ -1,4 +1,4 @@
-//! The two ends at bytes and events whose answers are known from outside: the standard's tables.
+//! What no contract and no conformance row says of a receiver: the room of a text that is given back, the limits at their
+//! full size, and refused growths.
 
 mod receiving;
-mod sending;

@@ -1,7 +1,3 @@
-//! The link at lists of events whose sessions are known from outside, and at many generated ones.
+//! Playing where a growth is refused.
 
-mod known;
 mod memory;
-mod plain;
-mod schedules;
-mod scripts;

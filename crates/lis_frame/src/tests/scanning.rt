@@ -1,7 +1,6 @@
 ghost use Rattle.std.specs.Prelude.{◌≤◌, length};
 ghost use Rattle.lis_frame.specs.Limit.{IsLimit};
 
-use super::reading::HEADER;
 use crate::*;
 use std::test::Fail;
 
@@ -16,19 +15,6 @@ enum Told {
         length: usize,
     },
     Bad(FrameFault),
-}
-
-fn observed<const N: usize>(signal: &SignalOf<N>) -> Told {
-    match signal {
-        SignalOf::Enq => Told::Enq,
-        SignalOf::Eot => Told::Eot,
-        SignalOf::Good(frame) => Told::Good {
-            number: frame.number(),
-            last: frame.is_last(),
-            length: frame.text().as_slice().len(),
-        },
-        SignalOf::Bad(fault) => Told::Bad(*fault),
-    }
 }
 
 fn heard_as(heard: &Heard<'_>) -> Told {
@@ -72,106 +58,6 @@ fn scanned<const N: usize>(scanner: &mut ScannerOf<N>, bytes: &[u8]) -> (Option<
         rest = behind;
     }
     (last, count)
-}
-
-/// The last signal of bytes, and how many there were.
-fn heard(scanner: &mut Scanner, bytes: &[u8]) -> (Option<Told>, usize) {
-    let mut last = None;
-    let mut count = 0usize;
-    for byte in bytes {
-        if let Some(signal) = scanner.push(*byte) {
-            last = Some(observed(&signal));
-            count = count.saturating_add(1);
-        }
-    }
-    (last, count)
-}
-
-/// What a stretch is between STX and LF.
-fn stretch_told(stretch: &[u8]) -> (Option<Told>, usize) {
-    let mut scanner = Scanner::new();
-    let (_, before) = heard(&mut scanner, b"\x02");
-    let (_, within) = heard(&mut scanner, stretch);
-    let (last, at_end) = heard(&mut scanner, b"\n");
-    (last, before.saturating_add(within).saturating_add(at_end))
-}
-
-#[test]
-fn enquiries_endings_and_frames_are_heard(rt: HostRuntime) -> Result<(), Fail> {
-    let mut scanner = Scanner::new();
-    assert_eq!(rt; heard(&mut scanner, b"\x05"), (Some(Told::Enq), 1));
-    assert_eq!(rt; heard(&mut scanner, b"\x021H|\\^&\r\x03E5\r"), (None, 0));
-    let header = Told::Good {
-        number: 1,
-        last: true,
-        length: 6,
-    };
-    assert_eq!(rt; heard(&mut scanner, b"\n"), (Some(header), 1));
-    assert_eq!(rt; heard(&mut scanner, b"\x04"), (Some(Told::Eot), 1));
-    Ok(())
-}
-
-#[test]
-fn stretches_are_told_as_reading_them_tells(rt: HostRuntime) -> Result<(), Fail> {
-    let bad = |fault| (Some(Told::Bad(fault)), 1usize);
-    assert_eq!(rt; stretch_told(b"1\x03A\x0334\r"), bad(FrameFault::Text(0)));
-    assert_eq!(rt; stretch_told(b"8\x0334\r"), bad(FrameFault::Number));
-    assert_eq!(rt; stretch_told(b"1\x0334"), bad(FrameFault::Shape));
-    assert_eq!(rt; stretch_told(b"1\x033G\r"), bad(FrameFault::Sum));
-    assert_eq!(rt; stretch_told(&[0x41; 246]), bad(FrameFault::TooLong));
-    assert_eq!(rt; stretch_told(&[0x41; 245]), bad(FrameFault::Shape));
-    assert_eq!(rt; stretch_told(b"2L|1|N\r\x0306\r"), bad(FrameFault::Sum));
-    let lower_case = Told::Good {
-        number: 1,
-        last: true,
-        length: 6,
-    };
-    assert_eq!(rt; stretch_told(b"1H|\\^&\r\x03e5\r"), (Some(lower_case), 1));
-    // No proper prefix of the header's stretch is a frame.
-    for length in 0..HEADER.len() {
-        assert_eq!(rt; stretch_told(&HEADER[..length]), bad(FrameFault::Shape));
-    }
-    assert_eq!(rt; stretch_told(&HEADER), (Some(lower_case), 1));
-    Ok(())
-}
-
-#[test]
-fn what_is_no_frame_tells_nothing(rt: HostRuntime) -> Result<(), Fail> {
-    let mut scanner = Scanner::new();
-    assert_eq!(rt; heard(&mut scanner, b"\n"), (None, 0));
-    assert_eq!(rt; heard(&mut scanner, b"noise\r\n"), (None, 0));
-    assert_eq!(rt; heard(&mut scanner, b"\x021A\x05"), (Some(Told::Enq), 1));
-    assert_eq!(rt; heard(&mut scanner, b"\x03E5\r\n"), (None, 0));
-    assert_eq!(rt;
-        heard(&mut scanner, b"\x02\n"),
-        (Some(Told::Bad(FrameFault::Shape)), 1)
-    );
-    // A torn frame is dropped at the next STX.
-    let empty = Told::Good {
-        number: 1,
-        last: true,
-        length: 0,
-    };
-    assert_eq!(rt;
-        heard(&mut scanner, b"\x021A\x037\x021\x0334\r\n"),
-        (Some(empty), 1)
-    );
-    Ok(())
-}
-
-#[test]
-fn a_copy_goes_its_own_way(rt: HostRuntime) -> Result<(), Fail> {
-    let mut scanner = Scanner::new();
-    assert_eq!(rt; heard(&mut scanner, b"\x021\x03"), (None, 0));
-    let mut copy = scanner.copy();
-    assert_eq!(rt; heard(&mut copy, b"\x05"), (Some(Told::Enq), 1));
-    let empty = Told::Good {
-        number: 1,
-        last: true,
-        length: 0,
-    };
-    assert_eq!(rt; heard(&mut scanner, b"34\r\n"), (Some(empty), 1));
-    Ok(())
 }
 
 /// A frame of 241 letters A, the last of its message, with number 1.

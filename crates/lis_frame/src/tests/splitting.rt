@@ -15,33 +15,6 @@ fn frames_of<const N: usize>(alloc: std::alloc::Global, count: usize) -> Result<
 }
 
 #[test]
-fn a_text_goes_in_full_frames_and_one_last(rt: HostRuntime) -> Result<(), Fail> {
-    let frames: Frames = frames_of(rt.alloc(), 240)?;
-    assert_eq!(rt; frames.len(), 1);
-    let only = frames.get(0).ok_or("one frame")?;
-    assert!(rt; frame_bytes(only).as_slice().ends_with(b"\x0324\r\n"));
-
-    let frames: Frames = frames_of(rt.alloc(), 241)?;
-    assert_eq!(rt; frames.len(), 2);
-    let first = frames.get(0).ok_or("the first frame")?;
-    assert!(rt; frame_bytes(first).as_slice().ends_with(b"\x1738\r\n"));
-    let second = frames.get(1).ok_or("the second frame")?;
-    assert_eq!(rt;
-        frame_bytes(second).as_slice(),
-        b"\x022A\x0376\r\n".as_slice()
-    );
-
-    let frames: Frames = frames_of(rt.alloc(), 0)?;
-    assert_eq!(rt; frames.len(), 1);
-    let empty = frames.get(0).ok_or("an empty frame")?;
-    assert_eq!(rt;
-        frame_bytes(empty).as_slice(),
-        b"\x021\x0334\r\n".as_slice()
-    );
-    Ok(())
-}
-
-#[test]
 fn longer_frames_hold_more(rt: HostRuntime) -> Result<(), Fail> {
     let frames: FramesOf<63993> = frames_of(rt.alloc(), 241)?;
     assert_eq!(rt; frames.len(), 1);

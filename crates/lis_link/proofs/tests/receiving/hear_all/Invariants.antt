@@ -1,8 +1,0 @@
-use Rattle.std.proofs.Common.{◌-◌, ◌≤◌, length}
-use Rattle.lis_link.proofs.tests.receiving.hear_all.Given as goal
-
-abbrev pub invariant-loop-taken : goal.invariant-loop-taken
-invariant-loop-taken g l = l.taken ≤ length l.bytes
-
-abbrev pub decreases-loop-taken : goal.decreases-loop-taken
-decreases-loop-taken g l = length l.bytes - l.taken
