@@ -52,10 +52,11 @@ gathered_stops a b before fault xs ys put =
 
 -- what is gathered, and then went out
 pub gathered_sent :
-    (a b c : Option (List ℕ)) (waits : List ℕ) (before middle : ℕ) (r : Result ℕ ToolFault) (text : List ℕ)
-    → Gathered (out a []) (out b waits) before (Ok middle) text → Put b c middle r waits → Put a c before r text
-gathered_sent a b c waits before middle r text (more, is, put) sent =
-    subst (λ (t : List ℕ). Put a c before r t) (sym is) (put_then a b c before middle r more waits put sent)
+    (a : Out) (b c : Option (List ℕ)) (waits : List ℕ) (before middle : ℕ) (r : Result ℕ ToolFault) (text : List ℕ)
+    → Gathered a (out b waits) before (Ok middle) text → Put b c middle r waits → Gathered a (out c []) before r text
+gathered_sent a b c waits before middle r text gathered sent =
+    subst (λ (t : List ℕ). Gathered a (out c []) before r t) (append-nil text)
+    (gathered_then a (out b waits) (out c []) before middle r text [] gathered (gathered_out b c waits middle r sent))
 
 -- where none waits, the text is out
 pub gathered_settled :

@@ -1,5 +1,5 @@
 -- A run by its steps: what was read and what went out.
-use Rattle.std.proofs.Common.{◌≡◌, ℕ, ◌*◌, ◌≤◌, ◌<◌, Bool, true, false, List, [], ◌++◌, Option, None, Some, Ok, Err, length, take, min, refl, sym, ◌∙◌, ap, subst, arith, append_assoc, append-nil, length-append, take_all, rules, is_err}
+use Rattle.std.proofs.Common.{◌≡◌, ℕ, ◌+◌, ◌*◌, ◌≤◌, ◌<◌, Bool, true, false, List, [], ◌++◌, Option, None, Some, Ok, Err, length, take, min, refl, sym, ◌∙◌, ap, subst, arith, append_assoc, append-nil, length-append, take_all, rules, is_err}
 use Rattle.std.proofs.lemmas.List.{take-append-le}
 use Rattle.std.specs.declared.result.Result.{Result}
 use Rattle.std.specs.Prelude.{IsTrue, ◌↔◌}
@@ -10,11 +10,11 @@ use Rattle.lis_tool.specs.declared.fault.ToolFault.TheVariants.{CaptureLine, Rea
 use Rattle.lis_tool.specs.declared.report.Report.{Report}
 use Rattle.lis_tool.specs.declared.machine.Halt.{Halt}
 use Rattle.lis_tool.specs.Outcome.{Outcome, whole, going}
-use Rattle.lis_tool.specs.Output.{Put, most_counted, out}
+use Rattle.lis_tool.specs.Output.{Gathered, Out, PartWentOut, Put, WentOut, out}
 use Rattle.lis_tool.specs.Runs.{Wrote, Ran, Stops}
 use Rattle.lis_tool.specs.Steps.{Halts, Fails, Puts, IsTold}
-use Rattle.lis_tool.proofs.GatherLaws.{gathered_put, gathered_sent, gathered_settled}
-use Rattle.lis_tool.proofs.PutLaws.{put_taken, put_then, put_stops}
+use Rattle.lis_tool.proofs.GatherLaws.{gathered_sent, gathered_settled, gathered_then}
+use Rattle.lis_tool.proofs.PutLaws.{part_then, put_stops}
 
 pub consumes_none : (a : Option (List ℕ)) → Consumes a a []
 consumes_none None = tt
@@ -39,14 +39,13 @@ appends_kept (Some xs) None c text taken kept = absurd taken
 appends_kept (Some xs) (Some ys) None text taken kept = kept
 appends_kept (Some xs) (Some ys) (Some zs) text taken kept = kept ∙ taken
 
--- what was read so far, and what went out for it: all of the text, with its count
-pub record IsSoFar (stands : List ℕ → List ℕ → Type 0) (left_old left taken_old taken : Option (List ℕ)) (written turn : ℕ) : Type 0 where
+-- what was read so far, and the text for it: it went out, with its count, but for what waits on the page
+pub record IsSoFar (stands : List ℕ → List ℕ → Type 0) (left_old left taken_old taken : Option (List ℕ)) (waits : List ℕ) (written turn : ℕ) : Type 0 where
   pub bytes : List ℕ
   pub text : List ℕ
   pub stood : stands bytes text
   pub read : Consumes left_old left bytes
-  pub wrote : Appends taken_old taken text
-  pub counted : written ≡ min (length text) most_counted
+  pub wrote : Gathered (out taken_old []) (out taken waits) 0 (Ok written) text
   pub short : length bytes ≤ 4096 * turn
 
 -- what a run with this answer may have put out
@@ -56,10 +55,6 @@ pub record Told (memory : Bool) (means : List ℕ → Bool → Outcome → Type 
   pub wrote : Wrote memory result outcome a b
 
 module _ (memory : Bool) (means : List ℕ → Bool → Outcome → Type 0) (given : List ℕ) (ended : Bool) (a : Option (List ℕ)) where
-  -- all of this text is out
-  all_out : (b : Option (List ℕ)) (written : ℕ) (text : List ℕ) → Appends a b text → written ≡ min (length text) most_counted → Put a b 0 (Ok written) text
-  all_out b written text taken counted = put_taken a b 0 written text taken (omega (arith, counted))
-
   -- the text is a part of the outcome's
   part_of_whole :
       (b : Option (List ℕ)) (fault : ToolFault) (text rest : List ℕ) (o : Outcome) → means given ended o → whole o ≡ text ++ rest
@@ -74,11 +69,12 @@ module _ (memory : Bool) (means : List ℕ → Bool → Outcome → Type 0) (giv
 
   -- the sink failed in a step
   pub fails_told :
-      (b c : Option (List ℕ)) (before : ℕ) (text : List ℕ) (fault : ToolFault) → Appends a b text → before ≡ min (length text) most_counted
-      → Fails (means given ended) (out b []) (out c []) before text fault → Told memory means given ended a c (Err fault)
-  fails_told b c before text fault taken counted fails =
-      part_of_whole c fault (text ++ fails.more) fails.rest fails.outcome fails.meant fails.joined
-      (put_then a b c 0 before (Err fault) text fails.more (all_out b before text taken counted) fails.put)
+      (b : Option (List ℕ)) (waits : List ℕ) (c : Out) (before : ℕ) (text : List ℕ) (fault : ToolFault)
+      → Gathered (out a []) (out b waits) 0 (Ok before) text → Fails (means given ended) (out b waits) c before text fault
+      → Told memory means given ended a c.taken (Err fault)
+  fails_told b waits c before text fault wrote fails =
+      part_of_whole c.taken fault (text ++ fails.more) fails.rest fails.outcome fails.meant fails.joined
+      (gathered_then (out a []) (out b waits) c 0 before (Err fault) text fails.more wrote fails.put)
 
   -- all of a text went out, and then it could not be sent on
   pub unsent_told :
@@ -156,32 +152,48 @@ module _ (memory : Bool) (means : List ℕ → Bool → Outcome → Type 0) (giv
 
   -- a step halted the run
   pub step_halts :
-      (failed : Bool) (b c d : Option (List ℕ)) (before : ℕ) (text : List ℕ) (halt : Halt) (result : Result Report ToolFault)
-      → Appends a b text → before ≡ min (length text) most_counted
-      → (holds : List ℕ → Type 0) → (puts : Puts holds (out b []) (out c []) before halt.written text) → Halts memory (means given ended) (text ++ puts.more) halt.result
+      (failed : Bool) (b : Option (List ℕ)) (waits : List ℕ) (c d : Option (List ℕ)) (before : ℕ) (text : List ℕ) (halt : Halt)
+      (result : Result Report ToolFault) → Gathered (out a []) (out b waits) 0 (Ok before) text
+      → (holds : List ℕ → Type 0) → (puts : Puts holds (out b waits) (out c []) before halt.written text) → Halts memory (means given ended) (text ++ puts.more) halt.result
       → Keeps c d → IsTold halt result failed → Told memory means given ended a d result
-  step_halts failed b c d before text halt result taken counted holds puts halts kept told =
+  step_halts failed b waits c d before text halt result wrote holds puts halts kept told =
       halted_told failed c d (text ++ puts.more) halt result halts
-      (put_then a b c 0 before (Ok halt.written) text puts.more (all_out b before text taken counted) (gathered_settled b c before halt.written puts.more puts.put)) kept told
+      (gathered_settled a c 0 halt.written (text ++ puts.more)
+      (gathered_then (out a []) (out b waits) (out c []) 0 before (Ok halt.written) text puts.more wrote puts.put)) kept told
 
-  -- what went out so far could not be sent on
+  -- of the text so far a part went out, or all of it, which could not be sent on
   pub so_far_unsent :
-      (b c : Option (List ℕ)) (written : ℕ) (text : List ℕ) → means given ended (going text) → Appends a b text → written ≡ min (length text) most_counted
-      → Keeps b c → Told memory means given ended a c (Err (Write written))
-  so_far_unsent b c written text meant taken counted kept =
-      unsent_told b c written text [] (going text) meant refl (all_out b written text taken counted) kept
+      (b : Option (List ℕ)) (waits : List ℕ) (c : Option (List ℕ)) (before : ℕ) (fault : ToolFault) (text : List ℕ) → means given ended (going text)
+      → Gathered (out a []) (out b waits) 0 (Ok before) text → PartWentOut b c before fault waits → Told memory means given ended a c (Err fault)
+  so_far_unsent b waits c before (Write written) text meant (more, is, put) (count, part) =
+      record {
+        outcome = going text;
+        meant = meant;
+        wrote = (
+          length more + count,
+          subst (λ (t : List ℕ). WentOut a c 0 written t (length more + count)) (sym is ∙ sym (append-nil text))
+              (part_then a b c 0 before written count more waits put part),
+        );
+      }
+  so_far_unsent b waits c before (CaptureLine line) text meant wrote part = absurd part
+  so_far_unsent b waits c before Read text meant wrote part = absurd part
+  so_far_unsent b waits c before OutOfMemory text meant wrote part = absurd part
+  so_far_unsent b waits c before TooManyReads text meant wrote part = absurd part
 
--- a step went on
-pub step_goes :
-    (a b c : Option (List ℕ)) (before after : ℕ) (stands : List ℕ → Type 0) (text : List ℕ)
-    → Appends a b text → before ≡ min (length text) most_counted → (puts : Puts stands (out b []) (out c []) before after text)
-    → Appends a c (text ++ puts.more) × (after ≡ min (length (text ++ puts.more)) most_counted)
-step_goes a b c before after stands text taken counted puts =
-    let put : Put a c 0 (Ok after) (text ++ puts.more) =
-    put_then a b c 0 before (Ok after) text puts.more (put_taken a b 0 before text taken (omega (arith, counted))) (gathered_settled b c before after puts.more puts.put) in (
-      rw (take_all (length (text ++ puts.more)) (text ++ puts.more) (omega arith)) at put.taken,
-      omega (arith, put.counted),
-    )
+-- what waited went out, or none of it
+pub so_far_settled :
+    (a : Option (List ℕ)) (b c : Out) (before after : ℕ) (text : List ℕ) → Gathered (out a []) b 0 (Ok before) text
+    → Gathered b c before (Ok after) [] → Gathered (out a []) c 0 (Ok after) text
+so_far_settled a b c before after text wrote settled =
+    subst (λ (t : List ℕ). Gathered (out a []) c 0 (Ok after) t) (append-nil text)
+    (gathered_then (out a []) b c 0 before (Ok after) text [] wrote settled)
+
+-- all of the text so far went out
+pub so_far_out :
+    (a b : Option (List ℕ)) (waits : List ℕ) (written : ℕ) (text : List ℕ) → Gathered (out a []) (out b waits) 0 (Ok written) text → waits ≡ []
+    → Appends a b text
+so_far_out a b waits written text wrote none =
+    let put : Put a b 0 (Ok written) text = gathered_settled a b 0 written text (rw none at wrote) in rw (take_all (length text) text (omega arith)) at put.taken
 
 -- what a run told, with what it read
 pub told_ran :
@@ -257,45 +269,39 @@ waited false count none ready = absurd (nothing (ready refl))
     nothing : 0 < count → ⊥
     nothing some = omega (arith, some, none)
 
+-- so did a read that failed
+pub failed_waited : (may_wait : Bool) → (may_wait ≡ false → ⊥) → may_wait ≡ true
+failed_waited true ready = refl
+failed_waited false ready = absurd (ready refl)
+
 -- ---- a page
 
 -- what was gathered went out
 pub page_puts :
-    (holds : List ℕ → Type 0) (a b c : Option (List ℕ)) (waits : List ℕ) (before middle after : ℕ) (text : List ℕ)
-    → Puts holds (out a []) (out b waits) before middle text → Put b c middle (Ok after) waits
-    → Puts holds (out a []) (out c []) before after text
+    (holds : List ℕ → Type 0) (a : Out) (b c : Option (List ℕ)) (waits : List ℕ) (before middle after : ℕ) (text : List ℕ)
+    → Puts holds a (out b waits) before middle text → Put b c middle (Ok after) waits
+    → Puts holds a (out c []) before after text
 page_puts holds a b c waits before middle after text puts sent =
     record {
       more = puts.more;
-      put =
-          gathered_put a c before (Ok after) puts.more
-          (gathered_sent a b c waits before middle (Ok after) puts.more puts.put sent);
+      put = gathered_sent a b c waits before middle (Ok after) puts.more puts.put sent;
       behind = puts.behind;
-    }
-
--- the sink failed in it
-pub page_fails :
-    (means : Outcome → Type 0) (holds : List ℕ → Type 0) (a b c : Option (List ℕ)) (waits : List ℕ) (before middle : ℕ) (fault : ToolFault)
-    (text : List ℕ) (puts : Puts holds (out a []) (out b waits) before middle text) → Put b c middle (Err fault) waits
-    → (o : Outcome) → means o → (rest : List ℕ) → whole o ≡ (text ++ puts.more) ++ rest
-    → Fails means (out a []) (out c []) before text fault
-page_fails means holds a b c waits before middle fault text puts sent o meant rest joined =
-    record {
-      outcome = o;
-      meant = meant;
-      more = puts.more;
-      rest = rest;
-      joined = joined;
-      put = gathered_sent a b c waits before middle (Err fault) puts.more puts.put sent;
     }
 
 -- the sink failed in it where a step had halted the run
 pub page_halt_fails :
     (memory : Bool) (means : List ℕ → Bool → Outcome → Type 0) (given : List ℕ) (ended : Bool) (holds : List ℕ → Type 0)
-    (a b c : Option (List ℕ)) (waits : List ℕ) (before middle : ℕ) (fault : ToolFault) (text : List ℕ) (result : Result Report ToolFault)
-    (puts : Puts holds (out a []) (out b waits) before middle text)
+    (a : Out) (b c : Option (List ℕ)) (waits : List ℕ) (before middle : ℕ) (fault : ToolFault) (text : List ℕ) (result : Result Report ToolFault)
+    (puts : Puts holds a (out b waits) before middle text)
     → Halts memory (means given ended) (text ++ puts.more) result → Put b c middle (Err fault) waits
-    → Fails (means given ended) (out a []) (out c []) before text fault
+    → Fails (means given ended) a (out c []) before text fault
 page_halt_fails memory means given ended holds a b c waits before middle fault text result puts halts sent =
-    let part = halts_part memory means given ended a (text ++ puts.more) result halts in
-    page_fails (means given ended) holds a b c waits before middle fault text puts sent part.outcome part.begun part.rest part.joined
+    let part = halts_part memory means given ended a.taken (text ++ puts.more) result halts in
+    record {
+      outcome = part.outcome;
+      meant = part.begun;
+      more = puts.more;
+      rest = part.rest;
+      joined = part.joined;
+      put = gathered_sent a b c waits before middle (Err fault) puts.more puts.put sent;
+    }

@@ -1,18 +1,20 @@
 //! The form of all commands: a machine is fed with what a source gives, and writes to a sink.
 
-ghost use Rattle.std.specs.Prelude.{◌≡◌, ◌+◌, ◌^◌, ◌<◌, ◌≤◌, ◌++◌, ℕ, Bool, true, false, List, [], length, is_err};
+ghost use Rattle.std.specs.Prelude.{◌≡◌, ◌+◌, ◌^◌, ◌<◌, ◌≤◌, ◌++◌, ℕ, Bool, true, false, List, [], length, is_err, IfOk};
 ghost use Rattle.std.specs.Io.KnownBytes.{Keeps};
 ghost use Rattle.lis_tool.specs.Outcome.{Outcome, going};
 ghost use Rattle.lis_tool.specs.Output.{out};
 ghost use Rattle.lis_tool.specs.Runs.{IsFresh, Ran, Stops};
 ghost use Rattle.lis_tool.specs.Steps.{Ends, IsTold, Steps};
+ghost use Rattle.lis_tool.specs.declared.machine.Halt.{Halt};
+ghost use Rattle.lis_tool.specs.declared.machine.Turn.TheVariants.{Off};
 
 use crate::fault::ToolFault;
-use crate::gather::put_page;
-use crate::output::{send, send_before_a_wait};
+use crate::gather::{put_page, read_settled, send_page, send_page_before_a_wait};
+use crate::output::send;
 use crate::report::Report;
 use lis_capture::Page;
-use lis_port::{Failed, Sink, Source, read_sent};
+use lis_port::{Failed, Sink, Source};
 
 /// The most bytes that are read at a time.
 const ROOM: usize = 4096;
@@ -77,8 +79,8 @@ pub trait Machine: Drop {
 }
 
 // Each command has a frame of its own on the stack: that of the longest link frames has 200 KB, which others need not touch.
-/// Feeds a machine with what a source gives, to its end, by at most `reads` calls of read. The sink is
-/// flushed before each that may wait for bytes, so that no line waits with it, and where the run ends.
+/// Feeds a machine with what a source gives, to its end, by at most `reads` calls of read. All text goes
+/// out before each that may wait for bytes, so that no line waits with it, and where the run ends.
 #[inline(never)]
 pub fn run<M: Machine, R: Source, W: Sink>(
     machine: M,
@@ -96,10 +98,11 @@ pub fn run<M: Machine, R: Source, W: Sink>(
     let mut page = Page::new();
     let mut written = 0;
     for _turn in 0..reads {
-        if let Err(fault) = send_before_a_wait(source, sink, written) {
-            return Err(fault);
+        match send_page_before_a_wait(source, sink, &mut page, written) {
+            Ok(after) => written = after,
+            Err(fault) => return Err(fault),
         }
-        let count = match read_sent(source, sink, &mut buffer) {
+        let count = match read_settled(source, sink, &page, &mut buffer) {
             Ok(count) => count,
             Err(Failed) => return Err(ToolFault::Read),
         };
@@ -117,13 +120,13 @@ pub fn run<M: Machine, R: Source, W: Sink>(
             Err(fault) => return Err(fault),
         }
     }
-    if let Err(fault) = send(sink, written) {
-        return Err(fault);
+    match send_page(sink, &mut page, written) {
+        Ok(_) => Err(ToolFault::TooManyReads),
+        Err(fault) => Err(fault),
     }
-    Err(ToolFault::TooManyReads)
 }
 
-/// Feeds a machine with bytes, and puts out what they come to.
+/// Feeds a machine with bytes, and puts out what they come to where that halts the run.
 fn feed_page<M: Machine, W: Sink>(
     machine: &mut M,
     sink: &mut W,
@@ -134,15 +137,12 @@ fn feed_page<M: Machine, W: Sink>(
     requires { W.failed sink.old ≡ false }
     ensures steps { (past text : List ℕ) → M.stands machine.old past text → length past + length bytes.now < 2 ^ 44 →
         Steps M.takes_memory (M.stands machine.new (past ++ bytes.now)) (M.means (past ++ bytes.now) false)
-        (out (W.taken sink.old) []) (out (W.taken sink.new) []) written text result }
+        (out (W.taken sink.old) page.old) (out (W.taken sink.new) page.new) written text result }
+    ensures empty { IfOk result (λ turn. (halt : Halt) → turn ≡ Off halt → page.new ≡ []) }
     ensures failed { W.failed sink.new ≡ is_err result }
 {
-    page.clear();
     match machine.feed(sink, page, written, bytes) {
-        Ok(Turn::On(after)) => match put_page(sink, page, after) {
-            Ok(after) => Ok(Turn::On(after)),
-            Err(fault) => Err(fault),
-        },
+        Ok(Turn::On(after)) => Ok(Turn::On(after)),
         Ok(Turn::Off(halt)) => match put_page(sink, page, halt.written) {
             Ok(written) => Ok(Turn::Off(Halt {
                 written,
@@ -161,13 +161,13 @@ fn end_page<M: Machine, W: Sink>(
     page: &mut Page,
     written: u64,
 ) -> Result<Halt, ToolFault>
-    requires { W.failed sink.old ≡ false }
+    requires working { W.failed sink.old ≡ false }
+    requires empty { page.old ≡ [] }
     ensures ends { (past text : List ℕ) → M.stands machine past text → length past < 2 ^ 44 →
         Ends M.takes_memory (M.means past true) (out (W.taken sink.old) []) (out (W.taken sink.new) []) written text result }
     ensures failed { W.failed sink.new ≡ is_err result }
     ensures silent { M.closes ≡ false → (is_err result ≡ false) × (W.sent sink.new ≡ W.sent sink.old) × (W.taken sink.new ≡ W.taken sink.old) }
 {
-    page.clear();
     let closes = machine.closes();
     match machine.end(sink, page, written) {
         Ok(halt) if closes => match put_page(sink, page, halt.written) {

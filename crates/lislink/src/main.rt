@@ -10,8 +10,11 @@ use std::env;
 use std::io::{self, BufReader, BufWriter};
 use std::process::ExitCode;
 
-/// The room of the buffers on standard input and output.
-const ROOM: usize = 32_768;
+/// The room of the buffer on standard input.
+const READ_ROOM: usize = 32_768;
+
+/// The room of the buffer on standard output. A page of a command is longer and passes it by.
+const WRITE_ROOM: usize = 4096;
 
 fn main(rt: HostRuntime) -> ExitCode {
     let Ok(Ok(words)) = env::args(&rt).map(|args| args.collect::<Vec<String>>(rt.alloc())) else {
@@ -21,10 +24,10 @@ fn main(rt: HostRuntime) -> ExitCode {
         let _ = eprintln!(rt; "usage: lislink COMMAND");
         return ExitCode::from(2);
     };
-    let Ok(reader) = BufReader::with_capacity(rt.alloc(), ROOM, rt.reader()) else {
+    let Ok(reader) = BufReader::with_capacity(rt.alloc(), READ_ROOM, rt.reader()) else {
         return told(&rt, Err(ToolFault::OutOfMemory));
     };
-    let Ok(writer) = BufWriter::with_capacity(rt.alloc(), ROOM, io::writer(&rt)) else {
+    let Ok(writer) = BufWriter::with_capacity(rt.alloc(), WRITE_ROOM, io::writer(&rt)) else {
         return told(&rt, Err(ToolFault::OutOfMemory));
     };
     let mut source = ReadAhead::new(reader);
