@@ -86,9 +86,9 @@ static ssize_t plain_write(int file, const void *place, size_t most) {
     return call(file, place, most);
 }
 
-/* Lines: 'REFUSE LEAST CALL'. The program gets CALL in three pieces: all but its last two bytes, the last but one, and the
-   last with its LF. A program that keeps the line in a growing buffer has room behind the second piece, so it takes no
-   memory for the third; growths count from there to the next read, which is what the call takes. */
+/* Lines: 'REFUSE LEAST CALL'. The program gets CALL in pieces: all but its last two bytes, these two one by one, its LF. A
+   program that keeps the line in a buffer, which doubles where it is full, takes no memory for the LF, unless the line has
+   just 8 bytes or a multiple of 8,192. So what is counted from there to the next read is what the call takes. */
 enum { ROOM = 1 << 23 };
 static char input[ROOM], line[ROOM];
 static long from, upto, length, given, refuse_here, least_here;
@@ -150,8 +150,7 @@ static ssize_t read_line(char *place, size_t most) {
         if (!next_line()) return 0;
         is_open = 1;
     }
-    long piece = length > 3 && given < length - 3 ? length - 3 - given : length > 3 && given == length - 3 ? 1
-        : length - given;
+    long piece = given < length - 3 ? length - 3 - given : 1;
     if (piece > (long)most) piece = (long)most;
     memcpy(place, line + given, (size_t)piece);
     given += piece;

@@ -1,5 +1,6 @@
 """Builds tests/shim.c with the C compiler and runs programs under it: with growths of memory refused, and with reads and
 writes that fail or move few bytes."""
+import contextlib
 import mmap
 import os
 import shutil
@@ -84,16 +85,26 @@ class Count:
     """What passed and what failed; the first failures are shown."""
 
     def __init__(self, name, shown=10):
-        self.name, self.shown, self.passed, self.failed = name, shown, 0, 0
+        self.name, self.shown = name, shown
+        self.passed = self.failed = 0
+        self.is_test, self.wrong = False, 0
 
     def check(self, holds, told):
-        """Counts a check; 'told' makes the line of one that failed."""
-        if holds:
-            self.passed += 1
-            return
-        self.failed += 1
-        if self.failed <= self.shown:
-            print(f"FAILED: {told()}"[:600])
+        """Counts a check, by itself or in a test; 'told' makes the line of one that failed."""
+        if not holds:
+            self.wrong += 1
+            if self.wrong <= self.shown:
+                print(f"FAILED: {told()}"[:600])
+        if not self.is_test:
+            self.passed, self.failed = self.passed + bool(holds), self.failed + (not holds)
+
+    @contextlib.contextmanager
+    def test(self):
+        """A test of many checks counts once."""
+        before, self.is_test = self.wrong, True
+        yield
+        self.is_test = False
+        self.passed, self.failed = self.passed + (self.wrong == before), self.failed + (self.wrong > before)
 
     def end(self):
         """Prints the last line; the exit status."""
