@@ -8,6 +8,7 @@ use lis_port::{Buffered, ReadAhead};
 use lis_tool::{Report, ToolFault, command, run_command};
 use std::env;
 use std::io::{self, BufReader, BufWriter};
+use std::mem;
 use std::process::ExitCode;
 
 /// The room of the buffer on standard input.
@@ -33,6 +34,8 @@ fn main(rt: HostRuntime) -> ExitCode {
     let mut source = ReadAhead::new(reader);
     let mut sink = Buffered::new(writer);
     let ended = run_command(rt.alloc(), command, &mut source, &mut sink, u32::MAX);
+    // Only a sink that failed still holds bytes. Dropped, its buffer would try to write them again.
+    mem::forget(sink);
     told(&rt, ended)
 }
 
