@@ -1,6 +1,4 @@
-//! What no contract and no conformance row says of frames: pieces that are scanned at once, the longest frames, and
-//! refused growths.
+//! What no contract and no conformance row says of frames: pieces that are scanned at once, and the longest frames.
 
-mod memory;
 mod scanning;
 mod splitting;

@@ -1,4 +1,4 @@
-//! What no contract and no conformance row says of a receiver: the room of a text that is given back, the limits at their
-//! full size, and refused growths.
+//! What no contract and no conformance row says of a receiver: the room of a text that is given back, and the limits at
+//! their full size.
 
 mod receiving;

@@ -1,6 +1,4 @@
-//! What no contract and no conformance row says: messages of very many records, and refused growths.
-
-mod memory;
+//! What no contract and no conformance row says: messages of very many records.
 
 use crate::reader::{Fed, MessageReader, read_messages};
 use crate::texts::{TextsFault, message_texts};

@@ -1,7 +1,5 @@
-//! What no contract, no conformance row and no test of the program says: reads and flushes in their order, words, the
-//! texts of faults, and refused growths.
-
-mod memory;
+//! What no contract, no conformance row and no test of the program says: reads and flushes in their order, words, and the
+//! texts of faults.
 
 use crate::*;
 use lis_port::{Buffered, Cut, Slow, Source, Then};

@@ -9,8 +9,6 @@ mod message;
 mod numbering;
 mod open;
 mod spine;
-#[cfg(test)]
-mod tests;
 mod tree;
 mod walk;
 

@@ -8,8 +8,6 @@ pub mod laws;
 mod playing;
 mod run;
 mod session;
-#[cfg(test)]
-mod tests;
 mod unit;
 
 pub use event::{Event, Events};

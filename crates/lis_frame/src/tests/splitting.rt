@@ -1,12 +1,17 @@
 ghost use Rattle.lis_frame.specs.Limit.{IsLimit};
 
-use super::memory::letters;
 use crate::*;
 use lis_text::check_text;
+use std::alloc::{AllocError, Global};
 use std::test::Fail;
 
+/// A text of so many letters A.
+fn letters(alloc: Global, count: usize) -> Result<LinkText, AllocError> {
+    Ok(List::from_vec(vec![in alloc; 0x41; count]?))
+}
+
 /// The frames of so many letters A from number 1.
-fn frames_of<const N: usize>(alloc: std::alloc::Global, count: usize) -> Result<FramesOf<N>, Fail>
+fn frames_of<const N: usize>(alloc: Global, count: usize) -> Result<FramesOf<N>, Fail>
     requires { IsLimit N }
 {
     let text = letters(alloc, count)?;

@@ -104,62 +104,6 @@ fn the_held_text_has_a_limit(rt: HostRuntime) -> Result<(), Fail> {
     Ok(())
 }
 
-/// Where memory is refused for a frame's text it is answered NAK and nothing has changed, and the
-/// same frame again is taken. (`rt try --test --fail-alloc 1` refuses it.)
-#[test]
-fn a_refused_growth_changes_nothing(rt: HostRuntime) -> Result<(), Fail> {
-    let mut receiver = opened(rt.alloc());
-    let mut step = last_step(&mut receiver, b"\x021A\x0375\r\n");
-    if step.1 == Note::OutOfMemory {
-        assert_eq!(rt; step, (Some(0x15), Note::OutOfMemory, None));
-        assert_eq!(rt; receiver.accepted(), 0);
-        assert_eq!(rt; receiver.held(), 0);
-        step = last_step(&mut receiver, b"\x021A\x0375\r\n");
-    }
-    assert_eq!(rt; step, (Some(0x06), Note::Accepted(1), Some(1)));
-    assert_eq!(rt; receiver.accepted(), 1);
-    Ok(())
-}
-
-/// The same at each growth of a longer text. (`rt try --test --fail-alloc N` refuses the Nth.)
-#[test]
-fn each_refused_growth_changes_nothing(rt: HostRuntime) -> Result<(), Fail> {
-    let mut receiver = opened(rt.alloc());
-    for count in 0..20usize {
-        let before = (receiver.accepted(), receiver.held());
-        let mut step = full_frame(&mut receiver, count);
-        if step.1 == Note::OutOfMemory {
-            assert_eq!(rt; step, (Some(0x15), Note::OutOfMemory, None));
-            assert_eq!(rt; (receiver.accepted(), receiver.held()), before);
-            step = full_frame(&mut receiver, count);
-        }
-        let taken = Note::Accepted(number_behind(count));
-        assert_eq!(rt; step, (Some(0x06), taken, None));
-    }
-    assert_eq!(rt; receiver.held(), 4800);
-    assert_eq!(rt;
-        last_step(&mut receiver, b"\x025\x0338\r\n"),
-        (Some(0x06), Note::Accepted(5), Some(4800))
-    );
-    Ok(())
-}
-
-/// Reserved room is taken without memory, and a refused reserve can be asked for again.
-#[test]
-fn reserved_room_is_kept(rt: HostRuntime) -> Result<(), Fail> {
-    let mut receiver = opened(rt.alloc());
-    if receiver.reserve(480).is_err() {
-        assert_eq!(rt; (receiver.accepted(), receiver.held()), (0, 0));
-        receiver.reserve(480)?;
-    }
-    assert_eq!(rt;
-        fill(&mut receiver, 2),
-        (Some(0x06), Note::Accepted(2), None)
-    );
-    assert_eq!(rt; receiver.held(), 480);
-    Ok(())
-}
-
 /// One last frame of this many letters A, number 1, with these digits.
 fn frame_of_letters(alloc: Global, letters: usize, digits: &[u8]) -> Result<Vec<u8>, AllocError> {
     let mut bytes = vec![in alloc; 0x41; letters]?;

@@ -1,3 +1,0 @@
-//! Playing where a growth is refused.
-
-mod memory;
