@@ -1,5 +1,5 @@
 -- The ports over memory: what a cut source and a slow sink hold, and what one call of each does.
-use Rattle.std.specs.Prelude.{ℕ, ◌-◌, Bool, false, List, [], ◌∷◌, Option, None, Some, Ok, Err, length, min}
+use Rattle.std.specs.Prelude.{ℕ, ◌-◌, Bool, false, List, [], ◌∷◌, Option, None, Some, Ok, Err, length, min, take}
 use Rattle.std.specs.declared.result.Result.{Result}
 use Rattle.lis_port.specs.declared.cut.Then.{Then}
 use Rattle.lis_port.specs.declared.cut.Then.TheVariants.{End, Fail, Again}
@@ -34,6 +34,16 @@ answer_behind (Again byte) = Ok 1
 abbrev pub cut_answer : Then → List ℕ → ℕ → ℕ → Result ℕ Failed
 cut_answer behind [] step room = answer_behind behind
 cut_answer behind (b ∷ rest) step room = Ok (min (min step (length (b ∷ rest))) room)
+
+-- the bytes that a read with so much room gives
+abbrev pub given_behind : Then → List ℕ
+given_behind End = []
+given_behind Fail = []
+given_behind (Again byte) = byte ∷ []
+
+abbrev pub cut_given : Then → List ℕ → ℕ → ℕ → List ℕ
+cut_given behind [] step room = given_behind behind
+cut_given behind (b ∷ rest) step room = take (min step room) (b ∷ rest)
 
 -- a slow sink: what it took, the most that it takes in all and at a write, and whether the last write failed
 pub record SlowState : Type 0 where

@@ -1,9 +1,9 @@
 //! The source over memory, which gives its bytes in cuts. With it a contract's promise can be seen to
 //! hold.
 
-ghost use Rattle.std.specs.Prelude.{◌≡◌, ◌+◌, ◌≤◌, ◌<◌, ◌↔◌, true, false, IfOk, IsTrue, MatchResult, is_err, length};
+ghost use Rattle.std.specs.Prelude.{◌≡◌, ◌+◌, ◌≤◌, ◌<◌, ◌↔◌, true, false, IfOk, IsTrue, MatchResult, drop, is_err, length, min, take};
 ghost use Rattle.std.specs.Io.KnownBytes.{ReadConsumes};
-ghost use Rattle.lis_port.specs.Port.{known_left, new_cut, cut_answer};
+ghost use Rattle.lis_port.specs.Port.{cut_answer, cut_given, known_left, new_cut};
 
 use crate::port::{Failed, Source};
 use std::marker::Model;
@@ -80,6 +80,7 @@ impl Source for Cut<'_> {
 
     ghost may_wait = { λ s. true };
 
+    #[tactic(auto, using(crate::proofs::CutLaws::first_is_set))]
     fn read(&mut self, buffer: &mut [u8]) -> Result<usize, Failed>
         requires room { 0 < length buffer.old }
         requires countable { self.old.made < 4294967295 }
@@ -91,8 +92,10 @@ impl Source for Cut<'_> {
         ensures ended { IsTrue self.new.ended ↔ (result ≡ Ok 0) }
         ensures ready { true ≡ false → MatchResult result (λ n. 0 < n) (λ _. ⊥) }
 
-        // How many bytes a read gives is known, and what stays.
+        // Which bytes a read gives is known, and what stays.
         ensures answer { result ≡ cut_answer self.old.behind self.old.rest self.old.step (length buffer.old) }
+        ensures given { IfOk result (λ n. take n buffer.new ≡ cut_given self.old.behind self.old.rest self.old.step (length buffer.old)) }
+        ensures rest { self.new.rest ≡ drop (min self.old.step (length buffer.old)) self.old.rest }
         ensures step { self.new.step ≡ self.old.step }
         ensures behind { self.new.behind ≡ self.old.behind }
     {
