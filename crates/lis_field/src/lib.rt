@@ -7,8 +7,6 @@ mod one_or_more;
 mod parts;
 mod records;
 mod symbols;
-#[cfg(test)]
-mod tests;
 
 pub use delimiting::{DelimiterFault, Delimiters};
 pub use kinds::Kind;

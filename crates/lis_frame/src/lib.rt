@@ -8,8 +8,6 @@ mod read;
 mod scanner;
 mod split;
 mod stretch;
-#[cfg(test)]
-mod tests;
 mod text;
 mod write;
 

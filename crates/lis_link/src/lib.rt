@@ -5,8 +5,6 @@ pub mod laws;
 mod queue;
 mod receiver;
 mod sender;
-#[cfg(test)]
-mod tests;
 
 pub use lis_frame::{FrameFault, FrameOf, ScannerOf};
 pub use lis_text::{LinkText, TextFault, Texts};

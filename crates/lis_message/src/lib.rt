@@ -4,8 +4,6 @@
 mod fault;
 pub mod laws;
 mod reader;
-#[cfg(test)]
-mod tests;
 mod texts;
 mod writer;
 

@@ -8,8 +8,6 @@ mod port;
 mod read_ahead;
 mod reading;
 mod slow;
-#[cfg(test)]
-mod tests;
 mod writing;
 
 pub use buffered::Buffered;

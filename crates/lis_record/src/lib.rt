@@ -10,8 +10,6 @@ pub mod laws;
 mod lent;
 mod lent_cursor;
 mod reading;
-#[cfg(test)]
-mod tests;
 mod texts;
 mod writing;
 

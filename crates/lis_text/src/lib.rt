@@ -7,8 +7,6 @@ pub mod laws;
 mod link_text;
 mod list;
 mod search;
-#[cfg(test)]
-mod tests;
 mod text;
 
 pub use control::{ACK, CR, ENQ, EOT, ETB, ETX, LF, NAK, STX};

@@ -1,4 +1,4 @@
-use super::*;
+use lis_field::*;
 use std::alloc::{AllocFailed, Global};
 use std::test::Fail;
 

@@ -1,7 +1,7 @@
 ghost use Rattle.std.specs.Prelude.{◌≤◌};
 
-use crate::*;
 use lis_frame::FrameFault;
+use lis_link::{Note, Receiver, ReceiverOf};
 use std::alloc::{AllocError, Global};
 use std::test::Fail;
 

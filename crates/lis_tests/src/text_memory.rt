@@ -1,4 +1,4 @@
-use crate::*;
+use lis_text::*;
 use std::alloc::{AllocError, Global};
 use std::test::Fail;
 

@@ -1,7 +1,6 @@
 //! What no contract and no conformance row says: messages of very many records.
 
-use crate::reader::{Fed, MessageReader, read_messages};
-use crate::texts::{TextsFault, message_texts};
+use lis_message::{Fed, MessageReader, TextsFault, message_texts, read_messages};
 use std::test::Fail;
 
 #[test]

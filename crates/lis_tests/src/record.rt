@@ -1,7 +1,7 @@
 //! What no contract and no conformance row says: a field that is put from where it stands.
 
-use super::*;
 use lis_port::Slow;
+use lis_record::{Delimiters, lend_record};
 use std::alloc::Global;
 use std::process::Abort;
 use std::test::Fail;

@@ -1,7 +1,7 @@
 ghost use Rattle.std.specs.Prelude.{◌≤◌, length};
 ghost use Rattle.lis_frame.specs.Limit.{IsLimit};
 
-use crate::*;
+use lis_frame::{FrameFault, Heard, ScannerOf};
 use std::test::Fail;
 
 /// What an observer writes down of a signal.

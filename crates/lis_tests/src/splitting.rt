@@ -1,7 +1,9 @@
 ghost use Rattle.lis_frame.specs.Limit.{IsLimit};
 
-use crate::*;
-use lis_text::check_text;
+use lis_frame::{
+    Frames, FramesOf, frame_bytes, frame_bytes_of, next_number, split_all_of, split_at,
+};
+use lis_text::{LinkText, List, check_text};
 use std::alloc::{AllocError, Global};
 use std::test::Fail;
 

@@ -1,5 +1,5 @@
-use super::memory::letters;
-use crate::*;
+use crate::text_memory::letters;
+use lis_text::*;
 use std::test::Fail;
 
 #[test]

@@ -1,4 +1,6 @@
-use super::*;
+use lis_port::{
+    Buffered, Cut, Failed, ReadAhead, Reading, Sink, Slow, Source, Then, Writing, read_sent,
+};
 use std::io::{BufReader, BufWriter};
 use std::test::Fail;
 
