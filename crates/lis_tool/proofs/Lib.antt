@@ -2,6 +2,7 @@ pub mod CaptureLaws
 pub mod GatherLaws
 pub mod HearingLaws
 pub mod LineLaws
+pub mod MessageLaws
 pub mod PlayingLaws
 pub mod PutLaws
 mod ReplayRows

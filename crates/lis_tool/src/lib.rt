@@ -7,6 +7,7 @@ mod gather;
 pub mod laws;
 pub mod lines;
 pub mod machine;
+pub mod messages;
 mod output;
 mod parts;
 mod playing;

@@ -35,7 +35,7 @@ fn refused(
     last: &[u8],
 ) -> Option<bool> {
     match ended {
-        Ok(report) => (report == Report { status } && took == text).then_some(false),
+        Ok(report) => (report.status == status && took == text).then_some(false),
         Err(ToolFault::OutOfMemory) => {
             (text.starts_with(took) && !took.ends_with(last)).then_some(true)
         }

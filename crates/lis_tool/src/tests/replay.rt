@@ -14,7 +14,10 @@ type Ended = Result<Report, ToolFault>;
 
 /// The end of a run with this status.
 const fn status(status: u8) -> Ended {
-    Ok(Report { status })
+    Ok(Report {
+        status,
+        refused: None,
+    })
 }
 
 /// Whether the replay of a capture ends so with this text, however it is cut and taken.

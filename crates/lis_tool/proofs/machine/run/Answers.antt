@@ -1,6 +1,6 @@
 use Rattle.std.proofs.Common.{◌≡◌, ◌+◌, ◌^◌, ◌<◌, ℕ, false, true, [], ◌++◌, Err, length, ap, ◌∙◌, arith, refl, length-append}
 use Rattle.lis_tool.proofs.PutLaws.{appends_nothing}
-use Rattle.lis_tool.proofs.RunLaws.{consumes_none, consumes_then, consumes_end, appends_kept, fails_told, step_halts, so_far_unsent, step_goes, told_ran, halted_stops, no_end, is_end}
+use Rattle.lis_tool.proofs.RunLaws.{consumes_none, consumes_then, consumes_end, appends_kept, fails_told, step_halts, so_far_unsent, step_goes, told_ran, halted_stops, no_end, is_end, well_early}
 use Rattle.lis_tool.proofs.machine.run.Goals as goal
 
 pub loop-turn-init : goal.loop-turn-init
@@ -68,8 +68,8 @@ returns-in-Ok-Off-clause-stops g c =
     let few : length s.bytes + length more < 2 ^ 44 = omega (arith, s.short) in
     let puts = rw c.in-Ok-Off.field-0-is at (c.in-Ok-Off.ensures.steps s.bytes s.text s.stood few) in
     let going = no_end _ c.in-Ok.count c.if-count-eq0.false c.in-Ok.ensures.ended in
-    halted_stops g.M.Machine.closes g.M.Machine.takes_memory (g.M.Machine.means (s.bytes ++ more) false) (s.text ++ puts.more) c.in-Ok-Off.halt
-    c.halted-in-Ok-Off.result _ _ _ _ c.args.reads _ _ _ puts.behind.0 c.halted-in-Ok-Off.ensures.told (λ ok. cc) (λ closes failed. going)
+    halted_stops g.M.Machine.refuses g.M.Machine.closes g.M.Machine.takes_memory (g.M.Machine.means (s.bytes ++ more) false) (s.text ++ puts.more) c.in-Ok-Off.halt
+    c.halted-in-Ok-Off.result _ _ _ _ c.args.reads _ _ _ puts.behind.0 c.halted-in-Ok-Off.ensures.told (well_early g.M.Machine.refuses c.in-Ok-Off.halt.result _ puts.behind.1) (λ closes failed. going)
     c.in-Ok.ensures.failed (c.halted-in-Ok-Off.ensures.sent refl) (λ ended. cc)
     (omega (arith, c.in-Ok.ensures.made, c.loop-turn.invariant.made, c.loop-turn-test.true))
 
