@@ -9,6 +9,7 @@ mod faults;
 pub mod laws;
 mod lent;
 mod lent_cursor;
+mod pieces;
 mod reading;
 #[cfg(test)]
 mod tests;
@@ -19,6 +20,7 @@ pub use escapes::LentSymbols;
 pub use faults::{DelimiterPartFault, RecordFault, WriteFault};
 pub use lent::{LentComponent, LentField, LentRecord, LentRepeat};
 pub use lis_field::{Component, DelimiterFault, Delimiters, Field, Kind, Record, Repeat, Sym};
+pub use pieces::FieldSpelling;
 pub use reading::{lend_header, lend_record, read_header, read_record};
 pub use texts::RECORD_LIMIT;
 pub use writing::{check_record, put_field, write_field, write_record, write_record_from};
