@@ -5,7 +5,7 @@ use Rattle.std.specs.Io.KnownBytes.{Appends, Consumes}
 use Rattle.lis_tool.specs.declared.fault.ToolFault.{ToolFault}
 use Rattle.lis_tool.specs.declared.fault.ToolFault.TheVariants.{CaptureLine, Read, Write, OutOfMemory, TooManyReads}
 use Rattle.lis_tool.specs.declared.report.Report.{Report}
-use Rattle.lis_tool.specs.Messages.{Comes, MessageWrites, Reads}
+use Rattle.lis_tool.specs.Messages.{MessageWrites, Reads}
 use Rattle.lis_tool.specs.Outcome.{Outcome, whole}
 use Rattle.lis_tool.specs.Output.{WentOut}
 
@@ -18,9 +18,9 @@ MessageAnswer w given ended (Ok report) old new =
 MessageAnswer w given ended (Err Read) old new = (o : Outcome) × Reads w given ended o × (o.halt ≡ None) × Appends old new o.text
 MessageAnswer w given ended (Err TooManyReads) old new = (o : Outcome) × Reads w given ended o × (o.halt ≡ None) × Appends old new o.text
 MessageAnswer w given ended (Err (Write written)) old new =
-    (o : Outcome) × Comes w given ended o × (count : ℕ) × WentOut old new 0 written (whole o) count
+    (o : Outcome) × Reads w given ended o × (count : ℕ) × WentOut old new 0 written (whole o) count
 MessageAnswer w given ended (Err OutOfMemory) old new =
-    (o : Outcome) × Comes w given ended o × (count : ℕ) × (count ≤ length o.text) × Appends old new (take count o.text)
+    (o : Outcome) × Reads w given ended o × (count : ℕ) × (count ≤ length o.text) × Appends old new (take count o.text)
 MessageAnswer w given ended (Err (CaptureLine line)) old new = ⊥
 
 -- all the bytes that were read, and the answer by their messages

@@ -1,6 +1,6 @@
 //! How a run ended.
 
-ghost use Rattle.std.specs.Prelude.{◌≡◌};
+ghost use Rattle.std.specs.Prelude.{◌≡◌, ◌+◌, ◌^◌, ◌<◌, Some};
 ghost use Rattle.lis_tool.specs.Codes.{reason_code};
 
 use lis_message::{MessageFault, Reason, RecordFault};
@@ -29,6 +29,19 @@ pub struct Report {
     pub status: u8,
     /// What was refused; none for a command that takes no records.
     pub refused: Option<Refused>,
+}
+
+impl Report {
+    /// The report of a record that is refused behind so many messages.
+    pub(crate) fn of_refusal(before: u64, fault: MessageFault) -> Report
+        ensures { before < 2 ^ 44 → result ≡ record { status = 1; refused = Some (record { message = before + 1; fault = fault }) } }
+    {
+        let message = before.saturating_add(1);
+        Report {
+            status: 1,
+            refused: Some(Refused { message, fault }),
+        }
+    }
 }
 
 /// The code of a reason, as it is printed.
