@@ -1,8 +1,10 @@
 pub mod CaptureLaws
+pub mod CheckLaws
 pub mod GatherLaws
 pub mod HearingLaws
 pub mod LineLaws
 pub mod MessageLaws
+pub mod MessageRunLaws
 pub mod PlayingLaws
 pub mod PutLaws
 mod ReplayRows

@@ -275,7 +275,7 @@ refuses_over w bytes a b c before middle start more messages fault halt comes te
         comes,
         refl,
         ap (λ (t : List ℕ). t ++ w.last messages (Some fault)) (sym text_is) ∙ append_assoc start more _,
-      ), (refl, refl));
+      ), refl);
     }
 
 -- what a reader's end tells, where it met no fault

@@ -235,14 +235,15 @@ pub well_at_end : (refuses : Bool) (result : Result Report ToolFault) (ended : B
 well_at_end refuses (Ok report) ended is = over_at_end refuses report.refused ended is
 well_at_end refuses (Err fault) ended is = tt
 
-over_early : (refuses : Bool) (refused : Option Refused) (ended : Bool) → refuses ≡ true → is_some refused ≡ true → IsOver refuses refused ended
-over_early true (Some refused) ended may is = tt
-over_early true None ended may is = cc
-over_early false refused ended may is = cc
+over_early : (refused : Option Refused) (ended : Bool) → is_some refused ≡ true → IsOver true refused ended
+over_early (Some refused) ended is = tt
+over_early None ended is = cc
 
 pub well_early : (refuses : Bool) (result : Result Report ToolFault) (ended : Bool) → IsEarly refuses result → EndsWell refuses result ended
-well_early refuses (Ok report) ended (may, is) = over_early refuses report.refused ended may is
-well_early refuses (Err fault) ended early = tt
+well_early false (Ok report) ended early = cc
+well_early true (Ok report) ended early = over_early report.refused ended early
+well_early false (Err fault) ended early = tt
+well_early true (Err fault) ended early = tt
 
 -- how a run that halted so stops
 fine_stops :

@@ -1,5 +1,5 @@
 -- What one step of a command gathers and puts out, behind the text that is gathered and out.
-use Rattle.std.specs.Prelude.{◌≡◌, ℕ, Bool, true, false, List, ◌++◌, Some, Ok, Err, is_some, ⊤}
+use Rattle.std.specs.Prelude.{◌≡◌, ℕ, Bool, true, false, List, ◌++◌, Some, Ok, Err, is_err, is_some, ⊤}
 use Rattle.std.specs.declared.result.Result.{Result}
 use Rattle.lis_tool.specs.declared.fault.ToolFault.{ToolFault}
 use Rattle.lis_tool.specs.declared.fault.ToolFault.TheVariants.{CaptureLine, Read, Write, OutOfMemory, TooManyReads}
@@ -44,8 +44,9 @@ Ends takes_memory means old new before text (Err fault) = Fails means old new be
 
 -- a run may end so before the input does: in a fault, or where a record is refused
 abbrev pub IsEarly : (refuses : Bool) → Result Report ToolFault → Type 0
-IsEarly refuses (Ok report) = (refuses ≡ true) × (is_some report.refused ≡ true)
-IsEarly refuses (Err fault) = ⊤
+IsEarly false result = is_err result ≡ true
+IsEarly true (Ok report) = is_some report.refused ≡ true
+IsEarly true (Err fault) = ⊤
 
 -- a step that may be the last: if it isn't, the machine stands so for all of the text
 abbrev pub Steps :

@@ -1,6 +1,6 @@
 //! The command `check`: messages, their records and what is to be looked at in them (LIS02-A2).
 
-ghost use Rattle.std.specs.Prelude.{◌≡◌, ◌+◌, ◌^◌, ◌<◌, ◌≤◌, ◌++◌, ℕ, List, Option, false, is_err, length, IfOk};
+ghost use Rattle.std.specs.Prelude.{◌≡◌, ◌+◌, ◌^◌, ◌<◌, ◌≤◌, ◌++◌, ℕ, List, Option, true, false, is_err, length, IfOk};
 ghost use Rattle.std.specs.List.{flat_map};
 ghost use Rattle.lis_capture.specs.declared.page.TheConstants.{PAGE_ROOM};
 ghost use Rattle.lis_tool.specs.Check.{check_message, check_writes, finding_count, finding_line, message_line, record_line, record_lines, refused_line, refused_part, sums_line};
@@ -24,8 +24,11 @@ use lis_port::{Sink, Source};
 use lis_tree::{Finding, Walk, findings};
 use std::alloc::Global;
 
-/// The room for the line of a record or a finding: words, a letter and two numbers.
-const LINE_ROOM: usize = 100;
+/// The room for the line of a record: a letter and two numbers.
+const RECORD_ROOM: usize = 100;
+
+/// The room for that of a finding: a word before them.
+const FINDING_ROOM: usize = 120;
 
 /// Reads record text and writes for each message its number, a line for each of its records and one for each finding on
 /// their sequence numbers; where a record is refused, or the end of the input comes before that of a message, its place
@@ -76,7 +79,7 @@ impl MessageMachine for Check {
             }));
         };
         let number = before.saturating_add(1);
-        match gather_message(sink, page, written, number, message, found.as_slice()) {
+        match gather_whole(sink, page, written, number, message, found.as_slice()) {
             Ok(after) => {
                 self.findings = self.findings.saturating_add(found.len() as u64);
                 Ok(Turn::On(after))
@@ -93,7 +96,7 @@ impl MessageMachine for Check {
         before: u64,
         fault: Option<MessageFault>,
     ) -> Result<Halt, ToolFault> {
-        match gather_end(sink, page, written, before, fault, self.findings) {
+        match gather_last(sink, page, written, before, fault, self.findings) {
             Ok(written) => Ok(Halt {
                 written,
                 result: Ok(report_of(before, fault, self.findings)),
@@ -118,7 +121,7 @@ fn report_of(before: u64, fault: Option<MessageFault>, findings: u64) -> Report
 }
 
 /// Gathers the lines of a message.
-fn gather_message<W: Sink>(
+fn gather_whole<W: Sink>(
     sink: &mut W,
     page: &mut Page,
     written: u64,
@@ -185,7 +188,7 @@ fn gather_record<W: Sink>(
         (record_line place entry.now.kind (length entry.now.fields)) }
     ensures failed { W.failed sink.new ≡ is_err result }
 {
-    match make_room(sink, page, written, LINE_ROOM) {
+    match make_room(sink, page, written, RECORD_ROOM) {
         Ok(after) => {
             append_record(page, place, entry.kind(), entry.len() as u64);
             Ok(after)
@@ -197,7 +200,7 @@ fn gather_record<W: Sink>(
 /// Puts the line of a record behind the page.
 #[inline(always)]
 fn append_record(page: &mut Page, place: u64, kind: Kind, fields: u64)
-    requires { length page.old + LINE_ROOM ≤ PAGE_ROOM }
+    requires { length page.old + RECORD_ROOM ≤ PAGE_ROOM }
     ensures { page.new ≡ page.old ++ record_line place kind fields }
 {
     append_number(page, place);
@@ -240,7 +243,7 @@ fn gather_finding<W: Sink>(
     ensures gathered { Gathered (out (W.taken sink.old) page.old) (out (W.taken sink.new) page.new) written result (finding_line finding.now) }
     ensures failed { W.failed sink.new ≡ is_err result }
 {
-    match make_room(sink, page, written, LINE_ROOM) {
+    match make_room(sink, page, written, FINDING_ROOM) {
         Ok(after) => {
             page.append(b"finding ");
             append_record(page, finding.place, finding.kind, finding.expected);
@@ -251,7 +254,7 @@ fn gather_finding<W: Sink>(
 }
 
 /// Gathers the last lines, behind so many messages.
-fn gather_end<W: Sink>(
+fn gather_last<W: Sink>(
     sink: &mut W,
     page: &mut Page,
     written: u64,

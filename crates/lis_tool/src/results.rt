@@ -1,12 +1,12 @@
 //! The command `results`: the result records of messages, with the samples that their orders name (LIS02-A2).
 
-ghost use Rattle.std.specs.Prelude.{◌≡◌, ◌^◌, ◌<◌, ◌≤◌, ◌∷◌, ℕ, List, None, false, is_err, length, IfOk};
+ghost use Rattle.std.specs.Prelude.{◌≡◌, ◌^◌, ◌<◌, ◌≤◌, ◌∷◌, ℕ, List, None, true, false, is_err, length, IfOk};
 ghost use Rattle.std.specs.Option.{option_copied};
 ghost use Rattle.lis_record.specs.Spelling.{spelled_field};
 ghost use Rattle.lis_tool.specs.MessageRuns.{MessagesRan};
 ghost use Rattle.lis_tool.specs.Messages.{report_after};
 ghost use Rattle.lis_tool.specs.Output.{Gathered, out};
-ghost use Rattle.lis_tool.specs.Results.{field_text, fields_behind, line_of, result_line, result_lines, results_writes, told_fields};
+ghost use Rattle.lis_tool.specs.Results.{field_text, fields_behind, line_of, result_line, result_lines, results_writes, sample_after};
 ghost use Rattle.lis_tool.specs.Runs.{IsFresh, StopsBy};
 ghost use Rattle.lis_tree.specs.Tree.{MessageTree, flatten};
 
@@ -116,11 +116,23 @@ fn gather_results<W: Sink>(
             Ok(next) => after = next,
             Err(fault) => return Err(fault),
         }
-        if let Kind::O = kind {
-            sample = entry.field(3);
-        }
+        sample = sample_after(sample, kind, entry);
     }
     Ok(after)
+}
+
+/// The sample behind a record: an order names it.
+fn sample_after<'a>(
+    sample: Option<&'a Field>,
+    kind: Kind,
+    entry: &'a Record,
+) -> Option<&'a Field>
+    ensures { option_copied result ≡ sample_after (option_copied sample.entry) entry.now kind }
+{
+    match kind {
+        Kind::O => entry.field(3),
+        _ => sample,
+    }
 }
 
 /// Gathers the line of a record, where it is a result.
@@ -135,7 +147,7 @@ fn gather_entry<W: Sink>(
 ) -> Result<u64, ToolFault>
     requires { W.failed sink.old ≡ false }
     ensures gathered { Gathered (out (W.taken sink.old) page.old) (out (W.taken sink.new) page.new) written result
-        (line_of delimiters (option_copied sample) entry.now kind) }
+        (line_of delimiters (option_copied sample.entry) entry.now kind) }
     ensures failed { W.failed sink.new ≡ is_err result }
 {
     match kind {
@@ -155,7 +167,7 @@ fn gather_result<W: Sink>(
 ) -> Result<u64, ToolFault>
     requires { W.failed sink.old ≡ false }
     ensures gathered { Gathered (out (W.taken sink.old) page.old) (out (W.taken sink.new) page.new) written result
-        (result_line delimiters (option_copied sample) entry.now) }
+        (result_line delimiters (option_copied sample.entry) entry.now) }
     ensures failed { W.failed sink.new ≡ is_err result }
 {
     let begun = match gather_field(sink, page, written, delimiters, sample) {
@@ -202,7 +214,7 @@ fn gather_next<W: Sink>(
 ) -> Result<u64, ToolFault>
     requires { W.failed sink.old ≡ false }
     ensures gathered { Gathered (out (W.taken sink.old) page.old) (out (W.taken sink.new) page.new) written result
-        (delimiters.field ∷ field_text delimiters (option_copied field)) }
+        (delimiters.field ∷ field_text delimiters (option_copied field.entry)) }
     ensures failed { W.failed sink.new ≡ is_err result }
 {
     let mark = [delimiters.field()];
@@ -222,17 +234,17 @@ fn gather_field<W: Sink>(
 ) -> Result<u64, ToolFault>
     requires { W.failed sink.old ≡ false }
     ensures gathered { Gathered (out (W.taken sink.old) page.old) (out (W.taken sink.new) page.new) written result
-        (field_text delimiters (option_copied field)) }
+        (field_text delimiters (option_copied field.entry)) }
     ensures failed { W.failed sink.new ≡ is_err result }
 {
     match field {
         None => Ok(written),
-        Some(field) => gather_spelling(sink, page, written, delimiters, field),
+        Some(field) => gather_field_spelling(sink, page, written, delimiters, field),
     }
 }
 
 /// Gathers the spelling of a field, of any length.
-fn gather_spelling<W: Sink>(
+fn gather_field_spelling<W: Sink>(
     sink: &mut W,
     page: &mut Page,
     written: u64,
