@@ -1,5 +1,6 @@
 pub mod CaptureLaws
 pub mod CheckLaws
+mod CheckRows
 pub mod GatherLaws
 pub mod HearingLaws
 pub mod LineLaws

@@ -1,6 +1,7 @@
 ghost use Rattle.std.specs.Prelude.{◌≤◌};
 
 mod memory;
+mod records;
 mod replay;
 mod upgrade;
 

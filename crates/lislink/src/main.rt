@@ -5,7 +5,7 @@ ghost use Rattle.std.specs.Prelude.{◌≡◌, IfOk, OnErr};
 ghost use Rattle.std.specs.Process.{exit_status};
 
 use lis_port::{Buffered, ReadAhead};
-use lis_tool::{Report, ToolFault, command, run_command};
+use lis_tool::{Command, Report, ToolFault, command, run_command};
 use std::env;
 use std::io::{self, BufReader, BufWriter};
 use std::process::ExitCode;
@@ -30,7 +30,17 @@ fn main(rt: HostRuntime) -> ExitCode {
     let mut source = ReadAhead::new(reader);
     let mut sink = Buffered::new(writer);
     let ended = run_command(rt.alloc(), command, &mut source, &mut sink, u32::MAX);
+    if let (Command::Results, Ok(report)) = (command, ended) {
+        tell_refused(&rt, report);
+    }
     told(&rt, ended)
+}
+
+/// Tells a refused record on standard error.
+fn tell_refused(rt: &HostRuntime, report: Report) {
+    if let Some(refused) = report.refused {
+        let _ = eprintln!(rt; "lislink: {refused}");
+    }
 }
 
 /// The exit status for a run that ended so; why it stopped is told on standard error.

@@ -74,3 +74,40 @@ fn texts_stop_at_a_refused_growth(rt: HostRuntime) -> Result<(), Fail> {
     assert!(rt; count <= 1, "one refused growth spoils the next run");
     Ok(())
 }
+
+/// A message with one result and a finding.
+const RECORDS: &[u8] = b"H|\\^&\rP|1\rO|2|S7\rR|1|^^^GLU|5.4\rL|1|N\r";
+
+#[test]
+fn a_check_stops_at_a_refused_growth(rt: HostRuntime) -> Result<(), Fail> {
+    let text = b"message 1\n1 H 0\n2 P 1\n3 O 2\n4 R 3\n5 L 2\nfinding 3 O 1\nmessages 1 findings 1\n";
+    let mut count = 0u8;
+    for step in [1usize, 7, 4096] {
+        let mut source = Cut::new(RECORDS, step, Then::End);
+        let mut sink = Slow::new(1000, step);
+        let result = run_check(rt.alloc(), &mut source, &mut sink, 1000);
+        match refused(result, sink.took(), 1, text, b"messages 1 findings 1\n") {
+            Some(now) => count = count.saturating_add(u8::from(now)),
+            None => return Err(Fail::new("the check is neither whole nor its front")),
+        }
+    }
+    assert!(rt; count <= 1, "one refused growth spoils the next run");
+    Ok(())
+}
+
+#[test]
+fn results_stop_at_a_refused_growth(rt: HostRuntime) -> Result<(), Fail> {
+    let text = b"S7|^^^GLU|5.4||||\n";
+    let mut count = 0u8;
+    for step in [1usize, 7, 4096] {
+        let mut source = Cut::new(RECORDS, step, Then::End);
+        let mut sink = Slow::new(1000, step);
+        let result = run_results(rt.alloc(), &mut source, &mut sink, 1000);
+        match refused(result, sink.took(), 0, text, b"\n") {
+            Some(now) => count = count.saturating_add(u8::from(now)),
+            None => return Err(Fail::new("the results are neither whole nor their front")),
+        }
+    }
+    assert!(rt; count <= 1, "one refused growth spoils the next run");
+    Ok(())
+}
