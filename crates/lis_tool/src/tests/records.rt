@@ -2,7 +2,7 @@
 
 use crate::*;
 use lis_message::{MessageFault, Reason, RecordFault};
-use lis_port::{Cut, Slow, Then};
+use lis_port::{Cut, Slow, Source, Then};
 use std::test::Fail;
 
 /// A message with one result.
