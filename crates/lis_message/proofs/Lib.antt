@@ -1,5 +1,6 @@
 mod DefinitionRows
 pub mod Cuts
+pub mod EveryStream
 pub mod Lines
 pub mod OneRefusal
 pub mod ReadBack

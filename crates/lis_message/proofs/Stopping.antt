@@ -33,7 +33,7 @@ lacks_take (suc n) [] l = tt
 lacks_take (suc n) (x ∷ xs) l = (l.0, lacks_take n xs l.1)
 
 -- a record is refused at its CR
-refused_line : (stream : List ℕ) (messages : List MessageTree) (left : Option Begun) (held text rest : List ℕ) (fault : MessageFault) → IsCut stream messages left held → LacksReturn text → length (held ++ text) ≤ RECORD_LIMIT
+pub refused_line : (stream : List ℕ) (messages : List MessageTree) (left : Option Begun) (held text rest : List ℕ) (fault : MessageFault) → IsCut stream messages left held → LacksReturn text → length (held ++ text) ≤ RECORD_LIMIT
     → refusal left (held ++ text) ≡ Some fault.reason → fault.place ≡ next_place left → IsRefused (stream ++ (text ++ 13 ∷ rest)) messages fault
 refused_line stream messages left held text rest fault c lacks short why place = record {
   front = flat_map ended c.groups ++ ended c.texts;
@@ -54,7 +54,7 @@ spread : (front a b rest : List ℕ) → front ++ ((a ++ b) ++ rest) ≡ front +
 spread front a b rest = simp append_assoc
 
 -- a record is too long, before its CR
-refused_long : (stream : List ℕ) (messages : List MessageTree) (left : Option Begun) (held text rest : List ℕ) (fault : MessageFault) → IsCut stream messages left held → LacksReturn text → RECORD_LIMIT < length (held ++ text)
+pub refused_long : (stream : List ℕ) (messages : List MessageTree) (left : Option Begun) (held text rest : List ℕ) (fault : MessageFault) → IsCut stream messages left held → LacksReturn text → RECORD_LIMIT < length (held ++ text)
     → fault.reason ≡ reasons.RecordTooLong → fault.place ≡ next_place left → IsRefused (stream ++ (text ++ rest)) messages fault
 refused_long stream messages left held text rest fault c lacks long why place =
     let front = flat_map ended c.groups ++ ended c.texts in

@@ -110,3 +110,9 @@ pub record IsRefused (stream : List ℕ) (messages : List MessageTree) (fault : 
   pub lacks : LacksReturn text
   pub place : fault.place ≡ capped (count_of left + 1)
   pub refused : IsRefusedText left text more fault.reason ⊎ IsLongText text fault.reason
+
+-- The stream is read, with these messages first: it is cut, or a record of it is refused.
+abbrev pub IsReadFrom : List ℕ → List MessageTree → Type 0
+IsReadFrom stream messages =
+    (more : List MessageTree)
+    × (((left : Option Begun) × (held : List ℕ) × IsCut stream (messages ++ more) left held) ⊎ ((fault : MessageFault) × IsRefused stream (messages ++ more) fault))

@@ -1,5 +1,5 @@
 //! What holds of all messages and streams, over the definitions that the contracts cite.
-ghost use Rattle.std.specs.Prelude.{◌≡◌, ℕ, List, [], Option, None};
+ghost use Rattle.std.specs.Prelude.{◌≡◌, ◌++◌, ℕ, List, [], Option, None};
 ghost use Rattle.std.specs.List.{AllByRecursion, flat_map};
 ghost use Rattle.lis_field.specs.declared.kinds.Kind.TheVariants as kinds;
 ghost use Rattle.lis_field.specs.Delimiters.{DelimiterBytes};
@@ -7,7 +7,7 @@ ghost use Rattle.lis_record.specs.Relation.{IsRecord};
 ghost use Rattle.lis_field.specs.Shape.{RecordContent};
 ghost use Rattle.lis_tree.specs.declared.fault.MessageFault.{MessageFault};
 ghost use Rattle.lis_tree.specs.Begun.{Begun};
-ghost use Rattle.lis_message.specs.Stream.{IsCut, IsMessage, IsRefused};
+ghost use Rattle.lis_message.specs.Stream.{IsCut, IsMessage, IsReadFrom, IsRefused};
 ghost use Rattle.lis_tree.specs.Tree.{MessageTree, IsTree, flatten};
 ghost use Rattle.lis_message.specs.Writing.{message_bytes, IsWritable};
 
@@ -38,4 +38,12 @@ pub fn one_tree()
     ensures tree { (m n : MessageTree) → IsTree m → IsTree n → m.delimiters ≡ n.delimiters → flatten m ≡ flatten n → m ≡ n }
     ensures delimiters { (d e : DelimiterBytes) (text : List ℕ) (r s : RecordContent) → IsRecord d text r → IsRecord e text s
         → r.kind ≡ kinds.H → s.kind ≡ kinds.H → d ≡ e }
+{}
+
+/// Every stream is cut or refused. What follows a stream that is cut leaves the messages of it as they are, and adds
+/// further ones.
+pub fn every_stream()
+    ensures read { (stream : List ℕ) → IsReadFrom stream [] }
+    ensures longer { (front more : List ℕ) (messages : List MessageTree) (left : Option Begun) (held : List ℕ)
+        → IsCut front messages left held → IsReadFrom (front ++ more) messages }
 {}

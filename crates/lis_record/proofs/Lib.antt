@@ -8,6 +8,7 @@ pub mod Pairs
 pub mod Places
 pub mod ReadBack
 pub mod RecordTexts
+pub mod Shapes
 pub mod Sinks
 pub mod Steps
 pub mod WriteLaws

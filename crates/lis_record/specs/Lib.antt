@@ -2,6 +2,7 @@ pub mod Escapes
 pub mod Faults
 pub mod FrontReading
 pub mod Lent
+pub mod Pieces
 pub mod Relation
 pub mod Remaining
 pub mod Spelling

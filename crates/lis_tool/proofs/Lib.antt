@@ -1,7 +1,11 @@
 pub mod CaptureLaws
+pub mod CheckLaws
+mod CheckRows
 pub mod GatherLaws
 pub mod HearingLaws
 pub mod LineLaws
+pub mod MessageLaws
+pub mod MessageRunLaws
 pub mod PlayingLaws
 pub mod PutLaws
 mod ReplayRows

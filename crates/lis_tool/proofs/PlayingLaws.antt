@@ -163,7 +163,7 @@ passed_computer Texts limit kept collected count differences lines bytes a befor
 -- nor does the end
 pub texts_end :
     (account : Account) (limit : ℕ) (lines : List Line) (a : Out) (before : ℕ) → account ≡ Texts → before ≤ most_counted
-    → (let r : Result Report ToolFault = Ok (record { status = 0 }) in r ≡ Ok ((playing_writes account limit).report lines))
+    → (let r : Result Report ToolFault = Ok (record { status = 0; refused = None }) in r ≡ Ok ((playing_writes account limit).report lines))
     × Gathered a a before (Ok before) ((playing_writes account limit).last lines)
 texts_end Lines limit lines a before is fits = cc
 texts_end Texts limit lines a before is fits = (refl, gathered_nothing a before fits)

@@ -1,18 +1,19 @@
 -- A run by its steps: what was read and what went out.
-use Rattle.std.proofs.Common.{◌≡◌, ℕ, ◌+◌, ◌*◌, ◌≤◌, ◌<◌, Bool, true, false, List, [], ◌++◌, Option, None, Some, Ok, Err, length, take, min, refl, sym, ◌∙◌, ap, subst, arith, append_assoc, append-nil, length-append, take_all, rules, is_err}
+use Rattle.std.proofs.Common.{◌≡◌, ℕ, ◌+◌, ◌*◌, ◌≤◌, ◌<◌, Bool, true, false, List, [], ◌++◌, Option, None, Some, Ok, Err, length, take, min, refl, sym, ◌∙◌, ap, subst, arith, append_assoc, append-nil, length-append, take_all, rules, is_err, is_some}
 use Rattle.std.proofs.lemmas.List.{take-append-le}
 use Rattle.std.specs.declared.result.Result.{Result}
-use Rattle.std.specs.Prelude.{IsTrue, ◌↔◌}
+use Rattle.std.specs.Prelude.{IsTrue, ◌↔◌, ⊤}
 use Rattle.lis_port.specs.declared.port.Failed.{Failed}
 use Rattle.std.specs.Io.KnownBytes.{Appends, Consumes, IsAtEnd, Keeps}
 use Rattle.lis_tool.specs.declared.fault.ToolFault.{ToolFault}
 use Rattle.lis_tool.specs.declared.fault.ToolFault.TheVariants.{CaptureLine, Read, Write, OutOfMemory, TooManyReads}
+use Rattle.lis_tool.specs.declared.report.Refused.{Refused}
 use Rattle.lis_tool.specs.declared.report.Report.{Report}
 use Rattle.lis_tool.specs.declared.machine.Halt.{Halt}
 use Rattle.lis_tool.specs.Outcome.{Outcome, whole, going}
 use Rattle.lis_tool.specs.Output.{Gathered, Out, PartWentOut, Put, WentOut, out}
-use Rattle.lis_tool.specs.Runs.{Wrote, Ran, Stops}
-use Rattle.lis_tool.specs.Steps.{Halts, Fails, Puts, IsTold}
+use Rattle.lis_tool.specs.Runs.{IsOver, Wrote, Ran, StopsBy}
+use Rattle.lis_tool.specs.Steps.{Halts, Fails, Puts, IsEarly, IsTold}
 use Rattle.lis_tool.proofs.GatherLaws.{gathered_sent, gathered_settled, gathered_then}
 use Rattle.lis_tool.proofs.PutLaws.{part_then, put_stops}
 
@@ -232,33 +233,57 @@ failed_not_ended true end = absurd (not_ok (end.0 refl))
     not_ok : {f : Failed} → ◌≡◌ {A = Result ℕ Failed} (Err f) (Ok 0) → ⊥
     not_ok e = cc
 
+-- a run that ends in a report is over
+abbrev pub EndsWell : (refuses : Bool) → Result Report ToolFault → Bool → Type 0
+EndsWell refuses (Ok report) ended = IsOver refuses report.refused ended
+EndsWell refuses (Err fault) ended = ⊤
+
+over_at_end : (refuses : Bool) (refused : Option Refused) (ended : Bool) → ended ≡ true → IsOver refuses refused ended
+over_at_end false refused ended is = is
+over_at_end true None ended is = is
+over_at_end true (Some refused) ended is = tt
+
+pub well_at_end : (refuses : Bool) (result : Result Report ToolFault) (ended : Bool) → ended ≡ true → EndsWell refuses result ended
+well_at_end refuses (Ok report) ended is = over_at_end refuses report.refused ended is
+well_at_end refuses (Err fault) ended is = tt
+
+over_early : (refused : Option Refused) (ended : Bool) → is_some refused ≡ true → IsOver true refused ended
+over_early (Some refused) ended is = tt
+over_early None ended is = cc
+
+pub well_early : (refuses : Bool) (result : Result Report ToolFault) (ended : Bool) → IsEarly refuses result → EndsWell refuses result ended
+well_early false (Ok report) ended early = cc
+well_early true (Ok report) ended early = over_early report.refused ended early
+well_early false (Err fault) ended early = tt
+well_early true (Err fault) ended early = tt
+
 -- how a run that halted so stops
 fine_stops :
-    (closes memory : Bool) (means : Outcome → Type 0) (text : List ℕ) (halted : Result Report ToolFault) (left : Option (List ℕ)) (ended source_failed : Bool)
-    (made reads : ℕ) (taken sent : Option (List ℕ)) → Halts memory means text halted → (is_err halted ≡ false → ended ≡ true)
+    (refuses closes memory : Bool) (means : Outcome → Type 0) (text : List ℕ) (halted : Result Report ToolFault) (left : Option (List ℕ)) (ended source_failed : Bool)
+    (made reads : ℕ) (taken sent : Option (List ℕ)) → Halts memory means text halted → EndsWell refuses halted ended
     → source_failed ≡ false → sent ≡ taken → (ended ≡ true → IsAtEnd left) → made ≤ reads
-    → Stops closes halted left ended source_failed made taken sent false reads
-fine_stops closes memory means text (Ok report) left ended source_failed made reads taken sent halts ok fine all_sent all_read bound =
-    record { stopped = (ok refl, fine, refl); sent_on = all_sent; all_read = all_read; bounded = bound }
-fine_stops closes memory means text (Err (CaptureLine line)) left ended source_failed made reads taken sent halts ok fine all_sent all_read bound =
+    → StopsBy refuses closes halted left ended source_failed made taken sent false reads
+fine_stops refuses closes memory means text (Ok report) left ended source_failed made reads taken sent halts ok fine all_sent all_read bound =
+    record { stopped = (ok, fine, refl); sent_on = all_sent; all_read = all_read; bounded = bound }
+fine_stops refuses closes memory means text (Err (CaptureLine line)) left ended source_failed made reads taken sent halts ok fine all_sent all_read bound =
     record { stopped = (fine, refl); sent_on = all_sent; all_read = all_read; bounded = bound }
-fine_stops closes memory means text (Err OutOfMemory) left ended source_failed made reads taken sent halts ok fine all_sent all_read bound =
+fine_stops refuses closes memory means text (Err OutOfMemory) left ended source_failed made reads taken sent halts ok fine all_sent all_read bound =
     record { stopped = (fine, refl); sent_on = all_sent; all_read = all_read; bounded = bound }
-fine_stops closes memory means text (Err Read) left ended source_failed made reads taken sent halts ok fine all_sent all_read bound = absurd halts
-fine_stops closes memory means text (Err (Write written)) left ended source_failed made reads taken sent halts ok fine all_sent all_read bound = absurd halts
-fine_stops closes memory means text (Err TooManyReads) left ended source_failed made reads taken sent halts ok fine all_sent all_read bound = absurd halts
+fine_stops refuses closes memory means text (Err Read) left ended source_failed made reads taken sent halts ok fine all_sent all_read bound = absurd halts
+fine_stops refuses closes memory means text (Err (Write written)) left ended source_failed made reads taken sent halts ok fine all_sent all_read bound = absurd halts
+fine_stops refuses closes memory means text (Err TooManyReads) left ended source_failed made reads taken sent halts ok fine all_sent all_read bound = absurd halts
 
 pub halted_stops :
-    (closes memory : Bool) (means : Outcome → Type 0) (text : List ℕ) (halt : Halt) (result : Result Report ToolFault) (left : Option (List ℕ))
+    (refuses closes memory : Bool) (means : Outcome → Type 0) (text : List ℕ) (halt : Halt) (result : Result Report ToolFault) (left : Option (List ℕ))
     (ended source_failed : Bool) (made reads : ℕ) (taken sent : Option (List ℕ)) (failed : Bool) → Halts memory means text halt.result
-    → IsTold halt result failed → (is_err halt.result ≡ false → ended ≡ true) → (closes ≡ false → failed ≡ true → ended ≡ false)
+    → IsTold halt result failed → EndsWell refuses halt.result ended → (closes ≡ false → failed ≡ true → ended ≡ false)
     → source_failed ≡ false → (failed ≡ false → sent ≡ taken) → (ended ≡ true → IsAtEnd left) → made ≤ reads
-    → Stops closes result left ended source_failed made taken sent failed reads
-halted_stops closes memory means text halt result left ended source_failed made reads taken sent false halts told ok early fine all_sent all_read bound =
-    subst (λ (r : Result Report ToolFault). Stops closes r left ended source_failed made taken sent false reads) (sym told)
-    (fine_stops closes memory means text halt.result left ended source_failed made reads taken sent halts ok fine (all_sent refl) all_read bound)
-halted_stops closes memory means text halt result left ended source_failed made reads taken sent true halts told ok early fine all_sent all_read bound =
-    subst (λ (r : Result Report ToolFault). Stops closes r left ended source_failed made taken sent true reads) (sym told)
+    → StopsBy refuses closes result left ended source_failed made taken sent failed reads
+halted_stops refuses closes memory means text halt result left ended source_failed made reads taken sent false halts told ok early fine all_sent all_read bound =
+    subst (λ (r : Result Report ToolFault). StopsBy refuses closes r left ended source_failed made taken sent false reads) (sym told)
+    (fine_stops refuses closes memory means text halt.result left ended source_failed made reads taken sent halts ok fine (all_sent refl) all_read bound)
+halted_stops refuses closes memory means text halt result left ended source_failed made reads taken sent true halts told ok early fine all_sent all_read bound =
+    subst (λ (r : Result Report ToolFault). StopsBy refuses closes r left ended source_failed made taken sent true reads) (sym told)
     (record { stopped = ((λ c. early c refl), fine, refl); sent_on = tt; all_read = all_read; bounded = bound })
 
 -- a read that told the end waited

@@ -5,6 +5,11 @@ pub mod Steps
 pub mod Runs
 pub mod LineOutcome
 pub mod CaptureRuns
+pub mod Codes
+pub mod Messages
+pub mod MessageRuns
+pub mod Check
+pub mod Results
 pub mod Upgrade
 pub mod Show
 pub mod Parts

@@ -1,6 +1,6 @@
 -- What `replay` and `texts` write of a capture: a new receiver hears what the analyzer sent, what it replies is compared with
 -- what the computer sent, and the texts that it hands out are told.
-use Rattle.std.specs.Prelude.{ℕ, ◌+◌, nat_lt, not, Bool, true, false, List, [], ◌∷◌, ◌++◌, length, codes, decimal, if◌then◌else◌}
+use Rattle.std.specs.Prelude.{ℕ, ◌+◌, nat_lt, not, Bool, true, false, List, [], ◌∷◌, ◌++◌, length, codes, decimal, None, if◌then◌else◌}
 use Rattle.std.specs.List.{flat_map}
 use Rattle.std.specs.Option.{option_to_list}
 use Rattle.std.specs.Str.{bytes_eq}
@@ -118,7 +118,7 @@ all_differences limit lines = count_with (played limit lines).replies (differenc
 
 -- 1 where there is a difference
 abbrev pub status_of : ℕ → Report
-status_of differences = record { status = if nat_lt 0 differences then 1 else 0 }
+status_of differences = record { status = if nat_lt 0 differences then 1 else 0; refused = None }
 
 -- what is written for each line and at the end, and the report, where the first line has this number
 abbrev pub replay_writes_from : (first : ℕ) → ℕ → Writes

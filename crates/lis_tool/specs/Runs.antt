@@ -4,6 +4,7 @@ use Rattle.std.specs.declared.result.Result.{Result}
 use Rattle.std.specs.Io.KnownBytes.{Appends, Consumes, IsAtEnd}
 use Rattle.lis_tool.specs.declared.fault.ToolFault.{ToolFault}
 use Rattle.lis_tool.specs.declared.fault.ToolFault.TheVariants.{CaptureLine, Read, Write, OutOfMemory, TooManyReads}
+use Rattle.lis_tool.specs.declared.report.Refused.{Refused}
 use Rattle.lis_tool.specs.declared.report.Report.{Report}
 use Rattle.lis_tool.specs.Outcome.{Outcome, whole}
 use Rattle.lis_tool.specs.Output.{WentOut}
@@ -37,18 +38,26 @@ pub record Ran
   pub meant : means given ended outcome
   pub wrote : Wrote takes_memory result outcome taken_old taken_new
 
--- each ending stands where the last read or write says so: a report where the source told the end, a fault of the source
--- or the sink where that failed, and too many reads where as many were made and none of these stands. A command that
--- writes nothing at the end has no fault of the sink there.
-abbrev pub Stopped : (closes : Bool) → Result Report ToolFault → Bool → Bool → Bool → ℕ → ℕ → Type 0
-Stopped closes (Ok report) ended source_failed sink_failed made reads = (ended ≡ true) × (source_failed ≡ false) × (sink_failed ≡ false)
-Stopped closes (Err Read) ended source_failed sink_failed made reads = (ended ≡ false) × (source_failed ≡ true) × (sink_failed ≡ false)
-Stopped closes (Err (Write written)) ended source_failed sink_failed made reads =
+-- A report is answered where the source told the end. A command that may refuse a record answers before that too, but
+-- only where it did.
+abbrev pub IsOver : (refuses : Bool) → Option Refused → (ended : Bool) → Type 0
+IsOver false refused ended = ended ≡ true
+IsOver true None ended = ended ≡ true
+IsOver true (Some refused) ended = ⊤
+
+-- each ending stands where the last read or write says so: a report where the source told the end or a record is refused,
+-- a fault of the source or the sink where that failed, and too many reads where as many were made and none of these
+-- stands. A command that writes nothing at the end has no fault of the sink there.
+abbrev pub Stopped : (refuses closes : Bool) → Result Report ToolFault → Bool → Bool → Bool → ℕ → ℕ → Type 0
+Stopped refuses closes (Ok report) ended source_failed sink_failed made reads =
+    IsOver refuses report.refused ended × (source_failed ≡ false) × (sink_failed ≡ false)
+Stopped refuses closes (Err Read) ended source_failed sink_failed made reads = (ended ≡ false) × (source_failed ≡ true) × (sink_failed ≡ false)
+Stopped refuses closes (Err (Write written)) ended source_failed sink_failed made reads =
     (closes ≡ false → ended ≡ false) × (source_failed ≡ false) × (sink_failed ≡ true)
-Stopped closes (Err TooManyReads) ended source_failed sink_failed made reads =
+Stopped refuses closes (Err TooManyReads) ended source_failed sink_failed made reads =
     (ended ≡ false) × (source_failed ≡ false) × (sink_failed ≡ false) × (made ≡ reads)
-Stopped closes (Err (CaptureLine line)) ended source_failed sink_failed made reads = (source_failed ≡ false) × (sink_failed ≡ false)
-Stopped closes (Err OutOfMemory) ended source_failed sink_failed made reads = (source_failed ≡ false) × (sink_failed ≡ false)
+Stopped refuses closes (Err (CaptureLine line)) ended source_failed sink_failed made reads = (source_failed ≡ false) × (sink_failed ≡ false)
+Stopped refuses closes (Err OutOfMemory) ended source_failed sink_failed made reads = (source_failed ≡ false) × (sink_failed ≡ false)
 
 -- nothing that the sink took is held back, but where it failed
 abbrev pub Sent : Result Report ToolFault → Option (List ℕ) → Option (List ℕ) → Type 0
@@ -61,13 +70,20 @@ Sent (Err OutOfMemory) sent taken = sent ≡ taken
 
 -- how a run stops, by what is known of the source and the sink: what the source has left, whether it told the end or failed, and the
 -- reads made; what the sink took and sent on, and whether it failed; and the most reads
-pub record Stops
-    (closes : Bool) (result : Result Report ToolFault) (left : Option (List ℕ)) (ended source_failed : Bool) (made : ℕ)
+pub record StopsBy
+    (refuses closes : Bool) (result : Result Report ToolFault) (left : Option (List ℕ)) (ended source_failed : Bool) (made : ℕ)
     (taken sent : Option (List ℕ)) (sink_failed : Bool) (reads : ℕ) : Type 0 where
-  pub stopped : Stopped closes result ended source_failed sink_failed made reads
+  pub stopped : Stopped refuses closes result ended source_failed sink_failed made reads
   pub sent_on : Sent result sent taken
   pub all_read : ended ≡ true → IsAtEnd left
   pub bounded : made ≤ reads
+
+-- the same of a command that never refuses a record: a report is answered only where the source told the end
+abbrev pub Stops :
+    (closes : Bool) → Result Report ToolFault → Option (List ℕ) → (ended source_failed : Bool) → (made : ℕ)
+    → (taken sent : Option (List ℕ)) → (sink_failed : Bool) → (reads : ℕ) → Type 0
+Stops closes result left ended source_failed made taken sent sink_failed reads =
+    StopsBy false closes result left ended source_failed made taken sent sink_failed reads
 
 -- what went out for the bytes that were read, by a command that never refuses a line nor wants memory: all of their
 -- text, or as much as is told where the sink failed

@@ -1,5 +1,5 @@
 -- What one step of a command gathers and puts out, behind the text that is gathered and out.
-use Rattle.std.specs.Prelude.{◌≡◌, ℕ, Bool, true, false, List, ◌++◌, Some, Ok, Err, is_err}
+use Rattle.std.specs.Prelude.{◌≡◌, ℕ, Bool, true, false, List, ◌++◌, Some, Ok, Err, is_err, is_some, ⊤}
 use Rattle.std.specs.declared.result.Result.{Result}
 use Rattle.lis_tool.specs.declared.fault.ToolFault.{ToolFault}
 use Rattle.lis_tool.specs.declared.fault.ToolFault.TheVariants.{CaptureLine, Read, Write, OutOfMemory, TooManyReads}
@@ -42,14 +42,20 @@ Ends takes_memory means old new before text (Ok halt) =
     Puts (λ all. Halts takes_memory means all halt.result) old new before halt.written text
 Ends takes_memory means old new before text (Err fault) = Fails means old new before text fault
 
--- a step that may be the last: if it isn't, the machine stands so for all of the text, and if it is, the run ends in a fault
+-- a run may end so before the input does: in a fault, or where a record is refused
+abbrev pub IsEarly : (refuses : Bool) → Result Report ToolFault → Type 0
+IsEarly false result = is_err result ≡ true
+IsEarly true (Ok report) = is_some report.refused ≡ true
+IsEarly true (Err fault) = ⊤
+
+-- a step that may be the last: if it isn't, the machine stands so for all of the text
 abbrev pub Steps :
-    (takes_memory : Bool) (stands : List ℕ → Type 0) (means : Outcome → Type 0) → Out → Out → ℕ → List ℕ
+    (refuses takes_memory : Bool) (stands : List ℕ → Type 0) (means : Outcome → Type 0) → Out → Out → ℕ → List ℕ
     → Result Turn ToolFault → Type 0
-Steps takes_memory stands means old new before text (Ok (On after)) = Puts stands old new before after text
-Steps takes_memory stands means old new before text (Ok (Off halt)) =
-    Puts (λ all. Halts takes_memory means all halt.result × (is_err halt.result ≡ true)) old new before halt.written text
-Steps takes_memory stands means old new before text (Err fault) = Fails means old new before text fault
+Steps refuses takes_memory stands means old new before text (Ok (On after)) = Puts stands old new before after text
+Steps refuses takes_memory stands means old new before text (Ok (Off halt)) =
+    Puts (λ all. Halts takes_memory means all halt.result × IsEarly refuses halt.result) old new before halt.written text
+Steps refuses takes_memory stands means old new before text (Err fault) = Fails means old new before text fault
 
 -- the answer of a run that halted so, by whether what went out could not be sent on
 abbrev pub IsTold : Halt → Result Report ToolFault → Bool → Type 0

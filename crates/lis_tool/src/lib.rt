@@ -1,17 +1,20 @@
 //! What the program `lislink` does with its input, over sources and sinks that contracts can speak of.
 #![tactic(auto)]
 
+pub mod check;
 pub mod commands;
 pub mod fault;
 mod gather;
 pub mod laws;
 pub mod lines;
 pub mod machine;
+pub mod messages;
 mod output;
 mod parts;
 mod playing;
 pub mod replay;
 pub mod report;
+pub mod results;
 pub mod run;
 pub mod show;
 #[cfg(test)]
@@ -20,10 +23,12 @@ pub mod texts;
 pub mod upgrade;
 pub mod words;
 
+pub use check::run_check;
 pub use commands::Command;
 pub use fault::ToolFault;
 pub use replay::{run_replay, run_replay_of};
-pub use report::Report;
+pub use report::{Refused, Report};
+pub use results::run_results;
 pub use run::run_command;
 pub use show::{run_show, run_show_of};
 pub use texts::{run_texts, run_texts_of};

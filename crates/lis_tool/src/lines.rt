@@ -112,6 +112,8 @@ impl<C: LineMachine> Machine for Lines<C> {
 
     ghost closes = { true };
 
+    ghost refuses = { false };
+
     ghost goes_on = { λ m bytes text lined.
         ap going lined.text_is
         ∙ sym (ap (λ (refused : Bool). lines_outcome C.writes refused false (capture (stream_with [] bytes) false).lines) lined.fine) };

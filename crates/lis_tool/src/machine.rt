@@ -4,7 +4,7 @@ ghost use Rattle.std.specs.Prelude.{◌≡◌, ◌+◌, ◌^◌, ◌<◌, ◌≤
 ghost use Rattle.std.specs.Io.KnownBytes.{Keeps};
 ghost use Rattle.lis_tool.specs.Outcome.{Outcome, going};
 ghost use Rattle.lis_tool.specs.Output.{out};
-ghost use Rattle.lis_tool.specs.Runs.{IsFresh, Ran, Stops};
+ghost use Rattle.lis_tool.specs.Runs.{IsFresh, Ran, StopsBy};
 ghost use Rattle.lis_tool.specs.Steps.{Ends, IsTold, Steps};
 ghost use Rattle.lis_tool.specs.declared.machine.Halt.{Halt};
 ghost use Rattle.lis_tool.specs.declared.machine.Turn.TheVariants.{Off};
@@ -47,6 +47,9 @@ pub trait Machine: Drop {
     // Whether it may write at the end of the input.
     ghost closes: { Bool };
 
+    // Whether it may refuse a record, and end the run there.
+    ghost refuses: { Bool };
+
     /// Takes bytes that were read, behind `written` bytes of the run, and gathers what they come to on the page.
     /// Where the sink fails, or memory is refused, it is a part of the text of all these bytes.
     fn feed<W: Sink>(
@@ -58,7 +61,7 @@ pub trait Machine: Drop {
     ) -> Result<Turn, ToolFault>
         requires { W.failed sink.old ≡ false }
         ensures steps { (past text : List ℕ) → stands self.old past text → length past + length bytes.now < 2 ^ 44 →
-            Steps takes_memory (stands self.new (past ++ bytes.now)) (means (past ++ bytes.now) false)
+            Steps refuses takes_memory (stands self.new (past ++ bytes.now)) (means (past ++ bytes.now) false)
             (out (W.taken sink.old) page.old) (out (W.taken sink.new) page.new) written text result }
         ensures failed { W.failed sink.new ≡ is_err result };
 
@@ -91,7 +94,7 @@ pub fn run<M: Machine, R: Source, W: Sink>(
     requires new { M.stands machine [] [] }
     requires fresh { IsFresh (R.made source.old) (R.ended source.old) (R.failed source.old) (W.failed sink.old) }
     ensures ran { Ran M.takes_memory M.means (R.left source.old) (R.left source.new) (W.taken sink.old) (W.taken sink.new) (R.ended source.new) result }
-    ensures stops { Stops M.closes result (R.left source.new) (R.ended source.new) (R.failed source.new) (R.made source.new) (W.taken sink.new) (W.sent sink.new) (W.failed sink.new) reads }
+    ensures stops { StopsBy M.refuses M.closes result (R.left source.new) (R.ended source.new) (R.failed source.new) (R.made source.new) (W.taken sink.new) (W.sent sink.new) (W.failed sink.new) reads }
 {
     let mut machine = machine;
     let mut buffer = [0; ROOM];
@@ -136,7 +139,7 @@ fn feed_page<M: Machine, W: Sink>(
 ) -> Result<Turn, ToolFault>
     requires { W.failed sink.old ≡ false }
     ensures steps { (past text : List ℕ) → M.stands machine.old past text → length past + length bytes.now < 2 ^ 44 →
-        Steps M.takes_memory (M.stands machine.new (past ++ bytes.now)) (M.means (past ++ bytes.now) false)
+        Steps M.refuses M.takes_memory (M.stands machine.new (past ++ bytes.now)) (M.means (past ++ bytes.now) false)
         (out (W.taken sink.old) page.old) (out (W.taken sink.new) page.new) written text result }
     ensures empty { IfOk result (λ turn. (halt : Halt) → turn ≡ Off halt → page.new ≡ []) }
     ensures failed { W.failed sink.new ≡ is_err result }

@@ -302,7 +302,7 @@ impl<const N: usize, T: Teller> LineMachine for Playing<N, T> {
         match self.teller.account() {
             Account::Texts => Ok(Halt {
                 written,
-                result: Ok(Report { status: 0 }),
+                result: Ok(Report { status: 0, refused: None }),
             }),
             Account::Lines => self.close(sink, page, written),
         }
@@ -368,5 +368,6 @@ fn report_of(differences: u64) -> Report
 {
     Report {
         status: if differences > 0 { 1 } else { 0 },
+        refused: None,
     }
 }

@@ -1,8 +1,74 @@
 //! How a run ended.
 
-/// How a run ended that read its input to the end.
+ghost use Rattle.std.specs.Prelude.{◌≡◌, ◌+◌, ◌^◌, ◌<◌, Some};
+ghost use Rattle.lis_tool.specs.Codes.{reason_code};
+
+use lis_message::{MessageFault, Reason, RecordFault};
+use std::fmt;
+
+/// A record that was refused, or an end of the input that came before the end of a message.
+#[derive(Debug, Clone, Copy, PartialEq, Eq)]
+pub struct Refused {
+    /// The number of its message, counted from 1: one more than the whole messages before it.
+    pub message: u64,
+    /// The place of the record in that message, and why.
+    pub fault: MessageFault,
+}
+
+impl fmt::Display for Refused {
+    fn fmt<W: fmt::Write>(&self, f: &mut fmt::Formatter<W>) -> fmt::Result {
+        let code = reason_code(self.fault.reason);
+        write!(f, "refused {} {} {}", self.message, self.fault.place, code)
+    }
+}
+
+/// How a run ended that read its input to the end, or to a record that is refused.
 #[derive(Debug, Clone, Copy, PartialEq, Eq)]
 pub struct Report {
     /// 0, or 1 where there is something to look at.
     pub status: u8,
+    /// What was refused; none for a command that takes no records.
+    pub refused: Option<Refused>,
+}
+
+impl Report {
+    /// The report of a record that is refused behind so many messages.
+    pub(crate) fn of_refusal(before: u64, fault: MessageFault) -> Report
+        ensures { before < 2 ^ 44 → result ≡ record { status = 1; refused = Some (record { message = before + 1; fault = fault }) } }
+    {
+        let message = before.saturating_add(1);
+        Report {
+            status: 1,
+            refused: Some(Refused { message, fault }),
+        }
+    }
+}
+
+/// The code of a reason, as it is printed.
+pub(crate) fn reason_code(reason: Reason) -> &'static str
+    ensures { result.now ≡ reason_code reason }
+{
+    match reason {
+        Reason::BadRecord(fault) => record_code(fault),
+        Reason::NotHeader => "G2",
+        Reason::NoParent(_) => "G3",
+        Reason::SecondHeader => "G4",
+        Reason::Unfinished => "G5",
+        Reason::RecordTooLong => "G6",
+        Reason::OutOfMemory => "G7",
+    }
+}
+
+/// The code of a text that is no record.
+fn record_code(fault: RecordFault) -> &'static str
+    ensures { result.now ≡ reason_code (Reason.BadRecord fault) }
+{
+    match fault {
+        RecordFault::Empty => "G1 C1",
+        RecordFault::UnknownKind(_) => "G1 C2",
+        RecordFault::DelimiterPart(_) => "G1 C3",
+        RecordFault::Byte(_) => "G1 C4",
+        RecordFault::TooLong => "G1 C5",
+        RecordFault::OutOfMemory => "G1 C6",
+    }
 }

@@ -1,13 +1,15 @@
 //! A command, run by its name.
 
 ghost use Rattle.std.specs.Prelude.{◌≡◌, ◌≤◌, false, IfOk};
-ghost use Rattle.lis_tool.specs.Commands.{CommandRan, closes};
-ghost use Rattle.lis_tool.specs.Runs.{IsFresh, Stops};
+ghost use Rattle.lis_tool.specs.Commands.{CommandRan, closes, refuses};
+ghost use Rattle.lis_tool.specs.Runs.{IsFresh, StopsBy};
 
+use crate::check::run_check;
 use crate::commands::Command;
 use crate::fault::ToolFault;
 use crate::replay::{run_replay, run_replay_of};
 use crate::report::Report;
+use crate::results::run_results;
 use crate::show::{run_show, run_show_of};
 use crate::texts::{run_texts, run_texts_of};
 use crate::upgrade::run_upgrade;
@@ -26,12 +28,14 @@ pub fn run_command<R: Source, W: Sink>(
 ) -> Result<Report, ToolFault>
     requires { IsFresh (R.made source.old) (R.ended source.old) (R.failed source.old) (W.failed sink.old) }
     ensures ran { CommandRan command (R.left source.old) (R.left source.new) (W.taken sink.old) (W.taken sink.new) (R.ended source.new) result }
-    ensures stops { Stops (closes command) result (R.left source.new) (R.ended source.new) (R.failed source.new) (R.made source.new) (W.taken sink.new) (W.sent sink.new) (W.failed sink.new) reads }
+    ensures stops { StopsBy (refuses command) (closes command) result (R.left source.new) (R.ended source.new) (R.failed source.new) (R.made source.new) (W.taken sink.new) (W.sent sink.new) (W.failed sink.new) reads }
     ensures status { IfOk result (λ report. report.status ≤ 1) }
 {
     match command {
         Command::Show { long: false } => run_show(source, sink, reads),
         Command::Show { long: true } => run_show_of::<63_993, R, W>(source, sink, reads),
+        Command::Check => run_check(alloc, source, sink, reads),
+        Command::Results => run_results(alloc, source, sink, reads),
         Command::Replay { long: false } => run_replay(alloc, source, sink, reads),
         Command::Replay { long: true } => {
             run_replay_of::<63_993, R, W>(alloc, source, sink, reads)

@@ -84,6 +84,8 @@ impl<const N: usize> Machine for Show<N> {
 
     ghost closes = { false };
 
+    ghost refuses = { false };
+
     ghost goes_on = { λ m bytes text stood. ap going stood.0 };
 
     fn feed<W: Sink>(
@@ -107,7 +109,7 @@ impl<const N: usize> Machine for Show<N> {
     ) -> Result<Halt, ToolFault> {
         Ok(Halt {
             written,
-            result: Ok(Report { status: 0 }),
+            result: Ok(Report { status: 0, refused: None }),
         })
     }
 

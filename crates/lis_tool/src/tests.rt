@@ -1,6 +1,8 @@
 //! What no contract, no conformance row and no test of the program says: reads and flushes in their order, words, and the
 //! texts of faults.
 
+mod records;
+
 use crate::*;
 use lis_port::{Buffered, Cut, Slow, Source, Then};
 use std::alloc::Global;
@@ -53,7 +55,7 @@ fn reads_are_counted(rt: HostRuntime) -> Result<(), Fail> {
     let mut sink = Slow::new(100, 100);
     assert_eq!(rt;
         run_show(&mut source, &mut sink, 2),
-        Ok(Report { status: 0 })
+        Ok(Report { status: 0, refused: None })
     );
     let mut source = Cut::new(b"", 1, Then::Again(5));
     let mut sink = Slow::new(100, 100);

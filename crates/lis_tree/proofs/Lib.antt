@@ -4,4 +4,5 @@ pub mod DefinitionRows
 pub mod Flatten
 pub mod Levels
 pub mod ListFaults
+pub mod Trees
 pub mod Viable

@@ -5,7 +5,7 @@ ghost use Rattle.std.specs.Prelude.{◌≡◌, IfOk, OnErr};
 ghost use Rattle.std.specs.Process.{exit_status};
 
 use lis_port::{Buffered, ReadAhead};
-use lis_tool::{Report, ToolFault, command, run_command};
+use lis_tool::{Command, Report, ToolFault, command, run_command};
 use std::env;
 use std::io::{self, BufReader, BufWriter};
 use std::mem;
@@ -36,7 +36,17 @@ fn main(rt: HostRuntime) -> ExitCode {
     let ended = run_command(rt.alloc(), command, &mut source, &mut sink, u32::MAX);
     // Only a sink that failed still holds bytes. Dropped, its buffer would try to write them again.
     mem::forget(sink);
+    if let (Command::Results, Ok(report)) = (command, ended) {
+        tell_refused(&rt, report);
+    }
     told(&rt, ended)
+}
+
+/// Tells a refused record on standard error.
+fn tell_refused(rt: &HostRuntime, report: Report) {
+    if let Some(refused) = report.refused {
+        let _ = eprintln!(rt; "lislink: {refused}");
+    }
 }
 
 /// The exit status for a run that ended so; why it stopped is told on standard error.

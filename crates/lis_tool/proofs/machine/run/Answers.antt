@@ -2,7 +2,7 @@ use Rattle.std.proofs.Common.{◌≡◌, ◌+◌, ◌^◌, ◌<◌, ℕ, false, 
 use Rattle.lis_tool.specs.Outcome.{going}
 use Rattle.lis_tool.specs.Output.{out}
 use Rattle.lis_tool.proofs.GatherLaws.{gathered_nothing, gathered_then}
-use Rattle.lis_tool.proofs.RunLaws.{consumes_none, consumes_then, consumes_end, consumes_kept, failed_not_ended, failed_waited, fails_told, is_end, no_end, so_far_out, so_far_settled, so_far_unsent, step_halts, told_ran, waited}
+use Rattle.lis_tool.proofs.RunLaws.{consumes_none, consumes_then, consumes_end, consumes_kept, failed_not_ended, failed_waited, fails_told, is_end, no_end, so_far_out, so_far_settled, so_far_unsent, step_halts, told_ran, waited, well_early, halted_stops}
 use Rattle.lis_tool.proofs.machine.run.Goals as goal
 
 pub loop-turn-init : goal.loop-turn-init
@@ -80,6 +80,18 @@ returns-in-Ok-Off-clause-ran g c =
     (rw (no_end _ c.in-Ok-read_settled.count c.if-count-eq0.false c.in-Ok-read_settled.ensures.ended)
     (step_halts g.M.Machine.takes_memory g.M.Machine.means (s.bytes ++ more) false _ _ _ _ _ _ c.in-Ok.after s.text c.in-Ok-Off.halt c.halted-in-Ok-Off.result
     wrote _ puts puts.behind.0 c.halted-in-Ok-Off.ensures.taken c.halted-in-Ok-Off.ensures.told))
+
+pub returns-in-Ok-Off-clause-stops : goal.returns-in-Ok-Off-clause-stops
+returns-in-Ok-Off-clause-stops g c =
+    let s = c.loop-turn.invariant.so_far in
+    let more = c.split_at.result.0.now in
+    let few : length s.bytes + length more < 2 ^ 44 = omega (arith, s.short) in
+    let puts = rw (c.in-Ok-Off.field-0-is, c.in-Ok-Off.ensures.empty _ c.in-Ok-Off.field-0-is) at (c.in-Ok-Off.ensures.steps s.bytes s.text s.stood few) in
+    let going = no_end _ c.in-Ok-read_settled.count c.if-count-eq0.false c.in-Ok-read_settled.ensures.ended in
+    halted_stops g.M.Machine.refuses g.M.Machine.closes g.M.Machine.takes_memory (g.M.Machine.means (s.bytes ++ more) false) (s.text ++ puts.more) c.in-Ok-Off.halt
+    c.halted-in-Ok-Off.result _ _ _ _ c.args.reads _ _ _ puts.behind.0 c.halted-in-Ok-Off.ensures.told (well_early g.M.Machine.refuses c.in-Ok-Off.halt.result _ puts.behind.1) (λ closes failed. going)
+    c.in-Ok-read_settled.ensures.failed (c.halted-in-Ok-Off.ensures.sent refl) (λ ended. cc)
+    (omega (arith, c.in-Ok-read_settled.ensures.made, c.loop-turn.invariant.made, c.loop-turn-test.true))
 
 pub returns-in-Err-feed_page-clause-ran : goal.returns-in-Err-feed_page-clause-ran
 returns-in-Err-feed_page-clause-ran g c =

@@ -1,0 +1,232 @@
+-- Every stream is cut or refused, and what follows a stream only adds messages.
+use Rattle.std.proofs.Common.{◌≡◌, ◌≢◌, ℕ, ◌+◌, ◌<◌, ◌≤◌, ◌⊎◌, inl, inr, Bool, true, false, List, [], ◌∷◌, ◌++◌, length, Option, Some, None, option_map, refl, sym, ◌∙◌, ap, subst, append_assoc, arith, length-append}
+use Rattle.std.proofs.lemmas.Bool.Decides.{eqb_tells}
+use Rattle.std.proofs.lemmas.List.{append-nil}
+use Rattle.std.proofs.lemmas.Bool.{cases_lt}
+use Rattle.std.specs.List.{AllByRecursion, AllZip}
+use Rattle.std.specs.Prelude.{if◌then◌else◌}
+use Rattle.std.specs.Option.{option_or, option_to_list}
+use Rattle.lis_field.proofs.DelimiterFaults.{IsDelimiters-delimiters_of}
+use Rattle.lis_field.proofs.FirstFaults.{option_map-none, option_or-none}
+use Rattle.lis_field.specs.declared.kinds.Kind.{Kind}
+use Rattle.lis_field.specs.declared.kinds.Kind.TheVariants as kinds
+use Rattle.lis_field.specs.Delimiters.{DelimiterBytes, IsDelimiters, delimiter_fault, delimiters_of}
+use Rattle.lis_field.specs.Kinds.{kind_of}
+use Rattle.lis_field.specs.Shape.{IsRecordShape, RecordContent}
+use Rattle.lis_record.proofs.FaultLaws.{IsRecord-fields_of, IsRecord-header, other_than_header}
+use Rattle.lis_record.proofs.Shapes.{IsRecord-shape}
+use Rattle.lis_record.specs.declared.faults.DelimiterPartFault.TheVariants.{Fault, Trailing}
+use Rattle.lis_record.specs.declared.faults.RecordFault.TheVariants as record_faults
+use Rattle.lis_record.specs.declared.texts.TheConstants.{RECORD_LIMIT}
+use Rattle.lis_record.specs.Faults.{delimiter_part_fault, header_fault, is_header_kind, is_other_kind, record_fault, text_fault, trailing_byte}
+use Rattle.lis_record.specs.FrontReading.{fields_of}
+use Rattle.lis_record.specs.Relation.{IsRecord}
+use Rattle.lis_tree.proofs.Trees.{IsTreeOf, tree_of}
+use Rattle.lis_tree.specs.declared.fault.MessageFault.{MessageFault}
+use Rattle.lis_tree.specs.declared.fault.Reason.{Reason}
+use Rattle.lis_tree.specs.declared.fault.Reason.TheVariants as reasons
+use Rattle.lis_tree.specs.Begun.{Begun, level_of}
+use Rattle.lis_tree.specs.Level.{misplaced}
+use Rattle.lis_tree.specs.Tree.{MessageTree}
+use Rattle.lis_message.specs.Feeding.{next_place}
+use Rattle.lis_message.specs.Stream.{AreBegun, AreLeft, IsCut, IsReadFrom, IsRefused, LacksReturn, kind_refusal, letter_refusal, refusal}
+use Rattle.lis_message.specs.Taking.{Taken, begun_with, closing, header, inner}
+use Rattle.lis_message.proofs.Cuts.{cut_hold, cut_start, cut_taken}
+use Rattle.lis_message.proofs.Stopping.{refused_line, refused_long}
+
+-- ---- a text that nothing refuses can be taken
+
+record CanTake (left : Option Begun) (text : List ℕ) : Type 0 where
+  message : Option MessageTree
+  next : Option Begun
+  taken : Taken left text message next
+
+header_open : (letter : ℕ) (part : List ℕ) → header_fault (letter ∷ part) ≡ None → (delimiter_part_fault part ≡ None) × (text_fault (letter ∷ part) ≡ None)
+unfolding header_fault
+header_open letter part none =
+    let rest =
+    option_or-none (if is_header_kind (kind_of letter) then None else Some (record_faults.UnknownKind letter))
+    (option_or (option_map record_faults.DelimiterPart (delimiter_part_fault part)) (text_fault (letter ∷ part))) none in
+    let both = option_or-none (option_map record_faults.DelimiterPart (delimiter_part_fault part)) (text_fault (letter ∷ part)) rest.1 in
+    (option_map-none record_faults.DelimiterPart (delimiter_part_fault part) both.0, both.1)
+
+-- outside a message it is a header
+header_taken : (letter : ℕ) (part : List ℕ) → kind_of letter ≡ Some kinds.H → delimiter_part_fault part ≡ None → text_fault (letter ∷ part) ≡ None → CanTake None (letter ∷ part)
+unfolding delimiter_part_fault
+header_taken letter [] is none texts = cc
+header_taken letter (f ∷ []) is none texts = cc
+header_taken letter (f ∷ r ∷ []) is none texts = cc
+header_taken letter (f ∷ r ∷ c ∷ []) is none texts = cc
+header_taken letter (f ∷ r ∷ c ∷ e ∷ bytes) is none texts =
+    let parts = option_or-none (option_map Fault (delimiter_fault (f ∷ r ∷ c ∷ e ∷ []))) (option_map Trailing (trailing_byte f bytes)) none in
+    let marks : delimiter_fault (f ∷ r ∷ c ∷ e ∷ []) ≡ None = option_map-none Fault (delimiter_fault (f ∷ r ∷ c ∷ e ∷ [])) parts.0 in
+    let trailing : trailing_byte f bytes ≡ None = option_map-none Trailing (trailing_byte f bytes) parts.1 in
+    let d = delimiters_of f r c e in
+    let content : RecordContent = record { kind = kinds.H; fields = fields_of d bytes } in
+    record {
+      message = None;
+      next = begun_with d (content ∷ []);
+      taken = header d content refl (IsDelimiters-delimiters_of f r c e marks) (IsRecord-header letter f r c e bytes is marks trailing texts) refl refl refl;
+    }
+
+record OutsideKind (k : Option Kind) (text : List ℕ) : Type 0 where
+  is : k ≡ Some kinds.H
+  none : header_fault text ≡ None
+
+outside_kind : (letter : ℕ) (k : Option Kind) (text : List ℕ) → letter_refusal None letter k text ≡ None → OutsideKind k text
+unfolding kind_refusal
+outside_kind letter None text e = cc
+outside_kind letter (Some kinds.H) text e = record { is = refl; none = option_map-none reasons.BadRecord (header_fault text) e }
+outside_kind letter (Some kinds.P) text e = cc
+outside_kind letter (Some kinds.O) text e = cc
+outside_kind letter (Some kinds.R) text e = cc
+outside_kind letter (Some kinds.C) text e = cc
+outside_kind letter (Some kinds.Q) text e = cc
+outside_kind letter (Some kinds.M) text e = cc
+outside_kind letter (Some kinds.S) text e = cc
+outside_kind letter (Some kinds.L) text e = cc
+
+-- inside one it is another record
+record InsideKind (b : Begun) (k : Option Kind) (text : List ℕ) : Type 0 where
+  kind : Kind
+  is : k ≡ Some kind
+  other : kind ≢ kinds.H
+  fine : record_fault b.delimiters text ≡ None
+  placed : misplaced (level_of (Some b)) kind ≡ None
+
+inside : (b : Begun) (kind : Kind) (text : List ℕ) → kind ≢ kinds.H
+    → option_or (option_map reasons.BadRecord (record_fault b.delimiters text)) (misplaced (level_of (Some b)) kind) ≡ None → InsideKind b (Some kind) text
+inside b kind text other e =
+    let both = option_or-none (option_map reasons.BadRecord (record_fault b.delimiters text)) (misplaced (level_of (Some b)) kind) e in
+    record { kind = kind; is = refl; other = other; fine = option_map-none reasons.BadRecord (record_fault b.delimiters text) both.0; placed = both.1 }
+
+inside_kind : (b : Begun) (letter : ℕ) (k : Option Kind) (text : List ℕ) → letter_refusal (Some b) letter k text ≡ None → InsideKind b k text
+unfolding kind_refusal
+inside_kind b letter None text e = cc
+inside_kind b letter (Some kinds.H) text e = cc
+inside_kind b letter (Some kinds.P) text e = inside b kinds.P text (λ x. cc) e
+inside_kind b letter (Some kinds.O) text e = inside b kinds.O text (λ x. cc) e
+inside_kind b letter (Some kinds.R) text e = inside b kinds.R text (λ x. cc) e
+inside_kind b letter (Some kinds.C) text e = inside b kinds.C text (λ x. cc) e
+inside_kind b letter (Some kinds.Q) text e = inside b kinds.Q text (λ x. cc) e
+inside_kind b letter (Some kinds.M) text e = inside b kinds.M text (λ x. cc) e
+inside_kind b letter (Some kinds.S) text e = inside b kinds.S text (λ x. cc) e
+inside_kind b letter (Some kinds.L) text e = inside b kinds.L text (λ x. cc) e
+
+record_found : (d : DelimiterBytes) → IsDelimiters d → (letter : ℕ) (bytes : List ℕ) (kind : Kind) → kind_of letter ≡ Some kind → kind ≢ kinds.H → record_fault d (letter ∷ bytes) ≡ None
+    → IsRecord d (letter ∷ bytes) (record { kind = kind; fields = fields_of d bytes })
+unfolding record_fault
+record_found d good letter bytes kind is other none =
+    let rest =
+    option_or-none (if is_other_kind (kind_of letter) then None else Some (record_faults.UnknownKind letter))
+    (option_or (option_map record_faults.UnknownKind (trailing_byte d.field bytes)) (text_fault (letter ∷ bytes))) none in
+    let both = option_or-none (option_map record_faults.UnknownKind (trailing_byte d.field bytes)) (text_fault (letter ∷ bytes)) rest.1 in
+    IsRecord-fields_of d good letter bytes kind is other (option_map-none record_faults.UnknownKind (trailing_byte d.field bytes) both.0) both.1
+
+shapes : (d : DelimiterBytes) → IsDelimiters d → (texts : List (List ℕ)) (rs : List RecordContent) → AllZip (IsRecord d) texts rs → AllByRecursion IsRecordShape rs
+shapes d good [] [] each = tt
+shapes d good [] (r ∷ rs) each = absurd each
+shapes d good (text ∷ texts) [] each = tt
+shapes d good (text ∷ texts) (r ∷ rs) each = (IsRecord-shape d good text r each.0, shapes d good texts rs each.1)
+
+is_closing : (k : Kind) → (k ≡ kinds.L) ⊎ (k ≢ kinds.L)
+is_closing kinds.H = inr (λ e. cc)
+is_closing kinds.P = inr (λ e. cc)
+is_closing kinds.O = inr (λ e. cc)
+is_closing kinds.R = inr (λ e. cc)
+is_closing kinds.C = inr (λ e. cc)
+is_closing kinds.Q = inr (λ e. cc)
+is_closing kinds.M = inr (λ e. cc)
+is_closing kinds.S = inr (λ e. cc)
+is_closing kinds.L = inl refl
+
+record_taken : (b : Begun) (texts : List (List ℕ)) → AreBegun texts b → (text : List ℕ) (r : RecordContent) → IsRecord b.delimiters text r → misplaced (level_of (Some b)) r.kind ≡ None → CanTake (Some b) text
+record_taken b texts begun text r is placed =
+    elim (is_closing r.kind) [
+      | inl last ↦
+          let whole =
+          tree_of b.delimiters begun.delimiters b.records r begun.some begun.placed begun.unclosed last (shapes b.delimiters begun.delimiters texts b.records begun.each)
+          (IsRecord-shape b.delimiters begun.delimiters text r is) in
+          record {
+            message = Some whole.0;
+            next = None;
+            taken = closing b r whole.0 refl is whole.1.tree whole.1.delimiters whole.1.records_are refl refl;
+          }
+      | inr other ↦ record {
+        message = None;
+        next = begun_with b.delimiters (b.records ++ r ∷ []);
+        taken = inner b r refl is placed other refl refl;
+      }
+    ]
+
+can_take : (left : Option Begun) (texts : List (List ℕ)) → AreLeft texts left → (text : List ℕ) → refusal left text ≡ None → CanTake left text
+unfolding refusal
+can_take None texts are [] none = cc
+can_take None texts are (letter ∷ bytes) none =
+    let outside = outside_kind letter (kind_of letter) (letter ∷ bytes) none in
+    let open' = header_open letter bytes outside.none in
+    header_taken letter bytes outside.is open'.0 open'.1
+can_take (Some b) texts are [] none = cc
+can_take (Some b) texts are (letter ∷ bytes) none =
+    let found = inside_kind b letter (kind_of letter) (letter ∷ bytes) none in
+    record_taken b texts are (letter ∷ bytes) (record { kind = found.kind; fields = fields_of b.delimiters bytes })
+    (record_found b.delimiters are.delimiters letter bytes found.kind found.is found.other found.fine) found.placed
+
+-- ---- byte by byte
+
+cases : {X : Type 0} (o : Option X) → (o ≡ None) ⊎ ((x : X) × (o ≡ Some x))
+cases None = inl refl
+cases (Some x) = inr (x, refl)
+
+with_more : (stream : List ℕ) (messages xs : List MessageTree) → IsReadFrom stream (messages ++ xs) → IsReadFrom stream messages
+with_more stream messages xs (more, inl cut) = (
+  xs ++ more,
+  inl (cut.0, cut.1, subst (λ (ms : List MessageTree). IsCut stream ms cut.0 cut.1) (append_assoc messages xs more) cut.2),
+)
+with_more stream messages xs (more, inr stop) = (
+  xs ++ more,
+  inr (stop.0, subst (λ (ms : List MessageTree). IsRefused stream ms stop.0) (append_assoc messages xs more) stop.1),
+)
+
+stopped : (stream : List ℕ) (messages : List MessageTree) (fault : MessageFault) → IsRefused stream messages fault → IsReadFrom stream messages
+stopped stream messages fault is = ([], inr (fault, subst (λ (ms : List MessageTree). IsRefused stream ms fault) (sym (append-nil messages)) is))
+
+moved : (front : List ℕ) (b : ℕ) (more : List ℕ) (messages : List MessageTree) → IsReadFrom ((front ++ b ∷ []) ++ more) messages → IsReadFrom (front ++ b ∷ more) messages
+moved front b more messages = subst (λ (s : List ℕ). IsReadFrom s messages) (append_assoc front (b ∷ []) more)
+
+short_with : (held : List ℕ) → length held ≤ RECORD_LIMIT → length (held ++ []) ≤ RECORD_LIMIT
+short_with held short = omega (arith, short, length-append held [])
+
+-- what follows a stream adds messages, until a record is refused
+pub goes_on : (more front : List ℕ) (messages : List MessageTree) (left : Option Begun) (held : List ℕ) → IsCut front messages left held → IsReadFrom (front ++ more) messages
+goes_on [] front messages left held c = (
+  [],
+  inl (left, held, subst (λ (s : List ℕ). IsCut s (messages ++ []) left held) (sym (append-nil front))
+  (subst (λ (ms : List MessageTree). IsCut front ms left held) (sym (append-nil messages)) c)),
+)
+goes_on (b ∷ more) front messages left held c =
+    elim (eqb_tells b 13) [
+      | inl same ↦ elim (cases (refusal left held)) [
+        | inl none ↦
+            let can = can_take left c.texts c.begun held none in
+            let next = cut_taken front messages left held can.message can.next c can.taken in
+            subst (λ (x : ℕ). IsReadFrom (front ++ x ∷ more) messages) (sym same.1)
+            (moved front 13 more messages
+            (with_more ((front ++ 13 ∷ []) ++ more) messages (option_to_list can.message) (goes_on more (front ++ 13 ∷ []) (messages ++ option_to_list can.message) can.next [] next)))
+        | inr why ↦
+            let fault : MessageFault = record { place = next_place left; reason = why.0 } in
+            subst (λ (x : ℕ). IsReadFrom (front ++ x ∷ more) messages) (sym same.1)
+            (stopped (front ++ 13 ∷ more) messages fault
+            (refused_line front messages left held [] more fault c tt (short_with held c.short) (ap (refusal left) (append-nil held) ∙ why.1) refl))
+      ]
+      | inr other ↦ elim (cases_lt RECORD_LIMIT (length (held ++ b ∷ []))) [
+        | inr short ↦ moved front b more messages (goes_on more (front ++ b ∷ []) messages left (held ++ b ∷ []) (cut_hold front messages left held (b ∷ []) c (other.1, tt) short))
+        | inl long ↦
+            let fault : MessageFault = record { place = next_place left; reason = reasons.RecordTooLong } in
+            stopped (front ++ b ∷ more) messages fault (refused_long front messages left held (b ∷ []) more fault c (other.1, tt) (omega (arith, long)) refl refl)
+      ]
+    ]
+
+-- every stream is cut or refused
+pub every_stream : (stream : List ℕ) → IsReadFrom stream []
+every_stream stream = goes_on stream [] [] None [] cut_start

@@ -1,0 +1,86 @@
+-- What a stream of record text comes to, for a command that writes something for each of its messages (LIS02-A2).
+use Rattle.std.specs.Prelude.{◌≡◌, ℕ, ◌+◌, Bool, true, false, List, [], ◌∷◌, ◌++◌, ◌⊎◌, length, Option, None, Some, Ok, Err, refl}
+use Rattle.std.proofs.Common.{ap, inl}
+use Rattle.lis_message.specs.Feeding.{IsCutShort, ReaderState}
+use Rattle.lis_message.specs.Stream.{IsCut, IsRefused}
+use Rattle.lis_tool.specs.declared.fault.ToolFault.TheVariants.{OutOfMemory}
+use Rattle.lis_tool.specs.declared.report.Refused.{Refused}
+use Rattle.lis_tool.specs.declared.report.Report.{Report}
+use Rattle.lis_tool.specs.Outcome.{Outcome, going}
+use Rattle.lis_tree.specs.Begun.{Begun}
+use Rattle.lis_tree.specs.declared.fault.MessageFault.{MessageFault}
+use Rattle.lis_tree.specs.Tree.{MessageTree, flatten}
+
+-- what a command writes for a message behind so many others, and behind them all, where a record is refused or none is;
+-- and its status where none is
+pub record MessageWrites : Type 0 where
+  pub message : (before : ℕ) → MessageTree → List ℕ
+  pub last : List MessageTree → Option MessageFault → List ℕ
+  pub status : List MessageTree → ℕ
+
+-- all that is written for messages behind so many others
+abbrev pub messages_text : MessageWrites → ℕ → List MessageTree → List ℕ
+messages_text w before [] = []
+messages_text w before (m ∷ messages) = w.message before m ++ messages_text w (before + 1) messages
+
+-- the report behind these messages: a refused record stands in the message behind them
+abbrev pub report_after : MessageWrites → List MessageTree → Option MessageFault → Report
+report_after w messages (Some fault) =
+    record { status = 1; refused = Some (record { message = length messages + 1; fault = fault }) }
+report_after w messages None = record { status = w.status messages; refused = None }
+
+-- these messages are all that is read
+abbrev pub over : MessageWrites → List MessageTree → Option MessageFault → Outcome
+over w messages fault =
+    record { text = messages_text w 0 messages; closing = w.last messages fault; halt = Some (Ok (report_after w messages fault)) }
+
+-- What bytes come to. A record of them is refused, behind whole messages. Or they are whole messages and a part of one: that
+-- goes on, and is refused where the input ends. Or they are whole messages, and the input ends.
+pub data Reads (w : MessageWrites) (bytes : List ℕ) (ended : Bool) (outcome : Outcome) : Type 0 where
+  refused : (messages : List MessageTree) (fault : MessageFault) → IsRefused bytes messages fault
+      → outcome ≡ over w messages (Some fault) → Reads w bytes ended outcome
+  goes_on : (messages : List MessageTree) (left : Option Begun) (held : List ℕ) → IsCut bytes messages left held → ended ≡ false
+      → outcome ≡ going (messages_text w 0 messages) → Reads w bytes ended outcome
+  cut_short : (messages : List MessageTree) (fault : MessageFault) → IsCutShort bytes messages fault → ended ≡ true
+      → outcome ≡ over w messages (Some fault) → Reads w bytes ended outcome
+  complete : (messages : List MessageTree) → IsCut bytes messages None [] → ended ≡ true
+      → outcome ≡ over w messages None → Reads w bytes ended outcome
+
+-- ---- while it runs
+
+-- how many records messages have
+abbrev pub record_count : List MessageTree → ℕ
+record_count [] = 0
+record_count (m ∷ messages) = length (flatten m) + record_count messages
+
+-- Memory was refused behind these messages, which are read of a front of the bytes.
+pub record IsStarved (w : MessageWrites) (bytes : List ℕ) (outcome : Outcome) : Type 0 where
+  pub front : List ℕ
+  pub more : List ℕ
+  pub joined : bytes ≡ front ++ more
+  pub messages : List MessageTree
+  pub left : Option Begun
+  pub held : List ℕ
+  pub cut : IsCut front messages left held
+  pub outcome_is : outcome ≡ record { text = messages_text w 0 messages; closing = []; halt = Some (Err OutOfMemory) }
+
+-- what a run comes to
+abbrev pub Comes : MessageWrites → List ℕ → Bool → Outcome → Type 0
+Comes w bytes ended outcome = Reads w bytes ended outcome ⊎ IsStarved w bytes outcome
+
+-- it has read these bytes, no record of them is refused, and this is the text for their messages
+pub record IsReadingMessages
+    (w : MessageWrites) (stands : List MessageTree → Type 0) (reader : ReaderState) (count : ℕ) (bytes text : List ℕ) : Type 0 where
+  pub messages : List MessageTree
+  pub no_fault : reader.fault ≡ None
+  pub cut : IsCut bytes messages reader.left reader.held
+  pub stood : stands messages
+  pub count_is : count ≡ length messages
+  pub text_is : text ≡ messages_text w 0 messages
+
+-- so far the bytes are whole messages and a part of one
+abbrev pub reads_on :
+    {w : MessageWrites} {stands : List MessageTree → Type 0} {reader : ReaderState} {count : ℕ} {bytes text : List ℕ}
+    → IsReadingMessages w stands reader count bytes text → Comes w bytes false (going text)
+reads_on {reader = reader} reading =
+    inl (goes_on reading.messages reader.left reader.held reading.cut refl (ap going reading.text_is))
