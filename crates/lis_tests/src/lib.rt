@@ -3,6 +3,8 @@
 #![tactic(auto)]
 
 #[cfg(test)]
+mod commands;
+#[cfg(test)]
 mod field;
 #[cfg(test)]
 mod link_text;
@@ -16,6 +18,8 @@ mod port;
 mod receiving;
 #[cfg(test)]
 mod record;
+#[cfg(test)]
+mod record_commands;
 #[cfg(test)]
 mod scanning;
 #[cfg(test)]

@@ -1,8 +1,8 @@
 //! Runs over record text whose output is known from outside, beside the rows of conformance.
 
-use crate::*;
 use lis_message::{MessageFault, Reason, RecordFault};
 use lis_port::{Cut, Slow, Source, Then};
+use lis_tool::{Refused, Report, ToolFault, run_check, run_results};
 use std::test::Fail;
 
 /// A message with one result.
@@ -54,29 +54,6 @@ fn whole_messages_are_told_before_a_source_fails(rt: HostRuntime) {
     let ended = run_check(rt.alloc(), &mut source, &mut sink, 1000);
     assert_eq!(rt; ended, Err(ToolFault::Read));
     assert_eq!(rt; sink.took(), CHECKED);
-}
-
-#[test]
-fn a_field_is_told_whatever_its_length(rt: HostRuntime) -> Result<(), Fail> {
-    let alloc = rt.alloc();
-    let mut bytes = b"H|\\^&\rP|1\rO|1|S7\rR|1||".to_vec(alloc)?;
-    bytes.extend_from_slice(vec![in alloc; b'&'; 30_000]?.as_slice())?;
-    bytes.extend_from_slice(b"\rL|1|N\r")?;
-    let mut source = Cut::new(bytes.as_slice(), 4096, Then::End);
-    let mut sink = Slow::new(131_072, 4096);
-    let ended = run_results(alloc, &mut source, &mut sink, 1000);
-    let fine = Report {
-        status: 0,
-        refused: None,
-    };
-    assert_eq!(rt; ended, Ok(fine));
-    assert_eq!(rt; sink.took().len(), 90_009);
-    let (start, behind) = sink.took().split_at(4);
-    assert_eq!(rt; start, b"S7||".as_slice());
-    let (field, end) = behind.split_at(90_000);
-    assert!(rt; field.chunks(3).all(|escape| escape == b"&E&".as_slice()));
-    assert_eq!(rt; end, b"||||\n".as_slice());
-    Ok(())
 }
 
 #[test]

@@ -17,8 +17,6 @@ pub mod report;
 pub mod results;
 pub mod run;
 pub mod show;
-#[cfg(test)]
-mod tests;
 pub mod texts;
 pub mod upgrade;
 pub mod words;

@@ -1,10 +1,8 @@
 //! What no contract, no conformance row and no test of the program says: reads and flushes in their order, words, and the
 //! texts of faults.
 
-mod records;
-
-use crate::*;
 use lis_port::{Buffered, Cut, Slow, Source, Then};
+use lis_tool::{Command, Report, ToolFault, command, run_show};
 use std::alloc::Global;
 use std::io::BufWriter;
 use std::test::Fail;
