@@ -3,8 +3,10 @@
 It is written from docs/FORMATS.md, LINK.md and RECORDS.md, by the definitions and not by any program: a stream's
 signals are looked for by places, a message is read whole. Speed is no aim, but each function is linear in its input.
 
-    conformance/run 'python3 conformance/model.py answer' frames headers records scanner receiver messages
+    conformance/run 'python3 conformance/model.py answer' headers records scanner receiver
     conformance/run 'python3 conformance/model.py' commands
+
+Calls that it does not know it answers by 'no call'.
 """
 import os
 import re
