@@ -6,10 +6,9 @@ ghost use Rattle.std.specs.Process.{exit_status};
 
 use lis_port::{Buffered, ReadAhead};
 use lis_tool::{Report, ToolFault, command, run_command};
-use std::env;
 use std::io::{self, BufReader, BufWriter};
-use std::mem;
 use std::process::ExitCode;
+use std::{env, mem};
 
 /// The room of the buffers on standard input and output.
 const ROOM: usize = 32_768;
