@@ -7,7 +7,7 @@ use crate::port::{Failed, Sink};
 use std::io::{BufWriter, Write};
 
 /// A sink over a buffered writer, which it can flush. An error of the writer and a write that takes
-/// nothing are `Failed` at once, but for an interrupted write, which the buffer makes again.
+/// nothing are `Failed` at once; an interrupted write the buffer makes again, but over a `Once`.
 #[derive(Drop)]
 pub struct Buffered<W: Write + Drop> {
     writer: BufWriter<W>,

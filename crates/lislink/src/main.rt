@@ -4,7 +4,7 @@
 ghost use Rattle.std.specs.Prelude.{◌≡◌, IfOk, OnErr};
 ghost use Rattle.std.specs.Process.{exit_status};
 
-use lis_port::{Buffered, ReadAhead};
+use lis_port::{Buffered, Once, ReadAhead};
 use lis_tool::{Report, ToolFault, command, run_command};
 use std::io::{self, BufReader, BufWriter};
 use std::process::ExitCode;
@@ -24,7 +24,7 @@ fn main(rt: HostRuntime) -> ExitCode {
     let Ok(reader) = BufReader::with_capacity(rt.alloc(), ROOM, rt.reader()) else {
         return told(&rt, Err(ToolFault::OutOfMemory));
     };
-    let Ok(writer) = BufWriter::with_capacity(rt.alloc(), ROOM, io::writer(&rt)) else {
+    let Ok(writer) = BufWriter::with_capacity(rt.alloc(), ROOM, Once::new(io::writer(&rt))) else {
         return told(&rt, Err(ToolFault::OutOfMemory));
     };
     let mut source = ReadAhead::new(reader);
