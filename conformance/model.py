@@ -1,19 +1,25 @@
-"""A plain model of the link, of records and of the commands, for tests to compare programs with.
+"""A plain model of the link, of captures and of the commands, for tests to compare programs with; that of records is in
+record_model.py.
 
-It is written from docs/FORMATS.md, LINK.md and RECORDS.md, by the definitions and not by any program: a stream's
+They are written from docs/FORMATS.md, LINK.md and RECORDS.md, by the definitions and not by any program: a stream's
 signals are looked for by places, a message is read whole. Speed is no aim, but each function is linear in its input.
 
-    conformance/run 'python3 conformance/model.py answer' frames headers records scanner receiver messages
+    conformance/run 'python3 conformance/model.py answer' headers records scanner receiver sender texts
     conformance/run 'python3 conformance/model.py' commands
+
+Calls that it does not know it answers by 'no call'.
 """
 import os
 import re
 import sys
 from collections import namedtuple
 
+from record_model import (Refused, Run, check, delimiter_fault, end_fault, fed_word, read_header, read_record, read_stream,
+                          record_word, results)
+
 STX, ETX, EOT, ENQ, ACK, LF, CR, NAK, ETB = 2, 3, 4, 5, 6, 10, 13, 21, 23
 USUAL, LONG = 240, 63993
-LONGEST_TEXT, LONGEST_RECORD, LONGEST_LINE, MOST_TEXTS = 1048576, 65536, 4096, 65536
+LONGEST_TEXT, LONGEST_LINE = 1048576, 4096
 FORBIDDEN = frozenset([*range(1, 7), LF, *range(0x10, 0x18)])
 FORBIDDEN_BYTE = re.compile(rb"[\x01-\x06\x0a\x10-\x17]")
 
@@ -66,6 +72,79 @@ def signals(stream, limit, heard=0):
 def from_last_mark(stream):
     """The part of a stream that signals of what comes behind it may depend on."""
     return stream[max(stream.rfind(mark) for mark in (b"\x02", b"\x04", b"\x05", b"\x0a")):] if stream else stream
+
+
+def frames(texts, limit, number=1):
+    """The frames of texts in turn, numbered through: full ones, and a last one for each text."""
+    made = []
+    for text in texts:
+        pieces = [text[place:place + limit] for place in range(0, len(text), limit)] or [b""]
+        for place, piece in enumerate(pieces, 1):
+            made.append(Frame((number + len(made)) % 8, place == len(pieces), piece))
+    return made
+
+
+# The sender
+
+MOST_TRIES = 6
+
+
+class Sender:
+    """The analyzer's sender, by the table of docs/LINK.md. Each event answers what is emitted."""
+
+    def __init__(self, limit):
+        self.limit, self.phase, self.acknowledged, self.outcome = limit, "Neutral", 0, "none"
+        self.frames, self.tries = [], 0
+
+    def state(self):
+        return f"{self.phase} acknowledged={self.acknowledged} outcome={self.outcome}"
+
+    def start_fault(self, texts):
+        """Why a start is refused, or None."""
+        if self.phase != "Neutral":
+            return "InSession"
+        if not texts:
+            return "NoText"
+        faults = ((place, text_fault(text, LONGEST_TEXT)) for place, text in enumerate(texts))
+        return next((f"BadText.{place}.{fault}" for place, fault in faults if fault), None)
+
+    def start(self, texts):
+        self.frames, self.acknowledged, self.outcome = frames(texts, self.limit), 0, "none"
+        return self.goes_to("AwaitLine", "Enq")
+
+    def goes_to(self, phase, emitted):
+        self.phase = phase
+        return emitted
+
+    def over(self, outcome):
+        self.outcome = outcome
+        return self.goes_to("Neutral", "Eot")
+
+    def send(self, tries):
+        self.tries = tries
+        return self.goes_to("AwaitReply", "frame:" + frame_word(self.frames[self.acknowledged]))
+
+    def reply(self, byte):
+        if self.phase == "Neutral":
+            return "Nak" if byte == ENQ else "Nothing"
+        if self.phase == "AwaitLine":
+            other = "Contention" if byte == ENQ else "Busy"
+            return self.send(1) if byte == ACK else self.goes_to(other, "Nothing")
+        if self.phase != "AwaitReply":
+            return "Nothing"
+        if byte in (ACK, EOT):
+            self.acknowledged += 1
+            return self.send(1) if self.acknowledged < len(self.frames) else self.over("Done")
+        return self.send(self.tries + 1) if self.tries < MOST_TRIES else self.over("SixTries")
+
+    def timer(self):
+        if self.phase == "Neutral":
+            return "Nothing"
+        return self.goes_to("AwaitLine", "Enq") if self.phase in ("Busy", "Contention") else self.over("TimedOut")
+
+    def restart(self):
+        if self.phase != "Neutral":
+            self.over("Restarted")
 
 
 # The receiver
@@ -193,9 +272,8 @@ def capture(data, ended):
     return lines, version, None
 
 
-# Runs of commands: what goes out, the status, and the line on standard error
+# Runs of commands
 
-Run = namedtuple("Run", "output status error")
 STOPPED = 3
 
 
@@ -283,295 +361,7 @@ def upgrade(data, limit, ended=True):
     return Run(whole, 0, "") if refused is None else stopped_at(refused)._replace(output=whole)
 
 
-# Records
-
-Record = namedtuple("Record", "letter fields")
-Refused = namedtuple("Refused", "why")
-PUNCTUATION = frozenset([*range(33, 48), *range(58, 65), *range(91, 97), *range(123, 127)])
-NO_TEXT_BYTE = re.compile(rb"[^\x07\x09\x0b\x0c\x20-\x7e\x80-\xfe]")
-LETTERS = b"HPORCQMSL"
-
-
-def delimiter_fault(four):
-    """The first fault of four delimiters, or None."""
-    for place, byte in enumerate(four):
-        if byte not in PUNCTUATION:
-            return f"NotPunctuation.{place}"
-    for place, byte in enumerate(four):
-        if byte in four[:place]:
-            return f"Repeated.{place}"
-    return None
-
-
-def read_symbols(text, delimiters):
-    """The symbols of a component, in the spelling of the rows: from its front, an escape ends at the next escape byte."""
-    field, repeat, component, escape = delimiters
-    letters = {b"H": "+", b"N": "!", b"F": f"{field:02x}", b"S": f"{component:02x}", b"R": f"{repeat:02x}",
-               b"E": f"{escape:02x}"}
-    symbols, place = [], 0
-    while place < len(text):
-        end = text.find(escape, place + 1) if text[place] == escape else -1
-        name = text[place + 1:end] if end >= 0 else b""
-        if name in letters:
-            symbols.append(letters[name])
-        elif re.fullmatch(rb"X([0-9A-Fa-f]{2})+", name):
-            symbols += ["~" + name[k:k + 2].decode().lower() for k in range(1, len(name), 2)]
-        else:
-            symbols.append(f"{text[place]:02x}")
-            end = place
-        place = end + 1
-    return symbols
-
-
-def read_fields(text, delimiters):
-    """The fields of what stands behind a record's letter, or behind a header's delimiters."""
-    field, repeat, component, _ = (bytes([byte]) for byte in delimiters)
-    return [[[read_symbols(part, delimiters) for part in again.split(component)] for again in one.split(repeat)]
-            for one in text.split(field)[1:]]
-
-
-def byte_fault(text):
-    """A byte that no record holds, and then the length."""
-    found = NO_TEXT_BYTE.search(text)
-    if found:
-        return Refused(f"Byte.{found.start()}")
-    return Refused("TooLong") if len(text) > LONGEST_RECORD else None
-
-
-def read_header(text):
-    """The delimiters and the record of a header, or why it is none."""
-    if not text:
-        return Refused("Empty")
-    if text[:1] not in (b"H", b"h"):
-        return Refused(f"UnknownKind.{text[0]:02x}")
-    if len(text) < 5:
-        return Refused("Delimiters.Short")
-    four = text[1:5]
-    fault = delimiter_fault(four)
-    if fault:
-        return Refused(f"Delimiters.{fault}")
-    if len(text) > 5 and text[5] != four[0]:
-        return Refused(f"Delimiters.Trailing.{text[5]:02x}")
-    return byte_fault(text) or (four, Record("H", read_fields(text[5:], four)))
-
-
-def read_record(text, delimiters):
-    """The record of another kind, or why the text is none."""
-    if not text:
-        return Refused("Empty")
-    if text[0] not in LETTERS[1:] + LETTERS[1:].lower():
-        return Refused(f"UnknownKind.{text[0]:02x}")
-    if len(text) > 1 and text[1] != delimiters[0]:
-        return Refused(f"UnknownKind.{text[1]:02x}")
-    return byte_fault(text) or Record(chr(text[0]).upper(), read_fields(text[1:], delimiters))
-
-
-def spell_symbol(symbol, delimiters):
-    """A symbol as it is written."""
-    field, repeat, component, escape = delimiters
-    mark = bytes([escape])
-    if symbol in "+!":
-        return mark + (b"H" if symbol == "+" else b"N") + mark
-    if symbol[0] == "~":
-        return mark + b"X" + symbol[1:].encode() + mark
-    letters = {field: b"F", repeat: b"R", component: b"S", escape: b"E"}
-    byte = int(symbol, 16)
-    return mark + letters[byte] + mark if byte in letters else bytes([byte])
-
-
-def spell_field(field, delimiters):
-    """A field's spelling."""
-    _, repeat, component, _ = (bytes([byte]) for byte in delimiters)
-    return repeat.join(component.join(b"".join(spell_symbol(symbol, delimiters) for symbol in part) for part in again)
-                       for again in field)
-
-
-def spell(record, delimiters):
-    """A record's spelling, without its CR."""
-    head = record.letter.encode() + (bytes(delimiters) if record.letter == "H" else b"")
-    return head + b"".join(bytes(delimiters[:1]) + spell_field(field, delimiters) for field in record.fields)
-
-
-def record_word(record):
-    """A record as a word of the rows."""
-    fields = (";".join(",".join("".join(part) for part in again) for again in field) for field in record.fields)
-    return record.letter + "".join("/" + field for field in fields)
-
-
-# Messages
-
-Message = namedtuple("Message", "delimiters records")
-Stream = namedtuple("Stream", "messages open place fault held")
-
-
-def message_fault(text, opened, delimiters, level):
-    """What a record's text is in a message that has begun, or hasn't: a record, its delimiters, or why it is refused."""
-    if not text:
-        return Refused("BadRecord.Empty")
-    if text[0] not in LETTERS + LETTERS.lower():
-        return Refused(f"BadRecord.UnknownKind.{text[0]:02x}")
-    is_header = text[:1] in (b"H", b"h")
-    if not opened and not is_header:
-        return Refused("NotHeader")
-    if opened and is_header:
-        return Refused("SecondHeader")
-    read = read_header(text) if is_header else read_record(text, delimiters)
-    if isinstance(read, Refused):
-        return Refused("BadRecord." + read.why)
-    delimiters, record = read if is_header else (delimiters, read)
-    needs = {"O": "PO", "R": "O"}.get(record.letter)
-    if needs and level not in tuple(needs):
-        return Refused(f"NoParent.{record.letter}")
-    return delimiters, record
-
-
-def read_stream(data):
-    """The messages of a stream of records, the records of one that isn't closed, the place of the next record, the fault of
-    the first refused one as it is told before the end, and the bytes that are held."""
-    messages, records, delimiters, level = [], [], None, None
-    *ended, rest = data.split(b"\r")
-    if len(rest) > LONGEST_RECORD:
-        ended.append(rest)
-    for text in ended:
-        place = len(records) + 1
-        read = Refused("RecordTooLong") if len(text) > LONGEST_RECORD else message_fault(
-            text, bool(records), delimiters, level)
-        if isinstance(read, Refused):
-            return Stream(messages, records, place, f"{place}.{read.why}", 0)
-        delimiters, record = read
-        records.append(record)
-        # What an order or a result may stand under: the last patient or query, or an order behind it.
-        level = record.letter if record.letter in "PQO" else level if record.letter != "H" else None
-        if record.letter == "L":
-            messages.append(Message(delimiters, records))
-            records, level = [], None
-    return Stream(messages, records, len(records) + 1, None, len(rest))
-
-
-def end_fault(stream):
-    """The fault at the end of a stream."""
-    if stream.fault is None and (stream.open or stream.held):
-        return f"{stream.place}.Unfinished"
-    return stream.fault
-
-
-def parents(records):
-    """For each record its place, from 1, and that of the record that it belongs to, or of the one that a note is on."""
-    patient = order = last = 0
-    for place, record in enumerate(records, 1):
-        letter = record.letter
-        yield place, record, {"O": patient, "R": order}.get(letter, last if letter in "CMS" else 0)
-        if letter in "PQ":
-            patient = place
-        if letter == "O":
-            order = place
-        if letter not in "CMS":
-            last = place
-
-
-def findings(message):
-    """(place, letter, expected) of each record whose second field isn't the number of its place among its siblings."""
-    counts, found = {}, []
-    for place, record, parent in parents(message.records):
-        if record.letter in "HMS":
-            continue
-        counts[parent, record.letter] = expected = counts.get((parent, record.letter), 0) + 1
-        first = record.fields[0] if record.fields else []
-        digits = first[0][0] if len(first) == 1 and len(first[0]) == 1 else []
-        is_number = 1 <= len(digits) <= 9 and all(re.fullmatch("3[0-9]", symbol) for symbol in digits)
-        if not is_number or int("".join(symbol[1] for symbol in digits)) != expected:
-            found.append((place, record.letter, expected))
-    return found
-
-
-def tree_word(message):
-    """A message's tree as the rows have it."""
-    depths, depth, word = {"P": 1, "Q": 1, "O": 2, "R": 3}, 0, ""
-    for record in message.records:
-        if record.letter in "CMS":
-            word += "*" + record_word(record)
-            continue
-        under = depths.get(record.letter, 1) - 1
-        while depth > under:
-            word, depth = word + "]", depth - 1
-        if record.letter in depths:
-            word, depth = word + "[", depth + 1
-        word += record_word(record)
-    return word
-
-
-def message_word(message):
-    """A message as the rows have it."""
-    found = ",".join(".".join(map(str, finding)) for finding in findings(message)) or "none"
-    written = [spell(record, message.delimiters) for record in message.records]
-    long = next((place for place, text in enumerate(written, 1) if len(text) > LONGEST_RECORD), None)
-    if long:
-        rest = f"texts=refused:{long}.TooLong written={long}.TooLong:-"
-    else:
-        each = ",".join((text + b"\r").hex() for text in written)
-        whole = "".join((text + b"\r").hex() for text in written)
-        rest = f"texts={'refused:TooMany' if len(written) > MOST_TEXTS else each} written=ok:{whole}"
-    return (f"message delimiters={bytes(message.delimiters).hex()} records={len(message.records)} "
-            f"tree={tree_word(message)} findings={found} {rest}")
-
-
-def fed_word(messages, fault):
-    """What a reader gives, as the rows have it."""
-    return " ".join([f"messages={len(messages)}", *map(message_word, messages), f"fault={fault or 'none'}"])
-
-
-# Commands over records
-
-RECORD_CODES = {"Empty": "C1", "UnknownKind": "C2", "Delimiters": "C3", "Byte": "C4", "TooLong": "C5"}
-REASON_CODES = {"NotHeader": "G2", "NoParent": "G3", "SecondHeader": "G4", "Unfinished": "G5", "RecordTooLong": "G6"}
-
-
-def refused_line(messages, fault):
-    """The line of a refused record: the message's number, the record's place, and the code."""
-    place, reason, *more = fault.split(".")
-    code = f"G1 {RECORD_CODES[more[0]]}" if reason == "BadRecord" else REASON_CODES[reason]
-    return f"refused {len(messages) + 1} {place} {code}"
-
-
-def check(data, limit, ended=True):
-    """'check': a line for each record, each finding, and a refused record."""
-    stream = read_stream(data)
-    fault = end_fault(stream) if ended else stream.fault
-    output, count = [], 0
-    for number, message in enumerate(stream.messages, 1):
-        found = findings(message)
-        count += len(found)
-        output.append(f"message {number}")
-        output += [f"{place} {record.letter} {len(record.fields)}" for place, record in enumerate(message.records, 1)]
-        output += ["finding {} {} {}".format(*finding) for finding in found]
-    if fault:
-        output.append(refused_line(stream.messages, fault))
-    if ended or fault:
-        output.append(f"messages {len(stream.messages)} findings {count}")
-    return Run("".join(line + "\n" for line in output).encode(), int(count > 0 or fault is not None), "")
-
-
-def results(data, limit, ended=True):
-    """'results': a line for each result."""
-    stream = read_stream(data)
-    fault = end_fault(stream) if ended else stream.fault
-    whole = b"".join(result_lines(message) for message in stream.messages)
-    error = "lislink: " + refused_line(stream.messages, fault) if fault else ""
-    return Run(whole, int(fault is not None), error)
-
-
-def result_lines(message):
-    """The lines of a message's results: field 3 of the order, and fields of the result."""
-    lines, order = b"", None
-    for record in message.records:
-        order = record if record.letter == "O" else order
-        if record.letter == "R":
-            picked = [(order, 3)] + [(record, number) for number in (3, 4, 5, 6, 7, 9)]
-            spelled = [spell_field(one.fields[number - 2], message.delimiters) if number - 2 < len(one.fields) else b""
-                       for one, number in picked]
-            lines += bytes(message.delimiters[:1]).join(spelled) + b"\n"
-    return lines
-
+# Commands
 
 COMMANDS = {"show": (show, USUAL), "show --long": (show, LONG), "replay": (replay, USUAL), "replay --long": (replay, LONG),
             "texts": (texts, USUAL), "texts --long": (texts, LONG), "upgrade": (upgrade, USUAL), "check": (check, USUAL),
@@ -613,7 +403,7 @@ class Answers:
     """Answers the calls of rows that the model knows."""
 
     def __init__(self):
-        self.limit, self.receiver, self.stream = USUAL, Receiver(USUAL), b""
+        self.limit, self.sender, self.receiver, self.stream = USUAL, Sender(USUAL), Receiver(USUAL), b""
 
     def answer(self, line):
         name, *words = line.split(" ")
@@ -634,6 +424,31 @@ class Answers:
     def text_check(self, text):
         fault = text_fault(bytes_of(text), LONGEST_TEXT)
         return f"fault {fault}" if fault else "ok"
+
+    def text_split(self, number, text):
+        fault = text_fault(bytes_of(text), LONGEST_TEXT)
+        told = frames([bytes_of(text)], self.limit, int(number))
+        return f"fault {fault}" if fault else " ".join(map(frame_word, told))
+
+    def sender_new(self):
+        self.sender = Sender(self.limit)
+        return self.sender.state()
+
+    def sender_start(self, texts):
+        split = [] if texts == "none" else [bytes_of(text) for text in texts.split(",")]
+        fault = self.sender.start_fault(split)
+        emitted = f"refused:{fault}:{texts}" if fault else self.sender.start(split)
+        return f"{emitted} {self.sender.state()}"
+
+    def sender_reply(self, byte):
+        return f"{self.sender.reply(int(byte, 16))} {self.sender.state()}"
+
+    def sender_timer(self):
+        return f"{self.sender.timer()} {self.sender.state()}"
+
+    def sender_restart(self):
+        self.sender.restart()
+        return self.sender.state()
 
     def receiver_new(self):
         self.receiver = Receiver(self.limit)

@@ -76,6 +76,64 @@ def link_edges():
         yield f"digits {digits.hex()}", b"\x021\x03" + digits + b"\r\n"
 
 
+# Calls on the two ends
+
+def sender_phases():
+    """The calls that bring a new sender into each phase, and to the last try of a frame."""
+    start, sent = ["sender.new", "sender.start 41,4242"], ["sender.reply 06"]
+    yield ["sender.new"]
+    yield start
+    yield start + ["sender.reply 15"]
+    yield start + ["sender.reply 05"]
+    yield start + sent
+    yield start + sent * 2
+    yield start + sent + ["sender.reply 15"] * 5
+    yield start + sent * 3
+    yield start + sent + ["sender.timer"]
+    yield start + ["sender.restart"]
+
+
+def sender_cases():
+    """Each byte, the timer, a restart and a start for a sender in each phase."""
+    for phase in sender_phases():
+        for byte in range(256):
+            yield phase + [f"sender.reply {byte:02x}", "sender.timer", f"sender.reply {byte:02x}"]
+        for call in ("sender.timer", "sender.restart", "sender.start 43", "sender.start none", "sender.start 41,410a"):
+            yield phase + [call, "sender.timer", "sender.timer"]
+
+
+def receiver_cases():
+    """Each byte for a receiver that is neutral, open, inside a frame, behind one, busy or contending."""
+    opened = ["receiver.new", "receiver.bytes 05"]
+    held = opened + ["receiver.bytes 0231411738390d0a"]
+    for calls in (["receiver.new"], opened, opened + ["receiver.bytes 023141"], held, held + ["receiver.bytes 0232"],
+                  ["receiver.new", "receiver.ready busy"], ["receiver.new", "receiver.ready contending"],
+                  held + ["receiver.room off"]):
+        for byte in range(256):
+            yield calls + [f"receiver.bytes {byte:02x}", "receiver.bytes 0232420337370d0a0a0231410337350d0a", "receiver.timer"]
+
+
+def heard_cases(rng, count):
+    """Sessions and noise in pieces, for receivers and scanners."""
+    for name, data in link_inputs(rng, count):
+        calls = ["receiver.new", rng.choice(("receiver.ready busy", "receiver.ready contending", "receiver.bytes 05"))]
+        place = 0
+        while place < len(data):
+            length = rng.randrange(1, len(data) + 1)
+            calls.append(f"receiver.bytes {data[place:place + length].hex()}")
+            calls += rng.sample(("receiver.timer", "receiver.restart", "receiver.ready ready", "receiver.room off",
+                                 "receiver.room on", "receiver.bytes 05"), 1) * (rng.random() < 0.2)
+            place += length
+        yield calls
+        yield [f"frame.scan {rng.randrange(len(data) + 1)} {data.hex() or '-'}"]
+
+
+def longest_text():
+    """Full frames up to the longest text, one more, the same again, and the end of the line."""
+    full = [f"receiver.bytes {frame(number, b'A' * 240, ETB).hex()}" for number in range(1, 4371)]
+    yield ["receiver.new", "receiver.bytes 05"] + full + [full[-1], "receiver.bytes 04", "receiver.bytes 05"]
+
+
 # Captures
 
 def hexed(rng, data):
@@ -234,6 +292,13 @@ def streams(rng, count):
         yield b"H|\\^&\r" + pick(rng, b"HPORCQMSL|1\r", 60)
 
 
+def fed_edges():
+    """A record of the longest length in pieces, and one that is told too long at its last letter."""
+    for letters in (65534, 65535):
+        yield ["message.new", "message.feed 487c5c5e260d", f"message.feed 507c{'41' * 65533}",
+               f"message.feed {'41' * (letters - 65533)}", "message.feed 0d", "message.feed 4c0d", "message.finish"]
+
+
 def stream_edges():
     """Long and deep streams: records of the longest length, many notes, many patients, many messages."""
     head = b"H|\\^&\r"
@@ -242,6 +307,9 @@ def stream_edges():
             yield f"a record of {length} and its CR", head + text + b"\r"
             yield f"a record of {length}", head + text
             yield f"a whole message with a record of {length}", head + b"P|1\r" + b"C" + text[1:] + b"\rL|1\r"
+    whole = head + b"P|1\rO|1|S7\rR|1|^^^GLU|5.4|mmol/L|3.9 to 6.1|N||F\rC|1|I|fasting\rL|1|N\r"
+    for length in range(len(whole) + 1):
+        yield f"{length} bytes of a message", whole[:length]
     yield "65,537 bytes at the front", b"A" * 65537
     yield "empty records", head + b"\r" * 5000
     yield "notes", head + b"".join(b"C|%d\r" % k for k in range(1, 3001)) + b"L|1\r"

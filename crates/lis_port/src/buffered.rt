@@ -6,8 +6,8 @@ ghost use Rattle.std.specs.Io.Buffered.{writer_contents, writer_inner};
 use crate::port::{Failed, Sink};
 use std::io::{BufWriter, Write};
 
-/// A sink over a buffered writer, which it can flush. An error of the writer, of whatever kind, and
-/// a write that takes nothing are `Failed` at once.
+/// A sink over a buffered writer, which it can flush. An error of the writer and a write that takes
+/// nothing are `Failed` at once; an interrupted write the buffer makes again, but over a `Once`.
 #[derive(Drop)]
 pub struct Buffered<W: Write + Drop> {
     writer: BufWriter<W>,

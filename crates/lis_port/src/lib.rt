@@ -4,6 +4,7 @@
 
 mod buffered;
 mod cut;
+mod once;
 mod port;
 mod read_ahead;
 mod reading;
@@ -12,6 +13,7 @@ mod writing;
 
 pub use buffered::Buffered;
 pub use cut::{Cut, Then};
+pub use once::Once;
 pub use port::{Failed, Sink, Source, read_sent};
 pub use read_ahead::ReadAhead;
 pub use reading::Reading;

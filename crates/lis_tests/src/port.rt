@@ -1,7 +1,7 @@
 use lis_port::{
-    Buffered, Cut, Failed, ReadAhead, Reading, Sink, Slow, Source, Then, Writing, read_sent,
+    Buffered, Cut, Failed, Once, ReadAhead, Reading, Sink, Slow, Source, Then, Writing, read_sent,
 };
-use std::io::{BufReader, BufWriter};
+use std::io::{self, BufReader, BufWriter, ErrorKind, Write};
 use std::test::Fail;
 
 const HEADER_FRAME: [u8; 13] = [
@@ -93,6 +93,34 @@ fn a_flush_fails_where_the_writer_does(rt: HostRuntime) -> Result<(), Fail> {
     assert_eq!(rt; sink.write(b"abc"), Ok(3));
     assert_eq!(rt; sink.flush(), Err(Failed));
     assert!(rt; sink.failed());
+    Ok(())
+}
+
+/// A writer that is interrupted at each call.
+#[derive(Drop)]
+struct Interrupted;
+
+impl Write for Interrupted {
+    fn write(&mut self, _bytes: &[u8]) -> io::Result<usize> {
+        Err(ErrorKind::Interrupted.into())
+    }
+
+    fn flush(&mut self) -> io::Result<()> {
+        Err(ErrorKind::Interrupted.into())
+    }
+}
+
+#[test]
+fn an_interrupted_write_is_an_error_as_any_other(rt: HostRuntime) -> Result<(), Fail> {
+    let mut writer = Once::new(Vec::new(rt.alloc()));
+    assert_eq!(rt; writer.write(b"abc")?, 3);
+    writer.flush()?;
+
+    let mut writer = Once::new(Interrupted);
+    let wrote = writer.write(b"abc").map_err(|error| error.kind());
+    assert_eq!(rt; wrote, Err(ErrorKind::Other));
+    let flushed = writer.flush().map_err(|error| error.kind());
+    assert_eq!(rt; flushed, Err(ErrorKind::Other));
     Ok(())
 }
 

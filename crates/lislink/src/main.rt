@@ -4,12 +4,11 @@
 ghost use Rattle.std.specs.Prelude.{◌≡◌, IfOk, OnErr};
 ghost use Rattle.std.specs.Process.{exit_status};
 
-use lis_port::{Buffered, ReadAhead};
+use lis_port::{Buffered, Once, ReadAhead};
 use lis_tool::{Command, Report, ToolFault, command, run_command};
-use std::env;
 use std::io::{self, BufReader, BufWriter};
-use std::mem;
 use std::process::ExitCode;
+use std::{env, mem};
 
 /// The room of the buffer on standard input.
 const READ_ROOM: usize = 32_768;
@@ -28,7 +27,8 @@ fn main(rt: HostRuntime) -> ExitCode {
     let Ok(reader) = BufReader::with_capacity(rt.alloc(), READ_ROOM, rt.reader()) else {
         return told(&rt, Err(ToolFault::OutOfMemory));
     };
-    let Ok(writer) = BufWriter::with_capacity(rt.alloc(), WRITE_ROOM, io::writer(&rt)) else {
+    let Ok(writer) = BufWriter::with_capacity(rt.alloc(), WRITE_ROOM, Once::new(io::writer(&rt)))
+    else {
         return told(&rt, Err(ToolFault::OutOfMemory));
     };
     let mut source = ReadAhead::new(reader);
