@@ -53,7 +53,10 @@ fn reads_are_counted(rt: HostRuntime) -> Result<(), Fail> {
     let mut sink = Slow::new(100, 100);
     assert_eq!(rt;
         run_show(&mut source, &mut sink, 2),
-        Ok(Report { status: 0, refused: None })
+        Ok(Report {
+            status: 0,
+            refused: None
+        })
     );
     let mut source = Cut::new(b"", 1, Then::Again(5));
     let mut sink = Slow::new(100, 100);
