@@ -146,6 +146,7 @@ impl Told {
 
     /// Whether a text is a line, by the version that the lines before it tell. The line that it says is
     /// told from then on; where it says none, the line before it is.
+    #[inline(always)]
     pub(crate) fn read(&mut self, version: CaptureVersion, text: &[u8]) -> bool
         ensures said { result ≡ is_some (line_of version text.now) }
         ensures line { self.new ≡ unwrap_or (line_of version text.now) self.old }
@@ -157,6 +158,7 @@ impl Told {
     }
 
     /// The same of a text that isn't too long, without the CR at its end.
+    #[inline(always)]
     fn read_short(&mut self, version: CaptureVersion, text: &[u8]) -> bool
         requires { length text.now ≤ LONGEST_LINE }
         ensures said { result ≡ is_some (said version text.now) }
@@ -180,6 +182,7 @@ impl Told {
     }
 
     /// The same of a line of both versions.
+    #[inline(always)]
     fn read_plain(&mut self, text: &[u8]) -> bool
         requires { length text.now ≤ LONGEST_LINE }
         ensures said { result ≡ is_some (plain_line text.now) }
@@ -215,6 +218,7 @@ impl Told {
     }
 
     /// The same of the digits of a line of this kind.
+    #[inline(always)]
     fn read_digits(&mut self, kind: LineKind, digits: &[u8]) -> bool
         requires { length digits.now ≤ 4094 }
         ensures said { result ≡ is_some (bytes_of digits.now) }
@@ -238,6 +242,7 @@ impl Told {
     }
 
     /// Tells a line that has no bytes.
+    #[inline(always)]
     fn tell(&mut self, kind: LineKind) -> bool
         ensures said { result ≡ true }
         ensures line { self.new ≡ line_with kind [] }
@@ -249,6 +254,7 @@ impl Told {
 }
 
 /// A text without the CR at its end.
+#[inline(always)]
 fn without_return(text: &[u8]) -> &[u8]
     ensures { result.now ≡ without_return text.now }
 {
@@ -259,6 +265,7 @@ fn without_return(text: &[u8]) -> &[u8]
 }
 
 /// The version behind a line.
+#[inline(always)]
 pub(crate) fn version_after(version: CaptureVersion, line: &Line) -> CaptureVersion
     ensures { result ≡ version_after version line.now }
 {

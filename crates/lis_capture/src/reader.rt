@@ -142,6 +142,7 @@ impl LineReader {
     }
 
     /// Takes the last bytes of a line.
+    #[inline(always)]
     fn end_line(&mut self, text: &[u8]) -> Found
         ensures known { self.new.known
             ≡ known_with self.old.known (line_of self.old.known.version (self.old.held ++ text.now)) }
@@ -173,6 +174,7 @@ impl LineReader {
 
 impl Progress {
     /// Takes a line.
+    #[inline(always)]
     fn take(&mut self, text: &[u8]) -> Found
         ensures after { self.new ≡ known_with self.old (line_of self.old.version text.now) }
         ensures found { result ≡ found_of (line_of self.old.version text.now) }
@@ -186,6 +188,7 @@ impl Progress {
     }
 
     /// Refuses a line.
+    #[inline(always)]
     fn refuse(&mut self) -> Found
         ensures after { self.new ≡ known_with self.old None }
         ensures found { result ≡ found_of None }
