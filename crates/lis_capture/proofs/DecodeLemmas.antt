@@ -83,10 +83,10 @@ flag v w false true false first second more = grind (arith, nat_tests, first, se
 flag v w false false true first second more = grind (arith, nat_tests, first, second, more)
 flag v w false false false first second more = grind (arith, nat_tests, first, second, more)
 
-bit_clear : (bits : ℕ) → eqb (0 + 2 * bits) 0 ≡ eqb bits 0
+pub bit_clear : (bits : ℕ) → eqb (0 + 2 * bits) 0 ≡ eqb bits 0
 bit_clear bits = grind (arith, nat_tests)
 
-bit_set : (bits : ℕ) → eqb (1 + 2 * bits) 0 ≡ false
+pub bit_set : (bits : ℕ) → eqb (1 + 2 * bits) 0 ≡ false
 bit_set bits = grind (arith, nat_tests)
 
 is_told : (v : ℕ) (a : Bool) → nat_lt v 16 ≡ a → is_some (told_digit v) ≡ a
@@ -168,7 +168,7 @@ length-paired n (digit ∷ []) long = absurd (omega arith)
 length-paired zero (high ∷ low ∷ digits) long = absurd (omega arith)
 length-paired (suc n) (high ∷ low ∷ digits) long = ap suc (length-paired n digits (omega arith))
 
-zip2_short : {X Y Z : Type 0} (f : X → Y → Z) (xs : List X) (ys : List Y) → length (zip2 f xs ys) ≤ length xs
+pub zip2_short : {X Y Z : Type 0} (f : X → Y → Z) (xs : List X) (ys : List Y) → length (zip2 f xs ys) ≤ length xs
 zip2_short f [] ys = omega arith
 zip2_short f (x ∷ xs) [] = omega arith
 zip2_short f (x ∷ xs) (y ∷ ys) = omega (arith, zip2_short f xs ys)

@@ -4,7 +4,8 @@ ghost use Rattle.std.specs.Prelude.{◌≡◌, ◌*◌, ◌<◌, ◌≤◌, ◌�
 ghost use Rattle.std.specs.List.{list_all};
 ghost use Rattle.std.specs.Simd.Lanes.{Each1};
 ghost use Rattle.hex.specs.Hex.{encode_lower, hex_digit_value, is_hex_digit, lower_digits};
-ghost use Rattle.lis_capture.specs.Digits.{bytes_of, told_digit};
+ghost use Rattle.std.specs.Option.{option_map};
+ghost use Rattle.lis_capture.specs.Digits.{bytes_of, is_none_far, lower_case, told_digit};
 
 use std::simd::prelude::*;
 
@@ -129,6 +130,59 @@ fn decode_few(digits: &[u8], bytes: &mut [u8])
     'bytes: for i in 0..bytes.len() {
         bytes[i] = byte_of(digits[2 * i], digits[2 * i + 1]);
     }
+}
+
+/// Writes digits in lower case, sixteen at a time; the last sixteen may be written over some that stand there.
+/// Answers whether the text is one or more pairs of digits; what stands in their place is nothing where it isn't.
+pub(crate) fn lower(digits: &[u8], lowered: &mut [u8]) -> bool
+    requires { length digits.now ≡ length lowered.old }
+    ensures { option_map encode_lower (bytes_of digits.now) ≡ (if result then Some lowered.new else None) }
+{
+    if digits.is_empty() || digits.len() % 2 == 1 {
+        return false;
+    }
+    if digits.len() < 16 {
+        return lower_few(digits, lowered);
+    }
+    let last = digits.len() - 16;
+    let mut far = u8x16::splat(0);
+    let mut place = 0;
+    while place < last {
+        far = far.simd_max(lower_sixteen(&digits[place..], &mut lowered[place..place + 16]));
+        place += 16;
+    }
+    far = far.simd_max(lower_sixteen(&digits[last..], &mut lowered[last..]));
+    far.simd_ge(u8x16::splat(1)).to_bitmask() == 0
+}
+
+/// The same of few digits, of which the number is even.
+fn lower_few(digits: &[u8], lowered: &mut [u8]) -> bool
+    requires room { length digits.now ≡ length lowered.old }
+    ensures all { result ≡ list_all is_hex_digit digits.now }
+    ensures lowered { lowered.new ≡ map lower_case digits.now }
+{
+    let mut all = true;
+    'digits: for i in 0..lowered.len() {
+        all &= is_digit(digits[i]);
+        lowered[i] = digits[i] | 0x20;
+    }
+    all
+}
+
+/// The same of the first sixteen digits. Answers how far each is from a digit, 0 for a digit.
+#[inline(always)]
+fn lower_sixteen(digits: &[u8], lowered: &mut [u8]) -> u8x16
+    requires many { 16 ≤ length digits.now }
+    requires room { length lowered.old ≡ 16 }
+    ensures far { map is_none_far result ≡ map is_hex_digit (take 16 digits.now) }
+    ensures lowered { lowered.new ≡ map lower_case (take 16 digits.now) }
+{
+    let sixteen = u8x16::from_slice(digits);
+    let lower = sixteen | u8x16::splat(0x20);
+    lower.copy_to_slice(lowered);
+    let from_zero = (sixteen - u8x16::splat(b'0')).saturating_sub(u8x16::splat(9));
+    let from_a = (lower - u8x16::splat(b'a')).saturating_sub(u8x16::splat(5));
+    from_zero.simd_min(from_a)
 }
 
 /// Writes pairs of digits in lower case, those of sixteen bytes at a time; the last sixteen may be written over

@@ -7,7 +7,7 @@ ghost use Rattle.lis_capture.specs.Line.{line_of};
 ghost use Rattle.lis_capture.specs.Reader.{HasRead, found_holding, found_lines, found_of, holding};
 ghost use Rattle.lis_capture.specs.Reader.{known_of, known_with};
 
-use crate::line::{CaptureVersion, LONGEST_LINE, Line, Told, version_after};
+use crate::line::{CaptureVersion, Keeping, LONGEST_LINE, Line, Told, version_after};
 use arrayvec::ArrayVec;
 use lis_text::LF;
 use memchr::memchr;
@@ -67,7 +67,22 @@ impl LineReader {
                 version: CaptureVersion::Untold,
                 refused: false,
                 number: 0,
-                told: Told::new(),
+                told: Told::new(Keeping::Bytes),
+            },
+            held: ArrayVec::new(),
+        }
+    }
+
+    /// The same, for lines that are written on: it keeps their digits, in lower case.
+    pub fn keeping_digits() -> Self
+        ensures { HasRead result [] }
+    {
+        LineReader {
+            progress: Progress {
+                version: CaptureVersion::Untold,
+                refused: false,
+                number: 0,
+                told: Told::new(Keeping::Digits),
             },
             held: ArrayVec::new(),
         }

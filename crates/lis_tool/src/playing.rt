@@ -20,7 +20,7 @@ use crate::lines::LineMachine;
 use crate::machine::{Halt, Turn};
 use crate::replay::{gather_compared, gather_counts, gather_left, gather_text_line};
 use crate::report::Report;
-use lis_capture::{Line, Page};
+use lis_capture::{Line, LineReader, MOST_BYTES, Page};
 use lis_link::{Hearing, Note, ReceiverOf, Step};
 use lis_port::Sink;
 use lis_text::LinkText;
@@ -264,24 +264,29 @@ impl<const N: usize, T: Teller> LineMachine for Playing<N, T> {
 
     ghost takes_memory = { true };
 
-    fn line<W: Sink>(
+    fn reader() -> LineReader {
+        LineReader::new()
+    }
+
+    fn line<'a, W: Sink>(
         &mut self,
         sink: &mut W,
         page: &mut Page,
         written: u64,
         number: u64,
-        line: &Line<'_>,
+        line: &Line<'a>,
+        room: &'a mut [u8; MOST_BYTES],
     ) -> Result<Turn, ToolFault> {
         match line {
             Line::Empty => Ok(Turn::On(written)),
             Line::Version => Ok(Turn::On(written)),
-            Line::FromAnalyzer(bytes) => self.hear(sink, page, written, number, bytes.as_slice()),
+            Line::FromAnalyzer(bytes) => self.hear(sink, page, written, number, bytes.read(room)),
             Line::FromComputer(bytes) => self.compare(
                 sink,
                 page,
                 written,
                 number,
-                bytes.as_slice(),
+                bytes.read(room),
             ),
             Line::Timer => {
                 let _ = self.receiver.timer();
