@@ -96,6 +96,7 @@ impl<const N: usize, T: Teller> Playing<N, T> {
     }
 
     /// The receiver hears the bytes of the line of this number.
+    #[inline(always)]
     fn hear<W: Sink>(
         &mut self,
         sink: &mut W,
@@ -197,6 +198,7 @@ impl<const N: usize, T: Teller> Playing<N, T> {
     }
 
     /// Compares the bytes of the computer with the replies, which are let go.
+    #[inline(always)]
     fn compare<W: Sink>(
         &mut self,
         sink: &mut W,
@@ -268,6 +270,7 @@ impl<const N: usize, T: Teller> LineMachine for Playing<N, T> {
         LineReader::new()
     }
 
+    #[inline(always)]
     fn line<'a, W: Sink>(
         &mut self,
         sink: &mut W,
@@ -336,6 +339,7 @@ fn count_of(message: &Option<LinkText>) -> u64
 }
 
 /// Gathers what is told of a text, if there is one.
+#[inline(always)]
 fn gather_message<W: Sink>(
     sink: &mut W,
     page: &mut Page,

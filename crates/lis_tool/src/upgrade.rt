@@ -57,6 +57,7 @@ impl LineMachine for Upgrade {
         LineReader::keeping_digits()
     }
 
+    #[inline(always)]
     fn line<'a, W: Sink>(
         &mut self,
         sink: &mut W,
