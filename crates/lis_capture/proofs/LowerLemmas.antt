@@ -333,3 +333,16 @@ last_lowered digits out chunk seen steps place last k room ends less width even 
     rw few
     (spelled digits (put_mid last k out chunk) (eqb (seen_bits 16 (greater seen steps)) 0) even (omega arith) all
     (last_written digits out chunk place last k room ends less width so_far.written is))
+
+-- ---- one pair
+
+pub pair_lowered :
+    (high low : ℕ) (out : List ℕ) (t : Bool) → length out ≡ 2 → t ≡ (is_hex_digit high && is_hex_digit low)
+    → option_map encode_lower (bytes_of (high ∷ low ∷ []))
+    ≡ (if t then Some (slice_set (slice_set out 0 (lower_case high)) 1 (lower_case low)) else None)
+pair_lowered high low [] t room is = absurd (omega arith)
+pair_lowered high low (x ∷ []) t room is = absurd (omega arith)
+pair_lowered high low (x ∷ y ∷ z ∷ out) t room is = absurd (omega arith)
+pair_lowered high low (x ∷ y ∷ []) t room is =
+    spelled (high ∷ low ∷ []) (lower_case high ∷ lower_case low ∷ []) t refl (omega arith)
+    (is ∙ ap (λ b. is_hex_digit high && b) (sym (and-true (is_hex_digit low)))) refl

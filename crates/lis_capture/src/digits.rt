@@ -49,8 +49,9 @@ fn are_digits(bytes: &[u8]) -> bool
     all
 }
 
-/// Writes the bytes of pairs of digits, sixteen at a time; the last sixteen may be written over some that stand there.
-/// Answers whether the text is one or more such pairs; what stands in the place of the bytes is nothing where it isn't.
+/// Writes the bytes of pairs of digits. Answers whether the text is one or more such pairs; what stands in the place of
+/// the bytes is nothing where it isn't.
+#[inline(always)]
 pub(crate) fn decode(digits: &[u8], bytes: &mut [u8]) -> bool
     requires { length digits.now ≡ 2 * length bytes.old }
     ensures { bytes_of digits.now ≡ (if result then Some bytes.new else None) }
@@ -59,6 +60,15 @@ pub(crate) fn decode(digits: &[u8], bytes: &mut [u8]) -> bool
     if let [high, low] = digits {
         return decode_pair(*high, *low, bytes);
     }
+    decode_many(digits, bytes)
+}
+
+/// The same, sixteen bytes at a time; the last sixteen may be written over some that stand there.
+#[inline(never)]
+fn decode_many(digits: &[u8], bytes: &mut [u8]) -> bool
+    requires { length digits.now ≡ 2 * length bytes.old }
+    ensures { bytes_of digits.now ≡ (if result then Some bytes.new else None) }
+{
     if bytes.len() < 16 {
         if !are_pairs(digits) {
             return false;
@@ -115,9 +125,8 @@ fn values_of(digits: u8x16) -> u8x16
     ensures { map told_digit result ≡ map hex_digit_value digits }
 {
     let decimals = (digits + u8x16::splat(198)).saturating_sub(u8x16::splat(6)) - u8x16::splat(240);
-    let letters = ((digits & u8x16::splat(223)) - u8x16::splat(b'A')).saturating_add(u8x16::splat(
-        10,
-    ));
+    let from_a = (digits & u8x16::splat(223)) - u8x16::splat(b'A');
+    let letters = from_a.simd_max(from_a + u8x16::splat(10));
     decimals.simd_min(letters)
 }
 
@@ -132,9 +141,33 @@ fn decode_few(digits: &[u8], bytes: &mut [u8])
     }
 }
 
-/// Writes digits in lower case, sixteen at a time; the last sixteen may be written over some that stand there.
-/// Answers whether the text is one or more pairs of digits; what stands in their place is nothing where it isn't.
+/// Writes digits in lower case. Answers whether the text is one or more pairs of digits; what stands in their place is
+/// nothing where it isn't.
+#[inline(always)]
 pub(crate) fn lower(digits: &[u8], lowered: &mut [u8]) -> bool
+    requires { length digits.now ≡ length lowered.old }
+    ensures { option_map encode_lower (bytes_of digits.now) ≡ (if result then Some lowered.new else None) }
+{
+    if let [high, low] = digits {
+        return lower_pair(*high, *low, lowered);
+    }
+    lower_many(digits, lowered)
+}
+
+/// The same of two digits.
+#[inline(always)]
+fn lower_pair(high: u8, low: u8, lowered: &mut [u8]) -> bool
+    requires { length lowered.old ≡ 2 }
+    ensures { option_map encode_lower (bytes_of (high ∷ low ∷ [])) ≡ (if result then Some lowered.new else None) }
+{
+    lowered[0] = high | 0x20;
+    lowered[1] = low | 0x20;
+    is_digit(high) & is_digit(low)
+}
+
+/// The same of any number of digits, sixteen at a time; the last sixteen may be written over some that stand there.
+#[inline(never)]
+fn lower_many(digits: &[u8], lowered: &mut [u8]) -> bool
     requires { length digits.now ≡ length lowered.old }
     ensures { option_map encode_lower (bytes_of digits.now) ≡ (if result then Some lowered.new else None) }
 {
@@ -155,7 +188,7 @@ pub(crate) fn lower(digits: &[u8], lowered: &mut [u8]) -> bool
     far.simd_ge(u8x16::splat(1)).to_bitmask() == 0
 }
 
-/// The same of few digits, of which the number is even.
+/// Writes few digits in lower case, and answers whether each is one.
 fn lower_few(digits: &[u8], lowered: &mut [u8]) -> bool
     requires room { length digits.now ≡ length lowered.old }
     ensures all { result ≡ list_all is_hex_digit digits.now }

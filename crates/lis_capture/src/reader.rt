@@ -94,6 +94,7 @@ impl LineReader {
     ///
     /// Whatever bytes it had read, newest first, the capture's lines are now those before and what was
     /// found: so no cut of the bytes into slices changes them.
+    #[inline(always)]
     pub fn read(&mut self, bytes: &[u8]) -> (usize, Found)
         ensures within { result.0 ≤ length bytes.now }
         ensures all { result.1 ≡ Found.Nothing → result.0 ≡ length bytes.now }

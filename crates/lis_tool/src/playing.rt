@@ -132,6 +132,7 @@ impl<const N: usize, T: Teller> Playing<N, T> {
 
     /// Takes a step of the receiver: its reply is kept, what is told of its text goes out, and the text's room is used
     /// again.
+    #[inline(always)]
     fn take<W: Sink>(
         &mut self,
         sink: &mut W,

@@ -1,6 +1,6 @@
 use Rattle.std.proofs.Common.{arith, length}
 use Rattle.lis_capture.proofs.DecodeLemmas.{last_read, more_read, none_behind}
-use Rattle.lis_capture.proofs.digits.decode.Goals as goal
+use Rattle.lis_capture.proofs.digits.decode_many.Goals as goal
 
 pub returns-then-not-decode_sixteen : goal.returns-then-not-decode_sixteen
 returns-then-not-decode_sixteen c =

@@ -1,6 +1,6 @@
 use Rattle.std.proofs.Common.{◌-◌}
 use Rattle.lis_capture.proofs.DecodeLemmas.{IsRead}
-use Rattle.lis_capture.proofs.digits.decode.Given as goal
+use Rattle.lis_capture.proofs.digits.decode_many.Given as goal
 
 -- so many bytes are read
 abbrev pub invariant-loop-place : goal.invariant-loop-place

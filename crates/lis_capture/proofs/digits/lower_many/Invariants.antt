@@ -1,6 +1,6 @@
 use Rattle.std.proofs.Common.{◌-◌}
 use Rattle.lis_capture.proofs.LowerLemmas.{IsLowered}
-use Rattle.lis_capture.proofs.digits.lower.Given as goal
+use Rattle.lis_capture.proofs.digits.lower_many.Given as goal
 
 -- so many digits are written
 abbrev pub invariant-loop-place : goal.invariant-loop-place
