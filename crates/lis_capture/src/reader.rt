@@ -62,19 +62,18 @@ impl LineReader {
     pub fn new() -> Self
         ensures { HasRead result [] }
     {
-        LineReader {
-            progress: Progress {
-                version: CaptureVersion::Untold,
-                refused: false,
-                number: 0,
-                told: Told::new(Keeping::Bytes),
-            },
-            held: ArrayVec::new(),
-        }
+        Self::keeping(Keeping::Bytes)
     }
 
-    /// The same, for lines that are written on: it keeps their digits, in lower case.
+    /// The same, for lines that are written on: it keeps of a line's bytes their digits in lower case.
     pub fn keeping_digits() -> Self
+        ensures { HasRead result [] }
+    {
+        Self::keeping(Keeping::Digits)
+    }
+
+    /// A reader that has read no byte and keeps bytes so.
+    fn keeping(keeping: Keeping) -> Self
         ensures { HasRead result [] }
     {
         LineReader {
@@ -82,7 +81,7 @@ impl LineReader {
                 version: CaptureVersion::Untold,
                 refused: false,
                 number: 0,
-                told: Told::new(Keeping::Digits),
+                told: Told::new(keeping),
             },
             held: ArrayVec::new(),
         }
