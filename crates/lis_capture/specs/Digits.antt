@@ -12,6 +12,10 @@ bytes_of (digit ∷ digits) = result_ok (decode_of (digit ∷ digits))
 abbrev pub told_digit : ℕ → Option ℕ
 told_digit value = if nat_lt value 16 then Some value else None
 
+-- whether it tells a value
+abbrev pub is_value : ℕ → Bool
+is_value value = nat_lt value 16
+
 -- a digit in lower case: those of numbers have that bit too
 abbrev pub lower_case : ℕ → ℕ
 lower_case digit = bit_or digit 32

@@ -5,7 +5,7 @@ ghost use Rattle.std.specs.List.{list_all};
 ghost use Rattle.std.specs.Simd.Lanes.{Each1};
 ghost use Rattle.hex.specs.Hex.{encode_lower, hex_digit_value, is_hex_digit, lower_digits};
 ghost use Rattle.std.specs.Option.{option_map};
-ghost use Rattle.lis_capture.specs.Digits.{bytes_of, is_none_far, lower_case, told_digit};
+ghost use Rattle.lis_capture.specs.Digits.{bytes_of, is_none_far, is_value, lower_case, told_digit};
 
 use std::simd::prelude::*;
 
@@ -77,14 +77,14 @@ fn decode_many(digits: &[u8], bytes: &mut [u8]) -> bool
         return true;
     }
     let last = bytes.len() - 16;
+    let mut most = u8x16::splat(0);
     let mut place = 0;
     while place < last {
-        if !decode_sixteen(&digits[2 * place..], &mut bytes[place..place + 16]) {
-            return false;
-        }
+        most = most.simd_max(decode_sixteen(&digits[2 * place..], &mut bytes[place..place + 16]));
         place += 16;
     }
-    decode_sixteen(&digits[2 * last..], &mut bytes[last..])
+    most = most.simd_max(decode_sixteen(&digits[2 * last..], &mut bytes[last..]));
+    most.simd_ge(u8x16::splat(16)).to_bitmask() == 0
 }
 
 /// The same of two digits.
@@ -100,12 +100,13 @@ fn decode_pair(high: u8, low: u8, bytes: &mut [u8]) -> bool
     both
 }
 
-/// The same of the first thirty-two digits.
+/// The same of the first thirty-two digits. Answers the greater value of each pair, 16 or more where a byte is no digit.
 #[inline(always)]
-fn decode_sixteen(digits: &[u8], bytes: &mut [u8]) -> bool
+fn decode_sixteen(digits: &[u8], bytes: &mut [u8]) -> u8x16
     requires many { 32 ≤ length digits.now }
     requires room { length bytes.old ≡ 16 }
-    ensures { bytes_of (take 32 digits.now) ≡ (if result then Some bytes.new else None) }
+    ensures lanes { length result ≡ 16 }
+    ensures bytes { bytes_of (take 32 digits.now) ≡ (if list_all is_value result then Some bytes.new else None) }
 {
     let front = u8x16::from_slice(digits);
     let (_, behind) = digits.split_at(16);
@@ -115,7 +116,7 @@ fn decode_sixteen(digits: &[u8], bytes: &mut [u8]) -> bool
     let low = values_of(second);
     let values = (high << u8x16::splat(4)) + low;
     values.copy_to_slice(bytes);
-    high.simd_max(low).simd_ge(u8x16::splat(16)).to_bitmask() == 0
+    high.simd_max(low)
 }
 
 /// The values of sixteen digits; 16 or more in the place of a byte that is none.

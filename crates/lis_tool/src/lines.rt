@@ -94,14 +94,8 @@ impl<C: LineMachine> Lines<C> {
     {
         let number = self.reader.number();
         let line = self.reader.line();
-        self.command.line(
-            sink,
-            page,
-            written,
-            number,
-            &line,
-            &mut self.room,
-        )
+        self.command
+            .line(sink, page, written, number, &line, &mut self.room)
     }
 
     /// How a run halts whose last line is refused.
