@@ -1,13 +1,13 @@
 -- Digits in lower case.
 use Rattle.std.proofs.Common.{◌≡◌, ℕ, zero, suc, ◌+◌, ◌-◌, ◌*◌, ◌/◌, ◌%◌, ◌<◌, ◌≤◌, ◌==◌, ◌&&◌, ◌^◌, Bool, true, false, cond, eqb, leb, ltb, List, [], ◌∷◌, ◌++◌, length, map, take, drop}
-use Rattle.std.proofs.Common.{replicate, bit_or, get_or, slice_set, Option, None, Some, unwrap_or, refl, ap, sym, ◌∙◌, arith, length-take, length-drop, take_all, append-nil}
+use Rattle.std.proofs.Common.{replicate, bit_or, slice_set, None, Some, unwrap_or, refl, ap, sym, ◌∙◌, arith, length-take, length-drop, take_all, append-nil}
 use Rattle.std.specs.Prelude.{if◌then◌else◌, slice_index}
 use Rattle.std.specs.List.{list_all}
 use Rattle.std.specs.Option.{option_map}
 use Rattle.std.specs.Simd.Lanes.{Each1, mask_l, sel_l, top, zip2}
 use Rattle.std.proofs.lemmas.Bool.{and_parts, eqb-true}
 use Rattle.std.proofs.lemmas.Bool.Decides.{nat_tests}
-use Rattle.std.proofs.lemmas.List.{drop_all, length-map, take-append-drop, take-take, take_more}
+use Rattle.std.proofs.lemmas.List.{drop_all, length-map, take-append-drop, take-take}
 use Rattle.std.proofs.lemmas.List.Folds.{list_all-append}
 use Rattle.std.proofs.lemmas.Slice.{drop-put_mid, take-put_mid}
 use Rattle.std.proofs.Math.Bool.{and-true}
@@ -17,7 +17,7 @@ use mir.Syntax.{w8}
 use mir.Val.{Fits}
 use Rattle.hex.specs.Hex.{encode_lower, encode_with, hex_digit_value, is_hex_digit, lower_digits}
 use Rattle.lis_capture.specs.Digits.{bytes_of, is_none_far, lower_case}
-use Rattle.lis_capture.proofs.DigitsLemmas.{by_value, bytes_of-other, digit_passes, digits_pass, passes, passes_at}
+use Rattle.lis_capture.proofs.DigitsLemmas.{by_value, bytes_of-other, digit_passes, passes, passes_at}
 use Rattle.std.proofs.lemmas.Simd.{mask_l-mod}
 use Rattle.lis_capture.proofs.DecodeLemmas.{bit_clear, bit_set, bytes_of-paired, paired, zip2_short}
 

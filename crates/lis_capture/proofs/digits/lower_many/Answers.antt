@@ -1,4 +1,4 @@
-use Rattle.std.proofs.Common.{◌<◌, ◌≢◌, arith, length}
+use Rattle.std.proofs.Common.{◌<◌, arith, length}
 use Rattle.std.proofs.lemmas.Bool.Decides.{nat_tests}
 use Rattle.lis_capture.proofs.LowerLemmas.{last_lowered, more_lowered, spelled}
 use Rattle.lis_capture.proofs.digits.lower_many.Goals as goal

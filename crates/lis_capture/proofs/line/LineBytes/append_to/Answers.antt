@@ -1,4 +1,4 @@
-use Rattle.std.proofs.Common.{length, length-append, arith}
+use Rattle.std.proofs.Common.{length-append, arith}
 use Rattle.hex.specs.Hex.{encode_lower}
 use Rattle.lis_capture.proofs.EncodeLemmas.{length-encode_lower}
 use Rattle.lis_capture.proofs.KeptLemmas.{short_bytes}

@@ -1,4 +1,4 @@
-use Rattle.std.proofs.Common.{◌++◌, length-append, arith}
+use Rattle.std.proofs.Common.{length-append, arith}
 use Rattle.lis_capture.proofs.page.Page.append_bytes.Goals as goal
 
 pub append-requires-2 : goal.append-requires-2
