@@ -100,7 +100,7 @@ fn decode_pair(high: u8, low: u8, bytes: &mut [u8]) -> bool
     both
 }
 
-/// The same of the first thirty-two digits. Answers the greater value of each pair, 16 or more where a byte is no digit.
+/// The same of the first thirty-two digits. Answers the greater value of each pair, 16 or more where one is no digit.
 #[inline(always)]
 fn decode_sixteen(digits: &[u8], bytes: &mut [u8]) -> u8x16
     requires many { 32 ≤ length digits.now }

@@ -123,8 +123,8 @@ enum LineKind {
     Version,
 }
 
-/// The line that was read last. Its bytes, or their digits, stand in one of two fixed buffers; those of the next line go
-/// to the other, so that a line that is refused half way leaves the line before it as it was.
+/// The line that was read last. Its bytes, or their digits, stand in one of two fixed buffers; those of the next line
+/// go to the other, so that a line that is refused half way leaves the line before it as it was.
 #[derive(Drop)]
 pub(crate) struct Told {
     keeping: Keeping,

@@ -12,8 +12,8 @@ const BYTES: [u8; 35] = [
     0xc5, 0xc6, 0xb7,
 ];
 
-/// Whether a line of the analyzer's with these digits tells these bytes; where there are none, whether it is refused and
-/// the line before it stays told. A reader that keeps digits tells the same.
+/// Whether a line of the analyzer's with these digits tells these bytes; where there are none, whether it is refused
+/// and the line before it stays told. A reader that keeps digits tells the same.
 fn tells(digits: &[u8], bytes: Option<&[u8]>) -> bool
     requires { length digits.now ≤ 4094 }
 {
