@@ -16,7 +16,7 @@ use Rattle.std.proofs.lemmas.Simd.{mask_l-mod, pick_l_whole, put_chunk_whole}
 use Rattle.std.proofs.Math.Seq.{take-add}
 use Rattle.hex.specs.Hex.{decode_pairs, hex_digit_value, is_hex_digit}
 use Rattle.hex.proofs.HexLemmas.{decode_of-even}
-use Rattle.lis_capture.specs.Digits.{bytes_of, told_digit}
+use Rattle.lis_capture.specs.Digits.{bytes_of, is_value, told_digit}
 use Rattle.lis_capture.proofs.DigitsLemmas.{by_value, bytes_of-decoded, bytes_of-other, pair_of_digits, pairs_from_some}
 
 -- ---- the bytes of digits, two by two
@@ -61,7 +61,7 @@ woven_places : (digits : List ℕ) → length digits ≡ 32
     → woven (pick_l 0 digits first_places) (pick_l 0 digits second_places) ≡ digits
 woven_places digits long = pick_l_whole 0 digits 32 long
 
-abbrev greater : List ℕ → List ℕ → List ℕ
+abbrev pub greater : List ℕ → List ℕ → List ℕ
 greater xs ys = sel_l (map (top 7) (zip2 (λ a b. cond (ltb a b) 255 0) xs ys)) ys xs
 
 -- whether a value is one of no digit, as bits
@@ -83,10 +83,10 @@ flag v w false true false first second more = grind (arith, nat_tests, first, se
 flag v w false false true first second more = grind (arith, nat_tests, first, second, more)
 flag v w false false false first second more = grind (arith, nat_tests, first, second, more)
 
-bit_clear : (bits : ℕ) → eqb (0 + 2 * bits) 0 ≡ eqb bits 0
+pub bit_clear : (bits : ℕ) → eqb (0 + 2 * bits) 0 ≡ eqb bits 0
 bit_clear bits = grind (arith, nat_tests)
 
-bit_set : (bits : ℕ) → eqb (1 + 2 * bits) 0 ≡ false
+pub bit_set : (bits : ℕ) → eqb (1 + 2 * bits) 0 ≡ false
 bit_set bits = grind (arith, nat_tests)
 
 is_told : (v : ℕ) (a : Bool) → nat_lt v 16 ≡ a → is_some (told_digit v) ≡ a
@@ -168,7 +168,7 @@ length-paired n (digit ∷ []) long = absurd (omega arith)
 length-paired zero (high ∷ low ∷ digits) long = absurd (omega arith)
 length-paired (suc n) (high ∷ low ∷ digits) long = ap suc (length-paired n digits (omega arith))
 
-zip2_short : {X Y Z : Type 0} (f : X → Y → Z) (xs : List X) (ys : List Y) → length (zip2 f xs ys) ≤ length xs
+pub zip2_short : {X Y Z : Type 0} (f : X → Y → Z) (xs : List X) (ys : List Y) → length (zip2 f xs ys) ≤ length xs
 zip2_short f [] ys = omega arith
 zip2_short f (x ∷ xs) [] = omega arith
 zip2_short f (x ∷ xs) (y ∷ ys) = omega (arith, zip2_short f xs ys)
@@ -209,7 +209,7 @@ read_sixteen digits bytes vs ws long room first second =
         bytes_of-paired 16 digits long (omega arith) all
         ∙ ap (λ (l : List ℕ). Some l) (values ∙ sym (put_chunk_whole bytes (joined 16 vs ws) fits))
 
-pub sixteen_read :
+sixteen_read :
     (digits bytes vs ws : List ℕ) → 32 ≤ length digits → length bytes ≡ 16
     → map told_digit vs ≡ map hex_digit_value (pick_l 0 (take 16 digits ++ take 16 (drop 16 digits)) first_places)
     → map told_digit ws ≡ map hex_digit_value (pick_l 0 (take 16 digits ++ take 16 (drop 16 digits)) second_places)
@@ -218,6 +218,82 @@ pub sixteen_read :
 sixteen_read digits bytes vs ws many room first second =
     let all : take 16 digits ++ take 16 (drop 16 digits) ≡ take 32 digits = sym (take-add 16 16 digits) in
     read_sixteen (take 32 digits) bytes vs ws (omega (arith, length-take 32 digits)) room (rw all at first) (rw all at second)
+
+-- a value in a lane, as a bit that is clear
+one_value : (v bits : ℕ) (a rest : Bool) → nat_lt v 16 ≡ a → rest ≡ eqb bits 0
+    → (a && rest) ≡ eqb (cond (top 7 (cond (leb 16 v) 255 0)) 1 0 + 2 * bits) 0
+one_value v bits true rest less is =
+    let low : leb 16 v ≡ false = grind (arith, nat_tests, less) in
+    rw low (is ∙ sym (bit_clear bits))
+one_value v bits false rest less is =
+    let high : leb 16 v ≡ true = grind (arith, nat_tests, less) in
+    rw high (sym (bit_set bits))
+
+-- whether a lane has no value, as bits
+abbrev pub value_bits : ℕ → List ℕ → ℕ
+value_bits n xs = mask_l (map (top 7) (zip2 (λ a b. cond (leb a b) 255 0) (replicate n 16) xs))
+
+all_values : (n : ℕ) (xs : List ℕ) → length xs ≡ n → list_all is_value xs ≡ eqb (value_bits n xs) 0
+all_values zero [] long = refl
+all_values zero (x ∷ xs) long = absurd (omega arith)
+all_values (suc n) [] long = absurd (omega arith)
+all_values (suc n) (x ∷ xs) long =
+    one_value x (value_bits n xs) (nat_lt x 16) (list_all is_value xs) refl (all_values n xs (omega arith))
+
+pub all_values_seen : (xs : List ℕ) → length xs ≡ 16 → list_all is_value xs ≡ eqb (value_bits 16 xs % 2 ^ 64) 0
+all_values_seen xs long =
+    let lanes : List ℕ = zip2 (λ a b. cond (leb a b) 255 0) (replicate 16 16) xs in
+    let few : value_bits 16 xs % 2 ^ 64 ≡ value_bits 16 xs =
+    mask_l-mod (map (top 7) lanes) 64 (omega (arith, length-map lanes (top 7), zip2_short {Z = ℕ} (λ a b. cond (leb a b) 255 0) (replicate 16 16) xs)) in
+    rw few (all_values 16 xs long)
+
+length-greater : (n : ℕ) (xs ys : List ℕ) → length xs ≡ n → length ys ≡ n → length (greater xs ys) ≡ n
+length-greater n [] [] one two = one
+length-greater n [] (y ∷ ys) one two = absurd (omega arith)
+length-greater n (x ∷ xs) [] one two = absurd (omega arith)
+length-greater zero (x ∷ xs) (y ∷ ys) one two = absurd (omega arith)
+length-greater (suc n) (x ∷ xs) (y ∷ ys) one two = ap suc (length-greater n xs ys (omega arith) (omega arith))
+
+-- the greater of two is a value where both are
+two_values : (v w : ℕ) (a b m : Bool) → nat_lt v 16 ≡ a → nat_lt w 16 ≡ b → ltb v w ≡ m
+    → nat_lt (cond (top 7 (cond m 255 0)) w v) 16 ≡ (a && b)
+two_values v w true true true first second more = grind (arith, nat_tests, first, second, more)
+two_values v w true true false first second more = grind (arith, nat_tests, first, second, more)
+two_values v w true false true first second more = grind (arith, nat_tests, first, second, more)
+two_values v w true false false first second more = grind (arith, nat_tests, first, second, more)
+two_values v w false true true first second more = grind (arith, nat_tests, first, second, more)
+two_values v w false true false first second more = grind (arith, nat_tests, first, second, more)
+two_values v w false false true first second more = grind (arith, nat_tests, first, second, more)
+two_values v w false false false first second more = grind (arith, nat_tests, first, second, more)
+
+four_and : (a b c d : Bool) → ((a && b) && (c && d)) ≡ ((a && c) && (b && d))
+four_and true true c d = refl
+four_and true false true d = refl
+four_and true false false d = refl
+four_and false b c d = refl
+
+values-greater : (n : ℕ) (xs ys : List ℕ) → length xs ≡ n → length ys ≡ n
+    → list_all is_value (greater xs ys) ≡ (list_all is_value xs && list_all is_value ys)
+values-greater n [] [] one two = refl
+values-greater n [] (y ∷ ys) one two = absurd (omega arith)
+values-greater n (x ∷ xs) [] one two = absurd (omega arith)
+values-greater zero (x ∷ xs) (y ∷ ys) one two = absurd (omega arith)
+values-greater (suc n) (x ∷ xs) (y ∷ ys) one two =
+    (λ i. two_values x y (nat_lt x 16) (nat_lt y 16) (ltb x y) refl refl refl i && values-greater n xs ys (omega arith) (omega arith) i)
+    ∙ four_and (nat_lt x 16) (nat_lt y 16) (list_all is_value xs) (list_all is_value ys)
+
+-- sixteen bytes are read where each of the greater values is one
+pub sixteen_values :
+    (digits bytes vs ws : List ℕ) → 32 ≤ length digits → length bytes ≡ 16
+    → map told_digit vs ≡ map hex_digit_value (pick_l 0 (take 16 digits ++ take 16 (drop 16 digits)) first_places)
+    → map told_digit ws ≡ map hex_digit_value (pick_l 0 (take 16 digits ++ take 16 (drop 16 digits)) second_places)
+    → (length (greater vs ws) ≡ 16)
+    × (bytes_of (take 32 digits) ≡ (if list_all is_value (greater vs ws) then Some (put_chunk 0 bytes (joined 16 vs ws)) else None))
+sixteen_values digits bytes vs ws many room first second =
+    let v_long : length vs ≡ 16 = sym (length-map vs told_digit) ∙ ap length first in
+    let w_long : length ws ≡ 16 = sym (length-map ws told_digit) ∙ ap length second in
+    let long = length-greater 16 vs ws v_long w_long in
+    (long, rw (all_values_seen (greater vs ws) long) (sixteen_read digits bytes vs ws many room first second))
 
 -- ---- sixteen after sixteen
 
@@ -347,6 +423,64 @@ last_read digits out chunk true n place last k pairs room ends less width is tol
     bytes_of-paired n digits pairs (omega arith) (ap (list_all is_hex_digit) (sym all) ∙ read.all)
     ∙ ap (λ (l : List ℕ). Some l)
     (ap paired (sym all) ∙ sym read.bytes ∙ front)
+
+-- ---- with the greatest values so far
+
+-- so many bytes are read where each value so far is one, and else none
+pub record IsReadBy (digits out most : List ℕ) (place : ℕ) : Type 0 where
+  pub lanes : length most ≡ 16
+  pub read : list_all is_value most ≡ true → IsRead digits out place
+  pub none : list_all is_value most ≡ false → bytes_of digits ≡ None
+
+pub none_read_by : (digits out : List ℕ) → IsReadBy digits out (replicate 16 0) 0
+none_read_by digits out = record { lanes = refl; read = λ e. none_read digits out; none = λ e. cc }
+
+-- what sixteen more come to, by whether the values before are values and theirs are
+more_by :
+    (digits out chunk : List ℕ) (a b : Bool) (n place k : ℕ) → length digits ≡ 2 * n → length out ≡ n → place + 16 ≤ n
+    → (a ≡ true → IsRead digits out place) → (a ≡ false → bytes_of digits ≡ None)
+    → bytes_of (take 32 (behind digits place)) ≡ (if b then Some chunk else None)
+    → ((a && b) ≡ true → IsRead digits (put_mid place k out chunk) (place + 16)) × ((a && b) ≡ false → bytes_of digits ≡ None)
+more_by digits out chunk true true n place k pairs room fits read none told =
+    (λ e. more_read digits out chunk n place k pairs room fits (read refl) told, λ e. cc)
+more_by digits out chunk true false n place k pairs room fits read none told =
+    (λ e. cc, λ e. none_behind digits chunk n place pairs fits told)
+more_by digits out chunk false b n place k pairs room fits read none told = (λ e. cc, λ e. none refl)
+
+pub more_read_by :
+    (digits out chunk most values : List ℕ) (n place k : ℕ) → length digits ≡ 2 * n → length out ≡ n → place + 16 ≤ n
+    → IsReadBy digits out most place → length values ≡ 16
+    → bytes_of (take 32 (behind digits place)) ≡ (if list_all is_value values then Some chunk else None)
+    → IsReadBy digits (put_mid place k out chunk) (greater most values) (place + 16)
+more_read_by digits out chunk most values n place k pairs room fits so_far lanes told =
+    let both = values-greater 16 most values so_far.lanes lanes in
+    let more =
+    more_by digits out chunk (list_all is_value most) (list_all is_value values) n place k pairs room fits so_far.read so_far.none told in
+    record {
+      lanes = length-greater 16 most values so_far.lanes lanes;
+      read = λ e. more.0 (sym both ∙ e);
+      none = λ e. more.1 (sym both ∙ e);
+    }
+
+last_by :
+    (digits out chunk : List ℕ) (a b : Bool) (n place last k : ℕ) → length digits ≡ 2 * n → length out ≡ n → last + 16 ≡ n → last ≤ place
+    → k ≡ 16 → (a ≡ true → IsRead digits out place) → (a ≡ false → bytes_of digits ≡ None)
+    → bytes_of (take 32 (behind digits last)) ≡ (if b then Some chunk else None)
+    → bytes_of digits ≡ (if a && b then Some (put_mid last k out chunk) else None)
+last_by digits out chunk true b n place last k pairs room ends less width read none told =
+    last_read digits out chunk b n place last k pairs room ends less width (read refl) told
+last_by digits out chunk false b n place last k pairs room ends less width read none told = none refl
+
+pub last_read_by :
+    (digits out chunk most values : List ℕ) (n place last k : ℕ) → length digits ≡ 2 * n → length out ≡ n → last + 16 ≡ n → last ≤ place
+    → k ≡ 16 → IsReadBy digits out most place → length values ≡ 16
+    → bytes_of (take 32 (behind digits last)) ≡ (if list_all is_value values then Some chunk else None)
+    → bytes_of digits ≡ (if eqb (value_bits 16 (greater most values) % 2 ^ 64) 0 then Some (put_mid last k out chunk) else None)
+last_read_by digits out chunk most values n place last k pairs room ends less width so_far lanes told =
+    let seen = all_values_seen (greater most values) (length-greater 16 most values so_far.lanes lanes) in
+    let both = values-greater 16 most values so_far.lanes lanes in
+    rw (← seen, both)
+    (last_by digits out chunk (list_all is_value most) (list_all is_value values) n place last k pairs room ends less width so_far.read so_far.none told)
 
 -- ---- one pair
 

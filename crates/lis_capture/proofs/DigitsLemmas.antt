@@ -44,7 +44,7 @@ passes_at p low (suc n) b all from below =
     ]
 
 -- of every digit
-abbrev digits_pass : (ℕ → Bool) → Bool
+abbrev pub digits_pass : (ℕ → Bool) → Bool
 digits_pass p = passes p 65 6 && (passes p 97 6 && passes p 48 10)
 
 by_ranges :
@@ -62,7 +62,7 @@ in_range p low high n b all size test =
     let parts = and_parts (nat_le low b) (nat_le b high) test in
     passes_at p low n b all (leb-true low b parts.0) (omega (arith, leb-true b high parts.1))
 
-digit_passes : (p : ℕ → Bool) (b : ℕ) → digits_pass p ≡ true → is_hex_digit b ≡ true → p b ≡ true
+pub digit_passes : (p : ℕ → Bool) (b : ℕ) → digits_pass p ≡ true → is_hex_digit b ≡ true → p b ≡ true
 digit_passes p b all digit =
     let first = and_parts (passes p 65 6) (passes p 97 6 && passes p 48 10) all in
     let rest = and_parts (passes p 97 6) (passes p 48 10) first.1 in

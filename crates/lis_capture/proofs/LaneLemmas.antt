@@ -26,8 +26,8 @@ decimals b = less (less (cond (top 7 (below (plus b 198) 6)) 6 (plus b 198)) 6) 
 
 abbrev letters : ℕ → ℕ
 letters b =
-    plus (less (bit_and b 223) 65)
-    (cond (top 7 (below 10 (255 - less (bit_and b 223) 65))) 10 (255 - less (bit_and b 223) 65))
+    let from_a : ℕ = less (bit_and b 223) 65 in
+    cond (top 7 (below from_a (plus from_a 10))) (plus from_a 10) from_a
 
 abbrev value : ℕ → ℕ
 value b = cond (top 7 (below (decimals b) (letters b))) (decimals b) (letters b)
@@ -63,8 +63,8 @@ decimals_of n bytes =
 abbrev letters_of : ℕ → List ℕ → List ℕ
 letters_of n bytes =
     let from_a : List ℕ = zip2 less (zip2 bit_and bytes (replicate n 223)) (replicate n 65) in
-    let room : List ℕ = map (λ (a : ℕ). 255 - a) from_a in
-    zip2 plus from_a (sel_l (map (top 7) (zip2 below (replicate n 10) room)) (replicate n 10) room)
+    let more : List ℕ = zip2 plus from_a (replicate n 10) in
+    sel_l (map (top 7) (zip2 below from_a more)) more from_a
 
 abbrev values_of : ℕ → List ℕ → List ℕ
 values_of n bytes =

@@ -10,3 +10,5 @@ pub mod VersionLemmas
 mod DefinitionRows
 mod DecodeLemmas
 mod LaneLemmas
+mod LowerLemmas
+mod KeptLemmas

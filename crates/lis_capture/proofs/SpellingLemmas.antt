@@ -121,7 +121,7 @@ ok_from : (r : Result (List ℕ) FromHexError) (bytes : List ℕ) → result_ok 
 ok_from (Ok found) bytes is = cc
 ok_from (Err e) bytes is = cc
 
-IsSent-bytes_of : (text bytes : List ℕ) → length text ≤ 4094 → bytes_of text ≡ Some bytes → IsSent bytes
+pub IsSent-bytes_of : (text bytes : List ℕ) → length text ≤ 4094 → bytes_of text ≡ Some bytes → IsSent bytes
 IsSent-bytes_of [] bytes short is = cc
 IsSent-bytes_of (d ∷ text) bytes short is =
     half (d ∷ text) bytes (λ none. cc) short (ok_from (decode_of (d ∷ text)) bytes is)
@@ -207,7 +207,7 @@ AreRead-read_lines (text ∷ texts) =
 
 -- ---- a written line is read as that line
 
-bytes_of-digits : (bytes : List ℕ) → IsSent bytes → bytes_of (encode_lower bytes) ≡ Some bytes
+pub bytes_of-digits : (bytes : List ℕ) → IsSent bytes → bytes_of (encode_lower bytes) ≡ Some bytes
 unfolding encode_with
 bytes_of-digits [] sent = absurd (sent.some refl)
 bytes_of-digits (b ∷ bytes) sent = ap result_ok (decode_of-encode_lower (b ∷ bytes) sent.fit)

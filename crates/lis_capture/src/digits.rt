@@ -4,7 +4,8 @@ ghost use Rattle.std.specs.Prelude.{◌≡◌, ◌*◌, ◌<◌, ◌≤◌, ◌�
 ghost use Rattle.std.specs.List.{list_all};
 ghost use Rattle.std.specs.Simd.Lanes.{Each1};
 ghost use Rattle.hex.specs.Hex.{encode_lower, hex_digit_value, is_hex_digit, lower_digits};
-ghost use Rattle.lis_capture.specs.Digits.{bytes_of, told_digit};
+ghost use Rattle.std.specs.Option.{option_map};
+ghost use Rattle.lis_capture.specs.Digits.{bytes_of, is_none_far, is_value, lower_case, told_digit};
 
 use std::simd::prelude::*;
 
@@ -48,8 +49,9 @@ fn are_digits(bytes: &[u8]) -> bool
     all
 }
 
-/// Writes the bytes of pairs of digits, sixteen at a time; the last sixteen may be written over some that stand there.
-/// Answers whether the text is one or more such pairs; what stands in the place of the bytes is nothing where it isn't.
+/// Writes the bytes of pairs of digits. Answers whether the text is one or more such pairs; what stands in the place of
+/// the bytes is nothing where it isn't.
+#[inline(always)]
 pub(crate) fn decode(digits: &[u8], bytes: &mut [u8]) -> bool
     requires { length digits.now ≡ 2 * length bytes.old }
     ensures { bytes_of digits.now ≡ (if result then Some bytes.new else None) }
@@ -58,6 +60,15 @@ pub(crate) fn decode(digits: &[u8], bytes: &mut [u8]) -> bool
     if let [high, low] = digits {
         return decode_pair(*high, *low, bytes);
     }
+    decode_many(digits, bytes)
+}
+
+/// The same, sixteen bytes at a time; the last sixteen may be written over some that stand there.
+#[inline(never)]
+fn decode_many(digits: &[u8], bytes: &mut [u8]) -> bool
+    requires { length digits.now ≡ 2 * length bytes.old }
+    ensures { bytes_of digits.now ≡ (if result then Some bytes.new else None) }
+{
     if bytes.len() < 16 {
         if !are_pairs(digits) {
             return false;
@@ -66,14 +77,14 @@ pub(crate) fn decode(digits: &[u8], bytes: &mut [u8]) -> bool
         return true;
     }
     let last = bytes.len() - 16;
+    let mut most = u8x16::splat(0);
     let mut place = 0;
     while place < last {
-        if !decode_sixteen(&digits[2 * place..], &mut bytes[place..place + 16]) {
-            return false;
-        }
+        most = most.simd_max(decode_sixteen(&digits[2 * place..], &mut bytes[place..place + 16]));
         place += 16;
     }
-    decode_sixteen(&digits[2 * last..], &mut bytes[last..])
+    most = most.simd_max(decode_sixteen(&digits[2 * last..], &mut bytes[last..]));
+    most.simd_ge(u8x16::splat(16)).to_bitmask() == 0
 }
 
 /// The same of two digits.
@@ -89,12 +100,13 @@ fn decode_pair(high: u8, low: u8, bytes: &mut [u8]) -> bool
     both
 }
 
-/// The same of the first thirty-two digits.
+/// The same of the first thirty-two digits. Answers the greater value of each pair, 16 or more where one is no digit.
 #[inline(always)]
-fn decode_sixteen(digits: &[u8], bytes: &mut [u8]) -> bool
+fn decode_sixteen(digits: &[u8], bytes: &mut [u8]) -> u8x16
     requires many { 32 ≤ length digits.now }
     requires room { length bytes.old ≡ 16 }
-    ensures { bytes_of (take 32 digits.now) ≡ (if result then Some bytes.new else None) }
+    ensures lanes { length result ≡ 16 }
+    ensures bytes { bytes_of (take 32 digits.now) ≡ (if list_all is_value result then Some bytes.new else None) }
 {
     let front = u8x16::from_slice(digits);
     let (_, behind) = digits.split_at(16);
@@ -104,7 +116,7 @@ fn decode_sixteen(digits: &[u8], bytes: &mut [u8]) -> bool
     let low = values_of(second);
     let values = (high << u8x16::splat(4)) + low;
     values.copy_to_slice(bytes);
-    high.simd_max(low).simd_ge(u8x16::splat(16)).to_bitmask() == 0
+    high.simd_max(low)
 }
 
 /// The values of sixteen digits; 16 or more in the place of a byte that is none.
@@ -114,9 +126,8 @@ fn values_of(digits: u8x16) -> u8x16
     ensures { map told_digit result ≡ map hex_digit_value digits }
 {
     let decimals = (digits + u8x16::splat(198)).saturating_sub(u8x16::splat(6)) - u8x16::splat(240);
-    let letters = ((digits & u8x16::splat(223)) - u8x16::splat(b'A')).saturating_add(u8x16::splat(
-        10,
-    ));
+    let from_a = (digits & u8x16::splat(223)) - u8x16::splat(b'A');
+    let letters = from_a.simd_max(from_a + u8x16::splat(10));
     decimals.simd_min(letters)
 }
 
@@ -129,6 +140,83 @@ fn decode_few(digits: &[u8], bytes: &mut [u8])
     'bytes: for i in 0..bytes.len() {
         bytes[i] = byte_of(digits[2 * i], digits[2 * i + 1]);
     }
+}
+
+/// Writes digits in lower case. Answers whether the text is one or more pairs of digits; what stands in their place is
+/// nothing where it isn't.
+#[inline(always)]
+pub(crate) fn lower(digits: &[u8], lowered: &mut [u8]) -> bool
+    requires { length digits.now ≡ length lowered.old }
+    ensures { option_map encode_lower (bytes_of digits.now) ≡ (if result then Some lowered.new else None) }
+{
+    if let [high, low] = digits {
+        return lower_pair(*high, *low, lowered);
+    }
+    lower_many(digits, lowered)
+}
+
+/// The same of two digits.
+#[inline(always)]
+fn lower_pair(high: u8, low: u8, lowered: &mut [u8]) -> bool
+    requires { length lowered.old ≡ 2 }
+    ensures { option_map encode_lower (bytes_of (high ∷ low ∷ [])) ≡ (if result then Some lowered.new else None) }
+{
+    lowered[0] = high | 0x20;
+    lowered[1] = low | 0x20;
+    is_digit(high) & is_digit(low)
+}
+
+/// The same of any number of digits, sixteen at a time; the last sixteen may be written over some that stand there.
+#[inline(never)]
+fn lower_many(digits: &[u8], lowered: &mut [u8]) -> bool
+    requires { length digits.now ≡ length lowered.old }
+    ensures { option_map encode_lower (bytes_of digits.now) ≡ (if result then Some lowered.new else None) }
+{
+    if digits.is_empty() || digits.len() % 2 == 1 {
+        return false;
+    }
+    if digits.len() < 16 {
+        return lower_few(digits, lowered);
+    }
+    let last = digits.len() - 16;
+    let mut far = u8x16::splat(0);
+    let mut place = 0;
+    while place < last {
+        far = far.simd_max(lower_sixteen(&digits[place..], &mut lowered[place..place + 16]));
+        place += 16;
+    }
+    far = far.simd_max(lower_sixteen(&digits[last..], &mut lowered[last..]));
+    far.simd_ge(u8x16::splat(1)).to_bitmask() == 0
+}
+
+/// Writes few digits in lower case, and answers whether each is one.
+fn lower_few(digits: &[u8], lowered: &mut [u8]) -> bool
+    requires room { length digits.now ≡ length lowered.old }
+    ensures all { result ≡ list_all is_hex_digit digits.now }
+    ensures lowered { lowered.new ≡ map lower_case digits.now }
+{
+    let mut all = true;
+    'digits: for i in 0..lowered.len() {
+        all &= is_digit(digits[i]);
+        lowered[i] = digits[i] | 0x20;
+    }
+    all
+}
+
+/// The same of the first sixteen digits. Answers how far each is from a digit, 0 for a digit.
+#[inline(always)]
+fn lower_sixteen(digits: &[u8], lowered: &mut [u8]) -> u8x16
+    requires many { 16 ≤ length digits.now }
+    requires room { length lowered.old ≡ 16 }
+    ensures far { map is_none_far result ≡ map is_hex_digit (take 16 digits.now) }
+    ensures lowered { lowered.new ≡ map lower_case (take 16 digits.now) }
+{
+    let sixteen = u8x16::from_slice(digits);
+    let lower = sixteen | u8x16::splat(0x20);
+    lower.copy_to_slice(lowered);
+    let from_zero = (sixteen - u8x16::splat(b'0')).saturating_sub(u8x16::splat(9));
+    let from_a = (lower - u8x16::splat(b'a')).saturating_sub(u8x16::splat(5));
+    from_zero.simd_min(from_a)
 }
 
 /// Writes pairs of digits in lower case, those of sixteen bytes at a time; the last sixteen may be written over

@@ -1,13 +1,16 @@
 //! What a line of a capture says.
 
-ghost use Rattle.std.specs.Prelude.{◌≡◌, ◌≤◌, [], true, length, is_some, unwrap_or};
+ghost use Rattle.std.specs.Prelude.{◌≡◌, ◌+◌, ◌*◌, ◌≤◌, ◌++◌, [], None, Some, if◌then◌else◌, true, length, is_some, unwrap_or};
 ghost use Rattle.std.specs.Option.{option_map};
 ghost use Rattle.lis_capture.specs.declared.line.Line.TheVariants.{Empty};
 ghost use Rattle.lis_capture.specs.Digits.{bytes_of};
 ghost use Rattle.lis_capture.specs.Line.{added_line, line_of, plain_line, said, version_after, without_return};
+ghost use Rattle.hex.specs.Hex.{encode_lower};
+ghost use Rattle.lis_capture.specs.Kept.{IsKept, kept_bytes, kept_room};
 ghost use Rattle.lis_capture.specs.Told.{line_with};
 
-use crate::digits::decode;
+use crate::digits::{decode, lower};
+use crate::page::{PAGE_ROOM, Page};
 use lis_link::Readiness;
 use lis_text::CR;
 use std::marker::Model;
@@ -17,6 +20,9 @@ pub const LONGEST_LINE: usize = 4096;
 
 /// The most bytes that a line tells: a mark and a space stand before their digits.
 pub const MOST_BYTES: usize = 2047;
+
+/// The most digits of a line: two for each byte.
+const MOST_DIGITS: usize = 4094;
 
 /// The version of a capture, as far as its lines tell it: the first line does.
 #[derive(Debug, Clone, Copy, PartialEq, Eq)]
@@ -48,29 +54,60 @@ pub enum Line<'a> {
     Version,
 }
 
-/// The bytes of a line, lent from where they were read.
+/// How the bytes of a line are kept.
+#[derive(Debug, Clone, Copy, PartialEq, Eq)]
+pub(crate) enum Keeping {
+    /// As themselves.
+    Bytes,
+    /// As their digits in lower case.
+    Digits,
+}
+
+/// The bytes of a line, lent from where they are kept: as themselves, or as their digits.
 #[derive(Drop)]
 pub struct LineBytes<'a> {
-    bytes: &'a [u8],
+    keeping: Keeping,
+    kept: &'a [u8],
 }
 
 impl<'a> Model for LineBytes<'a> {
-    ghost use Rattle.std.specs.Prelude.{◌≤◌, ℕ, List, length};
+    ghost use Rattle.std.specs.Prelude.{ℕ, List};
+    ghost use Rattle.lis_capture.specs.Kept.{IsKept, kept_bytes};
 
     ghost Value = { List ℕ };
 
-    ghost view = { λ b. b.bytes.now };
+    ghost view = { λ b. kept_bytes b.keeping b.kept.now };
 
-    ghost invariant = { λ b. length b.bytes.now ≤ 2047 };
+    ghost invariant = { λ b. IsKept b.keeping b.kept.now };
 }
 
 impl<'a> LineBytes<'a> {
-    /// The bytes; no line tells more than [`MOST_BYTES`].
-    pub fn as_slice(&self) -> &'a [u8]
+    /// The bytes; no line tells more than [`MOST_BYTES`]. Where their digits are kept, they are read into the room.
+    pub fn read(&self, room: &'a mut [u8; MOST_BYTES]) -> &'a [u8]
         ensures value { result.now ≡ self.now }
         ensures short { length result.now ≤ MOST_BYTES }
     {
-        self.bytes
+        match self.keeping {
+            Keeping::Bytes => self.kept,
+            Keeping::Digits => {
+                let (bytes, _) = room.split_at_mut(self.kept.len() / 2);
+                let _read = decode(self.kept, bytes);
+                bytes
+            }
+        }
+    }
+
+    /// Puts the digits of the bytes in lower case behind a page. There must be room for those of [`MOST_BYTES`].
+    #[inline(always)]
+    pub(crate) fn append_to(&self, page: &mut Page)
+        requires { length page.old + MOST_DIGITS ≤ PAGE_ROOM }
+        ensures value { page.new ≡ page.old ++ encode_lower self.now }
+        ensures short { length page.new ≤ length page.old + MOST_DIGITS }
+    {
+        match self.keeping {
+            Keeping::Bytes => page.append_digits(self.kept),
+            Keeping::Digits => page.append(self.kept),
+        }
     }
 }
 
@@ -86,13 +123,14 @@ enum LineKind {
     Version,
 }
 
-/// The line that was read last. Its bytes stand in one of two fixed buffers; those of the next line go to the other,
-/// so that a line that is refused half way leaves the line before it as it was.
+/// The line that was read last. Its bytes, or their digits, stand in one of two fixed buffers; those of the next line
+/// go to the other, so that a line that is refused half way leaves the line before it as it was.
 #[derive(Drop)]
 pub(crate) struct Told {
+    keeping: Keeping,
     kind: LineKind,
-    front: [u8; MOST_BYTES],
-    back: [u8; MOST_BYTES],
+    front: [u8; MOST_DIGITS],
+    back: [u8; MOST_DIGITS],
     in_back: bool,
     len: usize,
 }
@@ -100,24 +138,27 @@ pub(crate) struct Told {
 impl Model for Told {
     ghost use Rattle.std.specs.Prelude.{◌≡◌, ◌≤◌, if◌then◌else◌, length, take};
     ghost use Rattle.lis_capture.specs.declared.line.Line.{Line};
+    ghost use Rattle.lis_capture.specs.Kept.{IsKept, kept_bytes};
     ghost use Rattle.lis_capture.specs.Told.{line_with};
 
     ghost Value = { Line };
 
-    ghost view = { λ t. line_with t.kind (take t.len (if t.in_back then t.back else t.front)) };
+    ghost view = { λ t. line_with t.kind (kept_bytes t.keeping (take t.len (if t.in_back then t.back else t.front))) };
 
-    ghost invariant = { λ t. (t.len ≤ 2047) × (length t.front ≡ 2047) × (length t.back ≡ 2047) };
+    ghost invariant = { λ t. (t.len ≤ 4094) × (length t.front ≡ 4094) × (length t.back ≡ 4094)
+        × IsKept t.keeping (take t.len (if t.in_back then t.back else t.front)) };
 }
 
 impl Told {
     /// An empty line.
-    pub(crate) fn new() -> Self
+    pub(crate) fn new(keeping: Keeping) -> Self
         ensures { result ≡ Empty }
     {
         Told {
+            keeping,
             kind: LineKind::Empty,
-            front: [0; MOST_BYTES],
-            back: [0; MOST_BYTES],
+            front: [0; MOST_DIGITS],
+            back: [0; MOST_DIGITS],
             in_back: false,
             len: 0,
         }
@@ -132,11 +173,12 @@ impl Told {
         } else {
             &self.front
         };
-        let (bytes, _) = buffer.split_at(self.len);
+        let (kept, _) = buffer.split_at(self.len);
+        let keeping = self.keeping;
         match self.kind {
             LineKind::Empty => Line::Empty,
-            LineKind::FromAnalyzer => Line::FromAnalyzer(LineBytes { bytes }),
-            LineKind::FromComputer => Line::FromComputer(LineBytes { bytes }),
+            LineKind::FromAnalyzer => Line::FromAnalyzer(LineBytes { keeping, kept }),
+            LineKind::FromComputer => Line::FromComputer(LineBytes { keeping, kept }),
             LineKind::Timer => Line::Timer,
             LineKind::Restart => Line::Restart,
             LineKind::SetReady(readiness) => Line::SetReady(readiness),
@@ -146,6 +188,7 @@ impl Told {
 
     /// Whether a text is a line, by the version that the lines before it tell. The line that it says is
     /// told from then on; where it says none, the line before it is.
+    #[inline(always)]
     pub(crate) fn read(&mut self, version: CaptureVersion, text: &[u8]) -> bool
         ensures said { result ≡ is_some (line_of version text.now) }
         ensures line { self.new ≡ unwrap_or (line_of version text.now) self.old }
@@ -157,6 +200,7 @@ impl Told {
     }
 
     /// The same of a text that isn't too long, without the CR at its end.
+    #[inline(always)]
     fn read_short(&mut self, version: CaptureVersion, text: &[u8]) -> bool
         requires { length text.now ≤ LONGEST_LINE }
         ensures said { result ≡ is_some (said version text.now) }
@@ -180,6 +224,7 @@ impl Told {
     }
 
     /// The same of a line of both versions.
+    #[inline(always)]
     fn read_plain(&mut self, text: &[u8]) -> bool
         requires { length text.now ≤ LONGEST_LINE }
         ensures said { result ≡ is_some (plain_line text.now) }
@@ -215,6 +260,7 @@ impl Told {
     }
 
     /// The same of the digits of a line of this kind.
+    #[inline(always)]
     fn read_digits(&mut self, kind: LineKind, digits: &[u8]) -> bool
         requires { length digits.now ≤ 4094 }
         ensures said { result ≡ is_some (bytes_of digits.now) }
@@ -223,11 +269,14 @@ impl Told {
         if digits.len() % 2 == 1 {
             return false;
         }
-        let len = digits.len() / 2;
+        let len = match self.keeping {
+            Keeping::Bytes => digits.len() / 2,
+            Keeping::Digits => digits.len(),
+        };
         let told = if self.in_back {
-            decode(digits, &mut self.front[..len])
+            keep(self.keeping, digits, &mut self.front[..len])
         } else {
-            decode(digits, &mut self.back[..len])
+            keep(self.keeping, digits, &mut self.back[..len])
         };
         if told {
             self.in_back = !self.in_back;
@@ -238,6 +287,7 @@ impl Told {
     }
 
     /// Tells a line that has no bytes.
+    #[inline(always)]
     fn tell(&mut self, kind: LineKind) -> bool
         ensures said { result ≡ true }
         ensures line { self.new ≡ line_with kind [] }
@@ -248,7 +298,23 @@ impl Told {
     }
 }
 
+/// Writes what is kept of pairs of digits, into the room that it takes. Answers whether the text is one or more such
+/// pairs; what stands in the room is nothing where it isn't.
+#[inline(always)]
+fn keep(keeping: Keeping, digits: &[u8], room: &mut [u8]) -> bool
+    requires short { length digits.now ≤ MOST_DIGITS }
+    requires room { length digits.now ≡ kept_room keeping * length room.old }
+    ensures bytes { bytes_of digits.now ≡ (if result then Some (kept_bytes keeping room.new) else None) }
+    ensures kept { result ≡ true → IsKept keeping room.new }
+{
+    match keeping {
+        Keeping::Bytes => decode(digits, room),
+        Keeping::Digits => lower(digits, room),
+    }
+}
+
 /// A text without the CR at its end.
+#[inline(always)]
 fn without_return(text: &[u8]) -> &[u8]
     ensures { result.now ≡ without_return text.now }
 {
@@ -259,6 +325,7 @@ fn without_return(text: &[u8]) -> &[u8]
 }
 
 /// The version behind a line.
+#[inline(always)]
 pub(crate) fn version_after(version: CaptureVersion, line: &Line) -> CaptureVersion
     ensures { result ≡ version_after version line.now }
 {

@@ -7,7 +7,7 @@ ghost use Rattle.lis_capture.specs.Line.{line_of};
 ghost use Rattle.lis_capture.specs.Reader.{HasRead, found_holding, found_lines, found_of, holding};
 ghost use Rattle.lis_capture.specs.Reader.{known_of, known_with};
 
-use crate::line::{CaptureVersion, LONGEST_LINE, Line, Told, version_after};
+use crate::line::{CaptureVersion, Keeping, LONGEST_LINE, Line, Told, version_after};
 use arrayvec::ArrayVec;
 use lis_text::LF;
 use memchr::memchr;
@@ -62,12 +62,26 @@ impl LineReader {
     pub fn new() -> Self
         ensures { HasRead result [] }
     {
+        Self::keeping(Keeping::Bytes)
+    }
+
+    /// The same, for lines that are written on: it keeps of a line's bytes their digits in lower case.
+    pub fn keeping_digits() -> Self
+        ensures { HasRead result [] }
+    {
+        Self::keeping(Keeping::Digits)
+    }
+
+    /// A reader that has read no byte and keeps bytes so.
+    fn keeping(keeping: Keeping) -> Self
+        ensures { HasRead result [] }
+    {
         LineReader {
             progress: Progress {
                 version: CaptureVersion::Untold,
                 refused: false,
                 number: 0,
-                told: Told::new(),
+                told: Told::new(keeping),
             },
             held: ArrayVec::new(),
         }
@@ -79,6 +93,7 @@ impl LineReader {
     ///
     /// Whatever bytes it had read, newest first, the capture's lines are now those before and what was
     /// found: so no cut of the bytes into slices changes them.
+    #[inline(always)]
     pub fn read(&mut self, bytes: &[u8]) -> (usize, Found)
         ensures within { result.0 ≤ length bytes.now }
         ensures all { result.1 ≡ Found.Nothing → result.0 ≡ length bytes.now }
@@ -142,6 +157,7 @@ impl LineReader {
     }
 
     /// Takes the last bytes of a line.
+    #[inline(always)]
     fn end_line(&mut self, text: &[u8]) -> Found
         ensures known { self.new.known
             ≡ known_with self.old.known (line_of self.old.known.version (self.old.held ++ text.now)) }
@@ -173,6 +189,7 @@ impl LineReader {
 
 impl Progress {
     /// Takes a line.
+    #[inline(always)]
     fn take(&mut self, text: &[u8]) -> Found
         ensures after { self.new ≡ known_with self.old (line_of self.old.version text.now) }
         ensures found { result ≡ found_of (line_of self.old.version text.now) }
@@ -186,6 +203,7 @@ impl Progress {
     }
 
     /// Refuses a line.
+    #[inline(always)]
     fn refuse(&mut self) -> Found
         ensures after { self.new ≡ known_with self.old None }
         ensures found { result ≡ found_of None }

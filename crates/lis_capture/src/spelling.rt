@@ -40,7 +40,7 @@ impl Page {
         ensures { self.new ≡ self.old ++ (mark.now ++ encode_lower bytes.now) ++ codes "\n" }
     {
         self.append(mark);
-        self.append_digits(bytes.as_slice());
+        bytes.append_to(self);
         self.append(b"\n");
     }
 }

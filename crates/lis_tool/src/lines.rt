@@ -4,6 +4,7 @@ ghost use Rattle.std.specs.Prelude.{◌≡◌, ◌+◌, ◌∷◌, [], ◌^◌, 
 ghost use Rattle.lis_frame.specs.Stream.{stream_with};
 ghost use Rattle.lis_capture.specs.declared.line.Line.{Line as LineContent};
 ghost use Rattle.lis_capture.specs.Capture.{capture};
+ghost use Rattle.lis_capture.specs.Reader.{HasRead};
 ghost use Rattle.lis_tool.specs.LineOutcome.{IsLined, LineEnds, LineSteps, Writes, capture_outcome, lines_outcome};
 ghost use Rattle.lis_tool.specs.Outcome.{going};
 ghost use Rattle.lis_tool.specs.Output.{out};
@@ -11,7 +12,7 @@ ghost use Rattle.std.proofs.Common.{ap, sym, ◌∙◌};
 
 use crate::fault::ToolFault;
 use crate::machine::{Halt, Machine, Turn};
-use lis_capture::{Found, Line, LineReader, Page};
+use lis_capture::{Found, Line, LineReader, MOST_BYTES, Page};
 use lis_port::Sink;
 
 /// A command that takes a capture line by line. Contracts see the lines newest first.
@@ -25,15 +26,20 @@ pub trait LineMachine: Drop {
     // Whether it may want memory.
     ghost takes_memory: { Bool };
 
-    /// Takes the line of this number, behind `written` bytes of the run. It halts the run only where
-    /// memory is refused.
-    fn line<W: Sink>(
+    /// A new reader, which keeps of a line what the command takes: its bytes, or their digits.
+    fn reader() -> LineReader
+        ensures { HasRead result [] };
+
+    /// Takes the line of this number, behind `written` bytes of the run; there is room for its bytes where their digits
+    /// are kept. It halts the run only where memory is refused.
+    fn line<'a, W: Sink>(
         &mut self,
         sink: &mut W,
         page: &mut Page,
         written: u64,
         number: u64,
-        line: &Line<'_>,
+        line: &Line<'a>,
+        room: &'a mut [u8; MOST_BYTES],
     ) -> Result<Turn, ToolFault>
         requires { W.failed sink.old ≡ false }
         ensures steps { (lines : List LineContent) → stands self.old lines → number ≡ length lines + 1 → number < 2 ^ 44 →
@@ -54,6 +60,7 @@ pub trait LineMachine: Drop {
 pub struct Lines<C> {
     command: C,
     reader: LineReader,
+    room: [u8; MOST_BYTES],
 }
 
 impl<C: LineMachine> Lines<C> {
@@ -64,7 +71,8 @@ impl<C: LineMachine> Lines<C> {
     {
         Lines {
             command,
-            reader: LineReader::new(),
+            reader: C::reader(),
+            room: [0; MOST_BYTES],
         }
     }
 
@@ -86,7 +94,8 @@ impl<C: LineMachine> Lines<C> {
     {
         let number = self.reader.number();
         let line = self.reader.line();
-        self.command.line(sink, page, written, number, &line)
+        self.command
+            .line(sink, page, written, number, &line, &mut self.room)
     }
 
     /// How a run halts whose last line is refused.

@@ -20,7 +20,7 @@ use crate::lines::LineMachine;
 use crate::machine::{Halt, Turn};
 use crate::replay::{gather_compared, gather_counts, gather_left, gather_text_line};
 use crate::report::Report;
-use lis_capture::{Line, Page};
+use lis_capture::{Line, LineReader, MOST_BYTES, Page};
 use lis_link::{Hearing, Note, ReceiverOf, Step};
 use lis_port::Sink;
 use lis_text::LinkText;
@@ -96,6 +96,7 @@ impl<const N: usize, T: Teller> Playing<N, T> {
     }
 
     /// The receiver hears the bytes of the line of this number.
+    #[inline(always)]
     fn hear<W: Sink>(
         &mut self,
         sink: &mut W,
@@ -131,6 +132,7 @@ impl<const N: usize, T: Teller> Playing<N, T> {
 
     /// Takes a step of the receiver: its reply is kept, what is told of its text goes out, and the text's room is used
     /// again.
+    #[inline(always)]
     fn take<W: Sink>(
         &mut self,
         sink: &mut W,
@@ -197,6 +199,7 @@ impl<const N: usize, T: Teller> Playing<N, T> {
     }
 
     /// Compares the bytes of the computer with the replies, which are let go.
+    #[inline(always)]
     fn compare<W: Sink>(
         &mut self,
         sink: &mut W,
@@ -264,24 +267,30 @@ impl<const N: usize, T: Teller> LineMachine for Playing<N, T> {
 
     ghost takes_memory = { true };
 
-    fn line<W: Sink>(
+    fn reader() -> LineReader {
+        LineReader::new()
+    }
+
+    #[inline(always)]
+    fn line<'a, W: Sink>(
         &mut self,
         sink: &mut W,
         page: &mut Page,
         written: u64,
         number: u64,
-        line: &Line<'_>,
+        line: &Line<'a>,
+        room: &'a mut [u8; MOST_BYTES],
     ) -> Result<Turn, ToolFault> {
         match line {
             Line::Empty => Ok(Turn::On(written)),
             Line::Version => Ok(Turn::On(written)),
-            Line::FromAnalyzer(bytes) => self.hear(sink, page, written, number, bytes.as_slice()),
+            Line::FromAnalyzer(bytes) => self.hear(sink, page, written, number, bytes.read(room)),
             Line::FromComputer(bytes) => self.compare(
                 sink,
                 page,
                 written,
                 number,
-                bytes.as_slice(),
+                bytes.read(room),
             ),
             Line::Timer => {
                 let _ = self.receiver.timer();
@@ -331,6 +340,7 @@ fn count_of(message: &Option<LinkText>) -> u64
 }
 
 /// Gathers what is told of a text, if there is one.
+#[inline(always)]
 fn gather_message<W: Sink>(
     sink: &mut W,
     page: &mut Page,

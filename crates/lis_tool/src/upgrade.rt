@@ -13,7 +13,7 @@ use crate::gather::{gather, make_room};
 use crate::lines::{LineMachine, Lines};
 use crate::machine::{Halt, Turn, run};
 use crate::report::Report;
-use lis_capture::{LONGEST_SPELLING, Line, Page};
+use lis_capture::{LONGEST_SPELLING, Line, LineReader, MOST_BYTES, Page};
 use lis_port::{Sink, Source};
 
 /// Writes a capture as one of version 2: the line `capture 2`, and then each of its lines, with digits in
@@ -53,13 +53,19 @@ impl LineMachine for Upgrade {
 
     ghost takes_memory = { false };
 
-    fn line<W: Sink>(
+    fn reader() -> LineReader {
+        LineReader::keeping_digits()
+    }
+
+    #[inline(always)]
+    fn line<'a, W: Sink>(
         &mut self,
         sink: &mut W,
         page: &mut Page,
         written: u64,
         _number: u64,
-        line: &Line<'_>,
+        line: &Line<'a>,
+        _room: &'a mut [u8; MOST_BYTES],
     ) -> Result<Turn, ToolFault> {
         let after = match gather_opening(sink, page, written, self.begun) {
             Ok(after) => after,

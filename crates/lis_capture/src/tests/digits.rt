@@ -12,27 +12,72 @@ const BYTES: [u8; 35] = [
     0xc5, 0xc6, 0xb7,
 ];
 
-/// Whether a line of the analyzer's with these digits tells these bytes; where there are none, whether it is refused and
-/// the line before it stays told.
+/// Whether a line of the analyzer's with these digits tells these bytes; where there are none, whether it is refused
+/// and the line before it stays told. A reader that keeps digits tells the same.
 fn tells(digits: &[u8], bytes: Option<&[u8]>) -> bool
+    requires { length digits.now ≤ 4094 }
+{
+    reader_tells(LineReader::new(), digits, bytes)
+        && reader_tells(LineReader::keeping_digits(), digits, bytes)
+}
+
+/// Whether a new reader tells so.
+fn reader_tells(reader: LineReader, digits: &[u8], bytes: Option<&[u8]>) -> bool
     requires { length digits.now ≤ 4094 }
 {
     let mut capture = Page::new();
     capture.append(b"< 5afe\n> ");
     capture.append(digits);
     capture.append(b"\n");
-    let mut reader = LineReader::new();
+    let mut reader = reader;
     let (count, first) = reader.read(capture.as_slice());
     let (_, rest) = capture.as_slice().split_at(count);
     let (_, second) = reader.read(rest);
+    let mut room = [0; MOST_BYTES];
     let as_meant = match reader.line() {
-        Line::FromAnalyzer(told) => bytes == Some(told.as_slice()) && second == Found::Line,
+        Line::FromAnalyzer(told) => bytes == Some(told.read(&mut room)) && second == Found::Line,
         Line::FromComputer(told) => {
-            bytes.is_none() && told.as_slice() == b"\x5a\xfe".as_slice() && second == Found::Refused
+            bytes.is_none()
+                && told.read(&mut room) == b"\x5a\xfe".as_slice()
+                && second == Found::Refused
         }
         _ => false,
     };
     first == Found::Line && as_meant
+}
+
+/// The line of the analyzer's with these digits, as a new reader tells it and a page writes it.
+fn written(reader: LineReader, digits: &[u8]) -> Page
+    requires { length digits.now ≤ 4094 }
+{
+    let mut capture = Page::new();
+    capture.append(b"> ");
+    capture.append(digits);
+    let mut reader = reader;
+    let mut text = Page::new();
+    if reader.read(capture.as_slice()).1 == Found::Nothing && reader.finish() == Found::Line {
+        text.append_line(&reader.line());
+    }
+    text
+}
+
+#[test]
+fn kept_digits_are_written_in_lower_case(rt: HostRuntime) -> Result<(), Fail> {
+    let lower = b"0123456789abcdefabcdef00ff7f80a5a55afedcba98765432100ff0e1e2d3d4c5c6b7";
+    for pairs in 1..=35usize {
+        let mut line = Page::new();
+        line.append(b"> ");
+        line.append(&lower[..2 * pairs]);
+        line.append(b"\n");
+        let digits = &DIGITS[..2 * pairs];
+        let kept = written(LineReader::keeping_digits(), digits);
+        assert_eq!(rt; kept.as_slice(), line.as_slice());
+        assert_eq!(rt;
+            written(LineReader::new(), digits).as_slice(),
+            line.as_slice()
+        );
+    }
+    Ok(())
 }
 
 #[test]

@@ -21,11 +21,13 @@ fn long_line() -> [u8; 4098] {
 fn letters(line: &Line) -> Option<usize> {
     match line {
         Line::FromAnalyzer(bytes) => {
+            let mut room = [0; MOST_BYTES];
+            let told = bytes.read(&mut room);
             let mut only = true;
-            for byte in bytes.as_slice() {
+            for byte in told {
                 only &= *byte == b'A';
             }
-            only.then_some(bytes.as_slice().len())
+            only.then_some(told.len())
         }
         _ => None,
     }
@@ -42,6 +44,9 @@ fn the_return_of_a_line_is_one_of_its_bytes(rt: HostRuntime) -> Result<(), Fail>
     assert_eq!(rt; shorter.read(&line), (4097, Found::Line));
     assert_eq!(rt; letters(&shorter.line()), Some(2047));
     assert_eq!(rt; shorter.number(), 1);
+    let mut kept = LineReader::keeping_digits();
+    assert_eq!(rt; kept.read(&line), (4097, Found::Line));
+    assert_eq!(rt; letters(&kept.line()), Some(2047));
     Ok(())
 }
 
