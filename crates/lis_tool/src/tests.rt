@@ -24,7 +24,11 @@ fn shows(alloc: Global, bytes: &[u8], step: usize, text: &[u8]) -> bool
     let mut source = Cut::new(bytes, step, Then::End);
     let mut sink = Slow::new(131_072, 131_072);
     let result = run_show(&mut source, &mut sink, 1000);
-    result == Ok(Report { status: 0, refused: None })
+    result
+        == Ok(Report {
+            status: 0,
+            refused: None,
+        })
         && sink.took() == text
         && is_shown_by(alloc, Command::Show { long: false }, bytes, step, text)
 }
@@ -36,7 +40,12 @@ fn is_shown_by(alloc: Global, command: Command, bytes: &[u8], step: usize, text:
     let mut source = Cut::new(bytes, step, Then::End);
     let mut sink = Slow::new(131_072, 131_072);
     let result = run_command(alloc, command, &mut source, &mut sink, 1000);
-    result == Ok(Report { status: 0, refused: None }) && sink.took() == text
+    result
+        == Ok(Report {
+            status: 0,
+            refused: None,
+        })
+        && sink.took() == text
 }
 
 #[test]
@@ -92,7 +101,13 @@ fn a_frame_of_241_letters_is_too_long_but_for_longer_frames(rt: HostRuntime) -> 
     let mut source = Cut::new(&frame, 100, Then::End);
     let mut sink = Slow::new(131_072, 7);
     let result = run_show_of::<63993, Cut<'_>, Slow>(&mut source, &mut sink, 1000);
-    assert_eq!(rt; result, Ok(Report { status: 0, refused: None }));
+    assert_eq!(rt;
+        result,
+        Ok(Report {
+            status: 0,
+            refused: None
+        })
+    );
     assert_eq!(rt; sink.took().len(), 499);
     let (start, digits) = sink.took().split_at(16);
     assert_eq!(rt; start, b"frame 1 end 241 ".as_slice());
@@ -176,7 +191,10 @@ fn reads_are_counted(rt: HostRuntime) -> Result<(), Fail> {
     let mut sink = Slow::new(100, 100);
     assert_eq!(rt;
         run_show(&mut source, &mut sink, 2),
-        Ok(Report { status: 0, refused: None })
+        Ok(Report {
+            status: 0,
+            refused: None
+        })
     );
     let mut source = Cut::new(b"", 1, Then::Again(5));
     let mut sink = Slow::new(100, 100);

@@ -80,7 +80,8 @@ const RECORDS: &[u8] = b"H|\\^&\rP|1\rO|2|S7\rR|1|^^^GLU|5.4\rL|1|N\r";
 
 #[test]
 fn a_check_stops_at_a_refused_growth(rt: HostRuntime) -> Result<(), Fail> {
-    let text = b"message 1\n1 H 0\n2 P 1\n3 O 2\n4 R 3\n5 L 2\nfinding 3 O 1\nmessages 1 findings 1\n";
+    let text =
+        b"message 1\n1 H 0\n2 P 1\n3 O 2\n4 R 3\n5 L 2\nfinding 3 O 1\nmessages 1 findings 1\n";
     let mut count = 0u8;
     for step in [1usize, 7, 4096] {
         let mut source = Cut::new(RECORDS, step, Then::End);

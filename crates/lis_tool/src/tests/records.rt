@@ -89,7 +89,10 @@ fn a_record_without_an_end_is_refused_at_its_limit(rt: HostRuntime) {
     let mut source = Cut::new(b"", 1, Then::Again(b'A'));
     let ended = run_check(rt.alloc(), &mut source, &mut sink, 65_537);
     assert_eq!(rt; ended, refused(1, 1, Reason::RecordTooLong));
-    assert_eq!(rt; sink.took(), b"refused 1 1 G6\nmessages 0 findings 0\n".as_slice());
+    assert_eq!(rt;
+        sink.took(),
+        b"refused 1 1 G6\nmessages 0 findings 0\n".as_slice()
+    );
 }
 
 #[test]
@@ -99,6 +102,9 @@ fn a_refusal_has_its_line(rt: HostRuntime) -> Result<(), Fail> {
         reason: Reason::BadRecord(RecordFault::Byte(4)),
     };
     let refused = Refused { message: 2, fault };
-    assert_eq!(rt; format!(in rt.alloc(); "{refused}")?.as_str(), "refused 2 3 G1 C4");
+    assert_eq!(rt;
+        format!(in rt.alloc(); "{refused}")?.as_str(),
+        "refused 2 3 G1 C4"
+    );
     Ok(())
 }

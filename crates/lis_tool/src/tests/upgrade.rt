@@ -24,7 +24,10 @@ fn upgrades(
     result == ended && sink.took() == text && by_name == ended && other.took() == text
 }
 
-const FINE: Result<Report, ToolFault> = Ok(Report { status: 0, refused: None });
+const FINE: Result<Report, ToolFault> = Ok(Report {
+    status: 0,
+    refused: None,
+});
 
 #[test]
 fn a_capture_is_written_in_the_second_version(rt: HostRuntime) -> Result<(), Fail> {
