@@ -201,8 +201,12 @@ short_with held short = omega (arith, short, length-append held [])
 pub goes_on : (more front : List ℕ) (messages : List MessageTree) (left : Option Begun) (held : List ℕ) → IsCut front messages left held → IsReadFrom (front ++ more) messages
 goes_on [] front messages left held c = (
   [],
-  inl (left, held, subst (λ (s : List ℕ). IsCut s (messages ++ []) left held) (sym (append-nil front))
-  (subst (λ (ms : List MessageTree). IsCut front ms left held) (sym (append-nil messages)) c)),
+  inl (
+    left,
+    held,
+    subst (λ (s : List ℕ). IsCut s (messages ++ []) left held) (sym (append-nil front))
+        (subst (λ (ms : List MessageTree). IsCut front ms left held) (sym (append-nil messages)) c),
+  ),
 )
 goes_on (b ∷ more) front messages left held c =
     elim (eqb_tells b 13) [

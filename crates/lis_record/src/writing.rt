@@ -172,7 +172,11 @@ fn begin_record<'a>(
 }
 
 // Fills the empty chunk with a field; the cursor has the rest.
-pub(crate) fn begin_field<'a>(chunk: &mut Chunk, delimiters: Delimiters, field: &'a Field) -> Cursor<'a>
+pub(crate) fn begin_field<'a>(
+    chunk: &mut Chunk,
+    delimiters: Delimiters,
+    field: &'a Field,
+) -> Cursor<'a>
     requires { chunk.old ≡ [] }
     ensures whole { chunk.new ++ result ≡ spelled_field delimiters field.now }
     ensures filled { length chunk.new ≡ 0 → result ≡ [] }

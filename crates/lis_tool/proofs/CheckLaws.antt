@@ -22,7 +22,7 @@ findings_few_from earlier place (r ∷ rs) =
       arith,
       length-append (finding_on earlier place r) (findings_from (r.kind ∷ earlier) (place + 1) rs),
       one_at_most (is_numbered r.kind && not (is_number (field_number (field_at r 2)) (capped (expected_number r.kind earlier))))
-      (record { place = capped place; kind = r.kind; expected = capped (expected_number r.kind earlier) }),
+          (record { place = capped place; kind = r.kind; expected = capped (expected_number r.kind earlier) }),
       findings_few_from (r.kind ∷ earlier) (place + 1) rs,
     )
 

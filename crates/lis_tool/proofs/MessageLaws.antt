@@ -84,7 +84,7 @@ fed_few stream messages reader (Some fault) reads =
     elim reads.1 [
       | inl starved ↦ few_front starved.1.front starved.1.more stream (record_count messages) starved.1.whole (cut_few starved.1.front messages _ _ starved.1.cut)
       | inr stop ↦ few_front stop.front (stop.text ++ stop.more) stream (record_count messages) (stop.whole ∙ append_assoc stop.front stop.text stop.more)
-      (cut_few stop.front messages _ _ stop.cut)
+          (cut_few stop.front messages _ _ stop.cut)
     ]
 
 -- ---- messages taken one by one
@@ -113,7 +113,6 @@ taking_few here before m rest all n same few =
     omega (arith, both, record_count-append here (m ∷ rest), record_count-append here (m ∷ []))
 
 module _ (w : MessageWrites) (stands after : List MessageTree → Type 0) (a b c : Out) (written middle : ℕ) (before : List MessageTree) (m : MessageTree) (rest all : List MessageTree) (at : IsTaking w stands a b written middle before (m ∷ rest) all) where
-
   pub takes_on :
       (next : ℕ) → Gathered b c middle (Ok next) (w.message (length at.here) m) → after (at.here ++ m ∷ []) → IsTaking w after a c written next before rest all
   takes_on next put stood =
@@ -195,7 +194,6 @@ is_refused stream messages fault (inl starved) other = absurd (other starved.0)
 is_refused stream messages fault (inr stop) other = stop
 
 module _ (w : MessageWrites) (bytes : List ℕ) (before new : List MessageTree) (text : List ℕ) (text_is : text ≡ messages_text w 0 before) (part : FedPart w bytes (before ++ new)) where
-
   pub text_with : text ++ messages_text w (length before) new ≡ messages_text w 0 (before ++ new)
   text_with =
       ap (λ (t : List ℕ). t ++ messages_text w (length before) new) text_is
@@ -208,13 +206,16 @@ module _ (w : MessageWrites) (bytes : List ℕ) (before new : List MessageTree) 
       record {
         more = more;
         put = put;
-        behind = rw result_is ((
-          part.outcome,
-          part.comes,
-          rest,
-          part.text_is ∙ sym text_with ∙ ap (λ (t : List ℕ). text ++ t) joined ∙ sym (append_assoc text more rest),
-          refl,
-        ), tt);
+        behind = rw result_is (
+          (
+            part.outcome,
+            part.comes,
+            rest,
+            part.text_is ∙ sym text_with ∙ ap (λ (t : List ℕ). text ++ t) joined ∙ sym (append_assoc text more rest),
+            refl,
+          ),
+          tt,
+        );
       }
 
   pub fed_fails :
@@ -270,12 +271,15 @@ refuses_over w bytes a b c before middle start more messages fault halt comes te
     record {
       more = more ++ w.last messages (Some fault);
       put = gathered_then a b c before middle (Ok halt.written) more _ put last;
-      behind = rw halt_is ((
-        over w messages (Some fault),
-        comes,
+      behind = rw halt_is (
+        (
+          over w messages (Some fault),
+          comes,
+          refl,
+          ap (λ (t : List ℕ). t ++ w.last messages (Some fault)) (sym text_is) ∙ append_assoc start more _,
+        ),
         refl,
-        ap (λ (t : List ℕ). t ++ w.last messages (Some fault)) (sym text_is) ∙ append_assoc start more _,
-      ), refl);
+      );
     }
 
 -- what a reader's end tells, where it met no fault

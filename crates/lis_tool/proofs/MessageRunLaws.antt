@@ -141,8 +141,8 @@ module _ (w : MessageWrites) (given : List ℕ) (ended : Bool) (old new : Option
         behind.reads,
         wrote.0,
         subst (λ (t : List ℕ). WentOut old new 0 written t wrote.0) (sym whole_is)
-        (went_out_longer old new 0 written wrote.0 (messages_text w 0 s.messages) (behind.rest ++ behind.outcome.closing)
-        (subst (λ (t : List ℕ). WentOut old new 0 written t wrote.0) text_is wrote.1)),
+            (went_out_longer old new 0 written wrote.0 (messages_text w 0 s.messages) (behind.rest ++ behind.outcome.closing)
+            (subst (λ (t : List ℕ). WentOut old new 0 written t wrote.0) text_is wrote.1)),
       )
   of_starved o s (Err OutOfMemory) wrote =
       let behind = starved_behind w given ended o s in

@@ -311,7 +311,10 @@ impl<const N: usize, T: Teller> LineMachine for Playing<N, T> {
         match self.teller.account() {
             Account::Texts => Ok(Halt {
                 written,
-                result: Ok(Report { status: 0, refused: None }),
+                result: Ok(Report {
+                    status: 0,
+                    refused: None,
+                }),
             }),
             Account::Lines => self.close(sink, page, written),
         }

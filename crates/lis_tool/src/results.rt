@@ -122,11 +122,7 @@ fn gather_results<W: Sink>(
 }
 
 /// The sample behind a record: an order names it.
-fn sample_after<'a>(
-    sample: Option<&'a Field>,
-    kind: Kind,
-    entry: &'a Record,
-) -> Option<&'a Field>
+fn sample_after<'a>(sample: Option<&'a Field>, kind: Kind, entry: &'a Record) -> Option<&'a Field>
     ensures { option_copied result ≡ sample_after (option_copied sample.entry) entry.now kind }
 {
     match kind {

@@ -109,7 +109,10 @@ impl<const N: usize> Machine for Show<N> {
     ) -> Result<Halt, ToolFault> {
         Ok(Halt {
             written,
-            result: Ok(Report { status: 0, refused: None }),
+            result: Ok(Report {
+                status: 0,
+                refused: None,
+            }),
         })
     }
 

@@ -82,7 +82,10 @@ impl LineMachine for Upgrade {
         match gather_opening(sink, page, written, self.begun) {
             Ok(written) => Ok(Halt {
                 written,
-                result: Ok(Report { status: 0, refused: None }),
+                result: Ok(Report {
+                    status: 0,
+                    refused: None,
+                }),
             }),
             Err(fault) => Err(fault),
         }
