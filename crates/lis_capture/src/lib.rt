@@ -7,8 +7,6 @@ pub mod line;
 pub mod page;
 pub mod reader;
 pub mod spelling;
-#[cfg(test)]
-mod tests;
 
 pub use line::{CaptureVersion, LONGEST_LINE, Line, LineBytes, MOST_BYTES};
 pub use lis_link::Readiness;

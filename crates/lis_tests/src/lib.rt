@@ -3,6 +3,8 @@
 #![tactic(auto)]
 
 #[cfg(test)]
+mod capture;
+#[cfg(test)]
 mod commands;
 #[cfg(test)]
 mod field;

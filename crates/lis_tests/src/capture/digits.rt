@@ -1,6 +1,6 @@
 ghost use Rattle.std.specs.Prelude.{◌≤◌, ◌<◌, length};
 
-use crate::*;
+use lis_capture::*;
 use std::test::Fail;
 
 /// Seventy digits, letters in both cases, and the bytes that they stand for.

@@ -1,7 +1,7 @@
 ghost use Rattle.std.specs.Prelude.{◌≤◌};
 
 use super::says;
-use crate::*;
+use lis_capture::*;
 use std::test::Fail;
 
 /// A line of the analyzer with 2,047 letters A, its CR and its LF.

@@ -1,4 +1,4 @@
-use crate::*;
+use lis_capture::*;
 use std::test::Fail;
 
 #[test]

@@ -7,7 +7,7 @@ mod line;
 mod reader;
 mod spelling;
 
-use crate::*;
+use lis_capture::*;
 
 /// Writes a line, where there is room.
 fn put(text: &mut Page, line: &Line) {
