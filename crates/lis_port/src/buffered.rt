@@ -46,10 +46,7 @@ impl<W: Write + Drop> Sink for Buffered<W> {
 
     fn write(&mut self, bytes: &[u8]) -> Result<usize, Failed> {
         match self.writer.write(bytes) {
-            Ok(count) if count > 0 => {
-                self.failed = false;
-                Ok(count)
-            }
+            Ok(count) if count > 0 => Ok(count),
             _ => {
                 self.failed = true;
                 Err(Failed)

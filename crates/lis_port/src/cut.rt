@@ -82,6 +82,7 @@ impl Source for Cut<'_> {
 
     #[tactic(auto, using(crate::proofs::CutLaws::first_is_set))]
     fn read(&mut self, buffer: &mut [u8]) -> Result<usize, Failed>
+        requires unfailed { self.old.failed ≡ false }
         requires room { 0 < length buffer.old }
         requires countable { self.old.made < 4294967295 }
         ensures bound { IfOk result (λ n. n ≤ length buffer.new) }
@@ -100,7 +101,6 @@ impl Source for Cut<'_> {
         ensures behind { self.new.behind ≡ self.old.behind }
     {
         self.made += 1;
-        self.failed = false;
         self.ended = false;
         if self.rest.is_empty() {
             return match self.then {

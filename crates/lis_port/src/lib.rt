@@ -4,6 +4,7 @@
 
 mod buffered;
 mod cut;
+mod faltering;
 mod once;
 mod port;
 mod read_ahead;
@@ -13,6 +14,7 @@ mod writing;
 
 pub use buffered::Buffered;
 pub use cut::{Cut, Then};
+pub use faltering::Faltering;
 pub use once::Once;
 pub use port::{Failed, Sink, Source, read_sent};
 pub use read_ahead::ReadAhead;

@@ -3,7 +3,7 @@
 ghost use Rattle.std.specs.Prelude.{◌≡◌, ℕ, ◌+◌, ◌<◌, ◌≤◌, ◌↔◌, Bool, List, Option, IfOk, MatchResult, OnOk, true, false, is_err, length, IsTrue};
 ghost use Rattle.std.specs.Io.KnownBytes.{Keeps, ReadConsumes, WriteAppends};
 
-/// A read or a write that failed. Nothing is tried again.
+/// A read or a write that failed. Nothing is tried again: a port that failed may not be called.
 #[derive(Debug, Clone, Copy, PartialEq, Eq)]
 pub struct Failed;
 
@@ -24,8 +24,9 @@ pub trait Source {
     ghost may_wait: { Self → Bool };
 
     /// Fills the front of `buffer` and answers how many bytes it gave; 0 is the end.
-    /// Where it failed no byte is lost.
+    /// Where it failed no byte is lost, and it is read no more.
     fn read(&mut self, buffer: &mut [u8]) -> Result<usize, Failed>
+        requires unfailed { failed self.old ≡ false }
         requires room { 0 < length buffer.old }
         requires countable { made self.old < 4294967295 }
         ensures bound { IfOk result (λ n. n ≤ length buffer.new) }
@@ -67,9 +68,10 @@ pub trait Sink {
     ghost failed: { Self → Bool };
 
     /// Takes bytes from the front of `bytes` and answers how many, at least one.
-    /// Where it failed it took none.
+    /// Where it failed it took none, and it is asked no more.
     fn write(&mut self, bytes: &[u8]) -> Result<usize, Failed>
-        requires { 0 < length bytes.now }
+        requires unfailed { failed self.old ≡ false }
+        requires some { 0 < length bytes.now }
         ensures some { IfOk result (λ n. 0 < n) }
         ensures bound { IfOk result (λ n. n ≤ length bytes.now) }
         ensures bytes { WriteAppends (taken self.old) (taken self.new) result bytes.now }
@@ -77,6 +79,7 @@ pub trait Sink {
 
     /// Sends on what it holds back, if it holds any. What it took stays taken, also where it failed.
     fn flush(&mut self) -> Result<(), Failed>
+        requires unfailed { failed self.old ≡ false }
         ensures taken { Keeps (taken self.old) (taken self.new) }
         ensures sent { OnOk result (sent self.new ≡ taken self.new) }
         ensures failed { failed self.new ≡ is_err result };
@@ -86,12 +89,14 @@ pub trait Sink {
         ensures { result ≡ failed self.now };
 }
 
-/// Reads from a source, in a run that writes to a sink: where the read may wait, the sink holds nothing back.
+/// Reads from a source that has not failed, in a run that writes to a sink: where the read may wait, the sink holds
+/// nothing back.
 pub fn read_sent<R: Source, W: Sink>(
     source: &mut R,
     _sink: &W,
     buffer: &mut [u8],
 ) -> Result<usize, Failed>
+    requires unfailed { R.failed source.old ≡ false }
     requires room { 0 < length buffer.old }
     requires countable { R.made source.old < 4294967295 }
     requires sent { R.may_wait source.old ≡ true → W.sent _sink.now ≡ W.taken _sink.now }

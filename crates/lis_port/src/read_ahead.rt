@@ -77,7 +77,6 @@ impl<R: Read> Source for ReadAhead<R> {
 
     fn read(&mut self, buffer: &mut [u8]) -> Result<usize, Failed> {
         self.made += 1;
-        self.failed = false;
         self.ended = false;
         if !self.reader.buffer().is_empty() {
             return Ok(give(&mut self.reader, buffer));

@@ -62,7 +62,6 @@ impl<R: Read> Source for Reading<R> {
             self.ended = false;
             return Err(Failed);
         };
-        self.failed = false;
         self.ended = count == 0;
         Ok(count)
     }

@@ -66,7 +66,8 @@ impl Sink for Slow {
     ghost failed = { λ s. s.failed };
 
     fn write(&mut self, bytes: &[u8]) -> Result<usize, Failed>
-        requires { 0 < length bytes.now }
+        requires unfailed { self.old.failed ≡ false }
+        requires some { 0 < length bytes.now }
         ensures some { IfOk result (λ n. 0 < n) }
         ensures bound { IfOk result (λ n. n ≤ length bytes.now) }
         ensures bytes { WriteAppends (Some self.old.taken) (Some self.new.taken) result bytes.now }
@@ -85,15 +86,14 @@ impl Sink for Slow {
             self.failed = true;
             return Err(Failed);
         }
-        self.failed = false;
         Ok(count)
     }
 
     fn flush(&mut self) -> Result<(), Failed>
-        ensures value { self.new ≡ record { taken = self.old.taken; room = self.old.room; step = self.old.step; failed = false } }
+        requires unfailed { self.old.failed ≡ false }
+        ensures value { self.new ≡ self.old }
         ensures result { result ≡ Ok (record {}) }
     {
-        self.failed = false;
         Ok(())
     }
 

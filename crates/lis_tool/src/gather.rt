@@ -79,7 +79,7 @@ pub(crate) fn send_page_before_a_wait<R: Source, W: Sink>(
     Ok(written)
 }
 
-/// Reads from a source: where the read may wait, nothing waits on the page or is held back by the sink.
+/// Reads from a source that has not failed: where the read may wait, nothing waits on the page or is held back by the sink.
 #[inline(always)]
 pub(crate) fn read_settled<R: Source, W: Sink>(
     source: &mut R,
@@ -87,6 +87,7 @@ pub(crate) fn read_settled<R: Source, W: Sink>(
     _page: &Page,
     buffer: &mut [u8],
 ) -> Result<usize, Failed>
+    requires unfailed { R.failed source.old ≡ false }
     requires room { 0 < length buffer.old }
     requires countable { R.made source.old < 4294967295 }
     requires sent { R.may_wait source.old ≡ true → W.sent sink.now ≡ W.taken sink.now }
