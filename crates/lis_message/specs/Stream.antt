@@ -5,7 +5,6 @@ use Rattle.std.specs.Option.{option_or}
 use Rattle.lis_field.specs.declared.kinds.Kind.{Kind}
 use Rattle.lis_field.specs.declared.kinds.Kind.TheVariants as kinds
 use Rattle.lis_record.specs.declared.faults.RecordFault.TheVariants as record_faults
-use Rattle.lis_record.specs.declared.texts.TheConstants.{RECORD_LIMIT}
 use Rattle.lis_field.specs.Delimiters.{IsDelimiters}
 use Rattle.lis_record.specs.Faults.{header_fault, record_fault}
 use Rattle.lis_field.specs.Kinds.{kind_of}
@@ -17,6 +16,7 @@ use Rattle.lis_tree.specs.Begun.{Begun, level_of}
 use Rattle.lis_tree.specs.Level.{outside, closed, kinds_of, level_after, misplaced, StandsFrom}
 use Rattle.lis_tree.specs.Places.{capped}
 use Rattle.lis_tree.specs.Tree.{MessageTree, IsTree, flatten}
+use Rattle.lis_record.specs.Text.{record_limit}
 
 -- a text and its CR
 abbrev pub line : List ℕ → List ℕ
@@ -60,7 +60,7 @@ pub record IsCut (stream : List ℕ) (messages : List MessageTree) (left : Optio
   pub read : AllZip AreMessage groups messages
   pub begun : AreLeft texts left
   pub lacks : LacksReturn held
-  pub short : length held ≤ RECORD_LIMIT
+  pub short : length held ≤ record_limit
 
 -- ---- what can't be read
 
@@ -91,12 +91,12 @@ refusal left (letter ∷ bytes) = letter_refusal left letter (kind_of letter) (l
 pub record IsRefusedText (left : Option Begun) (text more : List ℕ) (reason : Reason) : Type 0 where
   pub rest : List ℕ
   pub ended_by : more ≡ 13 ∷ rest
-  pub short : length text ≤ RECORD_LIMIT
+  pub short : length text ≤ record_limit
   pub why : refusal left text ≡ Some reason
 
 -- a text that is too long, whether or not it is ended
 pub record IsLongText (text : List ℕ) (reason : Reason) : Type 0 where
-  pub long : length text ≡ RECORD_LIMIT + 1
+  pub long : length text ≡ record_limit + 1
   pub why : reason ≡ reasons.RecordTooLong
 
 -- These messages are read of the stream, and then a record is refused.

@@ -5,8 +5,12 @@ use Rattle.lis_message.specs.declared.texts.TextsFault.TheVariants.{BadRecord, T
 use Rattle.lis_tree.specs.Tree.{MessageTree, flatten}
 use Rattle.lis_message.specs.Writing.{write_refusal}
 
+-- each record can be written, and there are no more of them than link texts in a session
+abbrev pub FitsInTexts : MessageTree → Type 0
+FitsInTexts message = (write_refusal message ≡ None) × (length (flatten message) ≤ 65536)
+
 -- a record that can't be written, else too many records, else want of memory
 abbrev pub HasNoTexts : MessageTree → TextsFault → Type 0
 HasNoTexts message (BadRecord place fault) = write_refusal message ≡ Some (record { place = place; fault = fault })
 HasNoTexts message TooMany = (write_refusal message ≡ None) × (65536 < length (flatten message))
-HasNoTexts message OutOfMemory = (write_refusal message ≡ None) × (length (flatten message) ≤ 65536)
+HasNoTexts message OutOfMemory = FitsInTexts message

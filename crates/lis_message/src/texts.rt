@@ -1,11 +1,11 @@
 //! The link texts of a message, one for each record.
-ghost use Rattle.std.specs.Prelude.{◌≡◌, IfOk, IfErr, None, Some, false, map};
+ghost use Rattle.std.specs.Prelude.{◌≡◌, IfOk, IfErr, None, OnOk, Some, false, map};
 ghost use Rattle.std.specs.List.{AllByRecursion, flat_map};
 ghost use Rattle.lis_text.specs.LinkText.{longest_text};
 ghost use Rattle.lis_text.specs.Text.{text_fault};
 ghost use Rattle.lis_record.specs.Faults.{check_fault};
 ghost use Rattle.lis_record.specs.Spelling.{written};
-ghost use Rattle.lis_message.specs.Texts.{HasNoTexts};
+ghost use Rattle.lis_message.specs.Texts.{FitsInTexts, HasNoTexts};
 ghost use Rattle.lis_message.specs.Writing.{AreWritable, message_bytes, message_texts_of};
 
 use crate::writer::check_records;
@@ -42,10 +42,7 @@ impl Sink for TextSink {
 
     fn write(&mut self, bytes: &[u8]) -> Result<usize, Failed> {
         match self.text.extend(bytes) {
-            Ok(()) => {
-                self.failed = false;
-                Ok(bytes.len())
-            }
+            Ok(()) => Ok(bytes.len()),
             Err(_) => {
                 self.failed = true;
                 Err(Failed)
@@ -54,7 +51,6 @@ impl Sink for TextSink {
     }
 
     fn flush(&mut self) -> Result<(), Failed> {
-        self.failed = false;
         Ok(())
     }
 
@@ -101,6 +97,7 @@ fn texts_of(alloc: Global, delimiters: Delimiters, walk: Walk<'_>) -> Result<Tex
 /// number.
 pub fn message_texts(alloc: Global, message: &Message) -> Result<Texts, TextsFault>
     ensures ok { IfOk result (λ texts. texts ≡ message_texts_of message.now) }
+    ensures only { OnOk result (FitsInTexts message.now) }
     ensures joined { IfOk result (λ texts. flat_map (λ text. text) texts ≡ message_bytes message.now) }
     ensures sent { IfOk result (AllByRecursion (λ text. text_fault longest_text text ≡ None)) }
     ensures err { IfErr result (HasNoTexts message.now) }

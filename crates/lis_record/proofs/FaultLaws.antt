@@ -9,14 +9,13 @@ use Rattle.lis_field.specs.declared.kinds.Kind.{Kind}
 use Rattle.lis_field.specs.declared.kinds.Kind.TheVariants as kinds
 use Rattle.lis_record.specs.declared.faults.DelimiterPartFault.TheVariants.{Trailing, Short, Fault}
 use Rattle.lis_record.specs.declared.faults.RecordFault.TheVariants as record_faults
-use Rattle.lis_record.specs.declared.texts.TheConstants.{RECORD_LIMIT}
 use Rattle.lis_field.specs.Delimiters.{DelimiterBytes, IsDelimiters, delimiter_fault, delimiters_of}
 use Rattle.lis_record.specs.Faults.{delimiter_part_fault, header_fault, is_other_kind, record_fault, text_fault, trailing_byte, is_header_kind}
 use Rattle.lis_record.specs.FrontReading.{fields_of}
 use Rattle.lis_field.specs.Kinds.{kind_of}
 use Rattle.lis_record.specs.Relation.{AreFieldTexts, IsRecord, declared_part}
 use Rattle.lis_field.specs.Shape.{RecordContent}
-use Rattle.lis_record.specs.Text.{IsText, is_text_byte, bad_byte_place}
+use Rattle.lis_record.specs.Text.{IsText, is_text_byte, bad_byte_place, record_limit}
 use Rattle.lis_field.proofs.FirstFaults.{AllPass-position, ltb-past, ltb_tells, option_map-none, option_or-none, position-AllPass}
 use Rattle.lis_field.proofs.DelimiterFaults.{IsDelimiters-delimiters_of, delimiter_fault-IsDelimiters}
 use Rattle.lis_record.proofs.RecordTexts.{AreFieldTexts-fields_of, AreFieldTexts-none}
@@ -31,16 +30,16 @@ none_cond false x h = refl
 
 -- ---- text bytes, and not too many
 
-pub text_fault-none : (text : List ℕ) → text_fault text ≡ None → IsText text × (length text ≤ RECORD_LIMIT)
+pub text_fault-none : (text : List ℕ) → text_fault text ≡ None → IsText text × (length text ≤ record_limit)
 unfolding text_fault
 text_fault-none text h =
-    let both = option_or-none (option_map record_faults.Byte (bad_byte_place text)) (cond (ltb RECORD_LIMIT (length text)) (Some record_faults.TooLong) None) h in
-    let not_long = none_cond (ltb RECORD_LIMIT (length text)) record_faults.TooLong both.1 in
-    (AllPass-position is_text_byte text (option_map-none record_faults.Byte (bad_byte_place text) both.0), elim (ltb_tells RECORD_LIMIT (length text)) [ inl past ↦ cc (not_long, past.0) | inr within ↦ within.1 ])
+    let both = option_or-none (option_map record_faults.Byte (bad_byte_place text)) (cond (ltb record_limit (length text)) (Some record_faults.TooLong) None) h in
+    let not_long = none_cond (ltb record_limit (length text)) record_faults.TooLong both.1 in
+    (AllPass-position is_text_byte text (option_map-none record_faults.Byte (bad_byte_place text) both.0), elim (ltb_tells record_limit (length text)) [ inl past ↦ cc (not_long, past.0) | inr within ↦ within.1 ])
 
-pub none-text_fault : (text : List ℕ) → IsText text → length text ≤ RECORD_LIMIT → text_fault text ≡ None
+pub none-text_fault : (text : List ℕ) → IsText text → length text ≤ record_limit → text_fault text ≡ None
 unfolding text_fault
-none-text_fault text all short = rw (position-AllPass is_text_byte text all, ltb-past RECORD_LIMIT (length text) short) refl
+none-text_fault text all short = rw (position-AllPass is_text_byte text all, ltb-past record_limit (length text) short) refl
 
 -- ---- records other than headers
 

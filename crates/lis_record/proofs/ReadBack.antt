@@ -18,8 +18,7 @@ use Rattle.lis_field.specs.Kinds.{kind_of, letter_of}
 use Rattle.lis_record.specs.Relation.{AreFieldTexts, IsField, IsRecord, IsRepeat, Lacks, declared_part}
 use Rattle.lis_field.specs.Shape.{first_number, AreSymbols, Components, Fields, IsFieldShape, IsRecordShape, IsRepeatShape, IsSymbol, RecordContent, Repeats, Symbols}
 use Rattle.lis_record.specs.Spelling.{letter_spelling, spelled, spelled_component, spelled_field, spelled_repeat, spelled_symbol}
-use Rattle.lis_record.specs.Text.{IsText, is_text_byte}
-use Rattle.lis_record.specs.declared.texts.TheConstants.{RECORD_LIMIT}
+use Rattle.lis_record.specs.Text.{IsText, is_text_byte, record_limit}
 use Rattle.lis_record.specs.declared.faults.WriteFault.TheVariants.{CharNotText, TooLong}
 use Rattle.lis_field.proofs.FirstFaults.{ltb_tells}
 use Rattle.lis_field.proofs.FirstFaults.{AllPass-position, option_map-none, option_or-none}
@@ -325,7 +324,7 @@ module _ (d : DelimiterBytes) (good : IsDelimiters d) where
   kind_of-letter_of kinds.S = refl
   kind_of-letter_of kinds.L = refl
 
-  pub IsRecord-writable : (content : RecordContent) → All IsWritableField content.fields → length (spelled d content) ≤ RECORD_LIMIT → IsRecord d (spelled d content) content
+  pub IsRecord-writable : (content : RecordContent) → All IsWritableField content.fields → length (spelled d content) ≤ record_limit → IsRecord d (spelled d content) content
   IsRecord-writable content h short = record {
     letter = letter_of content.kind;
     fields_text = flat_map (λ field. d.field ∷ spelled_field d field) content.fields;
@@ -344,6 +343,6 @@ IsRecord-spelled d good content shape h =
     let place = position (λ (field : Repeats). not (is_text_field field)) content.fields in
     let both = option_or-none (option_map CharNotText (option_map number place)) (long_fault (spelled d content)) h in
     let texts = AllPass-position is_text_field content.fields (option_map-none number place (option_map-none CharNotText (option_map number place) both.0)) in
-    let not_long = none_cond (ltb RECORD_LIMIT (length (spelled d content))) TooLong both.1 in
-    let short : length (spelled d content) ≤ RECORD_LIMIT = elim (ltb_tells RECORD_LIMIT (length (spelled d content))) [ inl past ↦ cc (not_long, past.0) | inr within ↦ within.1 ] in
+    let not_long = none_cond (ltb record_limit (length (spelled d content))) TooLong both.1 in
+    let short : length (spelled d content) ≤ record_limit = elim (ltb_tells record_limit (length (spelled d content))) [ inl past ↦ cc (not_long, past.0) | inr within ↦ within.1 ] in
     IsRecord-writable d good content (λ k e below. IsWritableField-text (get_or content.fields k e) (shape k e below) (texts k e below)) short

@@ -6,7 +6,6 @@ use Rattle.std.proofs.lemmas.List.{drop-take, length-drop}
 use Rattle.std.specs.Option.{option_or}
 use Rattle.lis_record.specs.declared.faults.WriteFault.{WriteFault}
 use Rattle.lis_record.specs.declared.faults.WriteFault.TheVariants as write_faults
-use Rattle.lis_record.specs.declared.texts.TheConstants.{RECORD_LIMIT}
 use Rattle.lis_field.specs.Delimiters.{DelimiterBytes}
 use Rattle.lis_record.specs.Faults.{bad_field_number, check_fault, field_char_fault, field_fault, is_text_field, long_fault}
 use Rattle.lis_field.specs.Shape.{RecordContent, Repeats}
@@ -16,19 +15,20 @@ use Rattle.lis_field.proofs.FirstFaults.{ltb-past, ltb_tells}
 use Rattle.lis_field.proofs.FirstFaults.{option_or-none}
 use Rattle.lis_record.proofs.FaultLaws.{none_cond}
 use Rattle.lis_record.proofs.Sinks.{Keeps-same}
+use Rattle.lis_record.specs.Text.{record_limit}
 
 -- ---- a spelling that is too long
 
-long_fault-past : (text : List ℕ) → RECORD_LIMIT < length text → long_fault text ≡ Some write_faults.TooLong
-long_fault-past text h = rw (lt-ltb RECORD_LIMIT (length text) h) refl
+long_fault-past : (text : List ℕ) → record_limit < length text → long_fault text ≡ Some write_faults.TooLong
+long_fault-past text h = rw (lt-ltb record_limit (length text) h) refl
 
-long_fault-within : (text : List ℕ) → length text ≤ RECORD_LIMIT → long_fault text ≡ None
-long_fault-within text h = rw (ltb-past RECORD_LIMIT (length text) h) refl
+long_fault-within : (text : List ℕ) → length text ≤ record_limit → long_fault text ≡ None
+long_fault-within text h = rw (ltb-past record_limit (length text) h) refl
 
-within-long_fault : (text : List ℕ) → long_fault text ≡ None → length text ≤ RECORD_LIMIT
+within-long_fault : (text : List ℕ) → long_fault text ≡ None → length text ≤ record_limit
 within-long_fault text h =
-    let test = none_cond (ltb RECORD_LIMIT (length text)) write_faults.TooLong h in
-    elim (ltb_tells RECORD_LIMIT (length text)) [ inl past ↦ cc (test, past.0) | inr within ↦ within.1 ]
+    let test = none_cond (ltb record_limit (length text)) write_faults.TooLong h in
+    elim (ltb_tells record_limit (length text)) [ inl past ↦ cc (test, past.0) | inr within ↦ within.1 ]
 
 -- ---- why a record is refused
 
@@ -36,17 +36,17 @@ pub check_fault-char : (d : DelimiterBytes) (content : RecordContent) (number : 
 unfolding check_fault
 check_fault-char d content number h = ap (λ (o : Option ℕ). option_or (option_map write_faults.CharNotText o) (long_fault (spelled d content))) h
 
-pub check_fault-long : (d : DelimiterBytes) (content : RecordContent) → bad_field_number content ≡ None → RECORD_LIMIT < length (spelled d content) → check_fault d content ≡ Some write_faults.TooLong
+pub check_fault-long : (d : DelimiterBytes) (content : RecordContent) → bad_field_number content ≡ None → record_limit < length (spelled d content) → check_fault d content ≡ Some write_faults.TooLong
 unfolding check_fault
 check_fault-long d content h long =
     ap (λ (o : Option ℕ). option_or (option_map write_faults.CharNotText o) (long_fault (spelled d content))) h ∙ long_fault-past (spelled d content) long
 
-pub check_fault-none : (d : DelimiterBytes) (content : RecordContent) → bad_field_number content ≡ None → length (spelled d content) ≤ RECORD_LIMIT → check_fault d content ≡ None
+pub check_fault-none : (d : DelimiterBytes) (content : RecordContent) → bad_field_number content ≡ None → length (spelled d content) ≤ record_limit → check_fault d content ≡ None
 unfolding check_fault
 check_fault-none d content h short =
     ap (λ (o : Option ℕ). option_or (option_map write_faults.CharNotText o) (long_fault (spelled d content))) h ∙ long_fault-within (spelled d content) short
 
-pub short-check_fault : (d : DelimiterBytes) (content : RecordContent) → check_fault d content ≡ None → length (spelled d content) ≤ RECORD_LIMIT
+pub short-check_fault : (d : DelimiterBytes) (content : RecordContent) → check_fault d content ≡ None → length (spelled d content) ≤ record_limit
 unfolding check_fault
 short-check_fault d content h =
     within-long_fault (spelled d content) (option_or-none (option_map write_faults.CharNotText (bad_field_number content)) (long_fault (spelled d content)) h).1
@@ -59,7 +59,7 @@ no_io None false count h = cc
 
 check_fault-io : (d : DelimiterBytes) (content : RecordContent) (count : ℕ) → check_fault d content ≡ Some (write_faults.Io count) → ⊥
 unfolding check_fault
-check_fault-io d content count h = no_io (bad_field_number content) (ltb RECORD_LIMIT (length (spelled d content))) count h
+check_fault-io d content count h = no_io (bad_field_number content) (ltb record_limit (length (spelled d content))) count h
 
 -- ---- what is answered
 
@@ -76,7 +76,7 @@ is_io-refused d content write_faults.TooLong h = refl
 is_io-refused d content (write_faults.Io count) h = absurd (check_fault-io d content count h)
 
 -- what the engine sent of a text that is no longer than a record and its CR
-pub Wrote-sent : (refusal : Option WriteFault) (skip : ℕ) (bytes rest : List ℕ) (old new : Option (List ℕ)) (r : Result Unit WriteFault) → refusal ≡ None → skip ≤ length bytes → length bytes ≤ RECORD_LIMIT + 1
+pub Wrote-sent : (refusal : Option WriteFault) (skip : ℕ) (bytes rest : List ℕ) (old new : Option (List ℕ)) (r : Result Unit WriteFault) → refusal ≡ None → skip ≤ length bytes → length bytes ≤ record_limit + 1
     → rest ≡ drop skip bytes → Sent skip rest old new r → Wrote refusal skip bytes old new r
 Wrote-sent refusal skip bytes rest old new (Ok tt) none within short is sent = (none, rw is at sent)
 Wrote-sent refusal skip bytes rest old new (Err (write_faults.CharNotText number)) none within short is sent = absurd sent
@@ -89,18 +89,18 @@ Wrote-sent refusal skip bytes rest old new (Err (write_faults.Io told)) none wit
 
 -- ---- the test of a length
 
-pub within_true : (b : Bool) (whole bytes : List ℕ) → (b ≡ true ↔ length whole ≤ RECORD_LIMIT) → whole ≡ bytes → b ≡ true → length bytes ≤ RECORD_LIMIT
+pub within_true : (b : Bool) (whole bytes : List ℕ) → (b ≡ true ↔ length whole ≤ record_limit) → whole ≡ bytes → b ≡ true → length bytes ≤ record_limit
 within_true b whole bytes tells same h = rw same at (tells.0 h)
 
-pub within_false : (b : Bool) (whole bytes : List ℕ) → (b ≡ true ↔ length whole ≤ RECORD_LIMIT) → whole ≡ bytes → b ≡ false → RECORD_LIMIT < length bytes
+pub within_false : (b : Bool) (whole bytes : List ℕ) → (b ≡ true ↔ length whole ≤ record_limit) → whole ≡ bytes → b ≡ false → record_limit < length bytes
 within_false b whole bytes tells same h =
-    elim (cases_lt RECORD_LIMIT (length bytes)) [
+    elim (cases_lt record_limit (length bytes)) [
       | inl past ↦ past
       | inr within ↦ let yes : b ≡ true = tells.1 (rw same within) in cc
     ]
 
 -- the spelling of a record that isn't refused, and CR
-pub short-written : (d : DelimiterBytes) (content : RecordContent) → check_fault d content ≡ None → length (written d content) ≤ RECORD_LIMIT + 1
+pub short-written : (d : DelimiterBytes) (content : RecordContent) → check_fault d content ≡ None → length (written d content) ≤ record_limit + 1
 short-written d content h =
     let size = length-append (spelled d content) (13 ∷ []) in
     let short = short-check_fault d content h in
@@ -120,11 +120,11 @@ pub field_fault-other : (d : DelimiterBytes) (repeats : Repeats) → is_text_fie
 unfolding field_fault
 field_fault-other d repeats h = ap (λ o. option_or o (long_fault (spelled_field d repeats))) (field_char_fault-other repeats h)
 
-pub field_fault-long : (d : DelimiterBytes) (repeats : Repeats) → is_text_field repeats ≡ true → RECORD_LIMIT < length (spelled_field d repeats) → field_fault d repeats ≡ Some write_faults.TooLong
+pub field_fault-long : (d : DelimiterBytes) (repeats : Repeats) → is_text_field repeats ≡ true → record_limit < length (spelled_field d repeats) → field_fault d repeats ≡ Some write_faults.TooLong
 unfolding field_fault
 field_fault-long d repeats h long = ap (λ o. option_or o (long_fault (spelled_field d repeats))) (field_char_fault-text repeats h) ∙ long_fault-past (spelled_field d repeats) long
 
-pub field_fault-none : (d : DelimiterBytes) (repeats : Repeats) → is_text_field repeats ≡ true → length (spelled_field d repeats) ≤ RECORD_LIMIT → field_fault d repeats ≡ None
+pub field_fault-none : (d : DelimiterBytes) (repeats : Repeats) → is_text_field repeats ≡ true → length (spelled_field d repeats) ≤ record_limit → field_fault d repeats ≡ None
 unfolding field_fault
 field_fault-none d repeats h short = ap (λ o. option_or o (long_fault (spelled_field d repeats))) (field_char_fault-text repeats h) ∙ long_fault-within (spelled_field d repeats) short
 
@@ -137,7 +137,7 @@ WroteAny-sent refusal bytes rest old new (Err write_faults.TooLong) none is sent
 WroteAny-sent refusal bytes rest old new (Err (write_faults.Io told)) none is (count, is_told, less, taken) = (none, count, rw zero-add at is_told, rw is at less, rw is at taken)
 
 -- of bytes within the limit of a record the count is exact
-pub Wrote-any : (refusal : Option WriteFault) (bytes : List ℕ) (old new : Option (List ℕ)) (r : Result Unit WriteFault) (weaker : Option WriteFault) → refusal ≡ None → weaker ≡ None → length bytes ≤ RECORD_LIMIT
+pub Wrote-any : (refusal : Option WriteFault) (bytes : List ℕ) (old new : Option (List ℕ)) (r : Result Unit WriteFault) (weaker : Option WriteFault) → refusal ≡ None → weaker ≡ None → length bytes ≤ record_limit
     → WroteAny weaker bytes old new r → Wrote refusal 0 bytes old new r
 Wrote-any refusal bytes old new (Ok tt) weaker none weak short h = (none, h.1)
 Wrote-any refusal bytes old new (Err (write_faults.Io told)) weaker none weak short (_, count, is_told, less, taken) =

@@ -10,14 +10,13 @@ use Rattle.lis_record.specs.declared.faults.WriteFault.{WriteFault}
 use Rattle.lis_record.specs.declared.faults.WriteFault.TheVariants as write_faults
 use Rattle.lis_field.specs.declared.kinds.Kind.{Kind}
 use Rattle.lis_field.specs.declared.kinds.Kind.TheVariants as kinds
-use Rattle.lis_record.specs.declared.texts.TheConstants.{RECORD_LIMIT}
 use Rattle.lis_field.specs.declared.symbols.Sym.{Sym}
 use Rattle.lis_field.specs.declared.symbols.Sym.TheVariants.{Char}
 use Rattle.lis_field.specs.Delimiters.{DelimiterBytes, delimiter_fault}
 use Rattle.lis_field.specs.Kinds.{kind_of}
 use Rattle.lis_field.specs.Shape.{Symbols, Components, Repeats, RecordContent, first_number}
 use Rattle.lis_record.specs.Spelling.{spelled, spelled_field}
-use Rattle.lis_record.specs.Text.{is_text_byte, bad_byte_place}
+use Rattle.lis_record.specs.Text.{is_text_byte, bad_byte_place, record_limit}
 
 -- ---- reading
 
@@ -25,7 +24,7 @@ use Rattle.lis_record.specs.Text.{is_text_byte, bad_byte_place}
 unfoldable pub text_fault : List ℕ → Option RecordFault
 text_fault text =
     option_or (option_map record_faults.Byte (bad_byte_place text))
-    (if nat_lt RECORD_LIMIT (length text) then Some record_faults.TooLong else None)
+    (if nat_lt record_limit (length text) then Some record_faults.TooLong else None)
 
 -- whether a letter is a header's
 abbrev pub is_header_kind : Option Kind → Bool
@@ -93,7 +92,7 @@ bad_field_number content =
 
 -- more bytes than a record may have
 abbrev pub long_fault : List ℕ → Option WriteFault
-long_fault text = if nat_lt RECORD_LIMIT (length text) then Some write_faults.TooLong else None
+long_fault text = if nat_lt record_limit (length text) then Some write_faults.TooLong else None
 
 -- why a record is not written: a character that is no text byte, else a spelling that is too long
 unfoldable pub check_fault : DelimiterBytes → RecordContent → Option WriteFault

@@ -3,12 +3,11 @@ use Rattle.std.specs.Prelude.{◌≡◌, ◌≢◌, ℕ, ◌<◌, ◌≤◌, Lis
 use Rattle.std.specs.List.{All, AllZip, flat_map, join_with_byte}
 use Rattle.lis_field.specs.declared.kinds.Kind.{Kind}
 use Rattle.lis_field.specs.declared.kinds.Kind.TheVariants as kinds
-use Rattle.lis_record.specs.declared.texts.TheConstants.{RECORD_LIMIT}
 use Rattle.lis_field.specs.Delimiters.{DelimiterBytes, delimiter_list}
 use Rattle.lis_record.specs.Escapes.{IsComponent}
 use Rattle.lis_field.specs.Kinds.{kind_of}
 use Rattle.lis_field.specs.Shape.{Components, Repeats, Fields, RecordContent}
-use Rattle.lis_record.specs.Text.{IsText}
+use Rattle.lis_record.specs.Text.{IsText, record_limit}
 
 -- the byte stands nowhere in the text
 abbrev pub Lacks : ℕ → List ℕ → Type 0
@@ -50,4 +49,4 @@ pub record IsRecord (d : DelimiterBytes) (text : List ℕ) (content : RecordCont
   pub kind_is : kind_of letter ≡ Some content.kind
   pub fields_are : AreFieldTexts d fields_text content.fields
   pub is_text : IsText text
-  pub short : length text ≤ RECORD_LIMIT
+  pub short : length text ≤ record_limit

@@ -7,6 +7,10 @@ unfoldable pub is_text_byte : ℕ → Bool
 is_text_byte b =
     b == 7 || b == 9 || b == 11 || b == 12 || (nat_le 32 b && nat_le b 126) || (nat_le 128 b && nat_le b 254)
 
+-- the most bytes that a record has, without its CR
+abbrev pub record_limit : ℕ
+record_limit = 65536
+
 -- text bytes alone
 abbrev pub IsText : List ℕ → Type 0
 IsText bytes = AllPass is_text_byte bytes

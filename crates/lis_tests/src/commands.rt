@@ -1,10 +1,10 @@
 //! What no contract, no conformance row and no test of the program says: reads and flushes in their order, words, and the
 //! texts of faults.
 
-use lis_port::{Buffered, Cut, Slow, Source, Then};
+use lis_port::{Buffered, Cut, Faltering, Reading, Slow, Source, Then, Writing};
 use lis_tool::{Command, Report, ToolFault, command, run_show};
 use std::alloc::Global;
-use std::io::BufWriter;
+use std::io::{BufWriter, ErrorKind};
 use std::test::Fail;
 
 /// Number 1, last, the text of a header record and CR.
@@ -37,6 +37,31 @@ fn a_sink_that_can_not_send_on_ends_the_run(rt: HostRuntime) -> Result<(), Fail>
         Err(ToolFault::Write { written: 4 })
     );
     assert_eq!(rt; source.made(), 1);
+    Ok(())
+}
+
+#[test]
+fn a_run_tries_nothing_again(rt: HostRuntime) -> Result<(), Fail> {
+    let reader = Faltering::new(b"\x05\x04".as_slice(), 1, ErrorKind::Interrupted);
+    let mut source = Reading::new(reader);
+    let mut sink = Slow::new(100, 100);
+    assert_eq!(rt;
+        run_show(&mut source, &mut sink, 1000),
+        Err(ToolFault::Read)
+    );
+    assert_eq!(rt; sink.took(), b"ENQ\nEOT\n".as_slice());
+    assert_eq!(rt; source.into_inner().calls(), 2);
+
+    let mut source = Cut::new(b"\x05\x04", 2, Then::End);
+    // The sink is flushed before the read, and then written to.
+    let writer = Faltering::new(Vec::new(rt.alloc()), 1, ErrorKind::Interrupted);
+    let mut sink = Writing::new(writer);
+    assert_eq!(rt;
+        run_show(&mut source, &mut sink, 1000),
+        Err(ToolFault::Write { written: 0 })
+    );
+    assert_eq!(rt; source.made(), 1);
+    assert_eq!(rt; sink.into_inner().calls(), 2);
     Ok(())
 }
 

@@ -1,7 +1,9 @@
 use lis_port::{
-    Buffered, Cut, Failed, Once, ReadAhead, Reading, Sink, Slow, Source, Then, Writing, read_sent,
+    Buffered, Cut, Failed, Faltering, Once, ReadAhead, Reading, Sink, Slow, Source, Then, Writing,
+    read_sent,
 };
 use std::io::{self, BufReader, BufWriter, ErrorKind, Write};
+use std::mem;
 use std::test::Fail;
 
 const HEADER_FRAME: [u8; 13] = [
@@ -56,7 +58,6 @@ fn a_slow_sink_takes_its_steps_and_then_fails(rt: HostRuntime) -> Result<(), Fai
 fn a_slow_sink_holds_nothing_back(rt: HostRuntime) -> Result<(), Fail> {
     let mut sink = Slow::new(1, 1);
     assert_eq!(rt; sink.write(b"ab"), Ok(1));
-    assert_eq!(rt; sink.write(b"b"), Err(Failed));
     assert_eq!(rt; sink.flush(), Ok(()));
     assert!(rt; !sink.failed());
     assert_eq!(rt; sink.took(), b"a".as_slice());
@@ -121,6 +122,45 @@ fn an_interrupted_write_is_an_error_as_any_other(rt: HostRuntime) -> Result<(), 
     assert_eq!(rt; wrote, Err(ErrorKind::Other));
     let flushed = writer.flush().map_err(|error| error.kind());
     assert_eq!(rt; flushed, Err(ErrorKind::Other));
+    Ok(())
+}
+
+#[test]
+fn an_interrupted_read_is_not_made_again(rt: HostRuntime) -> Result<(), Fail> {
+    let mut buffer = [0; 2];
+    let mut source = Reading::new(Faltering::new(b"abcdef".as_slice(), 1, ErrorKind::Interrupted));
+    assert_eq!(rt; source.read(&mut buffer), Ok(2));
+    if !source.failed() {
+        assert_eq!(rt; source.read(&mut buffer), Err(Failed));
+    }
+    assert_eq!(rt; source.into_inner().calls(), 2);
+
+    let reader = Faltering::new(b"abcdef".as_slice(), 0, ErrorKind::Interrupted);
+    let mut source = ReadAhead::new(BufReader::with_capacity(rt.alloc(), 4, reader)?);
+    assert_eq!(rt; source.read(&mut buffer), Err(Failed));
+    assert_eq!(rt; source.into_inner().get_ref().calls(), 1);
+    Ok(())
+}
+
+#[test]
+fn an_interrupted_write_is_not_made_again(rt: HostRuntime) -> Result<(), Fail> {
+    let alloc = rt.alloc();
+    let mut sink = Writing::new(Faltering::new(Vec::new(alloc), 1, ErrorKind::Interrupted));
+    assert_eq!(rt; sink.write(b"abc"), Ok(3));
+    if !sink.failed() {
+        assert_eq!(rt; sink.write(b"def"), Err(Failed));
+    }
+    assert_eq!(rt; sink.into_inner().calls(), 2);
+    let mut sink = Writing::new(Faltering::new(Vec::new(alloc), 0, ErrorKind::Interrupted));
+    assert_eq!(rt; sink.flush(), Err(Failed));
+    assert_eq!(rt; sink.into_inner().calls(), 1);
+
+    let mut writer = Faltering::new(Vec::new(alloc), 0, ErrorKind::Interrupted);
+    let mut sink = Buffered::new(BufWriter::with_capacity(alloc, 1, Once::new(&mut writer))?);
+    assert_eq!(rt; sink.write(b"abc"), Err(Failed));
+    // Dropped, the buffer would write what it holds.
+    mem::forget(sink);
+    assert_eq!(rt; writer.calls(), 1);
     Ok(())
 }
 

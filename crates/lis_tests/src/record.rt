@@ -1,8 +1,9 @@
 //! What no contract and no conformance row says: a field that is put from where it stands.
 
-use lis_port::Slow;
-use lis_record::{Delimiters, lend_record};
+use lis_port::{Faltering, Slow, Writing};
+use lis_record::{Delimiters, WriteFault, lend_record};
 use std::alloc::Global;
+use std::io::ErrorKind;
 use std::process::Abort;
 use std::test::Fail;
 
@@ -49,5 +50,16 @@ fn a_lent_field_is_put_as_it_is_spelled(rt: HostRuntime) -> Result<(), Fail> {
             .chunks(3)
             .all(|escape| escape == b"&E&".as_slice())
     );
+    Ok(())
+}
+
+#[test]
+fn a_failed_write_of_a_field_is_not_made_again(rt: HostRuntime) -> Result<(), Fail> {
+    let record = lend_record(&Delimiters::usual(), b"C|abc")?;
+    let field = record.field(2).ok_or("no field 2")?;
+    let writer = Faltering::new(Vec::new(rt.alloc()), 0, ErrorKind::Interrupted);
+    let mut sink = Writing::new(writer);
+    assert_eq!(rt; field.put(&mut sink), Err(WriteFault::Io(0)));
+    assert_eq!(rt; sink.into_inner().calls(), 1);
     Ok(())
 }
