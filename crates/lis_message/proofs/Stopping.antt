@@ -89,15 +89,24 @@ line_goes before held after messages more text message lacks same_left is_held s
     subst (λ h. IsCut (past ++ (text ++ 13 ∷ [])) (base ++ more) after.left h) (sym empty) grouped
 
 -- memory is refused
-pub memory_stops : (before : Unended) (messages : List MessageTree) (bytes : List ℕ) (fault : MessageFault) → fault.reason ≡ reasons.OutOfMemory → StopsIn before messages bytes messages fault
-memory_stops before messages bytes fault reason past base c =
-    inl (reason, record { front = past; more = bytes; left = before.left; held = before.held; whole = refl; cut = c })
+pub memory_stops : (before : Unended) (messages : List MessageTree) (bytes : List ℕ) (fault : MessageFault) → fault.place ≡ next_place before.left
+    → fault.reason ≡ reasons.OutOfMemory → StopsIn before messages bytes messages fault
+memory_stops before messages bytes fault place reason past base c =
+    inl (record {
+      front = flat_map ended c.groups ++ ended c.texts;
+      left = before.left;
+      more = before.held ++ bytes;
+      whole = ap (λ l. l ++ bytes) c.whole ∙ simp append_assoc;
+      cut = front_cut past (base ++ messages) before.left before.held c;
+      place = place;
+      why = reason;
+    })
 
 -- bytes can't be held
 pub hold_stops : (before : Unended) (messages : List MessageTree) (text rest : List ℕ) (fault : MessageFault) → LacksReturn text → fault.place ≡ next_place before.left
     → (fault.reason ≡ reasons.OutOfMemory) ⊎ ((fault.reason ≡ reasons.RecordTooLong) × (RECORD_LIMIT < length (before.held ++ text))) → StopsIn before messages (text ++ rest) messages fault
 hold_stops before messages text rest fault lacks place why =
-    ⊎_elim (λ (oom : fault.reason ≡ reasons.OutOfMemory). memory_stops before messages (text ++ rest) fault oom)
+    ⊎_elim (λ (oom : fault.reason ≡ reasons.OutOfMemory). memory_stops before messages (text ++ rest) fault place oom)
     (λ (w : (fault.reason ≡ reasons.RecordTooLong) × (RECORD_LIMIT < length (before.held ++ text))). λ past base c.
     inr (refused_long past (base ++ messages) before.left before.held text rest fault c lacks w.1 w.0 place))
     why
@@ -112,7 +121,7 @@ pub line_stops : (before held : Unended) (messages : List MessageTree) (text res
     → held.left ≡ before.left → held.held ≡ before.held ++ text → length (before.held ++ text) ≤ RECORD_LIMIT
     → (fault.reason ≡ reasons.OutOfMemory) ⊎ (refusal held.left held.held ≡ Some fault.reason) → StopsIn before messages (text ++ 13 ∷ rest) messages fault
 line_stops before held messages text rest fault lacks place same_left is_held short why =
-    ⊎_elim (λ (oom : fault.reason ≡ reasons.OutOfMemory). memory_stops before messages (text ++ 13 ∷ rest) fault oom)
+    ⊎_elim (λ (oom : fault.reason ≡ reasons.OutOfMemory). memory_stops before messages (text ++ 13 ∷ rest) fault place oom)
     (λ (w : refusal held.left held.held ≡ Some fault.reason). λ past base c.
     inr (refused_line past (base ++ messages) before.left before.held text rest fault c lacks short (ap (λ l. refusal l (before.held ++ text)) (sym same_left) ∙ ap (refusal held.left) (sym is_held) ∙ w) place))
     why

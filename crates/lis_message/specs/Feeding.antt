@@ -18,18 +18,23 @@ pub record ReaderState : Type 0 where
   pub held : List ℕ
   pub fault : Option MessageFault
 
--- These messages are read of a front of the stream.
-pub record IsFrontCut (stream : List ℕ) (messages : List MessageTree) : Type 0 where
+-- the place of the next record, from 1 for a header
+abbrev pub next_place : Option Begun → ℕ
+next_place left = capped (count_of left + 1)
+
+-- Memory is refused while a record is read: the messages are those before that record, and the fault has its place.
+pub record IsWantOfMemory (stream : List ℕ) (messages : List MessageTree) (fault : MessageFault) : Type 0 where
   pub front : List ℕ
-  pub more : List ℕ
   pub left : Option Begun
-  pub held : List ℕ
+  pub more : List ℕ
   pub whole : stream ≡ front ++ more
-  pub cut : IsCut front messages left held
+  pub cut : IsCut front messages left []
+  pub place : fault.place ≡ next_place left
+  pub why : fault.reason ≡ reasons.OutOfMemory
 
 -- Memory is refused, or a record is.
 abbrev pub Stops : List ℕ → List MessageTree → MessageFault → Type 0
-Stops stream messages fault = ((fault.reason ≡ reasons.OutOfMemory) × IsFrontCut stream messages) ⊎ IsRefused stream messages fault
+Stops stream messages fault = IsWantOfMemory stream messages fault ⊎ IsRefused stream messages fault
 
 -- These bytes lead from what is kept to what is kept then, and add to the messages, whatever came before.
 abbrev pub Goes : Unended → List MessageTree → List ℕ → Unended → List MessageTree → Type 0
@@ -45,10 +50,6 @@ StopsIn before messages bytes more fault =
 abbrev pub Reads : List ℕ → List MessageTree → ReaderState → Option MessageFault → Type 0
 Reads stream messages reader None = (reader.fault ≡ None) × IsCut stream messages reader.left reader.held
 Reads stream messages reader (Some fault) = (reader.fault ≡ Some fault) × Stops stream messages fault
-
--- the place of the next record, from 1 for a header
-abbrev pub next_place : Option Begun → ℕ
-next_place left = capped (count_of left + 1)
 
 -- the answer at the end of the stream
 abbrev pub at_end : Option Begun → List ℕ → Result (Unit {0}) MessageFault

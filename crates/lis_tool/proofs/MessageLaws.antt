@@ -82,7 +82,7 @@ pub fed_few :
 fed_few stream messages reader None reads = cut_few stream messages _ _ reads.1
 fed_few stream messages reader (Some fault) reads =
     elim reads.1 [
-      | inl starved ↦ few_front starved.1.front starved.1.more stream (record_count messages) starved.1.whole (cut_few starved.1.front messages _ _ starved.1.cut)
+      | inl starved ↦ few_front starved.front starved.more stream (record_count messages) starved.whole (cut_few starved.front messages _ _ starved.cut)
       | inr stop ↦ few_front stop.front (stop.text ++ stop.more) stream (record_count messages) (stop.whole ∙ append_assoc stop.front stop.text stop.more)
           (cut_few stop.front messages _ _ stop.cut)
     ]
@@ -183,14 +183,14 @@ fed_part w stream messages reader (Some fault) reads =
     elim reads.1 [
       | inl starved ↦ record {
         outcome = record { text = messages_text w 0 messages; closing = []; halt = Some (Err OutOfMemory) };
-        comes = inr (record { front = starved.1.front; more = starved.1.more; joined = starved.1.whole; messages = messages; left = starved.1.left; held = starved.1.held; cut = starved.1.cut; outcome_is = refl });
+        comes = inr (record { front = starved.front; more = starved.more; joined = starved.whole; messages = messages; left = starved.left; held = []; cut = starved.cut; outcome_is = refl });
         text_is = refl;
       }
       | inr is ↦ record { outcome = over w messages (Some fault); comes = inl (refused messages fault is refl); text_is = refl }
     ]
 
 pub is_refused : (stream : List ℕ) (messages : List MessageTree) (fault : MessageFault) → Stops stream messages fault → (fault.reason ≡ reasons.OutOfMemory → ⊥) → IsRefused stream messages fault
-is_refused stream messages fault (inl starved) other = absurd (other starved.0)
+is_refused stream messages fault (inl starved) other = absurd (other starved.why)
 is_refused stream messages fault (inr stop) other = stop
 
 module _ (w : MessageWrites) (bytes : List ℕ) (before new : List MessageTree) (text : List ℕ) (text_is : text ≡ messages_text w 0 before) (part : FedPart w bytes (before ++ new)) where
