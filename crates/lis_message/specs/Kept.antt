@@ -1,8 +1,8 @@
 -- What a reader of records keeps.
 use Rattle.std.specs.Prelude.{ℕ, List, [], length, Option, None, Some}
-use Rattle.lis_field.specs.declared.kinds.Kind.{Kind}
 use Rattle.lis_field.specs.Delimiters.{DelimiterBytes}
 use Rattle.lis_field.specs.Shape.{RecordContent}
+use Rattle.lis_message.specs.declared.records.Known.{Known}
 use Rattle.lis_record.specs.Lent.{Lent, record_in}
 use Rattle.lis_tree.specs.declared.fault.MessageFault.{MessageFault}
 use Rattle.lis_tree.specs.Begun.{Begun, level_of}
@@ -15,8 +15,8 @@ pub record Opened : Type 0 where
   pub level : Level
   pub count : ℕ
 
-abbrev pub opened : Begun → Opened
-opened begun = record {
+abbrev pub opened_with : Begun → Opened
+opened_with begun = record {
   delimiters = begun.delimiters;
   level = level_of (Some begun);
   count = capped (length begun.records);
@@ -24,11 +24,11 @@ opened begun = record {
 
 abbrev pub opened_of : Option Begun → Option Opened
 opened_of None = None
-opened_of (Some begun) = Some (opened begun)
+opened_of (Some begun) = Some (opened_with begun)
 
 -- beside it, bytes of a record that isn't ended, the last record where it was cut, and the fault that was met
 pub record RecordsState : Type 0 where
-  pub open : Option Opened
+  pub opened : Option Opened
   pub held : List ℕ
   pub cut : Option (Lent RecordContent)
   pub fault : Option MessageFault
@@ -37,11 +37,6 @@ pub record RecordsState : Type 0 where
 pub record Holding : Type 0 where
   pub held : List ℕ
   pub cut : Option (Lent RecordContent)
-
--- the delimiters and the kind of a record that is known
-pub record Known : Type 0 where
-  pub delimiters : DelimiterBytes
-  pub kind : Kind
 
 -- bytes that are kept are those of a record that isn't ended, or of the last record
 abbrev pub holding : Option Known → List ℕ → Holding

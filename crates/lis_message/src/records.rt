@@ -2,21 +2,17 @@
 //! one record, and of the open message how its next record is read.
 
 ghost use Rattle.std.specs.Prelude.{◌≡◌, ◌≢◌, ℕ, true, false, ◌+◌, ◌<◌, ◌≤◌, ◌∷◌, [], ◌++◌, ◌⊎◌, List, Option, IfOk, IfErr, OnOk, OnSome, IfSome, IfNone, None, Some, Ok, Err, length};
-ghost use Rattle.lis_field.specs.Delimiters.{DelimiterBytes};
-ghost use Rattle.lis_field.specs.declared.kinds.Kind.{Kind as KindOf};
 ghost use Rattle.lis_message.specs.declared.records.Found.TheVariants.{Refused as IsRefusal};
 ghost use Rattle.lis_message.specs.Feeding.{at_end, next_place};
-ghost use Rattle.lis_message.specs.Kept.{opened, opened_of};
-ghost use Rattle.lis_message.specs.Records.{EndsHeld, HasRead, IsRefusedFor, IsStopped, Reads};
+ghost use Rattle.lis_message.specs.Kept.{opened_of, opened_with};
+ghost use Rattle.lis_message.specs.Records.{EndsHeld, HasLeft, IsRefusedFor, IsStopped, Reads};
 ghost use Rattle.lis_message.specs.Stream.{LacksReturn, refusal};
 ghost use Rattle.lis_message.specs.Taking.{ComesNext, front_refusal, left_after};
 ghost use Rattle.lis_record.specs.declared.texts.TheConstants.{RECORD_LIMIT};
 ghost use Rattle.lis_record.specs.Lent.{Lent, record_in};
 ghost use Rattle.lis_field.specs.Shape.{RecordContent};
 ghost use Rattle.lis_tree.specs.Begun.{Begun};
-ghost use Rattle.lis_tree.specs.declared.fault.MessageFault.{MessageFault as MessageFaultOf};
 ghost use Rattle.lis_tree.specs.declared.fault.Reason.TheVariants as reasons;
-ghost use Rattle.lis_tree.specs.Tree.{MessageTree};
 
 use lis_record::{
     Delimiters, Kind, LentRecord, RECORD_LIMIT, RecordFault, lend_header, lend_record,
@@ -29,15 +25,15 @@ use std::marker::Model;
 const CR: u8 = 0x0d;
 
 /// Of a message that isn't closed yet: how its next record is read.
-#[derive(Clone, Copy)]
-struct Open {
+#[derive(Drop)]
+struct Opened {
     delimiters: Delimiters,
     standing: Standing,
     /// How many records there are; it stays at the greatest number.
     count: u64,
 }
 
-impl Model for Open {
+impl Model for Opened {
     ghost use Rattle.lis_message.specs.Kept.{Opened};
     ghost use Rattle.lis_tree.specs.Standing.{standing_level};
 
@@ -60,6 +56,7 @@ fn front_fault(is_begun: bool, text: &[u8]) -> Option<Reason>
     }
 }
 
+#[tactic(auto, using(crate::proofs::TakingLaws::header_refused))]
 /// The header that a text is, which comes where no message is open.
 fn lend_first(text: &[u8]) -> Result<LentRecord<'_>, Reason>
     requires { front_refusal false text.now ≡ None }
@@ -74,55 +71,55 @@ fn lend_first(text: &[u8]) -> Result<LentRecord<'_>, Reason>
 }
 
 /// The record that a text is, which comes in the open message.
-fn lend_inner(open: Open, text: &[u8]) -> Result<LentRecord<'_>, Reason>
+fn lend_inner<'a>(opened: &Opened, text: &'a [u8]) -> Result<LentRecord<'a>, Reason>
     requires { front_refusal true text.now ≡ None }
-    ensures ok { IfOk result (λ entry. (begun : Begun) → open ≡ opened begun → ComesNext (Some begun) text.now entry) }
-    ensures err { IfErr result (λ reason. (begun : Begun) → open ≡ opened begun → refusal (Some begun) text.now ≡ Some reason) }
+    ensures ok { IfOk result (λ entry. (begun : Begun) → opened.now ≡ opened_with begun → ComesNext (Some begun) text.now entry) }
+    ensures err { IfErr result (λ reason. (begun : Begun) → opened.now ≡ opened_with begun → refusal (Some begun) text.now ≡ Some reason) }
     ensures place { IfOk result (λ entry. entry ≡ record_in entry.delimiters entry.content.kind text.now) }
 {
-    let entry = match lend_record(&open.delimiters, text) {
+    let entry = match lend_record(&opened.delimiters, text) {
         Ok(entry) => entry,
         Err(fault) => return Err(Reason::BadRecord(fault)),
     };
-    match open.standing.place_fault(entry.kind()) {
+    match opened.standing.place_fault(entry.kind()) {
         None => Ok(entry),
         Some(reason) => Err(reason),
     }
 }
 
 /// The record that a text is which comes next, else the first reason that it can't.
-fn lend_next(open: Option<Open>, text: &[u8]) -> Result<LentRecord<'_>, Reason>
-    ensures ok { IfOk result (λ entry. (left : Option Begun) → open ≡ opened_of left → ComesNext left text.now entry) }
-    ensures err { IfErr result (λ reason. (left : Option Begun) → open ≡ opened_of left → refusal left text.now ≡ Some reason) }
+fn lend_next<'a>(opened: &Option<Opened>, text: &'a [u8]) -> Result<LentRecord<'a>, Reason>
+    ensures ok { IfOk result (λ entry. (left : Option Begun) → opened.now ≡ opened_of left → ComesNext left text.now entry) }
+    ensures err { IfErr result (λ reason. (left : Option Begun) → opened.now ≡ opened_of left → refusal left text.now ≡ Some reason) }
     ensures place { IfOk result (λ entry. entry ≡ record_in entry.delimiters entry.content.kind text.now) }
 {
-    if let Some(reason) = front_fault(open.is_some(), text) {
+    if let Some(reason) = front_fault(opened.is_some(), text) {
         return Err(reason);
     }
-    match open {
+    match opened {
         None => lend_first(text),
-        Some(open) => lend_inner(open, text),
+        Some(opened) => lend_inner(opened, text),
     }
 }
 
 /// What is open behind a record of this kind, which came next under these delimiters.
-fn opened_after(open: Option<Open>, delimiters: Delimiters, kind: Kind) -> Option<Open>
-    ensures { (left : Option Begun) (text : List ℕ) (entry : Lent RecordContent) → open ≡ opened_of left →
+fn opened_after(opened: &Option<Opened>, delimiters: Delimiters, kind: Kind) -> Option<Opened>
+    ensures { (left : Option Begun) (text : List ℕ) (entry : Lent RecordContent) → opened.now ≡ opened_of left →
         ComesNext left text entry → entry.delimiters ≡ delimiters → entry.content.kind ≡ kind →
         result ≡ opened_of (left_after left entry kind) }
 {
-    let Some(open) = open else {
-        return Some(Open {
+    let Some(opened) = opened else {
+        return Some(Opened {
             delimiters,
             standing: Standing::InHeader,
             count: 1,
         });
     };
-    let standing = open.standing.after(kind)?;
-    Some(Open {
+    let standing = opened.standing.after(kind)?;
+    Some(Opened {
         delimiters,
         standing,
-        count: open.count.saturating_add(1),
+        count: opened.count.saturating_add(1),
     })
 }
 
@@ -139,18 +136,10 @@ fn next_line(bytes: &[u8]) -> Option<(&[u8], &[u8])>
 }
 
 /// What is known of a record whose bytes are held: the delimiters that it is read under, and its kind.
-#[derive(Clone, Copy)]
+#[derive(Clone, Copy, Drop)]
 struct Known {
     delimiters: Delimiters,
     kind: Kind,
-}
-
-impl Model for Known {
-    ghost use Rattle.lis_message.specs.Kept.{Known};
-
-    ghost Value = { Known };
-
-    ghost view = { λ k. record { delimiters = k.delimiters; kind = k.kind } };
 }
 
 /// The bytes of a record that isn't ended, or of the last record, which was cut, until the next bytes come.
@@ -267,7 +256,7 @@ pub enum Found<'a> {
 /// fault for good.
 #[derive(Drop)]
 pub struct RecordReader {
-    open: Option<Open>,
+    opened: Option<Opened>,
     kept: HeldBytes,
     fault: Option<MessageFault>,
 }
@@ -277,17 +266,17 @@ impl Model for RecordReader {
 
     ghost Value = { RecordsState };
 
-    ghost view = { λ r. record { open = r.open; held = r.kept.held; cut = r.kept.cut; fault = r.fault } };
+    ghost view = { λ r. record { opened = r.opened; held = r.kept.held; cut = r.kept.cut; fault = r.fault } };
 }
 
 impl RecordReader {
     /// A reader at the start of a stream. It takes no memory yet.
     pub fn new(alloc: Global) -> Self
-        ensures state { result ≡ record { open = None; held = []; cut = None; fault = None } }
-        ensures read { HasRead result [] [] None }
+        ensures state { result ≡ record { opened = None; held = []; cut = None; fault = None } }
+        ensures left { HasLeft result None }
     {
         RecordReader {
-            open: None,
+            opened: None,
             kept: HeldBytes::new(alloc),
             fault: None,
         }
@@ -300,10 +289,11 @@ impl RecordReader {
     /// stand in its place, but only where bytes are to be held: a record that stands whole in the bytes takes none.
     /// A record has at most 65,536 bytes without its CR.
     ///
-    /// Whatever stream it had read, it has then read that stream with these bytes.
+    /// Whatever message was open, left is then that message with the record, or nothing behind its closing record
+    /// (`laws::records_of_a_stream` says the same of the stream).
     pub fn read<'a>(&mut self, bytes: &'a [u8]) -> (&'a [u8], Found<'a>)
-        ensures read { (stream : List ℕ) (messages : List MessageTree) (left : Option Begun) → HasRead self.old stream messages left
-            → Reads self.old self.new stream messages left bytes.now result.0.now result.1 }
+        ensures read { (left : Option Begun) → HasLeft self.old left
+            → Reads self.old self.new left bytes.now result.0.now result.1 }
         ensures failed { IfSome self.old.fault (λ fault. (result.0.now ≡ bytes.now) × (result.1 ≡ IsRefusal fault) × (self.new ≡ self.old)) }
     {
         if let Some(fault) = self.fault {
@@ -331,11 +321,11 @@ impl RecordReader {
 
     /// The place of the next record in its message, from 1 for a header.
     pub fn next_place(&self) -> u64
-        ensures { (left : Option Begun) → self.now.open ≡ opened_of left → result ≡ next_place left }
+        ensures { (left : Option Begun) → self.now.opened ≡ opened_of left → result ≡ next_place left }
     {
-        match self.open {
+        match &self.opened {
             None => 1,
-            Some(open) => open.count.saturating_add(1),
+            Some(opened) => opened.count.saturating_add(1),
         }
     }
 
@@ -349,14 +339,13 @@ impl RecordReader {
 
     /// The end of the stream: a message that isn't closed, or a record that isn't ended, is `Unfinished`.
     pub fn finish(&self) -> Result<(), MessageFault>
-        ensures read { (stream : List ℕ) (messages : List MessageTree) (left : Option Begun) → HasRead self.now stream messages left
-            → result ≡ at_end left self.now.held }
+        ensures read { (left : Option Begun) → HasLeft self.now left → result ≡ at_end left self.now.held }
         ensures failed { IfSome self.now.fault (λ fault. result ≡ Err fault) }
     {
         if let Some(fault) = self.fault {
             return Err(fault);
         }
-        if self.open.is_none() && self.kept.text().is_empty() {
+        if self.opened.is_none() && self.kept.text().is_empty() {
             return Ok(());
         }
         Err(MessageFault {
@@ -368,10 +357,10 @@ impl RecordReader {
     /// Reads on, where no fault was met and the last record is let go of.
     fn read_open<'a>(&mut self, bytes: &'a [u8]) -> Result<(&'a [u8], Found<'a>), Reason>
         requires { self.old.cut ≡ None }
-        ensures ok { IfOk result (λ answer. (stream : List ℕ) (messages : List MessageTree) (left : Option Begun) → HasRead self.old stream messages left
-            → Reads self.old self.new stream messages left bytes.now answer.0.now answer.1) }
-        ensures err { IfErr result (λ reason. (stream : List ℕ) (messages : List MessageTree) (left : Option Begun) (fault : MessageFaultOf) → HasRead self.old stream messages left
-            → fault.place ≡ next_place left → fault.reason ≡ reason → IsStopped self.old stream messages bytes.now fault) }
+        ensures ok { IfOk result (λ answer. (left : Option Begun) → HasLeft self.old left
+            → Reads self.old self.new left bytes.now answer.0.now answer.1) }
+        ensures err { IfErr result (λ reason. (left : Option Begun) → HasLeft self.old left
+            → IsStopped left self.old.held bytes.now reason) }
         ensures fault { self.new.fault ≡ self.old.fault }
     {
         let Some((text, behind)) = next_line(bytes) else {
@@ -394,39 +383,39 @@ impl RecordReader {
 
     /// Reads a record that this text is, at its CR.
     fn end_whole<'a>(&mut self, text: &'a [u8]) -> Result<LentRecord<'a>, Reason>
-        ensures ok { IfOk result (λ entry. (left : Option Begun) → self.old.open ≡ opened_of left
-            → ComesNext left text.now entry × (self.new.open ≡ opened_of (left_after left entry entry.content.kind))) }
-        ensures err { IfErr result (λ reason. (left : Option Begun) → self.old.open ≡ opened_of left → IsRefusedFor left text.now reason) }
+        ensures ok { IfOk result (λ entry. (left : Option Begun) → self.old.opened ≡ opened_of left
+            → ComesNext left text.now entry × (self.new.opened ≡ opened_of (left_after left entry entry.content.kind))) }
+        ensures err { IfErr result (λ reason. (left : Option Begun) → self.old.opened ≡ opened_of left → IsRefusedFor left text.now reason) }
         ensures held { self.new.held ≡ self.old.held }
         ensures fault { self.new.fault ≡ self.old.fault }
     {
         if text.len() > RECORD_LIMIT {
             return Err(Reason::RecordTooLong);
         }
-        let entry = match lend_next(self.open, text) {
+        let entry = match lend_next(&self.opened, text) {
             Ok(entry) => entry,
             Err(reason) => return Err(reason),
         };
-        self.open = opened_after(self.open, entry.delimiters(), entry.kind());
+        self.opened = opened_after(&self.opened, entry.delimiters(), entry.kind());
         Ok(entry)
     }
 
     /// Reads a record that what is held and this text are, at its CR.
     fn end_held(&mut self, text: &[u8]) -> Result<(), Reason>
         requires { self.old.cut ≡ None }
-        ensures ok { OnOk result ((left : Option Begun) → self.old.open ≡ opened_of left → EndsHeld self.old self.new left text.now) }
-        ensures err { IfErr result (λ reason. (left : Option Begun) → self.old.open ≡ opened_of left
+        ensures ok { OnOk result ((left : Option Begun) → self.old.opened ≡ opened_of left → EndsHeld self.old self.new left text.now) }
+        ensures err { IfErr result (λ reason. (left : Option Begun) → self.old.opened ≡ opened_of left
             → (reason ≡ reasons.OutOfMemory) ⊎ IsRefusedFor left (self.old.held ++ text.now) reason) }
         ensures fault { self.new.fault ≡ self.old.fault }
     {
         if let Err(reason) = self.kept.hold(text) {
             return Err(reason);
         }
-        let (delimiters, kind) = match lend_next(self.open, self.kept.text()) {
+        let (delimiters, kind) = match lend_next(&self.opened, self.kept.text()) {
             Ok(entry) => (entry.delimiters(), entry.kind()),
             Err(reason) => return Err(reason),
         };
-        self.open = opened_after(self.open, delimiters, kind);
+        self.opened = opened_after(&self.opened, delimiters, kind);
         self.kept.end(delimiters, kind);
         Ok(())
     }
