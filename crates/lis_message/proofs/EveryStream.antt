@@ -1,5 +1,5 @@
 -- Every stream is cut or refused, and what follows a stream only adds messages.
-use Rattle.std.proofs.Common.{◌≡◌, ◌≢◌, ℕ, ◌+◌, ◌<◌, ◌≤◌, ◌⊎◌, inl, inr, Bool, true, false, List, [], ◌∷◌, ◌++◌, length, Option, Some, None, option_map, refl, sym, ◌∙◌, ap, subst, append_assoc, arith, length-append}
+use Rattle.std.proofs.Common.{◌≡◌, ◌≢◌, ℕ, ◌≤◌, ◌⊎◌, inl, inr, List, [], ◌∷◌, ◌++◌, length, Option, Some, None, option_map, refl, sym, ◌∙◌, ap, subst, append_assoc, arith, length-append}
 use Rattle.std.proofs.lemmas.Bool.Decides.{eqb_tells}
 use Rattle.std.proofs.lemmas.List.{append-nil}
 use Rattle.std.proofs.lemmas.Bool.{cases_lt}
@@ -13,7 +13,7 @@ use Rattle.lis_field.specs.declared.kinds.Kind.TheVariants as kinds
 use Rattle.lis_field.specs.Delimiters.{DelimiterBytes, IsDelimiters, delimiter_fault, delimiters_of}
 use Rattle.lis_field.specs.Kinds.{kind_of}
 use Rattle.lis_field.specs.Shape.{IsRecordShape, RecordContent}
-use Rattle.lis_record.proofs.FaultLaws.{IsRecord-fields_of, IsRecord-header, other_than_header}
+use Rattle.lis_record.proofs.FaultLaws.{IsRecord-fields_of, IsRecord-header}
 use Rattle.lis_record.proofs.Shapes.{IsRecord-shape}
 use Rattle.lis_record.specs.declared.faults.DelimiterPartFault.TheVariants.{Fault, Trailing}
 use Rattle.lis_record.specs.declared.faults.RecordFault.TheVariants as record_faults
@@ -21,15 +21,14 @@ use Rattle.lis_record.specs.declared.texts.TheConstants.{RECORD_LIMIT}
 use Rattle.lis_record.specs.Faults.{delimiter_part_fault, header_fault, is_header_kind, is_other_kind, record_fault, text_fault, trailing_byte}
 use Rattle.lis_record.specs.FrontReading.{fields_of}
 use Rattle.lis_record.specs.Relation.{IsRecord}
-use Rattle.lis_tree.proofs.Trees.{IsTreeOf, tree_of}
+use Rattle.lis_tree.proofs.Trees.{tree_of}
 use Rattle.lis_tree.specs.declared.fault.MessageFault.{MessageFault}
-use Rattle.lis_tree.specs.declared.fault.Reason.{Reason}
 use Rattle.lis_tree.specs.declared.fault.Reason.TheVariants as reasons
 use Rattle.lis_tree.specs.Begun.{Begun, level_of}
 use Rattle.lis_tree.specs.Level.{misplaced}
 use Rattle.lis_tree.specs.Tree.{MessageTree}
 use Rattle.lis_message.specs.Feeding.{next_place}
-use Rattle.lis_message.specs.Stream.{AreBegun, AreLeft, IsCut, IsReadFrom, IsRefused, LacksReturn, kind_refusal, letter_refusal, refusal}
+use Rattle.lis_message.specs.Stream.{AreBegun, AreLeft, IsCut, IsReadFrom, IsRefused, kind_refusal, letter_refusal, refusal}
 use Rattle.lis_message.specs.Taking.{ComesNext, Completes, header, inner, left_after, records_of}
 use Rattle.lis_record.specs.Lent.{Lent, lent}
 use Rattle.lis_message.proofs.Cuts.{cut_hold, cut_start, cut_taken}

@@ -1,6 +1,5 @@
 -- Where a stream is read, and where its reading stops.
-use Rattle.std.proofs.Common.{◌≡◌, ℕ, ◌+◌, ◌<◌, ◌≤◌, ◌⊎◌, inl, inr, ⊎_elim, List, [], ◌∷◌, ◌++◌, length, take, drop, Option, Some, refl, zero, suc, sym, ◌∙◌, ap, subst, append_assoc, arith, length-take}
-use Rattle.std.specs.Option.{option_to_list}
+use Rattle.std.proofs.Common.{◌≡◌, ℕ, ◌+◌, ◌<◌, ◌≤◌, inl, inr, List, [], ◌∷◌, ◌++◌, length, take, drop, Option, Some, refl, zero, suc, sym, ◌∙◌, ap, subst, append_assoc, arith, length-take}
 use Rattle.std.specs.List.{flat_map}
 use Rattle.std.proofs.lemmas.List.{append-nil, take-append-drop}
 use Rattle.lis_record.specs.declared.texts.TheConstants.{RECORD_LIMIT}
@@ -10,7 +9,6 @@ use Rattle.lis_tree.specs.Begun.{Begun}
 use Rattle.lis_message.specs.Feeding.{Unended, Stops, Goes, StopsIn, next_place}
 use Rattle.lis_message.specs.Stream.{ended, refusal, IsCut, IsRefused, LacksReturn}
 use Rattle.lis_tree.specs.Tree.{MessageTree}
-use Rattle.lis_message.proofs.Cuts.{cut_hold, cut_taken}
 use Rattle.lis_message.proofs.Lines.{lacks_append}
 
 -- the stream without what is held

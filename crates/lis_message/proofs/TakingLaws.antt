@@ -1,9 +1,8 @@
 -- Why a record text can't come next, in the order in which the reader finds out.
-use Rattle.std.proofs.Common.{◌≡◌, ◌≢◌, ℕ, List, [], ◌∷◌, true, false, Option, Some, None, refl, sym, ◌∙◌, ap}
+use Rattle.std.proofs.Common.{◌≡◌, ◌≢◌, ℕ, List, [], ◌∷◌, true, false, Option, Some, None, refl, ◌∙◌, ap}
 use Rattle.std.specs.Prelude.{option_map, is_some}
 use Rattle.std.specs.Option.{option_or}
 use Rattle.lis_record.specs.declared.faults.RecordFault.{RecordFault}
-use Rattle.lis_record.specs.declared.faults.RecordFault.TheVariants as record_faults
 use Rattle.lis_field.specs.declared.kinds.Kind.{Kind}
 use Rattle.lis_field.specs.declared.kinds.Kind.TheVariants as kinds
 use Rattle.lis_record.specs.Faults.{header_fault, record_fault}

@@ -67,13 +67,6 @@ Reads before after left bytes behind found.Held =
     (entry : Lent RecordContent) × (after.cut ≡ Some entry) × ReadsRecord before after left bytes behind entry
 Reads before after left bytes behind (found.Refused fault) = Refuses before after left bytes behind fault
 
--- ---- the stream that is read
-
--- The reader has read this stream, which is cut into these messages, what is left, and the bytes that it holds.
-pub record HasRead (reader : RecordsState) (stream : List ℕ) (messages : List MessageTree) (left : Option Begun) : Type 0 where
-  pub has_left : HasLeft reader left
-  pub cut : IsCut stream messages left reader.held
-
 -- ---- one record
 
 -- a text that is too long, or can't come next
@@ -104,3 +97,10 @@ unended left reader = record { left = left; held = reader.held }
 abbrev pub IsReading : RecordsState → Option Begun → Option MessageFault → Type 0
 IsReading reader left None = HasLeft reader left
 IsReading reader left (Some fault) = reader.held ≡ []
+
+-- ---- the stream
+
+-- What is read of a stream with these bytes, up to those behind.
+abbrev pub IsReadUpTo : (stream bytes behind : List ℕ) → List MessageTree → Option Begun → (held : List ℕ) → Type 0
+IsReadUpTo stream bytes behind messages left held =
+    (front : List ℕ) × (bytes ≡ front ++ behind) × IsCut (stream ++ front) messages left held

@@ -46,25 +46,30 @@ fn take_record(
     }
 }
 
-/// Adds a record that comes next to the open message, and the message that it completes to the others.
+/// Adds a record that comes next, at this place, to the open message, and the message that it completes to the others.
 fn take_entry(
     alloc: Global,
     begun: &mut Option<OpenMessage>,
     messages: &mut Messages,
+    place: u64,
     entry: &LentRecord<'_>,
-) -> Result<(), AllocError>
+) -> Result<(), MessageFault>
     requires { (text : List ℕ) × ComesNext begun.old text entry.now }
     ensures ok { OnOk result (Adds begun.old entry.now messages.old messages.new) }
     ensures left { OnOk result (begun.new ≡ left_after begun.old entry.now entry.now.content.kind) }
-    ensures err { IfErr result (λ _. messages.new ≡ messages.old) }
+    ensures err { IfErr result (λ fault. (fault.reason ≡ reasons.OutOfMemory) × (messages.new ≡ messages.old)) }
 {
-    let message = take_record(alloc, begun, entry)?;
+    let reason = Reason::OutOfMemory;
+    let message = match take_record(alloc, begun, entry) {
+        Ok(message) => message,
+        Err(AllocError) => return Err(MessageFault { place, reason }),
+    };
     let Some(message) = message else {
         return Ok(());
     };
     match messages.push(message) {
         Ok(()) => Ok(()),
-        Err(_) => Err(AllocError),
+        Err(_) => Err(MessageFault { place, reason }),
     }
 }
 
@@ -86,21 +91,22 @@ fn read_next<'a>(
 {
     let place = records.next_place();
     let (behind, found) = records.read(bytes);
-    let taken = match found {
-        Found::Nothing => return Ok(None),
-        Found::Refused(fault) => return Err(fault),
-        Found::Record(entry) => take_entry(alloc, begun, messages, &entry),
-        Found::Held => match records.cut() {
-            Some(entry) => take_entry(alloc, begun, messages, &entry),
-            None => unreachable!(),
+    match found {
+        Found::Nothing => Ok(None),
+        Found::Refused(fault) => Err(fault),
+        Found::Record(entry) => match take_entry(alloc, begun, messages, place, &entry) {
+            Ok(()) => Ok(Some(behind)),
+            Err(fault) => Err(fault),
         },
-    };
-    match taken {
-        Ok(()) => Ok(Some(behind)),
-        Err(AllocError) => Err(MessageFault {
-            place,
-            reason: Reason::OutOfMemory,
-        }),
+        Found::Held => {
+            let Some(entry) = records.cut() else {
+                unreachable!()
+            };
+            match take_entry(alloc, begun, messages, place, &entry) {
+                Ok(()) => Ok(Some(behind)),
+                Err(fault) => Err(fault),
+            }
+        }
     }
 }
 
@@ -118,10 +124,13 @@ fn read_piece(
     ensures err { IfErr result (λ fault. StopsIn (unended begun.old records.old) messages.old piece.now messages.new fault) }
 {
     let mut rest = piece;
-    while let Some(behind) = read_next(alloc, records, begun, messages, rest)? {
-        rest = behind;
+    loop {
+        match read_next(alloc, records, begun, messages, rest) {
+            Ok(Some(behind)) => rest = behind,
+            Ok(None) => return Ok(()),
+            Err(fault) => return Err(fault),
+        }
     }
-    Ok(())
 }
 
 /// What a piece of a stream completes, and the fault that stands in it.

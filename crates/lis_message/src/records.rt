@@ -230,11 +230,7 @@ impl HeldBytes {
         ensures { result ≡ self.now.cut }
     {
         let known = self.known?;
-        Some(LentRecord::in_text(
-            known.delimiters,
-            known.kind,
-            self.bytes.as_slice(),
-        ))
+        Some(LentRecord::in_text(known.delimiters, known.kind, self.bytes.as_slice()))
     }
 }
 

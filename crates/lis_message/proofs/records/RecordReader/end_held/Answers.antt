@@ -1,4 +1,4 @@
-use Rattle.std.proofs.Common.{List, ℕ, ◌++◌, Some, sym, ap, subst, ◌∙◌}
+use Rattle.std.proofs.Common.{List, ℕ, ◌++◌, sym, ap, subst, ◌∙◌}
 use Rattle.lis_field.specs.declared.kinds.Kind.{Kind}
 use Rattle.lis_message.specs.Kept.{Holding, RecordsState, opened_of}
 use Rattle.lis_message.specs.Taking.{ComesNext, left_after}
