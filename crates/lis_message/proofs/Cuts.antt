@@ -13,7 +13,8 @@ use Rattle.lis_field.specs.Shape.{RecordContent}
 use Rattle.lis_tree.specs.Begun.{Begun, level_of}
 use Rattle.lis_tree.specs.Level.{outside, closed, next_level, misplaced}
 use Rattle.lis_message.specs.Stream.{ended, AreMessage, IsCut, LacksReturn}
-use Rattle.lis_message.specs.Taking.{begun_with, Taken, header, inner, closing}
+use Rattle.lis_message.specs.Taking.{ComesNext, Completes, begun_with, header, inner, left_after, records_of}
+use Rattle.lis_record.specs.Lent.{Lent}
 use Rattle.lis_tree.specs.Tree.{MessageTree, IsTree, flatten}
 use Rattle.lis_tree.proofs.Levels.{level_more, next_unclosed, stands_more}
 use Rattle.lis_message.proofs.Lines.{lacks_append}
@@ -110,20 +111,39 @@ cut_closing stream messages held b c r m is tree marks records =
       short = omega arith;
     }
 
+-- what is left behind a record that isn't the closing one
+pub left_after-more : (left : Option Begun) (entry : Lent RecordContent) (k : Kind) → k ≢ kinds.L → left_after left entry k ≡ begun_with entry.delimiters (records_of left ++ entry.content ∷ [])
+left_after-more left entry kinds.L other = absurd (other refl)
+left_after-more left entry kinds.H other = refl
+left_after-more left entry kinds.P other = refl
+left_after-more left entry kinds.O other = refl
+left_after-more left entry kinds.R other = refl
+left_after-more left entry kinds.C other = refl
+left_after-more left entry kinds.Q other = refl
+left_after-more left entry kinds.M other = refl
+left_after-more left entry kinds.S other = refl
+
 -- the cut with the text that was held and its CR
-pub cut_taken : (stream : List ℕ) (messages : List MessageTree) (left : Option Begun) (held : List ℕ) (message : Option MessageTree) (next : Option Begun) → IsCut stream messages left held → Taken left held message next
-    → IsCut (stream ++ 13 ∷ []) (messages ++ option_to_list message) next []
-cut_taken stream messages left held message next c (header d r l good is kind m n) =
-    subst (λ (x : Option MessageTree). IsCut (stream ++ 13 ∷ []) (messages ++ option_to_list x) next []) (sym m)
-    (subst (λ (x : Option Begun). IsCut (stream ++ 13 ∷ []) (messages ++ []) x []) (sym n)
-    (subst (λ ms. IsCut (stream ++ 13 ∷ []) ms (begun_with d (r ∷ [])) []) (sym (append-nil messages))
-    (cut_header stream messages held (subst (λ (x : Option Begun). IsCut stream messages x held) l c) d r good is kind)))
-cut_taken stream messages left held message next c (inner b r l is placed open' m n) =
-    subst (λ (x : Option MessageTree). IsCut (stream ++ 13 ∷ []) (messages ++ option_to_list x) next []) (sym m)
-    (subst (λ (x : Option Begun). IsCut (stream ++ 13 ∷ []) (messages ++ []) x []) (sym n)
-    (subst (λ ms. IsCut (stream ++ 13 ∷ []) ms (begun_with b.delimiters (b.records ++ r ∷ [])) []) (sym (append-nil messages))
-    (cut_inner stream messages held b (subst (λ (x : Option Begun). IsCut stream messages x held) l c) r is placed open')))
-cut_taken stream messages left held message next c (closing b r t l is tree marks records m n) =
-    subst (λ (x : Option MessageTree). IsCut (stream ++ 13 ∷ []) (messages ++ option_to_list x) next []) (sym m)
-    (subst (λ (x : Option Begun). IsCut (stream ++ 13 ∷ []) (messages ++ t ∷ []) x []) (sym n)
-    (cut_closing stream messages held b (subst (λ (x : Option Begun). IsCut stream messages x held) l c) r t is tree marks records))
+pub cut_taken : (stream : List ℕ) (messages : List MessageTree) (left : Option Begun) (held : List ℕ) (entry : Lent RecordContent) (message : Option MessageTree)
+    → IsCut stream messages left held → ComesNext left held entry → Completes left entry message
+    → IsCut (stream ++ 13 ∷ []) (messages ++ option_to_list message) (left_after left entry entry.content.kind) []
+cut_taken stream messages left held entry None c (header l good is kind) other =
+    let goes : left_after left entry entry.content.kind ≡ begun_with entry.delimiters (entry.content ∷ []) =
+    left_after-more left entry entry.content.kind other ∙ ap (λ (x : Option Begun). begun_with entry.delimiters (records_of x ++ entry.content ∷ [])) l in
+    subst (λ ms. IsCut (stream ++ 13 ∷ []) ms (left_after left entry entry.content.kind) []) (sym (append-nil messages))
+    (subst (λ (x : Option Begun). IsCut (stream ++ 13 ∷ []) messages x []) (sym goes)
+    (cut_header stream messages held (subst (λ (x : Option Begun). IsCut stream messages x held) l c) entry.delimiters entry.content good is kind))
+cut_taken stream messages left held entry (Some m) c (header l good is kind) whole = let clash : kinds.H ≡ kinds.L = sym kind ∙ whole.0 in absurd cc
+cut_taken stream messages left held entry None c (inner b l d is placed) other =
+    let goes : left_after left entry entry.content.kind ≡ begun_with b.delimiters (b.records ++ entry.content ∷ []) =
+    left_after-more left entry entry.content.kind other ∙ ap (λ (x : Option Begun). begun_with entry.delimiters (records_of x ++ entry.content ∷ [])) l
+    ∙ ap (λ (x : DelimiterBytes). begun_with x (b.records ++ entry.content ∷ [])) d in
+    subst (λ ms. IsCut (stream ++ 13 ∷ []) ms (left_after left entry entry.content.kind) []) (sym (append-nil messages))
+    (subst (λ (x : Option Begun). IsCut (stream ++ 13 ∷ []) messages x []) (sym goes)
+    (cut_inner stream messages held b (subst (λ (x : Option Begun). IsCut stream messages x held) l c) entry.content
+    (subst (λ (x : DelimiterBytes). IsRecord x held entry.content) d is) placed other))
+cut_taken stream messages left held entry (Some m) c (inner b l d is placed) whole =
+    subst (λ (x : Option Begun). IsCut (stream ++ 13 ∷ []) (messages ++ m ∷ []) x []) (sym (ap (left_after left entry) whole.0))
+    (cut_closing stream messages held b (subst (λ (x : Option Begun). IsCut stream messages x held) l c) entry.content m
+    (subst (λ (x : DelimiterBytes). IsRecord x held entry.content) d is) whole.1 (whole.2 ∙ d)
+    (whole.3 ∙ ap (λ (x : Option Begun). records_of x ++ entry.content ∷ []) l))

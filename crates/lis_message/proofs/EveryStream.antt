@@ -1,5 +1,5 @@
 -- Every stream is cut or refused, and what follows a stream only adds messages.
-use Rattle.std.proofs.Common.{◌≡◌, ◌≢◌, ℕ, ◌+◌, ◌<◌, ◌≤◌, ◌⊎◌, inl, inr, Bool, true, false, List, [], ◌∷◌, ◌++◌, length, Option, Some, None, option_map, refl, sym, ◌∙◌, ap, subst, append_assoc, arith, length-append}
+use Rattle.std.proofs.Common.{◌≡◌, ◌≢◌, ℕ, ◌≤◌, ◌⊎◌, inl, inr, List, [], ◌∷◌, ◌++◌, length, Option, Some, None, option_map, refl, sym, ◌∙◌, ap, subst, append_assoc, arith, length-append}
 use Rattle.std.proofs.lemmas.Bool.Decides.{eqb_tells}
 use Rattle.std.proofs.lemmas.List.{append-nil}
 use Rattle.std.proofs.lemmas.Bool.{cases_lt}
@@ -13,7 +13,7 @@ use Rattle.lis_field.specs.declared.kinds.Kind.TheVariants as kinds
 use Rattle.lis_field.specs.Delimiters.{DelimiterBytes, IsDelimiters, delimiter_fault, delimiters_of}
 use Rattle.lis_field.specs.Kinds.{kind_of}
 use Rattle.lis_field.specs.Shape.{IsRecordShape, RecordContent}
-use Rattle.lis_record.proofs.FaultLaws.{IsRecord-fields_of, IsRecord-header, other_than_header}
+use Rattle.lis_record.proofs.FaultLaws.{IsRecord-fields_of, IsRecord-header}
 use Rattle.lis_record.proofs.Shapes.{IsRecord-shape}
 use Rattle.lis_record.specs.declared.faults.DelimiterPartFault.TheVariants.{Fault, Trailing}
 use Rattle.lis_record.specs.declared.faults.RecordFault.TheVariants as record_faults
@@ -21,25 +21,24 @@ use Rattle.lis_record.specs.declared.texts.TheConstants.{RECORD_LIMIT}
 use Rattle.lis_record.specs.Faults.{delimiter_part_fault, header_fault, is_header_kind, is_other_kind, record_fault, text_fault, trailing_byte}
 use Rattle.lis_record.specs.FrontReading.{fields_of}
 use Rattle.lis_record.specs.Relation.{IsRecord}
-use Rattle.lis_tree.proofs.Trees.{IsTreeOf, tree_of}
+use Rattle.lis_tree.proofs.Trees.{tree_of}
 use Rattle.lis_tree.specs.declared.fault.MessageFault.{MessageFault}
-use Rattle.lis_tree.specs.declared.fault.Reason.{Reason}
 use Rattle.lis_tree.specs.declared.fault.Reason.TheVariants as reasons
 use Rattle.lis_tree.specs.Begun.{Begun, level_of}
 use Rattle.lis_tree.specs.Level.{misplaced}
 use Rattle.lis_tree.specs.Tree.{MessageTree}
 use Rattle.lis_message.specs.Feeding.{next_place}
-use Rattle.lis_message.specs.Stream.{AreBegun, AreLeft, IsCut, IsReadFrom, IsRefused, LacksReturn, kind_refusal, letter_refusal, refusal}
-use Rattle.lis_message.specs.Taking.{Taken, begun_with, closing, header, inner}
+use Rattle.lis_message.specs.Stream.{AreBegun, AreLeft, IsCut, IsReadFrom, IsRefused, kind_refusal, letter_refusal, refusal}
+use Rattle.lis_message.specs.Taking.{ComesNext, Completes, header, inner, left_after, records_of}
+use Rattle.lis_record.specs.Lent.{Lent, lent}
 use Rattle.lis_message.proofs.Cuts.{cut_hold, cut_start, cut_taken}
 use Rattle.lis_message.proofs.Stopping.{refused_line, refused_long}
 
 -- ---- a text that nothing refuses can be taken
 
 record CanTake (left : Option Begun) (text : List ℕ) : Type 0 where
-  message : Option MessageTree
-  next : Option Begun
-  taken : Taken left text message next
+  entry : Lent RecordContent
+  comes : ComesNext left text entry
 
 header_open : (letter : ℕ) (part : List ℕ) → header_fault (letter ∷ part) ≡ None → (delimiter_part_fault part ≡ None) × (text_fault (letter ∷ part) ≡ None)
 unfolding header_fault
@@ -64,9 +63,8 @@ header_taken letter (f ∷ r ∷ c ∷ e ∷ bytes) is none texts =
     let d = delimiters_of f r c e in
     let content : RecordContent = record { kind = kinds.H; fields = fields_of d bytes } in
     record {
-      message = None;
-      next = begun_with d (content ∷ []);
-      taken = header d content refl (IsDelimiters-delimiters_of f r c e marks) (IsRecord-header letter f r c e bytes is marks trailing texts) refl refl refl;
+      entry = lent d content;
+      comes = header refl (IsDelimiters-delimiters_of f r c e marks) (IsRecord-header letter f r c e bytes is marks trailing texts) refl;
     }
 
 record OutsideKind (k : Option Kind) (text : List ℕ) : Type 0 where
@@ -129,7 +127,7 @@ shapes d good [] (r ∷ rs) each = absurd each
 shapes d good (text ∷ texts) [] each = tt
 shapes d good (text ∷ texts) (r ∷ rs) each = (IsRecord-shape d good text r each.0, shapes d good texts rs each.1)
 
-is_closing : (k : Kind) → (k ≡ kinds.L) ⊎ (k ≢ kinds.L)
+pub is_closing : (k : Kind) → (k ≡ kinds.L) ⊎ (k ≢ kinds.L)
 is_closing kinds.H = inr (λ e. cc)
 is_closing kinds.P = inr (λ e. cc)
 is_closing kinds.O = inr (λ e. cc)
@@ -140,23 +138,20 @@ is_closing kinds.M = inr (λ e. cc)
 is_closing kinds.S = inr (λ e. cc)
 is_closing kinds.L = inl refl
 
-record_taken : (b : Begun) (texts : List (List ℕ)) → AreBegun texts b → (text : List ℕ) (r : RecordContent) → IsRecord b.delimiters text r → misplaced (level_of (Some b)) r.kind ≡ None → CanTake (Some b) text
-record_taken b texts begun text r is placed =
-    elim (is_closing r.kind) [
+-- what a record completes
+pub completed : (left : Option Begun) (texts : List (List ℕ)) → AreLeft texts left → (text : List ℕ) (entry : Lent RecordContent) → ComesNext left text entry
+    → (message : Option MessageTree) × Completes left entry message
+completed left texts are text entry (header l good is kind) = (None, λ e. let clash : kinds.H ≡ kinds.L = sym kind ∙ e in cc)
+completed left texts are text entry (inner b l d is placed) =
+    let begun : AreBegun texts b = subst (AreLeft texts) l are in
+    let here : IsRecord b.delimiters text entry.content = subst (λ (x : DelimiterBytes). IsRecord x text entry.content) d is in
+    elim (is_closing entry.content.kind) [
       | inl last ↦
           let whole =
-          tree_of b.delimiters begun.delimiters b.records r begun.some begun.placed begun.unclosed last (shapes b.delimiters begun.delimiters texts b.records begun.each)
-          (IsRecord-shape b.delimiters begun.delimiters text r is) in
-          record {
-            message = Some whole.0;
-            next = None;
-            taken = closing b r whole.0 refl is whole.1.tree whole.1.delimiters whole.1.records_are refl refl;
-          }
-      | inr other ↦ record {
-        message = None;
-        next = begun_with b.delimiters (b.records ++ r ∷ []);
-        taken = inner b r refl is placed other refl refl;
-      }
+          tree_of b.delimiters begun.delimiters b.records entry.content begun.some begun.placed begun.unclosed last (shapes b.delimiters begun.delimiters texts b.records begun.each)
+          (IsRecord-shape b.delimiters begun.delimiters text entry.content here) in
+          (Some whole.0, (last, whole.1.tree, whole.1.delimiters ∙ sym d, whole.1.records_are ∙ ap (λ (x : Option Begun). records_of x ++ entry.content ∷ []) (sym l)))
+      | inr other ↦ (None, other)
     ]
 
 can_take : (left : Option Begun) (texts : List (List ℕ)) → AreLeft texts left → (text : List ℕ) → refusal left text ≡ None → CanTake left text
@@ -169,8 +164,10 @@ can_take None texts are (letter ∷ bytes) none =
 can_take (Some b) texts are [] none = cc
 can_take (Some b) texts are (letter ∷ bytes) none =
     let found = inside_kind b letter (kind_of letter) (letter ∷ bytes) none in
-    record_taken b texts are (letter ∷ bytes) (record { kind = found.kind; fields = fields_of b.delimiters bytes })
-    (record_found b.delimiters are.delimiters letter bytes found.kind found.is found.other found.fine) found.placed
+    record {
+      entry = lent b.delimiters (record { kind = found.kind; fields = fields_of b.delimiters bytes });
+      comes = inner b refl refl (record_found b.delimiters are.delimiters letter bytes found.kind found.is found.other found.fine) found.placed;
+    }
 
 -- ---- byte by byte
 
@@ -213,10 +210,12 @@ goes_on (b ∷ more) front messages left held c =
       | inl same ↦ elim (cases (refusal left held)) [
         | inl none ↦
             let can = can_take left c.texts c.begun held none in
-            let next = cut_taken front messages left held can.message can.next c can.taken in
+            let whole = completed left c.texts c.begun held can.entry can.comes in
+            let next = cut_taken front messages left held can.entry whole.0 c can.comes whole.1 in
             subst (λ (x : ℕ). IsReadFrom (front ++ x ∷ more) messages) (sym same.1)
             (moved front 13 more messages
-            (with_more ((front ++ 13 ∷ []) ++ more) messages (option_to_list can.message) (goes_on more (front ++ 13 ∷ []) (messages ++ option_to_list can.message) can.next [] next)))
+            (with_more ((front ++ 13 ∷ []) ++ more) messages (option_to_list whole.0)
+            (goes_on more (front ++ 13 ∷ []) (messages ++ option_to_list whole.0) (left_after left can.entry can.entry.content.kind) [] next)))
         | inr why ↦
             let fault : MessageFault = record { place = next_place left; reason = why.0 } in
             subst (λ (x : ℕ). IsReadFrom (front ++ x ∷ more) messages) (sym same.1)

@@ -2,9 +2,11 @@ mod DefinitionRows
 pub mod Cuts
 pub mod EveryStream
 pub mod Lines
+pub mod NextRecord
 pub mod OneRefusal
 pub mod ReadBack
 pub mod Reading
+pub mod RecordLaws
 pub mod Refusals
 pub mod Stopping
 pub mod TakingLaws

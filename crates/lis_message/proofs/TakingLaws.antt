@@ -1,12 +1,11 @@
 -- Why a record text can't come next, in the order in which the reader finds out.
-use Rattle.std.proofs.Common.{◌≡◌, ◌≢◌, ℕ, ◌⊎◌, inl, inr, ⊎_elim, List, [], ◌∷◌, true, false, Option, Some, None, refl, sym, ◌∙◌, ap}
+use Rattle.std.proofs.Common.{◌≡◌, ◌≢◌, ℕ, List, [], ◌∷◌, true, false, Option, Some, None, refl, ◌∙◌, ap}
 use Rattle.std.specs.Prelude.{option_map, is_some}
 use Rattle.std.specs.Option.{option_or}
 use Rattle.lis_record.specs.declared.faults.RecordFault.{RecordFault}
-use Rattle.lis_record.specs.declared.faults.RecordFault.TheVariants as record_faults
 use Rattle.lis_field.specs.declared.kinds.Kind.{Kind}
 use Rattle.lis_field.specs.declared.kinds.Kind.TheVariants as kinds
-use Rattle.lis_record.specs.Faults.{TellsFault, header_fault, record_fault}
+use Rattle.lis_record.specs.Faults.{header_fault, record_fault}
 use Rattle.lis_field.specs.Kinds.{kind_of}
 use Rattle.lis_record.specs.Relation.{IsRecord}
 use Rattle.lis_field.specs.Shape.{RecordContent}
@@ -16,7 +15,7 @@ use Rattle.lis_tree.specs.declared.fault.Reason.TheVariants as reasons
 use Rattle.lis_tree.specs.Begun.{Begun, level_of}
 use Rattle.lis_tree.specs.Level.{misplaced}
 use Rattle.lis_message.specs.Stream.{kind_refusal, letter_refusal, refusal}
-use Rattle.lis_message.specs.Taking.{front_refusal, letter_front, reason_of}
+use Rattle.lis_message.specs.Taking.{front_refusal, letter_front}
 use Rattle.lis_message.proofs.Refusals.{refusal_at, refusal-header, refusal-other}
 
 -- ---- what the letter tells
@@ -98,35 +97,17 @@ inner_told b (letter ∷ bytes) h = inside_kind b letter (kind_of letter) (lette
 
 -- ---- what the text tells
 
-reason_cases : (e : RecordFault) → (reason_of e ≡ reasons.OutOfMemory) ⊎ (reason_of e ≡ reasons.BadRecord e)
-reason_cases record_faults.Empty = inr refl
-reason_cases (record_faults.UnknownKind b) = inr refl
-reason_cases (record_faults.DelimiterPart f) = inr refl
-reason_cases (record_faults.Byte n) = inr refl
-reason_cases record_faults.TooLong = inr refl
-reason_cases record_faults.OutOfMemory = inl refl
+pub header_refused : (text : List ℕ) (e : RecordFault) → front_refusal false text ≡ None → header_fault text ≡ Some e → refusal None text ≡ Some (reasons.BadRecord e)
+header_refused text e front f = header_told text front ∙ ap (option_map reasons.BadRecord) f
 
--- a fault that reading tells, where a text's fault is its reason
-told_fault : (e : RecordFault) (fault : Option RecordFault) (reason : Reason) (why : Option Reason) → TellsFault e fault → reason ≡ reason_of e → (fault ≡ Some e → why ≡ Some (reasons.BadRecord e)) → (reason ≡ reasons.OutOfMemory) ⊎ (why ≡ Some reason)
-told_fault e fault reason why tells is goes =
-    ⊎_elim (λ (f : fault ≡ Some e).
-    ⊎_elim (λ (o : reason_of e ≡ reasons.OutOfMemory). inl (is ∙ o)) (λ (b : reason_of e ≡ reasons.BadRecord e). inr (goes f ∙ ap Some (sym (is ∙ b)))) (reason_cases e))
-    (λ (m : (e ≡ record_faults.OutOfMemory) × (fault ≡ None)). inl (is ∙ ap reason_of m.0)) tells
-
-pub header_refused : (text : List ℕ) (e : RecordFault) (reason : Reason) → front_refusal false text ≡ None → TellsFault e (header_fault text) → reason ≡ reason_of e → (reason ≡ reasons.OutOfMemory) ⊎ (refusal None text ≡ Some reason)
-header_refused text e reason front tells is =
-    told_fault e (header_fault text) reason (refusal None text) tells is (λ f. header_told text front ∙ ap (option_map reasons.BadRecord) f)
-
-pub inner_refused : (b : Begun) (text : List ℕ) (e : RecordFault) (reason : Reason) → front_refusal true text ≡ None → TellsFault e (record_fault b.delimiters text) → reason ≡ reason_of e → (reason ≡ reasons.OutOfMemory) ⊎ (refusal (Some b) text ≡ Some reason)
-inner_refused b text e reason front tells is =
+pub inner_refused : (b : Begun) (text : List ℕ) (e : RecordFault) → front_refusal true text ≡ None → record_fault b.delimiters text ≡ Some e → refusal (Some b) text ≡ Some (reasons.BadRecord e)
+inner_refused b text e front f =
     let inner = inner_told b text front in
-    told_fault e (record_fault b.delimiters text) reason (refusal (Some b) text) tells is (λ f.
-    inner.told ∙ refusal-other b inner.kind text inner.other ∙ ap (λ x. option_or (option_map reasons.BadRecord x) (misplaced (level_of (Some b)) inner.kind)) f)
+    inner.told ∙ refusal-other b inner.kind text inner.other ∙ ap (λ x. option_or (option_map reasons.BadRecord x) (misplaced (level_of (Some b)) inner.kind)) f
 
 -- where the text is a record, its place is what is left to tell
-pub place_refused : (b : Begun) (text : List ℕ) (r : RecordContent) (reason : Reason) → IsRecord b.delimiters text r → r.kind ≢ kinds.H → (reason ≡ reasons.OutOfMemory) ⊎ (misplaced (level_of (Some b)) r.kind ≡ Some reason)
-    → (reason ≡ reasons.OutOfMemory) ⊎ (refusal (Some b) text ≡ Some reason)
-place_refused b text r reason is other why =
-    ⊎_elim (λ (o : reason ≡ reasons.OutOfMemory). inl o)
-    (λ (m : misplaced (level_of (Some b)) r.kind ≡ Some reason). inr (refusal_at (Some b) b.delimiters text r is ∙ refusal-other b r.kind text other
-    ∙ ap (λ x. option_or (option_map reasons.BadRecord x) (misplaced (level_of (Some b)) r.kind)) (record_fault-IsRecord b.delimiters text r other is) ∙ m)) why
+pub place_refused : (b : Begun) (text : List ℕ) (r : RecordContent) (reason : Reason) → IsRecord b.delimiters text r → r.kind ≢ kinds.H → misplaced (level_of (Some b)) r.kind ≡ Some reason
+    → refusal (Some b) text ≡ Some reason
+place_refused b text r reason is other m =
+    refusal_at (Some b) b.delimiters text r is ∙ refusal-other b r.kind text other
+    ∙ ap (λ x. option_or (option_map reasons.BadRecord x) (misplaced (level_of (Some b)) r.kind)) (record_fault-IsRecord b.delimiters text r other is) ∙ m

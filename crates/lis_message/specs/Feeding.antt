@@ -1,5 +1,5 @@
 -- What a message reader keeps of a stream, and what it answers to a piece of it.
-use Rattle.std.specs.Prelude.{◌≡◌, ℕ, List, [], ◌++◌, Option, Some, None, Result, Ok, Err, ◌⊎◌, ◌+◌}
+use Rattle.std.specs.Prelude.{◌≡◌, ℕ, List, [], ◌++◌, Option, Some, None, Result, Ok, Err, ◌⊎◌, ◌+◌, ◌<◌, length}
 use Rattle.lis_tree.specs.declared.fault.MessageFault.{MessageFault}
 use Rattle.lis_tree.specs.declared.fault.Reason.TheVariants as reasons
 use Rattle.lis_tree.specs.Begun.{Begun}
@@ -40,6 +40,13 @@ Stops stream messages fault = IsWantOfMemory stream messages fault ⊎ IsRefused
 abbrev pub Goes : Unended → List MessageTree → List ℕ → Unended → List MessageTree → Type 0
 Goes before messages bytes after more =
     (past : List ℕ) (base : List MessageTree) → IsCut past (base ++ messages) before.left before.held → IsCut (past ++ bytes) (base ++ more) after.left after.held
+
+-- These bytes, up to those behind, lead there; there is one at least.
+pub record GoesBefore (before : Unended) (messages : List MessageTree) (bytes behind : List ℕ) (after : Unended) (more : List MessageTree) : Type 0 where
+  pub front : List ℕ
+  pub whole : bytes ≡ front ++ behind
+  pub shorter : length behind < length bytes
+  pub goes : Goes before messages front after more
 
 -- The reading stops in these bytes, with these messages, whatever came before.
 abbrev pub StopsIn : Unended → List MessageTree → List ℕ → List MessageTree → MessageFault → Type 0

@@ -2,12 +2,12 @@
 use Rattle.std.specs.Prelude.{◌≡◌, ◌≢◌, ℕ, List, [], ◌∷◌, ◌++◌, Bool, true, false, Option, Some, None}
 use Rattle.lis_field.specs.declared.kinds.Kind.TheVariants as kinds
 use Rattle.lis_field.specs.Delimiters.{DelimiterBytes, IsDelimiters}
-use Rattle.lis_record.specs.declared.faults.RecordFault.{RecordFault}
 use Rattle.lis_record.specs.declared.faults.RecordFault.TheVariants as record_faults
 use Rattle.lis_field.specs.declared.kinds.Kind.{Kind}
 use Rattle.lis_field.specs.Kinds.{kind_of}
 use Rattle.lis_tree.specs.declared.fault.Reason.{Reason}
 use Rattle.lis_tree.specs.declared.fault.Reason.TheVariants as reasons
+use Rattle.lis_record.specs.Lent.{Lent}
 use Rattle.lis_record.specs.Relation.{IsRecord}
 use Rattle.lis_field.specs.Shape.{RecordContent}
 use Rattle.lis_tree.specs.Begun.{Begun, level_of}
@@ -18,14 +18,29 @@ use Rattle.lis_tree.specs.Tree.{MessageTree, IsTree, flatten}
 abbrev pub begun_with : DelimiterBytes → List RecordContent → Option Begun
 begun_with d rs = Some (record { delimiters = d; records = rs })
 
--- A header begins a message, the closing record makes it whole, and any other record stands where it may.
-pub data Taken (left : Option Begun) (text : List ℕ) (message : Option MessageTree) (next : Option Begun) : Type 0 where
-  header : (d : DelimiterBytes) (r : RecordContent) → left ≡ None → IsDelimiters d → IsRecord d text r → r.kind ≡ kinds.H
-      → message ≡ None → next ≡ begun_with d (r ∷ []) → Taken left text message next
-  inner : (begun : Begun) (r : RecordContent) → left ≡ Some begun → IsRecord begun.delimiters text r → misplaced (level_of (Some begun)) r.kind ≡ None
-      → r.kind ≢ kinds.L → message ≡ None → next ≡ begun_with begun.delimiters (begun.records ++ r ∷ []) → Taken left text message next
-  closing : (begun : Begun) (r : RecordContent) (m : MessageTree) → left ≡ Some begun → IsRecord begun.delimiters text r
-      → IsTree m → m.delimiters ≡ begun.delimiters → flatten m ≡ begun.records ++ r ∷ [] → message ≡ Some m → next ≡ None → Taken left text message next
+-- This text comes next, as this record: outside a message as a header under the delimiters that it declares, and in one
+-- under its delimiters where such a record may stand.
+pub data ComesNext (left : Option Begun) (text : List ℕ) (entry : Lent RecordContent) : Type 0 where
+  header : left ≡ None → IsDelimiters entry.delimiters → IsRecord entry.delimiters text entry.content → entry.content.kind ≡ kinds.H
+      → ComesNext left text entry
+  inner : (begun : Begun) → left ≡ Some begun → entry.delimiters ≡ begun.delimiters → IsRecord entry.delimiters text entry.content
+      → misplaced (level_of (Some begun)) entry.content.kind ≡ None → ComesNext left text entry
+
+-- the records of an open message
+abbrev pub records_of : Option Begun → List RecordContent
+records_of None = []
+records_of (Some begun) = begun.records
+
+-- what is left behind a record of this kind: nothing behind the closing one
+abbrev pub left_after : Option Begun → Lent RecordContent → Kind → Option Begun
+left_after left entry kinds.L = None
+left_after left entry kind = begun_with entry.delimiters (records_of left ++ entry.content ∷ [])
+
+-- The closing record completes the message of all these records, and no other record does.
+abbrev pub Completes : Option Begun → Lent RecordContent → Option MessageTree → Type 0
+Completes left entry None = entry.content.kind ≢ kinds.L
+Completes left entry (Some m) =
+    (entry.content.kind ≡ kinds.L) × IsTree m × (m.delimiters ≡ entry.delimiters) × (flatten m ≡ records_of left ++ entry.content ∷ [])
 
 -- ---- the reasons in their order
 
@@ -41,8 +56,3 @@ letter_front true letter (Some kind) = None
 abbrev pub front_refusal : Bool → List ℕ → Option Reason
 front_refusal begun [] = Some (reasons.BadRecord record_faults.Empty)
 front_refusal begun (letter ∷ bytes) = letter_front begun letter (kind_of letter)
-
--- what a record's fault is to a message
-abbrev pub reason_of : RecordFault → Reason
-reason_of record_faults.OutOfMemory = reasons.OutOfMemory
-reason_of fault = reasons.BadRecord fault

@@ -1,12 +1,18 @@
 //! What holds of all messages and streams, over the definitions that the contracts cite.
+ghost use Rattle.std.specs.Option.{option_to_list};
 ghost use Rattle.std.specs.Prelude.{◌≡◌, ◌++◌, ℕ, List, [], Option, None};
 ghost use Rattle.std.specs.List.{AllByRecursion, flat_map};
 ghost use Rattle.lis_field.specs.declared.kinds.Kind.TheVariants as kinds;
 ghost use Rattle.lis_field.specs.Delimiters.{DelimiterBytes};
+ghost use Rattle.lis_message.specs.Taking.{Completes, left_after};
+ghost use Rattle.lis_record.specs.Lent.{Lent};
 ghost use Rattle.lis_record.specs.Relation.{IsRecord};
 ghost use Rattle.lis_field.specs.Shape.{RecordContent};
 ghost use Rattle.lis_tree.specs.declared.fault.MessageFault.{MessageFault};
 ghost use Rattle.lis_tree.specs.Begun.{Begun};
+ghost use Rattle.lis_message.specs.Feeding.{Stops};
+ghost use Rattle.lis_message.specs.Kept.{RecordsState};
+ghost use Rattle.lis_message.specs.Records.{IsReadUpTo, ReadsOn, ReadsRecord, Refuses};
 ghost use Rattle.lis_message.specs.Stream.{IsCut, IsMessage, IsReadFrom, IsRefused};
 ghost use Rattle.lis_tree.specs.Tree.{MessageTree, IsTree, flatten};
 ghost use Rattle.lis_message.specs.Writing.{message_bytes, IsWritable};
@@ -46,4 +52,18 @@ pub fn every_stream()
     ensures read { (stream : List ℕ) → IsReadFrom stream [] }
     ensures longer { (front more : List ℕ) (messages : List MessageTree) (left : Option Begun) (held : List ℕ)
         → IsCut front messages left held → IsReadFrom (front ++ more) messages }
+{}
+
+/// A reader of records reads the stream. Where a stream is cut and the reader holds its last bytes, then each record that it
+/// tells is the next of the stream, and the closing one completes a message; bytes that it holds are the stream's last; and
+/// where it tells a fault, the stream with these bytes is refused for it, or memory was.
+pub fn records_of_a_stream()
+    ensures record { (before after : RecordsState) (stream : List ℕ) (messages : List MessageTree) (left : Option Begun) (bytes behind : List ℕ) (entry : Lent RecordContent)
+        → IsCut stream messages left before.held → ReadsRecord before after left bytes behind entry
+        → (message : Option MessageTree) × Completes left entry message
+        × IsReadUpTo stream bytes behind (messages ++ option_to_list message) (left_after left entry entry.content.kind) after.held }
+    ensures held { (before after : RecordsState) (stream : List ℕ) (messages : List MessageTree) (left : Option Begun) (bytes behind : List ℕ)
+        → IsCut stream messages left before.held → ReadsOn before after left bytes behind → IsCut (stream ++ bytes) messages left after.held }
+    ensures refused { (before after : RecordsState) (stream : List ℕ) (messages : List MessageTree) (left : Option Begun) (bytes behind : List ℕ) (fault : MessageFault)
+        → IsCut stream messages left before.held → Refuses before after left bytes behind fault → Stops (stream ++ bytes) messages fault }
 {}

@@ -4,15 +4,17 @@
 mod fault;
 pub mod laws;
 mod reader;
+mod records;
 mod texts;
 mod writer;
 
 pub use fault::MessageWriteFault;
-pub use lis_record::{Delimiters, Kind, Record, RecordFault, WriteFault};
+pub use lis_record::{Delimiters, Kind, LentRecord, Record, RecordFault, WriteFault};
 pub use lis_text::{LinkText, List, Texts};
 pub use lis_tree::{
     Group, Message, MessageFault, Order, Patient, Query, Reason, Records, ResultEntry,
 };
 pub use reader::{Fed, MessageReader, Messages, read_messages};
+pub use records::{Found, RecordReader};
 pub use texts::{TextsFault, message_texts};
 pub use writer::{write_message, write_message_from};

@@ -1,11 +1,11 @@
 -- What a text without fault opens with, and the record that it then is.
-use Rattle.std.proofs.Common.{◌≡◌, ◌≢◌, ℕ, List, ◌∷◌, None, Result, Ok, refl, ap, ◌∙◌}
+use Rattle.std.proofs.Common.{◌≡◌, ◌≢◌, ℕ, List, ◌∷◌, None, Result, Ok, drop, refl, ap, sym, ◌∙◌}
 use Rattle.lis_field.specs.declared.kinds.Kind.{Kind}
 use Rattle.lis_field.specs.declared.kinds.Kind.TheVariants as kinds
 use Rattle.lis_field.specs.Delimiters.{DelimiterBytes, IsDelimiters}
 use Rattle.lis_record.specs.Faults.{delimiter_part_fault, header_fault, record_fault}
 use Rattle.lis_record.specs.FrontReading.{DeclaresDelimiters, OpensHeader, OpensRecord, fields_of}
-use Rattle.lis_record.specs.Lent.{Lent, lent}
+use Rattle.lis_record.specs.Lent.{Lent, front_length, lent, record_in}
 use Rattle.lis_record.specs.declared.faults.RecordFault.{RecordFault}
 use Rattle.lis_record.specs.Relation.{IsRecord}
 use Rattle.lis_field.specs.Shape.{Fields, RecordContent}
@@ -24,6 +24,18 @@ Read entry = Ok entry
 
 content_with : Kind → Fields → RecordContent
 content_with kind fields = record { kind = kind; fields = fields }
+
+-- one byte stands before the fields of a record other than a header
+front_length-other : (kind : Kind) → kind ≢ kinds.H → front_length kind ≡ 1
+front_length-other kinds.H other = absurd (other refl)
+front_length-other kinds.P other = refl
+front_length-other kinds.O other = refl
+front_length-other kinds.R other = refl
+front_length-other kinds.C other = refl
+front_length-other kinds.Q other = refl
+front_length-other kinds.M other = refl
+front_length-other kinds.S other = refl
+front_length-other kinds.L other = refl
 
 module _ (d : DelimiterBytes) (good : IsDelimiters d) (text : List ℕ) (kind : Kind) (rest : List ℕ) (h : OpensRecord d text kind rest) where
   pub IsRecord-opened : IsRecord d text (record { kind = kind; fields = fields_of d rest })
@@ -47,6 +59,14 @@ module _ (d : DelimiterBytes) (good : IsDelimiters d) (text : List ℕ) (kind : 
   pub lent_only : (entry : Lent RecordContent) → entry ≡ lent d (record { kind = kind; fields = fields_of d rest }) → (other : RecordContent) → IsRecord d text other → Read entry ≡ Read (lent d other)
   lent_only entry is other r =
       ap Read (is ∙ ap (lent d) (record_only (record { kind = kind; fields = fields_of d rest }) refl other r))
+
+  -- its fields are those of what stands behind the letter
+  pub lent_placed : (entry : Lent RecordContent) → entry ≡ lent d (record { kind = kind; fields = fields_of d rest })
+      → entry ≡ record_in entry.delimiters entry.content.kind text
+  lent_placed entry is =
+      let behind : drop (front_length kind) text ≡ rest =
+      ap (λ (n : ℕ). drop n text) (front_length-other kind h.other) ∙ ap (drop 1) h.whole in
+      rw is (ap (λ (l : List ℕ). lent d (record { kind = kind; fields = fields_of d l })) (sym behind))
 
 -- a record that was found is the one that is meant
 pub same_lent : (entry : Lent RecordContent) (d : DelimiterBytes) (content : RecordContent) → Read entry ≡ Read (lent d content) → (entry.delimiters ≡ d) × (entry.content ≡ content)
@@ -83,3 +103,8 @@ module _ (text : List ℕ) (d : DelimiterBytes) (rest : List ℕ) (h : OpensHead
       let content : RecordContent = record { kind = kinds.H; fields = fields_of d rest } in
       let same = header_only content refl e other r in
       ap Read (is ∙ ap (λ (x : DelimiterBytes). lent x content) same.0 ∙ ap (lent e) same.1)
+
+  pub lent_header_placed : (entry : Lent RecordContent) → entry ≡ lent d (record { kind = kinds.H; fields = fields_of d rest })
+      → entry ≡ record_in entry.delimiters entry.content.kind text
+  lent_header_placed entry is =
+      rw is (ap (λ (l : List ℕ). lent d (record { kind = kinds.H; fields = fields_of d l })) (sym (ap (drop 5) whole_header)))

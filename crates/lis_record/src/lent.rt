@@ -4,7 +4,7 @@ ghost use Rattle.std.specs.Prelude.{◌≡◌, IfOk, length, option_map, slice_g
 ghost use Rattle.lis_field.specs.Shape.{field_at};
 ghost use Rattle.lis_field.specs.declared.kinds.Kind.{Kind as KindOf};
 ghost use Rattle.lis_record.specs.FrontReading.{components_of, fields_of, repeats_of, symbols_of};
-ghost use Rattle.lis_record.specs.Lent.{lent};
+ghost use Rattle.lis_record.specs.Lent.{front_length, lent, record_in};
 ghost use Rattle.lis_record.specs.Relation.{Lacks};
 ghost use Rattle.lis_record.specs.Spelling.{spelled_field};
 ghost use Rattle.lis_record.specs.Writing.{WroteAny, is_io};
@@ -169,6 +169,16 @@ fn put_symbols<W: Sink>(sink: &mut W, delimiters: Delimiters, text: &[u8]) -> Re
     send(sink, &mut chunk, &mut cursor, 0, 0)
 }
 
+// How many bytes stand before a record's fields.
+fn front_length(kind: Kind) -> usize
+    ensures { result ≡ front_length kind }
+{
+    match kind {
+        Kind::H => 5,
+        _ => 1,
+    }
+}
+
 /// A record that stands in a text, under the delimiters of its message.
 #[derive(Drop)]
 pub struct LentRecord<'a> {
@@ -197,6 +207,19 @@ impl<'a> LentRecord<'a> {
             kind,
             fields,
         }
+    }
+
+    /// The record of this kind that is known to be this text, as `lend_header` and `lend_record` found it under these
+    /// delimiters. Nothing of the text is tested again, and it takes no memory.
+    pub fn in_text(delimiters: Delimiters, kind: Kind, text: &'a [u8]) -> Self
+        ensures { result ≡ record_in delimiters kind text.now }
+    {
+        let before = front_length(kind);
+        if text.len() < before {
+            return LentRecord::of_parts(delimiters, kind, &[]);
+        }
+        let (_front, fields) = text.split_at(before);
+        LentRecord::of_parts(delimiters, kind, fields)
     }
 
     /// The delimiters that the record is read under; a header's own.

@@ -4,7 +4,7 @@ ghost use Rattle.std.specs.Prelude.{◌≡◌, ◌≢◌, IfOk, IfErr, MatchOpti
 ghost use Rattle.lis_field.specs.Delimiters.{DelimiterBytes, IsDelimiters};
 ghost use Rattle.lis_record.specs.Faults.{TellsFault, delimiter_part_fault, header_fault, is_header_kind, is_other_kind, record_fault, text_fault, trailing_byte};
 ghost use Rattle.lis_record.specs.FrontReading.{DeclaresDelimiters, OpensHeader, OpensRecord};
-ghost use Rattle.lis_record.specs.Lent.{lent};
+ghost use Rattle.lis_record.specs.Lent.{lent, record_in};
 ghost use Rattle.lis_record.specs.Relation.{IsRecord};
 ghost use Rattle.lis_field.specs.Shape.{RecordContent};
 ghost use Rattle.lis_field.specs.declared.kinds.Kind.TheVariants as kinds;
@@ -130,6 +130,8 @@ pub fn lend_record<'a>(
     // What is found is the record that the text is.
     ensures found { IfOk result (λ entry. (entry.delimiters ≡ delimiters.now)
         × IsRecord delimiters.now text.now entry.content × (entry.content.kind ≢ kinds.H)) }
+    // Its fields stand behind its letter.
+    ensures place { IfOk result (λ entry. entry ≡ record_in entry.delimiters entry.content.kind text.now) }
     // A text that is a record is found to be it.
     ensures only { (content : RecordContent) → IsRecord delimiters.now text.now content → content.kind ≢ kinds.H
         → result ≡ Ok (lent delimiters.now content) }
@@ -151,6 +153,8 @@ pub fn lend_header(text: &[u8]) -> Result<LentRecord<'_>, RecordFault>
     // What is found is the header that the text is, under the delimiters that it declares.
     ensures found { IfOk result (λ entry. IsDelimiters entry.delimiters
         × IsRecord entry.delimiters text.now entry.content × (entry.content.kind ≡ kinds.H)) }
+    // Its fields stand behind its delimiters.
+    ensures place { IfOk result (λ entry. entry ≡ record_in entry.delimiters entry.content.kind text.now) }
     // A text that is a header is found to be it.
     ensures only { (d : DelimiterBytes) (content : RecordContent) → IsDelimiters d → IsRecord d text.now content → content.kind ≡ kinds.H
         → result ≡ Ok (lent d content) }

@@ -23,6 +23,8 @@ mod record;
 #[cfg(test)]
 mod record_commands;
 #[cfg(test)]
+mod records;
+#[cfg(test)]
 mod scanning;
 #[cfg(test)]
 mod splitting;

@@ -9,5 +9,6 @@ pub mod Numbers
 pub mod Open
 pub mod Places
 pub mod Spine
+pub mod Standing
 pub mod Tree
 pub mod Walk

@@ -9,6 +9,7 @@ mod message;
 mod numbering;
 mod open;
 mod spine;
+mod standing;
 mod tree;
 mod walk;
 
@@ -19,5 +20,6 @@ pub use lists::Records;
 pub use message::Message;
 pub use numbering::{Finding, Findings, findings};
 pub use open::OpenMessage;
+pub use standing::Standing;
 pub use tree::{Group, Order, Patient, Query, ResultEntry};
 pub use walk::Walk;

@@ -9,7 +9,7 @@ ghost use Rattle.lis_tree.specs.Tree.{flatten, IsTree};
 
 use crate::fault::Reason;
 use crate::message::Message;
-use crate::spine::{Spine, headed, place_fault, whole_front, with_record};
+use crate::spine::{Spine, headed, standing, whole_front, with_record};
 use lis_record::{Delimiters, Kind, Record};
 use std::alloc::{AllocError, Global};
 use std::marker::Model;
@@ -71,7 +71,7 @@ impl OpenMessage {
     pub fn place_fault(&self, kind: Kind) -> Option<Reason>
         ensures { result ≡ misplaced (level_of (Some self.now)) kind }
     {
-        place_fault(&self.spine, kind)
+        standing(&self.spine).place_fault(kind)
     }
 
     /// The message with one more record, which may stand there and doesn't close it.

@@ -5,10 +5,11 @@ ghost use Rattle.lis_field.specs.declared.kinds.Kind.TheVariants as kinds;
 ghost use Rattle.lis_tree.specs.Level.{misplaced};
 ghost use Rattle.lis_tree.specs.Tree.{noted_records, order_records, patient_records, group_records, IsNote, IsNoted, IsOrder, IsPatient, IsGroup, IsTree};
 ghost use Rattle.lis_tree.specs.Spine.{front_records, spine_records, spine_level, IsFront, IsSpine};
+ghost use Rattle.lis_tree.specs.Standing.{standing_level};
 
-use crate::fault::Reason;
 use crate::lists::Records;
 use crate::message::Message;
+use crate::standing::Standing;
 use crate::tree::{Group, Order, Patient, Query, ResultEntry};
 use lis_record::{Delimiters, Kind, Record};
 use std::alloc::{AllocError, Global};
@@ -318,23 +319,15 @@ fn with_result(alloc: Global, spine: Spine, head: Record) -> Result<Spine, Alloc
     }
 }
 
-/// Why a record of this kind can't come next.
-pub(crate) fn place_fault(spine: &Spine, kind: Kind) -> Option<Reason>
-    ensures { result ≡ misplaced (spine_level spine.now) kind }
+/// Where the next record will stand.
+pub(crate) fn standing(spine: &Spine) -> Standing
+    ensures { standing_level result ≡ spine_level spine.now }
 {
-    let has_parent = match kind {
-        Kind::H => return Some(Reason::SecondHeader),
-        Kind::O => matches!(
-            spine,
-            Spine::Patient(..) | Spine::Order(..) | Spine::Entry(..)
-        ),
-        Kind::R => matches!(spine, Spine::Order(..) | Spine::Entry(..)),
-        Kind::P | Kind::C | Kind::Q | Kind::M | Kind::S | Kind::L => true,
-    };
-    if has_parent {
-        None
-    } else {
-        Some(Reason::NoParent(kind))
+    match spine {
+        Spine::Header(_) => Standing::InHeader,
+        Spine::Query(..) => Standing::InQuery,
+        Spine::Patient(..) => Standing::InPatient,
+        Spine::Order(..) | Spine::Entry(..) => Standing::InOrder,
     }
 }
 

@@ -1,6 +1,6 @@
 use Rattle.lis_field.proofs.FirstFaults.{some_none}
 use Rattle.lis_record.proofs.FaultLaws.{header_fault-IsRecord}
-use Rattle.lis_record.proofs.Opening.{header_fault-opened, lent_header_found, lent_header_only}
+use Rattle.lis_record.proofs.Opening.{header_fault-opened, lent_header_found, lent_header_only, lent_header_placed}
 use Rattle.lis_record.specs.Faults.{header_fault}
 use Rattle.lis_record.proofs.reading.lend_header.Goals as goal
 
@@ -16,3 +16,6 @@ returns-in-Ok-clause-only c = λ d content good r is_header. lent_header_only c.
 
 pub returns-in-Ok-clause-fault : goal.returns-in-Ok-clause-fault
 returns-in-Ok-clause-fault c = header_fault-opened c.args.text.now c.in-Ok.found.0 c.in-Ok.found.1.now c.in-Ok.ensures
+
+pub returns-in-Ok-clause-place : goal.returns-in-Ok-clause-place
+returns-in-Ok-clause-place c = lent_header_placed c.args.text.now c.in-Ok.found.0 c.in-Ok.found.1.now c.in-Ok.ensures c.of_parts.result c.of_parts.ensures

@@ -1,6 +1,6 @@
 use Rattle.lis_field.proofs.FirstFaults.{some_none}
 use Rattle.lis_record.proofs.FaultLaws.{record_fault-IsRecord}
-use Rattle.lis_record.proofs.Opening.{lent_found, lent_only, record_fault-opened}
+use Rattle.lis_record.proofs.Opening.{lent_found, lent_only, lent_placed, record_fault-opened}
 use Rattle.lis_record.specs.Faults.{record_fault}
 use Rattle.lis_record.proofs.reading.lend_record.Goals as goal
 
@@ -17,3 +17,6 @@ returns-in-Ok-clause-only c = λ content r other.
 
 pub returns-in-Ok-clause-fault : goal.returns-in-Ok-clause-fault
 returns-in-Ok-clause-fault c = record_fault-opened c.args.delimiters.now c.in-Ok.ensures.shape c.args.text.now _ _ c.in-Ok.ensures.opened
+
+pub returns-in-Ok-clause-place : goal.returns-in-Ok-clause-place
+returns-in-Ok-clause-place c = lent_placed c.args.delimiters.now c.in-Ok.ensures.shape c.args.text.now _ _ c.in-Ok.ensures.opened c.of_parts.result c.of_parts.ensures

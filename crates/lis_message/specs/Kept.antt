@@ -1,0 +1,44 @@
+-- What a reader of records keeps.
+use Rattle.std.specs.Prelude.{ℕ, List, [], length, Option, None, Some}
+use Rattle.lis_field.specs.Delimiters.{DelimiterBytes}
+use Rattle.lis_field.specs.Shape.{RecordContent}
+use Rattle.lis_message.specs.declared.records.Known.{Known}
+use Rattle.lis_record.specs.Lent.{Lent, record_in}
+use Rattle.lis_tree.specs.declared.fault.MessageFault.{MessageFault}
+use Rattle.lis_tree.specs.Begun.{Begun, level_of}
+use Rattle.lis_tree.specs.Level.{Level}
+use Rattle.lis_tree.specs.Places.{capped}
+
+-- of an open message: its delimiters, where the next record will stand, and how many there are
+pub record Opened : Type 0 where
+  pub delimiters : DelimiterBytes
+  pub level : Level
+  pub count : ℕ
+
+abbrev pub opened_with : Begun → Opened
+opened_with begun = record {
+  delimiters = begun.delimiters;
+  level = level_of (Some begun);
+  count = capped (length begun.records);
+}
+
+abbrev pub opened_of : Option Begun → Option Opened
+opened_of None = None
+opened_of (Some begun) = Some (opened_with begun)
+
+-- beside it, bytes of a record that isn't ended, the last record where it was cut, and the fault that was met
+pub record RecordsState : Type 0 where
+  pub opened : Option Opened
+  pub held : List ℕ
+  pub cut : Option (Lent RecordContent)
+  pub fault : Option MessageFault
+
+-- what is held of records: bytes of one that isn't ended, and the last record where it was cut
+pub record Holding : Type 0 where
+  pub held : List ℕ
+  pub cut : Option (Lent RecordContent)
+
+-- bytes that are kept are those of a record that isn't ended, or of the last record
+abbrev pub holding : Option Known → List ℕ → Holding
+holding None bytes = record { held = bytes; cut = None }
+holding (Some known) bytes = record { held = []; cut = Some (record_in known.delimiters known.kind bytes) }

@@ -1,0 +1,418 @@
+//! Reading records where they stand, from a stream that comes in pieces (LIS02-A2, Delimiters). What is kept is the bytes of
+//! one record, and of the open message how its next record is read.
+
+ghost use Rattle.std.specs.Prelude.{◌≡◌, ◌≢◌, ℕ, true, false, ◌+◌, ◌<◌, ◌≤◌, ◌∷◌, [], ◌++◌, ◌⊎◌, List, Option, IfOk, IfErr, OnOk, OnSome, IfSome, IfNone, None, Some, Ok, Err, length};
+ghost use Rattle.lis_message.specs.declared.records.Found.TheVariants.{Refused as IsRefusal};
+ghost use Rattle.lis_message.specs.Feeding.{at_end, next_place};
+ghost use Rattle.lis_message.specs.Kept.{opened_of, opened_with};
+ghost use Rattle.lis_message.specs.Records.{EndsHeld, HasLeft, IsRefusedFor, IsStopped, Reads};
+ghost use Rattle.lis_message.specs.Stream.{LacksReturn, refusal};
+ghost use Rattle.lis_message.specs.Taking.{ComesNext, front_refusal, left_after};
+ghost use Rattle.lis_record.specs.declared.texts.TheConstants.{RECORD_LIMIT};
+ghost use Rattle.lis_record.specs.Lent.{Lent, record_in};
+ghost use Rattle.lis_field.specs.Shape.{RecordContent};
+ghost use Rattle.lis_tree.specs.Begun.{Begun};
+ghost use Rattle.lis_tree.specs.declared.fault.Reason.TheVariants as reasons;
+
+use lis_record::{
+    Delimiters, Kind, LentRecord, RECORD_LIMIT, RecordFault, lend_header, lend_record,
+};
+use lis_tree::{MessageFault, Reason, Standing};
+use memchr::memchr;
+use std::alloc::Global;
+use std::marker::Model;
+
+const CR: u8 = 0x0d;
+
+/// Of a message that isn't closed yet: how its next record is read.
+#[derive(Drop)]
+struct Opened {
+    delimiters: Delimiters,
+    standing: Standing,
+    /// How many records there are; it stays at the greatest number.
+    count: u64,
+}
+
+impl Model for Opened {
+    ghost use Rattle.lis_message.specs.Kept.{Opened};
+    ghost use Rattle.lis_tree.specs.Standing.{standing_level};
+
+    ghost Value = { Opened };
+
+    ghost view = { λ o. record { delimiters = o.delimiters; level = standing_level o.standing; count = o.count } };
+}
+
+/// Why a text can't come next, as far as its letter tells.
+fn front_fault(is_begun: bool, text: &[u8]) -> Option<Reason>
+    ensures { result ≡ front_refusal is_begun text.now }
+{
+    let Some(letter) = text.first() else {
+        return Some(Reason::BadRecord(RecordFault::Empty));
+    };
+    match Kind::of_letter(*letter) {
+        None => Some(Reason::BadRecord(RecordFault::UnknownKind(*letter))),
+        Some(Kind::H) => is_begun.then_some(Reason::SecondHeader),
+        Some(_) => (!is_begun).then_some(Reason::NotHeader),
+    }
+}
+
+#[tactic(auto, using(crate::proofs::TakingLaws::header_refused))]
+/// The header that a text is, which comes where no message is open.
+fn lend_first(text: &[u8]) -> Result<LentRecord<'_>, Reason>
+    requires { front_refusal false text.now ≡ None }
+    ensures ok { IfOk result (λ entry. ComesNext None text.now entry) }
+    ensures err { IfErr result (λ reason. refusal None text.now ≡ Some reason) }
+    ensures place { IfOk result (λ entry. entry ≡ record_in entry.delimiters entry.content.kind text.now) }
+{
+    match lend_header(text) {
+        Ok(entry) => Ok(entry),
+        Err(fault) => Err(Reason::BadRecord(fault)),
+    }
+}
+
+/// The record that a text is, which comes in the open message.
+fn lend_inner<'a>(opened: &Opened, text: &'a [u8]) -> Result<LentRecord<'a>, Reason>
+    requires { front_refusal true text.now ≡ None }
+    ensures ok { IfOk result (λ entry. (begun : Begun) → opened.now ≡ opened_with begun → ComesNext (Some begun) text.now entry) }
+    ensures err { IfErr result (λ reason. (begun : Begun) → opened.now ≡ opened_with begun → refusal (Some begun) text.now ≡ Some reason) }
+    ensures place { IfOk result (λ entry. entry ≡ record_in entry.delimiters entry.content.kind text.now) }
+{
+    let entry = match lend_record(&opened.delimiters, text) {
+        Ok(entry) => entry,
+        Err(fault) => return Err(Reason::BadRecord(fault)),
+    };
+    match opened.standing.place_fault(entry.kind()) {
+        None => Ok(entry),
+        Some(reason) => Err(reason),
+    }
+}
+
+/// The record that a text is which comes next, else the first reason that it can't.
+fn lend_next<'a>(opened: &Option<Opened>, text: &'a [u8]) -> Result<LentRecord<'a>, Reason>
+    ensures ok { IfOk result (λ entry. (left : Option Begun) → opened.now ≡ opened_of left → ComesNext left text.now entry) }
+    ensures err { IfErr result (λ reason. (left : Option Begun) → opened.now ≡ opened_of left → refusal left text.now ≡ Some reason) }
+    ensures place { IfOk result (λ entry. entry ≡ record_in entry.delimiters entry.content.kind text.now) }
+{
+    if let Some(reason) = front_fault(opened.is_some(), text) {
+        return Err(reason);
+    }
+    match opened {
+        None => lend_first(text),
+        Some(opened) => lend_inner(opened, text),
+    }
+}
+
+/// What is open behind a record of this kind, which came next under these delimiters.
+fn opened_after(opened: &Option<Opened>, delimiters: Delimiters, kind: Kind) -> Option<Opened>
+    ensures { (left : Option Begun) (text : List ℕ) (entry : Lent RecordContent) → opened.now ≡ opened_of left →
+        ComesNext left text entry → entry.delimiters ≡ delimiters → entry.content.kind ≡ kind →
+        result ≡ opened_of (left_after left entry kind) }
+{
+    let Some(opened) = opened else {
+        return Some(Opened {
+            delimiters,
+            standing: Standing::InHeader,
+            count: 1,
+        });
+    };
+    let standing = opened.standing.after(kind)?;
+    Some(Opened {
+        delimiters,
+        standing,
+        count: opened.count.saturating_add(1),
+    })
+}
+
+/// The bytes before the first CR, and those behind it.
+fn next_line(bytes: &[u8]) -> Option<(&[u8], &[u8])>
+    ensures some { IfSome result (λ parts. bytes.now ≡ parts.0.now ++ 13 ∷ parts.1.now) }
+    ensures lacks { IfSome result (λ parts. LacksReturn parts.0.now) }
+    ensures none { IfNone result (LacksReturn bytes.now) }
+{
+    let end = memchr(CR, bytes)?;
+    let (text, behind) = bytes.split_at(end);
+    let (_, rest) = behind.split_first()?;
+    Some((text, rest))
+}
+
+/// What is known of a record whose bytes are held: the delimiters that it is read under, and its kind.
+#[derive(Clone, Copy, Drop)]
+struct Known {
+    delimiters: Delimiters,
+    kind: Kind,
+}
+
+/// The bytes of a record that isn't ended, or of the last record, which was cut, until the next bytes come.
+#[derive(Drop)]
+struct HeldBytes {
+    bytes: Vec<u8>,
+    /// Where the bytes are the last record: what is known of it.
+    known: Option<Known>,
+}
+
+impl Model for HeldBytes {
+    ghost use Rattle.std.specs.Prelude.{◌≤◌, length};
+    ghost use Rattle.lis_message.specs.Kept.{Holding, holding};
+    ghost use Rattle.lis_record.specs.declared.texts.TheConstants.{RECORD_LIMIT};
+
+    ghost Value = { Holding };
+
+    ghost view = { λ h. holding h.known h.bytes.items };
+
+    ghost invariant = { λ h. length h.bytes.items ≤ RECORD_LIMIT };
+}
+
+impl HeldBytes {
+    fn new(alloc: Global) -> Self
+        ensures { result ≡ record { held = []; cut = None } }
+    {
+        HeldBytes {
+            bytes: Vec::new(alloc),
+            known: None,
+        }
+    }
+
+    /// The bytes of the record that isn't ended.
+    fn text(&self) -> &[u8]
+        ensures value { result.now ≡ self.now.held }
+        ensures bound { length result.now ≤ RECORD_LIMIT }
+    {
+        match self.known {
+            None => self.bytes.as_slice(),
+            Some(_) => &[],
+        }
+    }
+
+    /// Lets go of the last record.
+    fn forget_cut(&mut self)
+        ensures { self.new ≡ record { held = self.old.held; cut = None } }
+    {
+        if self.known.is_some() {
+            self.bytes.clear();
+            self.known = None;
+        }
+    }
+
+    fn clear(&mut self)
+        ensures { self.new ≡ record { held = []; cut = None } }
+    {
+        self.bytes.clear();
+        self.known = None;
+    }
+
+    /// Holds more bytes of a record.
+    fn hold(&mut self, bytes: &[u8]) -> Result<(), Reason>
+        requires { self.old.cut ≡ None }
+        ensures ok { OnOk result (self.new ≡ record { held = self.old.held ++ bytes.now; cut = None }) }
+        ensures short { OnOk result (length (self.old.held ++ bytes.now) ≤ RECORD_LIMIT) }
+        ensures err { IfErr result (λ e. (e ≡ reasons.OutOfMemory)
+            ⊎ ((e ≡ reasons.RecordTooLong) × (RECORD_LIMIT < length (self.old.held ++ bytes.now)))) }
+    {
+        if bytes.len() > RECORD_LIMIT - self.bytes.len() {
+            return Err(Reason::RecordTooLong);
+        }
+        match self.bytes.extend_from_slice(bytes) {
+            Ok(()) => Ok(()),
+            Err(_) => Err(Reason::OutOfMemory),
+        }
+    }
+
+    /// What is held is a record of this kind under these delimiters.
+    fn end(&mut self, delimiters: Delimiters, kind: Kind)
+        requires { self.old.cut ≡ None }
+        ensures { self.new ≡ record { held = []; cut = Some (record_in delimiters kind self.old.held) } }
+    {
+        self.known = Some(Known { delimiters, kind });
+    }
+
+    /// The last record, where it was cut.
+    fn cut(&self) -> Option<LentRecord<'_>>
+        ensures { result ≡ self.now.cut }
+    {
+        let known = self.known?;
+        Some(LentRecord::in_text(known.delimiters, known.kind, self.bytes.as_slice()))
+    }
+}
+
+/// What reading on found.
+#[derive(Drop)]
+pub enum Found<'a> {
+    /// No record ends in the bytes; all of them are held.
+    Nothing,
+    /// A record that stands whole in the bytes.
+    Record(LentRecord<'a>),
+    /// A record that was cut, of which bytes were held: `RecordReader::cut` lends it.
+    Held,
+    /// A record that can't be read, or want of memory for bytes that are to be held.
+    Refused(MessageFault),
+}
+
+/// Reads records from a stream that comes in pieces, each where it stands. It keeps the bytes of a record that isn't
+/// ended, and of the open message how its next record is read; no record and no tree. After a fault it gives that
+/// fault for good.
+#[derive(Drop)]
+pub struct RecordReader {
+    opened: Option<Opened>,
+    kept: HeldBytes,
+    fault: Option<MessageFault>,
+}
+
+impl Model for RecordReader {
+    ghost use Rattle.lis_message.specs.Kept.{RecordsState};
+
+    ghost Value = { RecordsState };
+
+    ghost view = { λ r. record { opened = r.opened; held = r.kept.held; cut = r.kept.cut; fault = r.fault } };
+}
+
+impl RecordReader {
+    /// A reader at the start of a stream. It takes no memory yet.
+    pub fn new(alloc: Global) -> Self
+        ensures state { result ≡ record { opened = None; held = []; cut = None; fault = None } }
+        ensures left { HasLeft result None }
+    {
+        RecordReader {
+            opened: None,
+            kept: HeldBytes::new(alloc),
+            fault: None,
+        }
+    }
+
+    /// Reads on to the end of a record, or to the end of the bytes where none ends in them, and answers the bytes
+    /// behind and what it found: a record by what was held of it and these bytes, under the delimiters of its
+    /// message, or the fault of the first record that can't come next, with its place in the message. Of bytes in
+    /// which a record is refused none count as read, and the reader then gives that fault for good. Want of memory may
+    /// stand in its place, but only where bytes are to be held: a record that stands whole in the bytes takes none.
+    /// A record has at most 65,536 bytes without its CR.
+    ///
+    /// Whatever message was open, left is then that message with the record, or nothing behind its closing record
+    /// (`laws::records_of_a_stream` says the same of the stream).
+    pub fn read<'a>(&mut self, bytes: &'a [u8]) -> (&'a [u8], Found<'a>)
+        ensures read { (left : Option Begun) → HasLeft self.old left
+            → Reads self.old self.new left bytes.now result.0.now result.1 }
+        ensures failed { IfSome self.old.fault (λ fault. (result.0.now ≡ bytes.now) × (result.1 ≡ IsRefusal fault) × (self.new ≡ self.old)) }
+    {
+        if let Some(fault) = self.fault {
+            return (bytes, Found::Refused(fault));
+        }
+        let place = self.next_place();
+        self.kept.forget_cut();
+        match self.read_open(bytes) {
+            Ok(answer) => answer,
+            Err(reason) => {
+                let fault = MessageFault { place, reason };
+                self.kept.clear();
+                self.fault = Some(fault);
+                (bytes, Found::Refused(fault))
+            }
+        }
+    }
+
+    /// The record that was read last, where it was cut; none where it stood whole in the bytes, or none was read.
+    pub fn cut(&self) -> Option<LentRecord<'_>>
+        ensures { result ≡ self.now.cut }
+    {
+        self.kept.cut()
+    }
+
+    /// The place of the next record in its message, from 1 for a header.
+    pub fn next_place(&self) -> u64
+        ensures { (left : Option Begun) → self.now.opened ≡ opened_of left → result ≡ next_place left }
+    {
+        match &self.opened {
+            None => 1,
+            Some(opened) => opened.count.saturating_add(1),
+        }
+    }
+
+    /// How many bytes of a record that isn't ended are held; none after a fault.
+    pub fn held(&self) -> u64
+        ensures value { result ≡ length self.now.held }
+        ensures bound { result ≤ 65536 }
+    {
+        self.kept.text().len() as u64
+    }
+
+    /// The end of the stream: a message that isn't closed, or a record that isn't ended, is `Unfinished`.
+    pub fn finish(&self) -> Result<(), MessageFault>
+        ensures read { (left : Option Begun) → HasLeft self.now left → result ≡ at_end left self.now.held }
+        ensures failed { IfSome self.now.fault (λ fault. result ≡ Err fault) }
+    {
+        if let Some(fault) = self.fault {
+            return Err(fault);
+        }
+        if self.opened.is_none() && self.kept.text().is_empty() {
+            return Ok(());
+        }
+        Err(MessageFault {
+            place: self.next_place(),
+            reason: Reason::Unfinished,
+        })
+    }
+
+    /// Reads on, where no fault was met and the last record is let go of.
+    fn read_open<'a>(&mut self, bytes: &'a [u8]) -> Result<(&'a [u8], Found<'a>), Reason>
+        requires { self.old.cut ≡ None }
+        ensures ok { IfOk result (λ answer. (left : Option Begun) → HasLeft self.old left
+            → Reads self.old self.new left bytes.now answer.0.now answer.1) }
+        ensures err { IfErr result (λ reason. (left : Option Begun) → HasLeft self.old left
+            → IsStopped left self.old.held bytes.now reason) }
+        ensures fault { self.new.fault ≡ self.old.fault }
+    {
+        let Some((text, behind)) = next_line(bytes) else {
+            return match self.kept.hold(bytes) {
+                Ok(()) => Ok((&[], Found::Nothing)),
+                Err(reason) => Err(reason),
+            };
+        };
+        if self.kept.text().is_empty() {
+            return match self.end_whole(text) {
+                Ok(entry) => Ok((behind, Found::Record(entry))),
+                Err(reason) => Err(reason),
+            };
+        }
+        match self.end_held(text) {
+            Ok(()) => Ok((behind, Found::Held)),
+            Err(reason) => Err(reason),
+        }
+    }
+
+    /// Reads a record that this text is, at its CR.
+    fn end_whole<'a>(&mut self, text: &'a [u8]) -> Result<LentRecord<'a>, Reason>
+        ensures ok { IfOk result (λ entry. (left : Option Begun) → self.old.opened ≡ opened_of left
+            → ComesNext left text.now entry × (self.new.opened ≡ opened_of (left_after left entry entry.content.kind))) }
+        ensures err { IfErr result (λ reason. (left : Option Begun) → self.old.opened ≡ opened_of left → IsRefusedFor left text.now reason) }
+        ensures held { self.new.held ≡ self.old.held }
+        ensures fault { self.new.fault ≡ self.old.fault }
+    {
+        if text.len() > RECORD_LIMIT {
+            return Err(Reason::RecordTooLong);
+        }
+        let entry = match lend_next(&self.opened, text) {
+            Ok(entry) => entry,
+            Err(reason) => return Err(reason),
+        };
+        self.opened = opened_after(&self.opened, entry.delimiters(), entry.kind());
+        Ok(entry)
+    }
+
+    /// Reads a record that what is held and this text are, at its CR.
+    fn end_held(&mut self, text: &[u8]) -> Result<(), Reason>
+        requires { self.old.cut ≡ None }
+        ensures ok { OnOk result ((left : Option Begun) → self.old.opened ≡ opened_of left → EndsHeld self.old self.new left text.now) }
+        ensures err { IfErr result (λ reason. (left : Option Begun) → self.old.opened ≡ opened_of left
+            → (reason ≡ reasons.OutOfMemory) ⊎ IsRefusedFor left (self.old.held ++ text.now) reason) }
+        ensures fault { self.new.fault ≡ self.old.fault }
+    {
+        if let Err(reason) = self.kept.hold(text) {
+            return Err(reason);
+        }
+        let (delimiters, kind) = match lend_next(&self.opened, self.kept.text()) {
+            Ok(entry) => (entry.delimiters(), entry.kind()),
+            Err(reason) => return Err(reason),
+        };
+        self.opened = opened_after(&self.opened, delimiters, kind);
+        self.kept.end(delimiters, kind);
+        Ok(())
+    }
+}
