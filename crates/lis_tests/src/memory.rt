@@ -227,7 +227,10 @@ fn a_record_that_is_refused_comes_back(rt: HostRuntime) -> Result<(), Fail> {
     }
     assert_eq!(rt; records.len(), 9);
     for (place, letter) in b"ABCDEFGHI".iter().enumerate() {
-        assert_eq!(rt; records.get(place).and_then(letter_of_record), Some(*letter));
+        assert_eq!(rt;
+            records.get(place).and_then(letter_of_record),
+            Some(*letter)
+        );
     }
     Ok(())
 }
