@@ -66,6 +66,21 @@ fn a_run_tries_nothing_again(rt: HostRuntime) -> Result<(), Fail> {
 }
 
 #[test]
+fn a_sink_that_fails_has_taken_the_front_of_a_line(rt: HostRuntime) {
+    for room in 0..27usize {
+        let mut source = Cut::new(&HEADER, 4096, Then::End);
+        let mut sink = Slow::new(room, 4096);
+        assert_eq!(rt;
+            run_show(&mut source, &mut sink, 1000),
+            Err(ToolFault::Write {
+                written: room as u64
+            })
+        );
+        assert_eq!(rt; Some(sink.took()), HEADER_LINE.get(..room));
+    }
+}
+
+#[test]
 fn reads_are_counted(rt: HostRuntime) -> Result<(), Fail> {
     let mut source = Cut::new(b"\x05", 1, Then::End);
     let mut sink = Slow::new(100, 100);

@@ -13,6 +13,8 @@ mod link_text;
 #[cfg(test)]
 mod list;
 #[cfg(test)]
+mod memory;
+#[cfg(test)]
 mod message;
 #[cfg(test)]
 mod port;
@@ -30,5 +32,3 @@ mod scanning;
 mod splitting;
 #[cfg(test)]
 mod text;
-#[cfg(test)]
-mod text_memory;

@@ -1,4 +1,4 @@
-use crate::text_memory::letters;
+use crate::memory::letters;
 use lis_text::*;
 use std::test::Fail;
 
