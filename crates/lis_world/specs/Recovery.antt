@@ -64,19 +64,19 @@ Recovers limit =
 
 -- an ENQ or a frame is lost, or comes as bytes that give no signal, or its reply is lost
 pub data Loss : Type 0 where
-  unit_lost : Loss
-  unit_unheard : List ℕ → Loss
-  reply_lost : Loss
+  unit_is_lost : Loss
+  unit_is_unheard : List ℕ → Loss
+  reply_is_lost : Loss
 
 abbrev pub loss_events : Loss → List Event
-loss_events unit_lost = Lose ∷ []
-loss_events (unit_unheard bytes) = Damage bytes ∷ []
-loss_events reply_lost = Deliver ∷ LoseReply ∷ []
+loss_events unit_is_lost = Lose ∷ []
+loss_events (unit_is_unheard bytes) = Damage bytes ∷ []
+loss_events reply_is_lost = Deliver ∷ LoseReply ∷ []
 
 abbrev pub IsUnheard : ℕ → World → Loss → Type 0
-IsUnheard limit w unit_lost = Unit {0}
-IsUnheard limit w (unit_unheard bytes) = signals_after limit w.receiver.past bytes ≡ []
-IsUnheard limit w reply_lost = Unit {0}
+IsUnheard limit w unit_is_lost = Unit {0}
+IsUnheard limit w (unit_is_unheard bytes) = signals_after limit w.receiver.past bytes ≡ []
+IsUnheard limit w reply_is_lost = Unit {0}
 
 -- the sender awaits the reply to the one unit on the link
 pub record IsAwaitingOne (w : World) : Type 0 where
@@ -104,7 +104,7 @@ pub record IsTimedOut (before after : World) : Type 0 where
 
 -- the loss, whatever else happens until the sender's timer, and the timer
 abbrev pub lost_events : Loss → List Event → List Event
-lost_events loss others = loss_events loss ++ others ++ SenderTimer ∷ []
+lost_events loss others = loss_events loss ++ (others ++ SenderTimer ∷ [])
 
 -- Where an ENQ, a frame or the reply to one is lost, nothing but the sender's timer or its restart ends the wait. The
 -- timer ends the session. Once its EOT has left the link too, a later session is carried through.
