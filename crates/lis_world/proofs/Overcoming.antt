@@ -1,27 +1,24 @@
 -- What a loss comes to: the sender's timer ends the session, and a later one is carried through.
-use Rattle.std.proofs.Common.{◌≡◌, ℕ, zero, suc, ◌<◌, ◌⊎◌, inl, inr, Bool, true, false, List, [], ◌∷◌, ◌++◌, length, drop, None, Some, refl, sym, ap, ◌∙◌, subst, arith}
+use Rattle.std.proofs.Common.{◌≡◌, ℕ, zero, suc, ◌<◌, ◌⊎◌, inl, inr, true, List, [], ◌∷◌, ◌++◌, length, drop, Some, refl, sym, ap, ◌∙◌, subst, arith}
 use Rattle.std.specs.Prelude.{All}
 use Rattle.std.proofs.lemmas.Bool.{cond-true}
 use Rattle.std.proofs.lemmas.List.Elements.{All-head, All-tail}
 use Rattle.lis_frame.specs.Limit.{IsLimit}
-use Rattle.lis_frame.specs.Frame.{FrameContent}
-use Rattle.lis_frame.specs.Stream.{signals_after, stream_with}
-use Rattle.lis_link.specs.declared.sender.Phase.{Phase}
-use Rattle.lis_link.specs.declared.sender.Phase.TheVariants.{Neutral, AwaitLine, AwaitReply}
+use Rattle.lis_frame.specs.Stream.{signals_after}
+use Rattle.lis_link.specs.declared.sender.Phase.TheVariants.{AwaitLine, AwaitReply}
 use Rattle.lis_link.specs.declared.sender.Outcome.TheVariants.{TimedOut}
 use Rattle.lis_link.specs.declared.sender.StartFault.TheVariants.{InSession}
 use Rattle.lis_link.specs.Sender.{SenderState, over, start_fault, start_fault_in, timer_in}
 use Rattle.lis_world.specs.declared.event.Event.{Event}
 use Rattle.lis_world.specs.declared.event.Event.TheVariants.{Start, Deliver, DeliverNoRoom, Damage, Lose, Reply, DamageReply, LoseReply, SenderTimer, ReceiverTimer, RestartSender, RestartReceiver, Ready, Busy, Contending}
-use Rattle.lis_world.specs.Unit.{Load, ending, one_frame, Travelling, load_bytes}
+use Rattle.lis_world.specs.Unit.{ending, one_frame, Travelling, load_bytes}
 use Rattle.lis_world.specs.Session.{Session, session_at, changed, follows}
 use Rattle.lis_world.specs.World.{World, Desk, desk_of, hears, replies_with, settled}
 use Rattle.lis_world.specs.Steps.{placed, with_sender, sender_steps, begins, delivered, delivered_no_room, is_noticed, damaged, lost, replied, reply_damaged, reply_lost, forgotten, given_up, after_event, runs, world}
-use Rattle.lis_world.specs.Recovery.{CarriesNext, Leaving, emptying_events, Loss, unit_is_lost, unit_is_unheard, reply_is_lost, loss_events, IsUnheard, IsAwaitingOne, is_other, IsTimedOut, lost_events, OvercomesLoss}
+use Rattle.lis_world.specs.Recovery.{Loss, unit_is_lost, unit_is_unheard, reply_is_lost, loss_events, IsUnheard, IsAwaitingOne, is_other, IsTimedOut, lost_events, OvercomesLoss}
 use Rattle.lis_world.proofs.SessionLemmas.{length-changed, at-changed_same}
-use Rattle.lis_world.proofs.Invariant.{Bids, BidAnswer, FrameAnswer, IsBidding, IsAwaiting, InPhase, Holds, AreKept}
+use Rattle.lis_world.proofs.Invariant.{Bids, BidAnswer, FrameAnswer, IsAwaiting, InPhase, Holds, AreKept}
 use Rattle.lis_world.proofs.Arrival.{kept_refl}
-use Rattle.lis_world.proofs.Hearing.{at_past}
 use Rattle.lis_world.proofs.Delivery.{side_of, left_delivered, leads_of}
 use Rattle.lis_world.proofs.Safety.{event_holds, runs_hold, new_holds}
 use Rattle.lis_world.proofs.Rounds.{by_signals}
@@ -300,6 +297,6 @@ overcomes_loss limit is_limit events others loss one silent all =
     let few = ap length after.units_are in (
       after,
       λ leaving. emptied_carries_next limit (events ++ lost_events loss others) (leaving ∷ []) is_limit
-      (ap (λ (s : SenderState). s.phase) after.sender_is)
-      (omega arith),
+          (ap (λ (s : SenderState). s.phase) after.sender_is)
+          (omega arith),
     )

@@ -1,5 +1,5 @@
 -- No state of the two ends blocks the line for good: a sender comes to rest, the link empties, and a session is carried through.
-use Rattle.std.proofs.Common.{◌≡◌, ℕ, zero, suc, ◌-◌, ◌≤◌, true, List, [], ◌∷◌, ◌++◌, length, map, refl, sym, ap, ◌∙◌, subst, arith}
+use Rattle.std.proofs.Common.{◌≡◌, ℕ, suc, ◌-◌, ◌≤◌, List, [], ◌∷◌, ◌++◌, length, map, refl, sym, ap, ◌∙◌, subst, arith}
 use Rattle.std.proofs.lemmas.List.{nil_from_length}
 use Rattle.lis_frame.specs.Limit.{IsLimit}
 use Rattle.lis_link.specs.declared.sender.Phase.{Phase}
@@ -8,14 +8,12 @@ use Rattle.lis_link.specs.declared.sender.EmitOf.{EmitOf}
 use Rattle.lis_link.specs.declared.sender.EmitOf.TheVariants as Emits
 use Rattle.lis_link.specs.Sender.{SenderState, start_fault_in, timer_in, on_sender_timer, restart_in}
 use Rattle.lis_world.specs.declared.event.Event.{Event}
-use Rattle.lis_world.specs.declared.event.Event.TheVariants.{SenderTimer, RestartSender, Ready}
+use Rattle.lis_world.specs.declared.event.Event.TheVariants.{SenderTimer, Ready}
 use Rattle.lis_world.specs.Unit.{Travelling}
 use Rattle.lis_world.specs.World.{World, new_world}
 use Rattle.lis_world.specs.Steps.{emitted, with_sender, delivered, delivered_no_room, lost, given_up, after_event, runs, world}
 use Rattle.lis_world.specs.Progress.{IsCalm}
 use Rattle.lis_world.specs.Recovery.{CarriesNext, Leaving, comes, comes_without_room, is_lost, leaving_event, emptying_events, Rest, restart, two_timers, rest_events, Recovers}
-use Rattle.lis_world.proofs.Invariant.{Holds}
-use Rattle.lis_world.proofs.Safety.{event_holds, runs_hold, new_holds}
 use Rattle.lis_world.proofs.Carrying.{runs-append, carries_through}
 
 -- ---- units leave the link while no session goes on

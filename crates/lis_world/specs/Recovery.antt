@@ -8,7 +8,7 @@ use Rattle.lis_link.specs.Sender.{bad_texts, over}
 use Rattle.lis_world.specs.declared.event.Event.{Event}
 use Rattle.lis_world.specs.declared.event.Event.TheVariants.{Deliver, DeliverNoRoom, Damage, Lose, LoseReply, SenderTimer, RestartSender, Ready}
 use Rattle.lis_world.specs.Unit.{ending, Travelling}
-use Rattle.lis_world.specs.Session.{Session, session_at}
+use Rattle.lis_world.specs.Session.{session_at}
 use Rattle.lis_world.specs.World.{World}
 use Rattle.lis_world.specs.Steps.{world}
 use Rattle.lis_world.specs.Progress.{Round, AreEnough, session_events, IsCarried}
