@@ -401,6 +401,12 @@ good-undisturbed : (n : ℕ) → good_rounds (undisturbed_rounds n) ≡ n
 good-undisturbed zero = refl
 good-undisturbed (suc n) = ap suc (good-undisturbed n)
 
+pub enough-undisturbed : (limit : ℕ) (texts : List (List ℕ)) → AreEnough limit texts (undisturbed_rounds (length (session_frames limit texts)))
+enough-undisturbed limit texts =
+    let n : ℕ = length (session_frames limit texts) in
+    let good = good-undisturbed n in
+    record { noticed = noticed-undisturbed limit n; few_in_a_row = few-undisturbed n; enough_good = omega arith }
+
 single : (xs : List Session) (d : Session) → length xs ≡ 1 → xs ≡ get_or xs 0 d ∷ []
 single [] d e = absurd (omega arith)
 single (x ∷ []) d e = refl
@@ -409,12 +415,7 @@ single (x ∷ y ∷ xs) d e = absurd (omega arith)
 pub runs_quietly : (limit : ℕ) → IsLimit limit → RunsQuietly limit
 runs_quietly limit is_limit texts sendable =
     let n : ℕ = length (session_frames limit texts) in
-    let good = good-undisturbed n in
-    let enough : AreEnough limit texts (undisturbed_rounds n) = record {
-      noticed = noticed-undisturbed limit n;
-      few_in_a_row = few-undisturbed n;
-      enough_good = omega arith;
-    } in
+    let enough = enough-undisturbed limit texts in
     let calm : IsCalm new_world = record { no_unit = refl; neutral = refl; ready = refl } in
     let is_carried = carried limit texts (undisturbed_rounds n) new_world is_limit (new_holds limit) calm refl sendable enough in
     let after : World = world limit (quiet_events limit texts) in

@@ -12,9 +12,10 @@ use Rattle.lis_world.specs.declared.event.Event.TheVariants.{SenderTimer, Ready}
 use Rattle.lis_world.specs.Unit.{Travelling}
 use Rattle.lis_world.specs.World.{World, new_world}
 use Rattle.lis_world.specs.Steps.{emitted, with_sender, delivered, delivered_no_room, lost, given_up, after_event, runs, world}
-use Rattle.lis_world.specs.Progress.{IsCalm}
-use Rattle.lis_world.specs.Recovery.{CarriesNext, Leaving, comes, comes_without_room, is_lost, leaving_event, emptying_events, Rest, restart, two_timers, rest_events, Recovers}
-use Rattle.lis_world.proofs.Carrying.{runs-append, carries_through}
+use Rattle.lis_frame.specs.Pieces.{session_frames}
+use Rattle.lis_world.specs.Progress.{IsCalm, undisturbed_rounds}
+use Rattle.lis_world.specs.Recovery.{CarriesNext, Leaving, comes, comes_without_room, is_lost, leaving_event, emptying_events, Rest, restart, two_timers, rest_events, Recovers, RecoversQuietly}
+use Rattle.lis_world.proofs.Carrying.{runs-append, carries_through, enough-undisturbed}
 
 -- ---- units leave the link while no session goes on
 
@@ -143,3 +144,7 @@ recovers limit is_limit events rest leavings few =
     let neutral : (world limit (events ++ rest_events rest)).sender.phase ≡ Neutral =
     ap (λ (w : World). w.sender.phase) (world-append limit events (rest_events rest)) ∙ rested limit rest (world limit events) in
     emptied_carries_next limit (events ++ rest_events rest) leavings is_limit neutral few
+
+pub recovers_quietly : (limit : ℕ) → IsLimit limit → RecoversQuietly limit
+recovers_quietly limit is_limit events rest leavings texts few are =
+    recovers limit is_limit events rest leavings few texts (undisturbed_rounds (length (session_frames limit texts))) are (enough-undisturbed limit texts)

@@ -11,7 +11,7 @@ use Rattle.lis_world.specs.Unit.{ending, Travelling}
 use Rattle.lis_world.specs.Session.{session_at}
 use Rattle.lis_world.specs.World.{World}
 use Rattle.lis_world.specs.Steps.{world}
-use Rattle.lis_world.specs.Progress.{Round, AreEnough, session_events, IsCarried}
+use Rattle.lis_world.specs.Progress.{Round, AreEnough, session_events, quiet_events, IsCarried}
 
 -- texts that a sender without a session takes
 pub record AreTexts (texts : List (List ℕ)) : Type 0 where
@@ -59,6 +59,15 @@ Recovers limit =
     (events : List Event) (rest : Rest) (leavings : List Leaving)
     → length (world limit (events ++ rest_events rest)).units ≤ length leavings
     → CarriesNext limit ((events ++ rest_events rest) ++ emptying_events leavings)
+
+-- so is an undisturbed one
+abbrev pub RecoversQuietly : ℕ → Type 0
+RecoversQuietly limit =
+    (events : List Event) (rest : Rest) (leavings : List Leaving) (texts : List (List ℕ))
+    → length (world limit (events ++ rest_events rest)).units ≤ length leavings
+    → AreTexts texts
+    → IsCarried limit texts (world limit ((events ++ rest_events rest) ++ emptying_events leavings))
+    (world limit (((events ++ rest_events rest) ++ emptying_events leavings) ++ quiet_events limit texts))
 
 -- ---- something is lost
 

@@ -3,7 +3,7 @@
 ghost use Rattle.lis_frame.specs.Limit.{IsLimit};
 ghost use Rattle.lis_world.specs.Safe.{AlwaysSafe};
 ghost use Rattle.lis_world.specs.Progress.{RunsQuietly, CarriesThrough};
-ghost use Rattle.lis_world.specs.Recovery.{OvercomesLoss, Recovers};
+ghost use Rattle.lis_world.specs.Recovery.{OvercomesLoss, Recovers, RecoversQuietly};
 
 /// Over every list of events each session is safe: what was accepted was sent, what was
 /// acknowledged was accepted, and what was handed out are the session's texts, whole and in order;
@@ -46,15 +46,17 @@ pub fn carries_through()
 
 /// No state of the two ends blocks the line for good: after whatever events, once the sender was restarted or its timer
 /// ran out twice, each unit on its way has come or was lost, and the receiver is ready, a session is carried
-/// through (LIS01-A2, 6.2 to 6.6). At every limit on a frame's text.
+/// through if it has enough rounds, and an undisturbed one is (LIS01-A2, 6.2 to 6.6). At every limit on a frame's text.
 pub fn recovers_of<const N: usize>()
     requires { IsLimit N }
-    ensures { Recovers N }
+    ensures enough { Recovers N }
+    ensures undisturbed { RecoversQuietly N }
 {}
 
 /// The same with the usual limit on a frame's text.
 pub fn recovers()
-    ensures { Recovers 240 }
+    ensures enough { Recovers 240 }
+    ensures undisturbed { RecoversQuietly 240 }
 {}
 
 /// Where an ENQ, a frame or the reply to one is lost, or an ENQ or a frame comes as bytes that give no signal, nothing
