@@ -23,7 +23,9 @@ record IsOtherLetter (k : Option Kind) : Type 0 where
   is : k ≡ Some kind
   other : kind ≢ kinds.H
 
-other_letter : (k : Option Kind) (letter : ℕ) → (if is_other_kind k then None else Some (record_faults.UnknownKind letter)) ≡ None → IsOtherLetter k
+other_letter :
+    (k : Option Kind) (letter : ℕ)
+    → (if is_other_kind k then None else Some (record_faults.UnknownKind letter)) ≡ None → IsOtherLetter k
 other_letter None letter e = absurd cc
 other_letter (Some kinds.H) letter e = absurd cc
 other_letter (Some kinds.P) letter e = record { kind = kinds.P; is = refl; other = λ x. cc }
@@ -35,14 +37,16 @@ other_letter (Some kinds.M) letter e = record { kind = kinds.M; is = refl; other
 other_letter (Some kinds.S) letter e = record { kind = kinds.S; is = refl; other = λ x. cc }
 other_letter (Some kinds.L) letter e = record { kind = kinds.L; is = refl; other = λ x. cc }
 
-pub record_without_fault : (d : DelimiterBytes) (text : List ℕ) → IsDelimiters d → record_fault d text ≡ None → IsSomeRecord d text
+pub record_without_fault :
+    (d : DelimiterBytes) (text : List ℕ) → IsDelimiters d → record_fault d text ≡ None → IsSomeRecord d text
 unfolding record_fault
 record_without_fault d [] good none = cc
 record_without_fault d (letter ∷ bytes) good none =
     let parts =
     option_or-none (if is_other_kind (kind_of letter) then None else Some (record_faults.UnknownKind letter))
     (option_or (option_map record_faults.UnknownKind (trailing_byte d.field bytes)) (text_fault (letter ∷ bytes))) none in
-    let both = option_or-none (option_map record_faults.UnknownKind (trailing_byte d.field bytes)) (text_fault (letter ∷ bytes)) parts.1 in
+    let both =
+    option_or-none (option_map record_faults.UnknownKind (trailing_byte d.field bytes)) (text_fault (letter ∷ bytes)) parts.1 in
     let first = other_letter (kind_of letter) letter parts.0 in
     record {
       content = record { kind = first.kind; fields = fields_of d bytes };
@@ -57,7 +61,9 @@ fault_of_record d text some = record_fault-IsRecord d text some.content some.oth
 
 -- ---- headers
 
-header_letter : (k : Option Kind) (letter : ℕ) → (if is_header_kind k then None else Some (record_faults.UnknownKind letter)) ≡ None → k ≡ Some kinds.H
+header_letter :
+    (k : Option Kind) (letter : ℕ)
+    → (if is_header_kind k then None else Some (record_faults.UnknownKind letter)) ≡ None → k ≡ Some kinds.H
 header_letter None letter e = absurd cc
 header_letter (Some kinds.H) letter e = refl
 header_letter (Some kinds.P) letter e = absurd cc
@@ -78,8 +84,10 @@ header_parts letter (f ∷ []) is none texts = cc
 header_parts letter (f ∷ r ∷ []) is none texts = cc
 header_parts letter (f ∷ r ∷ c ∷ []) is none texts = cc
 header_parts letter (f ∷ r ∷ c ∷ e ∷ bytes) is none texts =
-    let parts = option_or-none (option_map Fault (delimiter_fault (f ∷ r ∷ c ∷ e ∷ []))) (option_map Trailing (trailing_byte f bytes)) none in
-    let marks : delimiter_fault (f ∷ r ∷ c ∷ e ∷ []) ≡ None = option_map-none Fault (delimiter_fault (f ∷ r ∷ c ∷ e ∷ [])) parts.0 in
+    let parts =
+    option_or-none (option_map Fault (delimiter_fault (f ∷ r ∷ c ∷ e ∷ []))) (option_map Trailing (trailing_byte f bytes)) none in
+    let marks : delimiter_fault (f ∷ r ∷ c ∷ e ∷ []) ≡ None =
+    option_map-none Fault (delimiter_fault (f ∷ r ∷ c ∷ e ∷ [])) parts.0 in
     let trailing : trailing_byte f bytes ≡ None = option_map-none Trailing (trailing_byte f bytes) parts.1 in
     record {
       delimiters = delimiters_of f r c e;
@@ -96,9 +104,11 @@ header_without_fault (letter ∷ part) none =
     let parts =
     option_or-none (if is_header_kind (kind_of letter) then None else Some (record_faults.UnknownKind letter))
     (option_or (option_map record_faults.DelimiterPart (delimiter_part_fault part)) (text_fault (letter ∷ part))) none in
-    let both = option_or-none (option_map record_faults.DelimiterPart (delimiter_part_fault part)) (text_fault (letter ∷ part)) parts.1 in
+    let both =
+    option_or-none (option_map record_faults.DelimiterPart (delimiter_part_fault part)) (text_fault (letter ∷ part)) parts.1 in
     header_parts letter part (header_letter (kind_of letter) letter parts.0)
     (option_map-none record_faults.DelimiterPart (delimiter_part_fault part) both.0) both.1
 
 pub fault_of_header : (text : List ℕ) → IsSomeHeader text → header_fault text ≡ None
-fault_of_header text some = header_fault-IsRecord some.delimiters some.marks text some.content some.is_header some.is_record
+fault_of_header text some =
+    header_fault-IsRecord some.delimiters some.marks text some.content some.is_header some.is_record

@@ -27,7 +27,8 @@ closed_last : (l : Level) (ks : List Kind) → StandsFrom l ks → l ≢ closed 
 closed_last l [] s u e = absurd (u e)
 closed_last l (k ∷ []) s u e = ([], ap (λ j. j ∷ []) (closes l k u e))
 closed_last l (k ∷ j ∷ ks) s u e =
-    let rest = closed_last (next_level l k) (j ∷ ks) s.1 (λ c. nothing_closed j (subst (λ m. misplaced m j ≡ None) c s.1.0)) e in
+    let rest =
+    closed_last (next_level l k) (j ∷ ks) s.1 (λ c. nothing_closed j (subst (λ m. misplaced m j ≡ None) c s.1.0)) e in
     (k ∷ rest.0, ap (λ xs. k ∷ xs) rest.1)
 
 last_closed : (before : List Kind) → IsClosed before → level_after outside before ≡ closed
@@ -35,7 +36,9 @@ last_closed before is = ap (level_after outside) is.1 ∙ level_append outside i
 
 -- ---- outside a message
 
-outside_refuses : (k : Kind) (reason : Reason) → misplaced outside k ≡ Some reason → (reason ≡ reasons.NotHeader) × (k ≢ kinds.H)
+outside_refuses :
+    (k : Kind) (reason : Reason) → misplaced outside k ≡ Some reason
+    → (reason ≡ reasons.NotHeader) × (k ≢ kinds.H)
 outside_refuses kinds.H reason e = absurd cc
 outside_refuses kinds.P reason e = (cc, λ h. cc)
 outside_refuses kinds.O reason e = (cc, λ h. cc)
@@ -66,7 +69,9 @@ IsInsideReason l k reason =
     ⊎ (((k ≢ kinds.H) × (l ≡ closed) × (reason ≡ reasons.NotHeader))
     ⊎ ((k ≢ kinds.H) × (l ≢ closed) × (reason ≡ reasons.NoParent k)))
 
-inside_refuses : (l : Level) (k : Kind) (reason : Reason) → l ≢ outside → misplaced l k ≡ Some reason → IsInsideReason l k reason
+inside_refuses :
+    (l : Level) (k : Kind) (reason : Reason) → l ≢ outside → misplaced l k ≡ Some reason
+    → IsInsideReason l k reason
 inside_refuses outside k reason o e = absurd (o refl)
 inside_refuses in_header kinds.H reason o e = inl (refl, cc)
 inside_refuses in_header kinds.P reason o e = absurd cc
@@ -160,7 +165,10 @@ behind_header b ks s =
       begun = λ e. begun_after in_header ks (λ x. cc) (sym level ∙ e);
     }
 
-told_by : (b : Kind) (ks : List Kind) (k : Kind) (reason : Reason) → StandsFrom outside (b ∷ ks) → misplaced (level_after outside (b ∷ ks)) k ≡ Some reason → IsInsideReason (level_after outside (b ∷ ks)) k reason → IsRefusedFor (b ∷ ks) k reason
+told_by :
+    (b : Kind) (ks : List Kind) (k : Kind) (reason : Reason) → StandsFrom outside (b ∷ ks)
+    → misplaced (level_after outside (b ∷ ks)) k ≡ Some reason
+    → IsInsideReason (level_after outside (b ∷ ks)) k reason → IsRefusedFor (b ∷ ks) k reason
 told_by b ks k reason s e (inl second) =
     subst (IsRefusedFor (b ∷ ks) k) (sym second.1) (second.0, cons_not_nil b ks)
 told_by b ks k reason s e (inr (inl behind)) =
@@ -176,7 +184,9 @@ told_by b ks k reason s e (inr (inr none)) =
           ∙ place_from ks k header.placed (λ c. none.1 (header.level_is ∙ c)) none.0 (subst (λ h. HasParent (h ∷ ks) k) header.is_header parent)),
     )
 
-told : (before : List Kind) (k : Kind) (reason : Reason) → StandsFrom outside before → misplaced (level_after outside before) k ≡ Some reason → IsRefusedFor before k reason
+told :
+    (before : List Kind) (k : Kind) (reason : Reason) → StandsFrom outside before
+    → misplaced (level_after outside before) k ≡ Some reason → IsRefusedFor before k reason
 told [] k reason s e =
     let why = outside_refuses k reason e in
     subst (IsRefusedFor [] k) (sym why.0) (why.1, inl refl)
@@ -203,7 +213,9 @@ no_parent_refused b ks k (Some reason) s unclosed orphan is =
     go (inr (inl behind)) = absurd (unclosed (closed_last outside (b ∷ ks) s (λ x. cc) behind.1))
     go (inr (inr none)) = ap Some none.2
 
-refused : (before : List Kind) (k : Kind) (reason : Reason) → StandsFrom outside before → IsRefusedFor before k reason → misplaced (level_after outside before) k ≡ Some reason
+refused :
+    (before : List Kind) (k : Kind) (reason : Reason) → StandsFrom outside before → IsRefusedFor before k reason
+    → misplaced (level_after outside before) k ≡ Some reason
 refused [] k reasons.NotHeader s why = outside_refused k why.0
 refused [] k reasons.SecondHeader s why = absurd (why.1 refl)
 refused [] k (reasons.NoParent kind) s why = absurd (why.1 refl)
@@ -227,14 +239,23 @@ refused (b ∷ ks) k reasons.OutOfMemory s why = absurd why
 
 -- ---- over what is viable
 
-pub told_viable : (before : List Kind) (k : Kind) (reason : Reason) → IsViable before → misplaced (level_after outside before) k ≡ Some reason → IsRefusedFor before k reason
+pub told_viable :
+    (before : List Kind) (k : Kind) (reason : Reason) → IsViable before
+    → misplaced (level_after outside before) k ≡ Some reason → IsRefusedFor before k reason
 told_viable before k reason v = told before k reason (from_viable before v)
 
-pub refused_viable : (before : List Kind) (k : Kind) (reason : Reason) → IsViable before → IsRefusedFor before k reason → misplaced (level_after outside before) k ≡ Some reason
+pub refused_viable :
+    (before : List Kind) (k : Kind) (reason : Reason) → IsViable before → IsRefusedFor before k reason
+    → misplaced (level_after outside before) k ≡ Some reason
 refused_viable before k reason v = refused before k reason (from_viable before v)
 
-pub taken_viable : (before : List Kind) (k : Kind) → IsViable before → misplaced (level_after outside before) k ≡ None → IsViable (before ++ k ∷ [])
-taken_viable before k v e = viable_from (before ++ k ∷ []) (stands_append outside before (k ∷ []) (from_viable before v) (e, tt))
+pub taken_viable :
+    (before : List Kind) (k : Kind) → IsViable before → misplaced (level_after outside before) k ≡ None
+    → IsViable (before ++ k ∷ [])
+taken_viable before k v e =
+    viable_from (before ++ k ∷ []) (stands_append outside before (k ∷ []) (from_viable before v) (e, tt))
 
-pub viable_taken : (before : List Kind) (k : Kind) → IsViable (before ++ k ∷ []) → misplaced (level_after outside before) k ≡ None
+pub viable_taken :
+    (before : List Kind) (k : Kind) → IsViable (before ++ k ∷ [])
+    → misplaced (level_after outside before) k ≡ None
 viable_taken before k v = (stands_back outside before (k ∷ []) (from_viable (before ++ k ∷ []) v)).0

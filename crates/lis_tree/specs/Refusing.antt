@@ -10,8 +10,8 @@ use Rattle.lis_tree.specs.Hierarchy.{HasParent}
 abbrev pub IsClosed : List Kind → Type 0
 IsClosed before = (front : List Kind) × (before ≡ front ++ kinds.L ∷ [])
 
--- Outside a message, before the header or behind the closing record, a record that is no header. Behind the first record
--- a header. Inside a message an order without a patient, or a result without an order.
+-- Outside a message, before the header or behind the closing record, a record that is no header. Behind the first
+-- record a header. Inside a message an order without a patient, or a result without an order.
 abbrev pub IsRefusedFor : List Kind → Kind → Reason → Type 0
 IsRefusedFor before k reasons.NotHeader = (k ≢ kinds.H) × ((before ≡ []) ⊎ IsClosed before)
 IsRefusedFor before k reasons.SecondHeader = (k ≡ kinds.H) × (before ≢ [])

@@ -41,7 +41,8 @@ no_reply_yet limit w u h (inl bids) alone = go (subst (λ p. InPhase p w) bids h
         → w.replies ≡ []
     go (inl none) = none.0
     go (inr answered) = absurd (none_is_some w.units u answered.0 alone)
-no_reply_yet limit w u h (inr awaits) alone = go (subst (λ p. InPhase p w) awaits h.phase) (subst (λ p. InPhase p w) awaits h.phase).traffic
+no_reply_yet limit w u h (inr awaits) alone =
+    go (subst (λ p. InPhase p w) awaits h.phase) (subst (λ p. InPhase p w) awaits h.phase).traffic
   where
     go :
         (a : IsAwaiting w)
@@ -63,7 +64,8 @@ one_reply_left limit w h (inl bids) none = go (subst (λ p. InPhase p w) bids h.
         → AtMostOne w.replies
     go (inl no_reply) = inl no_reply.0
     go (inr answered) = inr (answered.1.0, answered.1.1)
-one_reply_left limit w h (inr awaits) none = go (subst (λ p. InPhase p w) awaits h.phase) (subst (λ p. InPhase p w) awaits h.phase).traffic
+one_reply_left limit w h (inr awaits) none =
+    go (subst (λ p. InPhase p w) awaits h.phase) (subst (λ p. InPhase p w) awaits h.phase).traffic
   where
     answer : (a : IsAwaiting w) → FrameAnswer w.replies w.sessions w.current a.before a.frame → AtMostOne w.replies
     answer a (inl no_reply) = inl no_reply
@@ -97,7 +99,9 @@ record IsCutOff (limit : ℕ) (w v : World) : Type 0 where
   gone : IsGone limit w v
   no_reply : v.replies ≡ []
 
-gone_settled : (limit : ℕ) (w v : World) (d : Desk) → Awaits w → AreKept w.sessions d.sessions → Holds limit v → v ≡ settled [] d w → IsGone limit w v
+gone_settled :
+    (limit : ℕ) (w v : World) (d : Desk) → Awaits w → AreKept w.sessions d.sessions → Holds limit v
+    → v ≡ settled [] d w → IsGone limit w v
 gone_settled limit w v d awaits kept h is =
     subst (IsGone limit w) (sym is) (record {
       holds = subst (Holds limit) is h;
@@ -108,7 +112,8 @@ gone_settled limit w v d awaits kept h is =
       kept = kept;
     })
 
-quiet_replies : (mute : ℕ) (caused replies : List ℕ) → caused ≡ [] → replies ≡ [] → replies_with mute caused replies ≡ []
+quiet_replies :
+    (mute : ℕ) (caused replies : List ℕ) → caused ≡ [] → replies ≡ [] → replies_with mute caused replies ≡ []
 quiet_replies zero caused replies quiet none = ap (λ xs. xs ++ caused) none ∙ quiet
 quiet_replies (suc mute) caused replies quiet none = none
 
@@ -126,7 +131,9 @@ record IsUntouched (ss : List Session) (d : Desk) : Type 0 where
   quiet : d.replies ≡ []
   kept : AreKept ss d.sessions
 
-unheard : (limit s : ℕ) (bytes : List ℕ) (w : World) → signals_after limit w.receiver.past bytes ≡ [] → IsUntouched w.sessions (hears limit s bytes (desk_of w))
+unheard :
+    (limit s : ℕ) (bytes : List ℕ) (w : World) → signals_after limit w.receiver.past bytes ≡ []
+    → IsUntouched w.sessions (hears limit s bytes (desk_of w))
 unheard limit s bytes w none =
     by_signals (IsUntouched w.sessions) limit s bytes (desk_of w) [] none (record { quiet = refl; kept = kept_refl w.sessions })
 
@@ -144,11 +151,14 @@ cut_unheard limit w u bytes is_limit h awaits alone none =
     ∙ cond-true (is_noticed u.load (signals_after limit w.receiver.past bytes)) (settled [] after w) w noticed)
 
 -- the reply is lost behind the unit
-lost_behind : (limit : ℕ) (w v : World) → IsLimit limit → IsGone limit w v → IsCutOff limit w (after_event limit LoseReply v)
+lost_behind :
+    (limit : ℕ) (w v : World) → IsLimit limit → IsGone limit w v
+    → IsCutOff limit w (after_event limit LoseReply v)
 lost_behind limit w v is_limit gone = go (one_reply_left limit v gone.holds gone.awaits gone.no_unit)
   where
     go : AtMostOne v.replies → IsCutOff limit w (after_event limit LoseReply v)
-    go (inl none) = subst (IsCutOff limit w) (sym (ap (λ rs. reply_lost rs v) none)) (record { gone = gone; no_reply = none })
+    go (inl none) =
+        subst (IsCutOff limit w) (sym (ap (λ rs. reply_lost rs v) none)) (record { gone = gone; no_reply = none })
     go (inr one) =
         let is : after_event limit LoseReply v ≡ record v { replies = [] } = ap (λ rs. reply_lost rs v) one.1 in
         subst (IsCutOff limit w) (sym is) (record {
@@ -163,9 +173,12 @@ lost_behind limit w v is_limit gone = go (one_reply_left limit v gone.holds gone
           no_reply = refl;
         })
 
-gone_delivered : (limit : ℕ) (w : World) (u : Travelling) → IsLimit limit → Holds limit w → Awaits w → w.units ≡ u ∷ [] → IsGone limit w (after_event limit Deliver w)
+gone_delivered :
+    (limit : ℕ) (w : World) (u : Travelling) → IsLimit limit → Holds limit w → Awaits w → w.units ≡ u ∷ []
+    → IsGone limit w (after_event limit Deliver w)
 gone_delivered limit w u is_limit h awaits alone =
-    let left = left_delivered limit u.session u.load (desk_of w) is_limit (side_of limit w h) (leads_of limit w u [] h alone) in
+    let left =
+    left_delivered limit u.session u.load (desk_of w) is_limit (side_of limit w h) (leads_of limit w u [] h alone) in
     gone_settled limit w (after_event limit Deliver w) (hears limit u.session (load_bytes u.load) (desk_of w)) awaits left.kept
     (event_holds limit Deliver w is_limit h) (ap (λ us. delivered limit us w) alone)
 
@@ -175,7 +188,8 @@ cut_off :
 cut_off limit unit_is_lost w is_limit h one silent =
     cut_settled limit w (after_event limit Lose w) (desk_of w) one.awaits (no_reply_yet limit w one.unit h one.awaits one.alone) refl (kept_refl w.sessions)
     (event_holds limit Lose w is_limit h) (ap (λ us. lost us w) one.alone)
-cut_off limit (unit_is_unheard bytes) w is_limit h one silent = cut_unheard limit w one.unit bytes is_limit h one.awaits one.alone silent
+cut_off limit (unit_is_unheard bytes) w is_limit h one silent =
+    cut_unheard limit w one.unit bytes is_limit h one.awaits one.alone silent
 cut_off limit reply_is_lost w is_limit h one silent =
     lost_behind limit w (after_event limit Deliver w) is_limit (gone_delivered limit w one.unit is_limit h one.awaits one.alone)
 
@@ -210,22 +224,34 @@ cut_receiver limit w v x h is cut =
       no_reply = cut.no_reply;
     })
 
-cut_still : (limit : ℕ) (event : Event) (w v : World) → IsLimit limit → is_other event ≡ true → IsCutOff limit w v → IsCutOff limit w (after_event limit event v)
-cut_still limit (Start texts) w v is_limit other cut = cut_same limit w v _ (refused_start limit texts v cut.gone.awaits) cut
-cut_still limit Deliver w v is_limit other cut = cut_same limit w v _ (ap (λ us. delivered limit us v) cut.gone.no_unit) cut
-cut_still limit DeliverNoRoom w v is_limit other cut = cut_same limit w v _ (ap (λ us. delivered_no_room limit us v) cut.gone.no_unit) cut
-cut_still limit (Damage bytes) w v is_limit other cut = cut_same limit w v _ (ap (λ us. damaged limit bytes us v) cut.gone.no_unit) cut
+cut_still :
+    (limit : ℕ) (event : Event) (w v : World) → IsLimit limit → is_other event ≡ true → IsCutOff limit w v
+    → IsCutOff limit w (after_event limit event v)
+cut_still limit (Start texts) w v is_limit other cut =
+    cut_same limit w v _ (refused_start limit texts v cut.gone.awaits) cut
+cut_still limit Deliver w v is_limit other cut =
+    cut_same limit w v _ (ap (λ us. delivered limit us v) cut.gone.no_unit) cut
+cut_still limit DeliverNoRoom w v is_limit other cut =
+    cut_same limit w v _ (ap (λ us. delivered_no_room limit us v) cut.gone.no_unit) cut
+cut_still limit (Damage bytes) w v is_limit other cut =
+    cut_same limit w v _ (ap (λ us. damaged limit bytes us v) cut.gone.no_unit) cut
 cut_still limit Lose w v is_limit other cut = cut_same limit w v _ (ap (λ us. lost us v) cut.gone.no_unit) cut
 cut_still limit Reply w v is_limit other cut = cut_same limit w v _ (ap (λ rs. replied limit rs v) cut.no_reply) cut
-cut_still limit (DamageReply damage) w v is_limit other cut = cut_same limit w v _ (ap (λ rs. reply_damaged limit damage rs v) cut.no_reply) cut
+cut_still limit (DamageReply damage) w v is_limit other cut =
+    cut_same limit w v _ (ap (λ rs. reply_damaged limit damage rs v) cut.no_reply) cut
 cut_still limit LoseReply w v is_limit other cut = cut_same limit w v _ (ap (λ rs. reply_lost rs v) cut.no_reply) cut
 cut_still limit SenderTimer w v is_limit other cut = cc
-cut_still limit ReceiverTimer w v is_limit other cut = cut_receiver limit w v _ (event_holds limit ReceiverTimer v is_limit cut.gone.holds) refl cut
+cut_still limit ReceiverTimer w v is_limit other cut =
+    cut_receiver limit w v _ (event_holds limit ReceiverTimer v is_limit cut.gone.holds) refl cut
 cut_still limit RestartSender w v is_limit other cut = cc
-cut_still limit RestartReceiver w v is_limit other cut = cut_receiver limit w v _ (event_holds limit RestartReceiver v is_limit cut.gone.holds) refl cut
-cut_still limit Ready w v is_limit other cut = cut_receiver limit w v _ (event_holds limit Ready v is_limit cut.gone.holds) refl cut
-cut_still limit Busy w v is_limit other cut = cut_receiver limit w v _ (event_holds limit Busy v is_limit cut.gone.holds) refl cut
-cut_still limit Contending w v is_limit other cut = cut_receiver limit w v _ (event_holds limit Contending v is_limit cut.gone.holds) refl cut
+cut_still limit RestartReceiver w v is_limit other cut =
+    cut_receiver limit w v _ (event_holds limit RestartReceiver v is_limit cut.gone.holds) refl cut
+cut_still limit Ready w v is_limit other cut =
+    cut_receiver limit w v _ (event_holds limit Ready v is_limit cut.gone.holds) refl cut
+cut_still limit Busy w v is_limit other cut =
+    cut_receiver limit w v _ (event_holds limit Busy v is_limit cut.gone.holds) refl cut
+cut_still limit Contending w v is_limit other cut =
+    cut_receiver limit w v _ (event_holds limit Contending v is_limit cut.gone.holds) refl cut
 
 cut_on :
     (limit : ℕ) (others : List Event) (w v : World)
@@ -237,11 +263,15 @@ cut_on limit (event ∷ others) w v is_limit all cut =
 
 -- ---- the timer
 
-timed_is : (limit : ℕ) (v : World) → Awaits v → after_event limit SenderTimer v ≡ placed ending (with_sender (over TimedOut v.sender) (forgotten v))
+timed_is :
+    (limit : ℕ) (v : World) → Awaits v
+    → after_event limit SenderTimer v ≡ placed ending (with_sender (over TimedOut v.sender) (forgotten v))
 timed_is limit v (inl bids) = ap (λ p. sender_steps {limit = limit} (timer_in p v.sender) (given_up p v)) bids
 timed_is limit v (inr awaits) = ap (λ p. sender_steps {limit = limit} (timer_in p v.sender) (given_up p v)) awaits
 
-timed_out_of : (limit : ℕ) (w v : World) → IsCutOff limit w v → IsTimedOut w (placed ending (with_sender (over TimedOut v.sender) (forgotten v)))
+timed_out_of :
+    (limit : ℕ) (w v : World) → IsCutOff limit w v
+    → IsTimedOut w (placed ending (with_sender (over TimedOut v.sender) (forgotten v)))
 timed_out_of limit w v cut =
     let gone = cut.gone in
     let c : ℕ = v.current in
@@ -251,7 +281,8 @@ timed_out_of limit w v cut =
     let here : session_at w.current ss ≡ follows sender (session_at c v.sessions) =
     ap (λ k. session_at k ss) (sym gone.current_same) ∙ at-changed_same c (follows sender) v.sessions within in
     let kept = gone.kept.each_kept c in
-    let before : session_at c w.sessions ≡ session_at w.current w.sessions = ap (λ k. session_at k w.sessions) gone.current_same in
+    let before : session_at c w.sessions ≡ session_at w.current w.sessions =
+    ap (λ k. session_at k w.sessions) gone.current_same in
     record {
       sender_is = ap (over TimedOut) gone.sender_same;
       as_many = length-changed c (follows sender) v.sessions ∙ gone.kept.length_same;
@@ -285,7 +316,8 @@ timed_out limit events others loss is_limit one silent all =
     let w : World = world limit events in
     let h : Holds limit w = runs_hold limit events _ is_limit (new_holds limit) in
     let v : World = runs limit others (runs limit (loss_events loss) w) in
-    let cut = cut_on limit others w (runs limit (loss_events loss) w) is_limit all (cut_off limit loss w is_limit h one silent) in
+    let cut =
+    cut_on limit others w (runs limit (loss_events loss) w) is_limit all (cut_off limit loss w is_limit h one silent) in
     let is : world limit (events ++ lost_events loss others) ≡ placed ending (with_sender (over TimedOut v.sender) (forgotten v)) =
     world-append limit events (lost_events loss others) ∙ lost_runs limit loss others w ∙ timed_is limit v cut.gone.awaits in
     subst (IsTimedOut w) (sym is) (timed_out_of limit w v cut)

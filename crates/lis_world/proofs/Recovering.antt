@@ -1,4 +1,5 @@
--- No state of the two ends blocks the line for good: a sender comes to rest, the link empties, and a session is carried through.
+-- No state of the two ends blocks the line for good: a sender comes to rest, the link empties, and a session is
+-- carried through.
 use Rattle.std.proofs.Common.{◌≡◌, ℕ, suc, ◌-◌, ◌≤◌, List, [], ◌∷◌, ◌++◌, length, map, refl, sym, ap, ◌∙◌, subst, arith}
 use Rattle.std.proofs.lemmas.List.{nil_from_length}
 use Rattle.lis_frame.specs.Limit.{IsLimit}
@@ -28,17 +29,22 @@ still_none w none =
     let count : length w.units ≡ 0 = ap length none in
     record { sender_same = refl; one_fewer = omega arith }
 
-one_left : (w v : World) (u : Travelling) (us : List Travelling) → w.units ≡ u ∷ us → v.sender ≡ w.sender → v.units ≡ us → IsFewer w v
+one_left :
+    (w v : World) (u : Travelling) (us : List Travelling) → w.units ≡ u ∷ us → v.sender ≡ w.sender
+    → v.units ≡ us → IsFewer w v
 one_left w v u us are same left =
     let before : length w.units ≡ suc (length us) = ap length are in
     let after : length v.units ≡ length us = ap length left in
     record { sender_same = same; one_fewer = omega arith }
 
-fewer_delivered : (limit : ℕ) (units : List Travelling) (w : World) → w.units ≡ units → IsFewer w (delivered limit units w)
+fewer_delivered :
+    (limit : ℕ) (units : List Travelling) (w : World) → w.units ≡ units → IsFewer w (delivered limit units w)
 fewer_delivered limit [] w are = still_none w are
 fewer_delivered limit (u ∷ us) w are = one_left w (delivered limit (u ∷ us) w) u us are refl refl
 
-fewer_no_room : (limit : ℕ) (units : List Travelling) (w : World) → w.units ≡ units → IsFewer w (delivered_no_room limit units w)
+fewer_no_room :
+    (limit : ℕ) (units : List Travelling) (w : World) → w.units ≡ units
+    → IsFewer w (delivered_no_room limit units w)
 fewer_no_room limit [] w are = still_none w are
 fewer_no_room limit (u ∷ us) w are = one_left w (delivered_no_room limit (u ∷ us) w) u us are refl refl
 
@@ -56,7 +62,9 @@ record IsEmptying (n : ℕ) (w : World) : Type 0 where
   neutral : w.sender.phase ≡ Neutral
   few : length w.units ≤ n
 
-emptied : (limit : ℕ) (leavings : List Leaving) (w : World) → IsEmptying (length leavings) w → IsEmptying 0 (runs limit (map leaving_event leavings) w)
+emptied :
+    (limit : ℕ) (leavings : List Leaving) (w : World) → IsEmptying (length leavings) w
+    → IsEmptying 0 (runs limit (map leaving_event leavings) w)
 emptied limit [] w h = h
 emptied limit (leaving ∷ leavings) w h =
     let fewer = fewer_left limit leaving w in
@@ -67,7 +75,9 @@ emptied limit (leaving ∷ leavings) w h =
       few = omega arith;
     })
 
-pub calm_emptied : (limit : ℕ) (leavings : List Leaving) (w : World) → w.sender.phase ≡ Neutral → length w.units ≤ length leavings → IsCalm (runs limit (emptying_events leavings) w)
+pub calm_emptied :
+    (limit : ℕ) (leavings : List Leaving) (w : World) → w.sender.phase ≡ Neutral
+    → length w.units ≤ length leavings → IsCalm (runs limit (emptying_events leavings) w)
 calm_emptied limit leavings w neutral few =
     let v : World = runs limit (map leaving_event leavings) w in
     let h = emptied limit leavings w (record { neutral = neutral; few = few }) in
@@ -76,7 +86,8 @@ calm_emptied limit leavings w neutral few =
 
 -- ---- a calm line carries the next session
 
-pub carries_next : (limit : ℕ) (events : List Event) → IsLimit limit → IsCalm (world limit events) → CarriesNext limit events
+pub carries_next :
+    (limit : ℕ) (events : List Event) → IsLimit limit → IsCalm (world limit events) → CarriesNext limit events
 carries_next limit events is_limit calm texts rounds are enough =
     carries_through limit is_limit events texts rounds calm
     (record { not_refused = ap (λ p. start_fault_in p texts) calm.neutral ∙ are.not_refused; few = are.few })
@@ -104,7 +115,9 @@ sender-emitted Emits.Eot w = refl
 sender-emitted Emits.Nak w = refl
 sender-emitted (Emits.Frame frame) w = refl
 
-pub sender-timer : (limit : ℕ) (w : World) → (after_event limit SenderTimer w).sender ≡ (on_sender_timer {limit = limit} w.sender).after
+pub sender-timer :
+    (limit : ℕ) (w : World)
+    → (after_event limit SenderTimer w).sender ≡ (on_sender_timer {limit = limit} w.sender).after
 sender-timer limit w =
     let step = on_sender_timer {limit = limit} w.sender in
     sender-emitted step.emit (with_sender step.after (given_up w.sender.phase w))
@@ -117,7 +130,9 @@ restarted Contention s is = refl
 restarted AwaitReply s is = refl
 
 -- the first timer ends the session or asks for the line once more, and the second ends that
-neutral_timer : (limit : ℕ) (s : SenderState) → s.phase ≡ Neutral → (on_sender_timer {limit = limit} s).after.phase ≡ Neutral
+neutral_timer :
+    (limit : ℕ) (s : SenderState) → s.phase ≡ Neutral
+    → (on_sender_timer {limit = limit} s).after.phase ≡ Neutral
 neutral_timer limit s is = ap (λ p. (timer_in {limit = limit} p s).after.phase) is ∙ is
 
 timed_twice :

@@ -33,7 +33,9 @@ room-judged : (r : ReceiverState) (frame : FrameContent) (note : Note) → (on_j
 room-judged r frame Quiet = refl
 room-judged r frame _ = refl
 
-room-signal : {limit : ℕ} (is_open : Bool) (signal : SignalOf limit) (r : ReceiverState) → (heard_by is_open signal r).after.room ≡ r.room
+room-signal :
+    {limit : ℕ} (is_open : Bool) (signal : SignalOf limit) (r : ReceiverState)
+    → (heard_by is_open signal r).after.room ≡ r.room
 room-signal true Enq r = room-bid r.readiness r
 room-signal true Eot r = refl
 room-signal true (Good frame) r = room-judged r frame (judged r frame)
@@ -71,11 +73,14 @@ room-delivered : (limit : ℕ) (units : List Travelling) (w : World) → HasRoom
 room-delivered limit [] w has = has
 room-delivered limit (u ∷ us) w has = room-hears limit u.session (load_bytes u.load) (desk_of w) ∙ has
 
-room-delivered_no_room : (limit : ℕ) (units : List Travelling) (w : World) → HasRoom w → HasRoom (delivered_no_room limit units w)
+room-delivered_no_room :
+    (limit : ℕ) (units : List Travelling) (w : World) → HasRoom w → HasRoom (delivered_no_room limit units w)
 room-delivered_no_room limit [] w has = has
 room-delivered_no_room limit (u ∷ us) w has = refl
 
-room-damaged : (limit : ℕ) (bytes : List ℕ) (units : List Travelling) (w : World) → HasRoom w → HasRoom (damaged limit bytes units w)
+room-damaged :
+    (limit : ℕ) (bytes : List ℕ) (units : List Travelling) (w : World) → HasRoom w
+    → HasRoom (damaged limit bytes units w)
 room-damaged limit bytes [] w has = has
 room-damaged limit bytes (u ∷ us) w has =
     cond_both (is_noticed u.load (signals_after limit w.receiver.past bytes)) (settled us (hears limit u.session bytes (desk_of w)) w) w HasRoom
@@ -98,7 +103,9 @@ room-replied limit (b ∷ replies) w has =
     let step = on_reply {limit = limit} b w.sender in
     room-emitted step.emit (with_sender step.after (record w { replies = replies })) has
 
-room-reply_damaged : (limit damage : ℕ) (replies : List ℕ) (w : World) → HasRoom w → HasRoom (reply_damaged limit damage replies w)
+room-reply_damaged :
+    (limit damage : ℕ) (replies : List ℕ) (w : World) → HasRoom w
+    → HasRoom (reply_damaged limit damage replies w)
 room-reply_damaged limit damage [] w has = has
 room-reply_damaged limit damage (b ∷ replies) w has =
     let step = on_reply {limit = limit} damage w.sender in
@@ -116,11 +123,15 @@ room-given_up Phases.Busy w has = has
 room-given_up Phases.Contention w has = has
 room-given_up Phases.AwaitReply w has = has
 
-room-begins : (limit : ℕ) (fault : Option StartFault) (texts : List (List ℕ)) (w : World) → HasRoom w → HasRoom (begins limit fault texts w)
+room-begins :
+    (limit : ℕ) (fault : Option StartFault) (texts : List (List ℕ)) (w : World) → HasRoom w
+    → HasRoom (begins limit fault texts w)
 room-begins limit (Some fault) texts w has = has
 room-begins limit None texts w has = has
 
-pub room_after : (limit : ℕ) (event : Event) (w : World) → w.receiver.room ≡ true → (after_event limit event w).receiver.room ≡ true
+pub room_after :
+    (limit : ℕ) (event : Event) (w : World) → w.receiver.room ≡ true
+    → (after_event limit event w).receiver.room ≡ true
 room_after limit (Start texts) w has = room-begins limit (start_fault w.sender texts) texts w has
 room_after limit Deliver w has = room-delivered limit w.units w has
 room_after limit DeliverNoRoom w has = room-delivered_no_room limit w.units w has
@@ -139,6 +150,9 @@ room_after limit Ready w has = has
 room_after limit Busy w has = has
 room_after limit Contending w has = has
 
-pub room_runs : (limit : ℕ) (events : List Event) (w : World) → w.receiver.room ≡ true → (runs limit events w).receiver.room ≡ true
+pub room_runs :
+    (limit : ℕ) (events : List Event) (w : World) → w.receiver.room ≡ true
+    → (runs limit events w).receiver.room ≡ true
 room_runs limit [] w has = has
-room_runs limit (event ∷ events) w has = room_runs limit events (after_event limit event w) (room_after limit event w has)
+room_runs limit (event ∷ events) w has =
+    room_runs limit events (after_event limit event w) (room_after limit event w has)

@@ -106,7 +106,8 @@ pub record IsTimedOut (before after : World) : Type 0 where
   pub as_many : length after.sessions ≡ length before.sessions
   pub texts_same : (session_at before.current after.sessions).texts ≡ (session_at before.current before.sessions).texts
   pub sent_same : (session_at before.current after.sessions).sent ≡ (session_at before.current before.sessions).sent
-  pub acknowledged_same : (session_at before.current after.sessions).acknowledged ≡ (session_at before.current before.sessions).acknowledged
+  pub acknowledged_same :
+      (session_at before.current after.sessions).acknowledged ≡ (session_at before.current before.sessions).acknowledged
   pub outcome_is : (session_at before.current after.sessions).outcome ≡ Some TimedOut
   pub units_are : after.units ≡ record { session = before.current; load = ending } ∷ []
   pub no_reply : after.replies ≡ []
