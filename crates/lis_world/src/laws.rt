@@ -59,10 +59,11 @@ pub fn recovers()
     ensures undisturbed { RecoversQuietly 240 }
 {}
 
-/// Where an ENQ, a frame or the reply to one is lost, or an ENQ or a frame comes as bytes that give no signal, nothing
-/// but the sender's timer and its restart ends the wait. The timer ends the session as timed out, with what was
-/// acknowledged before, and with an EOT; once that has come or was lost too, and the receiver is ready, the next
-/// session is carried through (LIS01-A2, 6.5 and 6.6). At every limit on a frame's text.
+/// Where the sender awaits the reply to the one unit on the link, and that ENQ or frame is lost or comes as bytes that
+/// give no signal, or the reply is lost, nothing but the sender's timer and its restart ends the wait. The timer ends
+/// the session as timed out, with what was acknowledged before, and with an EOT; once that has come or was lost too,
+/// and the receiver is ready, the next session is carried through (LIS01-A2, 6.5 and 6.6). At every limit on a frame's
+/// text.
 pub fn overcomes_loss_of<const N: usize>()
     requires { IsLimit N }
     ensures { OvercomesLoss N }
