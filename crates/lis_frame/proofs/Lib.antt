@@ -1,6 +1,7 @@
 mod DefinitionRows
 pub mod FrameLaws
 pub mod FrontLemmas
+pub mod HeardLaws
 pub mod KeptLemmas
 pub mod MarkLemmas
 pub mod PieceLaws

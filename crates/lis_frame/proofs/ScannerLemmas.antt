@@ -7,7 +7,7 @@ use Rattle.lis_text.specs.Control.{STX, EOT, ENQ, LF}
 use Rattle.lis_frame.specs.declared.scanner.SignalOf.{SignalOf}
 use Rattle.lis_frame.specs.declared.scanner.SignalOf.TheVariants.{Enq, Eot}
 use Rattle.lis_frame.specs.Stream.{look_back, open_stretch, signal_after, ended_stretch, read_stretch}
-use Rattle.lis_frame.specs.Scanner.{Held, outside, within, kept, held_of, with_byte, ended_held, held_signal, held_after, StandsFor}
+use Rattle.lis_frame.specs.Scanner.{Held, outside, within, beyond, HoldsAtMost, kept, held_of, with_byte, with_bytes, ended_held, held_signal, held_after, StandsFor}
 use Rattle.lis_frame.proofs.StretchLemmas.{stretch_fault-long}
 
 -- the byte behind what was found goes on behind it
@@ -33,6 +33,32 @@ kept-push limit s b = by (nat_lt (limit + 5) (length s)) refl
         let longer : nat_lt (limit + 5) (length (s ++ b ∷ [])) ≡ true = rw (length-append s (b ∷ [])) (grind (arith, nat_tests)) in
         rw (e, longer) refl
     by false e = rw e refl
+
+-- what is held is bounded, and stays so
+pub HoldsAtMost-kept : (limit : ℕ) (s : List ℕ) → HoldsAtMost (limit + 5) (kept limit s)
+HoldsAtMost-kept limit s = by (nat_lt (limit + 5) (length s)) refl
+  where
+    by : (test : Bool) → nat_lt (limit + 5) (length s) ≡ test → HoldsAtMost (limit + 5) (kept limit s)
+    by true e = rw e tt
+    by false e = rw e (grind (arith, nat_tests))
+
+HoldsAtMost-with_byte : (limit : ℕ) (held : Held) (b : ℕ) → HoldsAtMost (limit + 5) (with_byte limit held b)
+HoldsAtMost-with_byte limit outside b = tt
+HoldsAtMost-with_byte limit (within s) b = HoldsAtMost-kept limit (s ++ b ∷ [])
+HoldsAtMost-with_byte limit beyond b = tt
+
+pub HoldsAtMost-with_bytes : (limit : ℕ) (held : Held) (run : List ℕ) → HoldsAtMost (limit + 5) held → HoldsAtMost (limit + 5) (with_bytes limit held run)
+HoldsAtMost-with_bytes limit held [] h = h
+HoldsAtMost-with_bytes limit held (b ∷ run) h =
+    HoldsAtMost-with_bytes limit (with_byte limit held b) run (HoldsAtMost-with_byte limit held b)
+
+pub HoldsAtMost-held_after : (limit : ℕ) (held : Held) (b : ℕ) → HoldsAtMost (limit + 5) (held_after limit held b)
+HoldsAtMost-held_after limit held b = by (b == STX) (b == EOT || b == ENQ || b == LF)
+  where
+    by : (starts stops : Bool) → HoldsAtMost (limit + 5) (cond starts (within []) (cond stops outside (with_byte limit held b)))
+    by true stops = omega arith
+    by false true = tt
+    by false false = HoldsAtMost-with_byte limit held b
 
 held_of-push :
     (limit : ℕ) (o : Option (List ℕ)) (b : ℕ) → held_of limit (option_map (λ s. s ++ b ∷ []) o) ≡ with_byte limit (held_of limit o) b

@@ -203,7 +203,7 @@ allowed_hex b value h = by (nat_le 48 b) refl
         let none = rw (e, upper, lower) at h in
         cc
 
-stream_with-last : (past xs : List ℕ) (b : ℕ) → stream_with past (xs ++ b ∷ []) ≡ b ∷ stream_with past xs
+pub stream_with-last : (past xs : List ℕ) (b : ℕ) → stream_with past (xs ++ b ∷ []) ≡ b ∷ stream_with past xs
 stream_with-last past [] b = refl
 stream_with-last past (x ∷ xs) b = stream_with-last (x ∷ past) xs b
 

@@ -1,5 +1,5 @@
 -- What a scanner holds of the stream that it has read.
-use Rattle.std.specs.Prelude.{◌≡◌, ℕ, ◌+◌, List, [], ◌∷◌, ◌++◌, Option, None, Some, length, if◌then◌else◌, nat_lt, ◌==◌, ◌||◌, not, ⊤}
+use Rattle.std.specs.Prelude.{◌≡◌, ℕ, ◌+◌, ◌≤◌, List, [], ◌∷◌, ◌++◌, Option, None, Some, length, if◌then◌else◌, nat_lt, ◌==◌, ◌||◌, not, ⊤}
 use Rattle.std.specs.List.{prefix_len}
 use Rattle.lis_text.specs.Control.{STX, EOT, ENQ, LF}
 use Rattle.lis_frame.specs.declared.frame.FrameFault.TheVariants.{TooLong}
@@ -15,6 +15,12 @@ pub data Held : Type 0 where
   outside : Held
   within : List ℕ → Held
   beyond : Held
+
+-- no more bytes than so many are held
+abbrev pub HoldsAtMost : ℕ → Held → Type 0
+HoldsAtMost most outside = ⊤
+HoldsAtMost most (within stretch) = length stretch ≤ most
+HoldsAtMost most beyond = ⊤
 
 -- a stretch is held while a frame may have as many bytes
 abbrev pub kept : ℕ → List ℕ → Held

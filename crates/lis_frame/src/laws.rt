@@ -1,13 +1,20 @@
 //! Laws of frames and streams, each the contract of a function that does nothing.
 
-ghost use Rattle.lis_frame.specs.Laws.{NoCutMatters, FramesAreHeard};
+ghost use Rattle.lis_frame.specs.Laws.{NoCutMatters, FramesAreHeard, HeardAreFrames, WrittenAreFrames};
 
 /// However a stream is cut, its signals are those of its parts in turn.
 pub fn any_cut()
     ensures { NoCutMatters }
 {}
 
-/// The bytes of a frame are a frame, and are heard as that frame alone, whatever came before them.
+/// The bytes of a frame, its digits in either case, are heard as that frame alone, whatever came before them; those
+/// that are written for it are such bytes.
 pub fn frame_is_heard()
-    ensures { FramesAreHeard }
+    ensures heard { FramesAreHeard }
+    ensures written { WrittenAreFrames }
+{}
+
+/// What is heard as a good frame was spelled: its bytes are the last that came.
+pub fn heard_is_a_frame()
+    ensures { HeardAreFrames }
 {}

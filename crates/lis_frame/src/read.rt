@@ -14,14 +14,15 @@ use lis_text::{CR, ETB, ETX, LF, STX, first_forbidden};
 /// The bytes of a stretch that aren't its text: number, end byte, two digits, CR (LIS01-A2, 6.3.1).
 pub(crate) const FRAMING: usize = 5;
 
-/// The frame that stands between STX and LF. Where none does, the first fault: length, shape,
-/// number, text, sum. `N` is a limit, from 240 to 63,993.
+/// The frame that stands between STX and LF, where no fault stands; else the first fault: length, shape,
+/// number, text, sum (LIS01-A2, 6.3 and 6.5). `N` is a limit, from 240 to 63,993.
 pub fn read_frame_of<const N: usize>(stretch: &[u8]) -> Result<FrameOf<N>, FrameFault>
     requires { IsLimit N }
     ensures found { IfOk result (λ frame. IsFrame N (STX ∷ (stretch.now ++ LF ∷ [])) frame) }
     ensures only { (frame : FrameContent) → IsFrame N (STX ∷ (stretch.now ++ LF ∷ [])) frame → result ≡ Ok frame }
     ensures fault { IfErr result (λ fault. stretch_fault N stretch.now ≡ Some fault) }
     ensures places { IfOk result (λ frame. frame ≡ content_of stretch.now) }
+    ensures sound { IfOk result (λ _. stretch_fault N stretch.now ≡ None) }
 {
     match lend_frame::<N>(stretch) {
         Ok(frame) => Ok(FrameOf::from_lent(&frame)),
@@ -52,6 +53,7 @@ pub fn read_frame(stretch: &[u8]) -> Result<Frame, FrameFault>
     ensures only { (frame : FrameContent) → IsFrame 240 (STX ∷ (stretch.now ++ LF ∷ [])) frame → result ≡ Ok frame }
     ensures fault { IfErr result (λ fault. stretch_fault 240 stretch.now ≡ Some fault) }
     ensures places { IfOk result (λ frame. frame ≡ content_of stretch.now) }
+    ensures sound { IfOk result (λ _. stretch_fault 240 stretch.now ≡ None) }
 {
     read_frame_of(stretch)
 }

@@ -1,10 +1,10 @@
 //! The scanner: bytes of the link in, signals out (LIS01-A2, 6.2 to 6.5).
 
-ghost use Rattle.std.specs.Prelude.{◌≡◌, ◌≤◌, ℕ, List, [], ◌∷◌, Some, IfNone, IfSome, length, take};
+ghost use Rattle.std.specs.Prelude.{◌≡◌, ◌+◌, ◌≤◌, ℕ, List, [], ◌∷◌, Some, IfNone, IfSome, length, take};
 ghost use Rattle.lis_frame.specs.Frame.{IsFrame};
 ghost use Rattle.lis_frame.specs.Limit.{IsLimit};
 ghost use Rattle.lis_frame.specs.Stream.{is_mark, signal_after, signals_after, stream_with};
-ghost use Rattle.lis_frame.specs.Scanner.{IsHeardWithin, StandsFor, held_signal, held_after, heard_signal, lent_signals, quiet_length, unmarked_length, with_bytes};
+ghost use Rattle.lis_frame.specs.Scanner.{HoldsAtMost, IsHeardWithin, StandsFor, held_signal, held_after, heard_signal, lent_signals, quiet_length, unmarked_length, with_bytes};
 
 use crate::frame::{FrameFault, FrameOf};
 use crate::lent::LentFrame;
@@ -90,8 +90,8 @@ fn until_mark(bytes: &[u8]) -> usize
     }
 }
 
-/// Reads a stream of link bytes, one byte or a run of them at a time. It holds one frame's worth of state and never
-/// looks back; it refuses nothing.
+/// Reads a stream of link bytes, one byte or a run of them at a time. It holds at most `N + 5` bytes of a stretch, as
+/// many as a frame has between STX and LF, and never looks back; it refuses nothing.
 #[derive(Drop)]
 pub struct ScannerOf<const N: usize> {
     is_open: bool,
@@ -99,15 +99,15 @@ pub struct ScannerOf<const N: usize> {
 }
 
 impl<const N: usize> Model for ScannerOf<N> {
-    ghost use Rattle.std.specs.Prelude.{if◌then◌else◌};
+    ghost use Rattle.std.specs.Prelude.{◌+◌, if◌then◌else◌};
     ghost use Rattle.lis_frame.specs.Limit.{IsLimit};
-    ghost use Rattle.lis_frame.specs.Scanner.{Held, outside};
+    ghost use Rattle.lis_frame.specs.Scanner.{Held, HoldsAtMost, outside};
 
     ghost Value = { Held };
 
     ghost view = { λ s. if s.is_open then s.stretch else outside };
 
-    ghost invariant = { λ s. IsLimit N };
+    ghost invariant = { λ s. IsLimit N × HoldsAtMost (N + 5) s.stretch };
 }
 
 /// A scanner with the usual limit.
@@ -143,6 +143,7 @@ impl<const N: usize> ScannerOf<N> {
     pub fn push(&mut self, byte: u8) -> Option<SignalOf<N>>
         ensures signal { (past : List ℕ) → StandsFor N self.old past → result ≡ signal_after N past byte }
         ensures after { (past : List ℕ) → StandsFor N self.old past → StandsFor N self.new (byte ∷ past) }
+        ensures kept { HoldsAtMost (N + 5) self.new }
     {
         let signal = match self.told(byte) {
             None => None,
@@ -166,7 +167,8 @@ impl<const N: usize> ScannerOf<N> {
     /// Reads one byte, and leaves its signal untold.
     #[inline(always)]
     pub fn take(&mut self, byte: u8)
-        ensures { (past : List ℕ) → StandsFor N self.old past → StandsFor N self.new (byte ∷ past) }
+        ensures after { (past : List ℕ) → StandsFor N self.old past → StandsFor N self.new (byte ∷ past) }
+        ensures kept { HoldsAtMost (N + 5) self.new }
     {
         self.hold(byte);
     }
@@ -186,7 +188,10 @@ impl<const N: usize> ScannerOf<N> {
             signals_after N past (take result.0 bytes.now) ≡ lent_signals result.1 }
         ensures after { (past : List ℕ) → StandsFor N self.old past →
             StandsFor N self.new (stream_with past (take result.0 bytes.now)) }
+        ensures kept { HoldsAtMost (N + 5) self.new }
     {
+        // What is held stays bounded where no byte is read too.
+        let _is_open = self.is_open;
         let Some((byte, behind)) = bytes.split_first() else {
             return (0, None);
         };
@@ -211,6 +216,7 @@ impl<const N: usize> ScannerOf<N> {
     fn run_on(&mut self, bytes: &[u8]) -> usize
         ensures count { result ≡ unmarked_length bytes.now }
         ensures held { self.new ≡ with_bytes N self.old (take (unmarked_length bytes.now) bytes.now) }
+        ensures kept { HoldsAtMost (N + 5) self.new }
     {
         let count = until_mark(bytes);
         if self.is_open {

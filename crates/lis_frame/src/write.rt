@@ -1,7 +1,7 @@
 //! Writing a frame (LIS01-A2, 6.3).
 
 ghost use Rattle.std.specs.Prelude.{◌≡◌, ◌+◌, ◌≤◌, ◌<◌};
-ghost use Rattle.lis_frame.specs.Frame.{checksum, end_byte, frame_bytes, upper_digit};
+ghost use Rattle.lis_frame.specs.Frame.{IsFrame, checksum, end_byte, frame_bytes, upper_digit};
 
 use crate::frame::{Frame, FrameOf};
 use crate::read::total_of;
@@ -14,7 +14,8 @@ use lis_text::{CR, ETB, ETX, LF, STX};
 pub fn frame_bytes_of<const N: usize, const B: usize>(frame: &FrameOf<N>) -> ArrayVec<u8, B>
     requires room { N + 7 ≤ B }
     requires bound { B ≤ 64000 }
-    ensures { result.items ≡ frame_bytes frame.now }
+    ensures bytes { result.items ≡ frame_bytes frame.now }
+    ensures frame { IsFrame N result.items frame.now }
 {
     let sum = checksum(frame);
     let end = end_byte(frame.is_last());
@@ -31,7 +32,8 @@ pub fn frame_bytes_of<const N: usize, const B: usize>(frame: &FrameOf<N>) -> Arr
 
 /// The bytes of a frame with the usual limit.
 pub fn frame_bytes(frame: &Frame) -> ArrayVec<u8, 247>
-    ensures { result.items ≡ frame_bytes frame.now }
+    ensures bytes { result.items ≡ frame_bytes frame.now }
+    ensures frame { IsFrame 240 result.items frame.now }
 {
     frame_bytes_of(frame)
 }

@@ -1,7 +1,7 @@
 -- Parts of a record that stand in a text, and their spelling.
-use Rattle.std.proofs.Common.{◌≡◌, ◌≢◌, ℕ, ◌+◌, ◌-◌, ◌<◌, ◌≤◌, ◌==◌, false, true, ltb, option_map, List, [], ◌∷◌, ◌++◌, map, length, Option, Some, None, slice_get, refl, sym, ap, ◌∙◌, subst, arith, append_assoc, inl, inr, get_or, eq-eqb}
+use Rattle.std.proofs.Common.{◌≡◌, ◌≢◌, ℕ, ◌-◌, ◌≤◌, ◌==◌, false, true, ltb, option_map, List, [], ◌∷◌, ◌++◌, map, length, Option, Some, None, slice_get, refl, sym, ap, ◌∙◌, subst, arith, append_assoc, inl, inr, get_or, eq-eqb}
 use Rattle.std.specs.Option.{is_some}
-use Rattle.std.specs.List.{All, flat_map, join_with_byte, position}
+use Rattle.std.specs.List.{All, join_with_byte, position}
 use Rattle.std.proofs.lemmas.Bool.Decides.{eqb_tells}
 use Rattle.std.proofs.lemmas.List.{nil_from_length}
 use Rattle.std.proofs.lemmas.List.Elements.{All-head, All-tail, All-cons, All-nil}
@@ -11,13 +11,13 @@ use Rattle.std.proofs.lemmas.Option.{get_or_from_slice_get, slice_get-map, slice
 use Rattle.lis_field.specs.declared.symbols.Sym.{Sym}
 use Rattle.lis_field.specs.declared.symbols.Sym.TheVariants.{Char}
 use Rattle.lis_field.specs.Delimiters.{DelimiterBytes}
-use Rattle.lis_field.specs.Shape.{Components, Repeats, Symbols, field_at, first_number}
+use Rattle.lis_field.specs.Shape.{Symbols, field_at, first_number}
 use Rattle.lis_field.specs.declared.kinds.Kind.{Kind}
 use Rattle.lis_field.proofs.FirstFaults.{ltb-past, test_false}
 use Rattle.lis_record.specs.Lent.{lent}
 use Rattle.lis_record.specs.FrontReading.{components_of, fields_of, parts_behind, parts_of, repeats_of, symbols_after, symbols_of}
 use Rattle.lis_record.specs.Relation.{Lacks}
-use Rattle.lis_record.specs.Remaining.{more_components, remaining, remaining_text}
+use Rattle.lis_record.specs.Remaining.{more_components, remaining_text}
 use Rattle.lis_record.specs.Spelling.{spelled_component, spelled_field, spelled_repeat, spelled_symbol}
 use Rattle.lis_record.proofs.Components.{symbols_of-plain}
 use Rattle.lis_record.proofs.Joins.{onto_first-apart, parts_of-apart}

@@ -1,6 +1,7 @@
 mod DefinitionRows
 pub mod Components
 pub mod FaultLaws
+pub mod FaultlessTexts
 pub mod Joins
 pub mod LentTexts
 pub mod Opening

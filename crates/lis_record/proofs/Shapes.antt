@@ -1,5 +1,5 @@
 -- What a text is as a record has the shape of one: parts that are never empty, and symbols that carry bytes.
-use Rattle.std.proofs.Common.{◌≡◌, ◌≢◌, ℕ, zero, suc, ◌<◌, ◌==◌, Bool, true, false, List, [], ◌∷◌, ◌++◌, map, length, Option, None, Some, option_map, Result, Ok, Err, refl, sym, subst, arith}
+use Rattle.std.proofs.Common.{◌≡◌, ℕ, zero, suc, ◌<◌, ◌==◌, Bool, true, false, List, [], ◌∷◌, ◌++◌, map, length, Option, None, Some, option_map, Result, Ok, Err, refl, subst, arith}
 use Rattle.std.specs.List.{All, AllByRecursion, AllZip, flat_map, join_with_byte}
 use Rattle.std.specs.Prelude.{IsTrue, if◌then◌else◌}
 use Rattle.std.proofs.lemmas.Bool.Decides.{nat_tests}
@@ -10,7 +10,7 @@ use Rattle.hex.proofs.HexLemmas.{decode_of-ok}
 use Rattle.lis_field.specs.declared.symbols.Sym.{Sym}
 use Rattle.lis_field.specs.declared.symbols.Sym.TheVariants.{Char, Raw, On, Off}
 use Rattle.lis_field.specs.Delimiters.{DelimiterBytes, IsDelimiters, is_punctuation}
-use Rattle.lis_field.specs.Shape.{AreFields, AreSymbols, Components, IsFieldShape, IsRecordShape, IsRepeatShape, IsSymbol, RecordContent, Repeats, Symbols}
+use Rattle.lis_field.specs.Shape.{AreSymbols, Components, IsFieldShape, IsRecordShape, IsRepeatShape, IsSymbol, RecordContent, Repeats, Symbols}
 use Rattle.lis_record.specs.Escapes.{IsComponent, escape, escape_of, letter_symbol, lone, nothing, plain, raw_symbols}
 use Rattle.lis_record.specs.Relation.{IsField, IsJoined, IsRecord, IsRepeat, declared_part}
 use Rattle.lis_record.specs.Text.{IsText, is_text_byte}

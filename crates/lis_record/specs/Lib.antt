@@ -1,4 +1,5 @@
 pub mod Escapes
+pub mod Faultless
 pub mod Faults
 pub mod FrontReading
 pub mod Lent

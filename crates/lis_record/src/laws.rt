@@ -2,7 +2,8 @@
 
 ghost use Rattle.std.specs.Prelude.{◌≡◌, ℕ, List, None};
 ghost use Rattle.lis_field.specs.Delimiters.{DelimiterBytes, IsDelimiters};
-ghost use Rattle.lis_record.specs.Faults.{check_fault};
+ghost use Rattle.lis_record.specs.Faultless.{IsSomeHeader, IsSomeRecord};
+ghost use Rattle.lis_record.specs.Faults.{check_fault, header_fault, record_fault};
 ghost use Rattle.lis_record.specs.Relation.{IsRecord};
 ghost use Rattle.lis_field.specs.Shape.{IsRecordShape, RecordContent};
 ghost use Rattle.lis_record.specs.Spelling.{spelled};
@@ -24,4 +25,14 @@ pub fn one_record()
         → IsRecord d text r → IsRecord e text s → r.kind ≡ s.kind }
     ensures header { (d e : DelimiterBytes) (text : List ℕ) (r s : RecordContent) → IsDelimiters d → r.kind ≡ kinds.H
         → IsRecord d text r → IsRecord e text s → (d ≡ e) × (r ≡ s) }
+{}
+
+/// A text without a fault is a record, and a record's text has none; so with a header, under the delimiters that it
+/// declares (LIS02-A2, Delimiters, and Data Record Usage Overview).
+pub fn record_or_fault()
+    ensures found { (d : DelimiterBytes) (text : List ℕ) → IsDelimiters d → record_fault d text ≡ None
+        → IsSomeRecord d text }
+    ensures no_fault { (d : DelimiterBytes) (text : List ℕ) → IsSomeRecord d text → record_fault d text ≡ None }
+    ensures header_found { (text : List ℕ) → header_fault text ≡ None → IsSomeHeader text }
+    ensures no_header_fault { (text : List ℕ) → IsSomeHeader text → header_fault text ≡ None }
 {}

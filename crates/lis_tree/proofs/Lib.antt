@@ -4,5 +4,6 @@ pub mod DefinitionRows
 pub mod Flatten
 pub mod Levels
 pub mod ListFaults
+pub mod Refusing
 pub mod Trees
 pub mod Viable

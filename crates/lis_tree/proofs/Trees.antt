@@ -1,5 +1,5 @@
 -- Records that stand where they may, and one that closes them, are a message.
-use Rattle.std.proofs.Common.{◌≡◌, ◌≢◌, List, [], ◌∷◌, ◌++◌, Some, None, refl, sym, ◌∙◌, ap, subst}
+use Rattle.std.proofs.Common.{◌≡◌, ◌≢◌, List, [], ◌∷◌, ◌++◌, None, refl, sym, ◌∙◌, ap, subst}
 use Rattle.std.proofs.lemmas.List.{append-nil}
 use Rattle.std.specs.Prelude.{⊤}
 use Rattle.std.specs.List.{AllByRecursion, flat_map}
@@ -10,8 +10,8 @@ use Rattle.lis_field.specs.Shape.{IsRecordShape, RecordContent}
 use Rattle.lis_tree.specs.declared.tree.Group.{Group}
 use Rattle.lis_tree.specs.declared.tree.Group.TheVariants as groups
 use Rattle.lis_tree.specs.Level.{Level, StandsFrom, closed, in_header, in_order, in_patient, in_query, kinds_of, level_after, misplaced, next_level, outside}
-use Rattle.lis_tree.specs.Nodes.{Noted, OrderTree, PatientTree}
-use Rattle.lis_tree.specs.Tree.{AreNotes, IsGroup, IsNote, IsNoted, IsOrder, IsPatient, IsTree, MessageTree, flatten, group_records, noted_records, order_records}
+use Rattle.lis_tree.specs.Nodes.{Noted, OrderTree}
+use Rattle.lis_tree.specs.Tree.{AreNotes, IsGroup, IsNote, IsNoted, IsOrder, IsTree, MessageTree, flatten, group_records, noted_records, order_records}
 
 -- in a message that isn't closed
 abbrev IsInside : Level → Type 0

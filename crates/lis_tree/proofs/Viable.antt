@@ -155,7 +155,7 @@ takes_then_result outside e = absurd cc
 takes_then_result closed e = absurd cc
 
 -- behind a header: a record that stands has its parent, and the other way round
-parent_from : (ks : List Kind) (k : Kind) → StandsFrom in_header ks → misplaced (level_after in_header ks) k ≡ None → HasParent (kinds.H ∷ ks) k
+pub parent_from : (ks : List Kind) (k : Kind) → StandsFrom in_header ks → misplaced (level_after in_header ks) k ≡ None → HasParent (kinds.H ∷ ks) k
 parent_from ks kinds.O s p =
     let at = order_stands (level_after in_header ks) p in
     let none = patient_is (last_of is_group ks) (sym (order_told in_header ks s (λ e. cc) at.1) ∙ at.0) in
@@ -207,11 +207,11 @@ inside_free in_query kinds.M o c h x r = refl
 inside_free in_query kinds.S o c h x r = refl
 inside_free in_query kinds.L o c h x r = refl
 
-begun_after : (l : Level) (ks : List Kind) → l ≢ outside → level_after l ks ≢ outside
+pub begun_after : (l : Level) (ks : List Kind) → l ≢ outside → level_after l ks ≢ outside
 begun_after l [] o = o
 begun_after l (k ∷ ks) o = begun_after (next_level l k) ks (next_begun l k o)
 
-place_from : (ks : List Kind) (k : Kind) → StandsFrom in_header ks → level_after in_header ks ≢ closed → k ≢ kinds.H → HasParent (kinds.H ∷ ks) k → misplaced (level_after in_header ks) k ≡ None
+pub place_from : (ks : List Kind) (k : Kind) → StandsFrom in_header ks → level_after in_header ks ≢ closed → k ≢ kinds.H → HasParent (kinds.H ∷ ks) k → misplaced (level_after in_header ks) k ≡ None
 place_from ks kinds.O s u h p =
     takes_then_order (level_after in_header ks) (order_told in_header ks s (λ e. cc) u ∙ ap (λ o. patient_or o false) (sym (option_or_none (last_of is_group ks)) ∙ p))
 place_from ks kinds.R s u h p =
@@ -232,7 +232,7 @@ nothing_behind : (ks : List Kind) → StandsFrom closed ks → ks ≡ []
 nothing_behind [] s = refl
 nothing_behind (k ∷ ks) s = absurd (nothing_closed k s.0)
 
-in_header_at : (k : Kind) → k ≡ kinds.H → next_level outside k ≡ in_header
+pub in_header_at : (k : Kind) → k ≡ kinds.H → next_level outside k ≡ in_header
 in_header_at k e = ap (next_level outside) e
 
 closing_last : (ks before behind : List Kind) → StandsFrom outside ks → ks ≡ before ++ kinds.L ∷ behind → behind ≡ []

@@ -8,6 +8,7 @@ pub mod Nodes
 pub mod Numbers
 pub mod Open
 pub mod Places
+pub mod Refusing
 pub mod Spine
 pub mod Standing
 pub mod Tree

@@ -1,11 +1,26 @@
 //! What holds of the kinds of all lists of records, over the definitions that the contracts cite.
-ghost use Rattle.std.specs.Prelude.{List};
+ghost use Rattle.std.specs.Prelude.{◌≡◌, List, [], ◌∷◌, ◌++◌, Some, None};
 ghost use Rattle.lis_field.specs.declared.kinds.Kind.{Kind};
+ghost use Rattle.lis_tree.specs.declared.fault.Reason.{Reason};
 ghost use Rattle.lis_tree.specs.Hierarchy.{IsViable};
-ghost use Rattle.lis_tree.specs.Level.{StandsFrom, outside};
+ghost use Rattle.lis_tree.specs.Level.{StandsFrom, level_after, misplaced, outside};
+ghost use Rattle.lis_tree.specs.Refusing.{IsRefusedFor};
 
 /// The hierarchy by the place of the next record is that in the standard's words.
 pub fn hierarchy()
     ensures viable { (ks : List Kind) → StandsFrom outside ks → IsViable ks }
     ensures stands { (ks : List Kind) → IsViable ks → StandsFrom outside ks }
+{}
+
+/// Why a record can't come next, by its place, is why it can't in the standard's words: no message is open, one is
+/// open already, an order has no patient, or a result no order. Any other may (LIS02-A2).
+pub fn reasons()
+    ensures told { (before : List Kind) (k : Kind) (reason : Reason) → IsViable before
+        → misplaced (level_after outside before) k ≡ Some reason → IsRefusedFor before k reason }
+    ensures refused { (before : List Kind) (k : Kind) (reason : Reason) → IsViable before
+        → IsRefusedFor before k reason → misplaced (level_after outside before) k ≡ Some reason }
+    ensures taken { (before : List Kind) (k : Kind) → IsViable before
+        → misplaced (level_after outside before) k ≡ None → IsViable (before ++ k ∷ []) }
+    ensures next { (before : List Kind) (k : Kind) → IsViable (before ++ k ∷ [])
+        → misplaced (level_after outside before) k ≡ None }
 {}

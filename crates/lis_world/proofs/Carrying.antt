@@ -23,7 +23,8 @@ use Rattle.lis_world.specs.World.{World, new_world, Desk, desk_of, booked, hears
 use Rattle.lis_world.specs.Steps.{begins, delivered, delivered_no_room, damaged, is_noticed, room_at, replied, reply_damaged, sender_steps, after_event, runs, world}
 use Rattle.lis_world.specs.Safe.{IsPrefix}
 use Rattle.lis_world.specs.Progress.{Round, undisturbed, without_room, bad_frame, bad_reply, round_events, rounds_events, IsBadStretch, IsNoticed, AreNoticed, good_rounds, FewInARow, IsCalm, session_events, done_session, IsCarried, AreSendable, AreEnough, undisturbed_rounds, quiet_events, CarriesThrough, RunsQuietly}
-use Rattle.lis_world.proofs.Invariant.{IsSound, Holds, kept_frames}
+use Rattle.lis_world.proofs.Invariant.{IsSound, InPhase, Holds, kept_frames}
+use Rattle.lis_world.proofs.Room.{room_runs}
 use Rattle.lis_world.proofs.Leaving.{heard_replies}
 use Rattle.lis_world.proofs.Hearing.{at_past}
 use Rattle.lis_world.proofs.BadHeard.{signals-bad_stretch}
@@ -264,21 +265,23 @@ begun :
     → IsLimit limit
     → Holds limit w
     → IsCalm w
+    → w.receiver.room ≡ true
     → Holds limit (begins limit None texts w)
     → GoesOn limit (length w.sessions) (session_frames limit texts) (length (session_frames limit texts))
     (runs limit (Deliver ∷ Reply ∷ []) (begins limit None texts w))
-begun limit texts w is_limit h calm holds =
+begun limit texts w is_limit h calm room holds =
     let c : ℕ = length w.sessions in
     let w1 : World = begins limit None texts w in
     let bid : Travelling = record { session = c; load = enquiry } in
     let d : Desk = desk_of w1 in
     let after : Desk = hears limit c (load_bytes enquiry) d in
-    let opened = enquiry_heard limit c d refl calm.ready calm.room in
+    let opened = enquiry_heard limit c d refl calm.ready room in
     let alone : w1.units ≡ bid ∷ [] = ap (λ us. us ++ bid ∷ []) calm.no_unit in
     let w2 : World = after_event limit Deliver w1 in
     let e2 : w2 ≡ settled [] after w1 = ap (λ us. delivered limit us w1) alone in
     let unmuted : w.mute ≡ 0 = zero_mute w.mute w.units h.mute_within calm.no_unit in
-    let replies_are : (settled [] after w1).replies ≡ ACK ∷ [] = heard_replies w.mute after.replies w.replies unmuted calm.no_reply ∙ opened.reply_is in
+    let no_reply : w.replies ≡ [] = (subst (λ p. InPhase p w) calm.neutral h.phase).no_reply in
+    let replies_are : (settled [] after w1).replies ≡ ACK ∷ [] = heard_replies w.mute after.replies w.replies unmuted no_reply ∙ opened.reply_is in
     let holds2 : Holds limit (settled [] after w1) = subst (Holds limit) e2 (event_holds limit Deliver w1 is_limit holds) in
     let w3 : World = record (settled [] after w1) { replies = [] } in
     let e3 : after_event limit Reply w2 ≡ sender_steps {limit = limit} (sends (session_frames limit texts) (started limit texts)) w3 =
@@ -343,10 +346,11 @@ carried :
     → IsLimit limit
     → Holds limit w
     → IsCalm w
+    → w.receiver.room ≡ true
     → AreSendable w texts
     → AreEnough limit texts rounds
     → IsCarried limit texts w (runs limit (session_events texts rounds) w)
-carried limit texts rounds w is_limit h calm sendable enough =
+carried limit texts rounds w is_limit h calm room sendable enough =
     let c : ℕ = length w.sessions in
     let frames : List FrameContent = session_frames limit texts in
     let w1 : World = begins limit None texts w in
@@ -356,7 +360,7 @@ carried limit texts rounds w is_limit h calm sendable enough =
     let few = few-session_frames limit texts is_limit can.sendable sendable.few in
     let w2 : World = runs limit (Deliver ∷ Reply ∷ []) w1 in
     let finished : IsFinished limit c frames (runs limit (rounds_events rounds) w2) =
-    go c frames w2 enough.noticed (begun limit texts w is_limit h calm holds1)
+    go c frames w2 enough.noticed (begun limit texts w is_limit h calm room holds1)
     (λ sent. through limit c frames rounds 0 (length frames) 1 w2 is_limit few enough.noticed enough.few_in_a_row enough.enough_good (omega arith) sent) in
     let over : IsOver limit c frames (runs limit (rounds_events rounds ++ Deliver ∷ []) w2) =
     subst (IsOver limit c frames) (sym (runs-append limit (rounds_events rounds) (Deliver ∷ []) w2))
@@ -382,7 +386,7 @@ pub carries_through : (limit : ℕ) → IsLimit limit → CarriesThrough limit
 carries_through limit is_limit events texts rounds calm sendable enough =
     let w : World = world limit events in
     subst (IsCarried limit texts w) (sym (runs-append limit events (session_events texts rounds) new_world))
-    (carried limit texts rounds w is_limit (runs_hold limit events new_world is_limit (new_holds limit)) calm sendable enough)
+    (carried limit texts rounds w is_limit (runs_hold limit events new_world is_limit (new_holds limit)) calm (room_runs limit events new_world refl) sendable enough)
 
 -- rounds that nothing disturbs
 noticed-undisturbed : (limit n : ℕ) → AreNoticed limit (undisturbed_rounds n)
@@ -397,6 +401,12 @@ good-undisturbed : (n : ℕ) → good_rounds (undisturbed_rounds n) ≡ n
 good-undisturbed zero = refl
 good-undisturbed (suc n) = ap suc (good-undisturbed n)
 
+pub enough-undisturbed : (limit : ℕ) (texts : List (List ℕ)) → AreEnough limit texts (undisturbed_rounds (length (session_frames limit texts)))
+enough-undisturbed limit texts =
+    let n : ℕ = length (session_frames limit texts) in
+    let good = good-undisturbed n in
+    record { noticed = noticed-undisturbed limit n; few_in_a_row = few-undisturbed n; enough_good = omega arith }
+
 single : (xs : List Session) (d : Session) → length xs ≡ 1 → xs ≡ get_or xs 0 d ∷ []
 single [] d e = absurd (omega arith)
 single (x ∷ []) d e = refl
@@ -405,14 +415,9 @@ single (x ∷ y ∷ xs) d e = absurd (omega arith)
 pub runs_quietly : (limit : ℕ) → IsLimit limit → RunsQuietly limit
 runs_quietly limit is_limit texts sendable =
     let n : ℕ = length (session_frames limit texts) in
-    let good = good-undisturbed n in
-    let enough : AreEnough limit texts (undisturbed_rounds n) = record {
-      noticed = noticed-undisturbed limit n;
-      few_in_a_row = few-undisturbed n;
-      enough_good = omega arith;
-    } in
-    let calm : IsCalm new_world = record { no_unit = refl; no_reply = refl; neutral = refl; ready = refl; room = refl } in
-    let is_carried = carried limit texts (undisturbed_rounds n) new_world is_limit (new_holds limit) calm sendable enough in
+    let enough = enough-undisturbed limit texts in
+    let calm : IsCalm new_world = record { no_unit = refl; neutral = refl; ready = refl } in
+    let is_carried = carried limit texts (undisturbed_rounds n) new_world is_limit (new_holds limit) calm refl sendable enough in
     let after : World = world limit (quiet_events limit texts) in
     record {
       sessions_are =

@@ -6,7 +6,9 @@ use Rattle.lis_frame.specs.Stream.{signal_after, open_stretch}
 use Rattle.lis_frame.specs.Pieces.{session_frames, pieces}
 use Rattle.lis_link.specs.declared.sender.Outcome.TheVariants.{Done, TimedOut, Restarted}
 use Rattle.lis_world.specs.declared.event.Event.{Event}
-use Rattle.lis_world.specs.declared.event.Event.TheVariants.{Start, Deliver, DeliverNoRoom, Damage, Reply, DamageReply, SenderTimer, RestartSender, RestartReceiver, Contending}
+use Rattle.lis_world.specs.declared.event.Event.TheVariants.{Start, Deliver, DeliverNoRoom, Damage, Reply, DamageReply, SenderTimer, ReceiverTimer, RestartSender, RestartReceiver, Busy, Contending}
+use Rattle.lis_world.specs.Progress.{undisturbed, session_events}
+use Rattle.lis_world.specs.Recovery.{comes, comes_without_room, is_lost, emptying_events, two_timers, rest_events, unit_is_lost, unit_is_unheard, reply_is_lost, lost_events}
 use Rattle.lis_world.specs.Session.{Session}
 use Rattle.lis_world.specs.Steps.{world}
 
@@ -306,3 +308,74 @@ long_frame_hands_out :
     ∷ []
 unfolding signal_after open_stretch stretch_fault session_frames pieces frame_bytes restarted_receiver_events
 long_frame_hands_out = refl
+
+-- a frame is lost, and the sender's timer ends its session; EOT is lost too, and the next session is carried through
+untaken_letter : ℕ → Session
+untaken_letter letter = record (unheard_letter letter) { accepted = []; handed = [] }
+
+next_letter_events : List Event
+next_letter_events = session_events ((0x42 ∷ []) ∷ []) (undisturbed ∷ [])
+
+lost_frame_is_overcome_events : List Event
+lost_frame_is_overcome_events =
+    Start ((0x41 ∷ []) ∷ [])
+    ∷ Deliver
+    ∷ Reply
+    ∷ (lost_events unit_is_lost (ReceiverTimer ∷ Deliver ∷ []) ++ emptying_events (is_lost ∷ []) ++ next_letter_events)
+
+lost_frame_is_overcome :
+    (world 240 lost_frame_is_overcome_events).sessions
+    ≡ untaken_letter 0x41
+    ∷ done_letter 0x42
+    ∷ []
+unfolding signal_after open_stretch stretch_fault session_frames pieces frame_bytes one_letter done_letter unheard_letter untaken_letter next_letter_events lost_frame_is_overcome_events
+lost_frame_is_overcome = refl
+
+-- its bytes give no signal, as their LF is gone
+unheard_frame_is_overcome_events : List Event
+unheard_frame_is_overcome_events =
+    Start ((0x41 ∷ []) ∷ [])
+    ∷ Deliver
+    ∷ Reply
+    ∷ (lost_events (unit_is_unheard (0x02 ∷ 0x31 ∷ 0x41 ∷ [])) [] ++ emptying_events (comes ∷ []) ++ next_letter_events)
+
+unheard_frame_is_overcome :
+    (world 240 unheard_frame_is_overcome_events).sessions
+    ≡ untaken_letter 0x41
+    ∷ done_letter 0x42
+    ∷ []
+unfolding signal_after open_stretch stretch_fault session_frames pieces frame_bytes one_letter done_letter unheard_letter untaken_letter next_letter_events unheard_frame_is_overcome_events
+unheard_frame_is_overcome = refl
+
+-- the reply to it is lost: it was taken, and is not acknowledged
+lost_reply_is_overcome_events : List Event
+lost_reply_is_overcome_events =
+    Start ((0x41 ∷ []) ∷ [])
+    ∷ Deliver
+    ∷ Reply
+    ∷ (lost_events reply_is_lost [] ++ emptying_events (comes_without_room ∷ []) ++ next_letter_events)
+
+lost_reply_is_overcome :
+    (world 240 lost_reply_is_overcome_events).sessions
+    ≡ unheard_letter 0x41
+    ∷ done_letter 0x42
+    ∷ []
+unfolding signal_after open_stretch stretch_fault session_frames pieces frame_bytes one_letter done_letter unheard_letter next_letter_events lost_reply_is_overcome_events
+lost_reply_is_overcome = refl
+
+-- a busy receiver: the first timer asks for the line once more, the second ends the session; ENQ and EOT are on the link
+busy_receiver_is_overcome_events : List Event
+busy_receiver_is_overcome_events =
+    Busy
+    ∷ Start ((0x41 ∷ []) ∷ [])
+    ∷ Deliver
+    ∷ Reply
+    ∷ (rest_events two_timers ++ emptying_events (comes ∷ comes ∷ []) ++ next_letter_events)
+
+busy_receiver_is_overcome :
+    (world 240 busy_receiver_is_overcome_events).sessions
+    ≡ record (untaken_letter 0x41) { sent = [] }
+    ∷ done_letter 0x42
+    ∷ []
+unfolding signal_after open_stretch stretch_fault session_frames pieces frame_bytes one_letter done_letter unheard_letter untaken_letter next_letter_events busy_receiver_is_overcome_events
+busy_receiver_is_overcome = refl

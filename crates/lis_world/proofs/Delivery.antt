@@ -46,7 +46,7 @@ next_frame limit x before f is_limit sound sent =
     (subst (λ xs. Contains xs f) (sym frames_are) (Contains-append_right before (f ∷ rest) f (contains_head f rest))) in
     record { content = here; number_is = number-session_frames limit x.texts before f rest frames_are }
 
-side_of : (limit : ℕ) (w : World) → Holds limit w → IsSide limit (desk_of w)
+pub side_of : (limit : ℕ) (w : World) → Holds limit w → IsSide limit (desk_of w)
 side_of limit w h = record { sound = h.sound; line = h.line; no_reply = refl }
 
 -- bytes with these signals
@@ -59,7 +59,7 @@ left_by_signals limit s load bytes d signals are left =
     subst (IsLeft limit s load d) (sym (hears-heard limit s bytes d))
     (subst (λ xs. IsLeft limit s load d (at_past (stream_with d.receiver.past bytes) (hears_signals s xs d))) (sym are) left)
 
-left_delivered :
+pub left_delivered :
     (limit s : ℕ) (load : Load) (d : Desk)
     → IsLimit limit
     → IsSide limit d
@@ -125,7 +125,7 @@ left_damaged limit s load bytes d side noticed = go (noticed_cases load (signals
         (subst (λ l. IsLeft limit s l d (at_past (stream_with d.receiver.past bytes) (hears_signals {limit = limit} s (Bad one.1 ∷ []) d))) (sym one.2)
         (left_bad limit s one.0 one.1 (stream_with d.receiver.past bytes) d side))
 
-leads_of : (limit : ℕ) (w : World) (u : Travelling) (us : List Travelling) → Holds limit w → w.units ≡ u ∷ us → Leads w.sessions w.receiver.is_open w.opened u.session u.load
+pub leads_of : (limit : ℕ) (w : World) (u : Travelling) (us : List Travelling) → Holds limit w → w.units ≡ u ∷ us → Leads w.sessions w.receiver.is_open w.opened u.session u.load
 leads_of limit w u us h units_are = (subst (Front w.sessions w.receiver.is_open w.opened) units_are h.front).0
 
 pub delivered_holds : (limit : ℕ) (units : List Travelling) (w : World) → IsLimit limit → w.units ≡ units → Holds limit w → Holds limit (delivered limit units w)

@@ -16,5 +16,8 @@ pub mod Starting
 pub mod Safety
 pub mod Fitting
 pub mod Rounds
+pub mod Room
 pub mod Carrying
+pub mod Recovering
+pub mod Overcoming
 pub mod PlayingLaws

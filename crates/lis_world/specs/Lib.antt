@@ -5,5 +5,6 @@ pub mod World
 pub mod Steps
 pub mod Safe
 pub mod Progress
+pub mod Recovery
 pub mod Loads
 pub mod Playing

@@ -1,5 +1,5 @@
 -- When a session is carried through: enough undisturbed rounds, and never six disturbed ones in a row.
-use Rattle.std.specs.Prelude.{◌≡◌, ◌≢◌, ℕ, zero, suc, ◌<◌, ◌≤◌, Bool, true, false, List, [], ◌∷◌, ◌++◌, length, None, Some, All, ◌==◌, ◌||◌}
+use Rattle.std.specs.Prelude.{◌≡◌, ◌≢◌, ℕ, zero, suc, ◌<◌, ◌≤◌, Bool, false, List, [], ◌∷◌, ◌++◌, length, None, Some, All, ◌==◌, ◌||◌}
 use Rattle.lis_text.specs.Control.{STX, EOT, ENQ, ACK, LF}
 use Rattle.lis_frame.specs.declared.frame.FrameFault.{FrameFault}
 use Rattle.lis_text.specs.LinkText.{most_texts}
@@ -65,13 +65,11 @@ FewInARow row [] = Unit {0}
 FewInARow row (undisturbed ∷ rounds) = FewInARow 0 rounds
 FewInARow row (round ∷ rounds) = (suc row < most_tries) × FewInARow (suc row) rounds
 
--- nothing is on the link, no session goes on, and the receiver is ready and has room
+-- no unit is on the link, no session goes on, and the receiver is ready
 pub record IsCalm (w : World) : Type 0 where
   pub no_unit : w.units ≡ []
-  pub no_reply : w.replies ≡ []
   pub neutral : w.sender.phase ≡ Neutral
   pub ready : w.receiver.readiness ≡ Readinesses.Ready
-  pub room : w.receiver.room ≡ true
 
 -- one session
 abbrev pub session_events : List (List ℕ) → List Round → List Event

@@ -3,6 +3,7 @@
 ghost use Rattle.lis_frame.specs.Limit.{IsLimit};
 ghost use Rattle.lis_world.specs.Safe.{AlwaysSafe};
 ghost use Rattle.lis_world.specs.Progress.{RunsQuietly, CarriesThrough};
+ghost use Rattle.lis_world.specs.Recovery.{OvercomesLoss, Recovers, RecoversQuietly};
 
 /// Over every list of events each session is safe: what was accepted was sent, what was
 /// acknowledged was accepted, and what was handed out are the session's texts, whole and in order;
@@ -41,4 +42,34 @@ pub fn carries_through_of<const N: usize>()
 /// The same with the usual limit on a frame's text.
 pub fn carries_through()
     ensures { CarriesThrough 240 }
+{}
+
+/// No state of the two ends blocks the line for good: after whatever events, once the sender was restarted or its timer
+/// ran out twice, each unit on its way has come or was lost, and the receiver is ready, a session is carried
+/// through if it has enough rounds, and an undisturbed one is (LIS01-A2, 6.2 to 6.6). At every limit on a frame's text.
+pub fn recovers_of<const N: usize>()
+    requires { IsLimit N }
+    ensures enough { Recovers N }
+    ensures undisturbed { RecoversQuietly N }
+{}
+
+/// The same with the usual limit on a frame's text.
+pub fn recovers()
+    ensures enough { Recovers 240 }
+    ensures undisturbed { RecoversQuietly 240 }
+{}
+
+/// Where the sender awaits the reply to the one unit on the link, and that ENQ or frame is lost or comes as bytes that
+/// give no signal, or the reply is lost, nothing but the sender's timer and its restart ends the wait. The timer ends
+/// the session as timed out, with what was acknowledged before, and with an EOT; once that has come or was lost too,
+/// and the receiver is ready, the next session is carried through (LIS01-A2, 6.5 and 6.6). At every limit on a frame's
+/// text.
+pub fn overcomes_loss_of<const N: usize>()
+    requires { IsLimit N }
+    ensures { OvercomesLoss N }
+{}
+
+/// The same with the usual limit on a frame's text.
+pub fn overcomes_loss()
+    ensures { OvercomesLoss 240 }
 {}

@@ -1,9 +1,11 @@
 //! Playing events.
 
-ghost use Rattle.std.specs.Prelude.{◌≡◌, IfOk, All};
+ghost use Rattle.std.specs.Prelude.{◌≡◌, ℕ, List, [], ◌∷◌, IfOk, All};
 ghost use Rattle.lis_frame.specs.Limit.{IsLimit};
+ghost use Rattle.lis_world.specs.Progress.{AreSendable, done_session, quiet_events};
 ghost use Rattle.lis_world.specs.Safe.{IsSafe, HandsOutAll};
 ghost use Rattle.lis_world.specs.Steps.{world};
+ghost use Rattle.lis_world.specs.World.{new_world};
 
 use crate::event::Events;
 use crate::run::RunOf;
@@ -26,12 +28,15 @@ pub type HistoryOf<const N: usize> = List<SessionOf<N>>;
 pub type History = HistoryOf<240>;
 
 /// Plays events on a link between a new sender and a new receiver, and answers what became of each
-/// session: exactly what the definition of the link says. The one fault is want of memory.
+/// session: exactly what the definition of the link says. An undisturbed session, alone, is done. The one
+/// fault is want of memory.
 pub fn play_of<const N: usize>(alloc: Global, events: Events) -> Result<HistoryOf<N>, PlayFault>
     requires { IsLimit N }
     ensures world { IfOk result (λ history. history ≡ (world N events).sessions) }
     ensures safe { IfOk result (λ history. All (IsSafe N) history) }
     ensures done { IfOk result (λ history. All HandsOutAll history) }
+    ensures quiet { IfOk result (λ history. (texts : List (List ℕ)) → AreSendable new_world texts →
+        events ≡ quiet_events N texts → history ≡ done_session N texts ∷ []) }
 {
     let Ok(mut run) = RunOf::<N>::new(alloc) else {
         return Err(PlayFault::OutOfMemory);
@@ -50,6 +55,8 @@ pub fn play(alloc: Global, events: Events) -> Result<History, PlayFault>
     ensures world { IfOk result (λ history. history ≡ (world 240 events).sessions) }
     ensures safe { IfOk result (λ history. All (IsSafe 240) history) }
     ensures done { IfOk result (λ history. All HandsOutAll history) }
+    ensures quiet { IfOk result (λ history. (texts : List (List ℕ)) → AreSendable new_world texts →
+        events ≡ quiet_events 240 texts → history ≡ done_session 240 texts ∷ []) }
 {
     play_of(alloc, events)
 }

@@ -1,10 +1,12 @@
-use Rattle.std.proofs.Common.{refl}
-use Rattle.lis_frame.specs.Frame.{frame_bytes}
+use Rattle.std.proofs.Common.{refl, subst, sym}
+use Rattle.std.specs.Prelude.{ℕ, List}
+use Rattle.lis_frame.specs.Frame.{IsFrame, frame_bytes}
+use Rattle.lis_frame.proofs.FrameLaws.{IsFrame-frame_bytes}
 use Rattle.lis_frame.proofs.write.frame_bytes_of.Goals as goal
 
-pub returns : goal.returns
+pub returns-clause-bytes : goal.returns-clause-bytes
 unfolding frame_bytes
-returns g c =
+returns-clause-bytes g c =
     rw (
       c.append-2.ensures,
       c.append.ensures,
@@ -21,3 +23,8 @@ returns g c =
       c.number.ensures.value,
     )
     refl
+
+pub returns-clause-frame : goal.returns-clause-frame
+returns-clause-frame g c =
+    subst (λ (bytes : List ℕ). IsFrame g.row.N bytes c.args.frame.now) (sym (returns-clause-bytes g c))
+    (IsFrame-frame_bytes g.row.N c.args.frame.now c.number.ensures.content)

@@ -1,8 +1,9 @@
-use Rattle.std.proofs.Common.{◌≡◌, All, IsOk, rules, arith, sym, ◌∙◌, subst}
+use Rattle.std.proofs.Common.{◌≡◌, ap, All, IsOk, rules, arith, sym, ◌∙◌, subst}
 use Rattle.std.proofs.lemmas.List.{nil_from_length}
 use Rattle.lis_world.specs.Safe.{IsSafe, HandsOutAll}
 use Rattle.lis_world.specs.Steps.{world}
 use Rattle.lis_world.proofs.Safety.{always_safe}
+use Rattle.lis_world.proofs.Carrying.{runs_quietly}
 use Rattle.lis_world.proofs.PlayingLaws.{playing_next, played}
 use Rattle.lis_world.proofs.playing.play_of.Goals as goal
 
@@ -26,3 +27,10 @@ returns-clause-done g c =
     let all : c.from_vec.result ≡ (world g.row.N c.args.events).sessions =
     c.from_vec.ensures ∙ c.into_sessions.ensures ∙ played g.row.N c.loop-event.run c.loop-event.left.items _ c.loop-event.invariant none in
     subst (All HandsOutAll) (sym all) (always_safe g.row.N c.requires c.args.events).1
+
+pub returns-clause-quiet : goal.returns-clause-quiet
+returns-clause-quiet g c = λ texts sendable are.
+    let none = nil_from_length c.loop-event.left.items (omega (arith, c.in_default-pop_front.ensures.cases.0, c.loop-event.left.ok.0)) in
+    let all : c.from_vec.result ≡ (world g.row.N c.args.events).sessions =
+    c.from_vec.ensures ∙ c.into_sessions.ensures ∙ played g.row.N c.loop-event.run c.loop-event.left.items _ c.loop-event.invariant none in
+    all ∙ ap (λ events. (world g.row.N events).sessions) are ∙ (runs_quietly g.row.N c.requires texts sendable).sessions_are

@@ -1,0 +1,261 @@
+-- The reason by the place of the next record is that in the standard's words.
+use Rattle.std.proofs.Common.{◌≡◌, ◌≢◌, ◌⊎◌, inl, inr, List, [], ◌∷◌, ◌++◌, Option, Some, None, refl, sym, ◌∙◌, ap, subst}
+use Rattle.lis_field.specs.declared.kinds.Kind.{Kind}
+use Rattle.lis_field.specs.declared.kinds.Kind.TheVariants as kinds
+use Rattle.lis_tree.specs.declared.fault.Reason.{Reason}
+use Rattle.lis_tree.specs.declared.fault.Reason.TheVariants as reasons
+use Rattle.lis_tree.specs.Hierarchy.{HasParent, IsViable}
+use Rattle.lis_tree.specs.Level.{Level, outside, in_header, in_patient, in_order, in_query, closed, next_level, level_after, misplaced, StandsFrom}
+use Rattle.lis_tree.specs.Refusing.{IsClosed, IsRefusedFor}
+use Rattle.lis_tree.proofs.Levels.{level_append, stands_append, stands_back, header_first, nothing_closed}
+use Rattle.lis_tree.proofs.Viable.{from_viable, viable_from, parent_from, place_from, begun_after, in_header_at}
+
+-- ---- a message is closed exactly behind its closing record
+
+closes : (l : Level) (k : Kind) → l ≢ closed → next_level l k ≡ closed → k ≡ kinds.L
+closes l kinds.H u e = absurd cc
+closes l kinds.P u e = absurd cc
+closes l kinds.O u e = absurd cc
+closes l kinds.R u e = absurd (u e)
+closes l kinds.C u e = absurd (u e)
+closes l kinds.Q u e = absurd cc
+closes l kinds.M u e = absurd (u e)
+closes l kinds.S u e = absurd (u e)
+closes l kinds.L u e = refl
+
+closed_last : (l : Level) (ks : List Kind) → StandsFrom l ks → l ≢ closed → level_after l ks ≡ closed → IsClosed ks
+closed_last l [] s u e = absurd (u e)
+closed_last l (k ∷ []) s u e = ([], ap (λ j. j ∷ []) (closes l k u e))
+closed_last l (k ∷ j ∷ ks) s u e =
+    let rest =
+    closed_last (next_level l k) (j ∷ ks) s.1 (λ c. nothing_closed j (subst (λ m. misplaced m j ≡ None) c s.1.0)) e in
+    (k ∷ rest.0, ap (λ xs. k ∷ xs) rest.1)
+
+last_closed : (before : List Kind) → IsClosed before → level_after outside before ≡ closed
+last_closed before is = ap (level_after outside) is.1 ∙ level_append outside is.0 (kinds.L ∷ [])
+
+-- ---- outside a message
+
+outside_refuses :
+    (k : Kind) (reason : Reason) → misplaced outside k ≡ Some reason
+    → (reason ≡ reasons.NotHeader) × (k ≢ kinds.H)
+outside_refuses kinds.H reason e = absurd cc
+outside_refuses kinds.P reason e = (cc, λ h. cc)
+outside_refuses kinds.O reason e = (cc, λ h. cc)
+outside_refuses kinds.R reason e = (cc, λ h. cc)
+outside_refuses kinds.C reason e = (cc, λ h. cc)
+outside_refuses kinds.Q reason e = (cc, λ h. cc)
+outside_refuses kinds.M reason e = (cc, λ h. cc)
+outside_refuses kinds.S reason e = (cc, λ h. cc)
+outside_refuses kinds.L reason e = (cc, λ h. cc)
+
+outside_refused : (k : Kind) → k ≢ kinds.H → misplaced outside k ≡ Some reasons.NotHeader
+outside_refused kinds.H h = absurd (h refl)
+outside_refused kinds.P h = refl
+outside_refused kinds.O h = refl
+outside_refused kinds.R h = refl
+outside_refused kinds.C h = refl
+outside_refused kinds.Q h = refl
+outside_refused kinds.M h = refl
+outside_refused kinds.S h = refl
+outside_refused kinds.L h = refl
+
+-- ---- behind a header
+
+-- a second header; a record behind the closing one; or one that has no parent
+abbrev IsInsideReason : Level → Kind → Reason → Type 0
+IsInsideReason l k reason =
+    ((k ≡ kinds.H) × (reason ≡ reasons.SecondHeader))
+    ⊎ (((k ≢ kinds.H) × (l ≡ closed) × (reason ≡ reasons.NotHeader))
+    ⊎ ((k ≢ kinds.H) × (l ≢ closed) × (reason ≡ reasons.NoParent k)))
+
+inside_refuses :
+    (l : Level) (k : Kind) (reason : Reason) → l ≢ outside → misplaced l k ≡ Some reason
+    → IsInsideReason l k reason
+inside_refuses outside k reason o e = absurd (o refl)
+inside_refuses in_header kinds.H reason o e = inl (refl, cc)
+inside_refuses in_header kinds.P reason o e = absurd cc
+inside_refuses in_header kinds.O reason o e = inr (inr (λ h. cc, λ c. cc, cc))
+inside_refuses in_header kinds.R reason o e = inr (inr (λ h. cc, λ c. cc, cc))
+inside_refuses in_header kinds.C reason o e = absurd cc
+inside_refuses in_header kinds.Q reason o e = absurd cc
+inside_refuses in_header kinds.M reason o e = absurd cc
+inside_refuses in_header kinds.S reason o e = absurd cc
+inside_refuses in_header kinds.L reason o e = absurd cc
+inside_refuses in_patient kinds.H reason o e = inl (refl, cc)
+inside_refuses in_patient kinds.P reason o e = absurd cc
+inside_refuses in_patient kinds.O reason o e = absurd cc
+inside_refuses in_patient kinds.R reason o e = inr (inr (λ h. cc, λ c. cc, cc))
+inside_refuses in_patient kinds.C reason o e = absurd cc
+inside_refuses in_patient kinds.Q reason o e = absurd cc
+inside_refuses in_patient kinds.M reason o e = absurd cc
+inside_refuses in_patient kinds.S reason o e = absurd cc
+inside_refuses in_patient kinds.L reason o e = absurd cc
+inside_refuses in_order kinds.H reason o e = inl (refl, cc)
+inside_refuses in_order kinds.P reason o e = absurd cc
+inside_refuses in_order kinds.O reason o e = absurd cc
+inside_refuses in_order kinds.R reason o e = absurd cc
+inside_refuses in_order kinds.C reason o e = absurd cc
+inside_refuses in_order kinds.Q reason o e = absurd cc
+inside_refuses in_order kinds.M reason o e = absurd cc
+inside_refuses in_order kinds.S reason o e = absurd cc
+inside_refuses in_order kinds.L reason o e = absurd cc
+inside_refuses in_query kinds.H reason o e = inl (refl, cc)
+inside_refuses in_query kinds.P reason o e = absurd cc
+inside_refuses in_query kinds.O reason o e = inr (inr (λ h. cc, λ c. cc, cc))
+inside_refuses in_query kinds.R reason o e = inr (inr (λ h. cc, λ c. cc, cc))
+inside_refuses in_query kinds.C reason o e = absurd cc
+inside_refuses in_query kinds.Q reason o e = absurd cc
+inside_refuses in_query kinds.M reason o e = absurd cc
+inside_refuses in_query kinds.S reason o e = absurd cc
+inside_refuses in_query kinds.L reason o e = absurd cc
+inside_refuses closed kinds.H reason o e = inl (refl, cc)
+inside_refuses closed kinds.P reason o e = inr (inl (λ h. cc, refl, cc))
+inside_refuses closed kinds.O reason o e = inr (inl (λ h. cc, refl, cc))
+inside_refuses closed kinds.R reason o e = inr (inl (λ h. cc, refl, cc))
+inside_refuses closed kinds.C reason o e = inr (inl (λ h. cc, refl, cc))
+inside_refuses closed kinds.Q reason o e = inr (inl (λ h. cc, refl, cc))
+inside_refuses closed kinds.M reason o e = inr (inl (λ h. cc, refl, cc))
+inside_refuses closed kinds.S reason o e = inr (inl (λ h. cc, refl, cc))
+inside_refuses closed kinds.L reason o e = inr (inl (λ h. cc, refl, cc))
+
+header_refused : (l : Level) → l ≢ outside → misplaced l kinds.H ≡ Some reasons.SecondHeader
+header_refused outside o = absurd (o refl)
+header_refused in_header o = refl
+header_refused in_patient o = refl
+header_refused in_order o = refl
+header_refused in_query o = refl
+header_refused closed o = refl
+
+closed_refused : (k : Kind) → k ≢ kinds.H → misplaced closed k ≡ Some reasons.NotHeader
+closed_refused kinds.H h = absurd (h refl)
+closed_refused kinds.P h = refl
+closed_refused kinds.O h = refl
+closed_refused kinds.R h = refl
+closed_refused kinds.C h = refl
+closed_refused kinds.Q h = refl
+closed_refused kinds.M h = refl
+closed_refused kinds.S h = refl
+closed_refused kinds.L h = refl
+
+some_not_none : {A : Type 0} (x : A) (o : Option A) → o ≡ Some x → o ≡ None → ⊥
+some_not_none x o some none = cc
+
+cons_not_nil : (k : Kind) (ks : List Kind) → k ∷ ks ≢ []
+cons_not_nil k ks e = cc
+
+-- ---- each way, behind records that stand
+
+-- what they lead to is the place behind a header
+record IsBehindHeader (b : Kind) (ks : List Kind) : Type 0 where
+  is_header : b ≡ kinds.H
+  placed : StandsFrom in_header ks
+  level_is : level_after outside (b ∷ ks) ≡ level_after in_header ks
+  begun : level_after outside (b ∷ ks) ≢ outside
+
+behind_header : (b : Kind) (ks : List Kind) → StandsFrom outside (b ∷ ks) → IsBehindHeader b ks
+behind_header b ks s =
+    let is = header_first b s.0 in
+    let goes : next_level outside b ≡ in_header = in_header_at b is in
+    let level : level_after outside (b ∷ ks) ≡ level_after in_header ks = ap (λ l. level_after l ks) goes in
+    record {
+      is_header = is;
+      placed = subst (λ l. StandsFrom l ks) goes s.1;
+      level_is = level;
+      begun = λ e. begun_after in_header ks (λ x. cc) (sym level ∙ e);
+    }
+
+told_by :
+    (b : Kind) (ks : List Kind) (k : Kind) (reason : Reason) → StandsFrom outside (b ∷ ks)
+    → misplaced (level_after outside (b ∷ ks)) k ≡ Some reason
+    → IsInsideReason (level_after outside (b ∷ ks)) k reason → IsRefusedFor (b ∷ ks) k reason
+told_by b ks k reason s e (inl second) =
+    subst (IsRefusedFor (b ∷ ks) k) (sym second.1) (second.0, cons_not_nil b ks)
+told_by b ks k reason s e (inr (inl behind)) =
+    subst (IsRefusedFor (b ∷ ks) k) (sym behind.2) (behind.0, inr (closed_last outside (b ∷ ks) s (λ x. cc) behind.1))
+told_by b ks k reason s e (inr (inr none)) =
+    let header = behind_header b ks s in
+    subst (IsRefusedFor (b ∷ ks) k) (sym none.2) (
+      refl,
+      cons_not_nil b ks,
+      λ last. none.1 (last_closed (b ∷ ks) last),
+      λ parent. some_not_none reason (misplaced (level_after outside (b ∷ ks)) k) e
+          (ap (λ l. misplaced l k) header.level_is
+          ∙ place_from ks k header.placed (λ c. none.1 (header.level_is ∙ c)) none.0 (subst (λ h. HasParent (h ∷ ks) k) header.is_header parent)),
+    )
+
+told :
+    (before : List Kind) (k : Kind) (reason : Reason) → StandsFrom outside before
+    → misplaced (level_after outside before) k ≡ Some reason → IsRefusedFor before k reason
+told [] k reason s e =
+    let why = outside_refuses k reason e in
+    subst (IsRefusedFor [] k) (sym why.0) (why.1, inl refl)
+told (b ∷ ks) k reason s e =
+    told_by b ks k reason s e (inside_refuses (level_after outside (b ∷ ks)) k reason (behind_header b ks s).begun e)
+
+-- a record without its parent is refused for that
+no_parent_refused :
+    (b : Kind) (ks : List Kind) (k : Kind) (found : Option Reason)
+    → StandsFrom outside (b ∷ ks)
+    → (IsClosed (b ∷ ks) → ⊥)
+    → (HasParent (b ∷ ks) k → ⊥)
+    → misplaced (level_after outside (b ∷ ks)) k ≡ found
+    → found ≡ Some (reasons.NoParent k)
+no_parent_refused b ks k None s unclosed orphan is =
+    let header = behind_header b ks s in
+    absurd (orphan (subst (λ h. HasParent (h ∷ ks) k) (sym header.is_header)
+    (parent_from ks k header.placed (sym (ap (λ l. misplaced l k) header.level_is) ∙ is))))
+no_parent_refused b ks k (Some reason) s unclosed orphan is =
+    go (inside_refuses (level_after outside (b ∷ ks)) k reason (behind_header b ks s).begun is)
+  where
+    go : IsInsideReason (level_after outside (b ∷ ks)) k reason → Some reason ≡ Some (reasons.NoParent k)
+    go (inl second) = absurd (orphan (subst (HasParent (b ∷ ks)) (sym second.0) tt))
+    go (inr (inl behind)) = absurd (unclosed (closed_last outside (b ∷ ks) s (λ x. cc) behind.1))
+    go (inr (inr none)) = ap Some none.2
+
+refused :
+    (before : List Kind) (k : Kind) (reason : Reason) → StandsFrom outside before → IsRefusedFor before k reason
+    → misplaced (level_after outside before) k ≡ Some reason
+refused [] k reasons.NotHeader s why = outside_refused k why.0
+refused [] k reasons.SecondHeader s why = absurd (why.1 refl)
+refused [] k (reasons.NoParent kind) s why = absurd (why.1 refl)
+refused [] k (reasons.BadRecord fault) s why = absurd why
+refused [] k reasons.Unfinished s why = absurd why
+refused [] k reasons.RecordTooLong s why = absurd why
+refused [] k reasons.OutOfMemory s why = absurd why
+refused (b ∷ ks) k reasons.NotHeader s why = go why.1
+  where
+    go : ((b ∷ ks) ≡ []) ⊎ IsClosed (b ∷ ks) → misplaced (level_after outside (b ∷ ks)) k ≡ Some reasons.NotHeader
+    go (inl none) = absurd (cons_not_nil b ks none)
+    go (inr last) = ap (λ l. misplaced l k) (last_closed (b ∷ ks) last) ∙ closed_refused k why.0
+refused (b ∷ ks) k reasons.SecondHeader s why =
+    ap (misplaced (level_after outside (b ∷ ks))) why.0 ∙ header_refused (level_after outside (b ∷ ks)) (behind_header b ks s).begun
+refused (b ∷ ks) k (reasons.NoParent kind) s why =
+    no_parent_refused b ks k (misplaced (level_after outside (b ∷ ks)) k) s why.2 why.3 refl ∙ ap (λ j. Some (reasons.NoParent j)) (sym why.0)
+refused (b ∷ ks) k (reasons.BadRecord fault) s why = absurd why
+refused (b ∷ ks) k reasons.Unfinished s why = absurd why
+refused (b ∷ ks) k reasons.RecordTooLong s why = absurd why
+refused (b ∷ ks) k reasons.OutOfMemory s why = absurd why
+
+-- ---- over what is viable
+
+pub told_viable :
+    (before : List Kind) (k : Kind) (reason : Reason) → IsViable before
+    → misplaced (level_after outside before) k ≡ Some reason → IsRefusedFor before k reason
+told_viable before k reason v = told before k reason (from_viable before v)
+
+pub refused_viable :
+    (before : List Kind) (k : Kind) (reason : Reason) → IsViable before → IsRefusedFor before k reason
+    → misplaced (level_after outside before) k ≡ Some reason
+refused_viable before k reason v = refused before k reason (from_viable before v)
+
+pub taken_viable :
+    (before : List Kind) (k : Kind) → IsViable before → misplaced (level_after outside before) k ≡ None
+    → IsViable (before ++ k ∷ [])
+taken_viable before k v e =
+    viable_from (before ++ k ∷ []) (stands_append outside before (k ∷ []) (from_viable before v) (e, tt))
+
+pub viable_taken :
+    (before : List Kind) (k : Kind) → IsViable (before ++ k ∷ [])
+    → misplaced (level_after outside before) k ≡ None
+viable_taken before k v = (stands_back outside before (k ∷ []) (from_viable (before ++ k ∷ []) v)).0

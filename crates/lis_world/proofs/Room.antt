@@ -1,0 +1,158 @@
+-- The receiver has room before each event and after it.
+use Rattle.std.proofs.Common.{◌≡◌, ℕ, Bool, true, false, List, [], ◌∷◌, Option, None, Some, refl, ap, ◌∙◌}
+use Rattle.std.specs.Prelude.{◌==◌, ◌||◌}
+use Rattle.std.proofs.lemmas.Bool.{cond_both}
+use Rattle.lis_text.specs.Control.{EOT, ACK}
+use Rattle.lis_frame.specs.declared.scanner.SignalOf.{SignalOf}
+use Rattle.lis_frame.specs.declared.scanner.SignalOf.TheVariants.{Enq, Eot, Good, Bad}
+use Rattle.lis_frame.specs.Frame.{FrameContent}
+use Rattle.lis_frame.specs.Stream.{signal_after, signals_after}
+use Rattle.lis_link.specs.declared.sender.Phase.{Phase}
+use Rattle.lis_link.specs.declared.sender.Phase.TheVariants as Phases
+use Rattle.lis_link.specs.declared.sender.EmitOf.{EmitOf}
+use Rattle.lis_link.specs.declared.sender.EmitOf.TheVariants as Emits
+use Rattle.lis_link.specs.declared.sender.StartFault.{StartFault}
+use Rattle.lis_link.specs.declared.receiver.Readiness.{Readiness}
+use Rattle.lis_link.specs.declared.receiver.Readiness.TheVariants as Readinesses
+use Rattle.lis_link.specs.declared.receiver.Note.{Note}
+use Rattle.lis_link.specs.declared.receiver.Note.TheVariants.{Quiet}
+use Rattle.lis_link.specs.Sender.{on_reply, on_sender_timer, start_fault}
+use Rattle.lis_link.specs.Receiver.{ReceiverState, ReceiverStep, bid_with, judged, on_judged, heard_by, heard, on_byte, timer_by}
+use Rattle.lis_world.specs.declared.event.Event.{Event}
+use Rattle.lis_world.specs.declared.event.Event.TheVariants.{Start, Deliver, DeliverNoRoom, Damage, Lose, Reply, DamageReply, LoseReply, SenderTimer, ReceiverTimer, RestartSender, RestartReceiver, Ready, Busy, Contending}
+use Rattle.lis_world.specs.Unit.{Travelling, load_bytes}
+use Rattle.lis_world.specs.World.{World, Desk, desk_of, noted, booked, hears, settled}
+use Rattle.lis_world.specs.Steps.{emitted, with_sender, sender_steps, begins, delivered, delivered_no_room, is_noticed, damaged, lost, replied, reply_damaged, reply_lost, given_up, after_event, runs}
+
+-- a step of the receiver leaves the room as it is
+room-bid : (readiness : Readiness) (r : ReceiverState) → (bid_with readiness r).after.room ≡ r.room
+room-bid Readinesses.Ready r = refl
+room-bid _ r = refl
+
+room-judged : (r : ReceiverState) (frame : FrameContent) (note : Note) → (on_judged r frame note).after.room ≡ r.room
+room-judged r frame Quiet = refl
+room-judged r frame _ = refl
+
+room-signal :
+    {limit : ℕ} (is_open : Bool) (signal : SignalOf limit) (r : ReceiverState)
+    → (heard_by is_open signal r).after.room ≡ r.room
+room-signal true Enq r = room-bid r.readiness r
+room-signal true Eot r = refl
+room-signal true (Good frame) r = room-judged r frame (judged r frame)
+room-signal true (Bad fault) r = refl
+room-signal false Enq r = room-bid r.readiness r
+room-signal false Eot r = refl
+room-signal false (Good frame) r = refl
+room-signal false (Bad fault) r = refl
+
+room-heard : {limit : ℕ} (signal : Option (SignalOf limit)) (r : ReceiverState) → (heard signal r).after.room ≡ r.room
+room-heard None r = refl
+room-heard (Some signal) r = room-signal r.is_open signal r
+
+receiver-noted : (s : ℕ) (step : ReceiverStep) (note : Note) (d : Desk) → (noted s step note d).receiver ≡ step.after
+receiver-noted s step Quiet d = refl
+receiver-noted s step _ d = refl
+
+room-hears : (limit s : ℕ) (bytes : List ℕ) (d : Desk) → (hears limit s bytes d).receiver.room ≡ d.receiver.room
+room-hears limit s [] d = refl
+room-hears limit s (b ∷ bytes) d =
+    let step : ReceiverStep = on_byte limit b d.receiver in
+    room-hears limit s bytes (booked s step d)
+    ∙ ap (λ (r : ReceiverState). r.room) (receiver-noted s step step.note d)
+    ∙ room-heard (signal_after limit d.receiver.past b) (record d.receiver { past = b ∷ d.receiver.past })
+
+room-timer : (is_open : Bool) (r : ReceiverState) → (timer_by is_open r).after.room ≡ r.room
+room-timer true r = refl
+room-timer false r = refl
+
+-- and so does each event
+abbrev HasRoom : World → Type 0
+HasRoom w = w.receiver.room ≡ true
+
+room-delivered : (limit : ℕ) (units : List Travelling) (w : World) → HasRoom w → HasRoom (delivered limit units w)
+room-delivered limit [] w has = has
+room-delivered limit (u ∷ us) w has = room-hears limit u.session (load_bytes u.load) (desk_of w) ∙ has
+
+room-delivered_no_room :
+    (limit : ℕ) (units : List Travelling) (w : World) → HasRoom w → HasRoom (delivered_no_room limit units w)
+room-delivered_no_room limit [] w has = has
+room-delivered_no_room limit (u ∷ us) w has = refl
+
+room-damaged :
+    (limit : ℕ) (bytes : List ℕ) (units : List Travelling) (w : World) → HasRoom w
+    → HasRoom (damaged limit bytes units w)
+room-damaged limit bytes [] w has = has
+room-damaged limit bytes (u ∷ us) w has =
+    cond_both (is_noticed u.load (signals_after limit w.receiver.past bytes)) (settled us (hears limit u.session bytes (desk_of w)) w) w HasRoom
+    (λ noticed. room-hears limit u.session bytes (desk_of w) ∙ has) (λ ignored. has)
+
+room-lost : (units : List Travelling) (w : World) → HasRoom w → HasRoom (lost units w)
+room-lost [] w has = has
+room-lost (u ∷ us) w has = has
+
+room-emitted : {limit : ℕ} (emit : EmitOf limit) (w : World) → HasRoom w → HasRoom (emitted emit w)
+room-emitted Emits.Nothing w has = has
+room-emitted Emits.Enq w has = has
+room-emitted Emits.Eot w has = has
+room-emitted Emits.Nak w has = has
+room-emitted (Emits.Frame frame) w has = has
+
+room-replied : (limit : ℕ) (replies : List ℕ) (w : World) → HasRoom w → HasRoom (replied limit replies w)
+room-replied limit [] w has = has
+room-replied limit (b ∷ replies) w has =
+    let step = on_reply {limit = limit} b w.sender in
+    room-emitted step.emit (with_sender step.after (record w { replies = replies })) has
+
+room-reply_damaged :
+    (limit damage : ℕ) (replies : List ℕ) (w : World) → HasRoom w
+    → HasRoom (reply_damaged limit damage replies w)
+room-reply_damaged limit damage [] w has = has
+room-reply_damaged limit damage (b ∷ replies) w has =
+    let step = on_reply {limit = limit} damage w.sender in
+    cond_both (damage == ACK || damage == EOT) w (sender_steps step (record w { replies = replies })) HasRoom
+    (λ ignored. has) (λ taken. room-emitted step.emit (with_sender step.after (record w { replies = replies })) has)
+
+room-reply_lost : (replies : List ℕ) (w : World) → HasRoom w → HasRoom (reply_lost replies w)
+room-reply_lost [] w has = has
+room-reply_lost (b ∷ replies) w has = has
+
+room-given_up : (phase : Phase) (w : World) → HasRoom w → HasRoom (given_up phase w)
+room-given_up Phases.Neutral w has = has
+room-given_up Phases.AwaitLine w has = has
+room-given_up Phases.Busy w has = has
+room-given_up Phases.Contention w has = has
+room-given_up Phases.AwaitReply w has = has
+
+room-begins :
+    (limit : ℕ) (fault : Option StartFault) (texts : List (List ℕ)) (w : World) → HasRoom w
+    → HasRoom (begins limit fault texts w)
+room-begins limit (Some fault) texts w has = has
+room-begins limit None texts w has = has
+
+pub room_after :
+    (limit : ℕ) (event : Event) (w : World) → w.receiver.room ≡ true
+    → (after_event limit event w).receiver.room ≡ true
+room_after limit (Start texts) w has = room-begins limit (start_fault w.sender texts) texts w has
+room_after limit Deliver w has = room-delivered limit w.units w has
+room_after limit DeliverNoRoom w has = room-delivered_no_room limit w.units w has
+room_after limit (Damage bytes) w has = room-damaged limit bytes w.units w has
+room_after limit Lose w has = room-lost w.units w has
+room_after limit Reply w has = room-replied limit w.replies w has
+room_after limit (DamageReply damage) w has = room-reply_damaged limit damage w.replies w has
+room_after limit LoseReply w has = room-reply_lost w.replies w has
+room_after limit SenderTimer w has =
+    let step = on_sender_timer {limit = limit} w.sender in
+    room-emitted step.emit (with_sender step.after (given_up w.sender.phase w)) (room-given_up w.sender.phase w has)
+room_after limit ReceiverTimer w has = room-timer w.receiver.is_open w.receiver ∙ has
+room_after limit RestartSender w has = has
+room_after limit RestartReceiver w has = refl
+room_after limit Ready w has = has
+room_after limit Busy w has = has
+room_after limit Contending w has = has
+
+pub room_runs :
+    (limit : ℕ) (events : List Event) (w : World) → w.receiver.room ≡ true
+    → (runs limit events w).receiver.room ≡ true
+room_runs limit [] w has = has
+room_runs limit (event ∷ events) w has =
+    room_runs limit events (after_event limit event w) (room_after limit event w has)
