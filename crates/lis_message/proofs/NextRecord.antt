@@ -1,5 +1,6 @@
 -- What a record that comes next is to a reader, by what it keeps of the open message.
-use Rattle.std.proofs.Common.{◌≡◌, ◌≢◌, ℕ, ◌+◌, true, List, [], ◌∷◌, ◌++◌, length, min, Option, Some, None, IfOk, Ok, Err, refl, sym, ◌∙◌, ap, subst, arith, length-append, ◌==◌, inl, inr, is_some}
+use Rattle.std.proofs.Common.{◌≡◌, ◌≢◌, ℕ, ◌+◌, true, List, [], ◌∷◌, ◌++◌, length, min, Option, Some, None}
+use Rattle.std.proofs.Common.{IfOk, Ok, Err, refl, sym, ◌∙◌, ap, subst, arith, length-append, ◌==◌, inl, inr, is_some}
 use Rattle.std.specs.declared.result.Result.{Result}
 use Rattle.std.proofs.lemmas.Bool.{eqb-true}
 use Rattle.lis_field.specs.declared.kinds.Kind.{Kind}
@@ -29,21 +30,31 @@ use Rattle.lis_tree.specs.Standing.{standing_level}
 -- ---- in an open message
 
 module _ (o : Opened) (begun : Begun) (is : o ≡ opened_with begun) (text : List ℕ) where
-  pub inner_fault : (e : RecordFault) → front_refusal true text ≡ None → record_fault o.delimiters text ≡ Some e → refusal (Some begun) text ≡ Some (reasons.BadRecord e)
-  inner_fault e front fault = inner_refused begun text e front (subst (λ (x : Opened). record_fault x.delimiters text ≡ Some e) is fault)
+  pub inner_fault : (e : RecordFault) → front_refusal true text ≡ None → record_fault o.delimiters text ≡ Some e
+      → refusal (Some begun) text ≡ Some (reasons.BadRecord e)
+  inner_fault e front fault =
+      inner_refused begun text e front (subst (λ (x : Opened). record_fault x.delimiters text ≡ Some e) is fault)
 
-  place_here : (kind : Kind) (entry : Lent RecordContent) (why : Option Reason) → kind ≡ entry.content.kind → why ≡ misplaced o.level kind → misplaced (level_of (Some begun)) entry.content.kind ≡ why
-  place_here kind entry why k placed = ap (misplaced (level_of (Some begun))) (sym k) ∙ ap (λ (x : Opened). misplaced x.level kind) (sym is) ∙ sym placed
+  place_here : (kind : Kind) (entry : Lent RecordContent) (why : Option Reason) → kind ≡ entry.content.kind
+      → why ≡ misplaced o.level kind → misplaced (level_of (Some begun)) entry.content.kind ≡ why
+  place_here kind entry why k placed =
+      ap (misplaced (level_of (Some begun))) (sym k) ∙ ap (λ (x : Opened). misplaced x.level kind) (sym is) ∙ sym placed
 
-  pub inner_comes : (entry : Lent RecordContent) (kind : Kind) → entry.delimiters ≡ o.delimiters → IsRecord o.delimiters text entry.content → kind ≡ entry.content.kind → None ≡ misplaced o.level kind
+  pub inner_comes : (entry : Lent RecordContent) (kind : Kind) → entry.delimiters ≡ o.delimiters
+      → IsRecord o.delimiters text entry.content → kind ≡ entry.content.kind → None ≡ misplaced o.level kind
       → ComesNext (Some begun) text entry
   inner_comes entry kind marks rec k placed =
-      inner begun refl (marks ∙ ap (λ (x : Opened). x.delimiters) is) (subst (λ (x : DelimiterBytes). IsRecord x text entry.content) (sym marks) rec) (place_here kind entry None k placed)
+      inner begun refl (marks ∙ ap (λ (x : Opened). x.delimiters) is)
+      (subst (λ (x : DelimiterBytes). IsRecord x text entry.content) (sym marks) rec)
+      (place_here kind entry None k placed)
 
-  pub inner_misplaced : (entry : Lent RecordContent) (kind : Kind) (reason : Reason) → IsRecord o.delimiters text entry.content → entry.content.kind ≢ kinds.H → kind ≡ entry.content.kind
+  pub inner_misplaced : (entry : Lent RecordContent) (kind : Kind) (reason : Reason)
+      → IsRecord o.delimiters text entry.content → entry.content.kind ≢ kinds.H → kind ≡ entry.content.kind
       → Some reason ≡ misplaced o.level kind → refusal (Some begun) text ≡ Some reason
   inner_misplaced entry kind reason rec other k placed =
-      place_refused begun text entry.content reason (subst (λ (x : Opened). IsRecord x.delimiters text entry.content) is rec) other (place_here kind entry (Some reason) k placed)
+      place_refused begun text entry.content reason
+      (subst (λ (x : Opened). IsRecord x.delimiters text entry.content) is rec) other
+      (place_here kind entry (Some reason) k placed)
 
 -- ---- whether a message is open
 
@@ -51,11 +62,13 @@ pub begun_is_open : (left : Option Begun) → is_some (opened_of left) ≡ is_so
 begun_is_open None = refl
 begun_is_open (Some begun) = refl
 
-opened_some : (left : Option Begun) (o : Opened) → Some o ≡ opened_of left → (begun : Begun) × (left ≡ Some begun) × (o ≡ opened_with begun)
+opened_some : (left : Option Begun) (o : Opened) → Some o ≡ opened_of left → (begun : Begun) × (left ≡ Some begun)
+    × (o ≡ opened_with begun)
 opened_some None o e = absurd cc
 opened_some (Some begun) o e = (begun, refl, cc)
 
-pub open_comes : (found : Result (Lent RecordContent) Reason) (now : Option Opened) (o : Opened) (text : List ℕ) → now ≡ Some o
+pub open_comes : (found : Result (Lent RecordContent) Reason) (now : Option Opened) (o : Opened) (text : List ℕ)
+    → now ≡ Some o
     → IfOk found (λ entry. (begun : Begun) → o ≡ opened_with begun → ComesNext (Some begun) text entry)
     → IfOk found (λ entry. (left : Option Begun) → now ≡ opened_of left → ComesNext left text entry)
 open_comes (Ok entry) now o text is comes = λ left e.
@@ -75,8 +88,10 @@ capped_more : (n : ℕ) → min (capped n + 1) 18446744073709551615 ≡ capped (
 capped_more n = omega arith
 
 -- another record leaves the message open, one longer
-pub inner_after : (left : Option Begun) (entry : Lent RecordContent) (d : DelimiterBytes) (o : Opened) (s : Standing) (kind : Kind) (count : ℕ) → Some o ≡ opened_of left → entry.delimiters ≡ d
-    → entry.content.kind ≡ kind → standing_level s ≡ next_level o.level kind → count ≡ min (o.count + 1) 18446744073709551615
+pub inner_after : (left : Option Begun) (entry : Lent RecordContent) (d : DelimiterBytes) (o : Opened)
+    (s : Standing) (kind : Kind) (count : ℕ) → Some o ≡ opened_of left → entry.delimiters ≡ d
+    → entry.content.kind ≡ kind → standing_level s ≡ next_level o.level kind
+    → count ≡ min (o.count + 1) 18446744073709551615
     → Some (record { delimiters = d; level = standing_level s; count = count }) ≡ opened_of (left_after left entry kind)
 inner_after left entry d o s kind count e marks k goes counted =
     let found = opened_some left o e in
@@ -84,37 +99,58 @@ inner_after left entry d o s kind count e marks k goes counted =
     let other : kind ≢ kinds.L = λ l. standing_open s (goes ∙ ap (next_level o.level) l) in
     let longer : List RecordContent = begun.records ++ entry.content ∷ [] in
     let level : standing_level s ≡ level_of (Some (record { delimiters = entry.delimiters; records = longer })) =
-    goes ∙ ap (λ (x : Opened). next_level x.level kind) found.2 ∙ ap (next_level (level_of (Some begun))) (sym k) ∙ sym (level_more begun.records entry.content) in
+    goes ∙ ap (λ (x : Opened). next_level x.level kind) found.2 ∙ ap (next_level (level_of (Some begun))) (sym k)
+    ∙ sym (level_more begun.records entry.content) in
     let counts : count ≡ capped (length longer) =
-    counted ∙ ap (λ (x : Opened). min (x.count + 1) 18446744073709551615) found.2 ∙ capped_more (length begun.records) ∙ ap capped (sym (length-append begun.records (entry.content ∷ []))) in
+    counted ∙ ap (λ (x : Opened). min (x.count + 1) 18446744073709551615) found.2
+    ∙ capped_more (length begun.records) ∙ ap capped (sym (length-append begun.records (entry.content ∷ []))) in
     ap (λ (x : DelimiterBytes). Some (record { delimiters = x; level = standing_level s; count = count })) (sym marks)
     ∙ ap (λ (x : Level). Some (record { delimiters = entry.delimiters; level = x; count = count })) level
-    ∙ ap (λ (x : ℕ). Some (record { delimiters = entry.delimiters; level = level_of (Some (record { delimiters = entry.delimiters; records = longer })); count = x })) counts
+    ∙ ap (λ (x : ℕ). Some
+    (record {
+      delimiters = entry.delimiters;
+      level = level_of
+          (Some (record { delimiters = entry.delimiters; records = longer }));
+      count = x;
+    })) counts
     ∙ ap opened_of (sym (left_after-more (Some begun) entry kind other))
     ∙ ap (λ (x : Option Begun). opened_of (left_after x entry kind)) (sym found.1)
 
 -- ---- a line that is refused
 
-pub line_stopped : (left : Option Begun) (held text behind bytes : List ℕ) (reason : Reason) → LacksReturn text → bytes ≡ text ++ 13 ∷ behind → IsRefusedFor left (held ++ text) reason → IsStopped left held bytes reason
+pub line_stopped : (left : Option Begun) (held text behind bytes : List ℕ) (reason : Reason) → LacksReturn text
+    → bytes ≡ text ++ 13 ∷ behind → IsRefusedFor left (held ++ text) reason → IsStopped left held bytes reason
 line_stopped left held text behind bytes reason lacks whole (inl long) =
     inr (record { text = text; more = 13 ∷ behind; whole = whole; lacks = lacks; refused = inr long })
 line_stopped left held text behind bytes reason lacks whole (inr why) =
-    inr (record { text = text; more = 13 ∷ behind; whole = whole; lacks = lacks; refused = inl (record { rest = behind; ended_by = refl; short = why.1; why = why.0 }) })
+    inr (record {
+      text = text;
+      more = 13 ∷ behind;
+      whole = whole;
+      lacks = lacks;
+      refused = inl
+          (record { rest = behind; ended_by = refl; short = why.1; why = why.0 });
+    })
 
 none_of : (xs : List ℕ) → length xs ≡ 0 → xs ≡ []
 none_of [] none = refl
 none_of (x ∷ xs) none = absurd (omega arith)
 
 -- where nothing was held
-pub whole_stopped : (left : Option Begun) (held text behind bytes : List ℕ) (reason : Reason) → true ≡ (length held == 0) → LacksReturn text → bytes ≡ text ++ 13 ∷ behind → IsRefusedFor left text reason
+pub whole_stopped : (left : Option Begun) (held text behind bytes : List ℕ) (reason : Reason)
+    → true ≡ (length held == 0) → LacksReturn text → bytes ≡ text ++ 13 ∷ behind → IsRefusedFor left text reason
     → IsStopped left held bytes reason
 whole_stopped left held text behind bytes reason empty lacks whole why =
     line_stopped left held text behind bytes reason lacks whole
-    (subst (λ (h : List ℕ). IsRefusedFor left (h ++ text) reason) (sym (none_of held (eqb-true (length held) 0 (sym empty)))) why)
+    (subst (λ (h : List ℕ). IsRefusedFor left (h ++ text) reason)
+    (sym (none_of held (eqb-true (length held) 0 (sym empty)))) why)
 
 -- a record that was found in a text is the one that is known to be it
-pub known_told : (entry : Lent RecordContent) (d : DelimiterBytes) (k : Kind) (text held : List ℕ) → entry ≡ record_in entry.delimiters entry.content.kind text → d ≡ entry.delimiters → k ≡ entry.content.kind → text ≡ held
+pub known_told : (entry : Lent RecordContent) (d : DelimiterBytes) (k : Kind) (text held : List ℕ)
+    → entry ≡ record_in entry.delimiters entry.content.kind text → d ≡ entry.delimiters → k ≡ entry.content.kind
+    → text ≡ held
     → Some (record_in d k held) ≡ Some entry
 known_told entry d k text held is marks kind same =
-    ap (λ (x : DelimiterBytes). Some (record_in x k held)) marks ∙ ap (λ (x : Kind). Some (record_in entry.delimiters x held)) kind
+    ap (λ (x : DelimiterBytes). Some (record_in x k held)) marks
+    ∙ ap (λ (x : Kind). Some (record_in entry.delimiters x held)) kind
     ∙ ap (λ (x : List ℕ). Some (record_in entry.delimiters entry.content.kind x)) (sym same) ∙ ap Some (sym is)

@@ -1,11 +1,13 @@
 -- What a reader of records reads is the stream's cut, and what it refuses is what the stream is refused for.
-use Rattle.std.proofs.Common.{◌≡◌, ℕ, ◌≤◌, ◌<◌, inl, inr, ⊎_elim, List, [], ◌∷◌, ◌++◌, length, Option, Some, refl, sym, ◌∙◌, ap, subst, append_assoc, arith, length-append}
+use Rattle.std.proofs.Common.{◌≡◌, ℕ, ◌≤◌, ◌<◌, inl, inr, ⊎_elim, List, [], ◌∷◌, ◌++◌}
+use Rattle.std.proofs.Common.{length, Option, Some, refl, sym, ◌∙◌, ap, subst, append_assoc, arith, length-append}
 use Rattle.std.specs.Option.{option_to_list}
 use Rattle.lis_field.specs.Shape.{RecordContent}
 use Rattle.lis_message.specs.declared.records.Found.TheVariants as found
-use Rattle.lis_message.specs.Feeding.{Goes, GoesBefore, Stops, StopsIn, next_place}
+use Rattle.lis_message.specs.Feeding.{GoesBefore, Stops, StopsIn, next_place}
 use Rattle.lis_message.specs.Kept.{RecordsState}
-use Rattle.lis_message.specs.Records.{Adds, CantCome, IsReadUpTo, IsStopped, Reads, ReadsOn, ReadsRecord, Refuses, unended}
+use Rattle.lis_message.specs.Records.{Adds, CantCome, IsReadUpTo, IsStopped}
+use Rattle.lis_message.specs.Records.{Reads, ReadsOn, ReadsRecord, Refuses, unended}
 use Rattle.lis_message.specs.Stream.{IsCut, IsRefused, IsRefusedText}
 use Rattle.lis_message.specs.Taking.{ComesNext, Completes, header, inner, left_after}
 use Rattle.lis_message.proofs.Cuts.{cut_hold, cut_taken}
@@ -18,28 +20,40 @@ use Rattle.lis_tree.specs.declared.fault.Reason.TheVariants as reasons
 use Rattle.lis_tree.specs.Begun.{Begun}
 use Rattle.lis_tree.specs.Tree.{MessageTree}
 
-comes_short : (left : Option Begun) (text : List ℕ) (entry : Lent RecordContent) → ComesNext left text entry → length text ≤ RECORD_LIMIT
+comes_short : (left : Option Begun) (text : List ℕ) (entry : Lent RecordContent) → ComesNext left text entry
+    → length text ≤ RECORD_LIMIT
 comes_short left text entry (header l good is kind) = is.short
 comes_short left text entry (inner b l d is placed) = is.short
 
 -- a record is read
-pub cut_read : (before after : RecordsState) (stream : List ℕ) (messages : List MessageTree) (left : Option Begun) (bytes behind : List ℕ) (entry : Lent RecordContent) (message : Option MessageTree)
-    → IsCut stream messages left before.held → (r : ReadsRecord before after left bytes behind entry) → Completes left entry message
-    → IsCut (stream ++ (r.text ++ 13 ∷ [])) (messages ++ option_to_list message) (left_after left entry entry.content.kind) after.held
+pub cut_read : (before after : RecordsState) (stream : List ℕ) (messages : List MessageTree) (left : Option Begun)
+    (bytes behind : List ℕ) (entry : Lent RecordContent) (message : Option MessageTree)
+    → IsCut stream messages left before.held → (r : ReadsRecord before after left bytes behind entry)
+    → Completes left entry message
+    → IsCut (stream ++ (r.text ++ 13 ∷ [])) (messages ++ option_to_list message)
+    (left_after left entry entry.content.kind) after.held
 cut_read before after stream messages left bytes behind entry message c r completes =
-    let longer = cut_hold stream messages left before.held r.text c r.lacks (comes_short left (before.held ++ r.text) entry r.comes) in
-    let next = cut_taken (stream ++ r.text) messages left (before.held ++ r.text) entry message longer r.comes completes in
-    subst (λ h. IsCut (stream ++ (r.text ++ 13 ∷ [])) (messages ++ option_to_list message) (left_after left entry entry.content.kind) h) (sym r.empty)
-    (subst (λ s. IsCut s (messages ++ option_to_list message) (left_after left entry entry.content.kind) []) (append_assoc stream r.text (13 ∷ [])) next)
+    let longer =
+    cut_hold stream messages left before.held r.text c r.lacks
+    (comes_short left (before.held ++ r.text) entry r.comes) in
+    let next =
+    cut_taken (stream ++ r.text) messages left (before.held ++ r.text) entry message longer r.comes completes in
+    subst (λ h. IsCut (stream ++ (r.text ++ 13 ∷ [])) (messages ++ option_to_list message)
+    (left_after left entry entry.content.kind) h) (sym r.empty)
+    (subst (λ s. IsCut s (messages ++ option_to_list message) (left_after left entry entry.content.kind) [])
+    (append_assoc stream r.text (13 ∷ [])) next)
 
 -- bytes are held
-pub cut_held : (before after : RecordsState) (stream : List ℕ) (messages : List MessageTree) (left : Option Begun) (bytes behind : List ℕ)
-    → IsCut stream messages left before.held → ReadsOn before after left bytes behind → IsCut (stream ++ bytes) messages left after.held
+pub cut_held : (before after : RecordsState) (stream : List ℕ) (messages : List MessageTree) (left : Option Begun)
+    (bytes behind : List ℕ)
+    → IsCut stream messages left before.held → ReadsOn before after left bytes behind
+    → IsCut (stream ++ bytes) messages left after.held
 cut_held before after stream messages left bytes behind c r =
     subst (λ h. IsCut (stream ++ bytes) messages left h) (sym r.held)
     (cut_hold stream messages left before.held bytes c r.lacks (subst (λ h. length h ≤ RECORD_LIMIT) r.held r.short))
 
-refused_by : (stream : List ℕ) (messages : List MessageTree) (left : Option Begun) (held bytes : List ℕ) (fault : MessageFault) → IsCut stream messages left held → fault.place ≡ next_place left
+refused_by : (stream : List ℕ) (messages : List MessageTree) (left : Option Begun) (held bytes : List ℕ)
+    (fault : MessageFault) → IsCut stream messages left held → fault.place ≡ next_place left
     → CantCome left held bytes fault.reason → IsRefused (stream ++ bytes) messages fault
 refused_by stream messages left held bytes fault c place cant =
     subst (λ l. IsRefused (stream ++ l) messages fault) (sym cant.whole)
@@ -51,11 +65,13 @@ refused_by stream messages left held bytes fault c place cant =
     cant.refused)
 
 -- a record is refused, or memory is
-pub cut_stops : (stream : List ℕ) (messages : List MessageTree) (left : Option Begun) (held bytes : List ℕ) (fault : MessageFault) → IsCut stream messages left held → fault.place ≡ next_place left
+pub cut_stops : (stream : List ℕ) (messages : List MessageTree) (left : Option Begun) (held bytes : List ℕ)
+    (fault : MessageFault) → IsCut stream messages left held → fault.place ≡ next_place left
     → IsStopped left held bytes fault.reason → Stops (stream ++ bytes) messages fault
 cut_stops stream messages left held bytes fault c place (inl memory) =
     inl (starved stream messages left held bytes fault c place memory.0)
-cut_stops stream messages left held bytes fault c place (inr cant) = inr (refused_by stream messages left held bytes fault c place cant)
+cut_stops stream messages left held bytes fault c place (inr cant) =
+    inr (refused_by stream messages left held bytes fault c place cant)
 
 -- ---- the reader of messages
 
@@ -64,8 +80,10 @@ longer text behind bytes is = omega (arith, ap length is, length-append text (13
 
 -- a record is added
 pub goes_before :
-    (before after : RecordsState) (left next : Option Begun) (bytes behind : List ℕ) (entry : Lent RecordContent) (messages more : List MessageTree)
-    → ReadsRecord before after left bytes behind entry → Adds left entry messages more → next ≡ left_after left entry entry.content.kind
+    (before after : RecordsState) (left next : Option Begun) (bytes behind : List ℕ) (entry : Lent RecordContent)
+    (messages more : List MessageTree)
+    → ReadsRecord before after left bytes behind entry → Adds left entry messages more
+    → next ≡ left_after left entry entry.content.kind
     → GoesBefore (unended left before) messages bytes behind (unended next after) more
 goes_before before after left next bytes behind entry messages more r adds is = record {
   front = r.text ++ 13 ∷ [];
@@ -73,32 +91,32 @@ goes_before before after left next bytes behind entry messages more r adds is = 
   shorter = longer r.text behind bytes r.whole;
   goes = λ past base c.
       subst (λ (l : Option Begun). IsCut (past ++ (r.text ++ 13 ∷ [])) (base ++ more) l after.held) (sym is)
-      (subst (λ (ms : List MessageTree). IsCut (past ++ (r.text ++ 13 ∷ [])) ms (left_after left entry entry.content.kind) after.held)
-      (append_assoc base messages (option_to_list adds.message) ∙ ap (λ (ms : List MessageTree). base ++ ms) (sym adds.added))
+      (subst (λ (ms : List MessageTree). IsCut (past ++ (r.text ++ 13 ∷ [])) ms
+      (left_after left entry entry.content.kind) after.held)
+      (append_assoc base messages (option_to_list adds.message) ∙ ap (λ (ms : List MessageTree). base ++ ms)
+      (sym adds.added))
       (cut_read before after past (base ++ messages) left bytes behind entry adds.message c r adds.completes));
 }
 
--- no record ends
-pub goes_on :
-    (before after : RecordsState) (left : Option Begun) (bytes behind : List ℕ) (messages : List MessageTree)
-    → ReadsOn before after left bytes behind → Goes (unended left before) messages bytes (unended left after) messages
-goes_on before after left bytes behind messages r past base c = cut_held before after past (base ++ messages) left bytes behind c r
-
 -- one is refused
 pub read_stops :
-    (before after : RecordsState) (left : Option Begun) (bytes behind : List ℕ) (fault : MessageFault) (messages : List MessageTree)
+    (before after : RecordsState) (left : Option Begun) (bytes behind : List ℕ) (fault : MessageFault)
+    (messages : List MessageTree)
     → Refuses before after left bytes behind fault → StopsIn (unended left before) messages bytes messages fault
-read_stops before after left bytes behind fault messages r past base c = cut_stops past (base ++ messages) left before.held bytes fault c r.place r.why
+read_stops before after left bytes behind fault messages r past base c =
+    cut_stops past (base ++ messages) left before.held bytes fault c r.place r.why
 
 -- memory is refused
-pub memory_stops : (before : RecordsState) (left : Option Begun) (bytes : List ℕ) (messages more : List MessageTree) (fault : MessageFault)
-    → fault.place ≡ next_place left → (fault.reason ≡ reasons.OutOfMemory) × (more ≡ messages) → StopsIn (unended left before) messages bytes more fault
+pub memory_stops : (before : RecordsState) (left : Option Begun) (bytes : List ℕ) (messages more : List MessageTree)
+    (fault : MessageFault) → fault.place ≡ next_place left → (fault.reason ≡ reasons.OutOfMemory) × (more ≡ messages)
+    → StopsIn (unended left before) messages bytes more fault
 memory_stops before left bytes messages more fault place memory past base c =
     subst (λ (ms : List MessageTree). Stops (past ++ bytes) (base ++ ms) fault) (sym memory.1)
     (inl (starved past (base ++ messages) left before.held bytes fault c place memory.0))
 
 -- the record that was cut is the one that the reader tells
-pub cut_told : (before after : RecordsState) (left : Option Begun) (bytes behind : List ℕ) (entry : Lent RecordContent) → Reads before after left bytes behind found.Held → Some entry ≡ after.cut
+pub cut_told : (before after : RecordsState) (left : Option Begun) (bytes behind : List ℕ)
+    (entry : Lent RecordContent) → Reads before after left bytes behind found.Held → Some entry ≡ after.cut
     → ReadsRecord before after left bytes behind entry
 cut_told before after left bytes behind entry reads told =
     let same : reads.0 ≡ entry = some_one (sym reads.1 ∙ sym told) in
@@ -109,10 +127,12 @@ cut_told before after left bytes behind entry reads told =
 
 -- ---- the law
 
-pub reads_record : (before after : RecordsState) (stream : List ℕ) (messages : List MessageTree) (left : Option Begun) (bytes behind : List ℕ) (entry : Lent RecordContent)
+pub reads_record : (before after : RecordsState) (stream : List ℕ) (messages : List MessageTree)
+    (left : Option Begun) (bytes behind : List ℕ) (entry : Lent RecordContent)
     → IsCut stream messages left before.held → ReadsRecord before after left bytes behind entry
     → (message : Option MessageTree) × Completes left entry message
-    × IsReadUpTo stream bytes behind (messages ++ option_to_list message) (left_after left entry entry.content.kind) after.held
+    × IsReadUpTo stream bytes behind (messages ++ option_to_list message)
+    (left_after left entry entry.content.kind) after.held
 reads_record before after stream messages left bytes behind entry c r =
     let whole = completed left c.texts c.begun (before.held ++ r.text) entry r.comes in (
       whole.0,

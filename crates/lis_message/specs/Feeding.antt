@@ -39,10 +39,12 @@ Stops stream messages fault = IsWantOfMemory stream messages fault ⊎ IsRefused
 -- These bytes lead from what is kept to what is kept then, and add to the messages, whatever came before.
 abbrev pub Goes : Unended → List MessageTree → List ℕ → Unended → List MessageTree → Type 0
 Goes before messages bytes after more =
-    (past : List ℕ) (base : List MessageTree) → IsCut past (base ++ messages) before.left before.held → IsCut (past ++ bytes) (base ++ more) after.left after.held
+    (past : List ℕ) (base : List MessageTree) → IsCut past (base ++ messages) before.left before.held
+    → IsCut (past ++ bytes) (base ++ more) after.left after.held
 
 -- These bytes, up to those behind, lead there; there is one at least.
-pub record GoesBefore (before : Unended) (messages : List MessageTree) (bytes behind : List ℕ) (after : Unended) (more : List MessageTree) : Type 0 where
+pub record GoesBefore (before : Unended) (messages : List MessageTree) (bytes behind : List ℕ) (after : Unended)
+    (more : List MessageTree) : Type 0 where
   pub front : List ℕ
   pub whole : bytes ≡ front ++ behind
   pub shorter : length behind < length bytes
@@ -51,7 +53,8 @@ pub record GoesBefore (before : Unended) (messages : List MessageTree) (bytes be
 -- The reading stops in these bytes, with these messages, whatever came before.
 abbrev pub StopsIn : Unended → List MessageTree → List ℕ → List MessageTree → MessageFault → Type 0
 StopsIn before messages bytes more fault =
-    (past : List ℕ) (base : List MessageTree) → IsCut past (base ++ messages) before.left before.held → Stops (past ++ bytes) (base ++ more) fault
+    (past : List ℕ) (base : List MessageTree) → IsCut past (base ++ messages) before.left before.held
+    → Stops (past ++ bytes) (base ++ more) fault
 
 -- what a reader tells and keeps of a stream
 abbrev pub Reads : List ℕ → List MessageTree → ReaderState → Option MessageFault → Type 0

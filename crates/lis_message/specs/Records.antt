@@ -23,7 +23,8 @@ pub record HasLeft (reader : RecordsState) (left : Option Begun) : Type 0 where
 
 -- What was held and the bytes before the first CR are a record that comes next, and left is then the message with it,
 -- or nothing behind the closing record.
-pub record ReadsRecord (before after : RecordsState) (left : Option Begun) (bytes behind : List ℕ) (entry : Lent RecordContent) : Type 0 where
+pub record ReadsRecord (before after : RecordsState) (left : Option Begun) (bytes behind : List ℕ)
+    (entry : Lent RecordContent) : Type 0 where
   pub text : List ℕ
   pub whole : bytes ≡ text ++ 13 ∷ behind
   pub lacks : LacksReturn text
@@ -45,14 +46,17 @@ pub record CantCome (left : Option Begun) (held bytes : List ℕ) (reason : Reas
   pub more : List ℕ
   pub whole : bytes ≡ text ++ more
   pub lacks : LacksReturn text
-  pub refused : IsRefusedText left (held ++ text) more reason ⊎ ((reason ≡ reasons.RecordTooLong) × (record_limit < length (held ++ text)))
+  pub refused : IsRefusedText left (held ++ text) more reason
+      ⊎ ((reason ≡ reasons.RecordTooLong) × (record_limit < length (held ++ text)))
 
 -- A record is refused, or memory is: only where bytes are to be held.
 abbrev pub IsStopped : Option Begun → (held bytes : List ℕ) → Reason → Type 0
-IsStopped left held bytes reason = ((reason ≡ reasons.OutOfMemory) × (held ≡ [] → LacksReturn bytes)) ⊎ CantCome left held bytes reason
+IsStopped left held bytes reason =
+    ((reason ≡ reasons.OutOfMemory) × (held ≡ [] → LacksReturn bytes)) ⊎ CantCome left held bytes reason
 
 -- The reader tells the fault, from now on too, and holds nothing.
-pub record Refuses (before after : RecordsState) (left : Option Begun) (bytes behind : List ℕ) (fault : MessageFault) : Type 0 where
+pub record Refuses (before after : RecordsState) (left : Option Begun) (bytes behind : List ℕ)
+    (fault : MessageFault) : Type 0 where
   pub none_read : behind ≡ bytes
   pub place : fault.place ≡ next_place left
   pub why : IsStopped left before.held bytes fault.reason
@@ -72,7 +76,8 @@ Reads before after left bytes behind (found.Refused fault) = Refuses before afte
 -- a text that is too long, or can't come next
 abbrev pub IsRefusedFor : Option Begun → List ℕ → Reason → Type 0
 IsRefusedFor left text reason =
-    ((reason ≡ reasons.RecordTooLong) × (record_limit < length text)) ⊎ ((refusal left text ≡ Some reason) × (length text ≤ record_limit))
+    ((reason ≡ reasons.RecordTooLong) × (record_limit < length text))
+    ⊎ ((refusal left text ≡ Some reason) × (length text ≤ record_limit))
 
 -- what was held and this text come next, as the record that was cut
 pub record EndsHeld (before after : RecordsState) (left : Option Begun) (text : List ℕ) : Type 0 where

@@ -21,9 +21,11 @@ begun_with d rs = Some (record { delimiters = d; records = rs })
 -- This text comes next, as this record: outside a message as a header under the delimiters that it declares, and in one
 -- under its delimiters where such a record may stand.
 pub data ComesNext (left : Option Begun) (text : List ℕ) (entry : Lent RecordContent) : Type 0 where
-  header : left ≡ None → IsDelimiters entry.delimiters → IsRecord entry.delimiters text entry.content → entry.content.kind ≡ kinds.H
+  header : left ≡ None → IsDelimiters entry.delimiters → IsRecord entry.delimiters text entry.content
+      → entry.content.kind ≡ kinds.H
       → ComesNext left text entry
-  inner : (begun : Begun) → left ≡ Some begun → entry.delimiters ≡ begun.delimiters → IsRecord entry.delimiters text entry.content
+  inner : (begun : Begun) → left ≡ Some begun → entry.delimiters ≡ begun.delimiters
+      → IsRecord entry.delimiters text entry.content
       → misplaced (level_of (Some begun)) entry.content.kind ≡ None → ComesNext left text entry
 
 -- the records of an open message
@@ -40,7 +42,8 @@ left_after left entry kind = begun_with entry.delimiters (records_of left ++ ent
 abbrev pub Completes : Option Begun → Lent RecordContent → Option MessageTree → Type 0
 Completes left entry None = entry.content.kind ≢ kinds.L
 Completes left entry (Some m) =
-    (entry.content.kind ≡ kinds.L) × IsTree m × (m.delimiters ≡ entry.delimiters) × (flatten m ≡ records_of left ++ entry.content ∷ [])
+    (entry.content.kind ≡ kinds.L) × IsTree m × (m.delimiters ≡ entry.delimiters)
+    × (flatten m ≡ records_of left ++ entry.content ∷ [])
 
 -- ---- the reasons in their order
 

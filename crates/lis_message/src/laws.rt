@@ -41,8 +41,10 @@ pub fn one_cut()
 
 /// A message is determined by its records and its delimiters, and those by its header's text.
 pub fn one_tree()
-    ensures tree { (m n : MessageTree) → IsTree m → IsTree n → m.delimiters ≡ n.delimiters → flatten m ≡ flatten n → m ≡ n }
-    ensures delimiters { (d e : DelimiterBytes) (text : List ℕ) (r s : RecordContent) → IsRecord d text r → IsRecord e text s
+    ensures tree { (m n : MessageTree) → IsTree m → IsTree n → m.delimiters ≡ n.delimiters → flatten m ≡ flatten n
+        → m ≡ n }
+    ensures delimiters { (d e : DelimiterBytes) (text : List ℕ) (r s : RecordContent) → IsRecord d text r
+        → IsRecord e text s
         → r.kind ≡ kinds.H → s.kind ≡ kinds.H → d ≡ e }
 {}
 
@@ -54,16 +56,22 @@ pub fn every_stream()
         → IsCut front messages left held → IsReadFrom (front ++ more) messages }
 {}
 
-/// A reader of records reads the stream. Where a stream is cut and the reader holds its last bytes, then each record that it
-/// tells is the next of the stream, and the closing one completes a message; bytes that it holds are the stream's last; and
-/// where it tells a fault, the stream with these bytes is refused for it, or memory was.
+/// A reader of records reads the stream. Where a stream is cut and the reader holds its last bytes, then each record
+/// that it tells is the next of the stream, and the closing one completes a message; bytes that it holds are the
+/// stream's last; and where it tells a fault, the stream with these bytes is refused for it, or memory was.
 pub fn records_of_a_stream()
-    ensures record { (before after : RecordsState) (stream : List ℕ) (messages : List MessageTree) (left : Option Begun) (bytes behind : List ℕ) (entry : Lent RecordContent)
+    ensures record { (before after : RecordsState) (stream : List ℕ) (messages : List MessageTree)
+        (left : Option Begun) (bytes behind : List ℕ) (entry : Lent RecordContent)
         → IsCut stream messages left before.held → ReadsRecord before after left bytes behind entry
         → (message : Option MessageTree) × Completes left entry message
-        × IsReadUpTo stream bytes behind (messages ++ option_to_list message) (left_after left entry entry.content.kind) after.held }
-    ensures held { (before after : RecordsState) (stream : List ℕ) (messages : List MessageTree) (left : Option Begun) (bytes behind : List ℕ)
-        → IsCut stream messages left before.held → ReadsOn before after left bytes behind → IsCut (stream ++ bytes) messages left after.held }
-    ensures refused { (before after : RecordsState) (stream : List ℕ) (messages : List MessageTree) (left : Option Begun) (bytes behind : List ℕ) (fault : MessageFault)
-        → IsCut stream messages left before.held → Refuses before after left bytes behind fault → Stops (stream ++ bytes) messages fault }
+        × IsReadUpTo stream bytes behind (messages ++ option_to_list message)
+        (left_after left entry entry.content.kind) after.held }
+    ensures held { (before after : RecordsState) (stream : List ℕ) (messages : List MessageTree)
+        (left : Option Begun) (bytes behind : List ℕ)
+        → IsCut stream messages left before.held → ReadsOn before after left bytes behind
+        → IsCut (stream ++ bytes) messages left after.held }
+    ensures refused { (before after : RecordsState) (stream : List ℕ) (messages : List MessageTree)
+        (left : Option Begun) (bytes behind : List ℕ) (fault : MessageFault)
+        → IsCut stream messages left before.held → Refuses before after left bytes behind fault
+        → Stops (stream ++ bytes) messages fault }
 {}

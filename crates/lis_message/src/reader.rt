@@ -1,5 +1,6 @@
 //! Reading messages from a stream that comes in pieces. What is kept is the open message and one record's bytes.
-ghost use Rattle.std.specs.Prelude.{◌≡◌, ℕ, ◌++◌, ◌≤◌, [], List, IfOk, IfErr, OnOk, OnSome, IfSome, IfNone, MatchOption, None, Some, Option, length};
+ghost use Rattle.std.specs.Prelude.{◌≡◌, ℕ, ◌++◌, ◌≤◌, [], List, IfOk, IfErr};
+ghost use Rattle.std.specs.Prelude.{OnOk, OnSome, IfSome, IfNone, MatchOption, None, Some, Option, length};
 ghost use Rattle.std.specs.List.{AllByRecursion, flat_map};
 ghost use Rattle.lis_message.specs.Feeding.{Goes, GoesBefore, ReadsWhole, Reads, StopsIn, finished};
 ghost use Rattle.lis_message.specs.Records.{Adds, HasLeft, unended};
@@ -84,11 +85,13 @@ fn read_next<'a>(
 ) -> Result<Option<&'a [u8]>, MessageFault>
     requires { HasLeft records.old begun.old }
     ensures on { IfOk result (λ next. IfSome next (λ behind.
-        GoesBefore (unended begun.old records.old) messages.old bytes.now behind.now (unended begun.new records.new) messages.new)) }
+        GoesBefore (unended begun.old records.old) messages.old bytes.now behind.now
+        (unended begun.new records.new) messages.new)) }
     ensures done { IfOk result (λ next. IfNone next
         (Goes (unended begun.old records.old) messages.old bytes.now (unended begun.new records.new) messages.new)) }
     ensures left { OnOk result (HasLeft records.new begun.new) }
-    ensures err { IfErr result (λ fault. StopsIn (unended begun.old records.old) messages.old bytes.now messages.new fault) }
+    ensures err { IfErr result
+        (λ fault. StopsIn (unended begun.old records.old) messages.old bytes.now messages.new fault) }
 {
     let place = records.next_place();
     let (behind, found) = records.read(bytes);
@@ -120,9 +123,11 @@ fn read_piece(
     piece: &[u8],
 ) -> Result<(), MessageFault>
     requires { HasLeft records.old begun.old }
-    ensures ok { OnOk result (Goes (unended begun.old records.old) messages.old piece.now (unended begun.new records.new) messages.new) }
+    ensures ok { OnOk result
+        (Goes (unended begun.old records.old) messages.old piece.now (unended begun.new records.new) messages.new) }
     ensures left { OnOk result (HasLeft records.new begun.new) }
-    ensures err { IfErr result (λ fault. StopsIn (unended begun.old records.old) messages.old piece.now messages.new fault) }
+    ensures err { IfErr result
+        (λ fault. StopsIn (unended begun.old records.old) messages.old piece.now messages.new fault) }
 {
     let mut rest = piece;
     loop {
@@ -263,7 +268,8 @@ fn read_whole(alloc: Global, bytes: &[u8]) -> Fed
 pub fn read_messages(alloc: Global, bytes: &[u8]) -> Fed
     ensures read { ReadsWhole bytes.now result.messages result.fault }
     // Messages that were written are read back, unless memory runs out.
-    ensures back { (ms : List MessageTree) → AllByRecursion IsTree ms → AllByRecursion IsWritable ms → bytes.now ≡ flat_map message_bytes ms
+    ensures back { (ms : List MessageTree) → AllByRecursion IsTree ms → AllByRecursion IsWritable ms
+        → bytes.now ≡ flat_map message_bytes ms
         → MatchOption result.fault (result.messages ≡ ms) (λ fault. fault.reason ≡ reasons.OutOfMemory) }
 {
     read_whole(alloc, bytes)

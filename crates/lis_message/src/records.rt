@@ -1,7 +1,9 @@
-//! Reading records where they stand, from a stream that comes in pieces (LIS02-A2, Delimiters). What is kept is the bytes of
-//! one record, and of the open message how its next record is read.
+//! Reading records where they stand, from a stream that comes in pieces (LIS02-A2, Delimiters). What is kept is the
+//! bytes of one record, and of the open message how its next record is read.
 
-ghost use Rattle.std.specs.Prelude.{◌≡◌, ◌≢◌, ℕ, true, false, ◌+◌, ◌<◌, ◌≤◌, ◌∷◌, [], ◌++◌, ◌⊎◌, List, Option, IfOk, IfErr, OnOk, OnSome, IfSome, IfNone, None, Some, Ok, Err, length};
+ghost use Rattle.std.specs.Prelude.{◌≡◌, ◌≢◌, ℕ, true, false, ◌+◌, ◌<◌, ◌≤◌, ◌∷◌, [], ◌++◌, ◌⊎◌};
+ghost use Rattle.std.specs.Prelude.{List, Option, IfOk, IfErr, OnOk, OnSome};
+ghost use Rattle.std.specs.Prelude.{IfSome, IfNone, None, Some, Ok, Err, length};
 ghost use Rattle.lis_message.specs.declared.records.Found.TheVariants.{Refused as IsRefusal};
 ghost use Rattle.lis_message.specs.Feeding.{at_end, next_place};
 ghost use Rattle.lis_message.specs.Kept.{opened_of, opened_with};
@@ -73,8 +75,10 @@ fn lend_first(text: &[u8]) -> Result<LentRecord<'_>, Reason>
 /// The record that a text is, which comes in the open message.
 fn lend_inner<'a>(opened: &Opened, text: &'a [u8]) -> Result<LentRecord<'a>, Reason>
     requires { front_refusal true text.now ≡ None }
-    ensures ok { IfOk result (λ entry. (begun : Begun) → opened.now ≡ opened_with begun → ComesNext (Some begun) text.now entry) }
-    ensures err { IfErr result (λ reason. (begun : Begun) → opened.now ≡ opened_with begun → refusal (Some begun) text.now ≡ Some reason) }
+    ensures ok { IfOk result (λ entry. (begun : Begun) → opened.now ≡ opened_with begun
+        → ComesNext (Some begun) text.now entry) }
+    ensures err { IfErr result (λ reason. (begun : Begun) → opened.now ≡ opened_with begun
+        → refusal (Some begun) text.now ≡ Some reason) }
     ensures place { IfOk result (λ entry. entry ≡ record_in entry.delimiters entry.content.kind text.now) }
 {
     let entry = match lend_record(&opened.delimiters, text) {
@@ -89,8 +93,10 @@ fn lend_inner<'a>(opened: &Opened, text: &'a [u8]) -> Result<LentRecord<'a>, Rea
 
 /// The record that a text is which comes next, else the first reason that it can't.
 fn lend_next<'a>(opened: &Option<Opened>, text: &'a [u8]) -> Result<LentRecord<'a>, Reason>
-    ensures ok { IfOk result (λ entry. (left : Option Begun) → opened.now ≡ opened_of left → ComesNext left text.now entry) }
-    ensures err { IfErr result (λ reason. (left : Option Begun) → opened.now ≡ opened_of left → refusal left text.now ≡ Some reason) }
+    ensures ok { IfOk result (λ entry. (left : Option Begun) → opened.now ≡ opened_of left
+        → ComesNext left text.now entry) }
+    ensures err { IfErr result (λ reason. (left : Option Begun) → opened.now ≡ opened_of left
+        → refusal left text.now ≡ Some reason) }
     ensures place { IfOk result (λ entry. entry ≡ record_in entry.delimiters entry.content.kind text.now) }
 {
     if let Some(reason) = front_fault(opened.is_some(), text) {
@@ -290,7 +296,8 @@ impl RecordReader {
     pub fn read<'a>(&mut self, bytes: &'a [u8]) -> (&'a [u8], Found<'a>)
         ensures read { (left : Option Begun) → HasLeft self.old left
             → Reads self.old self.new left bytes.now result.0.now result.1 }
-        ensures failed { IfSome self.old.fault (λ fault. (result.0.now ≡ bytes.now) × (result.1 ≡ IsRefusal fault) × (self.new ≡ self.old)) }
+        ensures failed { IfSome self.old.fault (λ fault. (result.0.now ≡ bytes.now) × (result.1 ≡ IsRefusal fault)
+            × (self.new ≡ self.old)) }
     {
         if let Some(fault) = self.fault {
             return (bytes, Found::Refused(fault));
@@ -380,8 +387,10 @@ impl RecordReader {
     /// Reads a record that this text is, at its CR.
     fn end_whole<'a>(&mut self, text: &'a [u8]) -> Result<LentRecord<'a>, Reason>
         ensures ok { IfOk result (λ entry. (left : Option Begun) → self.old.opened ≡ opened_of left
-            → ComesNext left text.now entry × (self.new.opened ≡ opened_of (left_after left entry entry.content.kind))) }
-        ensures err { IfErr result (λ reason. (left : Option Begun) → self.old.opened ≡ opened_of left → IsRefusedFor left text.now reason) }
+            → ComesNext left text.now entry × (self.new.opened ≡ opened_of
+            (left_after left entry entry.content.kind))) }
+        ensures err { IfErr result (λ reason. (left : Option Begun) → self.old.opened ≡ opened_of left
+            → IsRefusedFor left text.now reason) }
         ensures held { self.new.held ≡ self.old.held }
         ensures fault { self.new.fault ≡ self.old.fault }
     {
@@ -399,7 +408,8 @@ impl RecordReader {
     /// Reads a record that what is held and this text are, at its CR.
     fn end_held(&mut self, text: &[u8]) -> Result<(), Reason>
         requires { self.old.cut ≡ None }
-        ensures ok { OnOk result ((left : Option Begun) → self.old.opened ≡ opened_of left → EndsHeld self.old self.new left text.now) }
+        ensures ok { OnOk result ((left : Option Begun) → self.old.opened ≡ opened_of left
+            → EndsHeld self.old self.new left text.now) }
         ensures err { IfErr result (λ reason. (left : Option Begun) → self.old.opened ≡ opened_of left
             → (reason ≡ reasons.OutOfMemory) ⊎ IsRefusedFor left (self.old.held ++ text.now) reason) }
         ensures fault { self.new.fault ≡ self.old.fault }

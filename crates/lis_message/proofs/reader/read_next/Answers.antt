@@ -6,24 +6,31 @@ use Rattle.lis_message.proofs.reader.read_next.Goals as goal
 
 pub returns-in-Refused-clause-err : goal.returns-in-Refused-clause-err
 returns-in-Refused-clause-err c =
-    read_stops c.args.records.now c.read-found.new.self c.args.begun.now c.args.bytes.now c.read-found.result.0.now c.in-Refused.fault c.args.messages.now
-    (subst (λ (f : Found). Reads c.args.records.now c.read-found.new.self c.args.begun.now c.args.bytes.now c.read-found.result.0.now f) c.in-Refused.is
+    read_stops c.args.records.now c.read-found.new.self c.args.begun.now c.args.bytes.now c.read-found.result.0.now
+    c.in-Refused.fault c.args.messages.now
+    (subst (λ (f : Found). Reads c.args.records.now c.read-found.new.self c.args.begun.now c.args.bytes.now
+    c.read-found.result.0.now f) c.in-Refused.is
     (c.read-found.ensures.read c.args.begun.now c.requires))
 
 pub returns-in-Ok-clause-on : goal.returns-in-Ok-clause-on
 returns-in-Ok-clause-on c =
-    goes_before c.args.records.now c.read-found.new.self c.args.begun.now c.take_entry.new.begun c.args.bytes.now c.read-found.result.0.now c.in-Record.entry
+    goes_before c.args.records.now c.read-found.new.self c.args.begun.now c.take_entry.new.begun c.args.bytes.now
+    c.read-found.result.0.now c.in-Record.entry
     c.args.messages.now c.take_entry.new.messages
-    (subst (λ (f : Found). Reads c.args.records.now c.read-found.new.self c.args.begun.now c.args.bytes.now c.read-found.result.0.now f) c.in-Record.is
+    (subst (λ (f : Found). Reads c.args.records.now c.read-found.new.self c.args.begun.now c.args.bytes.now
+    c.read-found.result.0.now f) c.in-Record.is
     (c.read-found.ensures.read c.args.begun.now c.requires))
     c.in-Ok.ensures.ok c.in-Ok.ensures.left
 
 pub returns-in-Ok-take_entry-clause-on : goal.returns-in-Ok-take_entry-clause-on
 returns-in-Ok-take_entry-clause-on c =
-    goes_before c.args.records.now c.read-found.new.self c.args.begun.now c.take_entry-in-Held.new.begun c.args.bytes.now c.read-found.result.0.now c.in-Some.entry
+    goes_before c.args.records.now c.read-found.new.self c.args.begun.now c.take_entry-in-Held.new.begun
+    c.args.bytes.now c.read-found.result.0.now c.in-Some.entry
     c.args.messages.now c.take_entry-in-Held.new.messages
-    (cut_told c.args.records.now c.read-found.new.self c.args.begun.now c.args.bytes.now c.read-found.result.0.now c.in-Some.entry
-    (subst (λ (f : Found). Reads c.args.records.now c.read-found.new.self c.args.begun.now c.args.bytes.now c.read-found.result.0.now f) c.in-Held.is
+    (cut_told c.args.records.now c.read-found.new.self c.args.begun.now c.args.bytes.now c.read-found.result.0.now
+    c.in-Some.entry
+    (subst (λ (f : Found). Reads c.args.records.now c.read-found.new.self c.args.begun.now c.args.bytes.now
+    c.read-found.result.0.now f) c.in-Held.is
     (c.read-found.ensures.read c.args.begun.now c.requires))
     c.in-Some.ensures)
     c.in-Ok-take_entry.ensures.ok c.in-Ok-take_entry.ensures.left

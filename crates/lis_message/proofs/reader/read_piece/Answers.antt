@@ -12,7 +12,8 @@ loop-behind-preserved c =
       inv.1 ∙ ap (λ (l : List ℕ). inv.0 ++ l) goes.whole ∙ sym (append_assoc inv.0 goes.front c.in-Ok-Some.behind.now),
       c.in-Ok-Some.ensures.left,
       goes_then (unended c.args.begun.now c.args.records.now) (unended c.loop-behind.begun c.loop-behind.records)
-          (unended c.read_next.new.begun c.read_next.new.records) c.args.messages.now c.loop-behind.messages c.read_next.new.messages
+          (unended c.read_next.new.begun c.read_next.new.records) c.args.messages.now c.loop-behind.messages
+          c.read_next.new.messages
           inv.0 goes.front inv.3 goes.goes,
     )
 
@@ -22,12 +23,16 @@ returns-in-Ok-None-clause-ok c =
     subst (λ (l : List ℕ). Goes (unended c.args.begun.now c.args.records.now) c.args.messages.now l
     (unended c.read_next.new.begun c.read_next.new.records) c.read_next.new.messages) (sym inv.1)
     (goes_then (unended c.args.begun.now c.args.records.now) (unended c.loop-behind.begun c.loop-behind.records)
-    (unended c.read_next.new.begun c.read_next.new.records) c.args.messages.now c.loop-behind.messages c.read_next.new.messages
+    (unended c.read_next.new.begun c.read_next.new.records) c.args.messages.now c.loop-behind.messages
+    c.read_next.new.messages
     inv.0 c.loop-behind.rest.now inv.3 (rw c.in-Ok-None.field-0-is at c.in-Ok-None.ensures.done))
 
 pub returns-in-Err-clause-err : goal.returns-in-Err-clause-err
 returns-in-Err-clause-err c =
     let inv = c.loop-behind.invariant in
-    subst (λ (l : List ℕ). StopsIn (unended c.args.begun.now c.args.records.now) c.args.messages.now l c.read_next.new.messages c.in-Err.fault) (sym inv.1)
-    (goes_stops (unended c.args.begun.now c.args.records.now) (unended c.loop-behind.begun c.loop-behind.records) c.args.messages.now
-    c.loop-behind.messages c.read_next.new.messages inv.0 c.loop-behind.rest.now c.in-Err.fault inv.3 c.in-Err.ensures.err)
+    subst (λ (l : List ℕ). StopsIn (unended c.args.begun.now c.args.records.now) c.args.messages.now l
+    c.read_next.new.messages c.in-Err.fault) (sym inv.1)
+    (goes_stops (unended c.args.begun.now c.args.records.now) (unended c.loop-behind.begun c.loop-behind.records)
+    c.args.messages.now
+    c.loop-behind.messages c.read_next.new.messages inv.0 c.loop-behind.rest.now c.in-Err.fault inv.3
+    c.in-Err.ensures.err)

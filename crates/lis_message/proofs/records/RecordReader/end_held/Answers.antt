@@ -15,7 +15,8 @@ returns-clause-ok c = λ left is.
       comes = subst (λ (l : List ℕ). ComesNext left l c.in-Ok.entry)
           (text ∙ ap (λ (r : RecordsState). r.held ++ c.args.text.now) c.self.view_is) comes;
       opened =
-          c.opened_after-self-inside.ensures left c.text.result.now c.in-Ok.entry here comes (sym c.delimiters.ensures) (sym c.kind.ensures)
+          c.opened_after-self-inside.ensures left c.text.result.now c.in-Ok.entry here comes
+          (sym c.delimiters.ensures) (sym c.kind.ensures)
           ∙ ap (λ (k : Kind). opened_of (left_after left c.in-Ok.entry k)) c.kind.ensures;
       told =
           ap (λ (h : Holding). h.cut) c.end.ensures

@@ -5,6 +5,8 @@ use Rattle.lis_message.proofs.records.RecordReader.read_open.Goals as goal
 
 pub returns-in-Err-end_whole-clause-err : goal.returns-in-Err-end_whole-clause-err
 returns-in-Err-end_whole-clause-err c = λ left has.
-    whole_stopped left c.args.self.now.held c.in-Some.text.now c.in-Some.behind.now c.args.bytes.now c.in-Err-end_whole.reason
-    (c.if-is_empty.ensures ∙ ap (λ (l : List ℕ). length l == 0) (c.text.ensures.value ∙ ap (λ (r : RecordsState). r.held) c.self.view_is))
+    whole_stopped left c.args.self.now.held c.in-Some.text.now c.in-Some.behind.now c.args.bytes.now
+    c.in-Err-end_whole.reason
+    (c.if-is_empty.ensures ∙ ap (λ (l : List ℕ). length l == 0)
+    (c.text.ensures.value ∙ ap (λ (r : RecordsState). r.held) c.self.view_is))
     c.in-Some.ensures.lacks c.in-Some.ensures.some (c.in-Err-end_whole.ensures.err left has.opened)
