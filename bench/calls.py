@@ -1,7 +1,7 @@
 """Times the calls of the crates that lislink doesn't make by themselves, through crates/timed_calls.
 
-The receiver hears a session's bytes at once, 65,536 from each read; MB/s of link bytes, reading them included. So are
-records read where they stand, and messages into trees; MB/s of their text. A session of 1,000 full frames is played event by event; milliseconds of one. Both are medians, and each answer is compared with
+The receiver hears a session's bytes at once, 65,536 from each read; MB/s of link bytes, reading them included. A session
+of 1,000 full frames is played event by event; milliseconds of one. Both are medians, and each answer is compared with
 what the input holds.
 """
 import os
@@ -31,19 +31,9 @@ def seconds(program, words, path, answer):
     return ended
 
 
-def answers(made, size):
-    """The calls that read an input of this size, and what each must answer: texts, records or messages."""
-    blocks = size // len(made.block)
-    if "check" in made.commands:
-        return {"records": blocks * made.block.count(b"\r"), "messages": blocks * made.block.count(b"\rL|")}
-    if "show" in made.commands and made.name.endswith("frames") and not made.name.startswith("torn"):
-        return {"bytes": blocks * made.block.count(b"\x03")}
-    return {}
-
-
-def speed(program, word, path, answer, size, rounds):
-    """MB/s of the input."""
-    times = [seconds(program, [word], path, answer) for _ in range(rounds)]
+def hear(program, path, texts, size, rounds):
+    """MB/s of link bytes."""
+    times = [seconds(program, ["bytes"], path, texts) for _ in range(rounds)]
     return size / 1e6 / statistics.median(times)
 
 

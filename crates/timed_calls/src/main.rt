@@ -1,14 +1,11 @@
-//! Calls that `lislink` doesn't make by themselves, for the benchmark to time: the receiver's hearing of bytes, the
-//! reading of records and of messages, and the playing of events.
+//! Calls that `lislink` doesn't make by themselves, for the benchmark to time: the receiver's hearing of bytes, and
+//! the playing of events.
 //!
 //!     timed_calls bytes       hears the link bytes of standard input, and tells how many texts were handed out
-//!     timed_calls records     reads the records of standard input where they stand, and tells how many
-//!     timed_calls messages    reads the messages of standard input, and tells how many
 //!     timed_calls play 40     plays a session of 1,000 full frames so many times, and tells how many were accepted
 #![tactic(auto)]
 
 use lis_link::{Outcome, Receiver};
-use lis_message::{Found, MessageReader, RecordReader};
 use lis_text::{LinkText, Texts};
 use lis_world::{Event, Events, play};
 use std::alloc::Global;
@@ -16,7 +13,7 @@ use std::env;
 use std::io::Read;
 use std::process::ExitCode;
 
-/// How many bytes of standard input are heard or read at once.
+/// How many bytes of standard input are heard at once.
 const PIECE: usize = 65_536;
 
 /// How many frames the session has that is played, each a text of its own.
@@ -32,11 +29,9 @@ fn main(rt: HostRuntime) -> ExitCode {
     let mut words = words.iter().skip(1).map(String::as_str);
     let told = match (words.next(), words.next()) {
         (Some("bytes"), None) => heard(rt.alloc(), &mut rt.reader()),
-        (Some("records"), None) => records_of(rt.alloc(), &mut rt.reader()),
-        (Some("messages"), None) => messages_of(rt.alloc(), &mut rt.reader()),
         (Some("play"), Some(rounds)) => played(rt.alloc(), rounds),
         _ => {
-            let _ = eprintln!(rt; "usage: timed_calls bytes | records | messages | play ROUNDS");
+            let _ = eprintln!(rt; "usage: timed_calls bytes | timed_calls play ROUNDS");
             return ExitCode::from(2);
         }
     };
@@ -72,56 +67,6 @@ fn handed_out(receiver: &mut Receiver, bytes: &[u8], texts: u64) -> u64 {
         }
     }
     texts
-}
-
-/// The number of records that stand in all that is read; none where a read fails or a record is refused.
-fn records_of<R: Read>(alloc: Global, reader: &mut R) -> Option<u64> {
-    let mut records = RecordReader::new(alloc);
-    let mut piece = [0; PIECE];
-    let mut count = 0;
-    for _ in 0..u64::MAX {
-        let read = reader.read(&mut piece).ok()?;
-        if read == 0 {
-            return Some(count);
-        }
-        count = counted(&mut records, &piece[..read], count)?;
-    }
-    None
-}
-
-/// The number of records that were read, with those that end in these bytes.
-fn counted(records: &mut RecordReader, bytes: &[u8], count: u64) -> Option<u64> {
-    let (mut rest, mut count) = (bytes, count);
-    // A record that ends has its CR in the bytes.
-    for _ in 0..=bytes.len() {
-        let (behind, found) = records.read(rest);
-        match found {
-            Found::Nothing => return Some(count),
-            Found::Record(_) | Found::Held => count = count.saturating_add(1),
-            Found::Refused(_) => return None,
-        }
-        rest = behind;
-    }
-    None
-}
-
-/// The number of messages that are whole in all that is read; none where a read fails or a record is refused.
-fn messages_of<R: Read>(alloc: Global, reader: &mut R) -> Option<u64> {
-    let mut messages = MessageReader::new(alloc);
-    let mut piece = [0; PIECE];
-    let mut count = 0u64;
-    for _ in 0..u64::MAX {
-        let read = reader.read(&mut piece).ok()?;
-        if read == 0 {
-            return Some(count);
-        }
-        let fed = messages.feed(&piece[..read]);
-        if fed.fault.is_some() {
-            return None;
-        }
-        count = count.saturating_add(fed.messages.len() as u64);
-    }
-    None
 }
 
 /// The number of frames that were accepted in all rounds; none where memory was refused or the number isn't one.
