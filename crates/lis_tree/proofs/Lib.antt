@@ -4,6 +4,7 @@ pub mod DefinitionRows
 pub mod Flatten
 pub mod Levels
 pub mod ListFaults
+pub mod Notes
 pub mod Refusing
 pub mod Trees
 pub mod Viable

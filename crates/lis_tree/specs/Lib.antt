@@ -5,6 +5,7 @@ pub mod Hierarchy
 pub mod Level
 pub mod ListFaults
 pub mod Nodes
+pub mod Notes
 pub mod Numbers
 pub mod Open
 pub mod Places

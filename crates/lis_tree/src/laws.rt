@@ -1,10 +1,12 @@
 //! What holds of the kinds of all lists of records, over the definitions that the contracts cite.
-ghost use Rattle.std.specs.Prelude.{◌≡◌, List, [], ◌∷◌, ◌++◌, Some, None};
+ghost use Rattle.std.specs.Prelude.{◌≡◌, List, [], ◌∷◌, ◌++◌, Some, None, map};
 ghost use Rattle.lis_field.specs.declared.kinds.Kind.{Kind};
 ghost use Rattle.lis_tree.specs.declared.fault.Reason.{Reason};
 ghost use Rattle.lis_tree.specs.Hierarchy.{IsViable};
 ghost use Rattle.lis_tree.specs.Level.{StandsFrom, level_after, misplaced, outside};
+ghost use Rattle.lis_tree.specs.Notes.{IsNotedOn, Placed, placed};
 ghost use Rattle.lis_tree.specs.Refusing.{IsRefusedFor};
+ghost use Rattle.lis_tree.specs.Tree.{IsTree, MessageTree, flatten};
 
 /// The hierarchy by the place of the next record is that in the standard's words.
 pub fn hierarchy()
@@ -23,4 +25,12 @@ pub fn reasons()
         → misplaced (level_after outside before) k ≡ None → IsViable (before ++ k ∷ []) }
     ensures next { (before : List Kind) (k : Kind) → IsViable (before ++ k ∷ [])
         → misplaced (level_after outside before) k ≡ None }
+{}
+
+/// A comment, a manufacturer's or a scientific record is a note on the last record before it that is none, and the
+/// tree has it there (LIS02-A2).
+pub fn notes()
+    ensures records { (m : MessageTree) → map (λ p. p.content) (placed m) ≡ flatten m }
+    ensures notes { (m : MessageTree) → IsTree m → (before behind : List Placed) (p : Placed)
+        → placed m ≡ before ++ p ∷ behind → IsNotedOn (map (λ q. q.content) before) p.content p.note_on }
 {}
