@@ -6,8 +6,8 @@ ghost use Rattle.lis_capture.specs.declared.line.Line.TheVariants.{Empty};
 ghost use Rattle.lis_capture.specs.Digits.{bytes_of};
 ghost use Rattle.lis_capture.specs.Line.{added_line, line_of, plain_line, said, version_after, without_return};
 ghost use Rattle.hex.specs.Hex.{encode_lower};
-ghost use Rattle.lis_capture.specs.Kept.{IsKept, kept_bytes, kept_room};
-ghost use Rattle.lis_capture.specs.Told.{line_with};
+ghost use Rattle.lis_capture.specs.inside.Kept.{IsKept, kept_bytes, kept_room};
+ghost use Rattle.lis_capture.specs.inside.Told.{line_with};
 
 use crate::digits::{decode, lower};
 use crate::page::{PAGE_ROOM, Page};
@@ -72,7 +72,7 @@ pub struct LineBytes<'a> {
 
 impl<'a> Model for LineBytes<'a> {
     ghost use Rattle.std.specs.Prelude.{ℕ, List};
-    ghost use Rattle.lis_capture.specs.Kept.{IsKept, kept_bytes};
+    ghost use Rattle.lis_capture.specs.inside.Kept.{IsKept, kept_bytes};
 
     ghost Value = { List ℕ };
 
@@ -138,8 +138,8 @@ pub(crate) struct Told {
 impl Model for Told {
     ghost use Rattle.std.specs.Prelude.{◌≡◌, ◌≤◌, if◌then◌else◌, length, take};
     ghost use Rattle.lis_capture.specs.declared.line.Line.{Line};
-    ghost use Rattle.lis_capture.specs.Kept.{IsKept, kept_bytes};
-    ghost use Rattle.lis_capture.specs.Told.{line_with};
+    ghost use Rattle.lis_capture.specs.inside.Kept.{IsKept, kept_bytes};
+    ghost use Rattle.lis_capture.specs.inside.Told.{line_with};
 
     ghost Value = { Line };
 

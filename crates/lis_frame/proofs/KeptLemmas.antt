@@ -12,7 +12,7 @@ use Rattle.lis_frame.specs.declared.frame.FrameFault.TheVariants.{Shape}
 use Rattle.lis_frame.specs.declared.scanner.SignalOf.{SignalOf}
 use Rattle.lis_frame.specs.declared.scanner.SignalOf.TheVariants.{Good, Bad}
 use Rattle.lis_frame.specs.Scanner.{outside, beyond, kept, with_bytes, ended_held}
-use Rattle.lis_frame.specs.Kept.{kept_held}
+use Rattle.lis_frame.specs.inside.Kept.{kept_held}
 use Rattle.lis_frame.specs.Frame.{FrameContent}
 use Rattle.lis_frame.specs.Stretch.{stretch_of, content_of, stretch_fault}
 use Rattle.lis_frame.specs.Stream.{read_stretch}

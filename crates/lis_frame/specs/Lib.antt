@@ -4,6 +4,6 @@ pub mod Frame
 pub mod Stretch
 pub mod Stream
 pub mod Scanner
-pub mod Kept
 pub mod Pieces
 pub mod Laws
+pub mod inside

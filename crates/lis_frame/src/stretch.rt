@@ -26,7 +26,7 @@ pub(crate) struct StretchOf<const N: usize> {
 impl<const N: usize> Model for StretchOf<N> {
     ghost use Rattle.std.specs.Prelude.{◌++◌};
     ghost use Rattle.lis_frame.specs.Scanner.{Held};
-    ghost use Rattle.lis_frame.specs.Kept.{kept_held, IsKept};
+    ghost use Rattle.lis_frame.specs.inside.Kept.{kept_held, IsKept};
 
     ghost Value = { Held };
 

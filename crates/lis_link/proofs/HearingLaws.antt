@@ -17,8 +17,8 @@ use Rattle.lis_link.specs.declared.receiver.Note.TheVariants.{Quiet, Accepted, D
 use Rattle.lis_link.specs.declared.receiver.Readiness.{Readiness}
 use Rattle.lis_link.specs.declared.receiver.Readiness.TheVariants.{Ready, Busy, Contending}
 use Rattle.lis_link.specs.declared.receiver.Step.{Step}
-use Rattle.lis_link.specs.Kept.{Kept, KeptLine, kept_of}
-use Rattle.lis_link.specs.Stands.{IsIn, Makes, IsRefused, SpareAfter, HearsFront}
+use Rattle.lis_link.specs.inside.Kept.{Kept, KeptLine, kept_of}
+use Rattle.lis_link.specs.inside.Stands.{IsIn, Makes, IsRefused, SpareAfter, HearsFront}
 use Rattle.lis_link.specs.Receiver.{ReceiverState, ReceiverStep, ReceiverHearing, answers, bid_with, judged_by, judged, on_judged, held_text, most_frames, heard_by, heard, on_byte, on_bytes, heard_on, with_heard}
 
 -- what is found of a frame is never nothing

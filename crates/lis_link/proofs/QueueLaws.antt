@@ -7,7 +7,7 @@ use Rattle.std.proofs.lemmas.List.{drop_all}
 use Rattle.lis_frame.specs.Frame.{FrameContent}
 use Rattle.lis_frame.specs.Pieces.{all_pieces, numbered, next_number, session_frames}
 use Rattle.lis_frame.proofs.PieceLaws.{pieces-one, pieces-more, drop-add}
-use Rattle.lis_link.specs.Queue.{pieces_left, frames_left}
+use Rattle.lis_link.specs.inside.Queue.{pieces_left, frames_left}
 
 -- the text at a place is the first of those from there on
 pub drop-at : (texts : List (List ℕ)) (index : ℕ) (text : List ℕ) → slice_get texts index ≡ Some text → drop index texts ≡ text ∷ drop (suc index) texts

@@ -2,7 +2,5 @@
 pub mod Joining
 pub mod Sender
 pub mod Receiver
-pub mod Kept
-pub mod Stands
-pub mod Queue
 pub mod Laws
+pub mod inside

@@ -21,7 +21,7 @@ pub(crate) struct QueueOf<const N: usize> {
 }
 
 impl<const N: usize> Model for QueueOf<N> {
-    ghost use Rattle.lis_link.specs.Queue.{Queue, frames_left, IsPlace};
+    ghost use Rattle.lis_link.specs.inside.Queue.{Queue, frames_left, IsPlace};
 
     ghost Value = { Queue };
 

@@ -6,7 +6,7 @@ ghost use Rattle.lis_text.specs.LinkText.{longest_text};
 ghost use Rattle.lis_frame.specs.Scanner.{StandsFor};
 ghost use Rattle.lis_link.specs.Receiver.{ReceiverState, new_receiver, on_byte, on_bytes, on_receiver_timer, receiver_restarted, with_heard, with_readiness, with_room};
 ghost use Rattle.lis_link.specs.declared.receiver.Note.TheVariants as Notes;
-ghost use Rattle.lis_link.specs.Stands.{IsIn, Makes, IsRefused, SpareAfter, HearsFront};
+ghost use Rattle.lis_link.specs.inside.Stands.{IsIn, Makes, IsRefused, SpareAfter, HearsFront};
 
 use crate::receiver::line::Line;
 use lis_frame::{FrameFault, ScannerOf};
@@ -88,7 +88,7 @@ pub struct ReceiverOf<const N: usize> {
 
 impl<const N: usize> Model for ReceiverOf<N> {
     ghost use Rattle.lis_frame.specs.Limit.{IsLimit};
-    ghost use Rattle.lis_link.specs.Kept.{Kept, kept_of};
+    ghost use Rattle.lis_link.specs.inside.Kept.{Kept, kept_of};
 
     ghost Value = { Kept };
 

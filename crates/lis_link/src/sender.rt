@@ -4,7 +4,7 @@ ghost use Rattle.std.specs.Prelude.{◌≡◌, ◌<◌, ◌+◌, length, drop, N
 ghost use Rattle.lis_frame.specs.Limit.{IsLimit};
 ghost use Rattle.lis_link.specs.declared.sender.EmitOf.TheVariants as Emits;
 ghost use Rattle.lis_link.specs.declared.sender.Phase.TheVariants as Phases;
-ghost use Rattle.lis_link.specs.Queue.{first_frame};
+ghost use Rattle.lis_link.specs.inside.Queue.{first_frame};
 ghost use Rattle.lis_link.specs.Sender.{SenderState, reply_in, new_sender, over, bad_text, start_fault, started, sends, is_accepted, sends_again, on_reply, on_sender_timer, sender_restarted};
 
 use crate::queue::QueueOf;
@@ -94,7 +94,7 @@ pub struct SenderOf<const N: usize> {
 
 impl<const N: usize> Model for SenderOf<N> {
     ghost use Rattle.lis_link.specs.Sender.{SenderState};
-    ghost use Rattle.lis_link.specs.Queue.{frames_of, IsSender};
+    ghost use Rattle.lis_link.specs.inside.Queue.{frames_of, IsSender};
 
     ghost Value = { SenderState };
 

@@ -7,10 +7,10 @@ use Rattle.lis_field.specs.declared.kinds.Kind.{Kind}
 use Rattle.lis_field.specs.declared.kinds.Kind.TheVariants as kinds
 use Rattle.lis_field.specs.Delimiters.{DelimiterBytes}
 use Rattle.lis_field.specs.Shape.{RecordContent}
-use Rattle.lis_message.specs.Kept.{Opened, opened_of, opened_with}
+use Rattle.lis_message.specs.inside.Kept.{Opened, opened_of, opened_with}
 use Rattle.lis_message.specs.Records.{IsRefusedFor, IsStopped}
 use Rattle.lis_message.specs.Stream.{LacksReturn, refusal}
-use Rattle.lis_message.specs.Taking.{ComesNext, front_refusal, inner, left_after}
+use Rattle.lis_message.specs.inside.Taking.{ComesNext, front_refusal, inner, left_after}
 use Rattle.lis_message.proofs.Cuts.{left_after-more}
 use Rattle.lis_message.proofs.TakingLaws.{inner_refused, place_refused}
 use Rattle.lis_record.specs.declared.faults.RecordFault.{RecordFault}
@@ -22,10 +22,10 @@ use Rattle.lis_tree.specs.declared.fault.Reason.{Reason}
 use Rattle.lis_tree.specs.declared.fault.Reason.TheVariants as reasons
 use Rattle.lis_tree.specs.declared.standing.Standing.{Standing}
 use Rattle.lis_tree.specs.declared.standing.Standing.TheVariants as standings
-use Rattle.lis_tree.specs.Begun.{Begun, level_of}
+use Rattle.lis_tree.specs.inside.Begun.{Begun, level_of}
 use Rattle.lis_tree.specs.Level.{Level, closed, misplaced, next_level}
 use Rattle.lis_tree.specs.Places.{capped}
-use Rattle.lis_tree.specs.Standing.{standing_level}
+use Rattle.lis_tree.specs.inside.Standing.{standing_level}
 
 -- ---- in an open message
 

@@ -3,7 +3,7 @@ use Rattle.std.proofs.Common.{◌≡◌, ℕ, ◌⊎◌, inl, inr, ⊎_elim, Lis
 use Rattle.std.proofs.lemmas.List.{append-nil}
 use Rattle.lis_tree.specs.declared.fault.MessageFault.{MessageFault}
 use Rattle.lis_tree.specs.declared.fault.Reason.{Reason}
-use Rattle.lis_tree.specs.Begun.{Begun}
+use Rattle.lis_tree.specs.inside.Begun.{Begun}
 use Rattle.lis_message.specs.Feeding.{next_place}
 use Rattle.lis_message.specs.Stream.{ended, refusal, IsRefused, IsRefusedText, IsLongText, LacksReturn}
 use Rattle.lis_tree.specs.Tree.{MessageTree}

@@ -10,7 +10,7 @@ use Rattle.lis_record.specs.Spelling.{spelled, written}
 use Rattle.lis_record.proofs.ReadBack.{IsRecord-spelled}
 use Rattle.lis_tree.specs.declared.fault.MessageFault.{MessageFault}
 use Rattle.lis_tree.specs.declared.fault.Reason.TheVariants as reasons
-use Rattle.lis_tree.specs.Begun.{Begun}
+use Rattle.lis_tree.specs.inside.Begun.{Begun}
 use Rattle.lis_message.specs.Feeding.{ReadsWhole, Stops, IsWantOfMemory, IsCutShort, at_end}
 use Rattle.lis_message.specs.Stream.{ended, AreMessage, IsMessage, IsCut, IsRefused}
 use Rattle.lis_tree.specs.Tree.{MessageTree, IsTree, flatten}

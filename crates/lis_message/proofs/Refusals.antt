@@ -14,7 +14,7 @@ use Rattle.lis_record.proofs.FaultLaws.{header_fault-IsRecord, record_fault-IsRe
 use Rattle.lis_tree.specs.declared.fault.MessageFault.{MessageFault}
 use Rattle.lis_tree.specs.declared.fault.Reason.{Reason}
 use Rattle.lis_tree.specs.declared.fault.Reason.TheVariants as reasons
-use Rattle.lis_tree.specs.Begun.{Begun, level_of}
+use Rattle.lis_tree.specs.inside.Begun.{Begun, level_of}
 use Rattle.lis_tree.specs.Level.{misplaced}
 use Rattle.lis_message.specs.Stream.{ended, kind_refusal, letter_refusal, refusal, IsCut, IsRefused, IsRefusedText, IsLongText, LacksReturn}
 use Rattle.lis_tree.specs.Tree.{MessageTree}

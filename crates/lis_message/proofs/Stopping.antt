@@ -5,7 +5,7 @@ use Rattle.std.proofs.lemmas.List.{append-nil, take-append-drop}
 use Rattle.lis_record.specs.declared.texts.TheConstants.{RECORD_LIMIT}
 use Rattle.lis_tree.specs.declared.fault.MessageFault.{MessageFault}
 use Rattle.lis_tree.specs.declared.fault.Reason.TheVariants as reasons
-use Rattle.lis_tree.specs.Begun.{Begun}
+use Rattle.lis_tree.specs.inside.Begun.{Begun}
 use Rattle.lis_message.specs.Feeding.{Unended, IsWantOfMemory, Stops, Goes, StopsIn, next_place}
 use Rattle.lis_message.specs.Stream.{ended, refusal, IsCut, IsRefused, LacksReturn}
 use Rattle.lis_tree.specs.Tree.{MessageTree}

@@ -12,10 +12,10 @@ use Rattle.lis_field.specs.Shape.{RecordContent}
 use Rattle.lis_record.proofs.FaultLaws.{record_fault-IsRecord}
 use Rattle.lis_tree.specs.declared.fault.Reason.{Reason}
 use Rattle.lis_tree.specs.declared.fault.Reason.TheVariants as reasons
-use Rattle.lis_tree.specs.Begun.{Begun, level_of}
+use Rattle.lis_tree.specs.inside.Begun.{Begun, level_of}
 use Rattle.lis_tree.specs.Level.{misplaced}
 use Rattle.lis_message.specs.Stream.{kind_refusal, letter_refusal, refusal}
-use Rattle.lis_message.specs.Taking.{front_refusal, letter_front}
+use Rattle.lis_message.specs.inside.Taking.{front_refusal, letter_front}
 use Rattle.lis_message.proofs.Refusals.{refusal_at, refusal-header, refusal-other}
 
 -- ---- what the letter tells

@@ -5,15 +5,15 @@ use Rattle.lis_field.specs.Shape.{RecordContent}
 use Rattle.lis_message.specs.declared.records.Found.{Found}
 use Rattle.lis_message.specs.declared.records.Found.TheVariants as found
 use Rattle.lis_message.specs.Feeding.{Unended, next_place}
-use Rattle.lis_message.specs.Kept.{RecordsState, opened_of}
+use Rattle.lis_message.specs.inside.Kept.{RecordsState, opened_of}
 use Rattle.lis_message.specs.Stream.{IsCut, IsRefusedText, LacksReturn, refusal}
-use Rattle.lis_message.specs.Taking.{ComesNext, Completes, left_after}
+use Rattle.lis_message.specs.inside.Taking.{ComesNext, Completes, left_after}
 use Rattle.lis_record.specs.Lent.{Lent}
 use Rattle.lis_record.specs.Text.{record_limit}
 use Rattle.lis_tree.specs.declared.fault.MessageFault.{MessageFault}
 use Rattle.lis_tree.specs.declared.fault.Reason.{Reason}
 use Rattle.lis_tree.specs.declared.fault.Reason.TheVariants as reasons
-use Rattle.lis_tree.specs.Begun.{Begun}
+use Rattle.lis_tree.specs.inside.Begun.{Begun}
 use Rattle.lis_tree.specs.Tree.{MessageTree}
 
 -- This is what is left of the stream that the reader has read, beside the bytes that it holds.

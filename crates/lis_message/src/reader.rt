@@ -5,7 +5,7 @@ ghost use Rattle.std.specs.List.{AllByRecursion, flat_map};
 ghost use Rattle.lis_message.specs.Feeding.{Goes, GoesBefore, ReadsWhole, Reads, StopsIn, finished};
 ghost use Rattle.lis_message.specs.Records.{Adds, HasLeft, unended};
 ghost use Rattle.lis_message.specs.Stream.{IsCut};
-ghost use Rattle.lis_message.specs.Taking.{ComesNext, Completes, left_after};
+ghost use Rattle.lis_message.specs.inside.Taking.{ComesNext, Completes, left_after};
 ghost use Rattle.lis_message.specs.Writing.{IsWritable, message_bytes};
 ghost use Rattle.lis_tree.specs.declared.fault.Reason.TheVariants as reasons;
 ghost use Rattle.lis_tree.specs.Tree.{IsTree, MessageTree};

@@ -6,14 +6,14 @@ ghost use Rattle.std.specs.Prelude.{List, Option, IfOk, IfErr, OnOk, OnSome};
 ghost use Rattle.std.specs.Prelude.{IfSome, IfNone, None, Some, Ok, Err, length};
 ghost use Rattle.lis_message.specs.declared.records.Found.TheVariants.{Refused as IsRefusal};
 ghost use Rattle.lis_message.specs.Feeding.{at_end, next_place};
-ghost use Rattle.lis_message.specs.Kept.{opened_of, opened_with};
+ghost use Rattle.lis_message.specs.inside.Kept.{opened_of, opened_with};
 ghost use Rattle.lis_message.specs.Records.{EndsHeld, HasLeft, IsRefusedFor, IsStopped, Reads};
 ghost use Rattle.lis_message.specs.Stream.{LacksReturn, refusal};
-ghost use Rattle.lis_message.specs.Taking.{ComesNext, front_refusal, left_after};
+ghost use Rattle.lis_message.specs.inside.Taking.{ComesNext, front_refusal, left_after};
 ghost use Rattle.lis_record.specs.declared.texts.TheConstants.{RECORD_LIMIT};
 ghost use Rattle.lis_record.specs.Lent.{Lent, record_in};
 ghost use Rattle.lis_field.specs.Shape.{RecordContent};
-ghost use Rattle.lis_tree.specs.Begun.{Begun};
+ghost use Rattle.lis_tree.specs.inside.Begun.{Begun};
 ghost use Rattle.lis_tree.specs.declared.fault.Reason.TheVariants as reasons;
 
 use lis_record::{
@@ -36,8 +36,8 @@ struct Opened {
 }
 
 impl Model for Opened {
-    ghost use Rattle.lis_message.specs.Kept.{Opened};
-    ghost use Rattle.lis_tree.specs.Standing.{standing_level};
+    ghost use Rattle.lis_message.specs.inside.Kept.{Opened};
+    ghost use Rattle.lis_tree.specs.inside.Standing.{standing_level};
 
     ghost Value = { Opened };
 
@@ -158,7 +158,7 @@ struct HeldBytes {
 
 impl Model for HeldBytes {
     ghost use Rattle.std.specs.Prelude.{◌≤◌, length};
-    ghost use Rattle.lis_message.specs.Kept.{Holding, holding};
+    ghost use Rattle.lis_message.specs.inside.Kept.{Holding, holding};
     ghost use Rattle.lis_record.specs.declared.texts.TheConstants.{RECORD_LIMIT};
 
     ghost Value = { Holding };
@@ -264,7 +264,7 @@ pub struct RecordReader {
 }
 
 impl Model for RecordReader {
-    ghost use Rattle.lis_message.specs.Kept.{RecordsState};
+    ghost use Rattle.lis_message.specs.inside.Kept.{RecordsState};
 
     ghost Value = { RecordsState };
 

@@ -13,7 +13,7 @@ use Rattle.lis_field.specs.declared.symbols.Sym.TheVariants.{Char}
 use Rattle.lis_field.specs.Delimiters.{DelimiterBytes, IsDelimiters, is_punctuation}
 use Rattle.lis_field.proofs.FirstFaults.{ltb_tells, some_none, test_false}
 use Rattle.lis_record.specs.Escapes.{IsComponent, nothing, plain, escape, lone, BeginsEscape, escape_of, letter_symbol, raw_symbols}
-use Rattle.lis_record.specs.FrontReading.{escape_at, symbols_after, symbols_of}
+use Rattle.lis_record.specs.inside.FrontReading.{escape_at, symbols_after, symbols_of}
 use Rattle.lis_record.specs.Relation.{Lacks}
 use Rattle.lis_field.specs.Shape.{Symbols}
 

@@ -10,7 +10,7 @@ use Rattle.lis_field.specs.declared.symbols.Sym.TheVariants.{Char, Raw}
 use Rattle.lis_field.specs.Delimiters.{DelimiterBytes, delimiters_of, delimiter_fault, is_punctuation}
 use Rattle.lis_record.specs.Escapes.{escape_of}
 use Rattle.lis_record.specs.Faults.{text_fault, record_fault, delimiter_part_fault, header_fault, check_fault}
-use Rattle.lis_record.specs.FrontReading.{escape_at, symbols_after, symbols_of}
+use Rattle.lis_record.specs.inside.FrontReading.{escape_at, symbols_after, symbols_of}
 use Rattle.lis_field.specs.Kinds.{kind_of}
 use Rattle.lis_record.specs.Spelling.{spelled_symbol, spelled}
 use Rattle.lis_record.specs.Text.{is_text_byte}

@@ -11,7 +11,7 @@ use Rattle.lis_record.specs.declared.faults.DelimiterPartFault.TheVariants.{Trai
 use Rattle.lis_record.specs.declared.faults.RecordFault.TheVariants as record_faults
 use Rattle.lis_field.specs.Delimiters.{DelimiterBytes, IsDelimiters, delimiter_fault, delimiters_of}
 use Rattle.lis_record.specs.Faults.{delimiter_part_fault, header_fault, is_other_kind, record_fault, text_fault, trailing_byte, is_header_kind}
-use Rattle.lis_record.specs.FrontReading.{fields_of}
+use Rattle.lis_record.specs.inside.FrontReading.{fields_of}
 use Rattle.lis_field.specs.Kinds.{kind_of}
 use Rattle.lis_record.specs.Relation.{AreFieldTexts, IsRecord, declared_part}
 use Rattle.lis_field.specs.Shape.{RecordContent}

@@ -12,7 +12,7 @@ use Rattle.lis_record.specs.declared.faults.DelimiterPartFault.TheVariants.{Faul
 use Rattle.lis_record.specs.declared.faults.RecordFault.TheVariants as record_faults
 use Rattle.lis_record.specs.Faults.{delimiter_part_fault, header_fault, is_header_kind, is_other_kind, record_fault, text_fault, trailing_byte}
 use Rattle.lis_record.specs.Faultless.{IsSomeHeader, IsSomeRecord}
-use Rattle.lis_record.specs.FrontReading.{fields_of}
+use Rattle.lis_record.specs.inside.FrontReading.{fields_of}
 use Rattle.lis_record.proofs.FaultLaws.{IsRecord-fields_of, IsRecord-header, header_fault-IsRecord, record_fault-IsRecord}
 
 -- ---- records other than headers

@@ -15,9 +15,9 @@ use Rattle.lis_field.specs.Shape.{Symbols, field_at, first_number}
 use Rattle.lis_field.specs.declared.kinds.Kind.{Kind}
 use Rattle.lis_field.proofs.FirstFaults.{ltb-past, test_false}
 use Rattle.lis_record.specs.Lent.{lent}
-use Rattle.lis_record.specs.FrontReading.{components_of, fields_of, parts_behind, parts_of, repeats_of, symbols_after, symbols_of}
+use Rattle.lis_record.specs.inside.FrontReading.{components_of, fields_of, parts_behind, parts_of, repeats_of, symbols_after, symbols_of}
 use Rattle.lis_record.specs.Relation.{Lacks}
-use Rattle.lis_record.specs.Remaining.{more_components, remaining_text}
+use Rattle.lis_record.specs.inside.Remaining.{more_components, remaining_text}
 use Rattle.lis_record.specs.Spelling.{spelled_component, spelled_field, spelled_repeat, spelled_symbol}
 use Rattle.lis_record.proofs.Components.{symbols_of-plain}
 use Rattle.lis_record.proofs.Joins.{onto_first-apart, parts_of-apart}

@@ -4,7 +4,7 @@ use Rattle.lis_field.specs.declared.kinds.Kind.{Kind}
 use Rattle.lis_field.specs.declared.kinds.Kind.TheVariants as kinds
 use Rattle.lis_field.specs.Delimiters.{DelimiterBytes, IsDelimiters}
 use Rattle.lis_record.specs.Faults.{delimiter_part_fault, header_fault, record_fault}
-use Rattle.lis_record.specs.FrontReading.{DeclaresDelimiters, OpensHeader, OpensRecord, fields_of}
+use Rattle.lis_record.specs.inside.FrontReading.{DeclaresDelimiters, OpensHeader, OpensRecord, fields_of}
 use Rattle.lis_record.specs.Lent.{Lent, front_length, lent, record_in}
 use Rattle.lis_record.specs.declared.faults.RecordFault.{RecordFault}
 use Rattle.lis_record.specs.Relation.{IsRecord}

@@ -13,7 +13,7 @@ use Rattle.std.proofs.lemmas.List.Sums.{fails_before_first, position_or_len_is}
 use Rattle.lis_field.specs.declared.symbols.Sym.TheVariants.{Char}
 use Rattle.lis_field.specs.Delimiters.{DelimiterBytes}
 use Rattle.lis_record.specs.Escapes.{escape_of, letter_symbol, raw_symbols}
-use Rattle.lis_record.specs.FrontReading.{ArePairs, digit_symbols, escape_at, parts_behind, parts_of, symbols_after, symbols_left, symbols_of}
+use Rattle.lis_record.specs.inside.FrontReading.{ArePairs, digit_symbols, escape_at, parts_behind, parts_of, symbols_after, symbols_left, symbols_of}
 use Rattle.lis_field.specs.Shape.{Symbols}
 use Rattle.lis_field.proofs.FirstFaults.{ltb-past, ltb_tells, position-AllPass, test_false}
 use Rattle.lis_record.proofs.Components.{symbols_of-escape, symbols_of-lone, symbols_of-plain}

@@ -5,7 +5,7 @@ use Rattle.std.proofs.Common.{◌≡◌, ℕ, ◌<◌, List, [], ◌∷◌, ◌+
 use Rattle.std.specs.List.{flat_map, join_with_byte}
 use Rattle.lis_field.specs.declared.symbols.Sym.{Sym}
 use Rattle.lis_field.specs.Delimiters.{DelimiterBytes}
-use Rattle.lis_record.specs.Remaining.{more_components, more_fields, more_repeats, remaining}
+use Rattle.lis_record.specs.inside.Remaining.{more_components, more_fields, more_repeats, remaining}
 use Rattle.lis_field.specs.Shape.{Components, Fields, Repeats, Symbols}
 use Rattle.lis_record.specs.Spelling.{spelled_component, spelled_field, spelled_repeat, spelled_symbol, char_spelling, delimiter_letter}
 

@@ -1,11 +1,9 @@
 pub mod Escapes
 pub mod Faultless
 pub mod Faults
-pub mod FrontReading
 pub mod Lent
-pub mod Pieces
 pub mod Relation
-pub mod Remaining
 pub mod Spelling
 pub mod Text
 pub mod Writing
+pub mod inside

@@ -1,7 +1,7 @@
 //! Records made from their texts, part by part (LIS02-A2, Delimiters).
 
 ghost use Rattle.std.specs.Prelude.{◌≡◌, IfOk};
-ghost use Rattle.lis_record.specs.FrontReading.{components_of, fields_of, repeats_of};
+ghost use Rattle.lis_record.specs.inside.FrontReading.{components_of, fields_of, repeats_of};
 
 use crate::escapes::read_component;
 use crate::texts::{count_parts, first_part};

@@ -2,7 +2,7 @@
 
 ghost use Rattle.std.specs.Prelude.{◌≡◌, ◌+◌, ◌<◌, ◌≤◌, ◌++◌, [], ℕ, List, length, IsTrue, IsFalse};
 ghost use Rattle.lis_field.specs.Delimiters.{DelimiterBytes};
-ghost use Rattle.lis_record.specs.Remaining.{more_components, more_fields, more_repeats, remaining};
+ghost use Rattle.lis_record.specs.inside.Remaining.{more_components, more_fields, more_repeats, remaining};
 ghost use Rattle.lis_record.specs.Spelling.{spelled_component, spelled_field, spelled_repeat};
 
 use crate::chunk::{CHUNK, Chunk, LONGEST_SYMBOL};
@@ -33,7 +33,7 @@ pub(crate) struct Cursor<'a> {
 
 impl<'a> Model for Cursor<'a> {
     ghost use Rattle.std.specs.Prelude.{ℕ, List};
-    ghost use Rattle.lis_record.specs.Remaining.{remaining};
+    ghost use Rattle.lis_record.specs.inside.Remaining.{remaining};
 
     ghost Value = { List ℕ };
 
@@ -94,7 +94,7 @@ impl<'a> Cursor<'a> {
         }
     }
 
-    #[tactic(auto, unfolding(crate::specs::Remaining::remaining))]
+    #[tactic(auto, unfolding(crate::specs::inside::Remaining::remaining))]
     // These fields, each behind a field delimiter, and then these bytes.
     pub(crate) fn of_fields(delimiters: Delimiters, fields: &'a [Field], end: &'a [u8]) -> Self
         ensures { result ≡ more_fields delimiters fields.now ++ end.now }

@@ -5,7 +5,7 @@ ghost use Rattle.std.specs.List.{list_all};
 ghost use Rattle.lis_field.specs.declared.symbols.Sym.TheVariants.{Raw};
 ghost use Rattle.hex.specs.Hex.{decode_of, hex_digit_value, is_hex_digit};
 ghost use Rattle.lis_record.specs.Escapes.{escape_of, letter_symbol, raw_symbols};
-ghost use Rattle.lis_record.specs.FrontReading.{ArePairs, digit_symbols, symbols_left, symbols_of};
+ghost use Rattle.lis_record.specs.inside.FrontReading.{ArePairs, digit_symbols, symbols_left, symbols_of};
 
 use crate::texts::place_of;
 use lis_field::{Component, Delimiters, Sym};
@@ -146,7 +146,7 @@ pub struct LentSymbols<'a> {
 
 impl<'a> Model for LentSymbols<'a> {
     ghost use Rattle.lis_field.specs.Shape.{Symbols};
-    ghost use Rattle.lis_record.specs.FrontReading.{ArePairs, symbols_left};
+    ghost use Rattle.lis_record.specs.inside.FrontReading.{ArePairs, symbols_left};
 
     ghost Value = { Symbols };
 

@@ -3,7 +3,7 @@
 ghost use Rattle.std.specs.Prelude.{◌≡◌, IfOk, length, option_map, slice_get, false};
 ghost use Rattle.lis_field.specs.Shape.{field_at};
 ghost use Rattle.lis_field.specs.declared.kinds.Kind.{Kind as KindOf};
-ghost use Rattle.lis_record.specs.FrontReading.{components_of, fields_of, repeats_of, symbols_of};
+ghost use Rattle.lis_record.specs.inside.FrontReading.{components_of, fields_of, repeats_of, symbols_of};
 ghost use Rattle.lis_record.specs.Lent.{front_length, lent, record_in};
 ghost use Rattle.lis_record.specs.Relation.{Lacks};
 ghost use Rattle.lis_record.specs.Spelling.{spelled_field};
@@ -31,7 +31,7 @@ pub struct LentComponent<'a> {
 
 impl<'a> Model for LentComponent<'a> {
     ghost use Rattle.lis_field.specs.Shape.{Symbols};
-    ghost use Rattle.lis_record.specs.FrontReading.{symbols_of};
+    ghost use Rattle.lis_record.specs.inside.FrontReading.{symbols_of};
     ghost use Rattle.lis_record.specs.Lent.{Lent, lent};
 
     ghost Value = { Lent Symbols };
@@ -57,7 +57,7 @@ pub struct LentRepeat<'a> {
 
 impl<'a> Model for LentRepeat<'a> {
     ghost use Rattle.lis_field.specs.Shape.{Components};
-    ghost use Rattle.lis_record.specs.FrontReading.{components_of};
+    ghost use Rattle.lis_record.specs.inside.FrontReading.{components_of};
     ghost use Rattle.lis_record.specs.Lent.{Lent, lent};
 
     ghost Value = { Lent Components };
@@ -96,7 +96,7 @@ pub struct LentField<'a> {
 
 impl<'a> Model for LentField<'a> {
     ghost use Rattle.lis_field.specs.Shape.{Repeats};
-    ghost use Rattle.lis_record.specs.FrontReading.{repeats_of};
+    ghost use Rattle.lis_record.specs.inside.FrontReading.{repeats_of};
     ghost use Rattle.lis_record.specs.Lent.{Lent, lent};
     ghost use Rattle.lis_record.specs.Relation.{Lacks};
 
@@ -189,7 +189,7 @@ pub struct LentRecord<'a> {
 
 impl<'a> Model for LentRecord<'a> {
     ghost use Rattle.lis_field.specs.Shape.{RecordContent};
-    ghost use Rattle.lis_record.specs.FrontReading.{fields_of};
+    ghost use Rattle.lis_record.specs.inside.FrontReading.{fields_of};
     ghost use Rattle.lis_record.specs.Lent.{Lent, lent};
 
     ghost Value = { Lent RecordContent };

@@ -1,7 +1,7 @@
 //! What is left of a lent field while it is written.
 
 ghost use Rattle.std.specs.Prelude.{◌≡◌, ◌+◌, ◌<◌, ◌≤◌, ◌++◌, [], length, IsTrue, IsFalse};
-ghost use Rattle.lis_record.specs.FrontReading.{repeats_of};
+ghost use Rattle.lis_record.specs.inside.FrontReading.{repeats_of};
 ghost use Rattle.lis_record.specs.Spelling.{spelled_field};
 
 use crate::chunk::{CHUNK, Chunk, LONGEST_SYMBOL};
@@ -22,7 +22,7 @@ pub(crate) struct LentCursor<'a> {
 
 impl<'a> Model for LentCursor<'a> {
     ghost use Rattle.std.specs.Prelude.{ℕ, List};
-    ghost use Rattle.lis_record.specs.Remaining.{remaining_text};
+    ghost use Rattle.lis_record.specs.inside.Remaining.{remaining_text};
 
     ghost Value = { List ℕ };
 

@@ -19,7 +19,7 @@ pub struct FieldSpelling<'a> {
 
 impl<'a> Model for FieldSpelling<'a> {
     ghost use Rattle.std.specs.Prelude.{◌≡◌, [], length};
-    ghost use Rattle.lis_record.specs.Pieces.{Pieces};
+    ghost use Rattle.lis_record.specs.inside.Pieces.{Pieces};
 
     ghost Value = { Pieces };
 

@@ -3,7 +3,7 @@
 ghost use Rattle.std.specs.Prelude.{◌≡◌, ◌≢◌, IfOk, IfErr, MatchOption, MatchResult, Ok, Option, Some, None, true, false};
 ghost use Rattle.lis_field.specs.Delimiters.{DelimiterBytes, IsDelimiters};
 ghost use Rattle.lis_record.specs.Faults.{TellsFault, delimiter_part_fault, header_fault, is_header_kind, is_other_kind, record_fault, text_fault, trailing_byte};
-ghost use Rattle.lis_record.specs.FrontReading.{DeclaresDelimiters, OpensHeader, OpensRecord};
+ghost use Rattle.lis_record.specs.inside.FrontReading.{DeclaresDelimiters, OpensHeader, OpensRecord};
 ghost use Rattle.lis_record.specs.Lent.{lent, record_in};
 ghost use Rattle.lis_record.specs.Relation.{IsRecord};
 ghost use Rattle.lis_field.specs.Shape.{RecordContent};

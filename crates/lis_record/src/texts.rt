@@ -4,7 +4,7 @@ ghost use Rattle.std.specs.Prelude.{◌≡◌, ◌≤◌, ◌∷◌, ◌==◌, l
 ghost use Rattle.std.specs.List.{list_any};
 ghost use Rattle.std.specs.Option.{option_copied};
 ghost use Rattle.std.specs.Prelude.{not};
-ghost use Rattle.lis_record.specs.FrontReading.{parts_behind, parts_of};
+ghost use Rattle.lis_record.specs.inside.FrontReading.{parts_behind, parts_of};
 ghost use Rattle.lis_record.specs.Text.{bad_byte_place, is_text_byte};
 
 use memchr::memchr;

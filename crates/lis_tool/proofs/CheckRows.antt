@@ -8,7 +8,7 @@ use Rattle.lis_field.specs.Delimiters.{DelimiterBytes, delimiters_of}
 use Rattle.lis_field.specs.Shape.{RecordContent}
 use Rattle.lis_record.specs.declared.faults.RecordFault.TheVariants as record_faults
 use Rattle.lis_record.specs.Escapes.{escape_of}
-use Rattle.lis_record.specs.FrontReading.{escape_at, fields_of, symbols_after}
+use Rattle.lis_record.specs.inside.FrontReading.{escape_at, fields_of, symbols_after}
 use Rattle.lis_record.specs.Spelling.{spelled_symbol}
 use Rattle.lis_tree.specs.declared.fault.MessageFault.{MessageFault}
 use Rattle.lis_tree.specs.declared.fault.Reason.TheVariants as reasons

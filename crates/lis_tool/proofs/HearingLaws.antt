@@ -2,18 +2,18 @@
 use Rattle.std.proofs.Common.{◌≡◌, ℕ, suc, ◌+◌, ◌^◌, ◌<◌, ◌≤◌, min, List, [], ◌∷◌, ◌++◌, Option, None, Some, Ok, Err, length, drop, refl, sym, ◌∙◌, ap, subst, arith, append-nil, append_assoc, length-append, length-drop}
 use Rattle.std.specs.List.{flat_map}
 use Rattle.std.specs.Option.{option_to_list}
-use Rattle.lis_link.specs.Kept.{Kept}
+use Rattle.lis_link.specs.inside.Kept.{Kept}
 use Rattle.lis_link.specs.declared.receiver.Note.{Note}
 use Rattle.lis_link.specs.declared.receiver.Note.TheVariants.{Quiet}
 use Rattle.lis_link.specs.declared.receiver.Step.{Step}
 use Rattle.lis_link.specs.Receiver.{ReceiverState, ReceiverStep, ReceiverHearing, heard_on, on_byte, on_bytes, with_heard}
-use Rattle.lis_link.specs.Stands.{IsIn, Makes}
+use Rattle.lis_link.specs.inside.Stands.{IsIn, Makes}
 use Rattle.lis_link.proofs.HearingLaws.{on_byte-quiet}
 use Rattle.lis_tool.specs.declared.fault.ToolFault.{ToolFault}
 use Rattle.lis_tool.specs.declared.playing.Account.{Account}
 use Rattle.lis_tool.specs.declared.playing.Account.TheVariants.{Lines}
 use Rattle.lis_tool.specs.Output.{Gathered, Out, most_counted}
-use Rattle.lis_tool.specs.Playing.{IsHearing, text_part, text_parts}
+use Rattle.lis_tool.specs.inside.Playing.{IsHearing, text_part, text_parts}
 use Rattle.lis_tool.specs.Replay.{heard, replies, handed}
 use Rattle.lis_tool.proofs.GatherLaws.{gathered_then, gathered_stops}
 

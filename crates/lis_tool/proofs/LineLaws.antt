@@ -18,7 +18,7 @@ use Rattle.lis_tool.specs.declared.report.Report.{Report}
 use Rattle.lis_tool.specs.LineOutcome.{IsLined, LineEnds, Writes, capture_outcome, lines_outcome, lines_text}
 use Rattle.lis_tool.specs.Outcome.{Outcome, whole}
 use Rattle.lis_tool.specs.Output.{Gathered, Out, most_counted}
-use Rattle.lis_tool.specs.Steps.{Ends, Fails, Halts, Puts}
+use Rattle.lis_tool.specs.inside.Steps.{Ends, Fails, Halts, Puts}
 use Rattle.lis_tool.proofs.GatherLaws.{gathered_nothing, gathered_then}
 use Rattle.lis_tool.proofs.ShowLaws.{front_stream, stream_with-append}
 

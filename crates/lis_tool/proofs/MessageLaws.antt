@@ -7,7 +7,7 @@ use Rattle.lis_field.specs.Shape.{RecordContent}
 use Rattle.lis_record.specs.Relation.{IsRecord}
 use Rattle.lis_tree.specs.declared.fault.MessageFault.{MessageFault}
 use Rattle.lis_tree.specs.declared.fault.Reason.TheVariants as reasons
-use Rattle.lis_tree.specs.Begun.{Begun}
+use Rattle.lis_tree.specs.inside.Begun.{Begun}
 use Rattle.lis_tree.specs.Tree.{MessageTree, flatten}
 use Rattle.lis_message.specs.Feeding.{at_end, ReaderState, finished, IsCutShort, Reads as ReadsOf, Stops}
 use Rattle.lis_message.specs.Stream.{IsCut, IsRefused, AreMessage, ended}
@@ -21,7 +21,7 @@ use Rattle.lis_tool.specs.LineOutcome.{LineSteps, LineEnds}
 use Rattle.lis_tool.specs.Messages.{MessageWrites, Comes, IsReadingMessages, IsStarved, goes_on, messages_text, over, record_count, refused, report_after}
 use Rattle.lis_tool.specs.Outcome.{Outcome, whole, going}
 use Rattle.lis_tool.specs.Output.{Gathered, Out, Put, most_counted, out}
-use Rattle.lis_tool.specs.Steps.{Halts, Fails, IsEarly, Puts, Ends}
+use Rattle.lis_tool.specs.inside.Steps.{Halts, Fails, IsEarly, Puts, Ends}
 use Rattle.lis_tool.proofs.GatherLaws.{gathered_nothing, gathered_then, gathered_stops}
 
 -- no byte is no message

@@ -5,9 +5,9 @@ use Rattle.std.specs.Option.{option_to_list}
 use Rattle.std.specs.Str.{bytes_eq}
 use Rattle.lis_capture.specs.declared.line.Line.{Line}
 use Rattle.lis_capture.specs.declared.line.Line.TheVariants.{FromAnalyzer, FromComputer}
-use Rattle.lis_link.specs.Kept.{Kept}
+use Rattle.lis_link.specs.inside.Kept.{Kept}
 use Rattle.lis_link.specs.Receiver.{ReceiverState, on_byte}
-use Rattle.lis_link.specs.Stands.{IsIn}
+use Rattle.lis_link.specs.inside.Stands.{IsIn}
 use Rattle.std.specs.declared.result.Result.{Result}
 use Rattle.lis_tool.specs.declared.fault.ToolFault.{ToolFault}
 use Rattle.lis_tool.specs.declared.machine.Halt.{Halt}
@@ -23,7 +23,7 @@ use Rattle.lis_tool.specs.declared.playing.Account.TheVariants.{Lines, Texts}
 use Rattle.std.specs.List.{flat_map}
 use Rattle.lis_tool.specs.Output.{Gathered, Out, most_counted}
 use Rattle.lis_tool.proofs.GatherLaws.{gathered_nothing}
-use Rattle.lis_tool.specs.Playing.{IsHearing, IsPlaying, playing_writes, text_parts}
+use Rattle.lis_tool.specs.inside.Playing.{IsHearing, IsPlaying, playing_writes, text_parts}
 use Rattle.lis_tool.specs.Replay.{Played, all_differences, compared_line, count_with, difference_count, differs_at, handed, heard, played, played_line, replay_line, replay_writes, replies, status_of, text_count, texts_at}
 
 by_differs : (t : Bool) (n k : ℕ) → n ≤ k → (if t then n + 1 else n) ≤ k + 1

@@ -13,7 +13,7 @@ use Rattle.lis_tool.specs.declared.machine.Halt.{Halt}
 use Rattle.lis_tool.specs.Outcome.{Outcome, whole, going}
 use Rattle.lis_tool.specs.Output.{Gathered, Out, PartWentOut, Put, WentOut, out}
 use Rattle.lis_tool.specs.Runs.{IsOver, Wrote, Ran, StopsBy}
-use Rattle.lis_tool.specs.Steps.{Halts, Fails, Puts, IsEarly, IsTold}
+use Rattle.lis_tool.specs.inside.Steps.{Halts, Fails, Puts, IsEarly, IsTold}
 use Rattle.lis_tool.proofs.GatherLaws.{gathered_sent, gathered_settled, gathered_then}
 use Rattle.lis_tool.proofs.PutLaws.{part_then, put_stops}
 

@@ -6,7 +6,7 @@ use Rattle.lis_field.specs.Kinds.{letter_of}
 use Rattle.lis_field.specs.Shape.{RecordContent}
 use Rattle.lis_tool.specs.Codes.{reason_code}
 use Rattle.lis_tool.specs.Messages.{MessageWrites}
-use Rattle.lis_tool.specs.Parts.{joined}
+use Rattle.lis_tool.specs.inside.Parts.{joined}
 use Rattle.lis_tree.specs.declared.fault.MessageFault.{MessageFault}
 use Rattle.lis_tree.specs.declared.numbering.Finding.{Finding}
 use Rattle.lis_tree.specs.Findings.{findings_of}

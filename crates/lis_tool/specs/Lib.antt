@@ -1,7 +1,6 @@
 -- What the program writes for what it reads.
 pub mod Output
 pub mod Outcome
-pub mod Steps
 pub mod Runs
 pub mod LineOutcome
 pub mod CaptureRuns
@@ -12,9 +11,8 @@ pub mod Check
 pub mod Results
 pub mod Upgrade
 pub mod Show
-pub mod Parts
 pub mod Replay
-pub mod Playing
 pub mod Words
 pub mod Commands
 pub mod Laws
+pub mod inside

@@ -7,7 +7,7 @@ use Rattle.lis_tool.specs.declared.fault.ToolFault.TheVariants.{OutOfMemory}
 use Rattle.lis_tool.specs.declared.report.Refused.{Refused}
 use Rattle.lis_tool.specs.declared.report.Report.{Report}
 use Rattle.lis_tool.specs.Outcome.{Outcome, going}
-use Rattle.lis_tree.specs.Begun.{Begun}
+use Rattle.lis_tree.specs.inside.Begun.{Begun}
 use Rattle.lis_tree.specs.declared.fault.MessageFault.{MessageFault}
 use Rattle.lis_tree.specs.Tree.{MessageTree, flatten}
 

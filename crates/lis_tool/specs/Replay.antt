@@ -12,7 +12,7 @@ use Rattle.lis_capture.specs.declared.line.Line.TheVariants.{Empty, FromAnalyzer
 use Rattle.lis_tool.specs.declared.report.Report.{Report}
 use Rattle.lis_tool.specs.LineOutcome.{Writes, capture_outcome}
 use Rattle.lis_tool.specs.Outcome.{whole}
-use Rattle.lis_tool.specs.Parts.{joined}
+use Rattle.lis_tool.specs.inside.Parts.{joined}
 use Rattle.lis_tool.specs.Show.{clean}
 
 -- ---- the receiver

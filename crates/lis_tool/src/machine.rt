@@ -5,7 +5,7 @@ ghost use Rattle.std.specs.Io.KnownBytes.{Keeps};
 ghost use Rattle.lis_tool.specs.Outcome.{Outcome, going};
 ghost use Rattle.lis_tool.specs.Output.{out};
 ghost use Rattle.lis_tool.specs.Runs.{IsFresh, Ran, StopsBy};
-ghost use Rattle.lis_tool.specs.Steps.{Ends, IsTold, Steps};
+ghost use Rattle.lis_tool.specs.inside.Steps.{Ends, IsTold, Steps};
 ghost use Rattle.lis_tool.specs.declared.machine.Halt.{Halt};
 ghost use Rattle.lis_tool.specs.declared.machine.Turn.TheVariants.{Off};
 

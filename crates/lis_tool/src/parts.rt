@@ -2,7 +2,7 @@
 
 ghost use Rattle.std.specs.Prelude.{◌≡◌, false, is_err};
 ghost use Rattle.lis_tool.specs.Output.{Gathered, out};
-ghost use Rattle.lis_tool.specs.Parts.{part_text, parts_text};
+ghost use Rattle.lis_tool.specs.inside.Parts.{part_text, parts_text};
 
 use crate::fault::ToolFault;
 use crate::gather::{gather, gather_digits, gather_number};

@@ -6,12 +6,12 @@ ghost use Rattle.lis_frame.specs.Limit.{IsLimit};
 ghost use Rattle.lis_capture.specs.declared.line.Line.{Line as LineContent};
 ghost use Rattle.lis_capture.specs.declared.line.Line.TheVariants as line_kinds;
 ghost use Rattle.lis_link.specs.Receiver.{ReceiverState};
-ghost use Rattle.lis_link.specs.Stands.{IsIn};
+ghost use Rattle.lis_link.specs.inside.Stands.{IsIn};
 ghost use Rattle.lis_tool.specs.declared.playing.Account.{Account as AccountOf};
 ghost use Rattle.lis_tool.specs.declared.playing.Account.TheVariants as accounts;
 ghost use Rattle.lis_tool.specs.LineOutcome.{LineEnds, LineSteps};
 ghost use Rattle.lis_tool.specs.Output.{Gathered, out};
-ghost use Rattle.lis_tool.specs.Playing.{IsHearing, IsPlaying, Took, playing_writes, text_parts};
+ghost use Rattle.lis_tool.specs.inside.Playing.{IsHearing, IsPlaying, Took, playing_writes, text_parts};
 ghost use Rattle.lis_tool.specs.Replay.{handed, heard, replay_writes, replies, status_of};
 
 use crate::fault::ToolFault;

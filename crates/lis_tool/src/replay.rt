@@ -6,7 +6,7 @@ ghost use Rattle.lis_frame.specs.Limit.{IsLimit};
 ghost use Rattle.lis_capture.specs.declared.page.TheConstants.{PAGE_ROOM};
 ghost use Rattle.lis_tool.specs.CaptureRuns.{CaptureRan};
 ghost use Rattle.lis_tool.specs.Output.{Gathered, out};
-ghost use Rattle.lis_tool.specs.Parts.{part_text};
+ghost use Rattle.lis_tool.specs.inside.Parts.{part_text};
 ghost use Rattle.lis_tool.specs.Replay.{compared_line, counts_line, difference_line, digits_or_dash, left_line, replay_writes, text_line};
 ghost use Rattle.lis_tool.specs.Runs.{IsFresh, Stops};
 

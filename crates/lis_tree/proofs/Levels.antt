@@ -5,14 +5,14 @@ use Rattle.lis_field.specs.declared.kinds.Kind.{Kind}
 use Rattle.lis_field.specs.declared.kinds.Kind.TheVariants as kinds
 use Rattle.lis_field.specs.Shape.{RecordContent}
 use Rattle.lis_tree.specs.Nodes.{Noted, OrderTree, PatientTree}
-use Rattle.lis_tree.specs.Front.{FrontTree}
+use Rattle.lis_tree.specs.inside.Front.{FrontTree}
 use Rattle.lis_tree.specs.declared.tree.Group.{Group}
 use Rattle.lis_tree.specs.declared.tree.Group.TheVariants as groups
 use Rattle.lis_tree.specs.declared.spine.Spine.{Spine}
 use Rattle.lis_tree.specs.declared.spine.Spine.TheVariants as spines
 use Rattle.lis_tree.specs.Level.{Level, outside, in_header, in_patient, in_order, in_query, closed, next_level, level_after, misplaced, StandsFrom, kinds_of}
 use Rattle.lis_tree.specs.Tree.{MessageTree, noted_records, order_records, patient_records, group_records, IsNote, AreNotes, IsNoted, IsOrder, IsPatient, IsGroup, IsTree}
-use Rattle.lis_tree.specs.Spine.{front_records, spine_records, spine_level, IsFront, IsSpine}
+use Rattle.lis_tree.specs.inside.Spine.{front_records, spine_records, spine_level, IsFront, IsSpine}
 
 -- a run of kinds that all stand, and where it leads
 pub record Leads (from : Level) (ks : List Kind) (to : Level) : Type 0 where

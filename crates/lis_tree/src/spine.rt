@@ -4,8 +4,8 @@ ghost use Rattle.std.specs.Prelude.{◌≡◌, ◌∷◌, [], ◌++◌, ◌≢�
 ghost use Rattle.lis_field.specs.declared.kinds.Kind.TheVariants as kinds;
 ghost use Rattle.lis_tree.specs.Level.{misplaced};
 ghost use Rattle.lis_tree.specs.Tree.{noted_records, order_records, patient_records, group_records, IsNote, IsNoted, IsOrder, IsPatient, IsGroup, IsTree};
-ghost use Rattle.lis_tree.specs.Spine.{front_records, spine_records, spine_level, IsFront, IsSpine};
-ghost use Rattle.lis_tree.specs.Standing.{standing_level};
+ghost use Rattle.lis_tree.specs.inside.Spine.{front_records, spine_records, spine_level, IsFront, IsSpine};
+ghost use Rattle.lis_tree.specs.inside.Standing.{standing_level};
 
 use crate::lists::Records;
 use crate::message::Message;
@@ -88,7 +88,7 @@ pub(crate) struct Front {
 }
 
 impl Model for Front {
-    ghost use Rattle.lis_tree.specs.Front.{FrontTree};
+    ghost use Rattle.lis_tree.specs.inside.Front.{FrontTree};
 
     ghost Value = { FrontTree };
 

@@ -14,8 +14,8 @@ use Rattle.lis_link.specs.declared.receiver.Note.{Note}
 use Rattle.lis_link.specs.declared.receiver.Note.TheVariants.{Accepted, Duplicate, Opened, OutOfMemory, Quiet}
 use Rattle.lis_link.specs.declared.receiver.Step.{Step}
 use Rattle.lis_link.specs.Receiver.{ReceiverState, ReceiverStep, ReceiverHearing, bid_with, judged, on_judged, heard_by, heard, on_byte, on_bytes, heard_on, with_heard, with_room}
-use Rattle.lis_link.specs.Kept.{Kept}
-use Rattle.lis_link.specs.Stands.{IsIn, IsStep, Makes}
+use Rattle.lis_link.specs.inside.Kept.{Kept}
+use Rattle.lis_link.specs.inside.Stands.{IsIn, IsStep, Makes}
 use Rattle.lis_link.proofs.HearingLaws.{on_byte-quiet}
 use Rattle.lis_link.specs.declared.sender.Phase.{Phase}
 use Rattle.lis_link.specs.declared.sender.Phase.TheVariants as Phases
@@ -25,7 +25,7 @@ use Rattle.lis_world.specs.declared.event.Event.{Event}
 use Rattle.lis_world.specs.Unit.{Load, one_frame}
 use Rattle.lis_world.specs.World.{World, Desk, new_world, booked, noted, hears}
 use Rattle.lis_world.specs.Steps.{emitted, with_sender, sender_steps, given_up, after_event, is_noticed, room_at, runs, world}
-use Rattle.lis_world.specs.Playing.{KeptWorld, world_at, IsWorld, IsPlaying, kept_given_up, KeptDesk, desk_at, IsDesk, OnlyLoad, IsLoad, TakesLoad}
+use Rattle.lis_world.specs.inside.Playing.{KeptWorld, world_at, IsWorld, IsPlaying, kept_given_up, KeptDesk, desk_at, IsDesk, OnlyLoad, IsLoad, TakesLoad}
 
 -- what is accepted is a good frame that was heard
 record IsGood {limit : ℕ} (signal : Option (SignalOf limit)) (step : ReceiverStep) : Type 0 where

@@ -6,5 +6,4 @@ pub mod Steps
 pub mod Safe
 pub mod Progress
 pub mod Recovery
-pub mod Loads
-pub mod Playing
+pub mod inside

@@ -5,13 +5,13 @@ ghost use Rattle.lis_frame.specs.Limit.{IsLimit};
 ghost use Rattle.lis_frame.specs.Frame.{frame_bytes};
 ghost use Rattle.lis_link.specs.declared.receiver.Note.TheVariants as Notes;
 ghost use Rattle.lis_link.specs.Receiver.{ReceiverState, ReceiverStep, new_receiver, on_receiver_timer, receiver_restarted, with_readiness, with_room};
-ghost use Rattle.lis_link.specs.Stands.{IsIn, IsStep};
+ghost use Rattle.lis_link.specs.inside.Stands.{IsIn, IsStep};
 ghost use Rattle.lis_frame.specs.Stream.{signals_after};
 ghost use Rattle.lis_world.specs.Session.{changed};
 ghost use Rattle.lis_world.specs.Unit.{load_bytes, one_frame};
 ghost use Rattle.lis_world.specs.Steps.{is_noticed, room_at};
 ghost use Rattle.lis_world.specs.World.{booked, hears};
-ghost use Rattle.lis_world.specs.Playing.{IsDesk, desk_at, OnlyLoad, TakesLoad, takes_frame, follows_with, sends};
+ghost use Rattle.lis_world.specs.inside.Playing.{IsDesk, desk_at, OnlyLoad, TakesLoad, takes_frame, follows_with, sends};
 
 use crate::session::SessionOf;
 use crate::unit::{LoadOf, TravellingOf};
@@ -35,7 +35,7 @@ pub(crate) struct DeskOf<const N: usize> {
 
 impl<const N: usize> Model for DeskOf<N> {
     ghost use Rattle.lis_frame.specs.Limit.{IsLimit};
-    ghost use Rattle.lis_world.specs.Playing.{KeptDesk};
+    ghost use Rattle.lis_world.specs.inside.Playing.{KeptDesk};
 
     ghost Value = { KeptDesk };
 

@@ -5,9 +5,9 @@ ghost use Rattle.lis_frame.specs.Limit.{IsLimit};
 ghost use Rattle.lis_frame.specs.Stream.{signals_after};
 ghost use Rattle.lis_link.specs.Receiver.{ReceiverState};
 ghost use Rattle.lis_link.specs.Sender.{start_fault};
-ghost use Rattle.lis_link.specs.Stands.{IsIn};
-ghost use Rattle.lis_world.specs.Loads.{load_of};
-ghost use Rattle.lis_world.specs.Playing.{IsWorld, world_at, front_noticed, kept_given_up, kept_forgotten, kept_following, kept_sending, kept_with};
+ghost use Rattle.lis_link.specs.inside.Stands.{IsIn};
+ghost use Rattle.lis_world.specs.inside.Loads.{load_of};
+ghost use Rattle.lis_world.specs.inside.Playing.{IsWorld, world_at, front_noticed, kept_given_up, kept_forgotten, kept_following, kept_sending, kept_with};
 ghost use Rattle.lis_world.specs.Session.{new_session};
 ghost use Rattle.lis_world.specs.Unit.{enquiry};
 ghost use Rattle.lis_world.specs.World.{new_world, replies_with, lowered};
@@ -40,7 +40,7 @@ pub(crate) struct RunOf<const N: usize> {
 
 impl<const N: usize> Model for RunOf<N> {
     ghost use Rattle.lis_frame.specs.Limit.{IsLimit};
-    ghost use Rattle.lis_world.specs.Playing.{KeptWorld};
+    ghost use Rattle.lis_world.specs.inside.Playing.{KeptWorld};
 
     ghost Value = { KeptWorld };
 
@@ -288,7 +288,7 @@ impl<const N: usize> RunOf<N> {
     }
 
     /// The sender has made a step: it is booked to its session, and what it emits goes on the link.
-    #[tactic(auto, unfolding(crate::specs::Playing::sends))]
+    #[tactic(auto, unfolding(crate::specs::inside::Playing::sends))]
     fn step(&mut self, emit: EmitOf<N>) -> Result<(), AllocError>
         requires { IsLimit N }
         ensures { (r : ReceiverState) → IsIn N self.old.desk.receiver r →

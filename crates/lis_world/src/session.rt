@@ -1,7 +1,7 @@
 //! What became of a session.
 
 ghost use Rattle.std.specs.Prelude.{◌≡◌, ◌∷◌, ◌++◌, [], OnOk, Some, None};
-ghost use Rattle.lis_world.specs.Playing.{sends};
+ghost use Rattle.lis_world.specs.inside.Playing.{sends};
 ghost use Rattle.lis_world.specs.Session.{new_session, with_more};
 
 use lis_frame::{FrameOf, FramesOf};
@@ -97,7 +97,7 @@ impl<const N: usize> SessionOf<N> {
     }
 
     /// A frame was put on the link; one that is sent again is there already.
-    #[tactic(auto, unfolding(crate::specs::Playing::sends))]
+    #[tactic(auto, unfolding(crate::specs::inside::Playing::sends))]
     pub(crate) fn send(&mut self, frame: &FrameOf<N>) -> Result<(), AllocError>
         ensures { OnOk result (self.new ≡ sends frame.now self.old) }
     {

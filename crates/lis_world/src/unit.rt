@@ -23,7 +23,7 @@ pub(crate) struct TravellingOf<const N: usize> {
 
 impl<const N: usize> Model for TravellingOf<N> {
     ghost use Rattle.lis_world.specs.Unit.{Travelling};
-    ghost use Rattle.lis_world.specs.Loads.{load_of};
+    ghost use Rattle.lis_world.specs.inside.Loads.{load_of};
 
     ghost Value = { Travelling };
 

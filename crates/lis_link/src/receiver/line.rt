@@ -6,9 +6,9 @@ ghost use Rattle.lis_frame.specs.Scanner.{Held, heard_signal};
 ghost use Rattle.lis_frame.specs.declared.scanner.SignalOf.TheVariants as Signals;
 ghost use Rattle.lis_text.specs.Control.{NAK};
 ghost use Rattle.lis_link.specs.declared.receiver.Note.TheVariants as Notes;
-ghost use Rattle.lis_link.specs.Kept.{idle_line, kept_of};
+ghost use Rattle.lis_link.specs.inside.Kept.{idle_line, kept_of};
 ghost use Rattle.lis_link.specs.Receiver.{ReceiverState, bid_with, judged_by, found_reply, heard_by, heard, on_receiver_timer};
-ghost use Rattle.lis_link.specs.Stands.{IsIn, Makes, IsRefused, IsTaken, SpareAfter};
+ghost use Rattle.lis_link.specs.inside.Stands.{IsIn, Makes, IsRefused, IsTaken, SpareAfter};
 
 use crate::receiver::{MOST_FRAMES, Note, Readiness, Step};
 use lis_frame::{FrameFault, Heard, LentFrame};
@@ -32,7 +32,7 @@ pub(crate) struct Line {
 impl Model for Line {
     ghost use Rattle.std.specs.Prelude.{◌-◌, ◌≤◌, length, vec_len, vec_capacity};
     ghost use Rattle.lis_text.specs.LinkText.{longest_text};
-    ghost use Rattle.lis_link.specs.Kept.{KeptLine};
+    ghost use Rattle.lis_link.specs.inside.Kept.{KeptLine};
 
     ghost Value = { KeptLine };
 

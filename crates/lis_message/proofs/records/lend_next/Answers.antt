@@ -1,5 +1,5 @@
 use Rattle.std.proofs.Common.{is_some, sym, ap, ◌∙◌}
-use Rattle.lis_message.specs.Taking.{front_refusal}
+use Rattle.lis_message.specs.inside.Taking.{front_refusal}
 use Rattle.lis_message.proofs.NextRecord.{begun_is_open, open_comes}
 use Rattle.lis_message.proofs.TakingLaws.{front_refused}
 use Rattle.lis_message.proofs.records.lend_next.Goals as goal

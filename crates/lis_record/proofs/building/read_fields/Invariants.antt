@@ -1,5 +1,5 @@
 use Rattle.std.proofs.Common.{◌≡◌, ◌++◌, length, map}
-use Rattle.lis_record.specs.FrontReading.{fields_of, parts_behind, repeats_of}
+use Rattle.lis_record.specs.inside.FrontReading.{fields_of, parts_behind, repeats_of}
 use Rattle.lis_record.proofs.building.read_fields.Given as goal
 
 abbrev pub invariant-loop-delimiter : goal.invariant-loop-delimiter

@@ -1,5 +1,5 @@
 use Rattle.std.proofs.Common.{◌≡◌, ◌++◌, length}
-use Rattle.lis_record.specs.FrontReading.{symbols_of}
+use Rattle.lis_record.specs.inside.FrontReading.{symbols_of}
 use Rattle.lis_record.proofs.escapes.read_component.Given as goal
 
 abbrev pub invariant-loop-symbol : goal.invariant-loop-symbol

@@ -1,6 +1,6 @@
 use Rattle.std.proofs.Common.{◌≡◌, ◌+◌, ◌<◌, ◌≤◌, ◌∷◌, ◌++◌, [], ℕ, List, Ok, Err, drop, drop-cons, get_or, add-one, length, length-drop, arith, refl}
 use Rattle.lis_tool.specs.declared.parts.Part.{Part}
-use Rattle.lis_tool.specs.Parts.{part_text, parts_text}
+use Rattle.lis_tool.specs.inside.Parts.{part_text, parts_text}
 use Rattle.lis_tool.specs.Output.{out}
 use Rattle.lis_tool.proofs.GatherLaws.{gathered_then, gathered_stops, gathered_none}
 use Rattle.lis_tool.proofs.parts.gather_parts.Goals as goal

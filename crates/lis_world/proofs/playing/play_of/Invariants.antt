@@ -1,5 +1,5 @@
 use Rattle.std.specs.VecDeque.{deque_len}
-use Rattle.lis_world.specs.Playing.{IsPlaying}
+use Rattle.lis_world.specs.inside.Playing.{IsPlaying}
 use Rattle.lis_world.specs.Steps.{world}
 use Rattle.lis_world.proofs.playing.play_of.Given as goal
 

@@ -1,7 +1,7 @@
 use Rattle.std.proofs.Common.{◌≡◌, ◌+◌, ◌-◌, ◌<◌, ◌≤◌, ◌⊎◌, inl, inr, length, drop, refl, sym, ap, ◌∙◌, subst, arith}
 use Rattle.std.specs.Option.{option_copied}
 use Rattle.std.proofs.Math.Nat.{add-mod_right}
-use Rattle.lis_link.specs.Queue.{frames_left}
+use Rattle.lis_link.specs.inside.Queue.{frames_left}
 use Rattle.lis_link.proofs.QueueLaws.{some-left, within-at, left-more, left-last, zero_mod}
 use Rattle.lis_link.proofs.queue.QueueOf.advance.Goals as goal
 

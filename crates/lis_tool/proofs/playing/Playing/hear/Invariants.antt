@@ -1,7 +1,7 @@
 use Rattle.std.proofs.Common.{◌≡◌, ◌+◌, ◌^◌, ◌≤◌, ℕ, List, false, length}
 use Rattle.lis_link.specs.Receiver.{ReceiverState}
 use Rattle.lis_tool.specs.Output.{out}
-use Rattle.lis_tool.specs.Playing.{IsHearing}
+use Rattle.lis_tool.specs.inside.Playing.{IsHearing}
 use Rattle.lis_tool.proofs.HearingLaws.{IsHearingOn}
 use Rattle.lis_tool.proofs.playing.Playing.hear.Given as goal
 

@@ -2,7 +2,7 @@ use Rattle.std.proofs.Common.{◌≡◌, [], inr, refl, sym, ◌∙◌, ap, Some
 use Rattle.std.proofs.lemmas.List.{nil_from_length}
 use Rattle.lis_tree.specs.declared.fault.Reason.TheVariants as reasons
 use Rattle.lis_tree.specs.Level.{misplaced}
-use Rattle.lis_tree.specs.Begun.{level_of}
+use Rattle.lis_tree.specs.inside.Begun.{level_of}
 use Rattle.lis_tree.proofs.ListFaults.{close_told, closed_records, so_far_more, misplaced_fault, unclosed_fault, first_fault, only_memory}
 use Rattle.lis_tree.proofs.Flatten.{flatten_one}
 use Rattle.std.specs.Vec.Iter.{into_iter_items}

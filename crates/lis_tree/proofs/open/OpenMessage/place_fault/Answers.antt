@@ -1,5 +1,5 @@
 use Rattle.std.proofs.Common.{sym, ap, ◌∙◌}
-use Rattle.lis_tree.specs.Begun.{Begun}
+use Rattle.lis_tree.specs.inside.Begun.{Begun}
 use Rattle.lis_tree.specs.Level.{misplaced, level_after, outside, kinds_of}
 use Rattle.lis_tree.proofs.Levels.{spine_leads}
 use Rattle.lis_tree.proofs.open.OpenMessage.place_fault.Goals as goal

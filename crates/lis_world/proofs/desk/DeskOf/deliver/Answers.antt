@@ -1,5 +1,5 @@
 use Rattle.std.proofs.Common.{◌≡◌, ap, sym, ◌∙◌}
-use Rattle.lis_world.specs.Loads.{load_of}
+use Rattle.lis_world.specs.inside.Loads.{load_of}
 use Rattle.lis_world.specs.Unit.{Travelling, enquiry, ending}
 use Rattle.lis_world.proofs.PlayingLaws.{enquiry_only, ending_only}
 use Rattle.lis_world.proofs.desk.DeskOf.deliver.Goals as goal

@@ -6,9 +6,9 @@ use Rattle.std.specs.Option.{option_to_list}
 use Rattle.lis_capture.specs.declared.line.Line.{Line}
 use Rattle.lis_link.specs.declared.receiver.Note.TheVariants.{OutOfMemory}
 use Rattle.lis_link.specs.declared.receiver.Step.{Step}
-use Rattle.lis_link.specs.Kept.{Kept}
+use Rattle.lis_link.specs.inside.Kept.{Kept}
 use Rattle.lis_link.specs.Receiver.{ReceiverState}
-use Rattle.lis_link.specs.Stands.{IsIn}
+use Rattle.lis_link.specs.inside.Stands.{IsIn}
 use Rattle.lis_tool.specs.declared.fault.ToolFault.{ToolFault}
 use Rattle.lis_tool.specs.declared.fault.ToolFault.TheVariants as faults
 use Rattle.lis_tool.specs.declared.machine.Turn.{Turn}

@@ -3,7 +3,7 @@ use Rattle.std.specs.Prelude.{◌≡◌, List, ◌∷◌, ◌++◌}
 use Rattle.std.specs.List.{flat_map, AllByRecursion}
 use Rattle.lis_field.specs.declared.kinds.Kind.TheVariants as kinds
 use Rattle.lis_field.specs.Shape.{RecordContent}
-use Rattle.lis_tree.specs.Front.{FrontTree}
+use Rattle.lis_tree.specs.inside.Front.{FrontTree}
 use Rattle.lis_tree.specs.Tree.{noted_records, order_records, patient_records, group_records, AreNotes, IsNoted, IsOrder, IsPatient, IsGroup}
 use Rattle.lis_tree.specs.Level.{Level, in_header, in_patient, in_order, in_query}
 use Rattle.lis_tree.specs.declared.spine.Spine.{Spine}

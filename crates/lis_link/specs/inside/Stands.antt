@@ -7,7 +7,7 @@ use Rattle.lis_link.specs.declared.receiver.Hearing.{Hearing}
 use Rattle.lis_link.specs.declared.receiver.Note.TheVariants.{Accepted, OutOfMemory, Quiet}
 use Rattle.lis_link.specs.declared.receiver.Step.{Step}
 use Rattle.lis_link.specs.Joining.{completed, held_after}
-use Rattle.lis_link.specs.Kept.{Kept, KeptLine}
+use Rattle.lis_link.specs.inside.Kept.{Kept, KeptLine}
 use Rattle.lis_link.specs.Receiver.{ReceiverState, ReceiverStep, answers, held_text, held_while, heard_on, on_bytes, with_heard}
 
 -- a receiver that keeps this is in this state

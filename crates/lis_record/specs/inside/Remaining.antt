@@ -3,7 +3,7 @@ use Rattle.std.specs.Prelude.{ℕ, List, [], ◌∷◌, ◌++◌, map}
 use Rattle.std.specs.List.{flat_map}
 use Rattle.lis_field.specs.Delimiters.{DelimiterBytes}
 use Rattle.lis_field.specs.Shape.{Components, Fields, Repeats, Symbols}
-use Rattle.lis_record.specs.FrontReading.{components_of, parts_behind, symbols_of}
+use Rattle.lis_record.specs.inside.FrontReading.{components_of, parts_behind, symbols_of}
 use Rattle.lis_record.specs.Spelling.{spelled_component, spelled_field, spelled_repeat}
 
 -- components behind the first one of a repeat

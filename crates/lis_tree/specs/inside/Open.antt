@@ -3,7 +3,7 @@ use Rattle.std.specs.Prelude.{◌≡◌, ℕ, length}
 use Rattle.std.specs.List.{AllByRecursion}
 use Rattle.lis_field.specs.Delimiters.{DelimiterBytes, IsDelimiters}
 use Rattle.lis_field.specs.Shape.{IsRecordShape}
-use Rattle.lis_tree.specs.Spine.{spine_records, IsSpine}
+use Rattle.lis_tree.specs.inside.Spine.{spine_records, IsSpine}
 use Rattle.lis_tree.specs.Places.{capped}
 use Rattle.lis_tree.specs.declared.spine.Spine.{Spine}
 

@@ -1,0 +1,4 @@
+-- What stands for private fields, and what holds within loops: no promise is stated here.
+pub mod FrontReading
+pub mod Pieces
+pub mod Remaining
