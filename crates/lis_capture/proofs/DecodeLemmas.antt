@@ -1,6 +1,8 @@
 -- The bytes of digits in parts.
-use Rattle.std.proofs.Common.{◌≡◌, ℕ, zero, suc, ◌+◌, ◌-◌, ◌*◌, ◌%◌, ◌^◌, ◌<◌, ◌≤◌, ◌&&◌, Bool, true, false, not, cond, eqb, ltb, leb}
-use Rattle.std.proofs.Common.{List, [], ◌∷◌, ◌++◌, length, map, take, drop, replicate, unwrap_or, is_some, Option, None, Some, Ok}
+use Rattle.std.proofs.Common.{◌≡◌, ℕ, zero, suc, ◌+◌, ◌-◌, ◌*◌, ◌%◌, ◌^◌, ◌<◌, ◌≤◌, ◌&&◌, Bool, true, false, not, cond}
+use Rattle.std.proofs.Common.{eqb, ltb, leb}
+use Rattle.std.proofs.Common.{List, [], ◌∷◌, ◌++◌, length, map, take, drop, replicate, unwrap_or, is_some, Option, None}
+use Rattle.std.proofs.Common.{Some, Ok}
 use Rattle.std.proofs.Common.{refl, sym, ap, ◌∙◌, arith, length-take, length-drop, take_all, append-nil, slice_set}
 use Rattle.std.specs.Prelude.{if◌then◌else◌, nat_lt}
 use Rattle.std.specs.List.{list_all}
@@ -103,7 +105,12 @@ one_more : (v w bits : ℕ) (rest : Bool) → rest ≡ eqb bits 0
     → (is_some (told_digit v) && (is_some (told_digit w) && rest))
     ≡ eqb (cond (top 7 (cond (leb 16 (cond (top 7 (cond (ltb v w) 255 0)) w v)) 255 0)) 1 0 + 2 * bits) 0
 one_more v w bits rest is =
-    rw (is_told v (nat_lt v 16) refl, is_told w (nat_lt w 16) refl, flag v w (nat_lt v 16) (nat_lt w 16) (ltb v w) refl refl refl)
+    rw (
+      is_told v (nat_lt v 16) refl,
+      is_told w (nat_lt w 16) refl,
+      flag v w (nat_lt v 16) (nat_lt w 16) (ltb v w)
+          refl refl refl,
+    )
     (both (nat_lt v 16) (nat_lt w 16) bits rest is)
 
 -- sixteen pairs are digits where no lane has such a value
@@ -181,7 +188,12 @@ read_sixteen :
     → bytes_of digits ≡ (if eqb (others 16 vs ws % 2 ^ 64) 0 then Some (put_chunk 0 bytes (joined 16 vs ws)) else None)
 read_sixteen digits bytes vs ws long room first second =
     let few : others 16 vs ws % 2 ^ 64 ≡ others 16 vs ws =
-    mask_l-mod (map (top 7) tests) 64 (omega (arith, length-map tests (top 7), zip2_short {Z = ℕ} (λ a b. cond (leb a b) 255 0) (replicate 16 16) (greater vs ws))) in
+    mask_l-mod (map (top 7) tests) 64 (omega (
+      arith,
+      length-map tests (top 7),
+      zip2_short {Z = ℕ}
+          (λ a b. cond (leb a b) 255 0) (replicate 16 16) (greater vs ws),
+    )) in
     let is : list_all is_hex_digit digits ≡ eqb (others 16 vs ws) 0 =
     ap (list_all is_hex_digit) (sym woven_is) ∙ read_all 16 highs lows vs ws refl refl first second in
     rw few (by (eqb (others 16 vs ws) 0) is)
@@ -203,7 +215,8 @@ read_sixteen digits bytes vs ws long room first second =
     by false all = bytes_of-other digits all
     by true all =
         let values : paired digits ≡ joined 16 vs ws =
-        ap paired (sym woven_is) ∙ read_values 16 highs lows vs ws refl refl first second (ap (list_all is_hex_digit) woven_is ∙ all) in
+        ap paired (sym woven_is) ∙ read_values 16 highs lows vs ws refl refl first second
+        (ap (list_all is_hex_digit) woven_is ∙ all) in
         let fits : length bytes ≡ length (joined 16 vs ws) =
         room ∙ sym (length-paired 16 digits long) ∙ ap length values in
         bytes_of-paired 16 digits long (omega arith) all
@@ -217,7 +230,8 @@ sixteen_read :
     ≡ (if eqb (others 16 vs ws % 2 ^ 64) 0 then Some (put_chunk 0 bytes (joined 16 vs ws)) else None)
 sixteen_read digits bytes vs ws many room first second =
     let all : take 16 digits ++ take 16 (drop 16 digits) ≡ take 32 digits = sym (take-add 16 16 digits) in
-    read_sixteen (take 32 digits) bytes vs ws (omega (arith, length-take 32 digits)) room (rw all at first) (rw all at second)
+    read_sixteen (take 32 digits) bytes vs ws (omega (arith, length-take 32 digits)) room (rw all at first)
+    (rw all at second)
 
 -- a value in a lane, as a bit that is clear
 one_value : (v bits : ℕ) (a rest : Bool) → nat_lt v 16 ≡ a → rest ≡ eqb bits 0
@@ -244,7 +258,12 @@ pub all_values_seen : (xs : List ℕ) → length xs ≡ 16 → list_all is_value
 all_values_seen xs long =
     let lanes : List ℕ = zip2 (λ a b. cond (leb a b) 255 0) (replicate 16 16) xs in
     let few : value_bits 16 xs % 2 ^ 64 ≡ value_bits 16 xs =
-    mask_l-mod (map (top 7) lanes) 64 (omega (arith, length-map lanes (top 7), zip2_short {Z = ℕ} (λ a b. cond (leb a b) 255 0) (replicate 16 16) xs)) in
+    mask_l-mod (map (top 7) lanes) 64 (omega (
+      arith,
+      length-map lanes (top 7),
+      zip2_short {Z = ℕ}
+          (λ a b. cond (leb a b) 255 0) (replicate 16 16) xs,
+    )) in
     rw few (all_values 16 xs long)
 
 length-greater : (n : ℕ) (xs ys : List ℕ) → length xs ≡ n → length ys ≡ n → length (greater xs ys) ≡ n
@@ -279,7 +298,8 @@ values-greater n [] (y ∷ ys) one two = absurd (omega arith)
 values-greater n (x ∷ xs) [] one two = absurd (omega arith)
 values-greater zero (x ∷ xs) (y ∷ ys) one two = absurd (omega arith)
 values-greater (suc n) (x ∷ xs) (y ∷ ys) one two =
-    (λ i. two_values x y (nat_lt x 16) (nat_lt y 16) (ltb x y) refl refl refl i && values-greater n xs ys (omega arith) (omega arith) i)
+    (λ i. two_values x y (nat_lt x 16) (nat_lt y 16) (ltb x y) refl refl refl i
+    && values-greater n xs ys (omega arith) (omega arith) i)
     ∙ four_and (nat_lt x 16) (nat_lt y 16) (list_all is_value xs) (list_all is_value ys)
 
 -- sixteen bytes are read where each of the greater values is one
@@ -288,7 +308,8 @@ pub sixteen_values :
     → map told_digit vs ≡ map hex_digit_value (pick_l 0 (take 16 digits ++ take 16 (drop 16 digits)) first_places)
     → map told_digit ws ≡ map hex_digit_value (pick_l 0 (take 16 digits ++ take 16 (drop 16 digits)) second_places)
     → (length (greater vs ws) ≡ 16)
-    × (bytes_of (take 32 digits) ≡ (if list_all is_value (greater vs ws) then Some (put_chunk 0 bytes (joined 16 vs ws)) else None))
+    × (bytes_of (take 32 digits) ≡ (if list_all is_value (greater vs ws) then Some
+    (put_chunk 0 bytes (joined 16 vs ws)) else None))
 sixteen_values digits bytes vs ws many room first second =
     let v_long : length vs ≡ 16 = sym (length-map vs told_digit) ∙ ap length first in
     let w_long : length ws ≡ 16 = sym (length-map ws told_digit) ∙ ap length second in
@@ -317,7 +338,8 @@ paired-append : (n : ℕ) (xs ys : List ℕ) → length xs ≡ 2 * n → paired 
 paired-append n [] ys long = refl
 paired-append n (x ∷ []) ys long = absurd (omega arith)
 paired-append zero (h ∷ l ∷ xs) ys long = absurd (omega arith)
-paired-append (suc n) (h ∷ l ∷ xs) ys long = ap (λ (bytes : List ℕ). by_value h l ∷ bytes) (paired-append n xs ys (omega arith))
+paired-append (suc n) (h ∷ l ∷ xs) ys long = ap (λ (bytes : List ℕ). by_value h l ∷ bytes)
+    (paired-append n xs ys (omega arith))
 
 take-paired : (n : ℕ) (xs : List ℕ) → take n (paired xs) ≡ paired (take (2 * n) xs)
 take-paired zero xs = refl
@@ -340,9 +362,11 @@ fewer_read : (digits out : List ℕ) (few place : ℕ) → few ≤ place → IsR
 fewer_read digits out few place less is = record {
   all =
       let whole : take (2 * few) digits ++ drop (2 * few) (take (2 * place) digits) ≡ take (2 * place) digits =
-      ap (λ (l : List ℕ). l ++ drop (2 * few) (take (2 * place) digits)) (sym (take-take (2 * few) (2 * place) digits (omega arith)))
+      ap (λ (l : List ℕ). l ++ drop (2 * few) (take (2 * place) digits))
+      (sym (take-take (2 * few) (2 * place) digits (omega arith)))
       ∙ take-append-drop (2 * few) (take (2 * place) digits) in
-      (and_parts (list_all is_hex_digit (take (2 * few) digits)) (list_all is_hex_digit (drop (2 * few) (take (2 * place) digits)))
+      (and_parts (list_all is_hex_digit (take (2 * few) digits))
+      (list_all is_hex_digit (drop (2 * few) (take (2 * place) digits)))
       (sym (list_all-append is_hex_digit (take (2 * few) digits) (drop (2 * few) (take (2 * place) digits)))
       ∙ ap (list_all is_hex_digit) whole ∙ is.all)).0;
   bytes =
@@ -357,7 +381,8 @@ behind digits place = take (length digits - 2 * place) (drop (2 * place) digits)
 part_of : (digits : List ℕ) (place : ℕ) → 2 * place + 32 ≤ length digits
     → take 32 (behind digits place) ≡ take 32 (drop (2 * place) digits)
 part_of digits place fits =
-    ap (take 32) (take_all (length digits - 2 * place) (drop (2 * place) digits) (omega (arith, length-drop (2 * place) digits)))
+    ap (take 32) (take_all (length digits - 2 * place) (drop (2 * place) digits)
+    (omega (arith, length-drop (2 * place) digits)))
 
 -- sixteen more are read
 pub more_read :
@@ -367,10 +392,16 @@ pub more_read :
 more_read digits out chunk n place k pairs room fits is told =
     let part : List ℕ = take 32 (drop (2 * place) digits) in
     let part_is = part_of digits place (omega arith) in
-    let long : length part ≡ 32 = omega (arith, length-take 32 (drop (2 * place) digits), length-drop (2 * place) digits) in
+    let long : length part ≡ 32 = omega (
+      arith,
+      length-take 32 (drop (2 * place) digits),
+      length-drop (2 * place)
+          digits,
+    ) in
     let read = part_read part chunk true long (ap bytes_of (sym part_is) ∙ told) in
     let twice : 2 * (place + 16) ≡ 2 * place + 32 = omega arith in
-    let whole : take (2 * (place + 16)) digits ≡ take (2 * place) digits ++ part = rw twice (take-add (2 * place) 32 digits) in
+    let whole : take (2 * (place + 16)) digits ≡ take (2 * place) digits ++ part =
+    rw twice (take-add (2 * place) 32 digits) in
     let front : length (take (2 * place) digits) ≡ 2 * place = omega (arith, length-take (2 * place) digits) in
     let sixteen : length chunk ≡ 16 = ap length (read.1 refl) ∙ length-paired 16 part long in
     record {
@@ -390,36 +421,53 @@ pub none_behind :
 none_behind digits chunk n place pairs fits told =
     let part : List ℕ = take 32 (drop (2 * place) digits) in
     let part_is = part_of digits place (omega arith) in
-    let long : length part ≡ 32 = omega (arith, length-take 32 (drop (2 * place) digits), length-drop (2 * place) digits) in
+    let long : length part ≡ 32 = omega (
+      arith,
+      length-take 32 (drop (2 * place) digits),
+      length-drop (2 * place)
+          digits,
+    ) in
     let read = part_read part chunk false long (ap bytes_of (sym part_is) ∙ told) in
     let rest : List ℕ = drop 32 (drop (2 * place) digits) in
     let whole : take (2 * place) digits ++ (part ++ rest) ≡ digits =
-    ap (λ (l : List ℕ). take (2 * place) digits ++ l) (take-append-drop 32 (drop (2 * place) digits)) ∙ take-append-drop (2 * place) digits in
+    ap (λ (l : List ℕ). take (2 * place) digits ++ l) (take-append-drop 32 (drop (2 * place) digits))
+    ∙ take-append-drop (2 * place) digits in
     bytes_of-other digits
     (ap (list_all is_hex_digit) (sym whole) ∙ list_all-append is_hex_digit (take (2 * place) digits) (part ++ rest)
-    ∙ ap (λ b. list_all is_hex_digit (take (2 * place) digits) && b) (list_all-append is_hex_digit part rest ∙ (λ i. read.0 i && list_all is_hex_digit rest))
+    ∙ ap (λ b. list_all is_hex_digit (take (2 * place) digits) && b)
+    (list_all-append is_hex_digit part rest ∙ (λ i. read.0 i && list_all is_hex_digit rest))
     ∙ and-false (list_all is_hex_digit (take (2 * place) digits)))
 
 -- the last sixteen
 pub last_read :
-    (digits out chunk : List ℕ) (b : Bool) (n place last k : ℕ) → length digits ≡ 2 * n → length out ≡ n → last + 16 ≡ n → last ≤ place
+    (digits out chunk : List ℕ) (b : Bool) (n place last k : ℕ) → length digits ≡ 2 * n → length out ≡ n
+    → last + 16 ≡ n → last ≤ place
     → k ≡ 16 → IsRead digits out place → bytes_of (take 32 (behind digits last)) ≡ (if b then Some chunk else None)
     → bytes_of digits ≡ (if b then Some (put_mid last k out chunk) else None)
 last_read digits out chunk false n place last k pairs room ends less width is told =
     none_behind digits chunk n last pairs (omega arith) told
 last_read digits out chunk true n place last k pairs room ends less width is told =
-    let read = more_read digits out chunk n last k pairs room (omega arith) (fewer_read digits out last place less is) told in
+    let read = more_read digits out chunk n last k pairs room (omega arith)
+    (fewer_read digits out last place less is) told in
     let all : take (2 * (last + 16)) digits ≡ digits = take_all (2 * (last + 16)) digits (omega arith) in
     let part_is = part_of digits last (omega arith) in
     let part : List ℕ = take 32 (drop (2 * last) digits) in
-    let long : length part ≡ 32 = omega (arith, length-take 32 (drop (2 * last) digits), length-drop (2 * last) digits) in
+    let long : length part ≡ 32 = omega (
+      arith,
+      length-take 32 (drop (2 * last) digits),
+      length-drop (2 * last)
+          digits,
+    ) in
     let sixteen : length chunk ≡ 16 =
-    ap length ((part_read part chunk true long (ap bytes_of (sym part_is) ∙ told)).1 refl) ∙ length-paired 16 part long in
+    ap length ((part_read part chunk true long (ap bytes_of (sym part_is) ∙ told)).1 refl)
+    ∙ length-paired 16 part long in
     let none : drop (last + 16) (put_mid last k out chunk) ≡ [] =
-    drop-put_mid last k out chunk (last + 16) (omega arith) (omega arith) (omega (arith, sixteen)) ∙ drop_all (last + 16) out (omega arith) in
+    drop-put_mid last k out chunk (last + 16) (omega arith) (omega arith) (omega (arith, sixteen))
+    ∙ drop_all (last + 16) out (omega arith) in
     let front : take (last + 16) (put_mid last k out chunk) ≡ put_mid last k out chunk =
     sym (append-nil (take (last + 16) (put_mid last k out chunk)))
-    ∙ ap (λ (l : List ℕ). take (last + 16) (put_mid last k out chunk) ++ l) (sym none) ∙ take-append-drop (last + 16) (put_mid last k out chunk) in
+    ∙ ap (λ (l : List ℕ). take (last + 16) (put_mid last k out chunk) ++ l) (sym none)
+    ∙ take-append-drop (last + 16) (put_mid last k out chunk) in
     bytes_of-paired n digits pairs (omega arith) (ap (list_all is_hex_digit) (sym all) ∙ read.all)
     ∙ ap (λ (l : List ℕ). Some l)
     (ap paired (sym all) ∙ sym read.bytes ∙ front)
@@ -440,7 +488,8 @@ more_by :
     (digits out chunk : List ℕ) (a b : Bool) (n place k : ℕ) → length digits ≡ 2 * n → length out ≡ n → place + 16 ≤ n
     → (a ≡ true → IsRead digits out place) → (a ≡ false → bytes_of digits ≡ None)
     → bytes_of (take 32 (behind digits place)) ≡ (if b then Some chunk else None)
-    → ((a && b) ≡ true → IsRead digits (put_mid place k out chunk) (place + 16)) × ((a && b) ≡ false → bytes_of digits ≡ None)
+    → ((a && b) ≡ true → IsRead digits (put_mid place k out chunk) (place + 16))
+    × ((a && b) ≡ false → bytes_of digits ≡ None)
 more_by digits out chunk true true n place k pairs room fits read none told =
     (λ e. more_read digits out chunk n place k pairs room fits (read refl) told, λ e. cc)
 more_by digits out chunk true false n place k pairs room fits read none told =
@@ -455,7 +504,8 @@ pub more_read_by :
 more_read_by digits out chunk most values n place k pairs room fits so_far lanes told =
     let both = values-greater 16 most values so_far.lanes lanes in
     let more =
-    more_by digits out chunk (list_all is_value most) (list_all is_value values) n place k pairs room fits so_far.read so_far.none told in
+    more_by digits out chunk (list_all is_value most) (list_all is_value values) n place k pairs room fits
+    so_far.read so_far.none told in
     record {
       lanes = length-greater 16 most values so_far.lanes lanes;
       read = λ e. more.0 (sym both ∙ e);
@@ -463,7 +513,8 @@ more_read_by digits out chunk most values n place k pairs room fits so_far lanes
     }
 
 last_by :
-    (digits out chunk : List ℕ) (a b : Bool) (n place last k : ℕ) → length digits ≡ 2 * n → length out ≡ n → last + 16 ≡ n → last ≤ place
+    (digits out chunk : List ℕ) (a b : Bool) (n place last k : ℕ) → length digits ≡ 2 * n → length out ≡ n
+    → last + 16 ≡ n → last ≤ place
     → k ≡ 16 → (a ≡ true → IsRead digits out place) → (a ≡ false → bytes_of digits ≡ None)
     → bytes_of (take 32 (behind digits last)) ≡ (if b then Some chunk else None)
     → bytes_of digits ≡ (if a && b then Some (put_mid last k out chunk) else None)
@@ -472,20 +523,24 @@ last_by digits out chunk true b n place last k pairs room ends less width read n
 last_by digits out chunk false b n place last k pairs room ends less width read none told = none refl
 
 pub last_read_by :
-    (digits out chunk most values : List ℕ) (n place last k : ℕ) → length digits ≡ 2 * n → length out ≡ n → last + 16 ≡ n → last ≤ place
+    (digits out chunk most values : List ℕ) (n place last k : ℕ) → length digits ≡ 2 * n → length out ≡ n
+    → last + 16 ≡ n → last ≤ place
     → k ≡ 16 → IsReadBy digits out most place → length values ≡ 16
     → bytes_of (take 32 (behind digits last)) ≡ (if list_all is_value values then Some chunk else None)
-    → bytes_of digits ≡ (if eqb (value_bits 16 (greater most values) % 2 ^ 64) 0 then Some (put_mid last k out chunk) else None)
+    → bytes_of digits ≡ (if eqb (value_bits 16 (greater most values) % 2 ^ 64) 0 then Some
+    (put_mid last k out chunk) else None)
 last_read_by digits out chunk most values n place last k pairs room ends less width so_far lanes told =
     let seen = all_values_seen (greater most values) (length-greater 16 most values so_far.lanes lanes) in
     let both = values-greater 16 most values so_far.lanes lanes in
     rw (← seen, both)
-    (last_by digits out chunk (list_all is_value most) (list_all is_value values) n place last k pairs room ends less width so_far.read so_far.none told)
+    (last_by digits out chunk (list_all is_value most) (list_all is_value values) n place last k pairs room ends
+    less width so_far.read so_far.none told)
 
 -- ---- one pair
 
 pub pair_read :
-    (high low byte : ℕ) (bytes : List ℕ) → length bytes ≡ 1 → (is_hex_digit high && is_hex_digit low) ≡ true → byte ≡ by_value high low
+    (high low byte : ℕ) (bytes : List ℕ) → length bytes ≡ 1 → (is_hex_digit high && is_hex_digit low) ≡ true
+    → byte ≡ by_value high low
     → bytes_of (high ∷ low ∷ []) ≡ Some (slice_set bytes 0 byte)
 pair_read high low byte [] room both is = cc
 pair_read high low byte (b ∷ c ∷ bytes) room both is = absurd (omega arith)

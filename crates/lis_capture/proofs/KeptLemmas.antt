@@ -1,5 +1,6 @@
 -- What is kept of a line's bytes.
-use Rattle.std.proofs.Common.{◌≡◌, ℕ, ◌*◌, ◌≤◌, Bool, true, false, List, [], ◌∷◌, length, Option, None, Some, unwrap_or, refl, ap, sym, ◌∙◌, arith}
+use Rattle.std.proofs.Common.{◌≡◌, ℕ, ◌*◌, ◌≤◌, Bool, true, false, List, [], ◌∷◌, length, Option, None, Some, unwrap_or}
+use Rattle.std.proofs.Common.{refl, ap, sym, ◌∙◌, arith}
 use Rattle.std.proofs.Common.{◌++◌, subst, take}
 use Rattle.std.proofs.Math.Seq.{take-append_seam}
 use Rattle.std.specs.Prelude.{if◌then◌else◌}
@@ -27,7 +28,8 @@ short_bytes Digits kept is short = cc
 
 -- digits are those of bytes
 pub digits_kept : (keeping : Keeping) (kept : List ℕ) → keeping ≡ Digits → IsKept keeping kept
-    → (encode_lower (kept_bytes keeping kept) ≡ kept) × (length kept ≡ 2 * length (kept_bytes keeping kept)) × (length kept ≤ 4094)
+    → (encode_lower (kept_bytes keeping kept) ≡ kept) × (length kept ≡ 2 * length (kept_bytes keeping kept))
+    × (length kept ≤ 4094)
 digits_kept Bytes kept is all = cc
 digits_kept Digits kept is all =
     (all.1, ap length (sym all.1) ∙ length-encode_lower (unwrap_or (bytes_of kept) []), all.0)
@@ -39,7 +41,8 @@ none_of (x ∷ xs) none = absurd (omega arith)
 -- and are read as these
 pub read_kept :
     (keeping : Keeping) (kept bytes : List ℕ) (t : Bool) → keeping ≡ Digits → IsKept keeping kept
-    → length kept ≡ 2 * length bytes → bytes_of kept ≡ (if t then Some bytes else None) → bytes ≡ kept_bytes keeping kept
+    → length kept ≡ 2 * length bytes → bytes_of kept ≡ (if t then Some bytes else None)
+    → bytes ≡ kept_bytes keeping kept
 read_kept Bytes kept bytes t is all room told = cc
 read_kept Digits kept bytes true is all room told = ap (λ (o : Option (List ℕ)). unwrap_or o []) (sym told)
 read_kept Digits kept bytes false is all room told =
@@ -82,4 +85,5 @@ lowered_kept Digits digits lowered t is short room told all =
 pub kept_front : (keeping : Keeping) (kept rest : List ℕ) (len : ℕ) → length kept ≡ len → IsKept keeping kept
     → IsKept keeping (take len (kept ++ rest))
 kept_front keeping kept rest len long is =
-    subst (λ (l : List ℕ). IsKept keeping l) (sym (ap (λ (n : ℕ). take n (kept ++ rest)) (sym long) ∙ take-append_seam kept rest)) is
+    subst (λ (l : List ℕ). IsKept keeping l) (sym (ap (λ (n : ℕ). take n (kept ++ rest)) (sym long)
+    ∙ take-append_seam kept rest)) is

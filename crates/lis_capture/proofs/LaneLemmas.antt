@@ -1,5 +1,6 @@
 -- The values of digits, lane by lane.
-use Rattle.std.proofs.Common.{◌≡◌, ℕ, zero, suc, ◌+◌, ◌-◌, ◌%◌, ◌<◌, ◌==◌, Bool, true, false, cond, ltb, List, [], ◌∷◌, length, map}
+use Rattle.std.proofs.Common.{◌≡◌, ℕ, zero, suc, ◌+◌, ◌-◌, ◌%◌, ◌<◌, ◌==◌, Bool, true, false, cond, ltb, List, [], ◌∷◌}
+use Rattle.std.proofs.Common.{length, map}
 use Rattle.std.proofs.Common.{replicate, bit_and, Option, None, Some, refl, ap, arith}
 use Rattle.std.specs.Simd.Lanes.{Each1, sel_l, top, zip2}
 use Rattle.std.proofs.lemmas.Bool.{eqb-true}
@@ -68,7 +69,8 @@ letters_of n bytes =
 
 abbrev values_of : ℕ → List ℕ → List ℕ
 values_of n bytes =
-    sel_l (map (top 7) (zip2 below (decimals_of n bytes) (letters_of n bytes))) (decimals_of n bytes) (letters_of n bytes)
+    sel_l (map (top 7) (zip2 below (decimals_of n bytes) (letters_of n bytes))) (decimals_of n bytes)
+    (letters_of n bytes)
 
 pub values_told :
     (n : ℕ) (bytes : List ℕ) → length bytes ≡ n → Each1 (Fits w8) bytes →

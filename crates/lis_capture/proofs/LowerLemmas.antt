@@ -1,6 +1,8 @@
 -- Digits in lower case.
-use Rattle.std.proofs.Common.{◌≡◌, ℕ, zero, suc, ◌+◌, ◌-◌, ◌*◌, ◌/◌, ◌%◌, ◌<◌, ◌≤◌, ◌==◌, ◌&&◌, ◌^◌, Bool, true, false, cond, eqb, leb, ltb, List, [], ◌∷◌, ◌++◌, length, map, take, drop}
-use Rattle.std.proofs.Common.{replicate, bit_or, slice_set, None, Some, unwrap_or, refl, ap, sym, ◌∙◌, arith, length-take, length-drop, take_all, append-nil}
+use Rattle.std.proofs.Common.{◌≡◌, ℕ, zero, suc, ◌+◌, ◌-◌, ◌*◌, ◌/◌, ◌%◌, ◌<◌, ◌≤◌, ◌==◌, ◌&&◌, ◌^◌, Bool, true, false}
+use Rattle.std.proofs.Common.{cond, eqb, leb, ltb, List, [], ◌∷◌, ◌++◌, length, map, take, drop}
+use Rattle.std.proofs.Common.{replicate, bit_or, slice_set, None, Some, unwrap_or, refl, ap, sym, ◌∙◌, arith}
+use Rattle.std.proofs.Common.{length-take, length-drop, take_all, append-nil}
 use Rattle.std.specs.Prelude.{if◌then◌else◌, slice_index}
 use Rattle.std.specs.List.{list_all}
 use Rattle.std.specs.Option.{option_map}
@@ -107,7 +109,8 @@ none_far-greater n [] (y ∷ ys) one two = absurd (omega arith)
 none_far-greater n (x ∷ xs) [] one two = absurd (omega arith)
 none_far-greater zero (x ∷ xs) (y ∷ ys) one two = absurd (omega arith)
 none_far-greater (suc n) (x ∷ xs) (y ∷ ys) one two =
-    (λ i. none_of_two x y (x == 0) (y == 0) (ltb x y) refl refl refl i && none_far-greater n xs ys (omega arith) (omega arith) i)
+    (λ i. none_of_two x y (x == 0) (y == 0) (ltb x y) refl refl refl i
+    && none_far-greater n xs ys (omega arith) (omega arith) i)
     ∙ both_and (x == 0) (y == 0) (list_all is_none_far xs) (list_all is_none_far ys)
 
 length-greater : (n : ℕ) (xs ys : List ℕ) → length xs ≡ n → length ys ≡ n → length (greater xs ys) ≡ n
@@ -163,9 +166,16 @@ written_more :
     → take (place + 16) (put_mid place k out chunk) ≡ take (place + 16) (map lower_case digits)
 written_more digits out chunk place k room fits written is =
     let chunk_is : chunk ≡ take 16 (drop place (map lower_case digits)) =
-    is ∙ ap (map lower_case) (part_of digits place fits) ∙ sym (map-take 16 (drop place digits)) ∙ ap (take 16) (sym (map-drop place digits)) in
+    is ∙ ap (map lower_case) (part_of digits place fits) ∙ sym (map-take 16 (drop place digits))
+    ∙ ap (take 16) (sym (map-drop place digits)) in
     let long : length chunk ≡ 16 =
-    ap length chunk_is ∙ omega (arith, length-take 16 (drop place (map lower_case digits)), length-drop place (map lower_case digits), length-map digits lower_case) in
+    ap length chunk_is ∙ omega (
+      arith,
+      length-take 16 (drop place (map lower_case digits)),
+      length-drop place
+          (map lower_case digits),
+      length-map digits lower_case,
+    ) in
     take-put_mid place k out chunk (place + 16) (omega (arith, long)) (omega arith)
     ∙ (λ i. written i ++ chunk_is i)
     ∙ sym (take-add place 16 (map lower_case digits))
@@ -179,7 +189,8 @@ more_lowered digits out chunk seen steps place k room fits so_far told is =
     let part : List ℕ = take 16 (drop place digits) in
     let sixteen : length steps ≡ 16 =
     sym (length-map steps is_none_far) ∙ ap length told ∙ length-map (take 16 (behind digits place)) is_hex_digit
-    ∙ ap length (part_of digits place fits) ∙ omega (arith, length-take 16 (drop place digits), length-drop place digits) in
+    ∙ ap length (part_of digits place fits) ∙ omega
+    (arith, length-take 16 (drop place digits), length-drop place digits) in
     record {
       lanes = length-greater 16 seen steps so_far.lanes sixteen;
       all =
@@ -194,7 +205,8 @@ more_lowered digits out chunk seen steps place k room fits so_far told is =
 -- ---- what is written spells the bytes
 
 spelled_digit : (b : ℕ) → is_hex_digit b ≡ true
-    → (slice_index lower_digits (unwrap_or (hex_digit_value b) 0) ≡ lower_case b) × (unwrap_or (hex_digit_value b) 0 < 16)
+    → (slice_index lower_digits (unwrap_or (hex_digit_value b) 0) ≡ lower_case b)
+    × (unwrap_or (hex_digit_value b) 0 < 16)
 spelled_digit b is = (
   eqb-true (slice_index lower_digits (unwrap_or (hex_digit_value b) 0)) (lower_case b)
       (digit_passes (λ b. slice_index lower_digits (unwrap_or (hex_digit_value b) 0) == lower_case b) b refl is),
@@ -215,7 +227,8 @@ encoded_pair high low digits h l =
     let second = spelled_digit low l in
     let quotient : by_value high low / 16 ≡ unwrap_or (hex_digit_value high) 0 = omega (arith, first.1, second.1) in
     let remainder : by_value high low % 16 ≡ unwrap_or (hex_digit_value low) 0 = omega (arith, first.1, second.1) in
-    λ i. (ap (slice_index lower_digits) quotient ∙ first.0) i ∷ (ap (slice_index lower_digits) remainder ∙ second.0) i ∷ encode_lower digits
+    λ i. (ap (slice_index lower_digits) quotient ∙ first.0) i
+    ∷ (ap (slice_index lower_digits) remainder ∙ second.0) i ∷ encode_lower digits
 
 pub encoded_nothing : encode_lower [] ≡ []
 unfolding encode_with
@@ -251,7 +264,8 @@ once false middle rest = refl
 
 -- each of the digits is one where those before a place are, and those from an earlier one on
 all_from : (digits : List ℕ) (place last : ℕ) → last ≤ place
-    → (list_all is_hex_digit (take place digits) && list_all is_hex_digit (drop last digits)) ≡ list_all is_hex_digit digits
+    → (list_all is_hex_digit (take place digits) && list_all is_hex_digit (drop last digits))
+    ≡ list_all is_hex_digit digits
 all_from digits place last less =
     let more : ℕ = place - last in
     let place_is : place ≡ last + more = omega arith in
@@ -259,7 +273,8 @@ all_from digits place last less =
     let middle : Bool = list_all is_hex_digit (take more (drop last digits)) in
     let rest : Bool = list_all is_hex_digit (drop more (drop last digits)) in
     let before : list_all is_hex_digit (take place digits) ≡ (front && middle) =
-    ap (λ (n : ℕ). list_all is_hex_digit (take n digits)) place_is ∙ ap (list_all is_hex_digit) (take-add last more digits)
+    ap (λ (n : ℕ). list_all is_hex_digit (take n digits)) place_is
+    ∙ ap (list_all is_hex_digit) (take-add last more digits)
     ∙ list_all-append is_hex_digit (take last digits) (take more (drop last digits)) in
     let after : list_all is_hex_digit (drop last digits) ≡ (middle && rest) =
     ap (list_all is_hex_digit) (sym (take-append-drop more (drop last digits)))
@@ -270,7 +285,8 @@ all_from digits place last less =
 
 -- the last sixteen are written, perhaps over some that were
 last_written :
-    (digits out chunk : List ℕ) (place last k : ℕ) → length out ≡ length digits → last + 16 ≡ length digits → last ≤ place → k ≡ 16
+    (digits out chunk : List ℕ) (place last k : ℕ) → length out ≡ length digits → last + 16 ≡ length digits
+    → last ≤ place → k ≡ 16
     → take place out ≡ take place (map lower_case digits) → chunk ≡ map lower_case (take 16 (behind digits last))
     → put_mid last k out chunk ≡ map lower_case digits
 last_written digits out chunk place last k room ends less width written is =
@@ -282,9 +298,11 @@ last_written digits out chunk place last k room ends less width written is =
     ∙ omega (arith, length-take 16 (drop last digits), length-drop last digits) in
     let all = written_more digits out chunk last k room (omega arith) front is in
     let none : drop (last + 16) (put_mid last k out chunk) ≡ [] =
-    drop-put_mid last k out chunk (last + 16) (omega arith) (omega arith) long ∙ drop_all (last + 16) out (omega arith) in
+    drop-put_mid last k out chunk (last + 16) (omega arith) (omega arith) long
+    ∙ drop_all (last + 16) out (omega arith) in
     sym (take-append-drop (last + 16) (put_mid last k out chunk))
-    ∙ rw (none, all, append-nil (take (last + 16) spelled)) (take_all (last + 16) spelled (omega (arith, length-map digits lower_case)))
+    ∙ rw (none, all, append-nil (take (last + 16) spelled))
+    (take_all (last + 16) spelled (omega (arith, length-map digits lower_case)))
 
 -- whether a lane tells of a step, as bits
 abbrev seen_bits : ℕ → List ℕ → ℕ
@@ -308,7 +326,8 @@ none_seen (suc n) (x ∷ xs) long =
 
 -- what is answered in the end
 pub last_lowered :
-    (digits out chunk seen steps : List ℕ) (place last k : ℕ) → length out ≡ length digits → last + 16 ≡ length digits → last ≤ place → k ≡ 16
+    (digits out chunk seen steps : List ℕ) (place last k : ℕ) → length out ≡ length digits
+    → last + 16 ≡ length digits → last ≤ place → k ≡ 16
     → length digits % 2 ≡ 0
     → IsLowered digits out seen place → map is_none_far steps ≡ map is_hex_digit (take 16 (behind digits last))
     → chunk ≡ map lower_case (take 16 (behind digits last))
@@ -323,7 +342,12 @@ last_lowered digits out chunk seen steps place last k room ends less width even 
     let lanes : List ℕ = zip2 (λ a b. cond (leb a b) 255 0) (replicate 16 1) (greater seen steps) in
     let few : seen_bits 16 (greater seen steps) % 2 ^ 64 ≡ seen_bits 16 (greater seen steps) =
     mask_l-mod (map (top 7) lanes) 64
-    (omega (arith, length-map lanes (top 7), zip2_short {Z = ℕ} (λ a b. cond (leb a b) 255 0) (replicate 16 1) (greater seen steps))) in
+    (omega (
+      arith,
+      length-map lanes (top 7),
+      zip2_short {Z = ℕ} (λ a b. cond (leb a b) 255 0) (replicate 16 1)
+          (greater seen steps),
+    )) in
     let all : eqb (seen_bits 16 (greater seen steps)) 0 ≡ list_all is_hex_digit digits =
     sym (none_seen 16 (greater seen steps) (length-greater 16 seen steps so_far.lanes sixteen))
     ∙ none_far-greater 16 seen steps so_far.lanes sixteen

@@ -55,7 +55,8 @@ number_fits : (refused : Bool) (n : ℕ) → n < 18446744073709551615
 number_fits true n few = omega arith
 number_fits false n few = omega arith
 
-pub number-known_of : (read : Lines) → length read.lines < 18446744073709551615 → (known_of read).number ≡ number_of read
+pub number-known_of : (read : Lines) → length read.lines < 18446744073709551615
+    → (known_of read).number ≡ number_of read
 number-known_of read few = number_fits read.refused (length read.lines) few
 
 -- ---- bytes that end a line, and bytes that don't

@@ -127,7 +127,8 @@ counts_some false text counted = omega (arith, ltb-true longest_line (length tex
 
 pub size-capture : (past : List ℕ) (ended : Bool) → size (capture past ended).lines ≤ length past
 size-capture past ended =
-    let last = begun_fits (counts ended (begun past)) (begun past) (ended_lines past) (counts_some ended (begun past)) in
+    let last = begun_fits (counts ended (begun past)) (begun past) (ended_lines past)
+    (counts_some ended (begun past)) in
     omega (arith, last, ended_fit past)
 
 one_line : (line : Line) → 1 ≤ line_size line

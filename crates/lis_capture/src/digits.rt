@@ -1,6 +1,7 @@
 //! Pairs of hexadecimal digits: read by loops over slices that look at every byte, and written sixteen bytes at a time.
 
-ghost use Rattle.std.specs.Prelude.{◌≡◌, ◌*◌, ◌<◌, ◌≤◌, ◌∷◌, [], IsTrue, None, Some, if◌then◌else◌, is_some, length, map, slice_index, take, unwrap_or, ◌+◌};
+ghost use Rattle.std.specs.Prelude.{◌≡◌, ◌*◌, ◌<◌, ◌≤◌, ◌∷◌, [], IsTrue, None, Some, if◌then◌else◌, is_some, length};
+ghost use Rattle.std.specs.Prelude.{map, slice_index, take, unwrap_or, ◌+◌};
 ghost use Rattle.std.specs.List.{list_all};
 ghost use Rattle.std.specs.Simd.Lanes.{Each1};
 ghost use Rattle.hex.specs.Hex.{encode_lower, hex_digit_value, is_hex_digit, lower_digits};

@@ -1,6 +1,7 @@
 //! What a line of a capture says.
 
-ghost use Rattle.std.specs.Prelude.{◌≡◌, ◌+◌, ◌*◌, ◌≤◌, ◌++◌, [], None, Some, if◌then◌else◌, true, length, is_some, unwrap_or};
+ghost use Rattle.std.specs.Prelude.{◌≡◌, ◌+◌, ◌*◌, ◌≤◌, ◌++◌, [], None, Some, if◌then◌else◌, true, length, is_some};
+ghost use Rattle.std.specs.Prelude.{unwrap_or};
 ghost use Rattle.std.specs.Option.{option_map};
 ghost use Rattle.lis_capture.specs.declared.line.Line.TheVariants.{Empty};
 ghost use Rattle.lis_capture.specs.Digits.{bytes_of};

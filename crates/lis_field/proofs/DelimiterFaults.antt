@@ -1,13 +1,16 @@
 -- Four bytes are delimiters exactly where none of the faults stands.
-use Rattle.std.proofs.Common.{◌≡◌, ◌≢◌, ℕ, ◌==◌, Bool, true, false, ◌||◌, cond, [], ◌∷◌, Option, Some, None, option_map, refl, ap, ◌∙◌, arith}
+use Rattle.std.proofs.Common.{◌≡◌, ◌≢◌, ℕ, ◌==◌, Bool, true, false, ◌||◌, cond, [], ◌∷◌, Option, Some, None, option_map}
+use Rattle.std.proofs.Common.{refl, ap, ◌∙◌, arith}
 use Rattle.std.specs.Option.{option_or}
 use Rattle.std.specs.List.{AllPass, position}
 use Rattle.std.specs.Prelude.{not}
 use Rattle.std.proofs.lemmas.Bool.Decides.{nat_tests}
 use Rattle.std.proofs.lemmas.List.Elements.{All-cons, All-nil}
 use Rattle.lis_field.specs.declared.delimiting.DelimiterFault.TheVariants.{NotPunctuation, Repeated}
-use Rattle.lis_field.specs.Delimiters.{DelimiterBytes, IsDelimiters, delimiter_fault, delimiter_list, delimiters_of, is_punctuation, repeated_from}
-use Rattle.lis_field.proofs.FirstFaults.{AllPass-position, option_map-none, option_or-none, position-AllPass, test_false}
+use Rattle.lis_field.specs.Delimiters.{DelimiterBytes, IsDelimiters, delimiter_fault, delimiter_list, delimiters_of}
+use Rattle.lis_field.specs.Delimiters.{is_punctuation, repeated_from}
+use Rattle.lis_field.proofs.FirstFaults.{AllPass-position, option_map-none, option_or-none, position-AllPass}
+use Rattle.lis_field.proofs.FirstFaults.{test_false}
 
 cond_none_both : {X : Type 0} (b : Bool) (x : X) (o : Option X) → cond b (Some x) o ≡ None → (b ≡ false) × (o ≡ None)
 cond_none_both true x o h = cc
@@ -41,14 +44,24 @@ AreDistinct-repeated_from f r c e h =
 
 repeated_from-AreDistinct : (f r c e : ℕ) → AreDistinct f r c e → repeated_from [] 0 (f ∷ r ∷ c ∷ e ∷ []) ≡ None
 repeated_from-AreDistinct f r c e h =
-    rw (test_false f r h.field_repeat, test_false r c h.repeat_component, test_false f c h.field_component, test_false c e h.component_escape, test_false r e h.repeat_escape, test_false f e h.field_escape) refl
+    rw (
+      test_false f r h.field_repeat,
+      test_false r c h.repeat_component,
+      test_false f c h.field_component,
+      test_false c e h.component_escape,
+      test_false r e h.repeat_escape,
+      test_false f e h.field_escape,
+    ) refl
 
-pub IsDelimiters-delimiters_of : (f r c e : ℕ) → delimiter_fault (f ∷ r ∷ c ∷ e ∷ []) ≡ None → IsDelimiters (delimiters_of f r c e)
+pub IsDelimiters-delimiters_of : (f r c e : ℕ) → delimiter_fault (f ∷ r ∷ c ∷ e ∷ []) ≡ None
+    → IsDelimiters (delimiters_of f r c e)
 unfolding delimiter_fault
 IsDelimiters-delimiters_of f r c e h =
     let bytes = f ∷ r ∷ c ∷ e ∷ [] in
-    let both = option_or-none (option_map NotPunctuation (position (λ b. not (is_punctuation b)) bytes)) (option_map Repeated (repeated_from [] 0 bytes)) h in
-    let marks = AllPass-position is_punctuation bytes (option_map-none NotPunctuation (position (λ b. not (is_punctuation b)) bytes) both.0) in
+    let both = option_or-none (option_map NotPunctuation (position (λ b. not (is_punctuation b)) bytes))
+    (option_map Repeated (repeated_from [] 0 bytes)) h in
+    let marks = AllPass-position is_punctuation bytes
+    (option_map-none NotPunctuation (position (λ b. not (is_punctuation b)) bytes) both.0) in
     let apart = AreDistinct-repeated_from f r c e (option_map-none Repeated (repeated_from [] 0 bytes) both.1) in
     record {
       field_is = marks 0 0 (omega arith);
@@ -68,7 +81,9 @@ unfolding delimiter_fault
 delimiter_fault-IsDelimiters d good =
     let P : ℕ → Type 0 = λ b. is_punctuation b ≡ true in
     let marks : AllPass is_punctuation (delimiter_list d) =
-    All-cons P d.field (d.repeat ∷ d.component ∷ d.escape ∷ []) good.field_is (All-cons P d.repeat (d.component ∷ d.escape ∷ []) good.repeat_is (All-cons P d.component (d.escape ∷ []) good.component_is (All-cons P d.escape [] good.escape_is (All-nil P)))) in
+    All-cons P d.field (d.repeat ∷ d.component ∷ d.escape ∷ []) good.field_is
+    (All-cons P d.repeat (d.component ∷ d.escape ∷ []) good.repeat_is
+    (All-cons P d.component (d.escape ∷ []) good.component_is (All-cons P d.escape [] good.escape_is (All-nil P)))) in
     let apart : AreDistinct d.field d.repeat d.component d.escape = record {
       field_repeat = good.field_repeat;
       field_component = good.field_component;
@@ -79,4 +94,5 @@ delimiter_fault-IsDelimiters d good =
     } in
     let first = position-AllPass is_punctuation (delimiter_list d) marks in
     let second = repeated_from-AreDistinct d.field d.repeat d.component d.escape apart in
-    ap (λ o. option_or (option_map NotPunctuation o) (option_map Repeated (repeated_from [] 0 (delimiter_list d)))) first ∙ ap (option_map Repeated) second
+    ap (λ o. option_or (option_map NotPunctuation o) (option_map Repeated (repeated_from [] 0 (delimiter_list d))))
+    first ∙ ap (option_map Repeated) second

@@ -1,5 +1,6 @@
 -- Tests of numbers, the first of two faults, and the first place that fails.
-use Rattle.std.proofs.Common.{◌≡◌, ◌≢◌, ℕ, ◌<◌, ◌≤◌, ◌==◌, Bool, true, false, not, ltb, ◌⊎◌, inl, inr, List, [], ◌∷◌, length, Option, Some, None, option_map, refl, arith, get_or}
+use Rattle.std.proofs.Common.{◌≡◌, ◌≢◌, ℕ, ◌<◌, ◌≤◌, ◌==◌, Bool, true, false, not, ltb, ◌⊎◌, inl, inr, List, [], ◌∷◌}
+use Rattle.std.proofs.Common.{length, Option, Some, None, option_map, refl, arith, get_or}
 use Rattle.std.specs.Option.{option_or}
 use Rattle.std.specs.List.{AllPass, position, position_or_len}
 use Rattle.std.proofs.lemmas.Bool.{cases_lt, lt-ltb}
@@ -16,7 +17,11 @@ pub ltb-past : (m n : ℕ) → n ≤ m → ltb m n ≡ false
 ltb-past m n h = grind (arith, nat_tests)
 
 pub ltb_tells : (m n : ℕ) → ((ltb m n ≡ true) × (m < n)) ⊎ ((ltb m n ≡ false) × (n ≤ m))
-ltb_tells m n = elim (cases_lt m n) [ inl below ↦ inl (lt-ltb m n below, below) | inr past ↦ inr (ltb-past m n past, past) ]
+ltb_tells m n = elim (cases_lt m n) [
+  | inl below ↦ inl (lt-ltb m n below, below)
+  | inr past ↦ inr
+      (ltb-past m n past, past)
+]
 
 pub some_none : {X : Type 0} (x : X) → (o : Option X) → o ≡ Some x → o ≡ None → ⊥
 some_none x o h k = cc
@@ -46,7 +51,8 @@ module _ {X : Type 0} (p : X → Bool) where
   AllPass-position xs h =
       elim (ltb_tells (position_or_len (λ x. not (p x)) xs) (length xs)) [
         | inl within ↦ let g : Some (position_or_len (λ x. not (p x)) xs) ≡ None = rw within.0 at h in cc
-        | inr past ↦ λ k d below. not-false (p (get_or xs k d)) (fails_before_first (λ x. not (p x)) xs k d (omega (arith, past.1)))
+        | inr past ↦ λ k d below. not-false (p (get_or xs k d))
+            (fails_before_first (λ x. not (p x)) xs k d (omega (arith, past.1)))
       ]
 
   pub position-AllPass : (xs : List X) → AllPass p xs → position (λ x. not (p x)) xs ≡ None

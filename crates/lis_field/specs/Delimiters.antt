@@ -1,5 +1,6 @@
 -- The four delimiters of a message (LIS02-A2, Delimiters).
-use Rattle.std.specs.Prelude.{◌≢◌, ℕ, ◌==◌, ◌+◌, nat_le, Bool, ◌&&◌, ◌||◌, not, cond, List, [], ◌∷◌, Option, Some, None, option_map, IsTrue, position}
+use Rattle.std.specs.Prelude.{◌≢◌, ℕ, ◌==◌, ◌+◌, nat_le, Bool, ◌&&◌, ◌||◌, not, cond, List, [], ◌∷◌, Option, Some, None}
+use Rattle.std.specs.Prelude.{option_map, IsTrue, position}
 use Rattle.std.specs.List.{list_any}
 use Rattle.std.specs.Option.{option_or}
 use Rattle.lis_field.specs.declared.delimiting.DelimiterFault.{DelimiterFault}
@@ -15,7 +16,8 @@ pub record DelimiterBytes : Type 0 where
 -- whether a byte is one of ! to /, : to @, [ to ` and { to ~
 unfoldable pub is_punctuation : ℕ → Bool
 is_punctuation b =
-    (nat_le 33 b && nat_le b 47) || (nat_le 58 b && nat_le b 64) || (nat_le 91 b && nat_le b 96) || (nat_le 123 b && nat_le b 126)
+    (nat_le 33 b && nat_le b 47) || (nat_le 58 b && nat_le b 64) || (nat_le 91 b && nat_le b 96)
+    || (nat_le 123 b && nat_le b 126)
 
 -- four distinct punctuation bytes
 pub record IsDelimiters (d : DelimiterBytes) : Type 0 where
@@ -51,4 +53,5 @@ repeated_from earlier place (b ∷ bytes) =
 -- Why bytes are no delimiters: the first that is no punctuation, else the first that stands earlier too.
 unfoldable pub delimiter_fault : List ℕ → Option DelimiterFault
 delimiter_fault bytes =
-    option_or (option_map NotPunctuation (position (λ b. not (is_punctuation b)) bytes)) (option_map Repeated (repeated_from [] 0 bytes))
+    option_or (option_map NotPunctuation (position (λ b. not (is_punctuation b)) bytes))
+    (option_map Repeated (repeated_from [] 0 bytes))

@@ -69,4 +69,5 @@ first_number _ = 2
 -- the field of a number
 abbrev pub field_at : RecordContent → ℕ → Option Repeats
 field_at content number =
-    if nat_lt number (first_number content.kind) then None else slice_get content.fields (number - first_number content.kind)
+    if nat_lt number (first_number content.kind) then None else slice_get content.fields
+    (number - first_number content.kind)

@@ -1,7 +1,8 @@
 //! The four delimiters that a header declares for its message (LIS02-A2, Delimiters).
 
 ghost use Rattle.std.specs.Prelude.{◌≡◌, ◌∷◌, [], IfOk, IsOk, MatchResult, Some, None, not, position};
-ghost use Rattle.lis_field.specs.Delimiters.{DelimiterBytes, IsDelimiters, delimiter_fault, delimiters_of, is_punctuation, repeated_from, usual};
+ghost use Rattle.lis_field.specs.Delimiters.{DelimiterBytes, IsDelimiters, delimiter_fault, delimiters_of};
+ghost use Rattle.lis_field.specs.Delimiters.{is_punctuation, repeated_from, usual};
 
 use std::marker::Model;
 
@@ -22,7 +23,12 @@ impl Model for Delimiters {
 
     ghost view = { λ d. record { field = d.field; repeat = d.repeat; component = d.component; escape = d.escape } };
 
-    ghost invariant = { λ d. IsDelimiters (record { field = d.field; repeat = d.repeat; component = d.component; escape = d.escape }) };
+    ghost invariant = { λ d. IsDelimiters (record {
+      field = d.field;
+      repeat = d.repeat;
+      component = d.component;
+      escape = d.escape;
+    }) };
 
     ghost inverse = { λ d. record { field = d.field; repeat = d.repeat; component = d.component; escape = d.escape } };
 }

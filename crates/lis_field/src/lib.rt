@@ -1,4 +1,5 @@
-//! What a record of a laboratory message is made of (LIS02-A2): delimiters, kinds, symbols, components, repeats, fields.
+//! What a record of a laboratory message is made of (LIS02-A2): delimiters, kinds, symbols, components, repeats,
+//! fields.
 #![tactic(auto)]
 
 mod delimiting;

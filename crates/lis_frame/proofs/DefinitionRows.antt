@@ -7,12 +7,14 @@ use Rattle.lis_frame.specs.Stream.{signals, signal_after, open_stretch}
 use Rattle.lis_frame.specs.Pieces.{session_frames, pieces}
 
 -- number 1, last, the text of a header record: the sum is E5
-header_is_good : stretch_fault 240 (0x31 ∷ 0x48 ∷ 0x7c ∷ 0x5c ∷ 0x5e ∷ 0x26 ∷ 0x0d ∷ 0x03 ∷ 0x45 ∷ 0x35 ∷ 0x0d ∷ []) ≡ None
+header_is_good : stretch_fault 240 (0x31 ∷ 0x48 ∷ 0x7c ∷ 0x5c ∷ 0x5e ∷ 0x26 ∷ 0x0d ∷ 0x03 ∷ 0x45 ∷ 0x35 ∷ 0x0d ∷ [])
+    ≡ None
 unfolding stretch_fault
 header_is_good = refl
 
 -- its digits may be in lower case
-lower_case_is_good : stretch_fault 240 (0x31 ∷ 0x48 ∷ 0x7c ∷ 0x5c ∷ 0x5e ∷ 0x26 ∷ 0x0d ∷ 0x03 ∷ 0x65 ∷ 0x35 ∷ 0x0d ∷ []) ≡ None
+lower_case_is_good : stretch_fault 240 (0x31 ∷ 0x48 ∷ 0x7c ∷ 0x5c ∷ 0x5e ∷ 0x26 ∷ 0x0d ∷ 0x03 ∷ 0x65 ∷ 0x35 ∷ 0x0d
+    ∷ []) ≡ None
 unfolding stretch_fault
 lower_case_is_good = refl
 
@@ -46,7 +48,8 @@ bare_line_feed : signals 240 (0x0a ∷ []) ≡ []
 unfolding signal_after open_stretch
 bare_line_feed = refl
 
-one_frame : signals 240 (0x02 ∷ 0x31 ∷ 0x03 ∷ 0x33 ∷ 0x34 ∷ 0x0d ∷ 0x0a ∷ []) ≡ Good (record { number = 1; last = true; text = [] }) ∷ []
+one_frame : signals 240 (0x02 ∷ 0x31 ∷ 0x03 ∷ 0x33 ∷ 0x34 ∷ 0x0d ∷ 0x0a ∷ [])
+    ≡ Good (record { number = 1; last = true; text = [] }) ∷ []
 unfolding signal_after open_stretch stretch_fault
 one_frame = refl
 

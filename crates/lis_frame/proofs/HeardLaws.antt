@@ -1,5 +1,6 @@
 -- What is heard as a good frame was spelled.
-use Rattle.std.proofs.Common.{◌≡◌, ℕ, Bool, true, false, List, [], ◌∷◌, ◌++◌, Option, None, Some, refl, ap, sym, ◌∙◌, subst, arith, cond, append-nil, append_assoc}
+use Rattle.std.proofs.Common.{◌≡◌, ℕ, Bool, true, false, List, [], ◌∷◌, ◌++◌, Option, None, Some, refl, ap, sym, ◌∙◌}
+use Rattle.std.proofs.Common.{subst, arith, cond, append-nil, append_assoc}
 use Rattle.std.specs.Prelude.{◌==◌, ◌||◌}
 use Rattle.std.proofs.lemmas.Bool.Decides.{nat_tests}
 use Rattle.lis_text.specs.Control.{STX, EOT, ENQ, LF}
@@ -8,7 +9,8 @@ use Rattle.lis_frame.specs.declared.scanner.SignalOf.TheVariants.{Enq, Eot, Good
 use Rattle.lis_frame.specs.Frame.{FrameContent, IsFrame}
 use Rattle.lis_frame.specs.Laws.{EndsWithFrame}
 use Rattle.lis_frame.specs.Stretch.{content_of, stretch_fault}
-use Rattle.lis_frame.specs.Stream.{look_back, open_stretch, signal_of_fault, read_stretch, ended_stretch, signal_after, stream_with}
+use Rattle.lis_frame.specs.Stream.{look_back, open_stretch, signal_of_fault, read_stretch, ended_stretch, signal_after}
+use Rattle.lis_frame.specs.Stream.{stream_with}
 use Rattle.lis_frame.proofs.FrameLaws.{found}
 use Rattle.lis_frame.proofs.StreamLaws.{stream_with-last}
 
@@ -88,4 +90,5 @@ heard_spelled limit past b frame e = by (b == ENQ) (b == EOT) (b == LF) refl e
     by false false false is e = cc
     by false false true is e =
         let last : b ≡ LF = grind (arith, nat_tests) in
-        subst (λ (x : ℕ). EndsWithFrame limit (x ∷ past) frame) (sym last) (ended_spelled limit past frame (look_back past []) refl e)
+        subst (λ (x : ℕ). EndsWithFrame limit (x ∷ past) frame) (sym last)
+        (ended_spelled limit past frame (look_back past []) refl e)

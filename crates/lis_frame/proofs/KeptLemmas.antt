@@ -1,5 +1,7 @@
 -- The bytes that a stretch in fixed buffers keeps, and what further ones do to them.
-use Rattle.std.proofs.Common.{◌≡◌, ℕ, zero, suc, ◌+◌, ◌-◌, ◌≤◌, ◌<◌, Bool, true, false, List, [], ◌∷◌, ◌++◌, Option, Some, None, Ok, Err, MatchResult, length, take, get_or, zero-add, refl, ap, arith, sym, ◌∙◌, append_assoc, append-nil, length-append, length-take, length-take-le}
+use Rattle.std.proofs.Common.{◌≡◌, ℕ, zero, suc, ◌+◌, ◌-◌, ◌≤◌, ◌<◌, Bool, true, false, List, [], ◌∷◌, ◌++◌, Option}
+use Rattle.std.proofs.Common.{Some, None, Ok, Err, MatchResult, length, take, get_or, zero-add, refl, ap, arith, sym}
+use Rattle.std.proofs.Common.{◌∙◌, append_assoc, append-nil, length-append, length-take, length-take-le}
 use Rattle.std.proofs.lemmas.List.{take_all, take-append-le, take-take}
 use Rattle.std.proofs.lemmas.Simd.{take_more_put_chunk}
 use Rattle.std.proofs.Math.Seq.{take-append-add}
@@ -59,7 +61,13 @@ module _ (limit count number : ℕ) (behind : List ℕ) (room : length behind �
   length-run :
       (run : List ℕ) (taken : ℕ) → length run ≡ taken → count ≤ limit + 5 →
       length (kept_bytes count number behind ++ run) ≡ count + taken
-  length-run run taken long fits = omega (arith, length-append (kept_bytes count number behind) run, length-kept fits, long)
+  length-run run taken long fits = omega (
+    arith,
+    length-append (kept_bytes count number behind) run,
+    length-kept
+        fits,
+    long,
+  )
 
   -- a run that a frame has room for
   pub kept_held-run :
@@ -118,18 +126,21 @@ kept-parts count number front back five fits four =
 -- what is found in a stretch, and what an LF tells by it
 abbrev pub Found : ℕ → List ℕ → Result FrameContent FrameFault → Type 0
 Found limit s r =
-    MatchResult r (λ frame. (frame ≡ content_of s) × (stretch_fault limit s ≡ None)) (λ fault. stretch_fault limit s ≡ Some fault)
+    MatchResult r (λ frame. (frame ≡ content_of s) × (stretch_fault limit s ≡ None))
+    (λ fault. stretch_fault limit s ≡ Some fault)
 
 abbrev pub Told : (limit : ℕ) → Option (SignalOf limit) → Result FrameContent FrameFault → Type 0
 Told limit told r = MatchResult r (λ frame. Some (Good frame) ≡ told) (λ fault. Some (Bad fault) ≡ told)
 
-found-told : (limit : ℕ) (s : List ℕ) (r : Result FrameContent FrameFault) → Found limit s r → Told limit (Some (read_stretch limit s)) r
+found-told : (limit : ℕ) (s : List ℕ) (r : Result FrameContent FrameFault) → Found limit s r
+    → Told limit (Some (read_stretch limit s)) r
 found-told limit s (Ok frame) found = rw (found.1, found.0) refl
 found-told limit s (Err fault) found = rw found refl
 
 pub told-parts :
     (limit count number : ℕ) (behind s : List ℕ) (r : Result FrameContent FrameFault) → count ≤ limit + 5 →
-    kept_bytes count number behind ≡ s → Found limit s r → Told limit (ended_held limit (kept_held limit count number behind)) r
+    kept_bytes count number behind ≡ s → Found limit s r
+    → Told limit (ended_held limit (kept_held limit count number behind)) r
 told-parts limit count number behind s r fits is found =
     let test : nat_lt (limit + 5) count ≡ false = grind (arith, nat_tests) in
     rw (test, is) (found-told limit s r found)
@@ -204,7 +215,8 @@ put-sixteen place taken front bytes few there fits =
     let sixteen : length (take 16 bytes) ≡ 16 = length-take-le 16 bytes there in
     let before : length (take place front) ≡ place = length-take-le place front (omega (arith, fits)) in
     let all : take (place + 16) (put_chunk place front (take 16 bytes)) ≡ take place front ++ take 16 bytes =
-    take_more_put_chunk place front (take 16 bytes) (place + 16) (omega (arith, sixteen)) (omega (arith, sixteen, fits)) in
+    take_more_put_chunk place front (take 16 bytes) (place + 16) (omega (arith, sixteen))
+    (omega (arith, sixteen, fits)) in
     sym (take-take (place + taken) (place + 16) (put_chunk place front (take 16 bytes)) (omega (arith, few)))
     ∙ ap (take (place + taken)) all
     ∙ ap (λ n. take (n + taken) (take place front ++ take 16 bytes)) (sym before)

@@ -1,5 +1,6 @@
 -- The bytes that are read wherever they stand: sixteen tested at once.
-use Rattle.std.proofs.Common.{◌≡◌, ℕ, ◌%◌, ◌^◌, Bool, true, false, cond, eqb, List, length, map, replicate, bit_or, refl, ap, ◌∙◌, arith}
+use Rattle.std.proofs.Common.{◌≡◌, ℕ, ◌%◌, ◌^◌, Bool, true, false, cond, eqb, List, length, map, replicate, bit_or}
+use Rattle.std.proofs.Common.{refl, ap, ◌∙◌, arith}
 use Rattle.std.specs.Prelude.{◌||◌}
 use Rattle.std.specs.Simd.Lanes.{zip2, mask_l, top}
 use Rattle.std.proofs.lemmas.Simd.{zip2_splat, zip2_of_maps, map-map, mask_l-mod}
@@ -10,14 +11,16 @@ use Rattle.lis_text.proofs.SearchLemmas.{same_map}
 -- a lane of the tests for marks
 abbrev lane_of_mark : ℕ → ℕ
 lane_of_mark b =
-    bit_or (bit_or (cond (eqb b 2) 255 0) (cond (eqb b 10) 255 0)) (bit_or (cond (eqb b 4) 255 0) (cond (eqb b 5) 255 0))
+    bit_or (bit_or (cond (eqb b 2) 255 0) (cond (eqb b 10) 255 0))
+    (bit_or (cond (eqb b 4) 255 0) (cond (eqb b 5) 255 0))
 
 lane_of_mark_top : (b : ℕ) → top 7 (lane_of_mark b) ≡ is_mark b
 lane_of_mark_top b = by (eqb b 2) (eqb b 10) (eqb b 4) (eqb b 5)
   where
     by :
         (s l t q : Bool) →
-        top 7 (bit_or (bit_or (cond s 255 0) (cond l 255 0)) (bit_or (cond t 255 0) (cond q 255 0))) ≡ (s || l || (t || q))
+        top 7 (bit_or (bit_or (cond s 255 0) (cond l 255 0)) (bit_or (cond t 255 0) (cond q 255 0)))
+        ≡ (s || l || (t || q))
     by true true true true = refl
     by true true true false = refl
     by true true false true = refl
@@ -35,20 +38,24 @@ lane_of_mark_top b = by (eqb b 2) (eqb b 10) (eqb b 4) (eqb b 5)
     by false false false true = refl
     by false false false false = refl
 
-equal : (xs : List ℕ) → length xs ≡ 16 → (n : ℕ) → zip2 {C = ℕ} (λ a b. cond (eqb a b) 255 0) xs (replicate 16 n) ≡ map {B = ℕ} (λ b. cond (eqb b n) 255 0) xs
+equal : (xs : List ℕ) → length xs ≡ 16 → (n : ℕ) → zip2 {C = ℕ} (λ a b. cond (eqb a b) 255 0) xs (replicate 16 n)
+    ≡ map {B = ℕ} (λ b. cond (eqb b n) 255 0) xs
 equal xs long n = zip2_splat {Z = ℕ} (λ a b. cond (eqb a b) 255 0) xs 16 n long
 
 pub lanes-marks :
     (xs : List ℕ) → length xs ≡ 16 →
     mask_l (map (top 7)
     (zip2 bit_or
-    (zip2 bit_or (zip2 {C = ℕ} (λ a b. cond (eqb a b) 255 0) xs (replicate 16 2)) (zip2 {C = ℕ} (λ a b. cond (eqb a b) 255 0) xs (replicate 16 10)))
-    (zip2 bit_or (zip2 {C = ℕ} (λ a b. cond (eqb a b) 255 0) xs (replicate 16 4)) (zip2 {C = ℕ} (λ a b. cond (eqb a b) 255 0) xs (replicate 16 5))))) % 2 ^ 64
+    (zip2 bit_or (zip2 {C = ℕ} (λ a b. cond (eqb a b) 255 0) xs (replicate 16 2))
+    (zip2 {C = ℕ} (λ a b. cond (eqb a b) 255 0) xs (replicate 16 10)))
+    (zip2 bit_or (zip2 {C = ℕ} (λ a b. cond (eqb a b) 255 0) xs (replicate 16 4))
+    (zip2 {C = ℕ} (λ a b. cond (eqb a b) 255 0) xs (replicate 16 5))))) % 2 ^ 64
     ≡ mask_l (map is_mark xs)
 lanes-marks xs long =
     let starts = zip2_of_maps bit_or _ _ xs (equal xs long 2) (equal xs long 10) in
     let ends = zip2_of_maps bit_or _ _ xs (equal xs long 4) (equal xs long 5) in
     let all = zip2_of_maps bit_or _ _ xs starts ends in
     ap (λ (lanes : List ℕ). mask_l (map (top 7) lanes) % 2 ^ 64) all
-    ∙ ap (λ (ms : List Bool). mask_l ms % 2 ^ 64) (map-map (top 7) lane_of_mark xs ∙ same_map (λ b. top 7 (lane_of_mark b)) is_mark lane_of_mark_top xs)
+    ∙ ap (λ (ms : List Bool). mask_l ms % 2 ^ 64) (map-map (top 7) lane_of_mark xs
+    ∙ same_map (λ b. top 7 (lane_of_mark b)) is_mark lane_of_mark_top xs)
     ∙ mask_l-mod (map is_mark xs) 64 (omega (arith, length-map xs is_mark))

@@ -1,5 +1,7 @@
 -- The pieces of a text, one by one.
-use Rattle.std.proofs.Common.{◌≡◌, ℕ, zero, suc, ◌+◌, ◌-◌, ◌*◌, ◌/◌, ◌%◌, ◌≤◌, ◌<◌, ◌⊎◌, inl, inr, true, false, List, [], ◌∷◌, ◌++◌, None, Some, length, take, drop, refl, ap, sym, ◌∙◌, arith, length-drop, length-take, take_all, append_assoc, add-one, zero-add}
+use Rattle.std.proofs.Common.{◌≡◌, ℕ, zero, suc, ◌+◌, ◌-◌, ◌*◌, ◌/◌, ◌%◌, ◌≤◌, ◌<◌, ◌⊎◌, inl, inr, true, false, List}
+use Rattle.std.proofs.Common.{[], ◌∷◌, ◌++◌, None, Some, length, take, drop, refl, ap, sym, ◌∙◌, arith, length-drop}
+use Rattle.std.proofs.Common.{length-take, take_all, append_assoc, add-one, zero-add}
 use Rattle.std.specs.Prelude.{nat_le, slice_get}
 use Rattle.std.proofs.lemmas.Bool.Decides.{nat_tests}
 use Rattle.std.proofs.Math.Nat.{div-lt_iff_lt-mul, le-div_iff_mul-le, add-div_right, div-eq_of_lt, mod-add-div'}
@@ -10,7 +12,8 @@ use Rattle.lis_frame.specs.Pieces.{pieces, pieces_from, next_number, text_frames
 
 -- any part of it that is short enough is a frame's text
 pub IsText-piece :
-    (limit longest offset n : ℕ) (text : List ℕ) → text_fault longest text ≡ None → n ≤ limit → IsText limit (take n (drop offset text))
+    (limit longest offset n : ℕ) (text : List ℕ) → text_fault longest text ≡ None → n ≤ limit
+    → IsText limit (take n (drop offset text))
 IsText-piece limit longest offset n text none small =
     record {
       short = omega (arith, length-take n (drop offset text));
@@ -18,7 +21,8 @@ IsText-piece limit longest offset n text none small =
     }
 
 pub IsText-rest :
-    (limit longest offset : ℕ) (text : List ℕ) → text_fault longest text ≡ None → length (drop offset text) ≤ limit → IsText limit (drop offset text)
+    (limit longest offset : ℕ) (text : List ℕ) → text_fault longest text ≡ None → length (drop offset text) ≤ limit
+    → IsText limit (drop offset text)
 IsText-rest limit longest offset text none short =
     record { short = short; clean = none-drop offset 0 text (text_fault-none longest text none).clean }
 
@@ -43,7 +47,8 @@ full_piece limit zero i offset text h e = absurd (omega arith)
 full_piece limit (suc full) zero offset text h e = rw (no_drop offset text (omega arith)) refl
 full_piece limit (suc full) (suc i) offset text h e =
     let at : offset ≡ limit + i * limit = omega arith in
-    rw (at, ← drop-add limit (i * limit) text) (full_piece limit full i (i * limit) (drop limit text) (omega arith) refl)
+    rw (at, ← drop-add limit (i * limit) text) (full_piece limit full i (i * limit) (drop limit text) (omega arith)
+    refl)
 
 last_piece :
     (limit full offset : ℕ) (text : List ℕ) → offset ≡ full * limit →
@@ -54,7 +59,8 @@ last_piece limit (suc full) offset text e =
     rw (at, ← drop-add limit (full * limit) text) (last_piece limit full (full * limit) (drop limit text) refl)
 
 -- a text that fits in one piece
-pub pieces-one : (limit : ℕ) (text : List ℕ) → 0 < limit → length text ≤ limit → pieces limit text ≡ record { bytes = text; last = true } ∷ []
+pub pieces-one : (limit : ℕ) (text : List ℕ) → 0 < limit → length text ≤ limit
+    → pieces limit text ≡ record { bytes = text; last = true } ∷ []
 unfolding pieces
 pieces-one limit text some short =
     let none : (length text - 1) / limit ≡ 0 = div-eq_of_lt (omega arith) in
@@ -74,8 +80,10 @@ pieces-more limit text some long =
 
 -- the piece at an offset, which is a multiple of the limit
 pub piece_at :
-    (limit offset : ℕ) (text : List ℕ) → 0 < limit → offset % limit ≡ 0 → (offset ≡ 0) ⊎ (offset < length text) → offset + limit < length text →
-    slice_get (pieces limit text) (offset / limit) ≡ Some (record { bytes = take limit (drop offset text); last = false })
+    (limit offset : ℕ) (text : List ℕ) → 0 < limit → offset % limit ≡ 0 → (offset ≡ 0) ⊎ (offset < length text)
+    → offset + limit < length text →
+    slice_get (pieces limit text) (offset / limit)
+    ≡ Some (record { bytes = take limit (drop offset text); last = false })
 unfolding pieces
 piece_at limit offset text some whole within more =
     let place : offset ≡ offset / limit * limit = omega (arith, mod-add-div' offset limit) in
@@ -84,7 +92,8 @@ piece_at limit offset text some whole within more =
     full_piece limit _ (offset / limit) offset text (omega arith) place
 
 pub last_piece_at :
-    (limit offset : ℕ) (text : List ℕ) → 0 < limit → offset % limit ≡ 0 → (offset ≡ 0) ⊎ (offset < length text) → length text ≤ offset + limit →
+    (limit offset : ℕ) (text : List ℕ) → 0 < limit → offset % limit ≡ 0 → (offset ≡ 0) ⊎ (offset < length text)
+    → length text ≤ offset + limit →
     slice_get (pieces limit text) (offset / limit) ≡ Some (record { bytes = drop offset text; last = true })
 unfolding pieces
 last_piece_at limit offset text some whole within ends =
@@ -106,25 +115,34 @@ text_frames-last limit text number some short = rw (pieces-one limit text some s
 pub text_frames-more :
     (limit : ℕ) (text : List ℕ) (number : ℕ) → 0 < limit → limit < length text →
     text_frames limit text number
-    ≡ record { number = number; last = false; text = take limit text } ∷ text_frames limit (drop limit text) (next_number number)
+    ≡ record { number = number; last = false; text = take limit text }
+    ∷ text_frames limit (drop limit text) (next_number number)
 unfolding text_frames
 text_frames-more limit text number some long = rw (pieces-more limit text some long) refl
 
 -- a loop over the frames of a text, at a frame that is the piece at the offset
-module _ (limit offset number : ℕ) (text : List ℕ) (frame : FrameContent) (frames whole : List FrameContent) (some : 0 < limit)
-    (is_piece : frame ≡ record { number = number; last = nat_le (length text) (offset + limit); text = take limit (drop offset text) })
+module _ (limit offset number : ℕ) (text : List ℕ) (frame : FrameContent) (frames whole : List FrameContent)
+    (some : 0 < limit)
+    (is_piece : frame ≡ record {
+      number = number;
+      last = nat_le (length text) (offset + limit);
+      text = take limit (drop offset text);
+    })
     (so_far : frames ++ text_frames limit (drop offset text) number ≡ whole) where
   pub frames-last : frame.last ≡ true → frames ++ frame ∷ [] ≡ whole
   frames-last last =
-      let ends : nat_le (length text) (offset + limit) ≡ true = sym (ap (λ (f : FrameContent). f.last) is_piece) ∙ last in
+      let ends : nat_le (length text) (offset + limit) ≡ true =
+      sym (ap (λ (f : FrameContent). f.last) is_piece) ∙ last in
       let short : length (drop offset text) ≤ limit = rw (length-drop offset text) (grind (arith, nat_tests)) in
       let all : take limit (drop offset text) ≡ drop offset text = take_all limit (drop offset text) short in
       rw (is_piece, ends, all, ← text_frames-last limit (drop offset text) number some short) so_far
 
   pub frames-more :
-      frame.last ≡ false → (frames ++ frame ∷ []) ++ text_frames limit (drop (offset + limit) text) (next_number number) ≡ whole
+      frame.last ≡ false → (frames ++ frame ∷ []) ++ text_frames limit (drop (offset + limit) text)
+      (next_number number) ≡ whole
   frames-more last =
-      let ends : nat_le (length text) (offset + limit) ≡ false = sym (ap (λ (f : FrameContent). f.last) is_piece) ∙ last in
+      let ends : nat_le (length text) (offset + limit) ≡ false =
+      sym (ap (λ (f : FrameContent). f.last) is_piece) ∙ last in
       let long : limit < length (drop offset text) = rw (length-drop offset text) (grind (arith, nat_tests)) in
       rw (
         append_assoc frames (frame ∷ []) (text_frames limit (drop (offset + limit) text) (next_number number)),
@@ -137,5 +155,6 @@ module _ (limit offset number : ℕ) (text : List ℕ) (frame : FrameContent) (f
 
   pub frames-within : frame.last ≡ false → offset + limit < length text
   frames-within last =
-      let ends : nat_le (length text) (offset + limit) ≡ false = sym (ap (λ (f : FrameContent). f.last) is_piece) ∙ last in
+      let ends : nat_le (length text) (offset + limit) ≡ false =
+      sym (ap (λ (f : FrameContent). f.last) is_piece) ∙ last in
       grind (arith, nat_tests)

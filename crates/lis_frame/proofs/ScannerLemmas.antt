@@ -1,5 +1,6 @@
 -- What a scanner holds is all that is to be known of its stream.
-use Rattle.std.proofs.Common.{◌≡◌, ℕ, ◌+◌, ◌<◌, Bool, true, false, List, [], ◌∷◌, ◌++◌, Option, None, Some, length, refl, ap, sym, ◌∙◌, arith, length-append, cond}
+use Rattle.std.proofs.Common.{◌≡◌, ℕ, ◌+◌, ◌<◌, Bool, true, false, List, [], ◌∷◌, ◌++◌, Option, None, Some, length}
+use Rattle.std.proofs.Common.{refl, ap, sym, ◌∙◌, arith, length-append, cond}
 use Rattle.std.specs.Prelude.{nat_lt, ◌==◌, ◌||◌, if◌then◌else◌}
 use Rattle.std.specs.Option.{option_map}
 use Rattle.std.proofs.lemmas.Bool.Decides.{nat_tests}
@@ -7,12 +8,14 @@ use Rattle.lis_text.specs.Control.{STX, EOT, ENQ, LF}
 use Rattle.lis_frame.specs.declared.scanner.SignalOf.{SignalOf}
 use Rattle.lis_frame.specs.declared.scanner.SignalOf.TheVariants.{Enq, Eot}
 use Rattle.lis_frame.specs.Stream.{look_back, open_stretch, signal_after, ended_stretch, read_stretch}
-use Rattle.lis_frame.specs.Scanner.{Held, outside, within, beyond, HoldsAtMost, kept, held_of, with_byte, with_bytes, ended_held, held_signal, held_after, StandsFor}
+use Rattle.lis_frame.specs.Scanner.{Held, outside, within, beyond, HoldsAtMost, kept, held_of, with_byte, with_bytes}
+use Rattle.lis_frame.specs.Scanner.{ended_held, held_signal, held_after, StandsFor}
 use Rattle.lis_frame.proofs.StretchLemmas.{stretch_fault-long}
 
 -- the byte behind what was found goes on behind it
 pub look_back-push :
-    (past since : List ℕ) (b : ℕ) → look_back past (since ++ b ∷ []) ≡ option_map (λ s. s ++ b ∷ []) (look_back past since)
+    (past since : List ℕ) (b : ℕ) → look_back past (since ++ b ∷ [])
+    ≡ option_map (λ s. s ++ b ∷ []) (look_back past since)
 look_back-push [] since b = refl
 look_back-push (x ∷ past) since b = by (x == STX) (x == EOT || x == ENQ || x == LF) (look_back-push past (x ∷ since) b)
   where
@@ -28,9 +31,11 @@ look_back-push (x ∷ past) since b = by (x == STX) (x == EOT || x == ENQ || x =
 pub kept-push : (limit : ℕ) (s : List ℕ) (b : ℕ) → kept limit (s ++ b ∷ []) ≡ with_byte limit (kept limit s) b
 kept-push limit s b = by (nat_lt (limit + 5) (length s)) refl
   where
-    by : (test : Bool) → nat_lt (limit + 5) (length s) ≡ test → kept limit (s ++ b ∷ []) ≡ with_byte limit (kept limit s) b
+    by : (test : Bool) → nat_lt (limit + 5) (length s) ≡ test
+        → kept limit (s ++ b ∷ []) ≡ with_byte limit (kept limit s) b
     by true e =
-        let longer : nat_lt (limit + 5) (length (s ++ b ∷ [])) ≡ true = rw (length-append s (b ∷ [])) (grind (arith, nat_tests)) in
+        let longer : nat_lt (limit + 5) (length (s ++ b ∷ [])) ≡ true =
+        rw (length-append s (b ∷ [])) (grind (arith, nat_tests)) in
         rw (e, longer) refl
     by false e = rw e refl
 
@@ -47,7 +52,8 @@ HoldsAtMost-with_byte limit outside b = tt
 HoldsAtMost-with_byte limit (within s) b = HoldsAtMost-kept limit (s ++ b ∷ [])
 HoldsAtMost-with_byte limit beyond b = tt
 
-pub HoldsAtMost-with_bytes : (limit : ℕ) (held : Held) (run : List ℕ) → HoldsAtMost (limit + 5) held → HoldsAtMost (limit + 5) (with_bytes limit held run)
+pub HoldsAtMost-with_bytes : (limit : ℕ) (held : Held) (run : List ℕ) → HoldsAtMost (limit + 5) held
+    → HoldsAtMost (limit + 5) (with_bytes limit held run)
 HoldsAtMost-with_bytes limit held [] h = h
 HoldsAtMost-with_bytes limit held (b ∷ run) h =
     HoldsAtMost-with_bytes limit (with_byte limit held b) run (HoldsAtMost-with_byte limit held b)
@@ -55,13 +61,15 @@ HoldsAtMost-with_bytes limit held (b ∷ run) h =
 pub HoldsAtMost-held_after : (limit : ℕ) (held : Held) (b : ℕ) → HoldsAtMost (limit + 5) (held_after limit held b)
 HoldsAtMost-held_after limit held b = by (b == STX) (b == EOT || b == ENQ || b == LF)
   where
-    by : (starts stops : Bool) → HoldsAtMost (limit + 5) (cond starts (within []) (cond stops outside (with_byte limit held b)))
+    by : (starts stops : Bool) → HoldsAtMost (limit + 5)
+        (cond starts (within []) (cond stops outside (with_byte limit held b)))
     by true stops = omega arith
     by false true = tt
     by false false = HoldsAtMost-with_byte limit held b
 
 held_of-push :
-    (limit : ℕ) (o : Option (List ℕ)) (b : ℕ) → held_of limit (option_map (λ s. s ++ b ∷ []) o) ≡ with_byte limit (held_of limit o) b
+    (limit : ℕ) (o : Option (List ℕ)) (b : ℕ) → held_of limit (option_map (λ s. s ++ b ∷ []) o)
+    ≡ with_byte limit (held_of limit o) b
 held_of-push limit None b = refl
 held_of-push limit (Some s) b = kept-push limit s b
 
@@ -69,7 +77,8 @@ ended-held_of : (limit : ℕ) (o : Option (List ℕ)) → ended_held limit (held
 ended-held_of limit None = refl
 ended-held_of limit (Some s) = by (nat_lt (limit + 5) (length s)) refl
   where
-    by : (test : Bool) → nat_lt (limit + 5) (length s) ≡ test → ended_held limit (kept limit s) ≡ Some (read_stretch limit s)
+    by : (test : Bool) → nat_lt (limit + 5) (length s) ≡ test
+        → ended_held limit (kept limit s) ≡ Some (read_stretch limit s)
     by true e =
         let long : limit + 5 < length s = grind (arith, nat_tests) in
         rw (e, stretch_fault-long limit s long) refl
@@ -85,14 +94,17 @@ unfolding StandsFor open_stretch
 stands_new limit = refl
 
 pub stands_signal :
-    (limit : ℕ) (held : Held) (past : List ℕ) (b : ℕ) → StandsFor limit held past → held_signal limit held b ≡ signal_after limit past b
+    (limit : ℕ) (held : Held) (past : List ℕ) (b : ℕ) → StandsFor limit held past
+    → held_signal limit held b ≡ signal_after limit past b
 unfolding StandsFor signal_after
 stands_signal limit held past b h =
-    ap (λ (t : Option (SignalOf limit)). if b == ENQ then Some Enq else if b == EOT then Some Eot else if b == LF then t else None)
+    ap (λ (t : Option (SignalOf limit)). if b == ENQ then Some Enq else if b == EOT then Some Eot else if b == LF
+    then t else None)
     (ap (ended_held limit) h ∙ ended-held_of limit (open_stretch past))
 
 pub stands_after :
-    (limit : ℕ) (held : Held) (past : List ℕ) (b : ℕ) → StandsFor limit held past → StandsFor limit (held_after limit held b) (b ∷ past)
+    (limit : ℕ) (held : Held) (past : List ℕ) (b : ℕ) → StandsFor limit held past
+    → StandsFor limit (held_after limit held b) (b ∷ past)
 unfolding StandsFor open_stretch
 stands_after limit held past b h = by (b == STX) (b == EOT || b == ENQ || b == LF)
   where

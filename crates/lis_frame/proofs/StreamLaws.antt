@@ -1,5 +1,6 @@
 -- The signals of a stream: they don't depend on its cut, and the bytes of a frame are heard as that frame.
-use Rattle.std.proofs.Common.{suc, take, ◌≡◌, ℕ, ◌+◌, ◌/◌, ◌%◌, ◌<◌, Bool, true, false, List, [], ◌∷◌, ◌++◌, Option, None, Some, refl, ap, sym, ◌∙◌, subst, arith, cond, append-nil, append_assoc}
+use Rattle.std.proofs.Common.{suc, take, ◌≡◌, ℕ, ◌+◌, ◌/◌, ◌%◌, ◌<◌, Bool, true, false, List, [], ◌∷◌, ◌++◌, Option}
+use Rattle.std.proofs.Common.{None, Some, refl, ap, sym, ◌∙◌, subst, arith, cond, append-nil, append_assoc}
 use Rattle.std.specs.Prelude.{not, nat_le, ◌==◌, ◌||◌}
 use Rattle.std.specs.List.{position_from}
 use Rattle.std.proofs.lemmas.Bool.Decides.{nat_tests}
@@ -7,10 +8,13 @@ use Rattle.lis_text.specs.Control.{STX, EOT, ENQ, CR, LF}
 use Rattle.lis_frame.specs.declared.scanner.SignalOf.{SignalOf}
 use Rattle.lis_frame.specs.declared.scanner.SignalOf.TheVariants.{Good}
 use Rattle.lis_text.specs.Text.{is_forbidden, first_forbidden}
-use Rattle.lis_frame.specs.Scanner.{Held, held_after, outside, quiet_length, unmarked_length, with_byte, with_bytes, StandsFor}
-use Rattle.lis_frame.specs.Frame.{FrameContent, IsContent, IsFrame, number_byte, end_byte, checksum, digit_value, upper_digit, frame_bytes}
+use Rattle.lis_frame.specs.Scanner.{Held, held_after, outside, quiet_length, unmarked_length, with_byte, with_bytes}
+use Rattle.lis_frame.specs.Scanner.{StandsFor}
+use Rattle.lis_frame.specs.Frame.{FrameContent, IsContent, IsFrame, number_byte, end_byte, checksum, digit_value}
+use Rattle.lis_frame.specs.Frame.{upper_digit, frame_bytes}
 use Rattle.lis_frame.specs.Stretch.{stretch_of}
-use Rattle.lis_frame.specs.Stream.{is_mark, look_back, open_stretch, read_stretch, signal_after, with_signal, signals_after, stream_with}
+use Rattle.lis_frame.specs.Stream.{is_mark, look_back, open_stretch, read_stretch, signal_after, with_signal}
+use Rattle.lis_frame.specs.Stream.{signals_after, stream_with}
 use Rattle.lis_frame.proofs.FrameLaws.{only, IsFrame-frame_bytes}
 use Rattle.lis_frame.proofs.ScannerLemmas.{look_back-push, stands_after}
 
@@ -19,11 +23,13 @@ pub signals_after-append :
     (limit : ℕ) (xs ys past : List ℕ) →
     signals_after limit past (xs ++ ys) ≡ signals_after limit past xs ++ signals_after limit (stream_with past xs) ys
 signals_after-append limit [] ys past = refl
-signals_after-append limit (b ∷ xs) ys past = by (signal_after limit past b) (signals_after-append limit xs ys (b ∷ past))
+signals_after-append limit (b ∷ xs) ys past = by (signal_after limit past b)
+    (signals_after-append limit xs ys (b ∷ past))
   where
     by :
         (signal : Option (SignalOf limit)) →
-        signals_after limit (b ∷ past) (xs ++ ys) ≡ signals_after limit (b ∷ past) xs ++ signals_after limit (stream_with (b ∷ past) xs) ys →
+        signals_after limit (b ∷ past) (xs ++ ys) ≡ signals_after limit (b ∷ past) xs
+        ++ signals_after limit (stream_with (b ∷ past) xs) ys →
         with_signal signal (signals_after limit (b ∷ past) (xs ++ ys))
         ≡ with_signal signal (signals_after limit (b ∷ past) xs) ++ signals_after limit (stream_with (b ∷ past) xs) ys
     by None later = later
@@ -49,16 +55,19 @@ signals-plain limit (b ∷ bytes) past plain =
     rw (plain.0.no_enquiry, plain.0.no_ending, plain.0.no_line_feed) (signals-plain limit bytes (b ∷ past) plain.1)
 
 -- and go on with an open stretch
-open-plain : (bytes past s : List ℕ) → AllPlain bytes → look_back past [] ≡ Some s → look_back (stream_with past bytes) [] ≡ Some (s ++ bytes)
+open-plain : (bytes past s : List ℕ) → AllPlain bytes → look_back past [] ≡ Some s
+    → look_back (stream_with past bytes) [] ≡ Some (s ++ bytes)
 unfolding AllPlain
 open-plain [] past s plain e = rw (append-nil s) e
 open-plain (b ∷ bytes) past s plain e =
-    let one : look_back (b ∷ past) [] ≡ Some (s ++ b ∷ []) = rw (plain.0.no_start, plain.0.no_stop, look_back-push past [] b, e) refl in
+    let one : look_back (b ∷ past) [] ≡ Some (s ++ b ∷ []) =
+    rw (plain.0.no_start, plain.0.no_stop, look_back-push past [] b, e) refl in
     rw (append_assoc s (b ∷ []) bytes) at (open-plain bytes (b ∷ past) (s ++ b ∷ []) plain.1 one)
 
 -- plain bytes between STX and LF are heard as the stretch that they are
 signals-stretch :
-    (limit : ℕ) (past s : List ℕ) → AllPlain s → signals_after limit past (STX ∷ (s ++ LF ∷ [])) ≡ read_stretch limit s ∷ []
+    (limit : ℕ) (past s : List ℕ) → AllPlain s → signals_after limit past (STX ∷ (s ++ LF ∷ []))
+    ≡ read_stretch limit s ∷ []
 unfolding signal_after open_stretch
 signals-stretch limit past s plain =
     let opened : look_back (stream_with (STX ∷ past) s) [] ≡ Some s = open-plain s (STX ∷ past) [] plain refl in
@@ -75,10 +84,12 @@ plain_if_allowed b h =
       no_line_feed = grind (arith, nat_tests);
     }
 
-AllPlain-text : (i : ℕ) (text rest : List ℕ) → position_from is_forbidden i text ≡ None → AllPlain rest → AllPlain (text ++ rest)
+AllPlain-text : (i : ℕ) (text rest : List ℕ) → position_from is_forbidden i text ≡ None → AllPlain rest
+    → AllPlain (text ++ rest)
 unfolding AllPlain
 AllPlain-text i [] rest clean plain = plain
-AllPlain-text i (b ∷ text) rest clean plain = by (is_forbidden b) refl clean (λ later. AllPlain-text (i + 1) text rest later plain)
+AllPlain-text i (b ∷ text) rest clean plain = by (is_forbidden b) refl clean
+    (λ later. AllPlain-text (i + 1) text rest later plain)
   where
     by :
         (test : Bool) → is_forbidden b ≡ test → cond test (Some i) (position_from is_forbidden (i + 1) text) ≡ None →
@@ -96,13 +107,15 @@ plain_end false = record { no_start = refl; no_stop = refl; no_enquiry = refl; n
 -- the bytes of a frame between its STX and its LF
 inside_of : FrameContent → List ℕ
 inside_of frame =
-    stretch_of (number_byte frame.number) frame.text (end_byte frame.last) (upper_digit (checksum frame / 16)) (upper_digit (checksum frame % 16)) CR
+    stretch_of (number_byte frame.number) frame.text (end_byte frame.last) (upper_digit (checksum frame / 16))
+    (upper_digit (checksum frame % 16)) CR
 
 frame_bytes-inside : (frame : FrameContent) → frame_bytes frame ≡ STX ∷ (inside_of frame ++ LF ∷ [])
 unfolding frame_bytes inside_of
 frame_bytes-inside frame =
     ap (λ (xs : List ℕ). STX ∷ number_byte frame.number ∷ xs)
-    (sym (append_assoc frame.text (end_byte frame.last ∷ upper_digit (checksum frame / 16) ∷ upper_digit (checksum frame % 16) ∷ CR ∷ []) (LF ∷ [])))
+    (sym (append_assoc frame.text (end_byte frame.last ∷ upper_digit (checksum frame / 16)
+    ∷ upper_digit (checksum frame % 16) ∷ CR ∷ []) (LF ∷ [])))
 
 AllPlain-inside_of : (limit : ℕ) (frame : FrameContent) → IsContent limit frame → AllPlain (inside_of frame)
 unfolding AllPlain inside_of
@@ -119,12 +132,19 @@ AllPlain-inside_of limit frame content = (
 
 -- the bytes of a frame are heard as that frame, whatever came before them
 pub signals-frame_bytes :
-    (limit : ℕ) (past : List ℕ) (frame : FrameContent) → IsContent limit frame → signals_after limit past (frame_bytes frame) ≡ Good frame ∷ []
+    (limit : ℕ) (past : List ℕ) (frame : FrameContent) → IsContent limit frame
+    → signals_after limit past (frame_bytes frame) ≡ Good frame ∷ []
 signals-frame_bytes limit past frame content =
     let is_frame : IsFrame limit (STX ∷ (inside_of frame ++ LF ∷ [])) frame =
-    subst (λ (bytes : List ℕ). IsFrame limit bytes frame) (frame_bytes-inside frame) (IsFrame-frame_bytes limit frame content) in
+    subst (λ (bytes : List ℕ). IsFrame limit bytes frame) (frame_bytes-inside frame)
+    (IsFrame-frame_bytes limit frame content) in
     let read = only limit (inside_of frame) frame is_frame in
-    rw (frame_bytes-inside frame, signals-stretch limit past (inside_of frame) (AllPlain-inside_of limit frame content), read.0) (ap (λ f. Good f ∷ []) (sym read.1))
+    rw (
+      frame_bytes-inside frame,
+      signals-stretch limit past (inside_of frame)
+          (AllPlain-inside_of limit frame content),
+      read.0,
+    ) (ap (λ f. Good f ∷ []) (sym read.1))
 
 plain_unless_mark : (b : ℕ) → is_mark b ≡ false → IsPlain b
 plain_unless_mark b h =
@@ -145,7 +165,8 @@ unfolding AllPlain
 AllPlain-unmarked [] = tt
 AllPlain-unmarked (b ∷ bytes) = by (is_mark b) refl (AllPlain-unmarked bytes)
   where
-    by : (mark : Bool) → is_mark b ≡ mark → AllPlain (unmarked bytes) → AllPlain (take (cond (not mark) (1 + unmarked_length bytes) 0) (b ∷ bytes))
+    by : (mark : Bool) → is_mark b ≡ mark → AllPlain (unmarked bytes)
+        → AllPlain (take (cond (not mark) (1 + unmarked_length bytes) 0) (b ∷ bytes))
     by true e later = tt
     by false e later =
         let longer : 1 + unmarked_length bytes ≡ suc (unmarked_length bytes) = omega arith in
@@ -157,7 +178,8 @@ stands-plain :
 unfolding AllPlain
 stands-plain limit held [] past plain stands = stands
 stands-plain limit held (b ∷ run) past plain stands =
-    let one : StandsFor limit (with_byte limit held b) (b ∷ past) = rw (plain.0.no_start, plain.0.no_stop) at (stands_after limit held past b stands) in
+    let one : StandsFor limit (with_byte limit held b) (b ∷ past) =
+    rw (plain.0.no_start, plain.0.no_stop) at (stands_after limit held past b stands) in
     stands-plain limit (with_byte limit held b) run (b ∷ past) plain.1 one
 
 -- bytes up to the next mark give no signal, and are held as they are
@@ -182,14 +204,17 @@ clean_run limit held run past stands clean =
 pub started_run :
     (limit : ℕ) (held : Held) (behind past : List ℕ) → StandsFor limit held past →
     (signals_after limit past (STX ∷ unmarked behind) ≡ [])
-    × StandsFor limit (with_bytes limit (held_after limit held STX) (unmarked behind)) (stream_with past (STX ∷ unmarked behind))
+    × StandsFor limit (with_bytes limit (held_after limit held STX) (unmarked behind))
+    (stream_with past (STX ∷ unmarked behind))
 unfolding signal_after
-started_run limit held behind past stands = unmarked_run limit (held_after limit held STX) behind (STX ∷ past) (stands_after limit held past STX stands)
+started_run limit held behind past stands = unmarked_run limit (held_after limit held STX) behind (STX ∷ past)
+    (stands_after limit held past STX stands)
 
 pub quiet_length-start : (behind : List ℕ) (n : ℕ) → n ≡ unmarked_length behind → n + 1 ≡ quiet_length (STX ∷ behind)
 quiet_length-start behind n e = rw e refl
 
-pub quiet_length-other : (b : ℕ) (behind : List ℕ) → (b == STX) ≡ false → unmarked_length (b ∷ behind) ≡ quiet_length (b ∷ behind)
+pub quiet_length-other : (b : ℕ) (behind : List ℕ) → (b == STX) ≡ false
+    → unmarked_length (b ∷ behind) ≡ quiet_length (b ∷ behind)
 quiet_length-other b behind other = rw other refl
 
 allowed_hex : (b value : ℕ) → digit_value b ≡ Some value → is_forbidden b ≡ false
@@ -218,7 +243,8 @@ heard_frame limit past bytes frame is_frame =
     is_frame.spelling
     ∙ ap (λ (xs : List ℕ). STX ∷ number_byte frame.number ∷ xs)
     (sym (append_assoc frame.text (end_byte frame.last ∷ is_frame.high ∷ is_frame.low ∷ CR ∷ []) (LF ∷ []))) in
-    let same : IsFrame limit (STX ∷ (s ++ LF ∷ [])) frame = subst (λ (xs : List ℕ). IsFrame limit xs frame) bytes_are is_frame in
+    let same : IsFrame limit (STX ∷ (s ++ LF ∷ [])) frame =
+    subst (λ (xs : List ℕ). IsFrame limit xs frame) bytes_are is_frame in
     let read = only limit s frame same in
     let plain : AllPlain s = (
       plain_if_allowed (number_byte frame.number) (grind (arith, nat_tests, is_frame.content.number_in_range)),
@@ -226,7 +252,10 @@ heard_frame limit past bytes frame is_frame =
         plain_end frame.last,
         (
           plain_if_allowed _ (allowed_hex is_frame.high is_frame.digits.high_value is_frame.digits.is_high),
-          (plain_if_allowed _ (allowed_hex is_frame.low is_frame.digits.low_value is_frame.digits.is_low), (plain_if_allowed CR refl, tt)),
+          (
+            plain_if_allowed _ (allowed_hex is_frame.low is_frame.digits.low_value is_frame.digits.is_low),
+            (plain_if_allowed CR refl, tt),
+          ),
         ),
       ),
     ) in (

@@ -1,6 +1,8 @@
 -- A stretch of five bytes or more and its parts.
-use Rattle.std.proofs.Common.{◌≡◌, ℕ, ◌+◌, ◌-◌, ◌%◌, ◌≤◌, ◌<◌, Bool, true, false, List, [], ◌∷◌, ◌++◌, Option, None, Some, length, take, drop, get_or, refl, ap, arith, sym, ◌∙◌, suc, length-drop, add-zero}
-use Rattle.std.proofs.lemmas.List.{get_or-append-add, get_or-drop, get_or-take, length-append, length-take-le, take-append-drop, take-take}
+use Rattle.std.proofs.Common.{◌≡◌, ℕ, ◌+◌, ◌-◌, ◌%◌, ◌≤◌, ◌<◌, Bool, true, false, List, [], ◌∷◌, ◌++◌, Option, None}
+use Rattle.std.proofs.Common.{Some, length, take, drop, get_or, refl, ap, arith, sym, ◌∙◌, suc, length-drop, add-zero}
+use Rattle.std.proofs.lemmas.List.{get_or-append-add, get_or-drop, get_or-take, length-append, length-take-le}
+use Rattle.std.proofs.lemmas.List.{take-append-drop, take-take}
 use Rattle.std.proofs.Math.Seq.{take-append_seam}
 use Rattle.std.specs.Prelude.{◌==◌, ◌&&◌, ◌||◌, nat_lt, nat_le, slice_index}
 use Rattle.std.proofs.lemmas.Bool.Decides.{nat_tests}
@@ -9,7 +11,8 @@ use Rattle.lis_text.specs.Control.{ETX, ETB, CR}
 use Rattle.lis_frame.specs.declared.frame.FrameFault.TheVariants.{TooLong, Shape}
 use Rattle.lis_frame.specs.Frame.{number_byte, end_byte, digit_value}
 use Rattle.lis_text.specs.Text.{first_forbidden}
-use Rattle.lis_frame.specs.Stretch.{stretch_of, text_of, end_of, content_of, digits_value, is_number_byte, pair_value, is_value, first_fault, stretch_fault}
+use Rattle.lis_frame.specs.Stretch.{stretch_of, text_of, end_of, content_of, digits_value, is_number_byte, pair_value}
+use Rattle.lis_frame.specs.Stretch.{is_value, first_fault, stretch_fault}
 
 -- the sum is asked for only in a stretch of the right shape with a number
 first_fault-sum :
@@ -31,7 +34,8 @@ module _ (number : ℕ) (text : List ℕ) (end high low close : ℕ) where
   length-stretch_of = omega (arith, length-append text (end ∷ high ∷ low ∷ close ∷ []))
 
   -- the part at a place behind the text
-  at_behind : (k n : ℕ) → n ≡ suc (length text + k) → get_or (stretch_of number text end high low close) n 0 ≡ get_or (end ∷ high ∷ low ∷ close ∷ []) k 0
+  at_behind : (k n : ℕ) → n ≡ suc (length text + k)
+      → get_or (stretch_of number text end high low close) n 0 ≡ get_or (end ∷ high ∷ low ∷ close ∷ []) k 0
   at_behind k n e = rw e (get_or-append-add text (end ∷ high ∷ low ∷ close ∷ []) k 0)
 
   pub text_of-stretch_of : text_of (stretch_of number text end high low close) ≡ text
@@ -42,17 +46,24 @@ module _ (number : ℕ) (text : List ℕ) (end high low close : ℕ) where
   pub end_of-stretch_of : end_of (stretch_of number text end high low close) ≡ end
   end_of-stretch_of = at_behind 0 _ (omega (arith, length-stretch_of))
 
-  pub digits_value-stretch_of : digits_value (stretch_of number text end high low close) ≡ pair_value (digit_value high) (digit_value low)
+  pub digits_value-stretch_of : digits_value (stretch_of number text end high low close)
+      ≡ pair_value (digit_value high) (digit_value low)
   digits_value-stretch_of =
-      let h : get_or (stretch_of number text end high low close) (length (stretch_of number text end high low close) - 3) 0 ≡ high = at_behind 1 _ (omega (arith, length-stretch_of)) in
-      let l : get_or (stretch_of number text end high low close) (length (stretch_of number text end high low close) - 2) 0 ≡ low = at_behind 2 _ (omega (arith, length-stretch_of)) in
+      let h : get_or (stretch_of number text end high low close)
+      (length (stretch_of number text end high low close) - 3) 0 ≡ high =
+      at_behind 1 _ (omega (arith, length-stretch_of)) in
+      let l : get_or (stretch_of number text end high low close)
+      (length (stretch_of number text end high low close) - 2) 0 ≡ low =
+      at_behind 2 _ (omega (arith, length-stretch_of)) in
       rw (h, l) refl
 
-  pub close-stretch_of : slice_index (stretch_of number text end high low close) (length (stretch_of number text end high low close) - 1) ≡ close
+  pub close-stretch_of : slice_index (stretch_of number text end high low close)
+      (length (stretch_of number text end high low close) - 1) ≡ close
   close-stretch_of = at_behind 3 _ (omega (arith, length-stretch_of))
 
   pub content_of-stretch_of :
-      content_of (stretch_of number text end high low close) ≡ record { number = number - 48; last = end == ETX; text = text }
+      content_of (stretch_of number text end high low close)
+      ≡ record { number = number - 48; last = end == ETX; text = text }
   content_of-stretch_of = rw (end_of-stretch_of, text_of-stretch_of) refl
 
   -- the first fault of a stretch that is not too long, by its parts
@@ -60,12 +71,14 @@ module _ (number : ℕ) (text : List ℕ) (end high low close : ℕ) where
       (limit : ℕ) → length text ≤ limit →
       stretch_fault limit (stretch_of number text end high low close)
       ≡ first_fault false (close == CR && (end == ETX || end == ETB)) (is_number_byte number) (first_forbidden text)
-      (is_value (pair_value (digit_value high) (digit_value low)) ((number_byte (number - 48) + sum text + end_byte (end == ETX)) % 256))
+      (is_value (pair_value (digit_value high) (digit_value low))
+      ((number_byte (number - 48) + sum text + end_byte (end == ETX)) % 256))
   unfolding stretch_fault
   stretch_fault-stretch_of limit short =
       let in_limit : nat_lt (limit + 5) (length (stretch_of number text end high low close)) ≡ false =
       grind (arith, nat_tests, length-stretch_of) in
-      let five : nat_le 5 (length (stretch_of number text end high low close)) ≡ true = grind (arith, nat_tests, length-stretch_of) in
+      let five : nat_le 5 (length (stretch_of number text end high low close)) ≡ true =
+      grind (arith, nat_tests, length-stretch_of) in
       rw (in_limit, five, close-stretch_of, end_of-stretch_of, digits_value-stretch_of, text_of-stretch_of) refl
 
   -- the same by the bytes of the number and of the end themselves
@@ -78,7 +91,8 @@ module _ (number : ℕ) (text : List ℕ) (end high low close : ℕ) where
       stretch_fault-stretch_of limit short
       ∙ first_fault-sum _ _ _ _ _
       (λ shaped numbered.
-      let e : (number_byte (number - 48) + sum text + end_byte (end == ETX)) % 256 ≡ ((number + sum text) % 256 + end) % 256 =
+      let e : (number_byte (number - 48) + sum text + end_byte (end == ETX)) % 256
+      ≡ ((number + sum text) % 256 + end) % 256 =
       rw (number_byte-back number numbered, end_byte-back close end shaped) (omega arith) in
       ap (is_value (pair_value (digit_value high) (digit_value low))) e)
 
@@ -103,7 +117,8 @@ split_last_four xs m e =
 -- four bytes behind so many
 pub last_four_at :
     (xs : List ℕ) (m : ℕ) → m + 4 ≤ length xs →
-    take (m + 4) xs ≡ take m xs ++ (get_or xs m 0 ∷ get_or xs (m + 1) 0 ∷ get_or xs (m + 2) 0 ∷ get_or xs (m + 3) 0 ∷ [])
+    take (m + 4) xs ≡ take m xs ++ (get_or xs m 0 ∷ get_or xs (m + 1) 0 ∷ get_or xs (m + 2) 0 ∷ get_or xs (m + 3) 0
+    ∷ [])
 last_four_at xs m fits =
     let parts = split_last_four (take (m + 4) xs) m (sym (length-take-le (m + 4) xs fits)) in
     sym (rw (
@@ -128,9 +143,11 @@ stretch_parts (x ∷ xs) m i j k l h a b c d =
 
 pub stretch_fault-long : (limit : ℕ) (s : List ℕ) → limit + 5 < length s → stretch_fault limit s ≡ Some TooLong
 unfolding stretch_fault
-stretch_fault-long limit s h = let long : nat_lt (limit + 5) (length s) ≡ true = grind (arith, nat_tests) in rw long refl
+stretch_fault-long limit s h = let long : nat_lt (limit + 5) (length s) ≡ true = grind (arith, nat_tests) in
+    rw long refl
 
-pub stretch_fault-few : (limit : ℕ) (s : List ℕ) → length s ≤ limit + 5 → length s < 5 → stretch_fault limit s ≡ Some Shape
+pub stretch_fault-few : (limit : ℕ) (s : List ℕ) → length s ≤ limit + 5 → length s < 5
+    → stretch_fault limit s ≡ Some Shape
 unfolding stretch_fault
 stretch_fault-few limit s h few =
     let short : nat_lt (limit + 5) (length s) ≡ false = grind (arith, nat_tests) in

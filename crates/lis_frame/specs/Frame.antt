@@ -1,5 +1,6 @@
 -- A frame: its parts, its checksum and its spelling (LIS01-A2, 6.3).
-use Rattle.std.specs.Prelude.{◌≡◌, ℕ, ◌+◌, ◌*◌, ◌-◌, ◌/◌, ◌%◌, ◌≤◌, Bool, List, [], ◌∷◌, ◌++◌, Option, None, Some, if◌then◌else◌, nat_lt, nat_le, ◌&&◌, sum}
+use Rattle.std.specs.Prelude.{◌≡◌, ℕ, ◌+◌, ◌*◌, ◌-◌, ◌/◌, ◌%◌, ◌≤◌, Bool, List, [], ◌∷◌, ◌++◌, Option, None, Some}
+use Rattle.std.specs.Prelude.{if◌then◌else◌, nat_lt, nat_le, ◌&&◌, sum}
 use Rattle.lis_text.specs.Control.{STX, ETX, ETB, CR, LF}
 use Rattle.lis_text.specs.Text.{IsText}
 

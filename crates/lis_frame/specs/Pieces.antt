@@ -1,5 +1,6 @@
 -- The frames of a link text and of a session's texts (LIS01-A2, 6.3 and 6.5).
-use Rattle.std.specs.Prelude.{ℕ, zero, suc, ◌+◌, ◌-◌, ◌/◌, ◌%◌, Bool, true, false, List, [], ◌∷◌, ◌++◌, length, take, drop}
+use Rattle.std.specs.Prelude.{ℕ, zero, suc, ◌+◌, ◌-◌, ◌/◌, ◌%◌, Bool, true, false, List, [], ◌∷◌, ◌++◌, length, take}
+use Rattle.std.specs.Prelude.{drop}
 use Rattle.lis_frame.specs.Frame.{FrameContent}
 
 -- a part of a text that goes in one frame, and whether it is the text's last
@@ -10,7 +11,8 @@ pub record Piece : Type 0 where
 -- so many full pieces, and then the last one with what is left
 abbrev pub pieces_from : ℕ → ℕ → List ℕ → List Piece
 pieces_from limit zero text = record { bytes = text; last = true } ∷ []
-pieces_from limit (suc full) text = record { bytes = take limit text; last = false } ∷ pieces_from limit full (drop limit text)
+pieces_from limit (suc full) text = record { bytes = take limit text; last = false }
+    ∷ pieces_from limit full (drop limit text)
 
 -- a text in pieces of `limit` bytes; the last may be shorter; the empty text is one empty piece
 unfoldable pub pieces : ℕ → List ℕ → List Piece

@@ -1,5 +1,6 @@
 -- What a scanner holds of the stream that it has read.
-use Rattle.std.specs.Prelude.{◌≡◌, ℕ, ◌+◌, ◌≤◌, List, [], ◌∷◌, ◌++◌, Option, None, Some, length, if◌then◌else◌, nat_lt, ◌==◌, ◌||◌, not, ⊤}
+use Rattle.std.specs.Prelude.{◌≡◌, ℕ, ◌+◌, ◌≤◌, List, [], ◌∷◌, ◌++◌, Option, None, Some, length, if◌then◌else◌, nat_lt}
+use Rattle.std.specs.Prelude.{◌==◌, ◌||◌, not, ⊤}
 use Rattle.std.specs.List.{prefix_len}
 use Rattle.lis_text.specs.Control.{STX, EOT, ENQ, LF}
 use Rattle.lis_frame.specs.declared.frame.FrameFault.TheVariants.{TooLong}

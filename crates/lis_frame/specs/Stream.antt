@@ -10,7 +10,8 @@ use Rattle.lis_frame.specs.Stretch.{stretch_fault, content_of}
 abbrev pub is_mark : ℕ → Bool
 is_mark b = b == STX || b == LF || (b == EOT || b == ENQ)
 
--- the bytes since the nearest STX, oldest first, where none of EOT, ENQ and LF stands nearer; `since` stands behind them
+-- the bytes since the nearest STX, oldest first, where none of EOT, ENQ and LF stands nearer; `since` stands behind
+-- them
 abbrev pub look_back : List ℕ → List ℕ → Option (List ℕ)
 look_back [] since = None
 look_back (b ∷ past) since =
@@ -33,10 +34,12 @@ abbrev pub ended_stretch : (limit : ℕ) → Option (List ℕ) → Option (Signa
 ended_stretch limit None = None
 ended_stretch limit (Some stretch) = Some (read_stretch limit stretch)
 
--- what a byte tells after what came before it: ENQ and EOT wherever they stand, LF by the stretch that it ends, no other byte anything
+-- what a byte tells after what came before it: ENQ and EOT wherever they stand, LF by the stretch that it ends, no
+-- other byte anything
 unfoldable pub signal_after : (limit : ℕ) → List ℕ → ℕ → Option (SignalOf limit)
 signal_after limit past b =
-    if b == ENQ then Some Enq else if b == EOT then Some Eot else if b == LF then ended_stretch limit (open_stretch past) else None
+    if b == ENQ then Some Enq else if b == EOT then Some Eot else if b == LF then ended_stretch limit
+    (open_stretch past) else None
 
 -- the signals of further bytes, in the order of their places
 abbrev pub with_signal : {limit : ℕ} → Option (SignalOf limit) → List (SignalOf limit) → List (SignalOf limit)

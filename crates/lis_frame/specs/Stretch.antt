@@ -1,5 +1,6 @@
 -- Reading the bytes between an STX and the next LF: their parts by places, and what is wrong with them first.
-use Rattle.std.specs.Prelude.{ℕ, ◌+◌, ◌-◌, ◌*◌, Bool, true, false, List, [], ◌∷◌, ◌++◌, Option, None, Some, length, drop, take, slice_index, nat_lt, nat_le, ◌==◌, ◌&&◌, ◌||◌}
+use Rattle.std.specs.Prelude.{ℕ, ◌+◌, ◌-◌, ◌*◌, Bool, true, false, List, [], ◌∷◌, ◌++◌, Option, None, Some, length}
+use Rattle.std.specs.Prelude.{drop, take, slice_index, nat_lt, nat_le, ◌==◌, ◌&&◌, ◌||◌}
 use Rattle.lis_text.specs.Control.{ETX, ETB, CR}
 use Rattle.lis_frame.specs.declared.frame.FrameFault.{FrameFault}
 use Rattle.lis_frame.specs.declared.frame.FrameFault.TheVariants.{TooLong, Shape, Number, Text, Sum}
@@ -19,11 +20,16 @@ stretch_of number text end high low close = number ∷ (text ++ (end ∷ high �
 
 -- the frame that stands there, if one does
 abbrev pub content_of : List ℕ → FrameContent
-content_of stretch = record { number = slice_index stretch 0 - 48; last = end_of stretch == ETX; text = text_of stretch }
+content_of stretch = record {
+  number = slice_index stretch 0 - 48;
+  last = end_of stretch == ETX;
+  text = text_of stretch;
+}
 
 abbrev pub has_shape : List ℕ → Bool
 has_shape stretch =
-    nat_le 5 (length stretch) && slice_index stretch (length stretch - 1) == CR && (end_of stretch == ETX || end_of stretch == ETB)
+    nat_le 5 (length stretch) && slice_index stretch (length stretch - 1) == CR
+    && (end_of stretch == ETX || end_of stretch == ETB)
 
 abbrev pub is_number_byte : ℕ → Bool
 is_number_byte b = nat_le 48 b && nat_le b 55
@@ -36,7 +42,8 @@ pair_value (Some high) (Some low) = Some (16 * high + low)
 
 abbrev pub digits_value : List ℕ → Option ℕ
 digits_value stretch =
-    pair_value (digit_value (slice_index stretch (length stretch - 3))) (digit_value (slice_index stretch (length stretch - 2)))
+    pair_value (digit_value (slice_index stretch (length stretch - 3)))
+    (digit_value (slice_index stretch (length stretch - 2)))
 
 abbrev pub is_value : Option ℕ → ℕ → Bool
 is_value None n = false

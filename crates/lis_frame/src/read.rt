@@ -1,11 +1,14 @@
 //! Reading a frame from the bytes between its STX and its LF.
 
-ghost use Rattle.std.specs.Prelude.{◌≡◌, ◌+◌, ◌-◌, ◌%◌, ◌≤◌, ◌<◌, ◌==◌, ◌&&◌, ◌||◌, false, true, [], ◌∷◌, ◌++◌, None, Some, Ok, IfOk, IfErr, IfNone, IfSome, MatchResult, length, take, drop, slice_index};
+ghost use Rattle.std.specs.Prelude.{◌≡◌, ◌+◌, ◌-◌, ◌%◌, ◌≤◌, ◌<◌, ◌==◌, ◌&&◌, ◌||◌, false, true, [], ◌∷◌, ◌++◌, None};
+ghost use Rattle.std.specs.Prelude.{Some, Ok, IfOk, IfErr, IfNone, IfSome, MatchResult, length, take, drop};
+ghost use Rattle.std.specs.Prelude.{slice_index};
 ghost use Rattle.std.specs.List.{sum};
 ghost use Rattle.lis_frame.specs.Limit.{IsLimit};
 ghost use Rattle.lis_frame.specs.Frame.{FrameContent, IsContent, IsFrame, digit_value};
 ghost use Rattle.lis_text.specs.Text.{first_forbidden};
-ghost use Rattle.lis_frame.specs.Stretch.{stretch_of, stretch_fault, content_of, first_fault, is_number_byte, is_value, pair_value};
+ghost use Rattle.lis_frame.specs.Stretch.{stretch_of, stretch_fault, content_of, first_fault, is_number_byte, is_value};
+ghost use Rattle.lis_frame.specs.Stretch.{pair_value};
 
 use crate::frame::{Frame, FrameFault, FrameOf};
 use crate::lent::LentFrame;
@@ -97,7 +100,8 @@ impl<'a> Parts<'a> {
     /// The frame of the parts, its text lent, or the first fault behind the length.
     pub(crate) fn lent<const N: usize>(&self) -> Result<LentFrame<'a>, FrameFault>
         requires { length self.now.text.now ≤ N }
-        ensures places { let stretch = stretch_of self.now.number self.now.text.now self.now.end self.now.high self.now.low self.now.close in
+        ensures places { let stretch = stretch_of self.now.number self.now.text.now self.now.end self.now.high
+            self.now.low self.now.close in
             MatchResult result (λ frame. (frame ≡ content_of stretch) × (stretch_fault N stretch ≡ None))
             (λ fault. stretch_fault N stretch ≡ Some fault) }
         ensures content { IfOk result (IsContent N) }

@@ -1,6 +1,7 @@
 //! The frames of a text (LIS01-A2, 6.3 and 6.5).
 
-ghost use Rattle.std.specs.Prelude.{◌≡◌, ◌+◌, ◌%◌, ◌/◌, ◌≤◌, ◌<◌, ◌⊎◌, nat_le, None, Some, IfOk, length, take, drop, slice_get};
+ghost use Rattle.std.specs.Prelude.{◌≡◌, ◌+◌, ◌%◌, ◌/◌, ◌≤◌, ◌<◌, ◌⊎◌, nat_le, None, Some, IfOk, length, take, drop};
+ghost use Rattle.std.specs.Prelude.{slice_get};
 ghost use Rattle.lis_frame.specs.Limit.{IsLimit};
 ghost use Rattle.lis_text.specs.LinkText.{longest_text};
 ghost use Rattle.lis_text.specs.Text.{text_fault};

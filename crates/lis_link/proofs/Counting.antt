@@ -1,5 +1,6 @@
 -- How many frames a session has at most.
-use Rattle.std.proofs.Common.{◌≡◌, ℕ, zero, suc, ◌+◌, ◌*◌, ◌-◌, ◌/◌, ◌%◌, ◌<◌, ◌≤◌, List, [], ◌∷◌, length, drop, refl, ap, arith}
+use Rattle.std.proofs.Common.{◌≡◌, ℕ, zero, suc, ◌+◌, ◌*◌, ◌-◌, ◌/◌, ◌%◌, ◌<◌, ◌≤◌, List, [], ◌∷◌, length, drop, refl}
+use Rattle.std.proofs.Common.{ap, arith}
 use Rattle.std.specs.Prelude.{All}
 use Rattle.std.proofs.Math.Nat.{mul-le-mul_right}
 use Rattle.std.proofs.lemmas.List.{length-append}
@@ -29,7 +30,8 @@ few_pieces limit text is_limit short =
     let whole : limit * q + (length text - 1) % limit ≡ length text - 1 = omega arith in
     omega arith
 
-length-all_pieces : (limit : ℕ) (texts : List (List ℕ)) → IsLimit limit → All (IsText longest_text) texts → length (all_pieces limit texts) ≤ 4370 * length texts
+length-all_pieces : (limit : ℕ) (texts : List (List ℕ)) → IsLimit limit → All (IsText longest_text) texts
+    → length (all_pieces limit texts) ≤ 4370 * length texts
 unfolding pieces
 length-all_pieces limit [] is_limit h = omega arith
 length-all_pieces limit (text ∷ texts) is_limit h =
@@ -41,7 +43,8 @@ length-all_pieces limit (text ∷ texts) is_limit h =
     omega arith
 
 pub few-session_frames :
-    (limit : ℕ) (texts : List (List ℕ)) → IsLimit limit → All (IsText longest_text) texts → length texts ≤ 65536 → length (session_frames limit texts) < 4294967295
+    (limit : ℕ) (texts : List (List ℕ)) → IsLimit limit → All (IsText longest_text) texts → length texts ≤ 65536
+    → length (session_frames limit texts) < 4294967295
 unfolding session_frames
 few-session_frames limit texts is_limit h few =
     let count = length-all_pieces limit texts is_limit h in

@@ -1,5 +1,7 @@
 -- Hearing bytes up to the first that is not quiet.
-use Rattle.std.proofs.Common.{◌≡◌, ◌≢◌, ℕ, suc, ◌+◌, ◌%◌, ◌≤◌, ◌<◌, Bool, true, false, List, [], ◌∷◌, ◌++◌, Option, None, Some, length, take, drop, refl, ap, sym, ◌∙◌, subst, arith, append_assoc, length-append, take-append-drop, take-add, drop-drop, get_or}
+use Rattle.std.proofs.Common.{◌≡◌, ◌≢◌, ℕ, suc, ◌+◌, ◌%◌, ◌≤◌, ◌<◌, Bool, true, false, List, [], ◌∷◌, ◌++◌, Option}
+use Rattle.std.proofs.Common.{None, Some, length, take, drop, refl, ap, sym, ◌∙◌, subst, arith, append_assoc}
+use Rattle.std.proofs.Common.{length-append, take-append-drop, take-add, drop-drop, get_or}
 use Rattle.std.proofs.lemmas.List.{length-take-le}
 use Rattle.std.specs.Prelude.{nat_lt, nat_le, ◌==◌, ◌&&◌, not, if◌then◌else◌}
 use Rattle.std.proofs.lemmas.Bool.Decides.{nat_tests}
@@ -13,18 +15,23 @@ use Rattle.lis_text.specs.LinkText.{longest_text}
 use Rattle.lis_frame.proofs.StreamLaws.{signals_after-append, clean_run}
 use Rattle.lis_link.specs.declared.receiver.Hearing.{Hearing}
 use Rattle.lis_link.specs.declared.receiver.Note.{Note}
-use Rattle.lis_link.specs.declared.receiver.Note.TheVariants.{Quiet, Accepted, Duplicate, OutOfTurn, NoRoom, TooMany, TooLong, OutOfMemory}
+use Rattle.lis_link.specs.declared.receiver.Note.TheVariants.{Quiet, Accepted, Duplicate, OutOfTurn, NoRoom, TooMany}
+use Rattle.lis_link.specs.declared.receiver.Note.TheVariants.{TooLong, OutOfMemory}
 use Rattle.lis_link.specs.declared.receiver.Readiness.{Readiness}
 use Rattle.lis_link.specs.declared.receiver.Readiness.TheVariants.{Ready, Busy, Contending}
 use Rattle.lis_link.specs.declared.receiver.Step.{Step}
 use Rattle.lis_link.specs.inside.Kept.{Kept, KeptLine, kept_of}
 use Rattle.lis_link.specs.inside.Stands.{IsIn, Makes, IsRefused, SpareAfter, HearsFront}
-use Rattle.lis_link.specs.Receiver.{ReceiverState, ReceiverStep, ReceiverHearing, answers, bid_with, judged_by, judged, on_judged, held_text, most_frames, heard_by, heard, on_byte, on_bytes, heard_on, with_heard}
+use Rattle.lis_link.specs.Receiver.{ReceiverState, ReceiverStep, ReceiverHearing, answers, bid_with, judged_by, judged}
+use Rattle.lis_link.specs.Receiver.{on_judged, held_text, most_frames, heard_by, heard, on_byte, on_bytes, heard_on}
+use Rattle.lis_link.specs.Receiver.{with_heard}
 
 -- what is found of a frame is never nothing
-judged_by-loud : (accepted held : ℕ) (room : Bool) (number bytes : ℕ) → judged_by accepted held room number bytes ≢ Quiet
+judged_by-loud : (accepted held : ℕ) (room : Bool) (number bytes : ℕ)
+    → judged_by accepted held room number bytes ≢ Quiet
 judged_by-loud accepted held room number bytes =
-    by (nat_lt 0 accepted && number == accepted % 8) (not (number == (accepted + 1) % 8)) (not room) (accepted == most_frames) (nat_lt longest_text (held + bytes))
+    by (nat_lt 0 accepted && number == accepted % 8) (not (number == (accepted + 1) % 8)) (not room)
+    (accepted == most_frames) (nat_lt longest_text (held + bytes))
   where
     by :
         (repeated late full many long : Bool) →
@@ -46,13 +53,15 @@ on_judged-note r frame (Accepted number) = refl
 on_judged-note r frame (Duplicate number) = refl
 on_judged-note r frame _ = refl
 
-bid_with-quiet : (readiness : Readiness) (r : ReceiverState) → (bid_with readiness r).note ≡ Quiet → bid_with readiness r ≡ answers None Quiet r
+bid_with-quiet : (readiness : Readiness) (r : ReceiverState) → (bid_with readiness r).note ≡ Quiet
+    → bid_with readiness r ≡ answers None Quiet r
 bid_with-quiet Ready r e = cc
 bid_with-quiet Busy r e = cc
 bid_with-quiet Contending r e = cc
 
 pub heard_by-quiet :
-    {limit : ℕ} (is_open : Bool) (signal : SignalOf limit) (r : ReceiverState) → (heard_by is_open signal r).note ≡ Quiet →
+    {limit : ℕ} (is_open : Bool) (signal : SignalOf limit) (r : ReceiverState)
+    → (heard_by is_open signal r).note ≡ Quiet →
     heard_by is_open signal r ≡ answers None Quiet r
 heard_by-quiet true Enq r e = bid_with-quiet r.readiness r e
 heard_by-quiet true Eot r e = cc
@@ -68,13 +77,15 @@ heard_by-quiet false (Bad fault) r e = refl
 
 -- a quiet step changes nothing and hands nothing out
 pub heard-quiet :
-    {limit : ℕ} (signal : Option (SignalOf limit)) (r : ReceiverState) → (heard signal r).note ≡ Quiet → heard signal r ≡ answers None Quiet r
+    {limit : ℕ} (signal : Option (SignalOf limit)) (r : ReceiverState) → (heard signal r).note ≡ Quiet
+    → heard signal r ≡ answers None Quiet r
 heard-quiet None r e = refl
 heard-quiet (Some signal) r e = heard_by-quiet r.is_open signal r e
 
 -- a quiet byte changes the stream alone
 pub on_byte-quiet :
-    (limit b : ℕ) (r : ReceiverState) → (on_byte limit b r).note ≡ Quiet → on_byte limit b r ≡ answers None Quiet (with_heard (b ∷ []) r)
+    (limit b : ℕ) (r : ReceiverState) → (on_byte limit b r).note ≡ Quiet
+    → on_byte limit b r ≡ answers None Quiet (with_heard (b ∷ []) r)
 on_byte-quiet limit b r e = heard-quiet (signal_after limit r.past b) (with_heard (b ∷ []) r) e
 
 -- so many quiet bytes, and those behind them
@@ -102,7 +113,8 @@ pub on_bytes-silent :
     (limit : ℕ) (run behind : List ℕ) (r : ReceiverState) → signals_after limit r.past run ≡ [] →
     on_bytes limit (run ++ behind) r ≡ passed (length run) (on_bytes limit behind (with_heard run r))
 on_bytes-silent limit [] behind r silent = passed-none (on_bytes limit behind r)
-on_bytes-silent limit (b ∷ run) behind r silent = by (signal_after limit r.past b) silent (on_bytes-silent limit run behind (with_heard (b ∷ []) r))
+on_bytes-silent limit (b ∷ run) behind r silent = by (signal_after limit r.past b) silent
+    (on_bytes-silent limit run behind (with_heard (b ∷ []) r))
   where
     next : ReceiverState
     next = with_heard (b ∷ []) r
@@ -111,10 +123,14 @@ on_bytes-silent limit (b ∷ run) behind r silent = by (signal_after limit r.pas
         (signal : Option (SignalOf limit)) →
         with_signal signal (signals_after limit (b ∷ r.past) run) ≡ [] →
         (signals_after limit (b ∷ r.past) run ≡ [] →
-        on_bytes limit (run ++ behind) (with_heard (b ∷ []) r) ≡ passed (length run) (on_bytes limit behind (with_heard (b ∷ run) r))) →
-        heard_on 1 (heard signal (with_heard (b ∷ []) r)).note (heard signal (with_heard (b ∷ []) r)) (on_bytes limit (run ++ behind) (with_heard (b ∷ []) r))
+        on_bytes limit (run ++ behind) (with_heard (b ∷ []) r)
+        ≡ passed (length run) (on_bytes limit behind (with_heard (b ∷ run) r))) →
+        heard_on 1 (heard signal (with_heard (b ∷ []) r)).note (heard signal (with_heard (b ∷ []) r))
+        (on_bytes limit (run ++ behind) (with_heard (b ∷ []) r))
         ≡ passed (suc (length run)) (on_bytes limit behind (with_heard (b ∷ run) r))
-    by None none later = ap (passed 1) (later none) ∙ passed-passed 1 (length run) (on_bytes limit behind (with_heard (b ∷ run) r)) ∙ ap (λ n. passed n (on_bytes limit behind (with_heard (b ∷ run) r))) (omega arith)
+    by None none later = ap (passed 1) (later none)
+        ∙ passed-passed 1 (length run) (on_bytes limit behind (with_heard (b ∷ run) r))
+        ∙ ap (λ n. passed n (on_bytes limit behind (with_heard (b ∷ run) r))) (omega arith)
     by (Some signal) none later = absurd cc
 
 -- and a byte behind them is answered as it is by itself
@@ -146,7 +162,11 @@ silent_digit : (b value : ℕ) → digit_value b ≡ Some value → IsSilent b
 silent_digit b value h = by (nat_le 48 b) refl
   where
     by : (test : Bool) → nat_le 48 b ≡ test → IsSilent b
-    by true e = record { no_enquiry = grind (arith, nat_tests); no_ending = grind (arith, nat_tests); no_line_feed = grind (arith, nat_tests) }
+    by true e = record {
+      no_enquiry = grind (arith, nat_tests);
+      no_ending = grind (arith, nat_tests);
+      no_line_feed = grind (arith, nat_tests);
+    }
     by false e =
         let upper : nat_le 65 b ≡ false = grind (arith, nat_tests) in
         let lower : nat_le 97 b ≡ false = grind (arith, nat_tests) in
@@ -159,16 +179,19 @@ silent_end false = record { no_enquiry = refl; no_ending = refl; no_line_feed = 
 
 -- the bytes of a frame before its LF
 abbrev pub before_feed : FrameContent → ℕ → ℕ → List ℕ
-before_feed frame high low = STX ∷ number_byte frame.number ∷ (frame.text ++ (end_byte frame.last ∷ high ∷ low ∷ CR ∷ []))
+before_feed frame high low = STX ∷ number_byte frame.number
+    ∷ (frame.text ++ (end_byte frame.last ∷ high ∷ low ∷ CR ∷ []))
 
-signals-before_feed : (limit : ℕ) (past bytes : List ℕ) (frame : FrameContent) → (is_frame : IsFrame limit bytes frame) →
+signals-before_feed : (limit : ℕ) (past bytes : List ℕ) (frame : FrameContent)
+    → (is_frame : IsFrame limit bytes frame) →
     signals_after limit past (before_feed frame is_frame.high is_frame.low) ≡ []
 unfolding StandsFor
 signals-before_feed limit past bytes frame is_frame =
     let start : List ℕ = number_byte frame.number ∷ STX ∷ past in
     let ending : List ℕ = end_byte frame.last ∷ is_frame.high ∷ is_frame.low ∷ CR ∷ [] in
     let inside : List ℕ = stream_with start frame.text in
-    let stx : signal_after limit past STX ≡ None = signal-silent limit STX past (record { no_enquiry = refl; no_ending = refl; no_line_feed = refl }) in
+    let stx : signal_after limit past STX ≡ None =
+    signal-silent limit STX past (record { no_enquiry = refl; no_ending = refl; no_line_feed = refl }) in
     let number : signal_after limit (STX ∷ past) (number_byte frame.number) ≡ None =
     signal-silent limit (number_byte frame.number) (STX ∷ past) (record {
       no_enquiry = grind (arith, nat_tests);
@@ -177,17 +200,22 @@ signals-before_feed limit past bytes frame is_frame =
     }) in
     let text : signals_after limit start frame.text ≡ [] =
     (clean_run limit (held_of limit (open_stretch start)) frame.text start refl is_frame.content.is_text.clean).0 in
-    let end : signal_after limit inside (end_byte frame.last) ≡ None = signal-silent limit (end_byte frame.last) inside (silent_end frame.last) in
+    let end : signal_after limit inside (end_byte frame.last) ≡ None =
+    signal-silent limit (end_byte frame.last) inside (silent_end frame.last) in
     let high : signal_after limit (end_byte frame.last ∷ inside) is_frame.high ≡ None =
-    signal-silent limit is_frame.high (end_byte frame.last ∷ inside) (silent_digit is_frame.high is_frame.digits.high_value is_frame.digits.is_high) in
+    signal-silent limit is_frame.high (end_byte frame.last ∷ inside)
+    (silent_digit is_frame.high is_frame.digits.high_value is_frame.digits.is_high) in
     let low : signal_after limit (is_frame.high ∷ end_byte frame.last ∷ inside) is_frame.low ≡ None =
-    signal-silent limit is_frame.low (is_frame.high ∷ end_byte frame.last ∷ inside) (silent_digit is_frame.low is_frame.digits.low_value is_frame.digits.is_low) in
+    signal-silent limit is_frame.low (is_frame.high ∷ end_byte frame.last ∷ inside)
+    (silent_digit is_frame.low is_frame.digits.low_value is_frame.digits.is_low) in
     let close : signal_after limit (is_frame.low ∷ is_frame.high ∷ end_byte frame.last ∷ inside) CR ≡ None =
-    signal-silent limit CR (is_frame.low ∷ is_frame.high ∷ end_byte frame.last ∷ inside) (record { no_enquiry = refl; no_ending = refl; no_line_feed = refl }) in
+    signal-silent limit CR (is_frame.low ∷ is_frame.high ∷ end_byte frame.last ∷ inside)
+    (record { no_enquiry = refl; no_ending = refl; no_line_feed = refl }) in
     let behind : signals_after limit inside ending ≡ [] = rw (end, high, low, close) refl in
     rw (stx, number) (signals_after-append limit frame.text ending start ∙ rw (text, behind) refl)
 
-one_signal : {limit : ℕ} (told : Option (SignalOf limit)) (signal : SignalOf limit) → with_signal told [] ≡ signal ∷ [] → told ≡ Some signal
+one_signal : {limit : ℕ} (told : Option (SignalOf limit)) (signal : SignalOf limit)
+    → with_signal told [] ≡ signal ∷ [] → told ≡ Some signal
 one_signal None signal e = absurd cc
 one_signal (Some other) signal e = cc
 
@@ -199,7 +227,8 @@ pub record EndsIn (limit : ℕ) (past bytes : List ℕ) (frame : FrameContent) :
   pub heard_last : signal_after limit (stream_with past before) LF ≡ Some (Good frame)
 
 pub frame_ends :
-    (limit : ℕ) (past bytes : List ℕ) (frame : FrameContent) → IsFrame limit bytes frame → signals_after limit past bytes ≡ Good frame ∷ [] →
+    (limit : ℕ) (past bytes : List ℕ) (frame : FrameContent) → IsFrame limit bytes frame
+    → signals_after limit past bytes ≡ Good frame ∷ [] →
     EndsIn limit past bytes frame
 frame_ends limit past bytes frame is_frame signals =
     let before : List ℕ = before_feed frame is_frame.high is_frame.low in
@@ -222,8 +251,10 @@ frame_ends limit past bytes frame is_frame signals =
 
 -- the line is the same beside a scanner that has read more
 pub beside :
-    (limit : ℕ) (line : KeptLine) (before scanner : Held) (kept : Kept) (r : ReceiverState) (bytes : List ℕ) → kept_of line before ≡ kept →
-    IsIn limit kept r → StandsFor limit scanner (stream_with r.past bytes) → IsIn limit (kept_of line scanner) (with_heard bytes r)
+    (limit : ℕ) (line : KeptLine) (before scanner : Held) (kept : Kept) (r : ReceiverState) (bytes : List ℕ)
+    → kept_of line before ≡ kept →
+    IsIn limit kept r → StandsFor limit scanner (stream_with r.past bytes)
+    → IsIn limit (kept_of line scanner) (with_heard bytes r)
 beside limit line before scanner kept r bytes same is_in stands =
     let here : IsIn limit (kept_of line before) r = subst (λ k. IsIn limit k r) (sym same) is_in in
     record {
@@ -239,8 +270,10 @@ beside limit line before scanner kept r bytes same is_in stands =
 pub front_byte :
     (limit : ℕ) (bytes : List ℕ) (r : ReceiverState) (spare : ℕ) (result : Step) (new : Kept) → 0 < length bytes →
     (result.note ≢ OutOfMemory → Makes limit (on_byte limit (get_or bytes 0 0) r) result new) →
-    (result.note ≡ OutOfMemory → IsRefused limit spare (on_byte limit (get_or bytes 0 0) r) (with_heard (get_or bytes 0 0 ∷ []) r) result new) →
-    SpareAfter spare new.spare (on_byte limit (get_or bytes 0 0) r).taken → HearsFront limit bytes r spare (record { count = 1; step = result }) new
+    (result.note ≡ OutOfMemory → IsRefused limit spare (on_byte limit (get_or bytes 0 0) r)
+    (with_heard (get_or bytes 0 0 ∷ []) r) result new) →
+    SpareAfter spare new.spare (on_byte limit (get_or bytes 0 0) r).taken
+    → HearsFront limit bytes r spare (record { count = 1; step = result }) new
 front_byte limit [] r spare result new some makes refused spare_after = absurd (omega arith)
 front_byte limit (b ∷ behind) r spare result new some makes refused spare_after = record {
   meant = on_byte limit b r;
@@ -253,7 +286,8 @@ front_byte limit (b ∷ behind) r spare result new some makes refused spare_afte
 
 -- it is a run of bytes that give no signal
 pub front_run :
-    (limit count : ℕ) (bytes : List ℕ) (r : ReceiverState) (spare : ℕ) (result : Step) (new : Kept) → count ≤ length bytes →
+    (limit count : ℕ) (bytes : List ℕ) (r : ReceiverState) (spare : ℕ) (result : Step) (new : Kept)
+    → count ≤ length bytes →
     signals_after limit r.past (take count bytes) ≡ [] → IsIn limit new (with_heard (take count bytes) r) →
     result ≡ record { reply = None; message = None; note = Quiet } → spare ≤ new.spare →
     HearsFront limit bytes r spare (record { count = count; step = result }) new
@@ -282,12 +316,17 @@ front_run limit count bytes r spare result new bound silent is_in is_quiet spare
 
 -- it is a frame
 pub front_frame :
-    (limit count : ℕ) (bytes : List ℕ) (frame : FrameContent) (r : ReceiverState) (spare : ℕ) (result : Step) (new : Kept) →
-    count ≤ length bytes → IsFrame limit (take count bytes) frame → signals_after limit r.past (take count bytes) ≡ Good frame ∷ [] →
-    (result.note ≢ OutOfMemory → Makes limit (heard_by {limit = limit} r.is_open (Good frame) (with_heard (take count bytes) r)) result new) →
+    (limit count : ℕ) (bytes : List ℕ) (frame : FrameContent) (r : ReceiverState) (spare : ℕ) (result : Step)
+    (new : Kept) →
+    count ≤ length bytes → IsFrame limit (take count bytes) frame
+    → signals_after limit r.past (take count bytes) ≡ Good frame ∷ [] →
+    (result.note ≢ OutOfMemory → Makes limit (heard_by {limit = limit} r.is_open (Good frame)
+    (with_heard (take count bytes) r)) result new) →
     (result.note ≡ OutOfMemory →
-    IsRefused limit spare (heard_by {limit = limit} r.is_open (Good frame) (with_heard (take count bytes) r)) (with_heard (take count bytes) r) result new) →
-    SpareAfter spare new.spare (heard_by {limit = limit} r.is_open (Good frame) (with_heard (take count bytes) r)).taken →
+    IsRefused limit spare (heard_by {limit = limit} r.is_open (Good frame) (with_heard (take count bytes) r))
+    (with_heard (take count bytes) r) result new) →
+    SpareAfter spare new.spare (heard_by {limit = limit} r.is_open (Good frame)
+    (with_heard (take count bytes) r)).taken →
     HearsFront limit bytes r spare (record { count = count; step = result }) new
 front_frame limit count bytes frame r spare result new bound is_frame signals makes refused spare_after =
     let ends = frame_ends limit r.past (take count bytes) frame is_frame signals in
@@ -298,19 +337,23 @@ front_frame limit count bytes frame r spare result new bound is_frame signals ma
     ap (stream_with r.past) ends.bytes_are ∙ stream_with-append ends.before (LF ∷ []) r.past in
     let state_is : last ≡ next = ap (λ past. record r { past = past }) (sym past_is) in
     let step_is : on_byte limit LF (with_heard ends.before r) ≡ heard_by {limit = limit} r.is_open (Good frame) next =
-    ap (λ signal. heard {limit = limit} signal last) ends.heard_last ∙ ap (λ (s : ReceiverState). heard_by {limit = limit} s.is_open (Good frame) s) state_is in
+    ap (λ signal. heard {limit = limit} signal last) ends.heard_last
+    ∙ ap (λ (s : ReceiverState). heard_by {limit = limit} s.is_open (Good frame) s) state_is in
     let count_is : length ends.before + 1 ≡ count =
     sym (length-append ends.before (LF ∷ [])) ∙ ap length (sym ends.bytes_are) ∙ length-take-le count bytes bound in
     record {
       meant = heard_by {limit = limit} r.is_open (Good frame) next;
       goes_on =
           ap (λ xs. on_bytes limit xs r)
-          (sym (take-append-drop count bytes) ∙ ap (λ xs. xs ++ behind) ends.bytes_are ∙ append_assoc ends.before (LF ∷ []) behind)
+          (sym (take-append-drop count bytes) ∙ ap (λ xs. xs ++ behind) ends.bytes_are
+          ∙ append_assoc ends.before (LF ∷ []) behind)
           ∙ on_bytes-last limit LF ends.before behind r ends.silent
-          ∙ ap (λ n. heard_on n (on_byte limit LF (with_heard ends.before r)).note (on_byte limit LF (with_heard ends.before r)) (on_bytes limit behind last)) count_is
+          ∙ ap (λ n. heard_on n (on_byte limit LF (with_heard ends.before r)).note
+          (on_byte limit LF (with_heard ends.before r)) (on_bytes limit behind last)) count_is
           ∙ ap (λ (s : ReceiverStep). heard_on count s.note s (on_bytes limit behind last)) step_is
           ∙ ap
-          (λ (s : ReceiverState). heard_on count (heard_by {limit = limit} r.is_open (Good frame) next).note (heard_by {limit = limit} r.is_open (Good frame) next) (on_bytes limit behind s))
+          (λ (s : ReceiverState). heard_on count (heard_by {limit = limit} r.is_open (Good frame) next).note
+          (heard_by {limit = limit} r.is_open (Good frame) next) (on_bytes limit behind s))
           state_is;
       quiet = heard_by-quiet r.is_open (Good frame) next;
       makes = makes;
@@ -321,11 +364,13 @@ front_frame limit count bytes frame r spare result new bound is_frame signals ma
 -- so many bytes were heard, and each was quiet
 pub record IsHearing (limit : ℕ) (bytes : List ℕ) (r : ReceiverState) (spare count : ℕ) (kept : Kept) : Type 0 where
   pub state : IsIn limit kept (with_heard (take count bytes) r)
-  pub goes_on : on_bytes limit bytes r ≡ passed count (on_bytes limit (drop count bytes) (with_heard (take count bytes) r))
+  pub goes_on : on_bytes limit bytes r ≡ passed count
+      (on_bytes limit (drop count bytes) (with_heard (take count bytes) r))
   pub spare_kept : spare ≤ kept.spare
 
 -- and then the front of the rest was heard
-module _ (limit : ℕ) (bytes : List ℕ) (r : ReceiverState) (spare count : ℕ) (kept : Kept) (more : Hearing) (new : Kept) where
+module _ (limit : ℕ) (bytes : List ℕ) (r : ReceiverState) (spare count : ℕ) (kept : Kept) (more : Hearing)
+    (new : Kept) where
   next : ReceiverState
   next = with_heard (take (count + more.count) bytes) r
 
@@ -336,7 +381,8 @@ module _ (limit : ℕ) (bytes : List ℕ) (r : ReceiverState) (spare count : ℕ
   unfolding next
   next_is =
       ap (λ past. record r { past = past })
-      (sym (stream_with-append (take count bytes) (take more.count (drop count bytes)) r.past) ∙ ap (stream_with r.past) (sym (take-add count more.count bytes)))
+      (sym (stream_with-append (take count bytes) (take more.count (drop count bytes)) r.past)
+      ∙ ap (stream_with r.past) (sym (take-add count more.count bytes)))
 
   goes_on_more :
       IsHearing limit bytes r spare count kept →
@@ -347,14 +393,18 @@ module _ (limit : ℕ) (bytes : List ℕ) (r : ReceiverState) (spare count : ℕ
       hearing.goes_on
       ∙ ap (passed count) front.goes_on
       ∙ passed-heard_on count more.count front.meant.note front.meant
-      (on_bytes limit (drop more.count (drop count bytes)) (with_heard (take more.count (drop count bytes)) (with_heard (take count bytes) r)))
-      ∙ ap (λ xs. heard_on (count + more.count) front.meant.note front.meant (on_bytes limit xs (with_heard (take more.count (drop count bytes)) (with_heard (take count bytes) r))))
+      (on_bytes limit (drop more.count (drop count bytes))
+      (with_heard (take more.count (drop count bytes)) (with_heard (take count bytes) r)))
+      ∙ ap (λ xs. heard_on (count + more.count) front.meant.note front.meant
+      (on_bytes limit xs (with_heard (take more.count (drop count bytes)) (with_heard (take count bytes) r))))
       (drop-drop more.count count bytes)
-      ∙ ap (λ (s : ReceiverState). heard_on (count + more.count) front.meant.note front.meant (on_bytes limit (drop (count + more.count) bytes) s)) next_is
+      ∙ ap (λ (s : ReceiverState). heard_on (count + more.count) front.meant.note front.meant
+      (on_bytes limit (drop (count + more.count) bytes) s)) next_is
 
   -- bytes that are quiet too
   pub hears_more :
-      IsHearing limit bytes r spare count kept → HearsFront limit (drop count bytes) (with_heard (take count bytes) r) kept.spare more new →
+      IsHearing limit bytes r spare count kept → HearsFront limit (drop count bytes)
+      (with_heard (take count bytes) r) kept.spare more new →
       more.step.note ≡ Quiet → IsHearing limit bytes r spare (count + more.count) new
   unfolding next later
   hears_more hearing front is_quiet =
@@ -364,10 +414,12 @@ module _ (limit : ℕ) (bytes : List ℕ) (r : ReceiverState) (spare count : ℕ
       let meant_is = front.quiet note_is in
       let after_is : front.meant.after ≡ next = ap (λ (s : ReceiverStep). s.after) meant_is ∙ next_is in
       let taken_is : front.meant.taken ≡ None = ap (λ (s : ReceiverStep). s.taken) meant_is in
-      let spare_kept : kept.spare ≤ new.spare = subst (λ t. SpareAfter kept.spare new.spare t) taken_is front.spare_after in
+      let spare_kept : kept.spare ≤ new.spare = subst (λ t. SpareAfter kept.spare new.spare t) taken_is
+      front.spare_after in
       record {
         state = subst (λ s. IsIn limit new s) after_is made.state;
-        goes_on = goes_on_more hearing front ∙ ap (λ note. heard_on (count + more.count) note front.meant later) note_is;
+        goes_on = goes_on_more hearing front ∙ ap (λ note. heard_on (count + more.count) note front.meant later)
+            note_is;
         spare_kept = omega (arith, hearing.spare_kept);
       }
 
@@ -378,19 +430,23 @@ heard_on-loud count Quiet step behind loud = absurd (loud refl)
 heard_on-loud count _ step behind loud = refl
 
 -- the answer to bytes is that of the definition
-pub record IsHeard (limit : ℕ) (bytes : List ℕ) (r : ReceiverState) (spare : ℕ) (hearing : Hearing) (new : Kept) : Type 0 where
+pub record IsHeard (limit : ℕ) (bytes : List ℕ) (r : ReceiverState) (spare : ℕ) (hearing : Hearing) (new : Kept) :
+    Type 0 where
   pub count_is : hearing.count ≡ (on_bytes limit bytes r).count
   pub makes : hearing.step.note ≢ OutOfMemory → Makes limit (on_bytes limit bytes r).step hearing.step new
   pub refused :
-      hearing.step.note ≡ OutOfMemory → IsRefused limit spare (on_bytes limit bytes r).step (with_heard (take hearing.count bytes) r) hearing.step new
+      hearing.step.note ≡ OutOfMemory → IsRefused limit spare (on_bytes limit bytes r).step
+      (with_heard (take hearing.count bytes) r) hearing.step new
   pub spare_after : SpareAfter spare new.spare (on_bytes limit bytes r).step.taken
 
-more_spare : (spare before after : ℕ) (taken : Option FrameContent) → spare ≤ before → SpareAfter before after taken → SpareAfter spare after taken
+more_spare : (spare before after : ℕ) (taken : Option FrameContent) → spare ≤ before → SpareAfter before after taken
+    → SpareAfter spare after taken
 more_spare spare before after None less rises = omega (arith, less, rises)
 more_spare spare before after (Some frame) less rises = λ is_last. omega (arith, less, rises is_last)
 
 refused_more :
-    (limit spare before : ℕ) (step : ReceiverStep) (r : ReceiverState) (result : Step) (new : Kept) → spare ≤ before → IsRefused limit before step r result new →
+    (limit spare before : ℕ) (step : ReceiverStep) (r : ReceiverState) (result : Step) (new : Kept) → spare ≤ before
+    → IsRefused limit before step r result new →
     IsRefused limit spare step r result new
 refused_more limit spare before step r result new less h = record {
   frame = h.frame;
@@ -422,7 +478,8 @@ hears_last limit bytes r spare count kept more new hearing front loud =
       count_is = sym (ap (λ (h : ReceiverHearing). h.count) all);
       makes = λ fine. subst (λ (h : ReceiverHearing). Makes limit h.step more.step new) (sym all) (front.makes fine);
       refused = λ oom.
-          subst (λ (h : ReceiverHearing). IsRefused limit spare h.step (with_heard (take (count + more.count) bytes) r) more.step new) (sym all)
+          subst (λ (h : ReceiverHearing). IsRefused limit spare h.step
+          (with_heard (take (count + more.count) bytes) r) more.step new) (sym all)
           (subst (λ s. IsRefused limit spare front.meant s more.step new) state_is
           (refused_more limit spare kept.spare front.meant _ more.step new hearing.spare_kept (front.refused oom)));
       spare_after =

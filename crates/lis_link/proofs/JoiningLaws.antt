@@ -1,5 +1,6 @@
 -- Joining, a list of frames at a time, and joining the frames that a session's texts were cut into.
-use Rattle.std.proofs.Common.{◌≡◌, ℕ, zero, suc, ◌-◌, ◌/◌, List, [], ◌∷◌, ◌++◌, take, drop, length, refl, sym, ap, ◌∙◌, append_assoc}
+use Rattle.std.proofs.Common.{◌≡◌, ℕ, zero, suc, ◌-◌, ◌/◌, List, [], ◌∷◌, ◌++◌, take, drop, length, refl, sym, ap, ◌∙◌}
+use Rattle.std.proofs.Common.{append_assoc}
 use Rattle.std.specs.Option.{option_to_list}
 use Rattle.std.proofs.lemmas.List.{take-append-drop}
 use Rattle.lis_frame.specs.Frame.{FrameContent}
@@ -10,16 +11,19 @@ pub rest-append : (held : List ℕ) (xs ys : List FrameContent) → rest held (x
 rest-append held [] ys = refl
 rest-append held (x ∷ xs) ys = rest-append (held_after held x) xs ys
 
-pub groups-append : (held : List ℕ) (xs ys : List FrameContent) → groups held (xs ++ ys) ≡ groups held xs ++ groups (rest held xs) ys
+pub groups-append : (held : List ℕ) (xs ys : List FrameContent)
+    → groups held (xs ++ ys) ≡ groups held xs ++ groups (rest held xs) ys
 groups-append held [] ys = refl
 groups-append held (x ∷ xs) ys =
     ap (λ t. option_to_list (completed held x) ++ t) (groups-append (held_after held x) xs ys)
-    ∙ sym (append_assoc (option_to_list (completed held x)) (groups (held_after held x) xs) (groups (rest (held_after held x) xs) ys))
+    ∙ sym (append_assoc (option_to_list (completed held x)) (groups (held_after held x) xs)
+    (groups (rest (held_after held x) xs) ys))
 
 -- the frames of one text complete it, whatever their numbers are
 groups-pieces :
     (limit full number : ℕ) (held text : List ℕ) (later : List Piece)
-    → (n : ℕ) × (groups held (numbered number (pieces_from limit full text ++ later)) ≡ (held ++ text) ∷ groups [] (numbered n later))
+    → (n : ℕ) × (groups held (numbered number (pieces_from limit full text ++ later)) ≡ (held ++ text)
+    ∷ groups [] (numbered n later))
 groups-pieces limit zero number held text later = (next_number number, refl)
 groups-pieces limit (suc full) number held text later =
     let later_is = groups-pieces limit full (next_number number) (held ++ take limit text) (drop limit text) later in (
@@ -29,7 +33,8 @@ groups-pieces limit (suc full) number held text later =
           (append_assoc held (take limit text) (drop limit text) ∙ ap (λ t. held ++ t) (take-append-drop limit text)),
     )
 
-groups-all_pieces : (limit number : ℕ) (texts : List (List ℕ)) → groups [] (numbered number (all_pieces limit texts)) ≡ texts
+groups-all_pieces : (limit number : ℕ) (texts : List (List ℕ))
+    → groups [] (numbered number (all_pieces limit texts)) ≡ texts
 unfolding pieces
 groups-all_pieces limit number [] = refl
 groups-all_pieces limit number (text ∷ texts) =

@@ -26,16 +26,17 @@ taken_step limit scanner old new r f n result is_in open_is taken =
         message_is = taken.message_is ∙ ap (λ t. completed t f) held;
         note_is = taken.note_is;
       };
-      state = subst (λ k. IsIn limit (kept_of k scanner) (record r { accepted = r.accepted ++ f ∷ [] })) (sym taken.new_is) (record {
-        open_is = is_in.open_is;
-        accepted_is = ap (λ k. k + 1) is_in.accepted_is ∙ sym (length_push r.accepted f);
-        readiness_is = is_in.readiness_is;
-        room_is = is_in.room_is;
-        held_is =
-            ap (λ t. held_after t f) held ∙ sym (rest-append [] r.accepted (f ∷ []))
-            ∙ sym (ap (λ o. held_while o (held_text (record r { accepted = r.accepted ++ f ∷ [] }))) open_is);
-        stream_is = is_in.stream_is;
-      });
+      state = subst (λ k. IsIn limit (kept_of k scanner) (record r { accepted = r.accepted ++ f ∷ [] }))
+          (sym taken.new_is) (record {
+            open_is = is_in.open_is;
+            accepted_is = ap (λ k. k + 1) is_in.accepted_is ∙ sym (length_push r.accepted f);
+            readiness_is = is_in.readiness_is;
+            room_is = is_in.room_is;
+            held_is =
+                ap (λ t. held_after t f) held ∙ sym (rest-append [] r.accepted (f ∷ []))
+                ∙ sym (ap (λ o. held_while o (held_text (record r { accepted = r.accepted ++ f ∷ [] }))) open_is);
+            stream_is = is_in.stream_is;
+          });
     }
 
 -- a frame that was found acceptable, and taken
@@ -48,7 +49,8 @@ pub accepted_step :
     → Makes limit (heard_by {limit = limit} r.is_open (Good f) r) result (kept_of new scanner)
 accepted_step limit scanner old new r f n result is_in is_open found taken =
     let open_is : r.is_open ≡ true = sym is_in.open_is ∙ is_open in
-    let held : length old.held ≡ length (held_text r) = ap length (is_in.held_is ∙ ap (λ o. held_while o (held_text r)) open_is) in
+    let held : length old.held ≡ length (held_text r) =
+    ap length (is_in.held_is ∙ ap (λ o. held_while o (held_text r)) open_is) in
     let found_is : Accepted n ≡ judged r f =
     found
     ∙ ap (λ a. judged_by a (length old.held) old.room f.number (length f.text)) is_in.accepted_is

@@ -36,7 +36,8 @@ pub advanced_sender :
     → IsSender limit (Some next) (acknowledged + 1) Neutral tries
 advanced_sender limit queue next acknowledged phase tries h below texts_are left_is =
     let frames = session_frames limit queue.texts in
-    let same : length (session_frames limit next.texts) ≡ length frames = ap (λ ts. length (session_frames limit ts)) texts_are in
+    let same : length (session_frames limit next.texts) ≡ length frames =
+    ap (λ ts. length (session_frames limit ts)) texts_are in
     let few = h.few in
     record {
       is_limit = h.is_limit;

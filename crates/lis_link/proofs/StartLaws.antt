@@ -15,7 +15,8 @@ Faultless text = text_fault longest_text text ≡ None
 
 faultless-bad_text : (index : ℕ) (texts : List (List ℕ)) → bad_text index texts ≡ None → All Faultless texts
 faultless-bad_text index [] e = All-nil Faultless
-faultless-bad_text index (text ∷ texts) e = go (text_fault longest_text text) refl_of e (faultless-bad_text (index + 1) texts)
+faultless-bad_text index (text ∷ texts) e = go (text_fault longest_text text) refl_of e
+    (faultless-bad_text (index + 1) texts)
   where
     refl_of : text_fault longest_text text ≡ text_fault longest_text text
     refl_of = refl
@@ -38,4 +39,5 @@ faultless-start Contention texts none = absurd (cc)
 faultless-start AwaitReply texts none = absurd (cc)
 
 pub texts-faultless : (texts : List (List ℕ)) → All Faultless texts → All (IsText longest_text) texts
-texts-faultless texts all = All-weaker Faultless (IsText longest_text) (λ text none. text_fault-none longest_text text none) texts all
+texts-faultless texts all = All-weaker Faultless (IsText longest_text)
+    (λ text none. text_fault-none longest_text text none) texts all

@@ -1,4 +1,5 @@
--- Joining frames to texts: intermediate frames are held until the last frame of a message completes its text (LIS01-A2, 6.3).
+-- Joining frames to texts: intermediate frames are held until the last frame of a message completes its text (LIS01-A2,
+-- 6.3).
 use Rattle.std.specs.Prelude.{ℕ, Bool, true, false, List, [], ◌∷◌, ◌++◌, Option, None, Some}
 use Rattle.std.specs.Option.{option_to_list}
 use Rattle.lis_frame.specs.Frame.{FrameContent}

@@ -1,5 +1,6 @@
 -- The receiving end: its state, and the table of its steps (LIS01-A2, 6.3 to 6.6).
-use Rattle.std.specs.Prelude.{ℕ, ◌+◌, ◌%◌, Bool, true, false, not, List, [], ◌∷◌, ◌++◌, length, Option, None, Some, if◌then◌else◌, nat_lt, ◌==◌, ◌&&◌}
+use Rattle.std.specs.Prelude.{ℕ, ◌+◌, ◌%◌, Bool, true, false, not, List, [], ◌∷◌, ◌++◌, length, Option, None, Some}
+use Rattle.std.specs.Prelude.{if◌then◌else◌, nat_lt, ◌==◌, ◌&&◌}
 use Rattle.lis_text.specs.Control.{ENQ, ACK, NAK}
 use Rattle.lis_frame.specs.declared.scanner.SignalOf.{SignalOf}
 use Rattle.lis_frame.specs.declared.scanner.SignalOf.TheVariants.{Enq, Eot, Good, Bad}
@@ -8,7 +9,8 @@ use Rattle.lis_frame.specs.Stream.{signal_after, stream_with}
 use Rattle.lis_link.specs.declared.receiver.Readiness.{Readiness}
 use Rattle.lis_link.specs.declared.receiver.Readiness.TheVariants.{Ready, Busy, Contending}
 use Rattle.lis_link.specs.declared.receiver.Note.{Note}
-use Rattle.lis_link.specs.declared.receiver.Note.TheVariants.{Quiet, Opened, NotReady, Ended, Accepted, Duplicate, OutOfTurn, Refused, NoRoom, TooLong, TooMany, TimedOut}
+use Rattle.lis_link.specs.declared.receiver.Note.TheVariants.{Quiet, Opened, NotReady, Ended, Accepted, Duplicate}
+use Rattle.lis_link.specs.declared.receiver.Note.TheVariants.{OutOfTurn, Refused, NoRoom, TooLong, TooMany, TimedOut}
 use Rattle.lis_text.specs.LinkText.{longest_text}
 use Rattle.lis_link.specs.Joining.{completed, rest}
 

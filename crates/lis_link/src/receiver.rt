@@ -4,7 +4,8 @@ ghost use Rattle.std.specs.Prelude.{◌≡◌, ◌≢◌, ◌≤◌, ◌<◌, �
 ghost use Rattle.lis_frame.specs.Limit.{IsLimit};
 ghost use Rattle.lis_text.specs.LinkText.{longest_text};
 ghost use Rattle.lis_frame.specs.Scanner.{StandsFor};
-ghost use Rattle.lis_link.specs.Receiver.{ReceiverState, new_receiver, on_byte, on_bytes, on_receiver_timer, receiver_restarted, with_heard, with_readiness, with_room};
+ghost use Rattle.lis_link.specs.Receiver.{ReceiverState, new_receiver, on_byte, on_bytes, on_receiver_timer};
+ghost use Rattle.lis_link.specs.Receiver.{receiver_restarted, with_heard, with_readiness, with_room};
 ghost use Rattle.lis_link.specs.declared.receiver.Note.TheVariants as Notes;
 ghost use Rattle.lis_link.specs.inside.Stands.{IsIn, Makes, IsRefused, SpareAfter, HearsFront};
 
@@ -177,8 +178,8 @@ impl<const N: usize> ReceiverOf<N> {
         self.line.reserve(bytes)
     }
 
-    /// Takes back a text that was handed out and is needed no more: its room is kept for the texts that follow, where it
-    /// is more than the receiver has, so that those take no memory. Nothing else changes.
+    /// Takes back a text that was handed out and is needed no more: its room is kept for the texts that follow, where
+    /// it is more than the receiver has, so that those take no memory. Nothing else changes.
     pub fn reuse(&mut self, text: LinkText)
         ensures state { (r : ReceiverState) → IsIn N self.old r → IsIn N self.new r }
         ensures spare { self.old.spare ≤ self.new.spare }
@@ -198,7 +199,8 @@ impl<const N: usize> ReceiverOf<N> {
             Makes N (on_byte N byte r) result self.new }
         ensures refused { (r : ReceiverState) → IsIn N self.old r → result.note ≡ Notes.OutOfMemory →
             IsRefused N self.old.spare (on_byte N byte r) (record r { past = byte ∷ r.past }) result self.new }
-        ensures spare { (r : ReceiverState) → IsIn N self.old r → SpareAfter self.old.spare self.new.spare (on_byte N byte r).taken }
+        ensures spare { (r : ReceiverState) → IsIn N self.old r
+            → SpareAfter self.old.spare self.new.spare (on_byte N byte r).taken }
     {
         let step = self.line.hear(self.scanner.told(byte));
         self.scanner.take(byte);

@@ -5,7 +5,8 @@ ghost use Rattle.lis_frame.specs.Limit.{IsLimit};
 ghost use Rattle.lis_link.specs.declared.sender.EmitOf.TheVariants as Emits;
 ghost use Rattle.lis_link.specs.declared.sender.Phase.TheVariants as Phases;
 ghost use Rattle.lis_link.specs.inside.Queue.{first_frame};
-ghost use Rattle.lis_link.specs.Sender.{SenderState, reply_in, new_sender, over, bad_text, start_fault, started, sends, is_accepted, sends_again, on_reply, on_sender_timer, sender_restarted};
+ghost use Rattle.lis_link.specs.Sender.{SenderState, reply_in, new_sender, over, bad_text, start_fault, started, sends};
+ghost use Rattle.lis_link.specs.Sender.{is_accepted, sends_again, on_reply, on_sender_timer, sender_restarted};
 
 use crate::queue::QueueOf;
 use lis_frame::FrameOf;
@@ -145,8 +146,8 @@ impl<const N: usize> SenderOf<N> {
         Ok(EmitOf::Enq)
     }
 
-    /// Why a start with these texts would be refused, if it would: a session goes on, there is no text, or one of them is
-    /// no link text (LIS01-A2, 6.3).
+    /// Why a start with these texts would be refused, if it would: a session goes on, there is no text, or one of them
+    /// is no link text (LIS01-A2, 6.3).
     pub fn start_fault(&self, texts: &Texts) -> Option<StartFault>
         ensures { result ≡ start_fault self.now texts.now }
     {
@@ -313,7 +314,8 @@ impl<const N: usize> SenderOf<N> {
     fn send_again(&mut self) -> EmitOf<N>
         requires { self.old.phase ≡ Phases.AwaitReply }
         ensures emit { result ≡ (sends_again {limit = N} (drop self.old.acknowledged self.old.frames) self.old).emit }
-        ensures after { self.new ≡ (sends_again {limit = N} (drop self.old.acknowledged self.old.frames) self.old).after }
+        ensures after { self.new ≡ (sends_again {limit = N} (drop self.old.acknowledged self.old.frames)
+            self.old).after }
     {
         let Some(frame) = self.present() else {
             return EmitOf::Nothing;

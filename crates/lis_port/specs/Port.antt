@@ -22,7 +22,14 @@ known_left (Again byte) rest = None
 
 -- a source that was never read
 abbrev pub new_cut : List ℕ → ℕ → Then → CutState
-new_cut bytes step behind = record { rest = bytes; step = step; behind = behind; made = 0; failed = false; ended = false }
+new_cut bytes step behind = record {
+  rest = bytes;
+  step = step;
+  behind = behind;
+  made = 0;
+  failed = false;
+  ended = false;
+}
 
 -- a read behind the last byte
 abbrev pub answer_behind : Then → Result ℕ Failed

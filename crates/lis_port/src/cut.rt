@@ -1,7 +1,8 @@
 //! The source over memory, which gives its bytes in cuts. With it a contract's promise can be seen to
 //! hold.
 
-ghost use Rattle.std.specs.Prelude.{◌≡◌, ◌+◌, ◌≤◌, ◌<◌, ◌↔◌, true, false, IfOk, IsTrue, MatchResult, drop, is_err, length, min, take};
+ghost use Rattle.std.specs.Prelude.{◌≡◌, ◌+◌, ◌≤◌, ◌<◌, ◌↔◌, true, false, IfOk, IsTrue, MatchResult, drop, is_err};
+ghost use Rattle.std.specs.Prelude.{length, min, take};
 ghost use Rattle.std.specs.Io.KnownBytes.{ReadConsumes};
 ghost use Rattle.lis_port.specs.Port.{cut_answer, cut_given, known_left, new_cut};
 
@@ -95,7 +96,8 @@ impl Source for Cut<'_> {
 
         // Which bytes a read gives is known, and what stays.
         ensures answer { result ≡ cut_answer self.old.behind self.old.rest self.old.step (length buffer.old) }
-        ensures given { IfOk result (λ n. take n buffer.new ≡ cut_given self.old.behind self.old.rest self.old.step (length buffer.old)) }
+        ensures given { IfOk result (λ n. take n buffer.new
+            ≡ cut_given self.old.behind self.old.rest self.old.step (length buffer.old)) }
         ensures rest { self.new.rest ≡ drop (min self.old.step (length buffer.old)) self.old.rest }
         ensures step { self.new.step ≡ self.old.step }
         ensures behind { self.new.behind ≡ self.old.behind }

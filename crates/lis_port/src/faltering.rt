@@ -61,7 +61,8 @@ impl<T: Read> Read for Faltering<T> {
         ensures bound { ReadsAtMost result buffer.new }
         ensures bytes { ReadConsumes (T.remaining self.old.inner) (T.remaining self.new.inner) result buffer.new }
         ensures counted { self.new.calls ≡ min (self.old.calls + 1) 4294967295 }
-        ensures fails { self.old.calls ≡ self.old.before → MatchResult result (λ _. ⊥) (λ e. error_kind e ≡ self.old.kind) }
+        ensures fails { self.old.calls ≡ self.old.before
+            → MatchResult result (λ _. ⊥) (λ e. error_kind e ≡ self.old.kind) }
     {
         self.turn()?;
         self.inner.read(buffer)
@@ -75,7 +76,8 @@ impl<T: Write> Write for Faltering<T> {
         ensures bound { WritesAtMost result bytes.now }
         ensures bytes { WriteAppends (T.contents self.old.inner) (T.contents self.new.inner) result bytes.now }
         ensures counted { self.new.calls ≡ min (self.old.calls + 1) 4294967295 }
-        ensures fails { self.old.calls ≡ self.old.before → MatchResult result (λ _. ⊥) (λ e. error_kind e ≡ self.old.kind) }
+        ensures fails { self.old.calls ≡ self.old.before
+            → MatchResult result (λ _. ⊥) (λ e. error_kind e ≡ self.old.kind) }
     {
         self.turn()?;
         self.inner.write(bytes)
@@ -84,7 +86,8 @@ impl<T: Write> Write for Faltering<T> {
     fn flush(&mut self) -> io::Result<()>
         ensures bytes { Keeps (T.contents self.old.inner) (T.contents self.new.inner) }
         ensures counted { self.new.calls ≡ min (self.old.calls + 1) 4294967295 }
-        ensures fails { self.old.calls ≡ self.old.before → MatchResult result (λ _. ⊥) (λ e. error_kind e ≡ self.old.kind) }
+        ensures fails { self.old.calls ≡ self.old.before
+            → MatchResult result (λ _. ⊥) (λ e. error_kind e ≡ self.old.kind) }
     {
         self.turn()?;
         self.inner.flush()

@@ -1,6 +1,7 @@
 //! The two ports: a source of bytes and a sink for bytes.
 
-ghost use Rattle.std.specs.Prelude.{◌≡◌, ℕ, ◌+◌, ◌<◌, ◌≤◌, ◌↔◌, Bool, List, Option, IfOk, MatchResult, OnOk, true, false, is_err, length, IsTrue};
+ghost use Rattle.std.specs.Prelude.{◌≡◌, ℕ, ◌+◌, ◌<◌, ◌≤◌, ◌↔◌, Bool, List, Option, IfOk, MatchResult, OnOk, true};
+ghost use Rattle.std.specs.Prelude.{false, is_err, length, IsTrue};
 ghost use Rattle.std.specs.Io.KnownBytes.{Keeps, ReadConsumes, WriteAppends};
 
 /// A read or a write that failed. Nothing is tried again: a port that failed may not be called.

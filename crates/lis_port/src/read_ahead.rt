@@ -55,7 +55,8 @@ fn give<R: Read>(reader: &mut BufReader<R>, buffer: &mut [u8]) -> usize
     requires room { 0 < length buffer.old }
     ensures some { 0 < result }
     ensures bound { result ≤ length buffer.new }
-    ensures bytes { ReadConsumes {E = Failed} (reader_remaining R.remaining reader.old) (reader_remaining R.remaining reader.new) (Ok result) buffer.new }
+    ensures bytes { ReadConsumes {E = Failed} (reader_remaining R.remaining reader.old)
+        (reader_remaining R.remaining reader.new) (Ok result) buffer.new }
 {
     let held = reader.buffer();
     let count = held.len().min(buffer.len());

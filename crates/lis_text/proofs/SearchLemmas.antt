@@ -1,5 +1,7 @@
 -- The first place that passes a test, by the lanes of a vector.
-use Rattle.std.proofs.Common.{append-nil, ◌≡◌, ℕ, zero, suc, ◌+◌, ◌-◌, ◌*◌, ◌≤◌, ◌<◌, Bool, true, false, cond, List, [], ◌∷◌, ◌++◌, Option, None, Some, length, map, take, drop, length-take, take-append-drop, refl, sym, arith, zero-add, add-zero}
+use Rattle.std.proofs.Common.{append-nil, ◌≡◌, ℕ, zero, suc, ◌+◌, ◌-◌, ◌*◌, ◌≤◌, ◌<◌, Bool, true, false, cond, List, []}
+use Rattle.std.proofs.Common.{◌∷◌, ◌++◌, Option, None, Some, length, map, take, drop, length-take, take-append-drop}
+use Rattle.std.proofs.Common.{refl, sym, arith, zero-add, add-zero}
 use Rattle.std.specs.Prelude.{nat_lt, not}
 use Rattle.std.specs.List.{position_from, prefix_len}
 use Rattle.std.specs.Option.{option_map}
@@ -18,7 +20,8 @@ position-none f i (x ∷ xs) ys e = by (f x) e (position-none f (i + 1) xs ys)
   where
     by :
         (test : Bool) → cond (not test) (1 + prefix_len (λ x. not (f x)) xs) 0 ≡ suc (length xs) →
-        (prefix_len (λ x. not (f x)) xs ≡ length xs → position_from f (i + 1) (xs ++ ys) ≡ position_from f (i + 1 + length xs) ys) →
+        (prefix_len (λ x. not (f x)) xs ≡ length xs
+        → position_from f (i + 1) (xs ++ ys) ≡ position_from f (i + 1 + length xs) ys) →
         cond test (Some i) (position_from f (i + 1) (xs ++ ys)) ≡ position_from f (i + suc (length xs)) ys
     by true e later = absurd (omega arith)
     by false e later =
@@ -34,8 +37,10 @@ position-some f i (x ∷ xs) ys e = by (f x) e (position-some f (i + 1) xs ys)
   where
     by :
         (test : Bool) → cond (not test) (1 + prefix_len (λ x. not (f x)) xs) 0 < suc (length xs) →
-        (prefix_len (λ x. not (f x)) xs < length xs → position_from f (i + 1) (xs ++ ys) ≡ Some (i + 1 + prefix_len (λ x. not (f x)) xs)) →
-        cond test (Some i) (position_from f (i + 1) (xs ++ ys)) ≡ Some (i + cond (not test) (1 + prefix_len (λ x. not (f x)) xs) 0)
+        (prefix_len (λ x. not (f x)) xs < length xs
+        → position_from f (i + 1) (xs ++ ys) ≡ Some (i + 1 + prefix_len (λ x. not (f x)) xs)) →
+        cond test (Some i) (position_from f (i + 1) (xs ++ ys))
+        ≡ Some (i + cond (not test) (1 + prefix_len (λ x. not (f x)) xs) 0)
     by true e later = rw (add-zero i) refl
     by false e later =
         let at : i + (1 + prefix_len (λ x. not (f x)) xs) ≡ i + 1 + prefix_len (λ x. not (f x)) xs = omega arith in
@@ -61,7 +66,11 @@ position-before f i k (x ∷ xs) e = by (f x) refl e (position-before f (i + 1) 
     by false t e later =
         let before = later e in
         let at : k - i ≡ suc (k - (i + 1)) = omega (arith, before.from) in
-        record { from = omega (arith, before.from); inside = omega (arith, before.inside); clean = rw (at, t) before.clean }
+        record {
+          from = omega (arith, before.from);
+          inside = omega (arith, before.inside);
+          clean = rw (at, t) before.clean;
+        }
 
 module _ (f : ℕ → Bool) (xs : List ℕ) where
   pub clean-before : (k : ℕ) → position_from f 0 xs ≡ Some k → (k < length xs) × (position_from f 0 (take k xs) ≡ None)
@@ -74,14 +83,18 @@ module _ (f : ℕ → Bool) (xs : List ℕ) where
   pub prefix-found : (k : ℕ) → position_from f 0 xs ≡ Some k → k ≡ prefix_len (λ x. not (f x)) xs
   prefix-found k e = by (nat_lt (prefix_len (λ x. not (f x)) xs) (length xs)) refl
     where
-      by : (test : Bool) → nat_lt (prefix_len (λ x. not (f x)) xs) (length xs) ≡ test → k ≡ prefix_len (λ x. not (f x)) xs
+      by : (test : Bool) → nat_lt (prefix_len (λ x. not (f x)) xs) (length xs) ≡ test
+          → k ≡ prefix_len (λ x. not (f x)) xs
       by true t =
-          let found : position_from f 0 (xs ++ []) ≡ Some (0 + prefix_len (λ x. not (f x)) xs) = position-some f 0 xs [] (grind (arith, nat_tests, t)) in
-          let at : 0 + prefix_len (λ x. not (f x)) xs ≡ prefix_len (λ x. not (f x)) xs = zero-add (prefix_len (λ x. not (f x)) xs) in
+          let found : position_from f 0 (xs ++ []) ≡ Some (0 + prefix_len (λ x. not (f x)) xs) =
+          position-some f 0 xs [] (grind (arith, nat_tests, t)) in
+          let at : 0 + prefix_len (λ x. not (f x)) xs ≡ prefix_len (λ x. not (f x)) xs =
+          zero-add (prefix_len (λ x. not (f x)) xs) in
           let same : position_from f 0 xs ≡ Some (prefix_len (λ x. not (f x)) xs) = rw (append-nil xs, at) at found in
           cc
       by false t =
-          let all : prefix_len (λ x. not (f x)) xs ≡ length xs = grind (arith, nat_tests, t, prefix_len-le-length (λ x. not (f x)) xs) in
+          let all : prefix_len (λ x. not (f x)) xs ≡ length xs =
+          grind (arith, nat_tests, t, prefix_len-le-length (λ x. not (f x)) xs) in
           let none : position_from f 0 (xs ++ []) ≡ None = position-none f 0 xs [] all in
           let same = rw (append-nil xs) at none in
           cc
@@ -89,9 +102,11 @@ module _ (f : ℕ → Bool) (xs : List ℕ) where
   pub prefix-none : position_from f 0 xs ≡ None → length xs ≡ prefix_len (λ x. not (f x)) xs
   prefix-none e = by (nat_lt (prefix_len (λ x. not (f x)) xs) (length xs)) refl
     where
-      by : (test : Bool) → nat_lt (prefix_len (λ x. not (f x)) xs) (length xs) ≡ test → length xs ≡ prefix_len (λ x. not (f x)) xs
+      by : (test : Bool) → nat_lt (prefix_len (λ x. not (f x)) xs) (length xs) ≡ test
+          → length xs ≡ prefix_len (λ x. not (f x)) xs
       by true t =
-          let found : position_from f 0 (xs ++ []) ≡ Some (0 + prefix_len (λ x. not (f x)) xs) = position-some f 0 xs [] (grind (arith, nat_tests, t)) in
+          let found : position_from f 0 (xs ++ []) ≡ Some (0 + prefix_len (λ x. not (f x)) xs) =
+          position-some f 0 xs [] (grind (arith, nat_tests, t)) in
           let same = rw (append-nil xs) at found in
           cc
       by false t = grind (arith, nat_tests, t, prefix_len-le-length (λ x. not (f x)) xs)
@@ -138,14 +153,16 @@ position-shift f i j (x ∷ xs) = by (f x) (position-shift f i (j + 1) xs)
   where
     by :
         (test : Bool) → position_from f (i + (j + 1)) xs ≡ option_map (λ k. i + k) (position_from f (j + 1) xs) →
-        cond test (Some (i + j)) (position_from f (i + j + 1) xs) ≡ option_map (λ k. i + k) (cond test (Some j) (position_from f (j + 1) xs))
+        cond test (Some (i + j)) (position_from f (i + j + 1) xs)
+        ≡ option_map (λ k. i + k) (cond test (Some j) (position_from f (j + 1) xs))
     by true later = refl
     by false later =
         let at : i + j + 1 ≡ i + (j + 1) = omega arith in
         rw at later
 
 pub position-behind :
-    (f : ℕ → Bool) (i : ℕ) (xs : List ℕ) (o : Option ℕ) → o ≡ position_from f 0 xs → option_map (λ k. i + k) o ≡ position_from f i xs
+    (f : ℕ → Bool) (i : ℕ) (xs : List ℕ) (o : Option ℕ) → o ≡ position_from f 0 xs
+    → option_map (λ k. i + k) o ≡ position_from f i xs
 position-behind f i xs o e = rw e (sym (rw (add-zero i) at (position-shift f i 0 xs)))
 
 -- tests that agree on each byte

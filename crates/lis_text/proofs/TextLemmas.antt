@@ -1,5 +1,7 @@
 -- The bytes that no text may hold: sixteen tested at once, and parts of a text without one.
-use Rattle.std.proofs.Common.{◌≡◌, ℕ, zero, suc, ◌+◌, ◌*◌, ◌%◌, ◌^◌, Bool, true, false, cond, leb, eqb, List, [], ◌∷◌, Option, None, Some, length, map, take, drop, replicate, bit_and, bit_or, refl, ap, sym, ◌∙◌, arith}
+use Rattle.std.proofs.Common.{◌≡◌, ℕ, zero, suc, ◌+◌, ◌*◌, ◌%◌, ◌^◌, Bool, true, false, cond, leb, eqb, List, [], ◌∷◌}
+use Rattle.std.proofs.Common.{Option, None, Some, length, map, take, drop, replicate, bit_and, bit_or, refl, ap, sym}
+use Rattle.std.proofs.Common.{◌∙◌, arith}
 use Rattle.std.specs.Prelude.{nat_lt, ◌&&◌, ◌||◌}
 use Rattle.std.specs.List.{position_from}
 use Rattle.std.specs.Option.{option_map}
@@ -24,7 +26,8 @@ lane_top b = by (leb 1 b) (leb b 6) (eqb b 10) (leb 16 b) (leb b 23)
   where
     by :
         (a b c d e : Bool) →
-        top 7 (bit_or (bit_or (bit_and (cond a 255 0) (cond b 255 0)) (cond c 255 0)) (bit_and (cond d 255 0) (cond e 255 0)))
+        top 7 (bit_or (bit_or (bit_and (cond a 255 0) (cond b 255 0)) (cond c 255 0))
+        (bit_and (cond d 255 0) (cond e 255 0)))
         ≡ (a && b || c || d && e)
     by true true true true true = refl
     by true true true true false = refl
@@ -59,10 +62,12 @@ lane_top b = by (leb 1 b) (leb b 6) (eqb b 10) (leb 16 b) (leb b 23)
     by false false false false true = refl
     by false false false false false = refl
 
-ge : (xs : List ℕ) → length xs ≡ 16 → (n : ℕ) → zip2 {C = ℕ} (λ a b. cond (leb a b) 255 0) (replicate 16 n) xs ≡ map {B = ℕ} (λ b. cond (leb n b) 255 0) xs
+ge : (xs : List ℕ) → length xs ≡ 16 → (n : ℕ) → zip2 {C = ℕ} (λ a b. cond (leb a b) 255 0) (replicate 16 n) xs
+    ≡ map {B = ℕ} (λ b. cond (leb n b) 255 0) xs
 ge xs long n = zip2_splat_left {Z = ℕ} (λ a b. cond (leb a b) 255 0) n 16 xs long
 
-le : (xs : List ℕ) → length xs ≡ 16 → (n : ℕ) → zip2 {C = ℕ} (λ a b. cond (leb a b) 255 0) xs (replicate 16 n) ≡ map {B = ℕ} (λ b. cond (leb b n) 255 0) xs
+le : (xs : List ℕ) → length xs ≡ 16 → (n : ℕ) → zip2 {C = ℕ} (λ a b. cond (leb a b) 255 0) xs (replicate 16 n)
+    ≡ map {B = ℕ} (λ b. cond (leb b n) 255 0) xs
 le xs long n = zip2_splat {Z = ℕ} (λ a b. cond (leb a b) 255 0) xs 16 n long
 
 -- the bits of the lanes of sixteen bytes
@@ -71,17 +76,21 @@ pub lanes-forbidden :
     mask_l (map (top 7)
     (zip2 bit_or
     (zip2 bit_or
-    (zip2 bit_and (zip2 {C = ℕ} (λ a b. cond (leb a b) 255 0) (replicate 16 1) xs) (zip2 {C = ℕ} (λ a b. cond (leb a b) 255 0) xs (replicate 16 6)))
+    (zip2 bit_and (zip2 {C = ℕ} (λ a b. cond (leb a b) 255 0) (replicate 16 1) xs)
+    (zip2 {C = ℕ} (λ a b. cond (leb a b) 255 0) xs (replicate 16 6)))
     (zip2 {C = ℕ} (λ a b. cond (eqb a b) 255 0) xs (replicate 16 10)))
-    (zip2 bit_and (zip2 {C = ℕ} (λ a b. cond (leb a b) 255 0) (replicate 16 16) xs) (zip2 {C = ℕ} (λ a b. cond (leb a b) 255 0) xs (replicate 16 23))))) % 2 ^ 64
+    (zip2 bit_and (zip2 {C = ℕ} (λ a b. cond (leb a b) 255 0) (replicate 16 16) xs)
+    (zip2 {C = ℕ} (λ a b. cond (leb a b) 255 0) xs (replicate 16 23))))) % 2 ^ 64
     ≡ mask_l (map is_forbidden xs)
 lanes-forbidden xs long =
-    let line_feed : zip2 {C = ℕ} (λ a b. cond (eqb a b) 255 0) xs (replicate 16 10) ≡ map {B = ℕ} (λ b. cond (eqb b 10) 255 0) xs = zip2_splat {Z = ℕ} (λ a b. cond (eqb a b) 255 0) xs 16 10 long in
+    let line_feed : zip2 {C = ℕ} (λ a b. cond (eqb a b) 255 0) xs (replicate 16 10)
+    ≡ map {B = ℕ} (λ b. cond (eqb b 10) 255 0) xs = zip2_splat {Z = ℕ} (λ a b. cond (eqb a b) 255 0) xs 16 10 long in
     let low = zip2_of_maps bit_and _ _ xs (ge xs long 1) (le xs long 6) in
     let high = zip2_of_maps bit_and _ _ xs (ge xs long 16) (le xs long 23) in
     let all = zip2_of_maps bit_or _ _ xs (zip2_of_maps bit_or _ _ xs low line_feed) high in
     ap (λ (lanes : List ℕ). mask_l (map (top 7) lanes) % 2 ^ 64) all
-    ∙ ap (λ (ms : List Bool). mask_l ms % 2 ^ 64) (map-map (top 7) lane xs ∙ same_map (λ b. top 7 (lane b)) is_forbidden lane_top xs)
+    ∙ ap (λ (ms : List Bool). mask_l ms % 2 ^ 64) (map-map (top 7) lane xs
+    ∙ same_map (λ b. top 7 (lane b)) is_forbidden lane_top xs)
     ∙ mask_l-mod (map is_forbidden xs) 64 (omega (arith, length-map xs is_forbidden))
 
 -- where no byte is under 24, none is forbidden
@@ -91,7 +100,8 @@ none_low (b ∷ xs) none = by (leb b 23) refl none (none_low xs)
   where
     by :
         (low : Bool) → leb b 23 ≡ low → cond low 1 0 + 2 * mask_l (map (λ b. leb b 23) xs) ≡ 0 →
-        (mask_l (map (λ b. leb b 23) xs) ≡ 0 → 0 ≡ mask_l (map is_forbidden xs)) → 0 ≡ mask_l (map is_forbidden (b ∷ xs))
+        (mask_l (map (λ b. leb b 23) xs) ≡ 0 → 0 ≡ mask_l (map is_forbidden xs))
+        → 0 ≡ mask_l (map is_forbidden (b ∷ xs))
     by true t none later = absurd (omega arith)
     by false t none later =
         let allowed : is_forbidden b ≡ false = grind (arith, nat_tests, t) in
@@ -99,11 +109,13 @@ none_low (b ∷ xs) none = by (leb b 23) refl none (none_low xs)
 
 pub lanes-none :
     (xs : List ℕ) → length xs ≡ 16 →
-    mask_l (map (top 7) (zip2 {C = ℕ} (λ a b. cond (leb a b) 255 0) xs (replicate 16 23))) % 2 ^ 64 ≡ 0 → 0 ≡ mask_l (map is_forbidden xs)
+    mask_l (map (top 7) (zip2 {C = ℕ} (λ a b. cond (leb a b) 255 0) xs (replicate 16 23))) % 2 ^ 64 ≡ 0
+    → 0 ≡ mask_l (map is_forbidden xs)
 lanes-none xs long none = none_low xs (sym (bitmask_splat w8 leb xs 16 23 long (omega arith)) ∙ none)
 
 -- a part of a text without a forbidden byte has none
-none_from : (i j : ℕ) (text : List ℕ) → position_from is_forbidden i text ≡ None → position_from is_forbidden j text ≡ None
+none_from : (i j : ℕ) (text : List ℕ) → position_from is_forbidden i text ≡ None
+    → position_from is_forbidden j text ≡ None
 none_from i j [] none = refl
 none_from i j (b ∷ text) none = by (is_forbidden b) none (none_from (i + 1) (j + 1) text)
   where
@@ -114,10 +126,12 @@ none_from i j (b ∷ text) none = by (is_forbidden b) none (none_from (i + 1) (j
     by true none later = cc
     by false none later = later none
 
-pub none-drop : (n i : ℕ) (text : List ℕ) → position_from is_forbidden i text ≡ None → position_from is_forbidden i (drop n text) ≡ None
+pub none-drop : (n i : ℕ) (text : List ℕ) → position_from is_forbidden i text ≡ None
+    → position_from is_forbidden i (drop n text) ≡ None
 none-drop zero i text none = none
 none-drop (suc n) i [] none = refl
-none-drop (suc n) i (b ∷ text) none = by (is_forbidden b) none (λ later. none-drop n i text (none_from (i + 1) i text later))
+none-drop (suc n) i (b ∷ text) none = by (is_forbidden b) none
+    (λ later. none-drop n i text (none_from (i + 1) i text later))
   where
     by :
         (test : Bool) → cond test (Some i) (position_from is_forbidden (i + 1) text) ≡ None →
@@ -126,7 +140,8 @@ none-drop (suc n) i (b ∷ text) none = by (is_forbidden b) none (λ later. none
     by true none later = cc
     by false none later = later none
 
-pub none-take : (n i : ℕ) (text : List ℕ) → position_from is_forbidden i text ≡ None → position_from is_forbidden i (take n text) ≡ None
+pub none-take : (n i : ℕ) (text : List ℕ) → position_from is_forbidden i text ≡ None
+    → position_from is_forbidden i (take n text) ≡ None
 none-take zero i text none = refl
 none-take (suc n) i [] none = refl
 none-take (suc n) i (b ∷ text) none = by (is_forbidden b) none (none-take n (i + 1) text)

@@ -1,5 +1,6 @@
 -- The bytes of a text, be it a frame's or a whole link text (LIS01-A2, 6.3 and 6.5).
-use Rattle.std.specs.Prelude.{◌≡◌, ℕ, ◌≤◌, Bool, List, Option, None, Some, length, if◌then◌else◌, nat_lt, nat_le, ◌==◌, ◌&&◌, ◌||◌}
+use Rattle.std.specs.Prelude.{◌≡◌, ℕ, ◌≤◌, Bool, List, Option, None, Some, length, if◌then◌else◌, nat_lt, nat_le, ◌==◌}
+use Rattle.std.specs.Prelude.{◌&&◌, ◌||◌}
 use Rattle.std.specs.Option.{option_map}
 use Rattle.std.specs.List.{position_from}
 use Rattle.lis_text.specs.declared.text.TextFault.{TextFault}
@@ -20,4 +21,5 @@ pub record IsText (limit : ℕ) (bytes : List ℕ) : Type 0 where
 
 -- what is wrong with a text: its length is told before a byte of it
 abbrev pub text_fault : ℕ → List ℕ → Option TextFault
-text_fault limit bytes = if nat_lt limit (length bytes) then Some TooLong else option_map Forbidden (first_forbidden bytes)
+text_fault limit bytes = if nat_lt limit (length bytes) then Some TooLong else option_map Forbidden
+    (first_forbidden bytes)

@@ -1,6 +1,7 @@
 //! What a session carries: link texts, each a message of the layer above or a part of one.
 
-ghost use Rattle.std.specs.Prelude.{◌≡◌, ◌==◌, ◌≤◌, ◌++◌, ◌∷◌, [], None, Some, MatchResult, IfErr, OnOk, length, slice_get};
+ghost use Rattle.std.specs.Prelude.{◌≡◌, ◌==◌, ◌≤◌, ◌++◌, ◌∷◌, [], None, Some, MatchResult, IfErr, OnOk, length};
+ghost use Rattle.std.specs.Prelude.{slice_get};
 ghost use Rattle.std.specs.Option.{option_copied};
 ghost use Rattle.lis_text.specs.LinkText.{IsTextRefused, longest_text};
 ghost use Rattle.lis_text.specs.Text.{text_fault};

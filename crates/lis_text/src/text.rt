@@ -46,8 +46,8 @@ pub fn first_forbidden(bytes: &[u8]) -> Option<usize>
     first_in::<ForbiddenBytes>(bytes)
 }
 
-/// Whether bytes are a text of at most `limit` bytes; if not, why. Their number is tested first, then each byte from the
-/// front.
+/// Whether bytes are a text of at most `limit` bytes; if not, why. Their number is tested first, then each byte from
+/// the front.
 pub fn check_bytes(bytes: &[u8], limit: usize) -> Result<(), TextFault>
     ensures { MatchResult result (λ _. text_fault limit bytes.now ≡ None)
         (λ fault. text_fault limit bytes.now ≡ Some fault) }

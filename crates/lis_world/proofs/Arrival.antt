@@ -1,5 +1,6 @@
 -- What the arrival of a unit does, by its load, and of damage in its place.
-use Rattle.std.proofs.Common.{◌≡◌, ℕ, ◌+◌, ◌%◌, ◌<◌, ◌⊎◌, inl, inr, Bool, true, false, not, List, [], ◌∷◌, ◌++◌, Option, None, Some, length, refl, sym, ap, ◌∙◌, subst, arith}
+use Rattle.std.proofs.Common.{◌≡◌, ℕ, ◌+◌, ◌%◌, ◌<◌, ◌⊎◌, inl, inr, Bool, true, false, not, List, [], ◌∷◌, ◌++◌, Option}
+use Rattle.std.proofs.Common.{None, Some, length, refl, sym, ap, ◌∙◌, subst, arith}
 use Rattle.std.specs.Prelude.{if◌then◌else◌, nat_lt, ◌==◌, ◌&&◌}
 use Rattle.std.specs.Option.{option_to_list}
 use Rattle.std.proofs.lemmas.Bool.{cond_both, lt-ltb, eq-eqb, ne_eqb, and_from, and_right}
@@ -36,7 +37,8 @@ kept_refl ss = record {
 }
 
 -- nothing was heard
-pub left_unheard : (limit s : ℕ) (load : Load) (past : List ℕ) (d : Desk) → IsSide limit d → IsLeft limit s load d (at_past past d)
+pub left_unheard : (limit s : ℕ) (load : Load) (past : List ℕ) (d : Desk) → IsSide limit d
+    → IsLeft limit s load d (at_past past d)
 left_unheard limit s load past d side = record {
   sound = side.sound;
   line = side.line;
@@ -64,7 +66,11 @@ left_refused limit s f past d side = record {
   kept = kept_refl d.sessions;
   after_ending = λ e. cc;
   after_enquiry = λ e. cc;
-  after_frame = λ before g e pending. (pending, inr (NAK, one_reply NAK d.replies side.no_reply, λ yes. absurd (no_is_no_yes yes)));
+  after_frame = λ before g e pending. (
+    pending,
+    inr
+        (NAK, one_reply NAK d.replies side.no_reply, λ yes. absurd (no_is_no_yes yes)),
+  );
 }
 
 pub left_bad :
@@ -73,7 +79,8 @@ pub left_bad :
     → IsLeft limit s (one_frame f) d (at_past past (hears_signal {limit = limit} s (Bad fault) d))
 left_bad limit s f fault past d side = go d.receiver.is_open
   where
-    go : (is_open : Bool) → IsLeft limit s (one_frame f) d (at_past past (booked s (heard_by {limit = limit} is_open (Bad fault) d.receiver) d))
+    go : (is_open : Bool) → IsLeft limit s (one_frame f) d
+        (at_past past (booked s (heard_by {limit = limit} is_open (Bad fault) d.receiver) d))
     go true = left_refused limit s f past d side
     go false = left_unheard limit s (one_frame f) past d side
 
@@ -83,7 +90,8 @@ pub left_ending :
     → IsLeft limit s ending d (at_past past (hears_signal {limit = limit} s Eot d))
 left_ending limit s past d side = go d.receiver.is_open
   where
-    go : (is_open : Bool) → IsLeft limit s ending d (at_past past (booked s (heard_by {limit = limit} is_open Eot d.receiver) d))
+    go : (is_open : Bool) → IsLeft limit s ending d
+        (at_past past (booked s (heard_by {limit = limit} is_open Eot d.receiver) d))
     go true = record {
       sound = side.sound;
       line = λ e. cc;
@@ -140,7 +148,8 @@ pub left_enquiry :
     → IsLeft limit s enquiry d (at_past past (hears_signal {limit = limit} s Enq d))
 left_enquiry limit s past d side unsent = go d.receiver.is_open
   where
-    go : (is_open : Bool) → IsLeft limit s enquiry d (at_past past (booked s (heard_by {limit = limit} is_open Enq d.receiver) d))
+    go : (is_open : Bool) → IsLeft limit s enquiry d
+        (at_past past (booked s (heard_by {limit = limit} is_open Enq d.receiver) d))
     go true = left_bid limit s past d side unsent d.receiver.readiness
     go false = left_bid limit s past d side unsent d.receiver.readiness
 
@@ -157,15 +166,23 @@ left_duplicate limit s number f past d before side is_pending accepted = record 
   kept = kept_refl d.sessions;
   after_ending = λ e. cc;
   after_enquiry = λ e. cc;
-  after_frame = λ before' g e pending.
-      (pending, inr (ACK, one_reply ACK d.replies side.no_reply, λ yes. accepted ∙ sym is_pending.sent_is ∙ pending.sent_is));
+  after_frame = λ before' g e pending. (
+    pending,
+    inr (
+      ACK,
+      one_reply ACK d.replies side.no_reply,
+      λ yes. accepted ∙ sym is_pending.sent_is
+          ∙ pending.sent_is,
+    ),
+  );
 }
 
 groups_push_by : (xs : List (List ℕ)) (o : Option (List ℕ)) → xs ++ (option_to_list o ++ []) ≡ with_more xs o
 groups_push_by xs None = append-nil xs
 groups_push_by xs (Some x) = refl
 
-groups_push : (held : List ℕ) (xs : List FrameContent) (f : FrameContent) → groups held (xs ++ f ∷ []) ≡ with_more (groups held xs) (completed (rest held xs) f)
+groups_push : (held : List ℕ) (xs : List FrameContent) (f : FrameContent)
+    → groups held (xs ++ f ∷ []) ≡ with_more (groups held xs) (completed (rest held xs) f)
 groups_push held xs f = groups-append held xs (f ∷ []) ∙ groups_push_by (groups held xs) (completed (rest held xs) f)
 
 -- the session of an accepted frame
@@ -178,7 +195,11 @@ sound_taken :
     → IsSound limit (takes (on_judged r f (Accepted number)) x)
 sound_taken limit number r x before f same accepted sent h = record {
   sendable = h.sendable;
-  accepted_of_sent = record { rest = []; joined = append-nil (x.accepted ++ f ∷ []) ∙ ap (λ xs. xs ++ f ∷ []) accepted ∙ sym sent };
+  accepted_of_sent = record {
+    rest = [];
+    joined = append-nil (x.accepted ++ f ∷ []) ∙ ap (λ xs. xs ++ f
+        ∷ []) accepted ∙ sym sent;
+  };
   sent_of_frames = h.sent_of_frames;
   acknowledged_of_accepted =
       let more = length_push x.accepted f in
@@ -263,8 +284,10 @@ judged_new r f before number_is accepted =
     let count : length r.accepted ≡ length before = ap length accepted in
     let differs : f.number ≡ length r.accepted % 8 → ⊥ = λ e. omega arith in
     let not_again : (nat_lt 0 (length r.accepted) && f.number == length r.accepted % 8) ≡ false =
-    and_right (nat_lt 0 (length r.accepted)) (f.number == length r.accepted % 8) (ne_eqb f.number (length r.accepted % 8) differs) in
-    let next : (f.number == (length r.accepted + 1) % 8) ≡ true = eq-eqb f.number ((length r.accepted + 1) % 8) (omega arith) in
+    and_right (nat_lt 0 (length r.accepted)) (f.number == length r.accepted % 8)
+    (ne_eqb f.number (length r.accepted % 8) differs) in
+    let next : (f.number == (length r.accepted + 1) % 8) ≡ true =
+    eq-eqb f.number ((length r.accepted + 1) % 8) (omega arith) in
     rw (not_again, next) refl
 
 -- and of the last one that is accepted
@@ -276,7 +299,8 @@ pub judged_again :
 judged_again r f before number_is accepted =
     let count : length r.accepted ≡ length before + 1 = ap length accepted ∙ length_push before f in
     let is_again : (nat_lt 0 (length r.accepted) && f.number == length r.accepted % 8) ≡ true =
-    and_from (nat_lt 0 (length r.accepted)) (f.number == length r.accepted % 8) (lt-ltb 0 (length r.accepted) (omega arith))
+    and_from (nat_lt 0 (length r.accepted)) (f.number == length r.accepted % 8)
+    (lt-ltb 0 (length r.accepted) (omega arith))
     (eq-eqb f.number (length r.accepted % 8) (omega arith)) in
     rw is_again refl
 
@@ -294,14 +318,18 @@ left_judged limit s f past d before side is_pending number_is is_open = go is_pe
     Fits note = IsLeft limit s (one_frame f) d (at_past past (booked s (on_judged d.receiver f note) d))
 
     held : d.receiver.accepted ≡ (session_at s d.sessions).accepted
-    held = subst (λ k. d.receiver.accepted ≡ (session_at k d.sessions).accepted) (is_pending.owner_is is_open) (side.line is_open).1
+    held = subst (λ k. d.receiver.accepted ≡ (session_at k d.sessions).accepted) (is_pending.owner_is is_open)
+        (side.line is_open).1
 
-    go : ((session_at s d.sessions).accepted ≡ before) ⊎ ((session_at s d.sessions).accepted ≡ before ++ f ∷ []) → Fits (judged d.receiver f)
+    go : ((session_at s d.sessions).accepted ≡ before) ⊎ ((session_at s d.sessions).accepted ≡ before ++ f ∷ [])
+        → Fits (judged d.receiver f)
     go (inl accepted) =
         subst Fits (sym (judged_new d.receiver f before number_is (held ∙ accepted)))
         (cond_both (not d.receiver.room) NoRoom _ Fits (λ e. left_refused limit s f past d side)
-        (λ e. cond_both (length d.receiver.accepted == most_frames) TooMany _ Fits (λ e'. left_refused limit s f past d side)
-        (λ e'. cond_both (nat_lt longest_text (length (held_text d.receiver) + length f.text)) TooLong (Accepted f.number) Fits
+        (λ e. cond_both (length d.receiver.accepted == most_frames) TooMany _ Fits
+        (λ e'. left_refused limit s f past d side)
+        (λ e'. cond_both (nat_lt longest_text (length (held_text d.receiver) + length f.text)) TooLong
+        (Accepted f.number) Fits
         (λ e''. left_refused limit s f past d side)
         (λ e''. left_accepted limit s f.number f past d before side is_pending is_open accepted))))
     go (inr accepted) =
@@ -319,6 +347,7 @@ left_frame limit s f past d before side is_pending number_is = go d.receiver.is_
     go :
         (is_open : Bool)
         → d.receiver.is_open ≡ is_open
-        → IsLeft limit s (one_frame f) d (at_past past (booked s (heard_by {limit = limit} is_open (Good f) d.receiver) d))
+        → IsLeft limit s (one_frame f) d (at_past past
+        (booked s (heard_by {limit = limit} is_open (Good f) d.receiver) d))
     go true e = left_judged limit s f past d before side is_pending number_is e
     go false e = left_unheard limit s (one_frame f) past d side

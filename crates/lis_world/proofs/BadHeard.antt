@@ -28,10 +28,12 @@ signals-inner limit past (x ∷ xs) ys inner =
     let later = All-tail (λ b. is_mark b ≡ false) x xs inner in
     rw (inner_is_silent limit past x here) (signals-inner limit (x ∷ past) xs ys later)
 
-look_back-mark : (past since : List ℕ) (b : ℕ) → is_mark b ≡ false → look_back (b ∷ past) since ≡ look_back past (b ∷ since)
+look_back-mark : (past since : List ℕ) (b : ℕ) → is_mark b ≡ false
+    → look_back (b ∷ past) since ≡ look_back past (b ∷ since)
 look_back-mark past since b inner = grind (arith, nat_tests)
 
-look_back-inner : (past xs since : List ℕ) → AreInner xs → look_back (stream_with past xs) since ≡ look_back past (xs ++ since)
+look_back-inner : (past xs since : List ℕ) → AreInner xs
+    → look_back (stream_with past xs) since ≡ look_back past (xs ++ since)
 look_back-inner past [] since inner = refl
 look_back-inner past (x ∷ xs) since inner =
     let here = All-head (λ b. is_mark b ≡ false) x xs inner in

@@ -1,5 +1,6 @@
 -- What holds of the world whatever the sender's phase is, and how steps of the sender's side keep it.
-use Rattle.std.proofs.Common.{◌≡◌, ℕ, ◌<◌, ◌≤◌, ◌⊎◌, inl, inr, Bool, List, [], ◌∷◌, ◌++◌, length, set, Some, refl, sym, ap, ◌∙◌, subst, arith}
+use Rattle.std.proofs.Common.{◌≡◌, ℕ, ◌<◌, ◌≤◌, ◌⊎◌, inl, inr, Bool, List, [], ◌∷◌, ◌++◌, length, set, Some, refl, sym}
+use Rattle.std.proofs.Common.{ap, ◌∙◌, subst, arith}
 use Rattle.std.proofs.lemmas.List.{length_push, set-get_or}
 use Rattle.lis_frame.specs.Frame.{FrameContent}
 use Rattle.lis_frame.specs.Pieces.{session_frames}
@@ -10,7 +11,8 @@ use Rattle.lis_world.specs.Session.{Session, new_session, session_at, changed, f
 use Rattle.lis_world.specs.World.{World}
 use Rattle.lis_world.specs.Steps.{placed, with_sender, forgotten}
 use Rattle.lis_world.proofs.SessionLemmas.{length-changed, at-changed_same, at-changed, kept-changed}
-use Rattle.lis_world.proofs.Invariant.{IsSound, Line, Pending, Unsent, Waits, Behind, Leads, Front, KeepsFrames, IsCurrent, InPhase, Holds}
+use Rattle.lis_world.proofs.Invariant.{IsSound, Line, Pending, Unsent, Waits, Behind, Leads, Front, KeepsFrames}
+use Rattle.lis_world.proofs.Invariant.{IsCurrent, InPhase, Holds}
 use Rattle.lis_world.proofs.Leaving.{leads_from_waits}
 
 pub record Base (limit : ℕ) (w : World) : Type 0 where
@@ -29,7 +31,14 @@ pub holds_of :
     → InPhase w.sender.phase w
     → Holds limit w
 holds_of limit w base current phase =
-    record { sound = base.sound; mute_within = base.mute_within; line = base.line; front = base.front; current = current; phase = phase }
+    record {
+      sound = base.sound;
+      mute_within = base.mute_within;
+      line = base.line;
+      front = base.front;
+      current = current;
+      phase = phase;
+    }
 
 -- each session that there was has sent and accepted the same
 pub record AreSame (ss ss' : List Session) : Type 0 where
@@ -102,7 +111,8 @@ line_same ss ss' is_open accepted owner same h e =
     (omega arith, (h e).1 ∙ sym (same.accepted_same owner (h e).0))
 
 -- one more unit behind those that are there
-behind_more : (ss : List Session) (us : List Travelling) (u : Travelling) → Behind ss us → Waits ss u.session u.load → Behind ss (us ++ u ∷ [])
+behind_more : (ss : List Session) (us : List Travelling) (u : Travelling) → Behind ss us → Waits ss u.session u.load
+    → Behind ss (us ++ u ∷ [])
 behind_more ss [] u h waits = (waits, tt)
 behind_more ss (v ∷ us) u h waits = (h.0, behind_more ss us u h.1 waits)
 
@@ -114,7 +124,8 @@ pub front_more :
 front_more ss is_open owner [] u h waits = (leads_from_waits ss is_open owner u.session u.load waits, tt)
 front_more ss is_open owner (v ∷ us) u h waits = (h.0, behind_more ss us u h.1 waits)
 
-pub base_placed : (limit : ℕ) (load : Load) (w : World) → Waits w.sessions w.current load → Base limit w → Base limit (placed load w)
+pub base_placed : (limit : ℕ) (load : Load) (w : World) → Waits w.sessions w.current load → Base limit w
+    → Base limit (placed load w)
 base_placed limit load w waits base = record {
   sound = base.sound;
   mute_within =
@@ -122,14 +133,26 @@ base_placed limit load w waits base = record {
       let more = length_push w.units (record { session = w.current; load = load }) in
       omega arith;
   line = base.line;
-  front = front_more w.sessions w.receiver.is_open w.opened w.units (record { session = w.current; load = load }) base.front waits;
+  front = front_more w.sessions w.receiver.is_open w.opened w.units (record { session = w.current; load = load })
+      base.front waits;
 }
 
 pub base_forgotten : (limit : ℕ) (w : World) → Base limit w → Base limit (forgotten w)
-base_forgotten limit w base = record { sound = base.sound; mute_within = omega arith; line = base.line; front = base.front }
+base_forgotten limit w base = record {
+  sound = base.sound;
+  mute_within = omega arith;
+  line = base.line;
+  front = base.front;
+}
 
-pub base_replies : (limit : ℕ) (replies : List ℕ) (w : World) → Base limit w → Base limit (record w { replies = replies })
-base_replies limit replies w base = record { sound = base.sound; mute_within = base.mute_within; line = base.line; front = base.front }
+pub base_replies : (limit : ℕ) (replies : List ℕ) (w : World) → Base limit w
+    → Base limit (record w { replies = replies })
+base_replies limit replies w base = record {
+  sound = base.sound;
+  mute_within = base.mute_within;
+  line = base.line;
+  front = base.front;
+}
 
 -- a session that follows its sender
 pub are_same_followed : (c : ℕ) (sender : SenderState) (ss : List Session) → AreSame ss (changed c (follows sender) ss)
@@ -147,7 +170,8 @@ pub record CanFollow (limit : ℕ) (sender : SenderState) (x : Session) : Type 0
   pub acknowledged_of_accepted : sender.acknowledged ≤ length x.accepted
   pub done_acknowledged : sender.outcome ≡ Some Done → length (session_frames limit x.texts) ≤ sender.acknowledged
 
-pub sound_followed : (limit : ℕ) (sender : SenderState) (x : Session) → CanFollow limit sender x → IsSound limit x → IsSound limit (follows sender x)
+pub sound_followed : (limit : ℕ) (sender : SenderState) (x : Session) → CanFollow limit sender x → IsSound limit x
+    → IsSound limit (follows sender x)
 sound_followed limit sender x can h = record {
   sendable = h.sendable;
   accepted_of_sent = h.accepted_of_sent;
@@ -183,7 +207,8 @@ current_followed limit sender w within can =
     (record { frames_are = can.frames_are; acknowledged_is = refl; outcome_is = refl })
 
 -- a sender that stays as it is changes nothing
-pub with_sender_same : (limit : ℕ) (w : World) → IsCurrent limit w.sender (session_at w.current w.sessions) → with_sender w.sender w ≡ w
+pub with_sender_same : (limit : ℕ) (w : World) → IsCurrent limit w.sender (session_at w.current w.sessions)
+    → with_sender w.sender w ≡ w
 with_sender_same limit w current =
     let x : Session = session_at w.current w.sessions in
     let counted : follows w.sender x ≡ record x { outcome = w.sender.outcome } =

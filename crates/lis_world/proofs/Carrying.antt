@@ -1,5 +1,6 @@
 -- A session with enough rounds is done, and an undisturbed one too.
-use Rattle.std.proofs.Common.{◌≡◌, ℕ, zero, suc, ◌+◌, ◌-◌, ◌<◌, ◌≤◌, ◌⊎◌, inl, inr, Bool, true, false, List, [], ◌∷◌, ◌++◌, length, get_or, None, Some, refl, sym, ap, ◌∙◌, subst, arith}
+use Rattle.std.proofs.Common.{◌≡◌, ℕ, zero, suc, ◌+◌, ◌-◌, ◌<◌, ◌≤◌, ◌⊎◌, inl, inr, Bool, true, false, List, [], ◌∷◌}
+use Rattle.std.proofs.Common.{◌++◌, length, get_or, None, Some, refl, sym, ap, ◌∙◌, subst, arith}
 use Rattle.std.proofs.lemmas.Bool.{cond-false}
 use Rattle.std.proofs.lemmas.List.{length-append, length_push}
 use Rattle.lis_text.specs.Control.{ACK, ENQ, EOT, STX, LF}
@@ -20,9 +21,13 @@ use Rattle.lis_world.specs.declared.event.Event.TheVariants.{Start, Deliver, Del
 use Rattle.lis_world.specs.Unit.{enquiry, ending, Travelling, load_bytes}
 use Rattle.lis_world.specs.Session.{Session, new_session, session_at}
 use Rattle.lis_world.specs.World.{World, new_world, Desk, desk_of, booked, hears, lowered, settled}
-use Rattle.lis_world.specs.Steps.{begins, delivered, delivered_no_room, damaged, is_noticed, room_at, replied, reply_damaged, sender_steps, after_event, runs, world}
+use Rattle.lis_world.specs.Steps.{begins, delivered, delivered_no_room, damaged, is_noticed, room_at, replied}
+use Rattle.lis_world.specs.Steps.{reply_damaged, sender_steps, after_event, runs, world}
 use Rattle.lis_world.specs.Safe.{IsPrefix}
-use Rattle.lis_world.specs.Progress.{Round, undisturbed, without_room, bad_frame, bad_reply, round_events, rounds_events, IsBadStretch, IsNoticed, AreNoticed, good_rounds, FewInARow, IsCalm, session_events, done_session, IsCarried, AreSendable, AreEnough, undisturbed_rounds, quiet_events, CarriesThrough, RunsQuietly}
+use Rattle.lis_world.specs.Progress.{Round, undisturbed, without_room, bad_frame, bad_reply, round_events}
+use Rattle.lis_world.specs.Progress.{rounds_events, IsBadStretch, IsNoticed, AreNoticed, good_rounds, FewInARow, IsCalm}
+use Rattle.lis_world.specs.Progress.{session_events, done_session, IsCarried, AreSendable, AreEnough}
+use Rattle.lis_world.specs.Progress.{undisturbed_rounds, quiet_events, CarriesThrough, RunsQuietly}
 use Rattle.lis_world.proofs.Invariant.{IsSound, InPhase, Holds, kept_frames}
 use Rattle.lis_world.proofs.Room.{room_runs}
 use Rattle.lis_world.proofs.Leaving.{heard_replies}
@@ -31,8 +36,10 @@ use Rattle.lis_world.proofs.BadHeard.{signals-bad_stretch}
 use Rattle.lis_link.proofs.Counting.{few-session_frames}
 use Rattle.lis_world.proofs.Starting.{can_start}
 use Rattle.lis_world.proofs.Sending.{zero_mute}
-use Rattle.lis_world.proofs.Safety.{event_holds, runs_hold, new_holds, whole_prefix, prefix_trans, hands_out_all_from_sound}
-use Rattle.lis_world.proofs.Rounds.{IsSent, IsFinished, GoesOn, GoesOnOrAgain, by_signals, awaiting_of, sender_frames, sent_on, undisturbed_round, disturbed_round}
+use Rattle.lis_world.proofs.Safety.{event_holds, runs_hold, new_holds, whole_prefix, prefix_trans}
+use Rattle.lis_world.proofs.Safety.{hands_out_all_from_sound}
+use Rattle.lis_world.proofs.Rounds.{IsSent, IsFinished, GoesOn, GoesOnOrAgain, by_signals, awaiting_of, sender_frames}
+use Rattle.lis_world.proofs.Rounds.{sent_on, undisturbed_round, disturbed_round}
 
 -- EOT closes the line
 record IsClosed (ss : List Session) (d : Desk) : Type 0 where
@@ -48,7 +55,8 @@ ending_heard limit s d none =
     go :
         (is_open : Bool)
         → d.receiver.is_open ≡ is_open
-        → IsClosed d.sessions (at_past (stream_with d.receiver.past (EOT ∷ [])) (booked s (heard_by {limit = limit} is_open Eot d.receiver) d))
+        → IsClosed d.sessions (at_past (stream_with d.receiver.past (EOT ∷ []))
+        (booked s (heard_by {limit = limit} is_open Eot d.receiver) d))
     go true e = record { no_reply = none; is_closed = refl; sessions_are = refl }
     go false e = record { no_reply = none; is_closed = e; sessions_are = refl }
 
@@ -72,7 +80,8 @@ closed_after limit c frames w w2 d finished holds closed e =
           current_is = finished.tracked.current_is;
           length_is = ap length closed.sessions_are ∙ finished.tracked.length_is;
           frames_are =
-              ap (λ ss. session_frames limit (session_at w.current ss).texts) closed.sessions_are ∙ finished.tracked.frames_are;
+              ap (λ ss. session_frames limit (session_at w.current ss).texts) closed.sessions_are
+              ∙ finished.tracked.frames_are;
         };
         neutral = finished.neutral;
         outcome_is = finished.outcome_is;
@@ -83,30 +92,36 @@ closed_after limit c frames w w2 d finished holds closed e =
       closed = closed.is_closed;
     })
 
-finished_delivered : (limit c : ℕ) (frames : List FrameContent) (w : World) → IsLimit limit → IsFinished limit c frames w → IsOver limit c frames (after_event limit Deliver w)
+finished_delivered : (limit c : ℕ) (frames : List FrameContent) (w : World) → IsLimit limit
+    → IsFinished limit c frames w → IsOver limit c frames (after_event limit Deliver w)
 finished_delivered limit c frames w is_limit finished = go finished.traffic
   where
     go :
-        ((s : ℕ) × (w.units ≡ record { session = s; load = ending } ∷ [])) ⊎ ((w.units ≡ []) × (w.receiver.is_open ≡ false))
+        ((s : ℕ) × (w.units ≡ record { session = s; load = ending } ∷ [])) ⊎
+        ((w.units ≡ []) × (w.receiver.is_open ≡ false))
         → IsOver limit c frames (after_event limit Deliver w)
     go (inl one) =
         closed_after limit c frames w (after_event limit Deliver w) (hears limit one.0 (EOT ∷ []) (desk_of w)) finished
         (event_holds limit Deliver w is_limit finished.tracked.holds) (ending_heard limit one.0 (desk_of w) refl)
         (ap (λ us. delivered limit us w) one.1)
     go (inr none) =
-        subst (IsOver limit c frames) (sym (ap (λ us. delivered limit us w) none.0)) (record { finished = finished; closed = none.1 })
+        subst (IsOver limit c frames) (sym (ap (λ us. delivered limit us w) none.0))
+        (record { finished = finished; closed = none.1 })
 
 finished_no_room :
-    (limit c : ℕ) (frames : List FrameContent) (w : World) → IsLimit limit → IsFinished limit c frames w → IsFinished limit c frames (after_event limit DeliverNoRoom w)
+    (limit c : ℕ) (frames : List FrameContent) (w : World) → IsLimit limit → IsFinished limit c frames w
+    → IsFinished limit c frames (after_event limit DeliverNoRoom w)
 finished_no_room limit c frames w is_limit finished = go finished.traffic
   where
     go :
-        ((s : ℕ) × (w.units ≡ record { session = s; load = ending } ∷ [])) ⊎ ((w.units ≡ []) × (w.receiver.is_open ≡ false))
+        ((s : ℕ) × (w.units ≡ record { session = s; load = ending } ∷ [])) ⊎
+        ((w.units ≡ []) × (w.receiver.is_open ≡ false))
         → IsFinished limit c frames (after_event limit DeliverNoRoom w)
     go (inl one) =
         let d : Desk = room_at false (desk_of w) in
         let closed = ending_heard limit one.0 d refl in
-        (closed_after limit c frames w (after_event limit DeliverNoRoom w) (room_at true (hears limit one.0 (EOT ∷ []) d)) finished
+        (closed_after limit c frames w (after_event limit DeliverNoRoom w)
+        (room_at true (hears limit one.0 (EOT ∷ []) d)) finished
         (event_holds limit DeliverNoRoom w is_limit finished.tracked.holds)
         (record { no_reply = closed.no_reply; is_closed = closed.is_closed; sessions_are = closed.sessions_are })
         (ap (λ us. delivered_no_room limit us w) one.1)).finished
@@ -124,22 +139,27 @@ finished_damaged limit c frames stretch w bad finished = go finished.traffic
     bytes = STX ∷ (stretch ++ LF ∷ [])
 
     go :
-        ((s : ℕ) × (w.units ≡ record { session = s; load = ending } ∷ [])) ⊎ ((w.units ≡ []) × (w.receiver.is_open ≡ false))
+        ((s : ℕ) × (w.units ≡ record { session = s; load = ending } ∷ [])) ⊎
+        ((w.units ≡ []) × (w.receiver.is_open ≡ false))
         → IsFinished limit c frames (after_event limit (Damage bytes) w)
     go (inl one) =
         let unnoticed : is_noticed ending (signals_after limit w.receiver.past bytes) ≡ false =
         ap (is_noticed ending) (signals-bad_stretch limit w.receiver.past stretch bad.fault bad.no_mark bad.is_bad) in
         let same : after_event limit (Damage bytes) w ≡ w =
         ap (λ us. damaged limit bytes us w) one.1
-        ∙ cond-false (is_noticed ending (signals_after limit w.receiver.past bytes)) (settled [] (hears limit one.0 bytes (desk_of w)) w) w unnoticed in
+        ∙ cond-false (is_noticed ending (signals_after limit w.receiver.past bytes))
+        (settled [] (hears limit one.0 bytes (desk_of w)) w) w unnoticed in
         subst (IsFinished limit c frames) (sym same) finished
     go (inr none) = subst (IsFinished limit c frames) (sym (ap (λ us. damaged limit bytes us w) none.0)) finished
 
-finished_reply : (limit c : ℕ) (frames : List FrameContent) (w : World) → IsFinished limit c frames w → IsFinished limit c frames (after_event limit Reply w)
-finished_reply limit c frames w finished = subst (IsFinished limit c frames) (sym (ap (λ rs. replied limit rs w) finished.no_reply)) finished
+finished_reply : (limit c : ℕ) (frames : List FrameContent) (w : World) → IsFinished limit c frames w
+    → IsFinished limit c frames (after_event limit Reply w)
+finished_reply limit c frames w finished = subst (IsFinished limit c frames)
+    (sym (ap (λ rs. replied limit rs w) finished.no_reply)) finished
 
 finished_bad_reply :
-    (limit c : ℕ) (frames : List FrameContent) (r : ℕ) (w : World) → IsFinished limit c frames w → IsFinished limit c frames (after_event limit (DamageReply r) w)
+    (limit c : ℕ) (frames : List FrameContent) (r : ℕ) (w : World) → IsFinished limit c frames w
+    → IsFinished limit c frames (after_event limit (DamageReply r) w)
 finished_bad_reply limit c frames r w finished =
     subst (IsFinished limit c frames) (sym (ap (λ rs. reply_damaged limit r rs w) finished.no_reply)) finished
 
@@ -150,15 +170,20 @@ finished_round :
     → IsFinished limit c frames w
     → IsFinished limit c frames (runs limit (round_events round) w)
 finished_round limit c frames undisturbed w is_limit noticed finished =
-    finished_reply limit c frames (after_event limit Deliver w) (finished_delivered limit c frames w is_limit finished).finished
+    finished_reply limit c frames (after_event limit Deliver w)
+    (finished_delivered limit c frames w is_limit finished).finished
 finished_round limit c frames without_room w is_limit noticed finished =
-    finished_reply limit c frames (after_event limit DeliverNoRoom w) (finished_no_room limit c frames w is_limit finished)
+    finished_reply limit c frames (after_event limit DeliverNoRoom w)
+    (finished_no_room limit c frames w is_limit finished)
 finished_round limit c frames (bad_frame stretch) w is_limit noticed finished =
-    finished_reply limit c frames (after_event limit (Damage (STX ∷ (stretch ++ LF ∷ []))) w) (finished_damaged limit c frames stretch w noticed finished)
+    finished_reply limit c frames (after_event limit (Damage (STX ∷ (stretch ++ LF ∷ []))) w)
+    (finished_damaged limit c frames stretch w noticed finished)
 finished_round limit c frames (bad_reply r) w is_limit noticed finished =
-    finished_bad_reply limit c frames r (after_event limit Deliver w) (finished_delivered limit c frames w is_limit finished).finished
+    finished_bad_reply limit c frames r (after_event limit Deliver w)
+    (finished_delivered limit c frames w is_limit finished).finished
 
-pub runs-append : (limit : ℕ) (xs ys : List Event) (w : World) → runs limit (xs ++ ys) w ≡ runs limit ys (runs limit xs w)
+pub runs-append : (limit : ℕ) (xs ys : List Event) (w : World)
+    → runs limit (xs ++ ys) w ≡ runs limit ys (runs limit xs w)
 runs-append limit [] ys w = refl
 runs-append limit (x ∷ xs) ys w = runs-append limit xs ys (after_event limit x w)
 
@@ -181,7 +206,8 @@ some_remaining limit c frames k t w sent =
     let remaining = sent.remaining in
     let counted = awaiting.acknowledged_is in
     let whole : length frames ≡ length awaiting.before + suc (length awaiting.left) =
-    ap length (sym (sender_frames limit c frames w sent.tracked sent.awaits) ∙ awaiting.frames_are) ∙ length-append awaiting.before (awaiting.frame ∷ awaiting.left) in
+    ap length (sym (sender_frames limit c frames w sent.tracked sent.awaits) ∙ awaiting.frames_are)
+    ∙ length-append awaiting.before (awaiting.frame ∷ awaiting.left) in
     omega arith
 
 -- rounds, one by one
@@ -200,7 +226,8 @@ through limit c frames [] row k t w is_limit few noticed in_a_row enough tries s
     absurd (omega arith)
 through limit c frames (undisturbed ∷ rounds) row k t w is_limit few noticed in_a_row enough tries sent =
     go (undisturbed_round limit c frames k t w is_limit few sent)
-    (through limit c frames rounds 0 (k - 1) 1 (runs limit (round_events undisturbed) w) is_limit few noticed.1 in_a_row (omega arith) (omega arith))
+    (through limit c frames rounds 0 (k - 1) 1 (runs limit (round_events undisturbed) w) is_limit few noticed.1
+    in_a_row (omega arith) (omega arith))
   where
     w2 : World
     w2 = runs limit (round_events undisturbed) w
@@ -217,14 +244,16 @@ through limit c frames (round ∷ rounds) row k t w is_limit few noticed in_a_ro
     let w2 : World = runs limit (round_events round) w in
     subst (IsFinished limit c frames) (sym (runs-append limit (round_events round) (rounds_events rounds) w))
     (go (disturbed_round limit c frames k t round w is_limit few few_tries noticed.0 sent)
-    (λ j n below enough2. through limit c frames rounds (suc row) j n w2 is_limit few noticed.1 in_a_row.1 enough2 below))
+    (λ j n below enough2. through limit c frames rounds (suc row) j n w2 is_limit few noticed.1 in_a_row.1 enough2
+    below))
   where
     w3 : World
     w3 = runs limit (round_events round) w
 
     go :
         GoesOnOrAgain limit c frames k t w3
-        → ((j n : ℕ) → n ≤ suc (suc row) → j ≤ good_rounds rounds → IsSent limit c frames j n w3 → IsFinished limit c frames (runs limit (rounds_events rounds) w3))
+        → ((j n : ℕ) → n ≤ suc (suc row) → j ≤ good_rounds rounds → IsSent limit c frames j n w3
+        → IsFinished limit c frames (runs limit (rounds_events rounds) w3))
         → IsFinished limit c frames (runs limit (rounds_events rounds) w3)
     go (inl (inl finished)) later = finished_rounds limit c frames rounds w3 is_limit noticed.1 finished
     go (inl (inr sent2)) later = later (k - 1) 1 (omega arith) (omega arith) sent2
@@ -255,7 +284,8 @@ enquiry_heard limit s d none ready room =
         subst (λ r. IsOpened (length d.sessions) (at_past past (booked s (bid_with r d.receiver) d))) (sym ready)
         (record { reply_is = ap (λ xs. xs ++ ACK ∷ []) none; is_open = refl; room_is = room; length_is = refl })
 
-    go : (is_open : Bool) → IsOpened (length d.sessions) (at_past past (booked s (heard_by {limit = limit} is_open Enq d.receiver) d))
+    go : (is_open : Bool) → IsOpened (length d.sessions)
+        (at_past past (booked s (heard_by {limit = limit} is_open Enq d.receiver) d))
     go true = bid
     go false = bid
 
@@ -281,16 +311,21 @@ begun limit texts w is_limit h calm room holds =
     let e2 : w2 ≡ settled [] after w1 = ap (λ us. delivered limit us w1) alone in
     let unmuted : w.mute ≡ 0 = zero_mute w.mute w.units h.mute_within calm.no_unit in
     let no_reply : w.replies ≡ [] = (subst (λ p. InPhase p w) calm.neutral h.phase).no_reply in
-    let replies_are : (settled [] after w1).replies ≡ ACK ∷ [] = heard_replies w.mute after.replies w.replies unmuted no_reply ∙ opened.reply_is in
-    let holds2 : Holds limit (settled [] after w1) = subst (Holds limit) e2 (event_holds limit Deliver w1 is_limit holds) in
+    let replies_are : (settled [] after w1).replies ≡ ACK ∷ [] =
+    heard_replies w.mute after.replies w.replies unmuted no_reply ∙ opened.reply_is in
+    let holds2 : Holds limit (settled [] after w1) =
+    subst (Holds limit) e2 (event_holds limit Deliver w1 is_limit holds) in
     let w3 : World = record (settled [] after w1) { replies = [] } in
-    let e3 : after_event limit Reply w2 ≡ sender_steps {limit = limit} (sends (session_frames limit texts) (started limit texts)) w3 =
+    let e3 : after_event limit Reply w2 ≡ sender_steps {limit = limit}
+    (sends (session_frames limit texts) (started limit texts)) w3 =
     ap (after_event limit Reply) e2 ∙ ap (λ rs. replied limit rs (settled [] after w1)) replies_are in
     let count : length (session_frames limit texts) ≡ length (session_frames limit texts) = refl in
-    sent_on limit c (session_frames limit texts) (length (session_frames limit texts)) (started limit texts) w3 (after_event limit Reply w2)
+    sent_on limit c (session_frames limit texts) (length (session_frames limit texts)) (started limit texts) w3
+    (after_event limit Reply w2)
     refl (opened.length_is ∙ more_sessions w.sessions (new_session texts)) holds2.mute_within
     (event_holds limit Reply w2 is_limit (event_holds limit Deliver w1 is_limit holds))
-    refl refl opened.is_open opened.room_is (sym (kept_frames limit (settled [] after w1) AwaitLine holds2 refl)) (omega arith)
+    refl refl opened.is_open opened.room_is (sym (kept_frames limit (settled [] after w1) AwaitLine holds2 refl))
+    (omega arith)
     (session_frames limit texts) e3
   where
     more_sessions : (ss : List Session) (x : Session) → length (ss ++ x ∷ []) ≡ suc (length ss)
@@ -321,12 +356,14 @@ session_over limit c texts w finished =
     let accepted_count : length x.accepted ≡ length (session_frames limit x.texts) = ap length accepted_is in
     let sent_count : length x.accepted + length sound.accepted_of_sent.rest ≡ length x.sent =
     sym (length-append x.accepted sound.accepted_of_sent.rest) ∙ ap length sound.accepted_of_sent.joined in
-    let sent_is : x.sent ≡ session_frames limit x.texts = whole_prefix x.sent (session_frames limit x.texts) sound.sent_of_frames (omega arith) in
+    let sent_is : x.sent ≡ session_frames limit x.texts =
+    whole_prefix x.sent (session_frames limit x.texts) sound.sent_of_frames (omega arith) in
     let count_same : length (session_frames limit x.texts) ≡ length frames = ap length frames_same in
     let acknowledged_is : x.acknowledged ≡ length frames = omega arith in
     let handed_is : x.handed ≡ texts = hands_out_all_from_sound limit x sound done ∙ texts_is in
     let whole : x ≡ done_session limit texts =
-    same_session x (done_session limit texts) texts_is (sent_is ∙ frames_same) (accepted_is ∙ frames_same) acknowledged_is handed_is done in
+    same_session x (done_session limit texts) texts_is (sent_is ∙ frames_same) (accepted_is ∙ frames_same)
+    acknowledged_is handed_is done in
     subst (λ k. session_at k w.sessions ≡ done_session limit texts) finished.tracked.current_is whole
   where
     same_session :
@@ -361,7 +398,8 @@ carried limit texts rounds w is_limit h calm room sendable enough =
     let w2 : World = runs limit (Deliver ∷ Reply ∷ []) w1 in
     let finished : IsFinished limit c frames (runs limit (rounds_events rounds) w2) =
     go c frames w2 enough.noticed (begun limit texts w is_limit h calm room holds1)
-    (λ sent. through limit c frames rounds 0 (length frames) 1 w2 is_limit few enough.noticed enough.few_in_a_row enough.enough_good (omega arith) sent) in
+    (λ sent. through limit c frames rounds 0 (length frames) 1 w2 is_limit few enough.noticed enough.few_in_a_row
+    enough.enough_good (omega arith) sent) in
     let over : IsOver limit c frames (runs limit (rounds_events rounds ++ Deliver ∷ []) w2) =
     subst (IsOver limit c frames) (sym (runs-append limit (rounds_events rounds) (Deliver ∷ []) w2))
     (finished_delivered limit c frames (runs limit (rounds_events rounds) w2) is_limit finished) in
@@ -371,7 +409,8 @@ carried limit texts rounds w is_limit h calm room sendable enough =
       sender_neutral = over.finished.neutral;
       receiver_neutral = over.closed;
     } in
-    subst (λ v. IsCarried limit texts w (runs limit (Deliver ∷ Reply ∷ (rounds_events rounds ++ Deliver ∷ [])) v)) (sym e1) result
+    subst (λ v. IsCarried limit texts w (runs limit (Deliver ∷ Reply ∷ (rounds_events rounds ++ Deliver ∷ [])) v))
+    (sym e1) result
   where
     go :
         (c : ℕ) (frames : List FrameContent) (v : World)
@@ -386,7 +425,8 @@ pub carries_through : (limit : ℕ) → IsLimit limit → CarriesThrough limit
 carries_through limit is_limit events texts rounds calm sendable enough =
     let w : World = world limit events in
     subst (IsCarried limit texts w) (sym (runs-append limit events (session_events texts rounds) new_world))
-    (carried limit texts rounds w is_limit (runs_hold limit events new_world is_limit (new_holds limit)) calm (room_runs limit events new_world refl) sendable enough)
+    (carried limit texts rounds w is_limit (runs_hold limit events new_world is_limit (new_holds limit)) calm
+    (room_runs limit events new_world refl) sendable enough)
 
 -- rounds that nothing disturbs
 noticed-undisturbed : (limit n : ℕ) → AreNoticed limit (undisturbed_rounds n)
@@ -401,7 +441,8 @@ good-undisturbed : (n : ℕ) → good_rounds (undisturbed_rounds n) ≡ n
 good-undisturbed zero = refl
 good-undisturbed (suc n) = ap suc (good-undisturbed n)
 
-pub enough-undisturbed : (limit : ℕ) (texts : List (List ℕ)) → AreEnough limit texts (undisturbed_rounds (length (session_frames limit texts)))
+pub enough-undisturbed : (limit : ℕ) (texts : List (List ℕ))
+    → AreEnough limit texts (undisturbed_rounds (length (session_frames limit texts)))
 enough-undisturbed limit texts =
     let n : ℕ = length (session_frames limit texts) in
     let good = good-undisturbed n in
@@ -417,7 +458,8 @@ runs_quietly limit is_limit texts sendable =
     let n : ℕ = length (session_frames limit texts) in
     let enough = enough-undisturbed limit texts in
     let calm : IsCalm new_world = record { no_unit = refl; neutral = refl; ready = refl } in
-    let is_carried = carried limit texts (undisturbed_rounds n) new_world is_limit (new_holds limit) calm refl sendable enough in
+    let is_carried = carried limit texts (undisturbed_rounds n) new_world is_limit (new_holds limit) calm refl
+    sendable enough in
     let after : World = world limit (quiet_events limit texts) in
     record {
       sessions_are =

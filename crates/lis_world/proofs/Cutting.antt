@@ -1,5 +1,6 @@
 -- The frames of a session: each is one that can be spelled, and its number tells its place.
-use Rattle.std.proofs.Common.{◌≡◌, ℕ, zero, suc, ◌+◌, ◌*◌, ◌-◌, ◌/◌, ◌%◌, ◌<◌, ◌≤◌, Bool, true, false, List, [], ◌∷◌, ◌++◌, None, Some, length, take, drop, refl, ap, arith}
+use Rattle.std.proofs.Common.{◌≡◌, ℕ, zero, suc, ◌+◌, ◌*◌, ◌-◌, ◌/◌, ◌%◌, ◌<◌, ◌≤◌, Bool, true, false, List, [], ◌∷◌}
+use Rattle.std.proofs.Common.{◌++◌, None, Some, length, take, drop, refl, ap, arith}
 use Rattle.std.specs.Prelude.{All, if◌then◌else◌}
 use Rattle.std.specs.List.{position_from}
 use Rattle.std.proofs.lemmas.List.{length-take, length-drop}
@@ -48,7 +49,13 @@ content-pieces_from :
     → AreContent limit (numbered n (pieces_from limit full text ++ later))
 content-pieces_from limit zero n text later in_range short clean rest =
     All-cons (IsContent limit) (record { number = n; last = true; text = text }) (numbered (next_number n) later)
-    (record { number_in_range = in_range; is_text = record { short = omega arith; clean = none_from_all is_forbidden 0 text clean } })
+    (record {
+      number_in_range = in_range;
+      is_text = record {
+        short = omega arith;
+        clean = none_from_all is_forbidden 0 text clean;
+      };
+    })
     (rest (next_number n) (next_number_in_range n))
 content-pieces_from limit (suc full) n text later in_range short clean rest =
     let first : length (take limit text) ≤ limit = omega (arith, length-take limit text) in
@@ -59,9 +66,14 @@ content-pieces_from limit (suc full) n text later in_range short clean rest =
     (numbered (next_number n) (pieces_from limit full (drop limit text) ++ later))
     (record {
       number_in_range = in_range;
-      is_text = record { short = first; clean = none_from_all is_forbidden 0 (take limit text) (All-take cleanliness limit text clean) };
+      is_text = record {
+        short = first;
+        clean = none_from_all is_forbidden 0 (take limit text) (All-take cleanliness
+            limit text clean);
+      };
     })
-    (content-pieces_from limit full (next_number n) (drop limit text) later (next_number_in_range n) left (All-drop cleanliness limit text clean) rest)
+    (content-pieces_from limit full (next_number n) (drop limit text) later (next_number_in_range n) left
+    (All-drop cleanliness limit text clean) rest)
 
 content-all_pieces :
     (limit n : ℕ) (texts : List (List ℕ))

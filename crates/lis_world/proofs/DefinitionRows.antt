@@ -6,9 +6,12 @@ use Rattle.lis_frame.specs.Stream.{signal_after, open_stretch}
 use Rattle.lis_frame.specs.Pieces.{session_frames, pieces}
 use Rattle.lis_link.specs.declared.sender.Outcome.TheVariants.{Done, TimedOut, Restarted}
 use Rattle.lis_world.specs.declared.event.Event.{Event}
-use Rattle.lis_world.specs.declared.event.Event.TheVariants.{Start, Deliver, DeliverNoRoom, Damage, Reply, DamageReply, SenderTimer, ReceiverTimer, RestartSender, RestartReceiver, Busy, Contending}
+use Rattle.lis_world.specs.declared.event.Event.TheVariants.{Start, Deliver, DeliverNoRoom, Damage, Reply, DamageReply}
+use Rattle.lis_world.specs.declared.event.Event.TheVariants.{SenderTimer, ReceiverTimer, RestartSender, RestartReceiver}
+use Rattle.lis_world.specs.declared.event.Event.TheVariants.{Busy, Contending}
 use Rattle.lis_world.specs.Progress.{undisturbed, session_events}
-use Rattle.lis_world.specs.Recovery.{comes, comes_without_room, is_lost, emptying_events, two_timers, rest_events, unit_is_lost, unit_is_unheard, reply_is_lost, lost_events}
+use Rattle.lis_world.specs.Recovery.{comes, comes_without_room, is_lost, emptying_events, two_timers, rest_events}
+use Rattle.lis_world.specs.Recovery.{unit_is_lost, unit_is_unheard, reply_is_lost, lost_events}
 use Rattle.lis_world.specs.Session.{Session}
 use Rattle.lis_world.specs.Steps.{world}
 
@@ -53,7 +56,8 @@ sent_again_and_taken_once :
     (world 240 sent_again_and_taken_once_events).sessions
     ≡ done_letter 0x41
     ∷ []
-unfolding signal_after open_stretch stretch_fault session_frames pieces frame_bytes one_letter done_letter unheard_letter sent_again_and_taken_once_events
+unfolding signal_after open_stretch stretch_fault session_frames pieces frame_bytes one_letter done_letter
+    unheard_letter sent_again_and_taken_once_events
 sent_again_and_taken_once = refl
 
 -- the sender gives up before its frame has come: the frame counts for its own session, and its ACK comes too late
@@ -78,7 +82,8 @@ late_frame_is_of_its_session :
     ≡ unheard_letter 0x41
     ∷ done_letter 0x42
     ∷ []
-unfolding signal_after open_stretch stretch_fault session_frames pieces frame_bytes one_letter done_letter unheard_letter late_frame_is_of_its_session_events
+unfolding signal_after open_stretch stretch_fault session_frames pieces frame_bytes one_letter done_letter
+    unheard_letter late_frame_is_of_its_session_events
 late_frame_is_of_its_session = refl
 
 -- an ENQ can't be damaged to a bad frame, a frame can: it is refused and sent again
@@ -99,7 +104,8 @@ damaged_frame_is_sent_again :
     (world 240 damaged_frame_is_sent_again_events).sessions
     ≡ done_letter 0x41
     ∷ []
-unfolding signal_after open_stretch stretch_fault session_frames pieces frame_bytes one_letter done_letter unheard_letter damaged_frame_is_sent_again_events
+unfolding signal_after open_stretch stretch_fault session_frames pieces frame_bytes one_letter done_letter
+    unheard_letter damaged_frame_is_sent_again_events
 damaged_frame_is_sent_again = refl
 
 -- so the ENQ is delivered; the session goes on
@@ -121,7 +127,8 @@ damage_of_an_enquiry_is_not_allowed :
       outcome = None;
     }
     ∷ []
-unfolding signal_after open_stretch stretch_fault session_frames pieces frame_bytes one_letter done_letter unheard_letter damage_of_an_enquiry_is_not_allowed_events
+unfolding signal_after open_stretch stretch_fault session_frames pieces frame_bytes one_letter done_letter
+    unheard_letter damage_of_an_enquiry_is_not_allowed_events
 damage_of_an_enquiry_is_not_allowed = refl
 
 -- there is no room for the frame, and then there is
@@ -141,7 +148,8 @@ no_room_is_answered_by_sending_again :
     (world 240 no_room_is_answered_by_sending_again_events).sessions
     ≡ done_letter 0x41
     ∷ []
-unfolding signal_after open_stretch stretch_fault session_frames pieces frame_bytes one_letter done_letter unheard_letter no_room_is_answered_by_sending_again_events
+unfolding signal_after open_stretch stretch_fault session_frames pieces frame_bytes one_letter done_letter
+    unheard_letter no_room_is_answered_by_sending_again_events
 no_room_is_answered_by_sending_again = refl
 
 -- the receiver answers ENQ with ENQ; the sender waits, and asks again
@@ -163,7 +171,8 @@ contention_ends_with_the_timer :
     (world 240 contention_ends_with_the_timer_events).sessions
     ≡ done_letter 0x41
     ∷ []
-unfolding signal_after open_stretch stretch_fault session_frames pieces frame_bytes one_letter done_letter unheard_letter contention_ends_with_the_timer_events
+unfolding signal_after open_stretch stretch_fault session_frames pieces frame_bytes one_letter done_letter
+    unheard_letter contention_ends_with_the_timer_events
 contention_ends_with_the_timer = refl
 
 -- the sender is restarted before the line is open: no late reply reaches it, and its next session is whole
@@ -193,7 +202,8 @@ a_restarted_session_ends :
     }
     ∷ done_letter 0x42
     ∷ []
-unfolding signal_after open_stretch stretch_fault session_frames pieces frame_bytes one_letter done_letter unheard_letter a_restarted_session_ends_events
+unfolding signal_after open_stretch stretch_fault session_frames pieces frame_bytes one_letter done_letter
+    unheard_letter a_restarted_session_ends_events
 a_restarted_session_ends = refl
 
 -- the frame of a session that was given up is taken, and the reply to it is dropped, in the next session too
@@ -220,7 +230,8 @@ late_reply_never_comes :
       outcome = None;
     }
     ∷ []
-unfolding signal_after open_stretch stretch_fault session_frames pieces frame_bytes one_letter done_letter unheard_letter late_reply_never_comes_events
+unfolding signal_after open_stretch stretch_fault session_frames pieces frame_bytes one_letter done_letter
+    unheard_letter late_reply_never_comes_events
 late_reply_never_comes = refl
 
 -- the number of a frame that is sent again comes round to 0
@@ -260,7 +271,8 @@ numbers_come_round :
       outcome = Some Done;
     }
     ∷ []
-unfolding signal_after open_stretch stretch_fault session_frames pieces frame_bytes nine_texts_events round_trips nine_frames numbered_letter
+unfolding signal_after open_stretch stretch_fault session_frames pieces frame_bytes nine_texts_events round_trips
+    nine_frames numbered_letter
 numbers_come_round = refl
 
 -- the receiver is restarted between two frames of a text: the second is not taken, and nothing is handed out
@@ -328,7 +340,8 @@ lost_frame_is_overcome :
     ≡ untaken_letter 0x41
     ∷ done_letter 0x42
     ∷ []
-unfolding signal_after open_stretch stretch_fault session_frames pieces frame_bytes one_letter done_letter unheard_letter untaken_letter next_letter_events lost_frame_is_overcome_events
+unfolding signal_after open_stretch stretch_fault session_frames pieces frame_bytes one_letter done_letter
+    unheard_letter untaken_letter next_letter_events lost_frame_is_overcome_events
 lost_frame_is_overcome = refl
 
 -- its bytes give no signal, as their LF is gone
@@ -344,7 +357,8 @@ unheard_frame_is_overcome :
     ≡ untaken_letter 0x41
     ∷ done_letter 0x42
     ∷ []
-unfolding signal_after open_stretch stretch_fault session_frames pieces frame_bytes one_letter done_letter unheard_letter untaken_letter next_letter_events unheard_frame_is_overcome_events
+unfolding signal_after open_stretch stretch_fault session_frames pieces frame_bytes one_letter done_letter
+    unheard_letter untaken_letter next_letter_events unheard_frame_is_overcome_events
 unheard_frame_is_overcome = refl
 
 -- the reply to it is lost: it was taken, and is not acknowledged
@@ -360,10 +374,12 @@ lost_reply_is_overcome :
     ≡ unheard_letter 0x41
     ∷ done_letter 0x42
     ∷ []
-unfolding signal_after open_stretch stretch_fault session_frames pieces frame_bytes one_letter done_letter unheard_letter next_letter_events lost_reply_is_overcome_events
+unfolding signal_after open_stretch stretch_fault session_frames pieces frame_bytes one_letter done_letter
+    unheard_letter next_letter_events lost_reply_is_overcome_events
 lost_reply_is_overcome = refl
 
--- a busy receiver: the first timer asks for the line once more, the second ends the session; ENQ and EOT are on the link
+-- a busy receiver: the first timer asks for the line once more, the second ends the session; ENQ and EOT are on the
+-- link
 busy_receiver_is_overcome_events : List Event
 busy_receiver_is_overcome_events =
     Busy
@@ -377,5 +393,6 @@ busy_receiver_is_overcome :
     ≡ record (untaken_letter 0x41) { sent = [] }
     ∷ done_letter 0x42
     ∷ []
-unfolding signal_after open_stretch stretch_fault session_frames pieces frame_bytes one_letter done_letter unheard_letter untaken_letter next_letter_events busy_receiver_is_overcome_events
+unfolding signal_after open_stretch stretch_fault session_frames pieces frame_bytes one_letter done_letter
+    unheard_letter untaken_letter next_letter_events busy_receiver_is_overcome_events
 busy_receiver_is_overcome = refl

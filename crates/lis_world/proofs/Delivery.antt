@@ -1,5 +1,6 @@
 -- The front unit leaves the link: delivered, with room or without, damaged, or lost.
-use Rattle.std.proofs.Common.{◌≡◌, ℕ, ◌+◌, ◌%◌, length, ◌⊎◌, inl, inr, Bool, true, false, List, [], ◌∷◌, ◌++◌, refl, sym, ap, ◌∙◌, subst, arith}
+use Rattle.std.proofs.Common.{◌≡◌, ℕ, ◌+◌, ◌%◌, length, ◌⊎◌, inl, inr, Bool, true, false, List, [], ◌∷◌, ◌++◌, refl}
+use Rattle.std.proofs.Common.{sym, ap, ◌∙◌, subst, arith}
 use Rattle.std.specs.Prelude.{Contains}
 use Rattle.std.proofs.lemmas.Bool.{cond_both}
 use Rattle.std.proofs.lemmas.List.{append_assoc}
@@ -57,7 +58,8 @@ left_by_signals :
     → IsLeft limit s load d (hears limit s bytes d)
 left_by_signals limit s load bytes d signals are left =
     subst (IsLeft limit s load d) (sym (hears-heard limit s bytes d))
-    (subst (λ xs. IsLeft limit s load d (at_past (stream_with d.receiver.past bytes) (hears_signals s xs d))) (sym are) left)
+    (subst (λ xs. IsLeft limit s load d (at_past (stream_with d.receiver.past bytes) (hears_signals s xs d)))
+    (sym are) left)
 
 pub left_delivered :
     (limit s : ℕ) (load : Load) (d : Desk)
@@ -74,7 +76,8 @@ left_delivered limit s ending d is_limit side leads =
     (left_ending limit s (stream_with d.receiver.past (load_bytes ending)) d side)
 left_delivered limit s (one_frame f) d is_limit side leads =
     let next = next_frame limit (session_at s d.sessions) leads.0 f is_limit (side.sound s) leads.1.sent_is in
-    left_by_signals limit s (one_frame f) (frame_bytes f) d (Good f ∷ []) (signals-frame_bytes limit d.receiver.past f next.content)
+    left_by_signals limit s (one_frame f) (frame_bytes f) d (Good f ∷ [])
+    (signals-frame_bytes limit d.receiver.past f next.content)
     (left_frame limit s f (stream_with d.receiver.past (frame_bytes f)) d leads.0 side leads.1 next.number_is)
 
 -- the room of the receiver is of no account
@@ -113,46 +116,58 @@ left_damaged :
     → IsSide limit d
     → is_noticed load (signals_after limit d.receiver.past bytes) ≡ true
     → IsLeft limit s load d (hears limit s bytes d)
-left_damaged limit s load bytes d side noticed = go (noticed_cases load (signals_after limit d.receiver.past bytes) noticed)
+left_damaged limit s load bytes d side noticed = go
+    (noticed_cases load (signals_after limit d.receiver.past bytes) noticed)
   where
     go :
         (signals_after limit d.receiver.past bytes ≡ [])
-        ⊎ ((f : FrameContent) × (fault : FrameFault) × (load ≡ one_frame f) × (signals_after limit d.receiver.past bytes ≡ Bad fault ∷ []))
+        ⊎ ((f : FrameContent) × (fault : FrameFault) × (load ≡ one_frame f)
+        × (signals_after limit d.receiver.past bytes ≡ Bad fault ∷ []))
         → IsLeft limit s load d (hears limit s bytes d)
-    go (inl are) = left_by_signals limit s load bytes d [] are (left_unheard limit s load (stream_with d.receiver.past bytes) d side)
+    go (inl are) = left_by_signals limit s load bytes d [] are
+        (left_unheard limit s load (stream_with d.receiver.past bytes) d side)
     go (inr one) =
         left_by_signals limit s load bytes d (Bad one.1 ∷ []) one.3
-        (subst (λ l. IsLeft limit s l d (at_past (stream_with d.receiver.past bytes) (hears_signals {limit = limit} s (Bad one.1 ∷ []) d))) (sym one.2)
+        (subst (λ l. IsLeft limit s l d (at_past (stream_with d.receiver.past bytes)
+        (hears_signals {limit = limit} s (Bad one.1 ∷ []) d))) (sym one.2)
         (left_bad limit s one.0 one.1 (stream_with d.receiver.past bytes) d side))
 
-pub leads_of : (limit : ℕ) (w : World) (u : Travelling) (us : List Travelling) → Holds limit w → w.units ≡ u ∷ us → Leads w.sessions w.receiver.is_open w.opened u.session u.load
+pub leads_of : (limit : ℕ) (w : World) (u : Travelling) (us : List Travelling) → Holds limit w → w.units ≡ u ∷ us
+    → Leads w.sessions w.receiver.is_open w.opened u.session u.load
 leads_of limit w u us h units_are = (subst (Front w.sessions w.receiver.is_open w.opened) units_are h.front).0
 
-pub delivered_holds : (limit : ℕ) (units : List Travelling) (w : World) → IsLimit limit → w.units ≡ units → Holds limit w → Holds limit (delivered limit units w)
+pub delivered_holds : (limit : ℕ) (units : List Travelling) (w : World) → IsLimit limit → w.units ≡ units
+    → Holds limit w → Holds limit (delivered limit units w)
 delivered_holds limit [] w is_limit are h = h
 delivered_holds limit (u ∷ us) w is_limit are h =
     settled_holds limit w u us (hears limit u.session (load_bytes u.load) (desk_of w)) h are
     (left_delivered limit u.session u.load (desk_of w) is_limit (side_of limit w h) (leads_of limit w u us h are))
 
 pub delivered_no_room_holds :
-    (limit : ℕ) (units : List Travelling) (w : World) → IsLimit limit → w.units ≡ units → Holds limit w → Holds limit (delivered_no_room limit units w)
+    (limit : ℕ) (units : List Travelling) (w : World) → IsLimit limit → w.units ≡ units → Holds limit w
+    → Holds limit (delivered_no_room limit units w)
 delivered_no_room_holds limit [] w is_limit are h = h
 delivered_no_room_holds limit (u ∷ us) w is_limit are h =
     let without = room_at false (desk_of w) in
     settled_holds limit w u us (room_at true (hears limit u.session (load_bytes u.load) without)) h are
     (left_room limit u.session u.load (desk_of w) (hears limit u.session (load_bytes u.load) without)
-    (left_delivered limit u.session u.load without is_limit (side_room limit false (desk_of w) (side_of limit w h)) (leads_of limit w u us h are)))
+    (left_delivered limit u.session u.load without is_limit (side_room limit false (desk_of w) (side_of limit w h))
+    (leads_of limit w u us h are)))
 
 pub damaged_holds :
-    (limit : ℕ) (bytes : List ℕ) (units : List Travelling) (w : World) → w.units ≡ units → Holds limit w → Holds limit (damaged limit bytes units w)
+    (limit : ℕ) (bytes : List ℕ) (units : List Travelling) (w : World) → w.units ≡ units → Holds limit w
+    → Holds limit (damaged limit bytes units w)
 damaged_holds limit bytes [] w are h = h
 damaged_holds limit bytes (u ∷ us) w are h =
-    cond_both (is_noticed u.load (signals_after limit w.receiver.past bytes)) (settled us (hears limit u.session bytes (desk_of w)) w) w (Holds limit)
+    cond_both (is_noticed u.load (signals_after limit w.receiver.past bytes))
+    (settled us (hears limit u.session bytes (desk_of w)) w) w (Holds limit)
     (λ noticed. settled_holds limit w u us (hears limit u.session bytes (desk_of w)) h are
     (left_damaged limit u.session u.load bytes (desk_of w) (side_of limit w h) noticed))
     (λ ignored. h)
 
-pub lost_holds : (limit : ℕ) (units : List Travelling) (w : World) → w.units ≡ units → Holds limit w → Holds limit (lost units w)
+pub lost_holds : (limit : ℕ) (units : List Travelling) (w : World) → w.units ≡ units → Holds limit w
+    → Holds limit (lost units w)
 lost_holds limit [] w are h = h
 lost_holds limit (u ∷ us) w are h =
-    settled_holds limit w u us (desk_of w) h are (left_unheard limit u.session u.load w.receiver.past (desk_of w) (side_of limit w h))
+    settled_holds limit w u us (desk_of w) h are (left_unheard limit u.session u.load w.receiver.past (desk_of w)
+    (side_of limit w h))

@@ -1,5 +1,6 @@
 -- The texts of a session's frames never join to more than a link text.
-use Rattle.std.proofs.Common.{◌≡◌, ℕ, zero, suc, ◌+◌, ◌-◌, ◌/◌, ◌≤◌, List, [], ◌∷◌, ◌++◌, length, take, drop, subst, arith}
+use Rattle.std.proofs.Common.{◌≡◌, ℕ, zero, suc, ◌+◌, ◌-◌, ◌/◌, ◌≤◌, List, [], ◌∷◌, ◌++◌, length, take, drop, subst}
+use Rattle.std.proofs.Common.{arith}
 use Rattle.std.specs.Prelude.{All}
 use Rattle.std.proofs.lemmas.List.{length-take, length-drop, length-append}
 use Rattle.std.proofs.lemmas.List.Elements.{All-head, All-tail}
@@ -25,10 +26,12 @@ fits-pieces_from limit (suc full) n held text later short others =
     let left = length-drop limit text in
     let joined = length-append held (take limit text) in (
       (omega arith),
-      fits-pieces_from limit full (next_number n) (held ++ take limit text) (drop limit text) later (omega arith) others,
+      fits-pieces_from limit full (next_number n) (held ++ take limit text) (drop limit text) later (omega arith)
+          others,
     )
 
-fits-all_pieces : (limit n : ℕ) (texts : List (List ℕ)) → All (IsText longest_text) texts → FitsAll [] (numbered n (all_pieces limit texts))
+fits-all_pieces : (limit n : ℕ) (texts : List (List ℕ)) → All (IsText longest_text) texts
+    → FitsAll [] (numbered n (all_pieces limit texts))
 unfolding pieces
 fits-all_pieces limit n [] h = tt
 fits-all_pieces limit n (text ∷ texts) h =
@@ -37,7 +40,8 @@ fits-all_pieces limit n (text ∷ texts) h =
     fits-pieces_from limit ((length text - 1) / limit) n [] text (all_pieces limit texts) (omega arith)
     (λ m. fits-all_pieces limit m texts (All-tail (IsText longest_text) text texts h))
 
-fits_at : (held : List ℕ) (before : List FrameContent) (f : FrameContent) (left : List FrameContent) → FitsAll held (before ++ f ∷ left) → length (rest held before) + length f.text ≤ longest_text
+fits_at : (held : List ℕ) (before : List FrameContent) (f : FrameContent) (left : List FrameContent)
+    → FitsAll held (before ++ f ∷ left) → length (rest held before) + length f.text ≤ longest_text
 fits_at held [] f left h = h.0
 fits_at held (x ∷ before) f left h = fits_at (held_after held x) before f left h.1
 
@@ -47,4 +51,5 @@ pub fits-session_frames :
     → session_frames limit texts ≡ before ++ f ∷ left
     → length (rest [] before) + length f.text ≤ longest_text
 unfolding session_frames
-fits-session_frames limit texts before f left h e = fits_at [] before f left (subst (FitsAll []) e (fits-all_pieces limit 1 texts h))
+fits-session_frames limit texts before f left h e =
+    fits_at [] before f left (subst (FitsAll []) e (fits-all_pieces limit 1 texts h))

@@ -23,7 +23,8 @@ abbrev pub hears_signals : {limit : ℕ} → ℕ → List (SignalOf limit) → D
 hears_signals s [] d = d
 hears_signals s (signal ∷ signals) d = hears_signals s signals (hears_signal s signal d)
 
-noted-past : (s : ℕ) (step : ReceiverStep) (p q : List ℕ) (d : Desk) (note : Note) → noted s step note (at_past p d) ≡ noted s step note (at_past q d)
+noted-past : (s : ℕ) (step : ReceiverStep) (p q : List ℕ) (d : Desk) (note : Note)
+    → noted s step note (at_past p d) ≡ noted s step note (at_past q d)
 noted-past s step p q d Quiet = refl
 noted-past s step p q d _ = refl
 
@@ -36,7 +37,8 @@ judged-past s frame past d _ = refl
 
 bid-past :
     (s : ℕ) (past : List ℕ) (d : Desk) (readiness : Readiness)
-    → booked s (bid_with readiness (record d.receiver { past = past })) (at_past past d) ≡ at_past past (booked s (bid_with readiness d.receiver) d)
+    → booked s (bid_with readiness (record d.receiver { past = past })) (at_past past d)
+    ≡ at_past past (booked s (bid_with readiness d.receiver) d)
 bid-past s past d Ready = refl
 bid-past s past d _ = refl
 
@@ -56,9 +58,11 @@ heard-past s false (Bad fault) past d = refl
 -- bytes are heard as their signals are
 pub hears-signals :
     (limit s : ℕ) (bytes past : List ℕ) (d : Desk)
-    → hears limit s bytes (at_past past d) ≡ at_past (stream_with past bytes) (hears_signals s (signals_after limit past bytes) d)
+    → hears limit s bytes (at_past past d) ≡ at_past (stream_with past bytes)
+    (hears_signals s (signals_after limit past bytes) d)
 hears-signals limit s [] past d = refl
-hears-signals limit s (b ∷ bytes) past d = go (signal_after limit past b) (λ e. hears-signals limit s bytes (b ∷ past) e)
+hears-signals limit s (b ∷ bytes) past d = go (signal_after limit past b)
+    (λ e. hears-signals limit s bytes (b ∷ past) e)
   where
     go :
         (signal : Option (SignalOf limit))
@@ -66,7 +70,8 @@ hears-signals limit s (b ∷ bytes) past d = go (signal_after limit past b) (λ 
         → hears limit s bytes (at_past (b ∷ past) e)
         ≡ at_past (stream_with (b ∷ past) bytes) (hears_signals s (signals_after limit (b ∷ past) bytes) e))
         → hears limit s bytes (booked s (heard signal (record d.receiver { past = b ∷ past })) (at_past past d))
-        ≡ at_past (stream_with (b ∷ past) bytes) (hears_signals s (with_signal signal (signals_after limit (b ∷ past) bytes)) d)
+        ≡ at_past (stream_with (b ∷ past) bytes) (hears_signals s
+        (with_signal signal (signals_after limit (b ∷ past) bytes)) d)
     go None later = later d
     go (Some signal) later =
         let step : ReceiverStep = heard_by d.receiver.is_open signal (record d.receiver { past = b ∷ past }) in

@@ -30,7 +30,8 @@ abbrev pub Line : List Session → Bool → List FrameContent → ℕ → Type 0
 Line ss is_open accepted owner = is_open ≡ true → (owner < length ss) × (accepted ≡ (session_at owner ss).accepted)
 
 -- the last frame that session s has sent is f, and nothing behind the frames before it is accepted but f
-pub record Pending (ss : List Session) (is_open : Bool) (owner s : ℕ) (before : List FrameContent) (f : FrameContent) : Type 0 where
+pub record Pending (ss : List Session) (is_open : Bool) (owner s : ℕ) (before : List FrameContent)
+    (f : FrameContent) : Type 0 where
   pub is_session : s < length ss
   pub sent_is : (session_at s ss).sent ≡ before ++ f ∷ []
   pub accepted_is : ((session_at s ss).accepted ≡ before) ⊎ ((session_at s ss).accepted ≡ before ++ f ∷ [])
@@ -154,7 +155,8 @@ pub kept_frames :
     → w.sender.phase ≡ p
     → KeepsFrames p w.sender.frames (session_frames limit (session_at w.current w.sessions).texts)
 kept_frames limit w p h is =
-    subst (λ q. KeepsFrames q w.sender.frames (session_frames limit (session_at w.current w.sessions).texts)) is h.current.frames_are
+    subst (λ q. KeepsFrames q w.sender.frames (session_frames limit (session_at w.current w.sessions).texts)) is
+    h.current.frames_are
 
 -- the sessions differ in what was accepted and handed out alone
 pub record IsKept (x y : Session) : Type 0 where

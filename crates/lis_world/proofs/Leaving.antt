@@ -1,5 +1,6 @@
 -- A unit leaves the link: what was on its way still is, and its reply is the only one, or none.
-use Rattle.std.proofs.Common.{◌≡◌, ℕ, zero, suc, ◌<◌, ◌≤◌, ◌⊎◌, inl, inr, Bool, List, [], ◌∷◌, ◌++◌, length, drop, refl, sym, ap, ◌∙◌, subst, arith}
+use Rattle.std.proofs.Common.{◌≡◌, ℕ, zero, suc, ◌<◌, ◌≤◌, ◌⊎◌, inl, inr, Bool, List, [], ◌∷◌, ◌++◌, length, drop, refl}
+use Rattle.std.proofs.Common.{sym, ap, ◌∙◌, subst, arith}
 use Rattle.lis_frame.specs.Pieces.{session_frames}
 use Rattle.lis_link.specs.declared.sender.Phase.{Phase}
 use Rattle.lis_link.specs.declared.sender.Phase.TheVariants.{Neutral, AwaitLine, Busy, Contention, AwaitReply}
@@ -7,7 +8,9 @@ use Rattle.lis_link.specs.Sender.{SenderState}
 use Rattle.lis_world.specs.Unit.{Load, enquiry, ending, one_frame, Travelling}
 use Rattle.lis_world.specs.Session.{Session, session_at}
 use Rattle.lis_world.specs.World.{World, Desk, desk_of, replies_with, lowered, settled}
-use Rattle.lis_world.proofs.Invariant.{Unsent, Waits, Behind, Leads, Front, KeepsFrames, IsCurrent, AllEndings, BidsBy, Bids, BidAnswer, FrameAnswer, IsAwaiting, InPhase, Holds, IsKept, AreKept, IsLeft}
+use Rattle.lis_world.proofs.Invariant.{Unsent, Waits, Behind, Leads, Front, KeepsFrames, IsCurrent, AllEndings, BidsBy}
+use Rattle.lis_world.proofs.Invariant.{Bids, BidAnswer, FrameAnswer, IsAwaiting, InPhase, Holds, IsKept, AreKept}
+use Rattle.lis_world.proofs.Invariant.{IsLeft}
 
 pub unsent_kept : (ss ss' : List Session) (s : ℕ) → AreKept ss ss' → Unsent ss s → Unsent ss' s
 unsent_kept ss ss' s kept unsent =
@@ -23,12 +26,14 @@ behind_kept ss ss' [] kept h = tt
 behind_kept ss ss' (u ∷ us) kept h = (waits_kept ss ss' u.session u.load kept h.0, behind_kept ss ss' us kept h.1)
 
 -- a unit that is no frame may stand in front
-pub leads_from_waits : (ss : List Session) (is_open : Bool) (owner s : ℕ) (load : Load) → Waits ss s load → Leads ss is_open owner s load
+pub leads_from_waits : (ss : List Session) (is_open : Bool) (owner s : ℕ) (load : Load) → Waits ss s load
+    → Leads ss is_open owner s load
 leads_from_waits ss is_open owner s enquiry h = h
 leads_from_waits ss is_open owner s ending h = tt
 leads_from_waits ss is_open owner s (one_frame f) h = absurd h
 
-pub front_from_behind : (ss : List Session) (is_open : Bool) (owner : ℕ) (us : List Travelling) → Behind ss us → Front ss is_open owner us
+pub front_from_behind : (ss : List Session) (is_open : Bool) (owner : ℕ) (us : List Travelling) → Behind ss us
+    → Front ss is_open owner us
 front_from_behind ss is_open owner [] h = tt
 front_from_behind ss is_open owner (u ∷ us) h = (leads_from_waits ss is_open owner u.session u.load h.0, h.1)
 
@@ -36,10 +41,12 @@ lowered_within : (m n : ℕ) → m ≤ suc n → lowered m ≤ n
 lowered_within zero n h = omega arith
 lowered_within (suc m) n h = omega arith
 
-pub current_kept : (limit : ℕ) (sender : SenderState) (x y : Session) → IsKept x y → IsCurrent limit sender x → IsCurrent limit sender y
+pub current_kept : (limit : ℕ) (sender : SenderState) (x y : Session) → IsKept x y → IsCurrent limit sender x
+    → IsCurrent limit sender y
 current_kept limit sender x y kept h = record {
   frames_are =
-      subst (λ texts. KeepsFrames sender.phase sender.frames (session_frames limit texts)) (sym kept.texts_same) h.frames_are;
+      subst (λ texts. KeepsFrames sender.phase sender.frames (session_frames limit texts)) (sym kept.texts_same)
+      h.frames_are;
   acknowledged_is = h.acknowledged_is ∙ sym kept.acknowledged_same;
   outcome_is = h.outcome_is ∙ sym kept.outcome_same;
 }
@@ -72,7 +79,8 @@ bids_left c s ending us caused is_open owner by later quiet answer = inl (quiet 
 bids_left c s (one_frame f) us caused is_open owner by later quiet answer = absurd by
 bids_left c s enquiry us caused is_open owner by later quiet answer = go (answer refl)
   where
-    go : (caused ≡ []) ⊎ BidAnswer caused is_open owner s → ((caused ≡ []) × Bids c us) ⊎ ((us ≡ []) × BidAnswer caused is_open owner c)
+    go : (caused ≡ []) ⊎ BidAnswer caused is_open owner s
+        → ((caused ≡ []) × Bids c us) ⊎ ((us ≡ []) × BidAnswer caused is_open owner c)
     go (inl none) = inl (none, subst (Bids c) (sym by.1) tt)
     go (inr one) = inr (by.1, subst (λ k. BidAnswer caused is_open owner k) by.0 one)
 
@@ -108,11 +116,13 @@ phase_left limit w u us d' units_are left AwaitLine h = record {
 }
   where
     go :
-        ((w.replies ≡ []) × Bids w.current (drop w.mute w.units)) ⊎ ((w.units ≡ []) × BidAnswer w.replies w.receiver.is_open w.opened w.current)
+        ((w.replies ≡ []) × Bids w.current (drop w.mute w.units)) ⊎
+        ((w.units ≡ []) × BidAnswer w.replies w.receiver.is_open w.opened w.current)
         → ((replies_with w.mute d'.replies w.replies ≡ []) × Bids w.current (drop (lowered w.mute) us))
         ⊎ ((us ≡ []) × BidAnswer (replies_with w.mute d'.replies w.replies) d'.receiver.is_open d'.opened w.current)
     go (inl bids) =
-        bidding_left w.current w.mute u us d'.replies w.replies d'.receiver.is_open d'.opened left.after_ending left.after_enquiry bids.0
+        bidding_left w.current w.mute u us d'.replies w.replies d'.receiver.is_open d'.opened left.after_ending
+        left.after_enquiry bids.0
         (subst (λ xs. Bids w.current (drop w.mute xs)) units_are bids.1)
     go (inr answered) = let none : w.units ≡ [] = answered.0 in cc
 phase_left limit w u us d' units_are left Busy h = let none : w.units ≡ [] = h.no_unit in cc
@@ -136,7 +146,8 @@ phase_left limit w u us d' units_are left AwaitReply h = go h.traffic
           unmuted = subst (λ m. lowered m ≡ 0) (sym h.unmuted) refl;
           traffic = inr (
             alone,
-            subst (λ xs. FrameAnswer xs d'.sessions w.current h.before h.frame) (sym (heard_replies w.mute d'.replies w.replies h.unmuted none)) both.1,
+            subst (λ xs. FrameAnswer xs d'.sessions w.current h.before h.frame)
+                (sym (heard_replies w.mute d'.replies w.replies h.unmuted none)) both.1,
           );
         }
 
@@ -164,8 +175,10 @@ settled_holds limit w u us d' h units_are left =
       sound = left.sound;
       mute_within = lowered_within w.mute (length us) within;
       line = left.line;
-      front = front_from_behind d'.sessions d'.receiver.is_open d'.opened us (behind_kept w.sessions d'.sessions us left.kept front_is.1);
+      front = front_from_behind d'.sessions d'.receiver.is_open d'.opened us
+          (behind_kept w.sessions d'.sessions us left.kept front_is.1);
       current =
-          current_kept limit w.sender (session_at w.current w.sessions) (session_at w.current d'.sessions) (left.kept.each_kept w.current) h.current;
+          current_kept limit w.sender (session_at w.current w.sessions) (session_at w.current d'.sessions)
+          (left.kept.each_kept w.current) h.current;
       phase = phase_left limit w u us d' units_are left w.sender.phase h.phase;
     }

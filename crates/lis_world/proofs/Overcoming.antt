@@ -1,5 +1,6 @@
 -- What a loss comes to: the sender's timer ends the session, and a later one is carried through.
-use Rattle.std.proofs.Common.{◌≡◌, ℕ, zero, suc, ◌<◌, ◌⊎◌, inl, inr, true, List, [], ◌∷◌, ◌++◌, length, drop, Some, refl, sym, ap, ◌∙◌, subst, arith}
+use Rattle.std.proofs.Common.{◌≡◌, ℕ, zero, suc, ◌<◌, ◌⊎◌, inl, inr, true, List, [], ◌∷◌, ◌++◌, length, drop, Some}
+use Rattle.std.proofs.Common.{refl, sym, ap, ◌∙◌, subst, arith}
 use Rattle.std.specs.Prelude.{All}
 use Rattle.std.proofs.lemmas.Bool.{cond-true}
 use Rattle.std.proofs.lemmas.List.Elements.{All-head, All-tail}
@@ -10,12 +11,17 @@ use Rattle.lis_link.specs.declared.sender.Outcome.TheVariants.{TimedOut}
 use Rattle.lis_link.specs.declared.sender.StartFault.TheVariants.{InSession}
 use Rattle.lis_link.specs.Sender.{SenderState, over, start_fault, start_fault_in, timer_in}
 use Rattle.lis_world.specs.declared.event.Event.{Event}
-use Rattle.lis_world.specs.declared.event.Event.TheVariants.{Start, Deliver, DeliverNoRoom, Damage, Lose, Reply, DamageReply, LoseReply, SenderTimer, ReceiverTimer, RestartSender, RestartReceiver, Ready, Busy, Contending}
+use Rattle.lis_world.specs.declared.event.Event.TheVariants.{Start, Deliver, DeliverNoRoom, Damage, Lose, Reply}
+use Rattle.lis_world.specs.declared.event.Event.TheVariants.{DamageReply, LoseReply, SenderTimer, ReceiverTimer}
+use Rattle.lis_world.specs.declared.event.Event.TheVariants.{RestartSender, RestartReceiver, Ready, Busy, Contending}
 use Rattle.lis_world.specs.Unit.{ending, one_frame, Travelling, load_bytes}
 use Rattle.lis_world.specs.Session.{Session, session_at, changed, follows}
 use Rattle.lis_world.specs.World.{World, Desk, desk_of, hears, replies_with, settled}
-use Rattle.lis_world.specs.Steps.{placed, with_sender, sender_steps, begins, delivered, delivered_no_room, is_noticed, damaged, lost, replied, reply_damaged, reply_lost, forgotten, given_up, after_event, runs, world}
-use Rattle.lis_world.specs.Recovery.{Loss, unit_is_lost, unit_is_unheard, reply_is_lost, loss_events, IsUnheard, IsAwaitingOne, is_other, IsTimedOut, lost_events, OvercomesLoss}
+use Rattle.lis_world.specs.Steps.{placed, with_sender, sender_steps, begins, delivered, delivered_no_room, is_noticed}
+use Rattle.lis_world.specs.Steps.{damaged, lost, replied, reply_damaged, reply_lost, forgotten, given_up, after_event}
+use Rattle.lis_world.specs.Steps.{runs, world}
+use Rattle.lis_world.specs.Recovery.{Loss, unit_is_lost, unit_is_unheard, reply_is_lost, loss_events, IsUnheard}
+use Rattle.lis_world.specs.Recovery.{IsAwaitingOne, is_other, IsTimedOut, lost_events, OvercomesLoss}
 use Rattle.lis_world.proofs.SessionLemmas.{length-changed, at-changed_same}
 use Rattle.lis_world.proofs.Invariant.{Bids, BidAnswer, FrameAnswer, IsAwaiting, InPhase, Holds, AreKept}
 use Rattle.lis_world.proofs.Arrival.{kept_refl}
@@ -37,7 +43,8 @@ no_reply_yet : (limit : ℕ) (w : World) (u : Travelling) → Holds limit w → 
 no_reply_yet limit w u h (inl bids) alone = go (subst (λ p. InPhase p w) bids h.phase).traffic
   where
     go :
-        ((w.replies ≡ []) × Bids w.current (drop w.mute w.units)) ⊎ ((w.units ≡ []) × BidAnswer w.replies w.receiver.is_open w.opened w.current)
+        ((w.replies ≡ []) × Bids w.current (drop w.mute w.units)) ⊎
+        ((w.units ≡ []) × BidAnswer w.replies w.receiver.is_open w.opened w.current)
         → w.replies ≡ []
     go (inl none) = none.0
     go (inr answered) = absurd (none_is_some w.units u answered.0 alone)
@@ -60,7 +67,8 @@ one_reply_left : (limit : ℕ) (w : World) → Holds limit w → Awaits w → w.
 one_reply_left limit w h (inl bids) none = go (subst (λ p. InPhase p w) bids h.phase).traffic
   where
     go :
-        ((w.replies ≡ []) × Bids w.current (drop w.mute w.units)) ⊎ ((w.units ≡ []) × BidAnswer w.replies w.receiver.is_open w.opened w.current)
+        ((w.replies ≡ []) × Bids w.current (drop w.mute w.units)) ⊎
+        ((w.units ≡ []) × BidAnswer w.replies w.receiver.is_open w.opened w.current)
         → AtMostOne w.replies
     go (inl no_reply) = inl no_reply.0
     go (inr answered) = inr (answered.1.0, answered.1.1)
@@ -119,7 +127,8 @@ quiet_replies (suc mute) caused replies quiet none = none
 
 cut_settled :
     (limit : ℕ) (w v : World) (d : Desk)
-    → Awaits w → w.replies ≡ [] → d.replies ≡ [] → AreKept w.sessions d.sessions → Holds limit v → v ≡ settled [] d w → IsCutOff limit w v
+    → Awaits w → w.replies ≡ [] → d.replies ≡ [] → AreKept w.sessions d.sessions → Holds limit v
+    → v ≡ settled [] d w → IsCutOff limit w v
 cut_settled limit w v d awaits none quiet kept h is =
     record {
       gone = gone_settled limit w v d awaits kept h is;
@@ -135,7 +144,8 @@ unheard :
     (limit s : ℕ) (bytes : List ℕ) (w : World) → signals_after limit w.receiver.past bytes ≡ []
     → IsUntouched w.sessions (hears limit s bytes (desk_of w))
 unheard limit s bytes w none =
-    by_signals (IsUntouched w.sessions) limit s bytes (desk_of w) [] none (record { quiet = refl; kept = kept_refl w.sessions })
+    by_signals (IsUntouched w.sessions) limit s bytes (desk_of w) [] none
+    (record { quiet = refl; kept = kept_refl w.sessions })
 
 cut_unheard :
     (limit : ℕ) (w : World) (u : Travelling) (bytes : List ℕ)
@@ -145,7 +155,8 @@ cut_unheard limit w u bytes is_limit h awaits alone none =
     let after : Desk = hears limit u.session bytes (desk_of w) in
     let untouched = unheard limit u.session bytes w none in
     let noticed : is_noticed u.load (signals_after limit w.receiver.past bytes) ≡ true = ap (is_noticed u.load) none in
-    cut_settled limit w (after_event limit (Damage bytes) w) after awaits (no_reply_yet limit w u h awaits alone) untouched.quiet untouched.kept
+    cut_settled limit w (after_event limit (Damage bytes) w) after awaits (no_reply_yet limit w u h awaits alone)
+    untouched.quiet untouched.kept
     (event_holds limit (Damage bytes) w is_limit h)
     (ap (λ us. damaged limit bytes us w) alone
     ∙ cond-true (is_noticed u.load (signals_after limit w.receiver.past bytes)) (settled [] after w) w noticed)
@@ -179,19 +190,23 @@ gone_delivered :
 gone_delivered limit w u is_limit h awaits alone =
     let left =
     left_delivered limit u.session u.load (desk_of w) is_limit (side_of limit w h) (leads_of limit w u [] h alone) in
-    gone_settled limit w (after_event limit Deliver w) (hears limit u.session (load_bytes u.load) (desk_of w)) awaits left.kept
+    gone_settled limit w (after_event limit Deliver w) (hears limit u.session (load_bytes u.load) (desk_of w))
+    awaits left.kept
     (event_holds limit Deliver w is_limit h) (ap (λ us. delivered limit us w) alone)
 
 cut_off :
     (limit : ℕ) (loss : Loss) (w : World)
-    → IsLimit limit → Holds limit w → IsAwaitingOne w → IsUnheard limit w loss → IsCutOff limit w (runs limit (loss_events loss) w)
+    → IsLimit limit → Holds limit w → IsAwaitingOne w → IsUnheard limit w loss
+    → IsCutOff limit w (runs limit (loss_events loss) w)
 cut_off limit unit_is_lost w is_limit h one silent =
-    cut_settled limit w (after_event limit Lose w) (desk_of w) one.awaits (no_reply_yet limit w one.unit h one.awaits one.alone) refl (kept_refl w.sessions)
+    cut_settled limit w (after_event limit Lose w) (desk_of w) one.awaits
+    (no_reply_yet limit w one.unit h one.awaits one.alone) refl (kept_refl w.sessions)
     (event_holds limit Lose w is_limit h) (ap (λ us. lost us w) one.alone)
 cut_off limit (unit_is_unheard bytes) w is_limit h one silent =
     cut_unheard limit w one.unit bytes is_limit h one.awaits one.alone silent
 cut_off limit reply_is_lost w is_limit h one silent =
-    lost_behind limit w (after_event limit Deliver w) is_limit (gone_delivered limit w one.unit is_limit h one.awaits one.alone)
+    lost_behind limit w (after_event limit Deliver w) is_limit
+    (gone_delivered limit w one.unit is_limit h one.awaits one.alone)
 
 -- ---- nothing but the sender's timer and its restart moves it
 
@@ -255,7 +270,8 @@ cut_still limit Contending w v is_limit other cut =
 
 cut_on :
     (limit : ℕ) (others : List Event) (w v : World)
-    → IsLimit limit → All (λ event. is_other event ≡ true) others → IsCutOff limit w v → IsCutOff limit w (runs limit others v)
+    → IsLimit limit → All (λ event. is_other event ≡ true) others → IsCutOff limit w v
+    → IsCutOff limit w (runs limit others v)
 cut_on limit [] w v is_limit all cut = cut
 cut_on limit (event ∷ others) w v is_limit all cut =
     cut_on limit others w (after_event limit event v) is_limit (All-tail (λ e. is_other e ≡ true) event others all)
@@ -300,7 +316,8 @@ timed_out_of limit w v cut =
 
 lost_runs :
     (limit : ℕ) (loss : Loss) (others : List Event) (w : World)
-    → runs limit (lost_events loss others) w ≡ after_event limit SenderTimer (runs limit others (runs limit (loss_events loss) w))
+    → runs limit (lost_events loss others) w ≡ after_event limit SenderTimer
+    (runs limit others (runs limit (loss_events loss) w))
 lost_runs limit loss others w =
     runs-append limit (loss_events loss) (others ++ SenderTimer ∷ []) w
     ∙ runs-append limit others (SenderTimer ∷ []) (runs limit (loss_events loss) w)
@@ -318,8 +335,10 @@ timed_out limit events others loss is_limit one silent all =
     let v : World = runs limit others (runs limit (loss_events loss) w) in
     let cut =
     cut_on limit others w (runs limit (loss_events loss) w) is_limit all (cut_off limit loss w is_limit h one silent) in
-    let is : world limit (events ++ lost_events loss others) ≡ placed ending (with_sender (over TimedOut v.sender) (forgotten v)) =
-    world-append limit events (lost_events loss others) ∙ lost_runs limit loss others w ∙ timed_is limit v cut.gone.awaits in
+    let is : world limit (events ++ lost_events loss others)
+    ≡ placed ending (with_sender (over TimedOut v.sender) (forgotten v)) =
+    world-append limit events (lost_events loss others) ∙ lost_runs limit loss others w
+    ∙ timed_is limit v cut.gone.awaits in
     subst (IsTimedOut w) (sym is) (timed_out_of limit w v cut)
 
 pub overcomes_loss : (limit : ℕ) → IsLimit limit → OvercomesLoss limit

@@ -1,5 +1,6 @@
 -- What the program that plays events keeps is the computer's side of the definition.
-use Rattle.std.proofs.Common.{IsOk, ◌≡◌, ◌≢◌, ℕ, suc, ◌+◌, Bool, true, false, List, [], ◌∷◌, Option, None, Some, OnOk, drop, refl, sym, ap, ◌∙◌, subst, arith}
+use Rattle.std.proofs.Common.{IsOk, ◌≡◌, ◌≢◌, ℕ, suc, ◌+◌, Bool, true, false, List, [], ◌∷◌, Option, None, Some, OnOk}
+use Rattle.std.proofs.Common.{drop, refl, sym, ap, ◌∙◌, subst, arith}
 use Rattle.std.specs.Prelude.{Result, Ok, Err}
 use Rattle.lis_text.specs.Control.{ENQ, EOT}
 use Rattle.lis_frame.specs.declared.scanner.SignalOf.{SignalOf}
@@ -13,7 +14,8 @@ use Rattle.lis_link.specs.declared.receiver.Readiness.TheVariants.{Ready}
 use Rattle.lis_link.specs.declared.receiver.Note.{Note}
 use Rattle.lis_link.specs.declared.receiver.Note.TheVariants.{Accepted, Duplicate, Opened, OutOfMemory, Quiet}
 use Rattle.lis_link.specs.declared.receiver.Step.{Step}
-use Rattle.lis_link.specs.Receiver.{ReceiverState, ReceiverStep, ReceiverHearing, bid_with, judged, on_judged, heard_by, heard, on_byte, on_bytes, heard_on, with_heard, with_room}
+use Rattle.lis_link.specs.Receiver.{ReceiverState, ReceiverStep, ReceiverHearing, bid_with, judged, on_judged, heard_by}
+use Rattle.lis_link.specs.Receiver.{heard, on_byte, on_bytes, heard_on, with_heard, with_room}
 use Rattle.lis_link.specs.inside.Kept.{Kept}
 use Rattle.lis_link.specs.inside.Stands.{IsIn, IsStep, Makes}
 use Rattle.lis_link.proofs.HearingLaws.{on_byte-quiet}
@@ -24,8 +26,10 @@ use Rattle.lis_link.specs.Sender.{SenderState, SenderStep, on_sender_timer}
 use Rattle.lis_world.specs.declared.event.Event.{Event}
 use Rattle.lis_world.specs.Unit.{Load, one_frame}
 use Rattle.lis_world.specs.World.{World, Desk, new_world, booked, noted, hears}
-use Rattle.lis_world.specs.Steps.{emitted, with_sender, sender_steps, given_up, after_event, is_noticed, room_at, runs, world}
-use Rattle.lis_world.specs.inside.Playing.{KeptWorld, world_at, IsWorld, IsPlaying, kept_given_up, KeptDesk, desk_at, IsDesk, OnlyLoad, IsLoad, TakesLoad}
+use Rattle.lis_world.specs.Steps.{emitted, with_sender, sender_steps, given_up, after_event, is_noticed, room_at, runs}
+use Rattle.lis_world.specs.Steps.{world}
+use Rattle.lis_world.specs.inside.Playing.{KeptWorld, world_at, IsWorld, IsPlaying, kept_given_up, KeptDesk, desk_at}
+use Rattle.lis_world.specs.inside.Playing.{IsDesk, OnlyLoad, IsLoad, TakesLoad}
 
 -- what is accepted is a good frame that was heard
 record IsGood {limit : ℕ} (signal : Option (SignalOf limit)) (step : ReceiverStep) : Type 0 where
@@ -36,15 +40,18 @@ record IsGood {limit : ℕ} (signal : Option (SignalOf limit)) (step : ReceiverS
 abbrev IsHeardAs : {limit : ℕ} → Option (SignalOf limit) → ReceiverStep → Type 0
 IsHeardAs signal step = (number : ℕ) → step.note ≡ Accepted number → IsGood signal step
 
-judged_as : {limit : ℕ} (r : ReceiverState) (frame : FrameContent) (note : Note) → IsHeardAs {limit = limit} (Some (Good frame)) (on_judged r frame note)
+judged_as : {limit : ℕ} (r : ReceiverState) (frame : FrameContent) (note : Note)
+    → IsHeardAs {limit = limit} (Some (Good frame)) (on_judged r frame note)
 judged_as r frame (Accepted n) number e = record { frame = frame; signal_is = refl; taken_is = refl }
 judged_as r frame _ number e = absurd cc
 
-bid_as : {limit : ℕ} (signal : Option (SignalOf limit)) (r : ReceiverState) (readiness : Readiness) → IsHeardAs signal (bid_with readiness r)
+bid_as : {limit : ℕ} (signal : Option (SignalOf limit)) (r : ReceiverState) (readiness : Readiness)
+    → IsHeardAs signal (bid_with readiness r)
 bid_as signal r Ready number e = absurd cc
 bid_as signal r _ number e = absurd cc
 
-heard_by_as : {limit : ℕ} (is_open : Bool) (signal : SignalOf limit) (r : ReceiverState) → IsHeardAs (Some signal) (heard_by is_open signal r)
+heard_by_as : {limit : ℕ} (is_open : Bool) (signal : SignalOf limit) (r : ReceiverState)
+    → IsHeardAs (Some signal) (heard_by is_open signal r)
 heard_by_as true Enq r = bid_as (Some Enq) r r.readiness
 heard_by_as true Eot r = λ number e. absurd cc
 heard_by_as true (Good frame) r = judged_as r frame (judged r frame)
@@ -68,7 +75,8 @@ judged-past r frame (Accepted n) = refl
 judged-past r frame (Duplicate n) = refl
 judged-past r frame _ = refl
 
-heard_by-past : {limit : ℕ} (is_open : Bool) (signal : SignalOf limit) (r : ReceiverState) → (heard_by is_open signal r).after.past ≡ r.past
+heard_by-past : {limit : ℕ} (is_open : Bool) (signal : SignalOf limit) (r : ReceiverState)
+    → (heard_by is_open signal r).after.past ≡ r.past
 heard_by-past true Enq r = bid-past r.readiness r
 heard_by-past true Eot r = refl
 heard_by-past true (Good frame) r = judged-past r frame (judged r frame)
@@ -89,7 +97,8 @@ noted-receiver s step kept p q Opened = refl
 noted-receiver s step kept p q (Accepted n) = refl
 noted-receiver s step kept p q _ = refl
 
-noted-same : (s : ℕ) (step : ReceiverStep) (kept : KeptDesk) (p q : ReceiverState) (note : Note) → noted s step note (desk_at kept p) ≡ noted s step note (desk_at kept q)
+noted-same : (s : ℕ) (step : ReceiverStep) (kept : KeptDesk) (p q : ReceiverState) (note : Note)
+    → noted s step note (desk_at kept p) ≡ noted s step note (desk_at kept q)
 noted-same s step kept p q Opened = refl
 noted-same s step kept p q (Accepted n) = refl
 noted-same s step kept p q _ = refl
@@ -100,13 +109,15 @@ noted_after s step d (Accepted n) = refl
 noted_after s step d _ = refl
 
 later_signals :
-    {limit : ℕ} (load : Load) (signal : Option (SignalOf limit)) (signals : List (SignalOf limit)) → OnlyLoad load (with_signal signal signals) →
+    {limit : ℕ} (load : Load) (signal : Option (SignalOf limit)) (signals : List (SignalOf limit))
+    → OnlyLoad load (with_signal signal signals) →
     OnlyLoad load signals
 later_signals load None signals h = h
 later_signals load (Some signal) signals h = h.1
 
 good_is_load :
-    {limit : ℕ} (load : Load) (signal : Option (SignalOf limit)) (signals : List (SignalOf limit)) (step : ReceiverStep) →
+    {limit : ℕ} (load : Load) (signal : Option (SignalOf limit)) (signals : List (SignalOf limit))
+    (step : ReceiverStep) →
     OnlyLoad load (with_signal signal signals) → IsGood signal step → IsLoad load step
 good_is_load {limit} load signal signals step h good =
     let here = subst (λ x. OnlyLoad load (with_signal x signals)) good.signal_is h in
@@ -119,17 +130,21 @@ record HearsAtOnce (limit s : ℕ) (load : Load) (bytes : List ℕ) (d : Desk) (
   later : OnlyLoad load (signals_after limit heard_it.step.after.past (drop heard_it.count bytes))
 
 hears_at_once :
-    (limit s : ℕ) (load : Load) (bytes : List ℕ) (r : ReceiverState) (kept : KeptDesk) → OnlyLoad load (signals_after limit r.past bytes) →
+    (limit s : ℕ) (load : Load) (bytes : List ℕ) (r : ReceiverState) (kept : KeptDesk)
+    → OnlyLoad load (signals_after limit r.past bytes) →
     HearsAtOnce limit s load bytes (desk_at kept r) (on_bytes limit bytes r)
 hears_at_once limit s load [] r kept only = record { goes_on = refl; takes = λ number e. absurd cc; later = only }
 hears_at_once limit s load (b ∷ bytes) r kept only =
     by (on_byte limit b r).note refl
-    (hears_at_once limit s load bytes (with_heard (b ∷ []) r) kept (later_signals load (signal_after limit r.past b) (signals_after limit (b ∷ r.past) bytes) only))
+    (hears_at_once limit s load bytes (with_heard (b ∷ []) r) kept
+    (later_signals load (signal_after limit r.past b) (signals_after limit (b ∷ r.past) bytes) only))
   where
     by :
         (note : Note) → (on_byte limit b r).note ≡ note →
-        HearsAtOnce limit s load bytes (desk_at kept (with_heard (b ∷ []) r)) (on_bytes limit bytes (with_heard (b ∷ []) r)) →
-        HearsAtOnce limit s load (b ∷ bytes) (desk_at kept r) (heard_on 1 note (on_byte limit b r) (on_bytes limit bytes (with_heard (b ∷ []) r)))
+        HearsAtOnce limit s load bytes (desk_at kept (with_heard (b ∷ []) r))
+        (on_bytes limit bytes (with_heard (b ∷ []) r)) →
+        HearsAtOnce limit s load (b ∷ bytes) (desk_at kept r)
+        (heard_on 1 note (on_byte limit b r) (on_bytes limit bytes (with_heard (b ∷ []) r)))
     by Quiet e behind =
         let next : ReceiverState = with_heard (b ∷ []) r in
         let heard_it : ReceiverHearing = on_bytes limit bytes next in
@@ -141,10 +156,12 @@ hears_at_once limit s load (b ∷ bytes) r kept only =
           goes_on =
               ap (hears limit s bytes) desk_is
               ∙ behind.goes_on
-              ∙ ap (hears limit s (drop heard_it.count bytes)) (noted-same s heard_it.step kept next r heard_it.step.note)
+              ∙ ap (hears limit s (drop heard_it.count bytes))
+              (noted-same s heard_it.step kept next r heard_it.step.note)
               ∙ ap (λ n. hears limit s (drop n (b ∷ bytes)) (booked s heard_it.step (desk_at kept r))) count_is;
           takes = behind.takes;
-          later = subst (λ n. OnlyLoad load (signals_after limit heard_it.step.after.past (drop n (b ∷ bytes)))) count_is behind.later;
+          later = subst (λ n. OnlyLoad load (signals_after limit heard_it.step.after.past (drop n (b ∷ bytes))))
+              count_is behind.later;
         }
     by note e behind =
         let signal : Option (SignalOf limit) = signal_after limit r.past b in
@@ -152,7 +169,8 @@ hears_at_once limit s load (b ∷ bytes) r kept only =
         let signals : List (SignalOf limit) = signals_after limit (b ∷ r.past) bytes in
         record {
           goes_on = refl;
-          takes = λ number accepted. good_is_load load signal signals (on_byte limit b r) only (heard_as signal next number accepted);
+          takes = λ number accepted. good_is_load load signal signals (on_byte limit b r) only
+              (heard_as signal next number accepted);
           later =
               subst (λ past. OnlyLoad load (signals_after limit past bytes)) (sym (heard-past signal next))
               (later_signals load signal signals only);
@@ -186,17 +204,20 @@ heard_desk limit s load old heard_it new r step result takes makes same_desk sam
     let after : goal.receiver ≡ step.after = noted_after s step (desk_at old r) step.note in
     record {
       receiver_is =
-          subst (λ k. IsIn limit k goal.receiver) (sym same_receiver) (subst (λ q. IsIn limit heard_it.receiver q) (sym after) makes.state);
+          subst (λ k. IsIn limit k goal.receiver) (sym same_receiver)
+          (subst (λ q. IsIn limit heard_it.receiver q) (sym after) makes.state);
       desk_is = ap (desk_at new) after ∙ here;
     }
 
 -- bytes that were heard at once, where memory was not refused
 pub hearing_next :
-    {A E : Type 0} (outcome : Result A E) (limit s : ℕ) (load : Load) (left : List ℕ) (goal : Desk) (old heard_it new : KeptDesk) (result : Hearing)
+    {A E : Type 0} (outcome : Result A E) (limit s : ℕ) (load : Load) (left : List ℕ) (goal : Desk)
+    (old heard_it new : KeptDesk) (result : Hearing)
     → (hearing : IsHearing limit s load old left goal)
     → result.count ≡ (on_bytes limit left hearing.state).count
     → OnOk outcome (result.step.note ≢ OutOfMemory)
-    → (result.step.note ≢ OutOfMemory → Makes limit (on_bytes limit left hearing.state).step result.step heard_it.receiver)
+    → (result.step.note ≢ OutOfMemory → Makes limit (on_bytes limit left hearing.state).step result.step
+    heard_it.receiver)
     → heard_it ≡ record old { receiver = heard_it.receiver }
     → new.receiver ≡ heard_it.receiver
     → ((meant : ReceiverStep) (q : ReceiverState)
@@ -205,29 +226,35 @@ pub hearing_next :
     → OnOk outcome (desk_at new q ≡ record (booked s meant (desk_at heard_it q)) { receiver = q }))
     → IsOk outcome
     → IsHearing limit s load new (drop result.count left) goal
-hearing_next (Ok x) limit s load left goal old heard_it new result hearing count_is memory makes same_desk same_receiver is_booked is_ok =
+hearing_next (Ok x) limit s load left goal old heard_it new result hearing count_is memory makes same_desk
+    same_receiver is_booked is_ok =
     let meant : ReceiverHearing = on_bytes limit left hearing.state in
     let at_once = hears_at_once limit s load left hearing.state old hearing.only in
-    let desk = heard_desk limit s load old heard_it new hearing.state meant.step result.step at_once.takes (makes memory) same_desk same_receiver is_booked in
+    let desk = heard_desk limit s load old heard_it new hearing.state meant.step result.step at_once.takes
+    (makes memory) same_desk same_receiver is_booked in
     let booked_it : Desk = booked s meant.step (desk_at old hearing.state) in
-    let after : booked_it.receiver ≡ meant.step.after = noted_after s meant.step (desk_at old hearing.state) meant.step.note in
+    let after : booked_it.receiver ≡ meant.step.after =
+    noted_after s meant.step (desk_at old hearing.state) meant.step.note in
     record {
       state = booked_it.receiver;
       is_in = desk.receiver_is;
       only =
           subst (λ n. OnlyLoad load (signals_after limit booked_it.receiver.past (drop n left))) (sym count_is)
-          (subst (λ (q : ReceiverState). OnlyLoad load (signals_after limit q.past (drop meant.count left))) (sym after) at_once.later);
+          (subst (λ (q : ReceiverState). OnlyLoad load (signals_after limit q.past (drop meant.count left)))
+          (sym after) at_once.later);
       goes_on =
           ap (hears limit s (drop result.count left)) desk.desk_is
           ∙ ap (λ n. hears limit s (drop n left) booked_it) count_is
           ∙ sym at_once.goes_on
           ∙ hearing.goes_on;
     }
-hearing_next (Err e) limit s load left goal old heard_it new result hearing count_is memory makes same_desk same_receiver is_booked is_ok = absurd cc
+hearing_next (Err e) limit s load left goal old heard_it new result hearing count_is memory makes same_desk
+    same_receiver is_booked is_ok = absurd cc
 
 -- all bytes were heard
 pub heard_all :
-    (limit s : ℕ) (load : Load) (kept : KeptDesk) (left : List ℕ) (goal : Desk) → IsHearing limit s load kept left goal → left ≡ [] → IsDesk limit kept goal
+    (limit s : ℕ) (load : Load) (kept : KeptDesk) (left : List ℕ) (goal : Desk)
+    → IsHearing limit s load kept left goal → left ≡ [] → IsDesk limit kept goal
 heard_all limit s load kept left goal h none =
     let e : desk_at kept h.state ≡ goal = subst (λ xs. hears limit s xs (desk_at kept h.state) ≡ goal) none h.goes_on in
     subst (λ d. IsDesk limit kept d) e (record { receiver_is = h.is_in; desk_is = refl })
@@ -256,9 +283,11 @@ pub frame_only :
     (limit : ℕ) (load : Load) (past : List ℕ) (frame : FrameContent) → load ≡ one_frame frame → IsContent limit frame →
     OnlyLoad load (signals_after limit past (frame_bytes frame))
 frame_only limit load past frame load_is content =
-    subst (λ (signals : List (SignalOf limit)). OnlyLoad load signals) (sym (signals-frame_bytes limit past frame content)) (load_is, tt)
+    subst (λ (signals : List (SignalOf limit)). OnlyLoad load signals)
+    (sym (signals-frame_bytes limit past frame content)) (load_is, tt)
 
-pub with_receiver : (first second : KeptDesk) (kept : Kept) → first ≡ second → record first { receiver = kept } ≡ record second { receiver = kept }
+pub with_receiver : (first second : KeptDesk) (kept : Kept) → first ≡ second
+    → record first { receiver = kept } ≡ record second { receiver = kept }
 with_receiver first second kept same = ap (λ (d : KeptDesk). record d { receiver = kept }) same
 
 -- the receiver was not touched
@@ -273,7 +302,8 @@ is_world limit old new r w is_in same e =
 
 -- bytes that came while there was no room
 pub without_room :
-    {A E : Type 0} (outcome : Result A E) (limit s : ℕ) (bytes : List ℕ) (old without heard_it new : KeptDesk) (r : ReceiverState)
+    {A E : Type 0} (outcome : Result A E) (limit s : ℕ) (bytes : List ℕ) (old without heard_it new : KeptDesk)
+    (r : ReceiverState)
     → IsDesk limit without (room_at false (desk_at old r))
     → ((q : ReceiverState)
     → IsIn limit without.receiver q
@@ -301,35 +331,44 @@ timer_at :
     → (step : SenderStep limit)
     → ((q : ReceiverState)
     → IsIn limit (kept_given_up phase kept).desk.receiver q
-    → OnOk outcome (IsWorld limit new (emitted step.emit (with_sender step.after (world_at (record (kept_given_up phase kept) { sender = step.after }) q)))))
+    → OnOk outcome (IsWorld limit new (emitted step.emit
+    (with_sender step.after (world_at (record (kept_given_up phase kept) { sender = step.after }) q)))))
     → OnOk outcome (IsWorld limit new (sender_steps step (given_up phase (world_at kept r))))
 timer_at outcome limit Phases.Neutral kept new r is_in step stepped = stepped r is_in
 timer_at outcome limit _ kept new r is_in step stepped = stepped r is_in
 
 pub timer_world :
-    {A E : Type 0} (outcome : Result A E) (limit : ℕ) (kept given new : KeptWorld) (r : ReceiverState) (emit : EmitOf limit) (after : SenderState)
+    {A E : Type 0} (outcome : Result A E) (limit : ℕ) (kept given new : KeptWorld) (r : ReceiverState)
+    (emit : EmitOf limit) (after : SenderState)
     → given ≡ kept_given_up kept.sender.phase kept
     → emit ≡ (on_sender_timer {limit = limit} given.sender).emit
     → after ≡ (on_sender_timer {limit = limit} given.sender).after
     → IsIn limit kept.desk.receiver r
     → ((q : ReceiverState)
     → IsIn limit given.desk.receiver q
-    → OnOk outcome (IsWorld limit new (emitted emit (with_sender after (world_at (record given { sender = after }) q)))))
-    → OnOk outcome (IsWorld limit new (sender_steps (on_sender_timer {limit = limit} kept.sender) (given_up kept.sender.phase (world_at kept r))))
+    → OnOk outcome (IsWorld limit new (emitted emit
+    (with_sender after (world_at (record given { sender = after }) q)))))
+    → OnOk outcome (IsWorld limit new (sender_steps (on_sender_timer {limit = limit} kept.sender)
+    (given_up kept.sender.phase (world_at kept r))))
 timer_world outcome limit kept given new r emit after given_is emit_is after_is is_in stepped =
     let step : SenderStep limit = on_sender_timer {limit = limit} kept.sender in
     let up : KeptWorld = kept_given_up kept.sender.phase kept in
-    let sender_is : given.sender ≡ kept.sender = ap (λ (k : KeptWorld). k.sender) given_is ∙ given_up_sender kept.sender.phase kept in
+    let sender_is : given.sender ≡ kept.sender = ap (λ (k : KeptWorld). k.sender) given_is
+    ∙ given_up_sender kept.sender.phase kept in
     let emits : emit ≡ step.emit = emit_is ∙ ap (λ s. (on_sender_timer {limit = limit} s).emit) sender_is in
     let leaves : after ≡ step.after = after_is ∙ ap (λ s. (on_sender_timer {limit = limit} s).after) sender_is in
     timer_at outcome limit kept.sender.phase kept new r is_in step (λ q in_q.
-    subst (λ x. OnOk outcome (IsWorld limit new (emitted x (with_sender step.after (world_at (record up { sender = step.after }) q))))) emits
-    (subst (λ x. OnOk outcome (IsWorld limit new (emitted emit (with_sender x (world_at (record up { sender = x }) q))))) leaves
-    (subst (λ (k : KeptWorld). OnOk outcome (IsWorld limit new (emitted emit (with_sender after (world_at (record k { sender = after }) q))))) given_is
+    subst (λ x. OnOk outcome (IsWorld limit new (emitted x
+    (with_sender step.after (world_at (record up { sender = step.after }) q))))) emits
+    (subst (λ x. OnOk outcome (IsWorld limit new (emitted emit
+    (with_sender x (world_at (record up { sender = x }) q))))) leaves
+    (subst (λ (k : KeptWorld). OnOk outcome (IsWorld limit new
+    (emitted emit (with_sender after (world_at (record k { sender = after }) q))))) given_is
     (stepped q (subst (λ (k : KeptWorld). IsIn limit k.desk.receiver q) (sym given_is) in_q)))))
 
 -- events, one by one
-pub playing_first : (limit : ℕ) (kept : KeptWorld) (events left : List Event) → IsWorld limit kept new_world → left ≡ events → IsPlaying limit kept left (world limit events)
+pub playing_first : (limit : ℕ) (kept : KeptWorld) (events left : List Event) → IsWorld limit kept new_world
+    → left ≡ events → IsPlaying limit kept left (world limit events)
 playing_first limit kept events left is_world all = record {
   state = new_world.receiver;
   is_in = is_world.receiver_is;
@@ -337,7 +376,8 @@ playing_first limit kept events left is_world all = record {
 }
 
 pub playing_next :
-    {A E : Type 0} (outcome : Result A E) (limit : ℕ) (old new : KeptWorld) (event : Event) (left later : List Event) (goal : World)
+    {A E : Type 0} (outcome : Result A E) (limit : ℕ) (old new : KeptWorld) (event : Event)
+    (left later : List Event) (goal : World)
     → left ≡ event ∷ later
     → (playing : IsPlaying limit old left goal)
     → OnOk outcome (IsWorld limit new (after_event limit event (world_at old playing.state)))
@@ -353,6 +393,7 @@ playing_next (Ok x) limit old new event left later goal e playing here is_ok = r
 }
 playing_next (Err x) limit old new event left later goal e playing here is_ok = absurd cc
 
-pub played : (limit : ℕ) (kept : KeptWorld) (left : List Event) (goal : World) → IsPlaying limit kept left goal → left ≡ [] → kept.desk.sessions ≡ goal.sessions
+pub played : (limit : ℕ) (kept : KeptWorld) (left : List Event) (goal : World) → IsPlaying limit kept left goal
+    → left ≡ [] → kept.desk.sessions ≡ goal.sessions
 played limit kept left goal playing none =
     ap (λ (w : World). w.sessions) (ap (λ es. runs limit es (world_at kept playing.state)) (sym none) ∙ playing.goes_on)

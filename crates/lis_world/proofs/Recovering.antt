@@ -12,10 +12,12 @@ use Rattle.lis_world.specs.declared.event.Event.{Event}
 use Rattle.lis_world.specs.declared.event.Event.TheVariants.{SenderTimer, Ready}
 use Rattle.lis_world.specs.Unit.{Travelling}
 use Rattle.lis_world.specs.World.{World, new_world}
-use Rattle.lis_world.specs.Steps.{emitted, with_sender, delivered, delivered_no_room, lost, given_up, after_event, runs, world}
+use Rattle.lis_world.specs.Steps.{emitted, with_sender, delivered, delivered_no_room, lost, given_up, after_event, runs}
+use Rattle.lis_world.specs.Steps.{world}
 use Rattle.lis_frame.specs.Pieces.{session_frames}
 use Rattle.lis_world.specs.Progress.{IsCalm, undisturbed_rounds}
-use Rattle.lis_world.specs.Recovery.{CarriesNext, Leaving, comes, comes_without_room, is_lost, leaving_event, emptying_events, Rest, restart, two_timers, rest_events, Recovers, RecoversQuietly}
+use Rattle.lis_world.specs.Recovery.{CarriesNext, Leaving, comes, comes_without_room, is_lost, leaving_event}
+use Rattle.lis_world.specs.Recovery.{emptying_events, Rest, restart, two_timers, rest_events, Recovers, RecoversQuietly}
 use Rattle.lis_world.proofs.Carrying.{runs-append, carries_through, enough-undisturbed}
 
 -- ---- units leave the link while no session goes on
@@ -104,7 +106,8 @@ pub emptied_carries_next :
     → CarriesNext limit (events ++ emptying_events leavings)
 emptied_carries_next limit events leavings is_limit neutral few =
     carries_next limit (events ++ emptying_events leavings) is_limit
-    (subst IsCalm (sym (world-append limit events (emptying_events leavings))) (calm_emptied limit leavings (world limit events) neutral few))
+    (subst IsCalm (sym (world-append limit events (emptying_events leavings)))
+    (calm_emptied limit leavings (world limit events) neutral few))
 
 -- ---- a sender comes to rest
 
@@ -157,9 +160,11 @@ rested limit two_timers w =
 pub recovers : (limit : ℕ) → IsLimit limit → Recovers limit
 recovers limit is_limit events rest leavings few =
     let neutral : (world limit (events ++ rest_events rest)).sender.phase ≡ Neutral =
-    ap (λ (w : World). w.sender.phase) (world-append limit events (rest_events rest)) ∙ rested limit rest (world limit events) in
+    ap (λ (w : World). w.sender.phase) (world-append limit events (rest_events rest))
+    ∙ rested limit rest (world limit events) in
     emptied_carries_next limit (events ++ rest_events rest) leavings is_limit neutral few
 
 pub recovers_quietly : (limit : ℕ) → IsLimit limit → RecoversQuietly limit
 recovers_quietly limit is_limit events rest leavings texts few are =
-    recovers limit is_limit events rest leavings few texts (undisturbed_rounds (length (session_frames limit texts))) are (enough-undisturbed limit texts)
+    recovers limit is_limit events rest leavings few texts
+    (undisturbed_rounds (length (session_frames limit texts))) are (enough-undisturbed limit texts)

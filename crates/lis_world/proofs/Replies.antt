@@ -1,5 +1,6 @@
 -- A reply comes to the sender, in time; or another byte does, or none.
-use Rattle.std.proofs.Common.{◌≡◌, ℕ, ◌+◌, ◌≤◌, ◌⊎◌, inl, inr, true, false, List, [], ◌∷◌, ◌++◌, length, drop, refl, sym, ap, ◌∙◌, subst, arith}
+use Rattle.std.proofs.Common.{◌≡◌, ℕ, ◌+◌, ◌≤◌, ◌⊎◌, inl, inr, true, false, List, [], ◌∷◌, ◌++◌, length, drop, refl}
+use Rattle.std.proofs.Common.{sym, ap, ◌∙◌, subst, arith}
 use Rattle.std.specs.Prelude.{nat_lt, ◌==◌, ◌||◌}
 use Rattle.std.proofs.lemmas.Bool.{cond_both, or_cases, or_parts, eqb-true, eqb-false}
 use Rattle.std.proofs.lemmas.List.{length_push, append_assoc, drop_all, drop_at}
@@ -11,14 +12,17 @@ use Rattle.lis_link.specs.declared.sender.Phase.TheVariants.{Neutral, AwaitLine,
 use Rattle.lis_link.specs.declared.sender.Outcome.TheVariants.{Done, SixTries}
 use Rattle.lis_link.specs.declared.sender.EmitOf.TheVariants.{Nothing}
 use Rattle.lis_link.specs.declared.sender.EmitOf.TheVariants as Emits
-use Rattle.lis_link.specs.Sender.{SenderState, over, gives, ends, sends, sends_again, is_accepted, reply_in, on_reply, most_tries}
+use Rattle.lis_link.specs.Sender.{SenderState, over, gives, ends, sends, sends_again, is_accepted, reply_in, on_reply}
+use Rattle.lis_link.specs.Sender.{most_tries}
 use Rattle.lis_world.specs.Unit.{one_frame, Travelling}
 use Rattle.lis_world.specs.Session.{session_at, changed, follows}
 use Rattle.lis_world.specs.World.{World}
 use Rattle.lis_world.specs.Steps.{with_sender, sender_steps, replied, reply_damaged, reply_lost}
-use Rattle.lis_world.proofs.Invariant.{Unsent, AllEndings, Bids, IsYes, BidAnswer, FrameAnswer, IsBidding, IsWaiting, IsAwaiting, KeepsFrames, InPhase, Holds, kept_frames}
+use Rattle.lis_world.proofs.Invariant.{Unsent, AllEndings, Bids, IsYes, BidAnswer, FrameAnswer, IsBidding, IsWaiting}
+use Rattle.lis_world.proofs.Invariant.{IsAwaiting, KeepsFrames, InPhase, Holds, kept_frames}
 use Rattle.lis_world.proofs.Arrival.{accepted_of_unsent}
-use Rattle.lis_world.proofs.Base.{base_of, holds_of, CanFollow, base_replies, base_followed, current_followed, unsent_same, are_same_followed}
+use Rattle.lis_world.proofs.Base.{base_of, holds_of, CanFollow, base_replies, base_followed, current_followed}
+use Rattle.lis_world.proofs.Base.{unsent_same, are_same_followed}
 use Rattle.lis_world.proofs.Sending.{ended_with_ending, frame_sent_holds}
 
 -- a reply, however it got there
@@ -36,7 +40,8 @@ can_follow limit w h = record {
       subst (λ n. n ≤ length (session_at w.current w.sessions).accepted) (sym h.current.acknowledged_is)
       (h.sound w.current).acknowledged_of_accepted;
   done_acknowledged = λ done.
-      subst (λ n. length (session_frames limit (session_at w.current w.sessions).texts) ≤ n) (sym h.current.acknowledged_is)
+      subst (λ n. length (session_frames limit (session_at w.current w.sessions).texts) ≤ n)
+      (sym h.current.acknowledged_is)
       ((h.sound w.current).done_acknowledged (sym h.current.outcome_is ∙ done));
 }
 
@@ -100,7 +105,8 @@ line_refused :
     → bs ≡ []
     → KeepsFrames p w.sender.frames (session_frames limit (session_at w.current w.sessions).texts)
     → ((v : World) → IsWaiting v → InPhase p v)
-    → Holds limit (sender_steps {limit = limit} (gives Nothing (record w.sender { phase = p })) (record w { replies = bs }))
+    → Holds limit (sender_steps {limit = limit} (gives Nothing (record w.sender { phase = p }))
+    (record w { replies = bs }))
 line_refused limit w bs p h unsent zero_is no_unit no_reply kept waits =
     let can = can_follow limit w h in
     let sender : SenderState = record w.sender { phase = p } in
@@ -110,10 +116,12 @@ line_refused limit w bs p h unsent zero_is no_unit no_reply kept waits =
       done_acknowledged = can.done_acknowledged;
     } in
     let w1 : World = record w { replies = bs } in
-    holds_of limit (with_sender sender w1) (base_followed limit sender w1 now (base_replies limit bs w (base_of limit w h)))
+    holds_of limit (with_sender sender w1) (base_followed limit sender w1 now
+    (base_replies limit bs w (base_of limit w h)))
     (current_followed limit sender w1 unsent.0 now)
     (waits (with_sender sender w1) (record {
-      unsent = unsent_same w.sessions (changed w.current (follows sender) w.sessions) w.current (are_same_followed w.current sender w.sessions) unsent;
+      unsent = unsent_same w.sessions (changed w.current (follows sender) w.sessions) w.current
+          (are_same_followed w.current sender w.sessions) unsent;
       none_acknowledged = zero_is;
       no_reply = no_reply;
       no_unit = no_unit;
@@ -138,12 +146,17 @@ bid_answered limit b bs w h are kept bidding = go bidding.traffic
     go (inr one) =
         let e : b ∷ bs ≡ one.1.0 ∷ [] = sym are ∙ one.1.1 in
         let no_reply : bs ≡ [] = cc in
-        cond_both (b == ACK) (sends w.sender.frames w.sender) _ (λ step. Holds limit (sender_steps {limit = limit} step (record w { replies = bs })))
-        (λ ack. line_given limit w bs h bidding.unsent bidding.none_acknowledged one.0 no_reply one.1.2 kept w.sender.frames refl)
-        (λ other. cond_both (b == ENQ) (gives Nothing (record w.sender { phase = Contention })) (gives Nothing (record w.sender { phase = Busy }))
+        cond_both (b == ACK) (sends w.sender.frames w.sender) _
         (λ step. Holds limit (sender_steps {limit = limit} step (record w { replies = bs })))
-        (λ enq. line_refused limit w bs Contention h bidding.unsent bidding.none_acknowledged one.0 no_reply kept (λ v waiting. waiting))
-        (λ nak. line_refused limit w bs Busy h bidding.unsent bidding.none_acknowledged one.0 no_reply kept (λ v waiting. waiting)))
+        (λ ack. line_given limit w bs h bidding.unsent bidding.none_acknowledged one.0 no_reply one.1.2 kept
+        w.sender.frames refl)
+        (λ other. cond_both (b == ENQ) (gives Nothing (record w.sender { phase = Contention }))
+        (gives Nothing (record w.sender { phase = Busy }))
+        (λ step. Holds limit (sender_steps {limit = limit} step (record w { replies = bs })))
+        (λ enq. line_refused limit w bs Contention h bidding.unsent bidding.none_acknowledged one.0 no_reply kept
+        (λ v waiting. waiting))
+        (λ nak. line_refused limit w bs Busy h bidding.unsent bidding.none_acknowledged one.0 no_reply kept
+        (λ v waiting. waiting)))
 
 -- a frame was acknowledged
 next_sent :
@@ -156,7 +169,8 @@ next_sent :
     → (session_at w.current w.sessions).accepted ≡ awaiting.before ++ awaiting.frame ∷ []
     → (left : List FrameContent)
     → awaiting.left ≡ left
-    → Holds limit (sender_steps {limit = limit} (sends left (record w.sender { acknowledged = w.sender.acknowledged + 1 })) (record w { replies = bs }))
+    → Holds limit (sender_steps {limit = limit} (sends left
+    (record w.sender { acknowledged = w.sender.acknowledged + 1 })) (record w { replies = bs }))
 next_sent limit w bs h awaiting kept no_unit no_reply accepted [] none =
     let can = can_follow limit w h in
     let before = awaiting.before in
@@ -165,7 +179,8 @@ next_sent limit w bs h awaiting kept no_unit no_reply accepted [] none =
     let frames : session_frames limit (session_at w.current w.sessions).texts ≡ before ++ f ∷ [] =
     sym kept ∙ awaiting.frames_are ∙ ap (λ xs. before ++ f ∷ xs) none in
     let more = length_push before f in
-    ended_with_ending limit (over Done (record w.sender { acknowledged = w.sender.acknowledged + 1 })) (record w { replies = bs })
+    ended_with_ending limit (over Done (record w.sender { acknowledged = w.sender.acknowledged + 1 }))
+    (record w { replies = bs })
     (base_replies limit bs w (base_of limit w h)) awaiting.pending.is_session
     (record {
       frames_are = tt;
@@ -183,7 +198,11 @@ next_sent limit w bs h awaiting kept no_unit no_reply accepted (g ∷ left) some
     let more = length_push before f in
     let frames : w.sender.frames ≡ (before ++ f ∷ []) ++ g ∷ left =
     awaiting.frames_are ∙ ap (λ xs. before ++ f ∷ xs) some ∙ sym (append_assoc before (f ∷ []) (g ∷ left)) in
-    frame_sent_holds limit (record w.sender { acknowledged = w.sender.acknowledged + 1; phase = AwaitReply; tries = 1 }) (record w { replies = bs })
+    frame_sent_holds limit (record w.sender {
+      acknowledged = w.sender.acknowledged + 1;
+      phase = AwaitReply;
+      tries = 1;
+    }) (record w { replies = bs })
     (before ++ f ∷ []) g left
     (base_replies limit bs w (base_of limit w h))
     (record {
@@ -214,12 +233,14 @@ same_sent :
     → w.sender.phase ≡ AwaitReply
     → w.units ≡ []
     → bs ≡ []
-    → Holds limit (sender_steps {limit = limit} (sends_again (awaiting.frame ∷ awaiting.left) w.sender) (record w { replies = bs }))
+    → Holds limit (sender_steps {limit = limit} (sends_again (awaiting.frame ∷ awaiting.left) w.sender)
+    (record w { replies = bs }))
 same_sent limit w bs h awaiting awaits no_unit no_reply =
     let can = can_follow limit w h in
     let again : SenderState = record w.sender { tries = w.sender.tries + 1 } in
     let given_up : SenderState = over SixTries w.sender in
-    cond_both (nat_lt w.sender.tries most_tries) (gives {limit = limit} (Emits.Frame awaiting.frame) again) (ends {limit = limit} SixTries w.sender)
+    cond_both (nat_lt w.sender.tries most_tries) (gives {limit = limit} (Emits.Frame awaiting.frame) again)
+    (ends {limit = limit} SixTries w.sender)
     (λ step. Holds limit (sender_steps {limit = limit} step (record w { replies = bs })))
     (λ few. frame_sent_holds limit again (record w { replies = bs }) awaiting.before awaiting.frame awaiting.left
     (base_replies limit bs w (base_of limit w h))
@@ -265,13 +286,16 @@ frame_answered limit b bs w h are awaits awaiting = go awaiting.traffic
 
     left_then : drop (w.sender.acknowledged + 1) w.sender.frames ≡ awaiting.left
     left_then =
-        let frames : w.sender.frames ≡ (before ++ f ∷ []) ++ awaiting.left = awaiting.frames_are ∙ sym (append_assoc before (f ∷ []) awaiting.left) in
+        let frames : w.sender.frames ≡ (before ++ f ∷ []) ++ awaiting.left =
+        awaiting.frames_are ∙ sym (append_assoc before (f ∷ []) awaiting.left) in
         let counted = awaiting.acknowledged_is in
         let more = length_push before f in
-        ap (drop (w.sender.acknowledged + 1)) frames ∙ drop_at (before ++ f ∷ []) awaiting.left (w.sender.acknowledged + 1) (omega arith)
+        ap (drop (w.sender.acknowledged + 1)) frames
+        ∙ drop_at (before ++ f ∷ []) awaiting.left (w.sender.acknowledged + 1) (omega arith)
 
     same_then : drop w.sender.acknowledged w.sender.frames ≡ f ∷ awaiting.left
-    same_then = ap (drop w.sender.acknowledged) awaiting.frames_are ∙ drop_at before (f ∷ awaiting.left) w.sender.acknowledged (sym awaiting.acknowledged_is)
+    same_then = ap (drop w.sender.acknowledged) awaiting.frames_are
+        ∙ drop_at before (f ∷ awaiting.left) w.sender.acknowledged (sym awaiting.acknowledged_is)
 
     one_answer :
         w.units ≡ []
@@ -279,12 +303,15 @@ frame_answered limit b bs w h are awaits awaiting = go awaiting.traffic
         → (IsYes b → (session_at w.current w.sessions).accepted ≡ before ++ f ∷ [])
         → Replied limit AwaitReply b bs w
     one_answer no_unit no_reply accepted =
-        cond_both (b == ACK || b == EOT) (is_accepted {limit = limit} w.sender) (sends_again {limit = limit} (drop w.sender.acknowledged w.sender.frames) w.sender)
+        cond_both (b == ACK || b == EOT) (is_accepted {limit = limit} w.sender)
+        (sends_again {limit = limit} (drop w.sender.acknowledged w.sender.frames) w.sender)
         (λ step. Holds limit (sender_steps {limit = limit} step (record w { replies = bs })))
         (λ yes.
-        subst (λ xs. Holds limit (sender_steps {limit = limit} (sends xs (record w.sender { acknowledged = w.sender.acknowledged + 1 })) (record w { replies = bs })))
+        subst (λ xs. Holds limit (sender_steps {limit = limit}
+        (sends xs (record w.sender { acknowledged = w.sender.acknowledged + 1 })) (record w { replies = bs })))
         (sym left_then)
-        (next_sent limit w bs h awaiting (kept_frames limit w AwaitReply h awaits) no_unit no_reply (accepted (is_yes (or_cases (b == ACK) (b == EOT) yes))) awaiting.left refl))
+        (next_sent limit w bs h awaiting (kept_frames limit w AwaitReply h awaits) no_unit no_reply
+        (accepted (is_yes (or_cases (b == ACK) (b == EOT) yes))) awaiting.left refl))
         (λ no.
         subst (λ xs. Holds limit (sender_steps {limit = limit} (sends_again xs w.sender) (record w { replies = bs })))
         (sym same_then)
@@ -305,7 +332,8 @@ frame_answered limit b bs w h are awaits awaiting = go awaiting.traffic
         let e : b ∷ bs ≡ one.0 ∷ [] = sym are ∙ one.1 in
         let no_reply : bs ≡ [] = cc in
         let same : one.0 ≡ b = cc in
-        one_answer no_unit no_reply (subst (λ n. IsYes n → (session_at w.current w.sessions).accepted ≡ before ++ f ∷ []) same one.2)
+        one_answer no_unit no_reply (subst (λ n. IsYes n
+        → (session_at w.current w.sessions).accepted ≡ before ++ f ∷ []) same one.2)
 
     go :
         ((w.units ≡ record { session = w.current; load = one_frame f } ∷ []) × (w.replies ≡ []))
@@ -326,7 +354,8 @@ reply_phase :
 reply_phase limit b bs w Neutral h are is resting =
     let e : b ∷ bs ≡ [] = sym are ∙ resting.no_reply in
     absurd (cc)
-reply_phase limit b bs w AwaitLine h are is bidding = bid_answered limit b bs w h are (kept_frames limit w AwaitLine h is) bidding
+reply_phase limit b bs w AwaitLine h are is bidding =
+    bid_answered limit b bs w h are (kept_frames limit w AwaitLine h is) bidding
 reply_phase limit b bs w Busy h are is waiting =
     let e : b ∷ bs ≡ [] = sym are ∙ waiting.no_reply in
     absurd (cc)
@@ -335,7 +364,8 @@ reply_phase limit b bs w Contention h are is waiting =
     absurd (cc)
 reply_phase limit b bs w AwaitReply h are is awaiting = frame_answered limit b bs w h are is awaiting
 
-pub replied_holds : (limit : ℕ) (replies : List ℕ) (w : World) → w.replies ≡ replies → Holds limit w → Holds limit (replied limit replies w)
+pub replied_holds : (limit : ℕ) (replies : List ℕ) (w : World) → w.replies ≡ replies → Holds limit w
+    → Holds limit (replied limit replies w)
 replied_holds limit [] w are h = h
 replied_holds limit (b ∷ bs) w are h = reply_phase limit b bs w w.sender.phase h are refl h.phase
 
@@ -407,10 +437,12 @@ is_no d e (inl same) = eqb-false d ACK (or_parts (d == ACK) (d == EOT) e).0 same
 is_no d e (inr same) = eqb-false d EOT (or_parts (d == ACK) (d == EOT) e).1 same
 
 pub reply_damaged_holds :
-    (limit : ℕ) (d : ℕ) (replies : List ℕ) (w : World) → w.replies ≡ replies → Holds limit w → Holds limit (reply_damaged limit d replies w)
+    (limit : ℕ) (d : ℕ) (replies : List ℕ) (w : World) → w.replies ≡ replies → Holds limit w
+    → Holds limit (reply_damaged limit d replies w)
 reply_damaged_holds limit d [] w are h = h
 reply_damaged_holds limit d (b ∷ bs) w are h =
-    cond_both (d == ACK || d == EOT) w (sender_steps {limit = limit} (on_reply d w.sender) (record w { replies = bs })) (Holds limit)
+    cond_both (d == ACK || d == EOT) w (sender_steps {limit = limit} (on_reply d w.sender)
+    (record w { replies = bs })) (Holds limit)
     (λ yes. h)
     (λ no.
     let w1 : World = record w { replies = d ∷ bs } in
@@ -428,7 +460,11 @@ without_reply limit b bs w Neutral are resting =
     let e : b ∷ bs ≡ [] = sym are ∙ resting.no_reply in
     absurd (cc)
 without_reply limit b bs w AwaitLine are bidding =
-    record { unsent = bidding.unsent; none_acknowledged = bidding.none_acknowledged; traffic = inl (go bidding.traffic) }
+    record {
+      unsent = bidding.unsent;
+      none_acknowledged = bidding.none_acknowledged;
+      traffic = inl (go bidding.traffic);
+    }
   where
     go :
         ((w.replies ≡ []) × Bids w.current (drop w.mute w.units))
@@ -441,7 +477,8 @@ without_reply limit b bs w AwaitLine are bidding =
         let e : b ∷ bs ≡ one.1.0 ∷ [] = sym are ∙ one.1.1 in
         let last : bs ≡ [] = cc in (
           last,
-          subst (Bids w.current) (sym (drop_all w.mute w.units (subst (λ xs. length xs ≤ w.mute) (sym one.0) (omega arith)))) tt,
+          subst (Bids w.current) (sym (drop_all w.mute w.units
+              (subst (λ xs. length xs ≤ w.mute) (sym one.0) (omega arith)))) tt,
         )
 without_reply limit b bs w Busy are waiting =
     let e : b ∷ bs ≡ [] = sym are ∙ waiting.no_reply in
@@ -477,7 +514,8 @@ without_reply limit b bs w AwaitReply are awaiting = record {
         absurd (cc)
     go (inr one) = (one.0, inl (answered one.1))
 
-pub reply_lost_holds : (limit : ℕ) (replies : List ℕ) (w : World) → w.replies ≡ replies → Holds limit w → Holds limit (reply_lost replies w)
+pub reply_lost_holds : (limit : ℕ) (replies : List ℕ) (w : World) → w.replies ≡ replies → Holds limit w
+    → Holds limit (reply_lost replies w)
 reply_lost_holds limit [] w are h = h
 reply_lost_holds limit (b ∷ bs) w are h =
     holds_of limit (record w { replies = bs }) (base_replies limit bs w (base_of limit w h)) h.current

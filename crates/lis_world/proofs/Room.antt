@@ -17,12 +17,16 @@ use Rattle.lis_link.specs.declared.receiver.Readiness.TheVariants as Readinesses
 use Rattle.lis_link.specs.declared.receiver.Note.{Note}
 use Rattle.lis_link.specs.declared.receiver.Note.TheVariants.{Quiet}
 use Rattle.lis_link.specs.Sender.{on_reply, on_sender_timer, start_fault}
-use Rattle.lis_link.specs.Receiver.{ReceiverState, ReceiverStep, bid_with, judged, on_judged, heard_by, heard, on_byte, timer_by}
+use Rattle.lis_link.specs.Receiver.{ReceiverState, ReceiverStep, bid_with, judged, on_judged, heard_by, heard, on_byte}
+use Rattle.lis_link.specs.Receiver.{timer_by}
 use Rattle.lis_world.specs.declared.event.Event.{Event}
-use Rattle.lis_world.specs.declared.event.Event.TheVariants.{Start, Deliver, DeliverNoRoom, Damage, Lose, Reply, DamageReply, LoseReply, SenderTimer, ReceiverTimer, RestartSender, RestartReceiver, Ready, Busy, Contending}
+use Rattle.lis_world.specs.declared.event.Event.TheVariants.{Start, Deliver, DeliverNoRoom, Damage, Lose, Reply}
+use Rattle.lis_world.specs.declared.event.Event.TheVariants.{DamageReply, LoseReply, SenderTimer, ReceiverTimer}
+use Rattle.lis_world.specs.declared.event.Event.TheVariants.{RestartSender, RestartReceiver, Ready, Busy, Contending}
 use Rattle.lis_world.specs.Unit.{Travelling, load_bytes}
 use Rattle.lis_world.specs.World.{World, Desk, desk_of, noted, booked, hears, settled}
-use Rattle.lis_world.specs.Steps.{emitted, with_sender, sender_steps, begins, delivered, delivered_no_room, is_noticed, damaged, lost, replied, reply_damaged, reply_lost, given_up, after_event, runs}
+use Rattle.lis_world.specs.Steps.{emitted, with_sender, sender_steps, begins, delivered, delivered_no_room, is_noticed}
+use Rattle.lis_world.specs.Steps.{damaged, lost, replied, reply_damaged, reply_lost, given_up, after_event, runs}
 
 -- a step of the receiver leaves the room as it is
 room-bid : (readiness : Readiness) (r : ReceiverState) → (bid_with readiness r).after.room ≡ r.room
@@ -83,7 +87,8 @@ room-damaged :
     → HasRoom (damaged limit bytes units w)
 room-damaged limit bytes [] w has = has
 room-damaged limit bytes (u ∷ us) w has =
-    cond_both (is_noticed u.load (signals_after limit w.receiver.past bytes)) (settled us (hears limit u.session bytes (desk_of w)) w) w HasRoom
+    cond_both (is_noticed u.load (signals_after limit w.receiver.past bytes))
+    (settled us (hears limit u.session bytes (desk_of w)) w) w HasRoom
     (λ noticed. room-hears limit u.session bytes (desk_of w) ∙ has) (λ ignored. has)
 
 room-lost : (units : List Travelling) (w : World) → HasRoom w → HasRoom (lost units w)

@@ -1,5 +1,6 @@
 -- A session is carried through its rounds.
-use Rattle.std.proofs.Common.{◌≡◌, ℕ, suc, ◌+◌, ◌-◌, ◌%◌, ◌<◌, ◌≤◌, ◌⊎◌, inl, inr, Bool, true, false, List, [], ◌∷◌, ◌++◌, length, drop, Some, refl, sym, ap, ◌∙◌, subst, arith}
+use Rattle.std.proofs.Common.{◌≡◌, ℕ, suc, ◌+◌, ◌-◌, ◌%◌, ◌<◌, ◌≤◌, ◌⊎◌, inl, inr, Bool, true, false, List, [], ◌∷◌}
+use Rattle.std.proofs.Common.{◌++◌, length, drop, Some, refl, sym, ap, ◌∙◌, subst, arith}
 use Rattle.std.specs.Prelude.{nat_lt, ◌==◌, ◌||◌}
 use Rattle.std.proofs.lemmas.Bool.{cond-true, cond-false, lt-ltb, le-ltb, ne_eqb, or_from}
 use Rattle.std.proofs.lemmas.List.{drop_at, length-append}
@@ -17,15 +18,18 @@ use Rattle.lis_link.specs.declared.receiver.Note.{Note}
 use Rattle.lis_link.specs.declared.receiver.Note.TheVariants.{Accepted, Duplicate, NoRoom}
 use Rattle.lis_text.specs.LinkText.{longest_text}
 use Rattle.lis_link.specs.Joining.{rest}
-use Rattle.lis_link.specs.Sender.{SenderState, over, gives, ends, sends, sends_again, is_accepted, reply_in, on_reply, most_tries}
+use Rattle.lis_link.specs.Sender.{SenderState, over, gives, ends, sends, sends_again, is_accepted, reply_in, on_reply}
+use Rattle.lis_link.specs.Sender.{most_tries}
 use Rattle.lis_link.specs.Receiver.{judged, on_judged, heard_by, held_text, most_frames}
 use Rattle.lis_world.specs.declared.event.Event.TheVariants.{Deliver, DeliverNoRoom, Damage, Reply, DamageReply}
 use Rattle.lis_frame.specs.Frame.{frame_bytes}
 use Rattle.lis_world.specs.Unit.{Load, ending, one_frame, Travelling}
 use Rattle.lis_world.specs.Session.{Session, session_at, changed, follows, sends_frame, takes}
 use Rattle.lis_world.specs.World.{World, Desk, desk_of, booked, hears, settled}
-use Rattle.lis_world.specs.Steps.{sender_steps, delivered, delivered_no_room, damaged, is_noticed, room_at, replied, reply_damaged, after_event, runs}
-use Rattle.lis_world.specs.Progress.{Round, undisturbed, without_room, bad_frame, bad_reply, round_events, IsBadStretch, IsNoticed}
+use Rattle.lis_world.specs.Steps.{sender_steps, delivered, delivered_no_room, damaged, is_noticed, room_at, replied}
+use Rattle.lis_world.specs.Steps.{reply_damaged, after_event, runs}
+use Rattle.lis_world.specs.Progress.{Round, undisturbed, without_room, bad_frame, bad_reply, round_events, IsBadStretch}
+use Rattle.lis_world.specs.Progress.{IsNoticed}
 use Rattle.lis_world.proofs.SessionLemmas.{length-changed, kept-changed}
 use Rattle.lis_world.proofs.Invariant.{IsYes, FrameAnswer, IsAwaiting, InPhase, Holds, kept_frames}
 use Rattle.lis_world.proofs.Leaving.{heard_replies}
@@ -76,7 +80,8 @@ pub record IsFinished (limit c : ℕ) (frames : List FrameContent) (w : World) :
   pub unmuted : w.mute ≡ 0
   pub no_reply : w.replies ≡ []
   pub traffic :
-      ((s : ℕ) × (w.units ≡ record { session = s; load = ending } ∷ [])) ⊎ ((w.units ≡ []) × (w.receiver.is_open ≡ false))
+      ((s : ℕ) × (w.units ≡ record { session = s; load = ending } ∷ [])) ⊎
+      ((w.units ≡ []) × (w.receiver.is_open ≡ false))
 
 abbrev pub GoesOn : ℕ → ℕ → List FrameContent → ℕ → World → Type 0
 GoesOn limit c frames k w = IsFinished limit c frames w ⊎ IsSent limit c frames k 1 w
@@ -92,16 +97,21 @@ sender_frames limit c frames w tracked awaits = kept_frames limit w AwaitReply t
 -- a sender's step keeps the texts of each session
 texts-followed :
     (limit c : ℕ) (sender : SenderState) (ss : List Session)
-    → session_frames limit (session_at c (changed c (follows sender) ss)).texts ≡ session_frames limit (session_at c ss).texts
-texts-followed limit c sender ss = ap (session_frames limit) (kept-changed (λ (x : Session). x.texts) c (follows sender) ss (λ x. refl) c)
+    → session_frames limit (session_at c (changed c (follows sender) ss)).texts
+    ≡ session_frames limit (session_at c ss).texts
+texts-followed limit c sender ss = ap (session_frames limit)
+    (kept-changed (λ (x : Session). x.texts) c (follows sender) ss (λ x. refl) c)
 
 texts-sent :
     (limit c : ℕ) (f : FrameContent) (ss : List Session)
-    → session_frames limit (session_at c (changed c (sends_frame f) ss)).texts ≡ session_frames limit (session_at c ss).texts
-texts-sent limit c f ss = ap (session_frames limit) (kept-changed (λ (x : Session). x.texts) c (sends_frame f) ss (λ x. refl) c)
+    → session_frames limit (session_at c (changed c (sends_frame f) ss)).texts
+    ≡ session_frames limit (session_at c ss).texts
+texts-sent limit c f ss = ap (session_frames limit)
+    (kept-changed (λ (x : Session). x.texts) c (sends_frame f) ss (λ x. refl) c)
 
 -- and their number
-pub length-followed : (c : ℕ) (sender : SenderState) (ss : List Session) (n : ℕ) → length ss ≡ n → length (changed c (follows sender) ss) ≡ n
+pub length-followed : (c : ℕ) (sender : SenderState) (ss : List Session) (n : ℕ) → length ss ≡ n
+    → length (changed c (follows sender) ss) ≡ n
 length-followed c sender ss n e = length-changed c (follows sender) ss ∙ e
 
 pub awaiting_of : (limit : ℕ) (w : World) → Holds limit w → w.sender.phase ≡ AwaitReply → IsAwaiting w
@@ -123,7 +133,8 @@ pub sent_on :
     → (left : List FrameContent)
     → w2 ≡ sender_steps {limit = limit} (sends left sender) w
     → GoesOn limit c frames k w2
-sent_on limit c frames k sender w w2 current_is length_is mute_within holds no_unit no_reply is_open room frames_are remaining [] e =
+sent_on limit c frames k sender w w2 current_is length_is mute_within holds no_unit no_reply is_open room frames_are
+    remaining [] e =
     inl (subst (IsFinished limit c frames) (sym e) (record {
       tracked = record {
         holds = subst (Holds limit) e holds;
@@ -137,7 +148,8 @@ sent_on limit c frames k sender w w2 current_is length_is mute_within holds no_u
       no_reply = no_reply;
       traffic = inl (w.current, ap (λ us. us ++ record { session = w.current; load = ending } ∷ []) no_unit);
     }))
-sent_on limit c frames k sender w w2 current_is length_is mute_within holds no_unit no_reply is_open room frames_are remaining (f ∷ left) e =
+sent_on limit c frames k sender w w2 current_is length_is mute_within holds no_unit no_reply is_open room frames_are
+    remaining (f ∷ left) e =
     let next : SenderState = record sender { phase = AwaitReply; tries = 1 } in
     inr (subst (IsSent limit c frames k 1) (sym e) (record {
       tracked = record {
@@ -171,7 +183,8 @@ after_yes limit c frames k t w is_limit answered =
     let awaiting = awaiting_of limit w h answered.awaits in
     let sender : SenderState = record w.sender { acknowledged = w.sender.acknowledged + 1 } in
     let w1 : World = record w { replies = [] } in
-    let e : after_event limit Reply w ≡ sender_steps {limit = limit} (sends (drop (w.sender.acknowledged + 1) w.sender.frames) sender) w1 =
+    let e : after_event limit Reply w ≡ sender_steps {limit = limit}
+    (sends (drop (w.sender.acknowledged + 1) w.sender.frames) sender) w1 =
     ap (λ rs. replied limit rs w) answered.reply_is
     ∙ ap (λ p. sender_steps {limit = limit} (reply_in p ACK w.sender) w1) answered.awaits in
     let remaining = answered.remaining in
@@ -211,8 +224,10 @@ after_no limit c frames k t b r w w2 answered refused few holds e =
     ∙ cond-false (r == ACK || r == EOT) (is_accepted {limit = limit} w.sender)
     (sends_again {limit = limit} (drop w.sender.acknowledged w.sender.frames) w.sender) no_yes
     ∙ ap (λ xs. sends_again {limit = limit} xs w.sender) same_then
-    ∙ cond-true (nat_lt w.sender.tries most_tries) (gives {limit = limit} (Emits.Frame f) again) (ends {limit = limit} SixTries w.sender) few_tries in
-    let e2 : w2 ≡ sender_steps {limit = limit} (gives (Emits.Frame f) again) w1 = e ∙ ap (λ step. sender_steps step w1) step_is in
+    ∙ cond-true (nat_lt w.sender.tries most_tries) (gives {limit = limit} (Emits.Frame f) again)
+    (ends {limit = limit} SixTries w.sender) few_tries in
+    let e2 : w2 ≡ sender_steps {limit = limit} (gives (Emits.Frame f) again) w1 =
+    e ∙ ap (λ step. sender_steps step w1) step_is in
     subst (IsSent limit c frames k (t + 1)) (sym e2) (record {
       tracked = record {
         holds = subst (Holds limit) e2 holds;
@@ -261,14 +276,17 @@ record IsDue (limit s : ℕ) (room : Bool) (before : List FrameContent) (f : Fra
   fits : length (rest [] before) + length f.text ≤ longest_text
 
 replied_after :
-    (limit s : ℕ) (room : Bool) (before : List FrameContent) (f : FrameContent) (d : Desk) (past : List ℕ) (note : Note) (b : ℕ)
+    (limit s : ℕ) (room : Bool) (before : List FrameContent) (f : FrameContent) (d : Desk) (past : List ℕ)
+    (note : Note) (b : ℕ)
     → IsDue limit s room before f d
     → judged d.receiver f ≡ note
     → IsReplied room (length d.sessions) b (at_past past (booked s (on_judged d.receiver f note) d))
     → IsReplied room (length d.sessions) b (at_past past (hears_signal {limit = limit} s (Good f) d))
 replied_after limit s room before f d past note b due found h =
-    subst (λ o. IsReplied room (length d.sessions) b (at_past past (booked s (heard_by {limit = limit} o (Good f) d.receiver) d))) (sym due.is_open)
-    (subst (λ n. IsReplied room (length d.sessions) b (at_past past (booked s (on_judged d.receiver f n) d))) (sym found) h)
+    subst (λ o. IsReplied room (length d.sessions) b
+    (at_past past (booked s (heard_by {limit = limit} o (Good f) d.receiver) d))) (sym due.is_open)
+    (subst (λ n. IsReplied room (length d.sessions) b (at_past past (booked s (on_judged d.receiver f n) d)))
+    (sym found) h)
 
 one_more_reply : (b : ℕ) (replies : List ℕ) → replies ≡ [] → replies ++ b ∷ [] ≡ b ∷ []
 one_more_reply b replies none = ap (λ xs. xs ++ b ∷ []) none
@@ -287,7 +305,8 @@ replied_with_room limit s before f d past due = go due.accepted_is
         let fits = due.fits in
         let count : length d.receiver.accepted ≡ length before = ap length accepted in
         let held : length (held_text d.receiver) ≡ length (rest [] before) = ap (λ xs. length (rest [] xs)) accepted in
-        let counted : (length d.receiver.accepted == most_frames) ≡ false = ne_eqb (length d.receiver.accepted) most_frames (λ e. omega arith) in
+        let counted : (length d.receiver.accepted == most_frames) ≡ false =
+        ne_eqb (length d.receiver.accepted) most_frames (λ e. omega arith) in
         let short : nat_lt longest_text (length (held_text d.receiver) + length f.text) ≡ false =
         le-ltb longest_text (length (held_text d.receiver) + length f.text) (omega arith) in
         let found : judged d.receiver f ≡ Accepted f.number =
@@ -299,7 +318,8 @@ replied_with_room limit s before f d past due = go due.accepted_is
           length_is = length-changed d.opened (takes (on_judged d.receiver f (Accepted f.number))) d.sessions;
         })
     go (inr accepted) =
-        replied_after limit s true before f d past (Duplicate f.number) ACK due (judged_again d.receiver f before due.number_is accepted) (record {
+        replied_after limit s true before f d past (Duplicate f.number) ACK due
+        (judged_again d.receiver f before due.number_is accepted) (record {
           reply_is = one_more_reply ACK d.replies due.no_reply;
           is_open = due.is_open;
           room_is = due.room_is;
@@ -313,14 +333,17 @@ IsAckOrNak b = (b ≡ ACK) ⊎ (b ≡ NAK)
 replied_without_room :
     (limit s : ℕ) (before : List FrameContent) (f : FrameContent) (d : Desk) (past : List ℕ)
     → IsDue limit s false before f d
-    → (b : ℕ) × IsAckOrNak b × IsReplied false (length d.sessions) b (at_past past (hears_signal {limit = limit} s (Good f) d))
+    → (b : ℕ) × IsAckOrNak b × IsReplied false (length d.sessions) b
+    (at_past past (hears_signal {limit = limit} s (Good f) d))
 replied_without_room limit s before f d past due = go due.accepted_is
   where
     go :
         (d.receiver.accepted ≡ before) ⊎ (d.receiver.accepted ≡ before ++ f ∷ [])
-        → (b : ℕ) × IsAckOrNak b × IsReplied false (length d.sessions) b (at_past past (hears_signal {limit = limit} s (Good f) d))
+        → (b : ℕ) × IsAckOrNak b × IsReplied false (length d.sessions) b
+        (at_past past (hears_signal {limit = limit} s (Good f) d))
     go (inl accepted) =
-        let found : judged d.receiver f ≡ NoRoom = judged_new d.receiver f before due.number_is accepted ∙ rw due.room_is refl in (
+        let found : judged d.receiver f ≡ NoRoom =
+        judged_new d.receiver f before due.number_is accepted ∙ rw due.room_is refl in (
           NAK,
           inr refl,
           replied_after limit s false before f d past NoRoom NAK due found (record {
@@ -333,12 +356,13 @@ replied_without_room limit s before f d past due = go due.accepted_is
     go (inr accepted) = (
       ACK,
       inl refl,
-      replied_after limit s false before f d past (Duplicate f.number) ACK due (judged_again d.receiver f before due.number_is accepted) (record {
-        reply_is = one_more_reply ACK d.replies due.no_reply;
-        is_open = due.is_open;
-        room_is = due.room_is;
-        length_is = refl;
-      }),
+      replied_after limit s false before f d past (Duplicate f.number) ACK due
+          (judged_again d.receiver f before due.number_is accepted) (record {
+            reply_is = one_more_reply ACK d.replies due.no_reply;
+            is_open = due.is_open;
+            room_is = due.room_is;
+            length_is = refl;
+          }),
     )
 
 -- the frame on the link is due
@@ -354,7 +378,9 @@ front_load : List Travelling → Load
 front_load [] = ending
 front_load (u ∷ us) = u.load
 
-same_load : (c : ℕ) (f g : FrameContent) (us : List Travelling) → us ≡ record { session = c; load = one_frame f } ∷ [] → us ≡ record { session = c; load = one_frame g } ∷ [] → f ≡ g
+same_load : (c : ℕ) (f g : FrameContent) (us : List Travelling)
+    → us ≡ record { session = c; load = one_frame f } ∷ [] → us ≡ record { session = c; load = one_frame g } ∷ []
+    → f ≡ g
 unfolding front_load
 same_load c f g us first second =
     let loads : one_frame f ≡ one_frame g = sym (ap front_load first) ∙ ap front_load second in
@@ -382,7 +408,8 @@ due_in limit c frames k t w is_limit few sent =
     let held : w.receiver.accepted ≡ x.accepted =
     (h.line sent.is_open).1 ∙ ap (λ s. (session_at s w.sessions).accepted) owner in
     let count : length frames ≡ length before + suc (length awaiting.left) =
-    ap length (sym (sender_frames limit c frames w sent.tracked sent.awaits) ∙ awaiting.frames_are) ∙ length-append before (g ∷ awaiting.left) in
+    ap length (sym (sender_frames limit c frames w sent.tracked sent.awaits) ∙ awaiting.frames_are)
+    ∙ length-append before (g ∷ awaiting.left) in
     let here : IsDueIn limit w g = record {
       before = before;
       content = next.content;
@@ -394,11 +421,18 @@ due_in limit c frames k t w is_limit few sent =
     subst (IsDueIn limit w) (same_frame awaiting.traffic) here
   where
     same_frame :
-        ((w.units ≡ record { session = w.current; load = one_frame (awaiting_of limit w sent.tracked.holds sent.awaits).frame } ∷ []) × (w.replies ≡ []))
-        ⊎ ((w.units ≡ []) × FrameAnswer w.replies w.sessions w.current (awaiting_of limit w sent.tracked.holds sent.awaits).before (awaiting_of limit w sent.tracked.holds sent.awaits).frame)
+        ((w.units ≡ record {
+          session = w.current;
+          load = one_frame (awaiting_of limit w sent.tracked.holds
+              sent.awaits).frame;
+        } ∷ []) × (w.replies ≡ []))
+        ⊎ ((w.units ≡ []) × FrameAnswer w.replies w.sessions w.current
+        (awaiting_of limit w sent.tracked.holds sent.awaits).before
+        (awaiting_of limit w sent.tracked.holds sent.awaits).frame)
         → (awaiting_of limit w sent.tracked.holds sent.awaits).frame ≡ sent.frame
     same_frame (inl one) =
-        same_load w.current (awaiting_of limit w sent.tracked.holds sent.awaits).frame sent.frame w.units one.0 sent.unit_is
+        same_load w.current (awaiting_of limit w sent.tracked.holds sent.awaits).frame sent.frame w.units one.0
+        sent.unit_is
     same_frame (inr none) =
         absurd (none_is_one _ _ none.0 sent.unit_is)
 
@@ -419,7 +453,8 @@ answered_after limit c frames k t b w w2 d sent holds is_replied e =
         current_is = sent.tracked.current_is;
         length_is = is_replied.length_is ∙ sent.tracked.length_is;
         frames_are =
-            sym (kept_frames limit (settled [] d w) AwaitReply holds3 sent.awaits) ∙ sender_frames limit c frames w sent.tracked sent.awaits;
+            sym (kept_frames limit (settled [] d w) AwaitReply holds3 sent.awaits)
+            ∙ sender_frames limit c frames w sent.tracked sent.awaits;
       };
       awaits = sent.awaits;
       tries_is = sent.tries_is;
@@ -478,7 +513,8 @@ delivered_no_room_answered limit c frames k t w is_limit few sent =
       countable = due.countable;
       fits = due.fits;
     } in
-    let found = replied_without_room limit w.current due.before f d (stream_with w.receiver.past (frame_bytes f)) is_due in
+    let found = replied_without_room limit w.current due.before f d (stream_with w.receiver.past (frame_bytes f))
+    is_due in
     let heard : IsReplied false (length w.sessions) found.0 after =
     by_signals (IsReplied false (length w.sessions) found.0) limit w.current (frame_bytes f) d (Good f ∷ [])
     (signals-frame_bytes limit w.receiver.past f due.content) found.2 in (
@@ -505,7 +541,8 @@ damaged_answered limit c frames k t stretch w is_limit bad sent =
     let past : List ℕ = stream_with w.receiver.past bytes in
     let heard : IsReplied true (length w.sessions) NAK after =
     by_signals (IsReplied true (length w.sessions) NAK) limit w.current bytes d (Bad bad.fault ∷ []) signals_are
-    (subst (λ o. IsReplied true (length w.sessions) NAK (at_past past (booked w.current (heard_by {limit = limit} o (Bad bad.fault) d.receiver) d)))
+    (subst (λ o. IsReplied true (length w.sessions) NAK
+    (at_past past (booked w.current (heard_by {limit = limit} o (Bad bad.fault) d.receiver) d)))
     (sym sent.is_open)
     (record { reply_is = refl; is_open = sent.is_open; room_is = sent.room; length_is = refl })) in
     let noticed : is_noticed (one_frame sent.frame) (signals_after limit w.receiver.past bytes) ≡ true =
@@ -513,7 +550,8 @@ damaged_answered limit c frames k t stretch w is_limit bad sent =
     answered_after limit c frames k t NAK w (after_event limit (Damage bytes) w) after sent
     (event_holds limit (Damage bytes) w is_limit sent.tracked.holds) heard
     (ap (λ us. damaged limit bytes us w) sent.unit_is
-    ∙ cond-true (is_noticed (one_frame sent.frame) (signals_after limit w.receiver.past bytes)) (settled [] after w) w noticed)
+    ∙ cond-true (is_noticed (one_frame sent.frame) (signals_after limit w.receiver.past bytes)) (settled [] after w)
+    w noticed)
 
 -- a round
 abbrev pub GoesOnOrAgain : ℕ → ℕ → List FrameContent → ℕ → ℕ → World → Type 0
@@ -539,7 +577,8 @@ answered_round :
 answered_round limit c frames k t b w is_limit few (inl e) answered =
     inl (after_yes limit c frames k t w is_limit (subst (λ x. IsAnswered limit c frames k t x w) e answered))
 answered_round limit c frames k t b w is_limit few (inr e) answered =
-    inr (after_no limit c frames k t b b w (after_event limit Reply w) answered (subst (λ x. IsYes x → ⊥) (sym e) nak_is_no_yes) few
+    inr (after_no limit c frames k t b b w (after_event limit Reply w) answered
+    (subst (λ x. IsYes x → ⊥) (sym e) nak_is_no_yes) few
     (event_holds limit Reply w is_limit answered.tracked.holds) (replied_is limit b w answered.reply_is))
 
 pub undisturbed_round :
@@ -549,7 +588,8 @@ pub undisturbed_round :
     → IsSent limit c frames k t w
     → GoesOn limit c frames (k - 1) (runs limit (round_events undisturbed) w)
 undisturbed_round limit c frames k t w is_limit few sent =
-    after_yes limit c frames k t (after_event limit Deliver w) is_limit (delivered_answered limit c frames k t w is_limit few sent)
+    after_yes limit c frames k t (after_event limit Deliver w) is_limit
+    (delivered_answered limit c frames k t w is_limit few sent)
 
 pub disturbed_round :
     (limit c : ℕ) (frames : List FrameContent) (k t : ℕ) (round : Round) (w : World)
@@ -559,19 +599,23 @@ pub disturbed_round :
     → IsNoticed limit round
     → IsSent limit c frames k t w
     → GoesOnOrAgain limit c frames k t (runs limit (round_events round) w)
-disturbed_round limit c frames k t undisturbed w is_limit few tries noticed sent = inl (undisturbed_round limit c frames k t w is_limit few sent)
+disturbed_round limit c frames k t undisturbed w is_limit few tries noticed sent =
+    inl (undisturbed_round limit c frames k t w is_limit few sent)
 disturbed_round limit c frames k t without_room w is_limit few tries noticed sent =
     let found = delivered_no_room_answered limit c frames k t w is_limit few sent in
     answered_round limit c frames k t found.0 (after_event limit DeliverNoRoom w) is_limit tries found.1 found.2
 disturbed_round limit c frames k t (bad_frame stretch) w is_limit few tries noticed sent =
-    answered_round limit c frames k t NAK (after_event limit (Damage (STX ∷ (stretch ++ LF ∷ []))) w) is_limit tries (inr refl)
+    answered_round limit c frames k t NAK (after_event limit (Damage (STX ∷ (stretch ++ LF ∷ []))) w) is_limit tries
+    (inr refl)
     (damaged_answered limit c frames k t stretch w is_limit noticed sent)
 disturbed_round limit c frames k t (bad_reply r) w is_limit few tries noticed sent =
     let w1 : World = after_event limit Deliver w in
     let answered = delivered_answered limit c frames k t w is_limit few sent in
-    let no_yes : (r == ACK || r == EOT) ≡ false = or_from (r == ACK) (r == EOT) (ne_eqb r ACK noticed.0) (ne_eqb r EOT noticed.1) in
+    let no_yes : (r == ACK || r == EOT) ≡ false = or_from (r == ACK) (r == EOT) (ne_eqb r ACK noticed.0)
+    (ne_eqb r EOT noticed.1) in
     let refused : IsYes r → ⊥ = elim [ inl e ↦ noticed.0 e | inr e ↦ noticed.1 e ] in
     inr (after_no limit c frames k t ACK r w1 (after_event limit (DamageReply r) w1) answered refused tries
     (event_holds limit (DamageReply r) w1 is_limit answered.tracked.holds)
     (ap (λ rs. reply_damaged limit r rs w1) answered.reply_is
-    ∙ cond-false (r == ACK || r == EOT) w1 (sender_steps {limit = limit} (on_reply r w1.sender) (record w1 { replies = [] })) no_yes))
+    ∙ cond-false (r == ACK || r == EOT) w1 (sender_steps {limit = limit} (on_reply r w1.sender)
+    (record w1 { replies = [] })) no_yes))

@@ -11,7 +11,9 @@ use Rattle.lis_link.specs.Joining.{groups, rest}
 use Rattle.lis_link.specs.Sender.{start_fault}
 use Rattle.lis_link.proofs.JoiningLaws.{groups-append, groups-session_frames}
 use Rattle.lis_world.specs.declared.event.Event.{Event}
-use Rattle.lis_world.specs.declared.event.Event.TheVariants.{Start, Deliver, DeliverNoRoom, Damage, Lose, Reply, DamageReply, LoseReply, SenderTimer, ReceiverTimer, RestartSender, RestartReceiver, Ready, Busy, Contending}
+use Rattle.lis_world.specs.declared.event.Event.TheVariants.{Start, Deliver, DeliverNoRoom, Damage, Lose, Reply}
+use Rattle.lis_world.specs.declared.event.Event.TheVariants.{DamageReply, LoseReply, SenderTimer, ReceiverTimer}
+use Rattle.lis_world.specs.declared.event.Event.TheVariants.{RestartSender, RestartReceiver, Ready, Busy, Contending}
 use Rattle.lis_world.specs.Session.{Session, new_session, session_at}
 use Rattle.lis_world.specs.World.{World, new_world}
 use Rattle.lis_world.specs.Steps.{after_event, runs, world}
@@ -22,7 +24,8 @@ use Rattle.lis_world.proofs.Replies.{replied_holds, reply_damaged_holds, reply_l
 use Rattle.lis_world.proofs.Timers.{sender_timer_holds, restart_holds, no_more_open_holds, after_receiver_timer}
 use Rattle.lis_world.proofs.Starting.{sound_new, begins_holds}
 
-pub event_holds : (limit : ℕ) (event : Event) (w : World) → IsLimit limit → Holds limit w → Holds limit (after_event limit event w)
+pub event_holds : (limit : ℕ) (event : Event) (w : World) → IsLimit limit → Holds limit w
+    → Holds limit (after_event limit event w)
 event_holds limit (Start texts) w is_limit h = begins_holds limit texts w (start_fault w.sender texts) refl h
 event_holds limit Deliver w is_limit h = delivered_holds limit w.units w is_limit refl h
 event_holds limit DeliverNoRoom w is_limit h = delivered_no_room_holds limit w.units w is_limit refl h
@@ -36,13 +39,18 @@ event_holds limit ReceiverTimer w is_limit h = no_more_open_holds limit w _ (aft
 event_holds limit RestartSender w is_limit h = restart_holds limit w h
 event_holds limit RestartReceiver w is_limit h =
     no_more_open_holds limit w _ (record { was_open = λ e. absurd (cc); accepted_same = refl }) h
-event_holds limit Ready w is_limit h = no_more_open_holds limit w _ (record { was_open = λ e. e; accepted_same = refl }) h
-event_holds limit Busy w is_limit h = no_more_open_holds limit w _ (record { was_open = λ e. e; accepted_same = refl }) h
-event_holds limit Contending w is_limit h = no_more_open_holds limit w _ (record { was_open = λ e. e; accepted_same = refl }) h
+event_holds limit Ready w is_limit h = no_more_open_holds limit w _
+    (record { was_open = λ e. e; accepted_same = refl }) h
+event_holds limit Busy w is_limit h = no_more_open_holds limit w _
+    (record { was_open = λ e. e; accepted_same = refl }) h
+event_holds limit Contending w is_limit h = no_more_open_holds limit w _
+    (record { was_open = λ e. e; accepted_same = refl }) h
 
-pub runs_hold : (limit : ℕ) (events : List Event) (w : World) → IsLimit limit → Holds limit w → Holds limit (runs limit events w)
+pub runs_hold : (limit : ℕ) (events : List Event) (w : World) → IsLimit limit → Holds limit w
+    → Holds limit (runs limit events w)
 runs_hold limit [] w is_limit h = h
-runs_hold limit (event ∷ events) w is_limit h = runs_hold limit events (after_event limit event w) is_limit (event_holds limit event w is_limit h)
+runs_hold limit (event ∷ events) w is_limit h = runs_hold limit events (after_event limit event w) is_limit
+    (event_holds limit event w is_limit h)
 
 pub new_holds : (limit : ℕ) → Holds limit new_world
 unfolding session_frames
@@ -74,7 +82,8 @@ groups_prefix limit texts frames first = record {
 -- a prefix that is no shorter is the whole
 pub whole_prefix : {A : Type 0} (xs ys : List A) → IsPrefix xs ys → length ys ≤ length xs → xs ≡ ys
 whole_prefix xs ys first long =
-    let joined_length : length xs + length first.rest ≡ length ys = sym (length-append xs first.rest) ∙ ap length first.joined in
+    let joined_length : length xs + length first.rest ≡ length ys =
+    sym (length-append xs first.rest) ∙ ap length first.joined in
     let none : first.rest ≡ [] = nil_from_length first.rest (omega arith) in
     sym (append-nil xs) ∙ ap (λ t. xs ++ t) (sym none) ∙ first.joined
 
@@ -95,14 +104,18 @@ hands_out_all_from_sound limit x h done =
     let first = prefix_trans x.accepted x.sent (session_frames limit x.texts) h.accepted_of_sent h.sent_of_frames in
     let acknowledged = h.done_acknowledged done in
     let enough = h.acknowledged_of_accepted in
-    let whole : x.accepted ≡ session_frames limit x.texts = whole_prefix x.accepted (session_frames limit x.texts) first (omega arith) in
+    let whole : x.accepted ≡ session_frames limit x.texts =
+    whole_prefix x.accepted (session_frames limit x.texts) first (omega arith) in
     h.handed_whole ∙ ap (groups []) whole ∙ groups-session_frames limit x.texts
 
 pub safe_from_holds : (limit : ℕ) (w : World) → Holds limit w → Safe limit w
 safe_from_holds limit w h = (
-  All-from_get_or (IsSafe limit) w.sessions (new_session []) (λ k within. safe_from_sound limit (session_at k w.sessions) (h.sound k)),
-  All-from_get_or HandsOutAll w.sessions (new_session []) (λ k within. hands_out_all_from_sound limit (session_at k w.sessions) (h.sound k)),
+  All-from_get_or (IsSafe limit) w.sessions (new_session [])
+      (λ k within. safe_from_sound limit (session_at k w.sessions) (h.sound k)),
+  All-from_get_or HandsOutAll w.sessions (new_session [])
+      (λ k within. hands_out_all_from_sound limit (session_at k w.sessions) (h.sound k)),
 )
 
 pub always_safe : (limit : ℕ) → IsLimit limit → AlwaysSafe limit
-always_safe limit is_limit events = safe_from_holds limit (world limit events) (runs_hold limit events new_world is_limit (new_holds limit))
+always_safe limit is_limit events = safe_from_holds limit (world limit events)
+    (runs_hold limit events new_world is_limit (new_holds limit))

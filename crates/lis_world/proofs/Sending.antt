@@ -1,5 +1,6 @@
 -- Steps of the sender: a session ends, a frame is sent, a wait begins.
-use Rattle.std.proofs.Common.{◌≡◌, ℕ, ◌+◌, ◌<◌, ◌≤◌, ◌⊎◌, inl, inr, true, List, [], ◌∷◌, ◌++◌, length, drop, refl, sym, ap, ◌∙◌, subst, arith}
+use Rattle.std.proofs.Common.{◌≡◌, ℕ, ◌+◌, ◌<◌, ◌≤◌, ◌⊎◌, inl, inr, true, List, [], ◌∷◌, ◌++◌, length, drop, refl, sym}
+use Rattle.std.proofs.Common.{ap, ◌∙◌, subst, arith}
 use Rattle.std.specs.Prelude.{nat_lt}
 use Rattle.std.proofs.lemmas.Bool.{cond-true, cond-false, lt-ltb, le-ltb}
 use Rattle.std.proofs.lemmas.List.{length_push, append_assoc, append-nil, drop-append-le}
@@ -15,7 +16,8 @@ use Rattle.lis_world.specs.Safe.{IsPrefix}
 use Rattle.lis_world.specs.Steps.{placed, with_sender}
 use Rattle.lis_world.proofs.SessionLemmas.{length-changed, at-changed_same, at-changed, kept-changed}
 use Rattle.lis_world.proofs.Invariant.{IsSound, Pending, Front, KeepsFrames, IsCurrent, AllEndings, InPhase, Holds}
-use Rattle.lis_world.proofs.Base.{Base, holds_of, CanFollow, base_placed, base_followed, current_followed, sound_followed}
+use Rattle.lis_world.proofs.Base.{Base, holds_of, CanFollow, base_placed, base_followed, current_followed}
+use Rattle.lis_world.proofs.Base.{sound_followed}
 
 pub in_phase : (p q : Phase) (w : World) → q ≡ p → InPhase p w → InPhase q w
 in_phase p q w e h = subst (λ x. InPhase x w) (sym e) h
@@ -41,7 +43,8 @@ pub ended_holds :
     → AllEndings (drop w.mute w.units)
     → Holds limit (with_sender sender w)
 ended_holds limit sender w base within can neutral none endings =
-    holds_of limit (with_sender sender w) (base_followed limit sender w can base) (current_followed limit sender w within can)
+    holds_of limit (with_sender sender w) (base_followed limit sender w can base)
+    (current_followed limit sender w within can)
     (in_phase Neutral sender.phase (with_sender sender w) neutral (record { no_reply = none; live_endings = endings }))
 
 -- and EOT says so
@@ -57,25 +60,31 @@ pub ended_with_ending :
 ended_with_ending limit sender w base within can neutral none endings =
     let last : Travelling = record { session = w.current; load = ending } in
     let live : AllEndings (drop w.mute (w.units ++ last ∷ [])) =
-    subst AllEndings (sym (drop-append-le w.mute w.units (last ∷ []) base.mute_within)) (endings_more (drop w.mute w.units) last endings refl) in
+    subst AllEndings (sym (drop-append-le w.mute w.units (last ∷ []) base.mute_within))
+    (endings_more (drop w.mute w.units) last endings refl) in
     holds_of limit (placed ending (with_sender sender w))
     (base_placed limit ending (with_sender sender w) tt (base_followed limit sender w can base))
     (current_followed limit sender w within can)
-    (in_phase Neutral sender.phase (placed ending (with_sender sender w)) neutral (record { no_reply = none; live_endings = live }))
+    (in_phase Neutral sender.phase (placed ending (with_sender sender w)) neutral
+    (record { no_reply = none; live_endings = live }))
 
 -- a frame goes on the link, for the first time or again
 abbrev pub frame_sent : FrameContent → SenderState → World → World
 frame_sent f sender w =
-    placed (one_frame f) (record (with_sender sender w) { sessions = changed w.current (sends_frame f) (changed w.current (follows sender) w.sessions) })
+    placed (one_frame f) (record (with_sender sender w)
+    { sessions = changed w.current (sends_frame f) (changed w.current (follows sender) w.sessions) })
 
-pub record CanSend (limit : ℕ) (sender : SenderState) (w : World) (before : List FrameContent) (f : FrameContent) (left : List FrameContent) : Type 0 where
+pub record CanSend (limit : ℕ) (sender : SenderState) (w : World) (before : List FrameContent) (f : FrameContent)
+    (left : List FrameContent) : Type 0 where
   pub can : CanFollow limit sender (session_at w.current w.sessions)
   pub within : w.current < length w.sessions
   pub awaits : sender.phase ≡ AwaitReply
   pub frames_are : sender.frames ≡ before ++ f ∷ left
   pub acknowledged_is : sender.acknowledged ≡ length before
-  pub accepted_is : ((session_at w.current w.sessions).accepted ≡ before) ⊎ ((session_at w.current w.sessions).accepted ≡ before ++ f ∷ [])
-  pub sent_is : ((session_at w.current w.sessions).sent ≡ before) ⊎ ((session_at w.current w.sessions).sent ≡ before ++ f ∷ [])
+  pub accepted_is : ((session_at w.current w.sessions).accepted ≡ before) ⊎
+      ((session_at w.current w.sessions).accepted ≡ before ++ f ∷ [])
+  pub sent_is : ((session_at w.current w.sessions).sent ≡ before) ⊎
+      ((session_at w.current w.sessions).sent ≡ before ++ f ∷ [])
   pub owner_is : w.receiver.is_open ≡ true → w.opened ≡ w.current
   pub no_unit : w.units ≡ []
   pub no_reply : w.replies ≡ []
@@ -87,12 +96,15 @@ sent_then :
     → (x.sent ≡ before) ⊎ (x.sent ≡ before ++ f ∷ [])
     → (sends_frame f x).sent ≡ before ++ f ∷ []
 sent_then f before x count (inl e) =
-    let long : length x.sent ≤ x.acknowledged = subst (λ n. length x.sent ≤ n) (sym count) (subst (λ xs. length xs ≤ length before) (sym e) (omega arith)) in
-    cond-false (nat_lt x.acknowledged (length x.sent)) x.sent (x.sent ++ f ∷ []) (le-ltb x.acknowledged (length x.sent) long)
+    let long : length x.sent ≤ x.acknowledged = subst (λ n. length x.sent ≤ n) (sym count)
+    (subst (λ xs. length xs ≤ length before) (sym e) (omega arith)) in
+    cond-false (nat_lt x.acknowledged (length x.sent)) x.sent (x.sent ++ f ∷ [])
+    (le-ltb x.acknowledged (length x.sent) long)
     ∙ ap (λ xs. xs ++ f ∷ []) e
 sent_then f before x count (inr e) =
     let more : length x.sent ≡ length before + 1 = ap length e ∙ length_push before f in
-    cond-true (nat_lt x.acknowledged (length x.sent)) x.sent (x.sent ++ f ∷ []) (lt-ltb x.acknowledged (length x.sent) (omega arith)) ∙ e
+    cond-true (nat_lt x.acknowledged (length x.sent)) x.sent (x.sent ++ f ∷ [])
+    (lt-ltb x.acknowledged (length x.sent) (omega arith)) ∙ e
 
 prefix_then :
     (accepted before : List FrameContent) (f : FrameContent)
@@ -111,14 +123,19 @@ sound_sent :
 sound_sent limit f before left x h frames sent accepted = record {
   sendable = h.sendable;
   accepted_of_sent = subst (IsPrefix x.accepted) (sym sent) (prefix_then x.accepted before f accepted);
-  sent_of_frames = record { rest = left; joined = ap (λ xs. xs ++ left) sent ∙ append_assoc before (f ∷ []) left ∙ sym frames };
+  sent_of_frames = record {
+    rest = left;
+    joined = ap (λ xs. xs ++ left) sent ∙ append_assoc before (f
+        ∷ []) left ∙ sym frames;
+  };
   acknowledged_of_accepted = h.acknowledged_of_accepted;
   handed_whole = h.handed_whole;
   done_acknowledged = h.done_acknowledged;
 }
 
 pub frame_sent_holds :
-    (limit : ℕ) (sender : SenderState) (w : World) (before : List FrameContent) (f : FrameContent) (left : List FrameContent)
+    (limit : ℕ) (sender : SenderState) (w : World) (before : List FrameContent) (f : FrameContent)
+    (left : List FrameContent)
     → Base limit w
     → CanSend limit sender w before f left
     → Holds limit (frame_sent f sender w)
@@ -135,8 +152,10 @@ frame_sent_holds limit sender w before f left base can_send =
     let within1 : c < length ss1 = subst (λ n. c < n) (sym (length-changed c (follows sender) ss)) can_send.within in
     let within2 : c < length ss2 = subst (λ n. c < n) (sym (length-changed c (sends_frame f) ss1)) within1 in
     let at1 : session_at c ss1 ≡ y = at-changed_same c (follows sender) ss can_send.within in
-    let at2 : session_at c ss2 ≡ sends_frame f y = at-changed_same c (sends_frame f) ss1 within1 ∙ ap (sends_frame f) at1 in
-    let sent2 : (sends_frame f y).sent ≡ before ++ f ∷ [] = sent_then f before y can_send.acknowledged_is can_send.sent_is in
+    let at2 : session_at c ss2 ≡ sends_frame f y =
+    at-changed_same c (sends_frame f) ss1 within1 ∙ ap (sends_frame f) at1 in
+    let sent2 : (sends_frame f y).sent ≡ before ++ f ∷ [] =
+    sent_then f before y can_send.acknowledged_is can_send.sent_is in
     let sound2 : IsSound limit (sends_frame f y) =
     sound_sent limit f before left y (sound_followed limit sender x can_send.can (base.sound c))
     (sym kept ∙ can_send.frames_are) sent2 can_send.accepted_is in
@@ -149,13 +168,15 @@ frame_sent_holds limit sender w before f left base can_send =
       accepted_is = subst (λ a. (a ≡ before) ⊎ (a ≡ before ++ f ∷ [])) (sym (accepted2 c)) can_send.accepted_is;
       owner_is = can_send.owner_is;
     } in
-    let alone : w.units ++ record { session = c; load = one_frame f } ∷ [] ≡ record { session = c; load = one_frame f } ∷ [] =
+    let alone : w.units ++ record { session = c; load = one_frame f } ∷ []
+    ≡ record { session = c; load = one_frame f } ∷ [] =
     ap (λ us. us ++ record { session = c; load = one_frame f } ∷ []) can_send.no_unit in
     let unmuted : w.mute ≡ 0 = zero_mute w.mute w.units base.mute_within can_send.no_unit in
     record {
       sound = at-changed (λ k z. IsSound limit z) c (sends_frame f) ss1
           (subst (λ z. IsSound limit (sends_frame f z)) (sym at1) sound2) base1.sound;
-      mute_within = subst (λ m. m ≤ length (w.units ++ record { session = c; load = one_frame f } ∷ [])) (sym unmuted) (omega arith);
+      mute_within = subst (λ m. m ≤ length (w.units ++ record { session = c; load = one_frame f } ∷ []))
+          (sym unmuted) (omega arith);
       line = λ e.
           let owned = base1.line e in (
             subst (λ n. w.opened < n) (sym (length-changed c (sends_frame f) ss1)) owned.0,

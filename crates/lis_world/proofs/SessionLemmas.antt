@@ -1,5 +1,6 @@
 -- Reading and changing the sessions by their places.
-use Rattle.std.proofs.Common.{◌≡◌, ◌≢◌, ℕ, ◌<◌, ◌≤◌, ◌⊎◌, inl, inr, List, [], ◌∷◌, ◌++◌, length, refl, sym, ap, ◌∙◌, subst, arith, get_or-set_same, get_or-set_other}
+use Rattle.std.proofs.Common.{◌≡◌, ◌≢◌, ℕ, ◌<◌, ◌≤◌, ◌⊎◌, inl, inr, List, [], ◌∷◌, ◌++◌, length, refl, sym, ap, ◌∙◌}
+use Rattle.std.proofs.Common.{subst, arith, get_or-set_same, get_or-set_other}
 use Rattle.std.proofs.lemmas.Bool.{cases_eq, cases_lt}
 use Rattle.std.proofs.lemmas.List.{set_past, length-set, get_or_past, get_or_append_left, get_or_push, length_push}
 use Rattle.lis_world.specs.Session.{Session, new_session, session_at, changed}
@@ -44,7 +45,8 @@ pub kept-changed :
     → part (session_at j (changed k change ss)) ≡ part (session_at j ss)
 kept-changed part k change ss keeps j = go (cases_eq j k) (cases_lt k (length ss))
   where
-    go : (j ≡ k) ⊎ (j ≡ k → ⊥) → (k < length ss) ⊎ (length ss ≤ k) → part (session_at j (changed k change ss)) ≡ part (session_at j ss)
+    go : (j ≡ k) ⊎ (j ≡ k → ⊥) → (k < length ss) ⊎ (length ss ≤ k)
+        → part (session_at j (changed k change ss)) ≡ part (session_at j ss)
     go (inl same) (inl within) =
         subst (λ i. part (session_at i (changed k change ss)) ≡ part (session_at i ss)) (sym same)
         (ap part (at-changed_same k change ss within) ∙ keeps (session_at k ss))

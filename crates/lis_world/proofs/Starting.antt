@@ -1,5 +1,6 @@
 -- A session begins.
-use Rattle.std.proofs.Common.{◌≡◌, ℕ, ◌+◌, inl, Bool, true, false, List, [], ◌∷◌, ◌++◌, length, drop, Option, None, Some, refl, sym, ap, subst, arith}
+use Rattle.std.proofs.Common.{◌≡◌, ℕ, ◌+◌, inl, Bool, true, false, List, [], ◌∷◌, ◌++◌, length, drop, Option, None}
+use Rattle.std.proofs.Common.{Some, refl, sym, ap, subst, arith}
 use Rattle.std.specs.Prelude.{All, if◌then◌else◌, nat_lt}
 use Rattle.std.specs.Option.{option_map}
 use Rattle.std.proofs.lemmas.Bool.{ltb-false}
@@ -26,7 +27,8 @@ use Rattle.lis_world.proofs.Base.{Base, holds_of, AreSame, base_placed, front_sa
 text_from_fault : (text : List ℕ) → text_fault longest_text text ≡ None → IsText longest_text text
 text_from_fault text e = go (nat_lt longest_text (length text)) refl e
   where
-    clean : (place : Option ℕ) → first_forbidden text ≡ place → option_map Forbidden place ≡ None → first_forbidden text ≡ None
+    clean : (place : Option ℕ) → first_forbidden text ≡ place → option_map Forbidden place ≡ None
+        → first_forbidden text ≡ None
     clean None is none = is
     clean (Some p) is none = absurd (cc)
 
@@ -36,7 +38,10 @@ text_from_fault text e = go (nat_lt longest_text (length text)) refl e
         → (if long then Some TooLong else option_map Forbidden (first_forbidden text)) ≡ None
         → IsText longest_text text
     go true is none = absurd (cc)
-    go false is none = record { short = ltb-false longest_text (length text) is; clean = clean (first_forbidden text) refl none }
+    go false is none = record {
+      short = ltb-false longest_text (length text) is;
+      clean = clean (first_forbidden text) refl none;
+    }
 
 texts_from_fault : (index : ℕ) (texts : List (List ℕ)) → bad_text index texts ≡ None → All (IsText longest_text) texts
 texts_from_fault index [] e = All-nil (IsText longest_text)
@@ -67,7 +72,8 @@ can_start s texts e = go s.phase refl texts e
     go Contention is texts none = absurd (cc)
     go AwaitReply is texts none = absurd (cc)
 
-pub sound_new : (limit : ℕ) (texts : List (List ℕ)) → All (IsText longest_text) texts → IsSound limit (new_session texts)
+pub sound_new : (limit : ℕ) (texts : List (List ℕ)) → All (IsText longest_text) texts
+    → IsSound limit (new_session texts)
 sound_new limit texts sendable = record {
   sendable = sendable;
   accepted_of_sent = record { rest = []; joined = refl };
@@ -78,7 +84,8 @@ sound_new limit texts sendable = record {
 }
 
 -- endings, and one bid behind them
-bids_behind : (c : ℕ) (us : List Travelling) → AllEndings us → Bids c (us ++ record { session = c; load = enquiry } ∷ [])
+bids_behind : (c : ℕ) (us : List Travelling) → AllEndings us
+    → Bids c (us ++ record { session = c; load = enquiry } ∷ [])
 bids_behind c [] h = ((refl, refl), λ e. tt)
 bids_behind c (u ∷ us) h = (
   subst (λ l. BidsBy c u.session l (us ++ record { session = c; load = enquiry } ∷ [])) (sym h.0) tt,
@@ -106,7 +113,8 @@ begun_holds limit texts w h can =
     let w1 : World = record w { sender = started limit texts; current = length ss; sessions = ss' } in
     let same : AreSame ss ss' = are_same_more ss x in
     let base1 : Base limit w1 = record {
-      sound = at-more_each (IsSound limit) ss x (sound_new limit [] (All-nil (IsText longest_text))) (sound_new limit texts can.sendable) h.sound;
+      sound = at-more_each (IsSound limit) ss x (sound_new limit [] (All-nil (IsText longest_text)))
+          (sound_new limit texts can.sendable) h.sound;
       mute_within = h.mute_within;
       line = line_same ss ss' w.receiver.is_open w.receiver.accepted w.opened same h.line;
       front = front_same ss ss' w.receiver.is_open w.opened w.units same h.front;

@@ -1,5 +1,6 @@
 -- Timers and restarts of both ends, and the receiver's readiness.
-use Rattle.std.proofs.Common.{◌≡◌, ℕ, ◌<◌, ◌⊎◌, inl, inr, Bool, true, false, List, [], ◌∷◌, ◌++◌, length, drop, Some, refl, sym, ap, ◌∙◌, subst, arith}
+use Rattle.std.proofs.Common.{◌≡◌, ℕ, ◌<◌, ◌⊎◌, inl, inr, Bool, true, false, List, [], ◌∷◌, ◌++◌, length, drop, Some}
+use Rattle.std.proofs.Common.{refl, sym, ap, ◌∙◌, subst, arith}
 use Rattle.std.proofs.lemmas.List.{drop_all}
 use Rattle.lis_frame.specs.Frame.{FrameContent}
 use Rattle.lis_frame.specs.Pieces.{session_frames}
@@ -13,8 +14,10 @@ use Rattle.lis_world.specs.Unit.{Load, enquiry, ending, one_frame, Travelling}
 use Rattle.lis_world.specs.Session.{Session, session_at, changed, follows}
 use Rattle.lis_world.specs.World.{World}
 use Rattle.lis_world.specs.Steps.{placed, with_sender, sender_steps, forgotten, given_up}
-use Rattle.lis_world.proofs.Invariant.{Pending, Unsent, Leads, Front, AllEndings, Bids, BidAnswer, IsWaiting, KeepsFrames, InPhase, Holds}
-use Rattle.lis_world.proofs.Base.{base_of, holds_of, CanFollow, base_forgotten, base_placed, base_followed, current_followed, unsent_same, are_same_followed, with_sender_same}
+use Rattle.lis_world.proofs.Invariant.{Pending, Unsent, Leads, Front, AllEndings, Bids, BidAnswer, IsWaiting}
+use Rattle.lis_world.proofs.Invariant.{KeepsFrames, InPhase, Holds}
+use Rattle.lis_world.proofs.Base.{base_of, holds_of, CanFollow, base_forgotten, base_placed, base_followed}
+use Rattle.lis_world.proofs.Base.{current_followed, unsent_same, are_same_followed, with_sender_same}
 use Rattle.lis_world.proofs.Sending.{zero_mute, ended_holds, ended_with_ending}
 use Rattle.lis_world.proofs.Replies.{can_follow}
 
@@ -35,10 +38,12 @@ can_stop limit w outcome h other =
       done_acknowledged = λ done. absurd (other done);
     }
 
-timed_out : (limit : ℕ) (w : World) → Holds limit w → w.current < length w.sessions → Holds limit (sender_steps {limit = limit} (timer_in AwaitLine w.sender) (forgotten w))
+timed_out : (limit : ℕ) (w : World) → Holds limit w → w.current < length w.sessions
+    → Holds limit (sender_steps {limit = limit} (timer_in AwaitLine w.sender) (forgotten w))
 timed_out limit w h within =
     ended_with_ending limit (over TimedOut w.sender) (forgotten w)
-    (base_forgotten limit w (base_of limit w h)) within (can_stop limit w TimedOut h (λ e. cc)) refl refl (all_muted w.units)
+    (base_forgotten limit w (base_of limit w h)) within (can_stop limit w TimedOut h (λ e. cc)) refl refl
+    (all_muted w.units)
 
 -- the sender asks for the line once more
 asks_again :
@@ -57,12 +62,14 @@ asks_again limit w h kept waiting =
     } in
     let w1 : World = with_sender sender w in
     let unsent : Unsent w1.sessions w1.current =
-    unsent_same w.sessions (changed w.current (follows sender) w.sessions) w.current (are_same_followed w.current sender w.sessions) waiting.unsent in
+    unsent_same w.sessions (changed w.current (follows sender) w.sessions) w.current
+    (are_same_followed w.current sender w.sessions) waiting.unsent in
     let bid : Travelling = record { session = w.current; load = enquiry } in
     let unmuted : w.mute ≡ 0 = zero_mute w.mute w.units h.mute_within waiting.no_unit in
     let live : drop w.mute (w.units ++ bid ∷ []) ≡ bid ∷ [] =
     ap (λ m. drop m (w.units ++ bid ∷ [])) unmuted ∙ ap (λ us. us ++ bid ∷ []) waiting.no_unit in
-    holds_of limit (placed enquiry w1) (base_placed limit enquiry w1 unsent (base_followed limit sender w now (base_of limit w h)))
+    holds_of limit (placed enquiry w1) (base_placed limit enquiry w1 unsent
+    (base_followed limit sender w now (base_of limit w h)))
     (current_followed limit sender w waiting.unsent.0 now)
     (record {
       unsent = unsent;
@@ -83,7 +90,8 @@ sender_timer_phase limit w Contention h kept waiting = asks_again limit w h kept
 sender_timer_phase limit w AwaitReply h kept awaiting = timed_out limit w h awaiting.pending.is_session
 
 pub sender_timer_holds :
-    (limit : ℕ) (w : World) → Holds limit w → Holds limit (sender_steps {limit = limit} (timer_in w.sender.phase w.sender) (given_up w.sender.phase w))
+    (limit : ℕ) (w : World) → Holds limit w → Holds limit
+    (sender_steps {limit = limit} (timer_in w.sender.phase w.sender) (given_up w.sender.phase w))
 sender_timer_holds limit w h = sender_timer_phase limit w w.sender.phase h h.current.frames_are h.phase
 
 restarted_in :
@@ -93,7 +101,8 @@ restarted_in :
     → Holds limit (with_sender (over Restarted w.sender) (forgotten w))
 restarted_in limit w h within =
     ended_holds limit (over Restarted w.sender) (forgotten w)
-    (base_forgotten limit w (base_of limit w h)) within (can_stop limit w Restarted h (λ e. cc)) refl refl (all_muted w.units)
+    (base_forgotten limit w (base_of limit w h)) within (can_stop limit w Restarted h (λ e. cc)) refl refl
+    (all_muted w.units)
 
 restart_phase :
     (limit : ℕ) (w : World) (p : Phase)
@@ -110,7 +119,8 @@ restart_phase limit w Busy h is waiting = restarted_in limit w h waiting.unsent.
 restart_phase limit w Contention h is waiting = restarted_in limit w h waiting.unsent.0
 restart_phase limit w AwaitReply h is awaiting = restarted_in limit w h awaiting.pending.is_session
 
-pub restart_holds : (limit : ℕ) (w : World) → Holds limit w → Holds limit (with_sender (restart_in w.sender.phase w.sender) (forgotten w))
+pub restart_holds : (limit : ℕ) (w : World) → Holds limit w
+    → Holds limit (with_sender (restart_in w.sender.phase w.sender) (forgotten w))
 restart_holds limit w h = restart_phase limit w w.sender.phase h refl h.phase
 
 -- a receiver whose line is open only where it was, with the same frames
@@ -124,7 +134,12 @@ pending_closer :
     → Pending ss is_open owner s before f
     → Pending ss is_open' owner s before f
 pending_closer ss is_open is_open' owner s before f was h =
-    record { is_session = h.is_session; sent_is = h.sent_is; accepted_is = h.accepted_is; owner_is = λ e. h.owner_is (was e) }
+    record {
+      is_session = h.is_session;
+      sent_is = h.sent_is;
+      accepted_is = h.accepted_is;
+      owner_is = λ e. h.owner_is (was e);
+    }
 
 leads_closer :
     (ss : List Session) (is_open is_open' : Bool) (owner s : ℕ) (load : Load)
@@ -133,7 +148,8 @@ leads_closer :
     → Leads ss is_open' owner s load
 leads_closer ss is_open is_open' owner s enquiry was h = h
 leads_closer ss is_open is_open' owner s ending was h = tt
-leads_closer ss is_open is_open' owner s (one_frame f) was h = (h.0, pending_closer ss is_open is_open' owner s h.0 f was h.1)
+leads_closer ss is_open is_open' owner s (one_frame f) was h =
+    (h.0, pending_closer ss is_open is_open' owner s h.0 f was h.1)
 
 front_closer :
     (ss : List Session) (is_open is_open' : Bool) (owner : ℕ) (us : List Travelling)
@@ -141,11 +157,17 @@ front_closer :
     → Front ss is_open owner us
     → Front ss is_open' owner us
 front_closer ss is_open is_open' owner [] was h = tt
-front_closer ss is_open is_open' owner (u ∷ us) was h = (leads_closer ss is_open is_open' owner u.session u.load was h.0, h.1)
+front_closer ss is_open is_open' owner (u ∷ us) was h =
+    (leads_closer ss is_open is_open' owner u.session u.load was h.0, h.1)
 
-phase_closer : (w : World) (r' : ReceiverState) (p : Phase) → IsNoMoreOpen w.receiver r' → InPhase p w → InPhase p (record w { receiver = r' })
+phase_closer : (w : World) (r' : ReceiverState) (p : Phase) → IsNoMoreOpen w.receiver r' → InPhase p w
+    → InPhase p (record w { receiver = r' })
 phase_closer w r' Neutral closer h = record { no_reply = h.no_reply; live_endings = h.live_endings }
-phase_closer w r' AwaitLine closer h = record { unsent = h.unsent; none_acknowledged = h.none_acknowledged; traffic = go h.traffic }
+phase_closer w r' AwaitLine closer h = record {
+  unsent = h.unsent;
+  none_acknowledged = h.none_acknowledged;
+  traffic = go h.traffic;
+}
   where
     go :
         ((w.replies ≡ []) × Bids w.current (drop w.mute w.units))
@@ -154,7 +176,12 @@ phase_closer w r' AwaitLine closer h = record { unsent = h.unsent; none_acknowle
         ⊎ ((w.units ≡ []) × BidAnswer w.replies r'.is_open w.opened w.current)
     go (inl none) = inl none
     go (inr one) = inr (one.0, (one.1.0, one.1.1, λ e. one.1.2 (closer.was_open e)))
-phase_closer w r' Busy closer h = record { unsent = h.unsent; none_acknowledged = h.none_acknowledged; no_reply = h.no_reply; no_unit = h.no_unit }
+phase_closer w r' Busy closer h = record {
+  unsent = h.unsent;
+  none_acknowledged = h.none_acknowledged;
+  no_reply = h.no_reply;
+  no_unit = h.no_unit;
+}
 phase_closer w r' Contention closer h =
     record { unsent = h.unsent; none_acknowledged = h.none_acknowledged; no_reply = h.no_reply; no_unit = h.no_unit }
 phase_closer w r' AwaitReply closer h = record {
@@ -163,12 +190,14 @@ phase_closer w r' AwaitReply closer h = record {
   left = h.left;
   frames_are = h.frames_are;
   acknowledged_is = h.acknowledged_is;
-  pending = pending_closer w.sessions w.receiver.is_open r'.is_open w.opened w.current h.before h.frame closer.was_open h.pending;
+  pending = pending_closer w.sessions w.receiver.is_open r'.is_open w.opened w.current h.before h.frame
+      closer.was_open h.pending;
   unmuted = h.unmuted;
   traffic = h.traffic;
 }
 
-pub no_more_open_holds : (limit : ℕ) (w : World) (r' : ReceiverState) → IsNoMoreOpen w.receiver r' → Holds limit w → Holds limit (record w { receiver = r' })
+pub no_more_open_holds : (limit : ℕ) (w : World) (r' : ReceiverState) → IsNoMoreOpen w.receiver r' → Holds limit w
+    → Holds limit (record w { receiver = r' })
 no_more_open_holds limit w r' closer h = record {
   sound = h.sound;
   mute_within = h.mute_within;

@@ -1,5 +1,6 @@
 -- When a session is carried through: enough undisturbed rounds, and never six disturbed ones in a row.
-use Rattle.std.specs.Prelude.{◌≡◌, ◌≢◌, ℕ, zero, suc, ◌<◌, ◌≤◌, Bool, false, List, [], ◌∷◌, ◌++◌, length, None, Some, All, ◌==◌, ◌||◌}
+use Rattle.std.specs.Prelude.{◌≡◌, ◌≢◌, ℕ, zero, suc, ◌<◌, ◌≤◌, Bool, false, List, [], ◌∷◌, ◌++◌, length, None, Some}
+use Rattle.std.specs.Prelude.{All, ◌==◌, ◌||◌}
 use Rattle.lis_text.specs.Control.{STX, EOT, ENQ, ACK, LF}
 use Rattle.lis_frame.specs.declared.frame.FrameFault.{FrameFault}
 use Rattle.lis_text.specs.LinkText.{most_texts}
@@ -131,4 +132,5 @@ CarriesThrough limit =
 
 -- on an undisturbed link the first session is
 abbrev pub RunsQuietly : ℕ → Type 0
-RunsQuietly limit = (texts : List (List ℕ)) → AreSendable new_world texts → IsQuietEnd limit texts (world limit (quiet_events limit texts))
+RunsQuietly limit = (texts : List (List ℕ)) → AreSendable new_world texts
+    → IsQuietEnd limit texts (world limit (quiet_events limit texts))

@@ -6,7 +6,8 @@ use Rattle.lis_link.specs.declared.sender.Phase.TheVariants.{AwaitLine, AwaitRep
 use Rattle.lis_link.specs.declared.sender.Outcome.TheVariants.{TimedOut}
 use Rattle.lis_link.specs.Sender.{bad_texts, over}
 use Rattle.lis_world.specs.declared.event.Event.{Event}
-use Rattle.lis_world.specs.declared.event.Event.TheVariants.{Deliver, DeliverNoRoom, Damage, Lose, LoseReply, SenderTimer, RestartSender, Ready}
+use Rattle.lis_world.specs.declared.event.Event.TheVariants.{Deliver, DeliverNoRoom, Damage, Lose, LoseReply}
+use Rattle.lis_world.specs.declared.event.Event.TheVariants.{SenderTimer, RestartSender, Ready}
 use Rattle.lis_world.specs.Unit.{ending, Travelling}
 use Rattle.lis_world.specs.Session.{session_at}
 use Rattle.lis_world.specs.World.{World}

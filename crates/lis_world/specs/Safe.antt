@@ -1,4 +1,5 @@
--- What is safe: nothing is accepted that wasn't sent, nothing acknowledged that wasn't accepted, and what is handed out are the texts, whole and in order.
+-- What is safe: nothing is accepted that wasn't sent, nothing acknowledged that wasn't accepted, and what is handed out
+-- are the texts, whole and in order.
 use Rattle.std.specs.Prelude.{◌≡◌, ℕ, ◌≤◌, List, [], ◌++◌, length, Some, All}
 use Rattle.lis_frame.specs.Pieces.{session_frames}
 use Rattle.lis_link.specs.declared.sender.Outcome.TheVariants.{Done}

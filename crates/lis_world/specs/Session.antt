@@ -1,5 +1,6 @@
 -- A session: what it had to send, and what came of it.
-use Rattle.std.specs.Prelude.{ℕ, List, [], ◌∷◌, ◌++◌, Option, None, Some, length, slice_index_or, slice_set, if◌then◌else◌, nat_lt}
+use Rattle.std.specs.Prelude.{ℕ, List, [], ◌∷◌, ◌++◌, Option, None, Some, length, slice_index_or, slice_set}
+use Rattle.std.specs.Prelude.{if◌then◌else◌, nat_lt}
 use Rattle.lis_frame.specs.Frame.{FrameContent}
 use Rattle.lis_link.specs.declared.sender.Outcome.{Outcome}
 use Rattle.lis_link.specs.Sender.{SenderState}

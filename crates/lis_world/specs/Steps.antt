@@ -1,5 +1,6 @@
 -- What each event does to the world; one that isn't allowed does nothing.
-use Rattle.std.specs.Prelude.{ℕ, Bool, true, false, List, [], ◌∷◌, ◌++◌, length, Option, None, Some, if◌then◌else◌, ◌==◌, ◌||◌}
+use Rattle.std.specs.Prelude.{ℕ, Bool, true, false, List, [], ◌∷◌, ◌++◌, length, Option, None, Some, if◌then◌else◌}
+use Rattle.std.specs.Prelude.{◌==◌, ◌||◌}
 use Rattle.lis_text.specs.Control.{EOT, ACK}
 use Rattle.lis_frame.specs.declared.scanner.SignalOf.{SignalOf}
 use Rattle.lis_frame.specs.declared.scanner.SignalOf.TheVariants.{Bad}
@@ -10,10 +11,13 @@ use Rattle.lis_link.specs.declared.sender.EmitOf.{EmitOf}
 use Rattle.lis_link.specs.declared.sender.EmitOf.TheVariants as Emits
 use Rattle.lis_link.specs.declared.sender.StartFault.{StartFault}
 use Rattle.lis_link.specs.declared.receiver.Readiness.TheVariants as Readinesses
-use Rattle.lis_link.specs.Sender.{SenderState, SenderStep, on_reply, on_sender_timer, sender_restarted, start_fault, started}
+use Rattle.lis_link.specs.Sender.{SenderState, SenderStep, on_reply, on_sender_timer, sender_restarted, start_fault}
+use Rattle.lis_link.specs.Sender.{started}
 use Rattle.lis_link.specs.Receiver.{on_receiver_timer, receiver_restarted, with_readiness, with_room}
 use Rattle.lis_world.specs.declared.event.Event.{Event}
-use Rattle.lis_world.specs.declared.event.Event.TheVariants.{Start, Deliver, DeliverNoRoom, Damage, Lose, Reply, DamageReply, LoseReply, SenderTimer, ReceiverTimer, RestartSender, RestartReceiver, Ready, Busy, Contending}
+use Rattle.lis_world.specs.declared.event.Event.TheVariants.{Start, Deliver, DeliverNoRoom, Damage, Lose, Reply}
+use Rattle.lis_world.specs.declared.event.Event.TheVariants.{DamageReply, LoseReply, SenderTimer, ReceiverTimer}
+use Rattle.lis_world.specs.declared.event.Event.TheVariants.{RestartSender, RestartReceiver, Ready, Busy, Contending}
 use Rattle.lis_world.specs.Unit.{Load, enquiry, ending, one_frame, Travelling, load_bytes}
 use Rattle.lis_world.specs.Session.{new_session, changed, follows, sends_frame}
 use Rattle.lis_world.specs.World.{World, new_world, Desk, desk_of, hears, settled}
@@ -27,7 +31,8 @@ emitted Emits.Nothing w = w
 emitted Emits.Enq w = placed enquiry w
 emitted Emits.Eot w = placed ending w
 emitted Emits.Nak w = w
-emitted (Emits.Frame frame) w = placed (one_frame frame) (record w { sessions = changed w.current (sends_frame frame) w.sessions })
+emitted (Emits.Frame frame) w = placed (one_frame frame)
+    (record w { sessions = changed w.current (sends_frame frame) w.sessions })
 
 -- the sender's new state, booked to its session
 abbrev pub with_sender : SenderState → World → World

@@ -22,7 +22,16 @@ pub record World : Type 0 where
 
 abbrev pub new_world : World
 new_world =
-    record { sender = new_sender; receiver = new_receiver; units = []; replies = []; mute = 0; current = 0; opened = 0; sessions = [] }
+    record {
+      sender = new_sender;
+      receiver = new_receiver;
+      units = [];
+      replies = [];
+      mute = 0;
+      current = 0;
+      opened = 0;
+      sessions = [];
+    }
 
 -- the computer's side while the bytes of one unit come, with the replies that these cause
 pub record Desk : Type 0 where
@@ -38,7 +47,12 @@ desk_of w = record { receiver = w.receiver; opened = w.opened; sessions = w.sess
 -- the one that owns it, and what is accepted is booked to the owner
 abbrev pub noted : ℕ → ReceiverStep → Note → Desk → Desk
 noted session step Opened desk =
-    record { receiver = step.after; opened = session; sessions = desk.sessions; replies = with_more desk.replies step.reply }
+    record {
+      receiver = step.after;
+      opened = session;
+      sessions = desk.sessions;
+      replies = with_more desk.replies step.reply;
+    }
 noted session step (Accepted number) desk =
     record {
       receiver = step.after;
@@ -47,7 +61,12 @@ noted session step (Accepted number) desk =
       replies = with_more desk.replies step.reply;
     }
 noted session step note desk =
-    record { receiver = step.after; opened = desk.opened; sessions = desk.sessions; replies = with_more desk.replies step.reply }
+    record {
+      receiver = step.after;
+      opened = desk.opened;
+      sessions = desk.sessions;
+      replies = with_more desk.replies step.reply;
+    }
 
 abbrev pub booked : ℕ → ReceiverStep → Desk → Desk
 booked session step desk = noted session step step.note desk

@@ -4,14 +4,16 @@ ghost use Rattle.std.specs.Prelude.{◌≡◌, ◌≢◌, ◌≤◌, ◌+◌, le
 ghost use Rattle.lis_frame.specs.Limit.{IsLimit};
 ghost use Rattle.lis_frame.specs.Frame.{frame_bytes};
 ghost use Rattle.lis_link.specs.declared.receiver.Note.TheVariants as Notes;
-ghost use Rattle.lis_link.specs.Receiver.{ReceiverState, ReceiverStep, new_receiver, on_receiver_timer, receiver_restarted, with_readiness, with_room};
+ghost use Rattle.lis_link.specs.Receiver.{ReceiverState, ReceiverStep, new_receiver, on_receiver_timer};
+ghost use Rattle.lis_link.specs.Receiver.{receiver_restarted, with_readiness, with_room};
 ghost use Rattle.lis_link.specs.inside.Stands.{IsIn, IsStep};
 ghost use Rattle.lis_frame.specs.Stream.{signals_after};
 ghost use Rattle.lis_world.specs.Session.{changed};
 ghost use Rattle.lis_world.specs.Unit.{load_bytes, one_frame};
 ghost use Rattle.lis_world.specs.Steps.{is_noticed, room_at};
 ghost use Rattle.lis_world.specs.World.{booked, hears};
-ghost use Rattle.lis_world.specs.inside.Playing.{IsDesk, desk_at, OnlyLoad, TakesLoad, takes_frame, follows_with, sends};
+ghost use Rattle.lis_world.specs.inside.Playing.{IsDesk, desk_at, OnlyLoad, TakesLoad, takes_frame, follows_with};
+ghost use Rattle.lis_world.specs.inside.Playing.{sends};
 
 use crate::session::SessionOf;
 use crate::unit::{LoadOf, TravellingOf};
@@ -53,7 +55,8 @@ impl<const N: usize> DeskOf<N> {
     /// A new receiver, and no session.
     pub(crate) fn new(alloc: Global) -> Result<Self, AllocError>
         requires { IsLimit N }
-        ensures { IfOk result (λ desk. IsDesk N desk (record { receiver = new_receiver; opened = 0; sessions = []; replies = [] })) }
+        ensures { IfOk result (λ desk. IsDesk N desk
+            (record { receiver = new_receiver; opened = 0; sessions = []; replies = [] })) }
     {
         let receiver = Box::new(alloc, ReceiverOf::new(alloc))?;
         Ok(DeskOf {
@@ -161,7 +164,8 @@ impl<const N: usize> DeskOf<N> {
 
     /// The replies that the unit has caused go behind those on the link.
     pub(crate) fn answer(&mut self, replies: &mut VecDeque<u8>) -> Result<(), AllocError>
-        ensures { OnOk result ((replies.new.items ≡ replies.old.items ++ self.old.replies) × (self.new ≡ record self.old { replies = [] })) }
+        ensures { OnOk result ((replies.new.items ≡ replies.old.items ++ self.old.replies)
+            × (self.new ≡ record self.old { replies = [] })) }
     {
         replies.append(&mut self.caused)
     }
@@ -201,7 +205,8 @@ impl<const N: usize> DeskOf<N> {
 
     /// A frame of the session at this place was put on the link.
     pub(crate) fn send(&mut self, place: usize, frame: &FrameOf<N>) -> Result<(), AllocError>
-        ensures { OnOk result (self.new ≡ record self.old { sessions = changed place (sends frame.now) self.old.sessions }) }
+        ensures { OnOk result (self.new ≡ record self.old
+            { sessions = changed place (sends frame.now) self.old.sessions }) }
     {
         match self.sessions.get_mut(place) {
             None => Ok(()),

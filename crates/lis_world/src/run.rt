@@ -7,11 +7,13 @@ ghost use Rattle.lis_link.specs.Receiver.{ReceiverState};
 ghost use Rattle.lis_link.specs.Sender.{start_fault};
 ghost use Rattle.lis_link.specs.inside.Stands.{IsIn};
 ghost use Rattle.lis_world.specs.inside.Loads.{load_of};
-ghost use Rattle.lis_world.specs.inside.Playing.{IsWorld, world_at, front_noticed, kept_given_up, kept_forgotten, kept_following, kept_sending, kept_with};
+ghost use Rattle.lis_world.specs.inside.Playing.{IsWorld, world_at, front_noticed, kept_given_up, kept_forgotten};
+ghost use Rattle.lis_world.specs.inside.Playing.{kept_following, kept_sending, kept_with};
 ghost use Rattle.lis_world.specs.Session.{new_session};
 ghost use Rattle.lis_world.specs.Unit.{enquiry};
 ghost use Rattle.lis_world.specs.World.{new_world, replies_with, lowered};
-ghost use Rattle.lis_world.specs.Steps.{emitted, with_sender, begins, is_noticed, delivered, delivered_no_room, damaged, lost, replied, reply_damaged, reply_lost, after_event};
+ghost use Rattle.lis_world.specs.Steps.{emitted, with_sender, begins, is_noticed, delivered, delivered_no_room};
+ghost use Rattle.lis_world.specs.Steps.{damaged, lost, replied, reply_damaged, reply_lost, after_event};
 ghost use Rattle.lis_world.specs.declared.event.Event.TheVariants.{SenderTimer, RestartSender};
 
 use crate::desk::DeskOf;
@@ -107,7 +109,8 @@ impl<const N: usize> RunOf<N> {
         desk.into_sessions()
     }
 
-    /// The sender is started, if the start isn't refused. One that is refused takes no memory, so it can't end the play.
+    /// The sender is started, if the start isn't refused. One that is refused takes no memory, so it can't end the
+    /// play.
     fn start(&mut self, texts: Texts) -> Result<(), AllocError>
         ensures world { (r : ReceiverState) → IsIn N self.old.desk.receiver r →
             OnOk result (IsWorld N self.new (begins N (start_fault self.old.sender texts) texts (world_at self.old r))) }

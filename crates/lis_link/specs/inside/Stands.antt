@@ -8,7 +8,8 @@ use Rattle.lis_link.specs.declared.receiver.Note.TheVariants.{Accepted, OutOfMem
 use Rattle.lis_link.specs.declared.receiver.Step.{Step}
 use Rattle.lis_link.specs.Joining.{completed, held_after}
 use Rattle.lis_link.specs.inside.Kept.{Kept, KeptLine}
-use Rattle.lis_link.specs.Receiver.{ReceiverState, ReceiverStep, answers, held_text, held_while, heard_on, on_bytes, with_heard}
+use Rattle.lis_link.specs.Receiver.{ReceiverState, ReceiverStep, answers, held_text, held_while, heard_on, on_bytes}
+use Rattle.lis_link.specs.Receiver.{with_heard}
 
 -- a receiver that keeps this is in this state
 pub record IsIn (limit : ℕ) (kept : Kept) (r : ReceiverState) : Type 0 where
@@ -30,8 +31,10 @@ pub record Makes (limit : ℕ) (step : ReceiverStep) (result : Step) (new : Kept
   pub answer : IsStep step result
   pub state : IsIn limit new step.after
 
--- memory was refused for the text of a frame that would be accepted and is longer than the spare room: NAK, and nothing else
-pub record IsRefused (limit spare : ℕ) (step : ReceiverStep) (r : ReceiverState) (result : Step) (new : Kept) : Type 0 where
+-- memory was refused for the text of a frame that would be accepted and is longer than the spare room: NAK, and nothing
+-- else
+pub record IsRefused (limit spare : ℕ) (step : ReceiverStep) (r : ReceiverState) (result : Step) (new : Kept) : Type
+    0 where
   pub frame : FrameContent
   pub would_accept : step.taken ≡ Some frame
   pub too_long : spare < length frame.text
@@ -59,8 +62,10 @@ pub record HearsFront (limit : ℕ) (bytes : List ℕ) (r : ReceiverState) (spar
     Type 0 where
   pub meant : ReceiverStep
   pub goes_on : on_bytes limit bytes r
-      ≡ heard_on result.count meant.note meant (on_bytes limit (drop result.count bytes) (with_heard (take result.count bytes) r))
+      ≡ heard_on result.count meant.note meant (on_bytes limit (drop result.count bytes)
+      (with_heard (take result.count bytes) r))
   pub quiet : meant.note ≡ Quiet → meant ≡ answers None Quiet (with_heard (take result.count bytes) r)
   pub makes : result.step.note ≢ OutOfMemory → Makes limit meant result.step new
-  pub refused : result.step.note ≡ OutOfMemory → IsRefused limit spare meant (with_heard (take result.count bytes) r) result.step new
+  pub refused : result.step.note ≡ OutOfMemory → IsRefused limit spare meant
+      (with_heard (take result.count bytes) r) result.step new
   pub spare_after : SpareAfter spare new.spare meant.taken

@@ -7,7 +7,8 @@ ghost use Rattle.lis_frame.specs.declared.scanner.SignalOf.TheVariants as Signal
 ghost use Rattle.lis_text.specs.Control.{NAK};
 ghost use Rattle.lis_link.specs.declared.receiver.Note.TheVariants as Notes;
 ghost use Rattle.lis_link.specs.inside.Kept.{idle_line, kept_of};
-ghost use Rattle.lis_link.specs.Receiver.{ReceiverState, bid_with, judged_by, found_reply, heard_by, heard, on_receiver_timer};
+ghost use Rattle.lis_link.specs.Receiver.{ReceiverState, bid_with, judged_by, found_reply, heard_by, heard};
+ghost use Rattle.lis_link.specs.Receiver.{on_receiver_timer};
 ghost use Rattle.lis_link.specs.inside.Stands.{IsIn, Makes, IsRefused, IsTaken, SpareAfter};
 
 use crate::receiver::{MOST_FRAMES, Note, Readiness, Step};

@@ -102,7 +102,8 @@ still_noticed true load [] = true
 still_noticed true load (signal ∷ signals) = false
 
 -- while damage is heard
-pub record IsNoticing (limit : ℕ) (load : Load) (is_bad : Bool) (scanner : Held) (left : List ℕ) (goal : Bool) : Type 0 where
+pub record IsNoticing (limit : ℕ) (load : Load) (is_bad : Bool) (scanner : Held) (left : List ℕ) (goal : Bool) :
+    Type 0 where
   pub past : List ℕ
   pub stream : StandsFor limit scanner past
   pub goes_on : still_noticed is_bad load (signals_after limit past left) ≡ goal
@@ -126,7 +127,10 @@ kept_given_up Phases.AwaitReply kept = kept_forgotten kept
 abbrev pub kept_following : KeptWorld → KeptWorld
 kept_following kept =
     record kept {
-      desk = record kept.desk { sessions = changed kept.current (follows_with kept.sender.acknowledged kept.sender.outcome) kept.desk.sessions };
+      desk = record kept.desk {
+        sessions = changed kept.current (follows_with kept.sender.acknowledged
+            kept.sender.outcome) kept.desk.sessions;
+      };
     }
 
 abbrev pub kept_with : Load → KeptWorld → KeptWorld

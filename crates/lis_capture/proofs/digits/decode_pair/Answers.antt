@@ -11,4 +11,5 @@ returns-then-both c =
 pub returns-else-both : goal.returns-else-both
 returns-else-both c =
     rw c.if-both.false
-    (pair_other c.args.high c.args.low ((λ i. sym c.is_digit.ensures i && sym c.is_digit-2.ensures i) ∙ c.if-both.false))
+    (pair_other c.args.high c.args.low ((λ i. sym c.is_digit.ensures i && sym c.is_digit-2.ensures i)
+    ∙ c.if-both.false))

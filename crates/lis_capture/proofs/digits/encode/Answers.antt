@@ -7,7 +7,8 @@ loop-place-preserved c = record {
   fits = omega arith;
   written =
       sixteen_more c.args.bytes.now c.loop-place.digits c.encode_sixteen.new.digits c.loop-place.place _
-      (omega (arith, c.loop-place.auto.digits, c.requires)) (omega (arith, c.loop-place-test.true)) c.loop-place.invariant.written c.encode_sixteen.ensures;
+      (omega (arith, c.loop-place.auto.digits, c.requires)) (omega (arith, c.loop-place-test.true))
+      c.loop-place.invariant.written c.encode_sixteen.ensures;
 }
 
 pub returns : goal.returns

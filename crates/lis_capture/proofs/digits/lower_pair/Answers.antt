@@ -4,4 +4,5 @@ use Rattle.lis_capture.proofs.digits.lower_pair.Goals as goal
 
 pub returns : goal.returns
 returns c =
-    pair_lowered c.args.high c.args.low c.args.lowered.now _ c.requires (λ i. c.is_digit.ensures i && c.is_digit-2.ensures i)
+    pair_lowered c.args.high c.args.low c.args.lowered.now _ c.requires
+    (λ i. c.is_digit.ensures i && c.is_digit-2.ensures i)

@@ -14,5 +14,6 @@ pub returns-clause-lowered : goal.returns-clause-lowered
 returns-clause-lowered c =
     let part = take 16 c.args.digits.now in
     let long : length part ≡ 16 = omega (arith, length-take 16 c.args.digits.now) in
-    put_chunk_whole c.args.lowered.now (zip2 bit_or part (replicate 16 32)) (omega (arith, c.requires.room, long, length-zip2 bit_or part (replicate 16 32) long))
+    put_chunk_whole c.args.lowered.now (zip2 bit_or part (replicate 16 32))
+    (omega (arith, c.requires.room, long, length-zip2 bit_or part (replicate 16 32) long))
     ∙ zip2_splat bit_or part 16 32 long

@@ -6,8 +6,10 @@ use Rattle.lis_frame.proofs.split.split_all_of.Goals as goal
 pub returns-then-last : goal.returns-then-last
 returns-then-last g c =
     rw c.in_ok-push.ensures.ok
-    (frames-last g.row.N c.loop-frames.offset c.loop-frames.number c.args.text.now c.split_at_of-frame.result c.loop-frames.frames _
-    (omega arith) c.split_at_of-frame.ensures.value c.loop-frames.invariant.so_far (sym c.is_last-last.ensures ∙ c.if-last.true))
+    (frames-last g.row.N c.loop-frames.offset c.loop-frames.number c.args.text.now c.split_at_of-frame.result
+    c.loop-frames.frames _
+    (omega arith) c.split_at_of-frame.ensures.value c.loop-frames.invariant.so_far
+    (sym c.is_last-last.ensures ∙ c.if-last.true))
 
 pub loop-frames-preserved : goal.loop-frames-preserved
 loop-frames-preserved g c =
@@ -17,11 +19,13 @@ loop-frames-preserved g c =
     record {
       whole = add-mod_right c.loop-frames.offset g.row.N ∙ c.loop-frames.invariant.whole;
       within =
-          inr (frames-within g.row.N c.loop-frames.offset c.loop-frames.number c.args.text.now c.split_at_of-frame.result c.loop-frames.frames _
+          inr (frames-within g.row.N c.loop-frames.offset c.loop-frames.number c.args.text.now
+          c.split_at_of-frame.result c.loop-frames.frames _
           (omega arith) value so_far last);
       digit = c.next_number-number.ensures.bound;
       so_far =
           rw (c.in_ok-push.ensures.ok, c.next_number-number.ensures.value)
-          (frames-more g.row.N c.loop-frames.offset c.loop-frames.number c.args.text.now c.split_at_of-frame.result c.loop-frames.frames _
+          (frames-more g.row.N c.loop-frames.offset c.loop-frames.number c.args.text.now c.split_at_of-frame.result
+          c.loop-frames.frames _
           (omega arith) value so_far last);
     }

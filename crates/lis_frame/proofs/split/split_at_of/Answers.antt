@@ -18,7 +18,12 @@ pub returns-then-rest-clause-piece : goal.returns-then-rest-clause-piece
 returns-then-rest-clause-piece g c =
     rw (c.of_parts.ensures, c.copied.ensures, c.split_at.ensures.back, c.as_slice.ensures)
     (last_piece_at g.row.N c.args.offset c.args.text.now (omega arith) c.requires.whole c.requires.within
-    (omega (arith, length-drop c.args.offset c.args.text.now, rw (c.split_at.ensures.back, c.as_slice.ensures) at c.if-rest.true)))
+    (omega (
+      arith,
+      length-drop c.args.offset c.args.text.now,
+      rw (c.split_at.ensures.back, c.as_slice.ensures) at
+          c.if-rest.true,
+    )))
 
 pub copied-requires-2 : goal.copied-requires-2
 copied-requires-2 g c = (
@@ -32,6 +37,17 @@ copied-requires-2 g c = (
 
 pub returns-clause-piece : goal.returns-clause-piece
 returns-clause-piece g c =
-    rw (c.of_parts-2.ensures, c.copied-2.ensures, c.split_at-2.ensures.front, c.split_at.ensures.back, c.as_slice.ensures)
+    rw (
+      c.of_parts-2.ensures,
+      c.copied-2.ensures,
+      c.split_at-2.ensures.front,
+      c.split_at.ensures.back,
+      c.as_slice.ensures,
+    )
     (piece_at g.row.N c.args.offset c.args.text.now (omega arith) c.requires.whole c.requires.within
-    (omega (arith, length-drop c.args.offset c.args.text.now, rw (c.split_at.ensures.back, c.as_slice.ensures) at c.if-rest.false)))
+    (omega (
+      arith,
+      length-drop c.args.offset c.args.text.now,
+      rw (c.split_at.ensures.back, c.as_slice.ensures) at
+          c.if-rest.false,
+    )))

@@ -8,8 +8,10 @@ use Rattle.lis_link.specs.Receiver.{ReceiverState, heard_by}
 use Rattle.lis_link.proofs.laws.opens_when_ready.Goals as goal
 
 opened :
-    (limit : ℕ) (is_open : Bool) (readiness : Readiness) (r : ReceiverState) → r.readiness ≡ readiness → readiness ≡ Ready →
-    ((heard_by {limit = limit} is_open Enq r).reply ≡ Some ACK) × ((heard_by {limit = limit} is_open Enq r).after.is_open ≡ true)
+    (limit : ℕ) (is_open : Bool) (readiness : Readiness) (r : ReceiverState) → r.readiness ≡ readiness
+    → readiness ≡ Ready →
+    ((heard_by {limit = limit} is_open Enq r).reply ≡ Some ACK)
+    × ((heard_by {limit = limit} is_open Enq r).after.is_open ≡ true)
 opened limit true readiness r e h = rw (e, h) (refl, refl)
 opened limit false readiness r e h = rw (e, h) (refl, refl)
 

@@ -1,4 +1,5 @@
-use Rattle.std.proofs.Common.{◌≡◌, ◌≢◌, ℕ, ◌≤◌, ◌<◌, Bool, true, false, List, [], ◌∷◌, ◌++◌, length-take, refl, Option, None, Some, cond, length, take, drop, take-append-drop, arith, sym}
+use Rattle.std.proofs.Common.{◌≡◌, ◌≢◌, ℕ, ◌≤◌, ◌<◌, Bool, true, false, List, [], ◌∷◌, ◌++◌, length-take, refl, Option}
+use Rattle.std.proofs.Common.{None, Some, cond, length, take, drop, take-append-drop, arith, sym}
 use Rattle.std.specs.Io.BufRead.{DropsConsumable}
 use Rattle.std.specs.Io.KnownBytes.{Consumes, prepend_known}
 use Rattle.std.proofs.lemmas.List.{take-append-le}
@@ -29,6 +30,7 @@ returns-clause-bytes g c =
     rw long at (take-append_seam (take count held) (drop count c.args.buffer.now)) in
     let there : 0 < length held = some held (rw (← c.buffer-held.ensures) at c.requires.there) in (
       rw (c.copy_from_slice.ensures.after, front, c.buffer-held.ensures)
-          (consumed _ (g.R.Read.remaining c.args.reader.now.inner) _ _ count (rw c.buffer-held.ensures at short) c.consume.ensures.bytes),
+          (consumed _ (g.R.Read.remaining c.args.reader.now.inner) _ _ count (rw c.buffer-held.ensures at short)
+          c.consume.ensures.bytes),
       λ none room. absurd (omega (arith, c.min-count.ensures, there, c.requires.room, none)),
     )

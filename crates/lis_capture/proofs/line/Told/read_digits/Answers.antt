@@ -9,11 +9,24 @@ invariant_of-self c =
       | then-self w ↦
           let short : c.match-self.len ≤ 4094 = search rules in
           let long : length w.keep-told.new.room ≡ c.match-self.len = omega (arith, w.keep-told.auto.room) in
-          rw (w.self-inside-is, w.if-self.true)
-          (short, simp (length-append, length-drop) (omega (arith, long, short)), c.self.invariant.2, kept_front c.self.inside.keeping w.keep-told.new.room _ c.match-self.len long (w.keep-told.ensures.kept (sym w.told-is ∙ c.if-told.true)))
+          rw (w.self-inside-is, w.if-self.true) (
+            short,
+            simp (length-append, length-drop) (omega (arith, long, short)),
+            c.self.invariant.2,
+            kept_front
+                c.self.inside.keeping w.keep-told.new.room _ c.match-self.len long
+                (w.keep-told.ensures.kept (sym w.told-is ∙ c.if-told.true)),
+          )
       | else-self w ↦
           let short : c.match-self.len ≤ 4094 = search rules in
-          let long : length w.keep-told-else-self.new.room ≡ c.match-self.len = omega (arith, w.keep-told-else-self.auto.room) in
-          rw (w.self-inside-is, w.if-self.false)
-          (short, c.self.invariant.1, simp (length-append, length-drop) (omega (arith, long, short)), kept_front c.self.inside.keeping w.keep-told-else-self.new.room _ c.match-self.len long (w.keep-told-else-self.ensures.kept (sym w.told-is ∙ c.if-told.true)))
+          let long : length w.keep-told-else-self.new.room ≡ c.match-self.len =
+          omega (arith, w.keep-told-else-self.auto.room) in
+          rw (w.self-inside-is, w.if-self.false) (
+            short,
+            c.self.invariant.1,
+            simp (length-append, length-drop) (omega (arith, long, short)),
+            kept_front
+                c.self.inside.keeping w.keep-told-else-self.new.room _ c.match-self.len long
+                (w.keep-told-else-self.ensures.kept (sym w.told-is ∙ c.if-told.true)),
+          )
     ]

@@ -7,10 +7,16 @@ use Rattle.lis_field.proofs.delimiting.Delimiters.new.Goals as goal
 pub returns-in-Some-clause-only : goal.returns-in-Some-clause-only
 returns-in-Some-clause-only c = λ good.
     let a = c.args in
-    absurd (some_none c.in-Some.fault c.fault_of.result c.in-Some.is (c.fault_of.ensures ∙ delimiter_fault-IsDelimiters (delimiters_of a.field a.repeat a.component a.escape) good))
+    absurd (some_none c.in-Some.fault c.fault_of.result c.in-Some.is
+    (c.fault_of.ensures ∙ delimiter_fault-IsDelimiters (delimiters_of a.field a.repeat a.component a.escape) good))
 
 pub invariant_of-result : goal.invariant_of-result
-invariant_of-result c = let a = c.args in IsDelimiters-delimiters_of a.field a.repeat a.component a.escape (sym c.fault_of.ensures ∙ c.in_default.is)
+invariant_of-result c = let a = c.args in IsDelimiters-delimiters_of a.field a.repeat a.component a.escape
+    (sym c.fault_of.ensures ∙ c.in_default.is)
 
 pub returns-clause-found : goal.returns-clause-found
-returns-clause-found c = let a = c.args in (refl, IsDelimiters-delimiters_of a.field a.repeat a.component a.escape (sym c.fault_of.ensures ∙ c.in_default.is))
+returns-clause-found c = let a = c.args in (
+  refl,
+  IsDelimiters-delimiters_of a.field a.repeat a.component a.escape
+      (sym c.fault_of.ensures ∙ c.in_default.is),
+)

@@ -7,7 +7,8 @@ use Rattle.lis_frame.proofs.scanner.ScannerOf.scan.Goals as goal
 
 pub returns-in-Some-front_frame-clause-frame : goal.returns-in-Some-front_frame-clause-frame
 returns-in-Some-front_frame-clause-frame g c =
-    rw (c.in-Some.ensures.cases.0, c.if-byte-ne-STX.false, add-one c.in-Some-front_frame.count) c.in-Some-front_frame.ensures.frame
+    rw (c.in-Some.ensures.cases.0, c.if-byte-ne-STX.false, add-one c.in-Some-front_frame.count)
+    c.in-Some-front_frame.ensures.frame
 
 pub returns-in-Some-front_frame-clause-signal : goal.returns-in-Some-front_frame-clause-signal
 returns-in-Some-front_frame-clause-signal g c = λ past stands.
@@ -22,7 +23,8 @@ returns-in-Some-front_frame-clause-after g c = λ past stands.
 pub returns-then-byte-ne-STX-clause-run : goal.returns-then-byte-ne-STX-clause-run
 returns-then-byte-ne-STX-clause-run g c =
     let other : (c.in-Some.byte.now == STX) ≡ false = grind (arith, nat_tests, c.if-byte-ne-STX.true) in
-    c.run_on.ensures.count ∙ rw c.in-Some.ensures.cases.0 (quiet_length-other c.in-Some.byte.now c.in-Some.behind.now other)
+    c.run_on.ensures.count ∙ rw c.in-Some.ensures.cases.0
+    (quiet_length-other c.in-Some.byte.now c.in-Some.behind.now other)
 
 pub returns-then-byte-ne-STX-clause-signal : goal.returns-then-byte-ne-STX-clause-signal
 returns-then-byte-ne-STX-clause-signal g c = λ past stands.
@@ -30,11 +32,13 @@ returns-then-byte-ne-STX-clause-signal g c = λ past stands.
 
 pub returns-then-byte-ne-STX-clause-after : goal.returns-then-byte-ne-STX-clause-after
 returns-then-byte-ne-STX-clause-after g c = λ past stands.
-    rw (c.run_on.ensures.held, c.run_on.ensures.count) (unmarked_run g.row.N c.args.self.now c.args.bytes.now past stands).1
+    rw (c.run_on.ensures.held, c.run_on.ensures.count)
+    (unmarked_run g.row.N c.args.self.now c.args.bytes.now past stands).1
 
 pub returns-clause-run : goal.returns-clause-run
 returns-clause-run g c =
-    rw (c.in-Some.ensures.cases.0, c.if-byte-ne-STX.false) (quiet_length-start c.in-Some.behind.now _ c.run_on-2.ensures.count)
+    rw (c.in-Some.ensures.cases.0, c.if-byte-ne-STX.false)
+    (quiet_length-start c.in-Some.behind.now _ c.run_on-2.ensures.count)
 
 pub returns-clause-signal : goal.returns-clause-signal
 returns-clause-signal g c = λ past stands.
@@ -43,5 +47,12 @@ returns-clause-signal g c = λ past stands.
 
 pub returns-clause-after : goal.returns-clause-after
 returns-clause-after g c = λ past stands.
-    rw (c.in-Some.ensures.cases.0, c.if-byte-ne-STX.false, add-one c.run_on-2.result, c.run_on-2.ensures.count, c.run_on-2.ensures.held, c.hold.ensures)
+    rw (
+      c.in-Some.ensures.cases.0,
+      c.if-byte-ne-STX.false,
+      add-one c.run_on-2.result,
+      c.run_on-2.ensures.count,
+      c.run_on-2.ensures.held,
+      c.hold.ensures,
+    )
     (started_run g.row.N c.args.self.now c.in-Some.behind.now past stands).1

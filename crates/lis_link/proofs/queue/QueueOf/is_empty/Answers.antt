@@ -7,4 +7,5 @@ returns g c =
     let place = c.self.invariant in
     let some : 0 < g.row.N = omega (arith, place.is_limit.at_least) in
     rw (← c.self.view_is, c.len.ensures.value)
-    (length-left g.row.N c.self.inside.texts c.self.inside.index c.self.inside.offset c.self.inside.number some place.index_within place.offset_within)
+    (length-left g.row.N c.self.inside.texts c.self.inside.index c.self.inside.offset c.self.inside.number some
+    place.index_within place.offset_within)

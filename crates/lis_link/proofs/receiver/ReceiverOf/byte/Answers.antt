@@ -6,6 +6,8 @@ use Rattle.lis_link.proofs.receiver.ReceiverOf.byte.Goals as goal
 pub returns-clause-step : goal.returns-clause-step
 returns-clause-step g c r is_in fine =
     let was = rw (← c.self.view_is) at is_in in
-    let here = beside g.row.N c.self.inside.line c.self.inside.scanner c.take.new.self c.args.self.now r (c.args.byte ∷ []) c.self.view_is is_in
+    let here = beside g.row.N c.self.inside.line c.self.inside.scanner c.take.new.self c.args.self.now r
+    (c.args.byte ∷ []) c.self.view_is is_in
     (c.take.ensures.after r.past was.stream_is) in
-    rw (c.told.ensures.signal r.past was.stream_is) at (c.hear-step.ensures.step g.row.N c.take.new.self (with_heard (c.args.byte ∷ []) r) here fine)
+    rw (c.told.ensures.signal r.past was.stream_is) at
+    (c.hear-step.ensures.step g.row.N c.take.new.self (with_heard (c.args.byte ∷ []) r) here fine)

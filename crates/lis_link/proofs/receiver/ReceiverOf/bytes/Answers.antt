@@ -10,34 +10,40 @@ returns-in_default g c =
     let heard = λ (r : ReceiverState) (is_in : IsIn g.row.N c.args.self.now r).
     let hearing = c.loop-count.invariant.1 r is_in in
     let front = rw (take_rest c.args.bytes.now c.loop-count.count) at (c.front-more.ensures.front _ hearing.state) in
-    hears_last g.row.N c.args.bytes.now r c.args.self.now.spare c.loop-count.count c.loop-count.self c.front-more.result c.front-more.new.self
+    hears_last g.row.N c.args.bytes.now r c.args.self.now.spare c.loop-count.count c.loop-count.self
+    c.front-more.result c.front-more.new.self
     hearing front c.in_default.not-Quiet in
     record {
       count = λ r is_in. (heard r is_in).count_is;
       step = λ r is_in. (heard r is_in).makes;
       refused = λ r is_in. (heard r is_in).refused;
       spare = λ r is_in. (heard r is_in).spare_after;
-      bound = let more = rw (take_rest c.args.bytes.now c.loop-count.count) at c.front-more.ensures.bound in omega (arith, length-drop c.loop-count.count c.args.bytes.now, more, c.loop-count.invariant.0);
+      bound = let more = rw (take_rest c.args.bytes.now c.loop-count.count) at c.front-more.ensures.bound in
+          omega (arith, length-drop c.loop-count.count c.args.bytes.now, more, c.loop-count.invariant.0);
       some = λ some. omega (arith, c.front-more.ensures.some);
       all = λ e. absurd (c.in_default.not-Quiet e);
     }
 
 pub loop-count-preserved-in-Quiet : goal.loop-count-preserved-in-Quiet
 loop-count-preserved-in-Quiet g c = (
-  let more = rw (take_rest c.args.bytes.now c.loop-count.count) at c.front-more.ensures.bound in omega (arith, length-drop c.loop-count.count c.args.bytes.now, more, c.loop-count.invariant.0),
+  let more = rw (take_rest c.args.bytes.now c.loop-count.count) at c.front-more.ensures.bound in
+      omega (arith, length-drop c.loop-count.count c.args.bytes.now, more, c.loop-count.invariant.0),
   λ r is_in.
       let hearing = c.loop-count.invariant.1 r is_in in
       let front = rw (take_rest c.args.bytes.now c.loop-count.count) at (c.front-more.ensures.front _ hearing.state) in
-      hears_more g.row.N c.args.bytes.now r c.args.self.now.spare c.loop-count.count c.loop-count.self c.front-more.result c.front-more.new.self
+      hears_more g.row.N c.args.bytes.now r c.args.self.now.spare c.loop-count.count c.loop-count.self
+      c.front-more.result c.front-more.new.self
       hearing front c.in-Quiet.is,
 )
 
 pub loop-count-preserved : goal.loop-count-preserved
 loop-count-preserved g c = (
-  let more = rw (take_rest c.args.bytes.now c.loop-count.count) at c.front-more.ensures.bound in omega (arith, length-drop c.loop-count.count c.args.bytes.now, more, c.loop-count.invariant.0),
+  let more = rw (take_rest c.args.bytes.now c.loop-count.count) at c.front-more.ensures.bound in
+      omega (arith, length-drop c.loop-count.count c.args.bytes.now, more, c.loop-count.invariant.0),
   λ r is_in.
       let hearing = c.loop-count.invariant.1 r is_in in
       let front = rw (take_rest c.args.bytes.now c.loop-count.count) at (c.front-more.ensures.front _ hearing.state) in
-      hears_more g.row.N c.args.bytes.now r c.args.self.now.spare c.loop-count.count c.loop-count.self c.front-more.result c.front-more.new.self
+      hears_more g.row.N c.args.bytes.now r c.args.self.now.spare c.loop-count.count c.loop-count.self
+      c.front-more.result c.front-more.new.self
       hearing front c.in-Quiet.is,
 )

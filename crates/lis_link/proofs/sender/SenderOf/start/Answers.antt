@@ -4,8 +4,14 @@ use Rattle.lis_link.proofs.SenderLaws.{started_sender}
 use Rattle.lis_link.proofs.sender.SenderOf.start.Goals as goal
 
 pub new-requires : goal.new-requires
-new-requires g c =
-    (omega arith, (c.self.invariant.is_limit, faultless-start c.args.self.now.phase c.args.texts (sym c.start_fault.ensures ∙ c.in_default.is)))
+new-requires g c = (
+  omega arith,
+  (
+    c.self.invariant.is_limit,
+    faultless-start c.args.self.now.phase c.args.texts
+        (sym c.start_fault.ensures ∙ c.in_default.is),
+  ),
+)
 
 pub invariant_of-self : goal.invariant_of-self
 invariant_of-self g c =

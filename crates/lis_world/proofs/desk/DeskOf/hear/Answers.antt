@@ -18,7 +18,8 @@ loop-taken-preserved g c = (
       let receiver_is = subst (λ k. IsIn g.row.N k hearing.state) (sym c.deref_mut.ensures.value) here in
       subst (λ left. IsHearing g.row.N c.args.unit.now.session c.args.unit.now.load c.book.new.self left goes_to)
       (drop-drop c.bytes-count.result.count c.loop-taken.taken c.args.bytes.now)
-      (hearing_next c.book.result g.row.N c.args.unit.now.session c.args.unit.now.load (drop c.loop-taken.taken c.args.bytes.now) goes_to c.loop-taken.self _ c.book.new.self
+      (hearing_next c.book.result g.row.N c.args.unit.now.session c.args.unit.now.load
+      (drop c.loop-taken.taken c.args.bytes.now) goes_to c.loop-taken.self _ c.book.new.self
       c.bytes-count.result hearing
       (rw (take_rest c.args.bytes.now c.loop-taken.taken) at (c.bytes-count.ensures.count hearing.state receiver_is))
       c.book.ensures.memory
@@ -31,4 +32,5 @@ loop-taken-preserved g c = (
 
 pub returns : goal.returns
 returns g c r is_in only =
-    heard_all _ _ _ _ _ _ (c.loop-taken.invariant.1 r is_in only) (drop_all c.loop-taken.taken c.args.bytes.now (omega arith))
+    heard_all _ _ _ _ _ _ (c.loop-taken.invariant.1 r is_in only)
+    (drop_all c.loop-taken.taken c.args.bytes.now (omega arith))

@@ -13,7 +13,8 @@ invariant-loop-taken g l =
     × ((r : ReceiverState)
     → IsIn g.row.N l.fn.self.receiver r
     → OnlyLoad l.unit.load (signals_after g.row.N r.past l.bytes)
-    → IsHearing g.row.N l.unit.session l.unit.load l.self (drop l.taken l.bytes) (hears g.row.N l.unit.session l.bytes (desk_at l.fn.self r)))
+    → IsHearing g.row.N l.unit.session l.unit.load l.self (drop l.taken l.bytes)
+    (hears g.row.N l.unit.session l.bytes (desk_at l.fn.self r)))
 
 abbrev pub decreases-loop-taken : goal.decreases-loop-taken
 decreases-loop-taken g l = length l.bytes - l.taken

@@ -10,4 +10,5 @@ abbrev pub invariant-loop-byte : goal.invariant-loop-byte
 invariant-loop-byte g l =
     (r : ReceiverState)
     → IsIn g.row.N l.self.receiver r
-    → IsNoticing g.row.N l.unit.load l.is_bad l.scanner (drop l.byte-index l.bytes) (is_noticed l.unit.load (signals_after g.row.N r.past l.bytes))
+    → IsNoticing g.row.N l.unit.load l.is_bad l.scanner (drop l.byte-index l.bytes)
+    (is_noticed l.unit.load (signals_after g.row.N r.past l.bytes))
