@@ -1,5 +1,5 @@
 -- What contracts see of components, repeats, fields and records, and what each value of those types keeps.
-use Rattle.std.specs.Prelude.{◌<◌, List, [], ◌∷◌, length, ℕ, ◌-◌, nat_lt, if◌then◌else◌, slice_get, Option, None}
+use Rattle.std.specs.Prelude.{◌<◌, List, [], ◌∷◌, length, map, ℕ, ◌-◌, nat_lt, if◌then◌else◌, slice_get, Option, None}
 use Rattle.std.specs.List.{All}
 use Rattle.lis_field.specs.declared.one_or_more.Items.{Items}
 use Rattle.lis_field.specs.declared.one_or_more.Items.TheVariants.{One, Many}
@@ -24,6 +24,14 @@ Components = List Symbols
 -- a field: its repeats
 abbrev pub Repeats : Type 0
 Repeats = List Components
+
+-- these bytes, each a character
+abbrev pub plain_component : List ℕ → Symbols
+plain_component bytes = map Char bytes
+
+-- one component of these bytes
+abbrev pub plain_field : List ℕ → Repeats
+plain_field bytes = (plain_component bytes ∷ []) ∷ []
 
 -- the fields of a record
 abbrev pub Fields : Type 0

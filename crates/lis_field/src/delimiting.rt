@@ -5,6 +5,7 @@ ghost use Rattle.lis_field.specs.Delimiters.{DelimiterBytes, IsDelimiters, delim
 ghost use Rattle.lis_field.specs.Delimiters.{is_punctuation, repeated_from, usual};
 
 use std::marker::Model;
+use thiserror::Error;
 
 /// The bytes that separate fields, repeats and components, and the byte that begins and ends an escape.
 #[derive(Clone, Copy, Debug, PartialEq, Eq)]
@@ -34,11 +35,13 @@ impl Model for Delimiters {
 }
 
 /// Why four bytes are no delimiters. Places count from 0.
-#[derive(Clone, Copy, Debug, PartialEq, Eq)]
+#[derive(Clone, Copy, Debug, PartialEq, Eq, Error)]
 pub enum DelimiterFault {
     /// The byte at this place is no punctuation byte.
+    #[error("the delimiter at place {0} is no punctuation")]
     NotPunctuation(usize),
     /// The byte at this place stands at an earlier one too.
+    #[error("the delimiter at place {0} stands at an earlier one too")]
     Repeated(usize),
 }
 

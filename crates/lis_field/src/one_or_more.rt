@@ -66,6 +66,17 @@ impl<T: Drop> OneOrMore<T> {
         }
     }
 
+    // The first item, and the others in order.
+    pub(crate) fn parts(&self) -> (&T, &[T])
+        requires { FitsInMemory T.row }
+        ensures { self.now ≡ result.0.now ∷ result.1.now }
+    {
+        match self.as_slice() {
+            [first, others @ ..] => (first, others),
+            [] => unreachable!(),
+        }
+    }
+
     // The items, in order.
     pub(crate) fn as_slice(&self) -> &[T]
         requires { FitsInMemory T.row }

@@ -1,8 +1,13 @@
 //! What a field is made of: components in repeats, repeats in fields (LIS02-A2, Delimiters).
 
-ghost use Rattle.std.specs.Prelude.{◌≡◌, ◌++◌, ◌∷◌, [], length, slice_get, IfErr, IfOk, OnOk};
+ghost use Rattle.std.specs.Prelude.{◌≡◌, ◌++◌, ◌∷◌, [], length, slice_get, ◌≢◌, ℕ, List, IfErr, IfOk, MatchOption};
+ghost use Rattle.std.specs.Prelude.{OnOk};
 ghost use Rattle.std.specs.Option.{option_copied};
-ghost use Rattle.lis_field.specs.Shape.{AreSymbols, IsFieldShape, IsRepeatShape};
+ghost use Rattle.std.specs.Cmp.Lexicographic.{pointwise, lists_equiv, lists_per};
+ghost use Rattle.lis_field.specs.contracts.symbols.SymPartialEq.TheImpl as symbol;
+ghost use Rattle.lis_field.specs.contracts.symbols.SymPartialEq.TheImpl.Laws as symbol_laws;
+ghost use Rattle.lis_field.specs.contracts.symbols.SymEq.TheImpl.Laws as symbol_eq_laws;
+ghost use Rattle.lis_field.specs.Shape.{AreSymbols, IsFieldShape, IsRepeatShape, plain_component, plain_field};
 
 use crate::one_or_more::OneOrMore;
 use crate::symbols::Sym;
@@ -44,6 +49,43 @@ impl Component {
         })
     }
 
+    /// The component of these bytes, each a character: a delimiter among them is written as an escape.
+    pub fn from_text(alloc: Global, text: &[u8]) -> Result<Self, AllocError>
+        ensures { IfOk result (λ component. component ≡ plain_component text.now) }
+    {
+        let mut component = Component::with_capacity(alloc, text.len())?;
+        for byte in text {
+            component.push(Sym::Char(*byte))?;
+        }
+        Ok(component)
+    }
+
+    /// The bytes of a component that holds characters alone; none where it holds a byte in hexadecimal digits, or
+    /// highlighting.
+    pub fn to_text(&self, alloc: Global) -> Result<Option<Vec<u8>>, AllocError>
+        ensures { IfOk result (λ text. MatchOption text
+            ((bytes : List ℕ) → self.now ≢ plain_component bytes)
+            (λ bytes. self.now ≡ plain_component bytes.items)) }
+    {
+        let mut text = Vec::with_capacity(alloc, self.symbols.len())?;
+        for symbol in self.symbols.as_slice() {
+            let Sym::Char(byte) = symbol else {
+                return Ok(None);
+            };
+            text.push(*byte)?;
+        }
+        Ok(Some(text))
+    }
+
+    /// The same component once more.
+    pub fn copy(&self, alloc: Global) -> Result<Self, AllocError>
+        ensures { IfOk result (λ component. component ≡ self.now) }
+    {
+        Ok(Component {
+            symbols: Vec::from_slice(alloc, self.symbols())?,
+        })
+    }
+
     /// Puts a symbol at the end. Where memory is refused it comes back, and the component is as before.
     pub fn push(&mut self, symbol: Sym) -> Result<(), AllocFailed<Sym>>
         ensures ok { OnOk result (self.new ≡ self.old ++ symbol ∷ []) }
@@ -76,6 +118,21 @@ impl Component {
     }
 }
 
+/// Components are equal whose symbols are.
+impl PartialEq for Component {
+    ghost eq = { λ a b. pointwise (symbol.ghosts).eq a b };
+
+    ghost laws = { lists_per symbol_laws.laws-law };
+
+    fn eq(&self, other: &Self) -> bool {
+        self.symbols() == other.symbols()
+    }
+}
+
+impl Eq for Component {
+    ghost laws = { lists_equiv symbol_eq_laws.laws-law };
+}
+
 /// One or more components.
 #[derive(Debug, Drop)]
 pub struct Repeat {
@@ -102,6 +159,18 @@ impl Repeat {
         Ok(Repeat {
             components: OneOrMore::new(alloc, component),
         })
+    }
+
+    /// The same repeat once more.
+    pub fn copy(&self, alloc: Global) -> Result<Self, AllocError>
+        ensures { IfOk result (λ repeat. repeat ≡ self.now) }
+    {
+        let (first, others) = self.components.parts();
+        let mut repeat = Repeat::new(alloc, first.copy(alloc)?)?;
+        for component in others {
+            repeat.push(component.copy(alloc)?)?;
+        }
+        Ok(repeat)
     }
 
     /// Puts a component at the end. Where memory is refused it comes back, and the repeat is as before.
@@ -136,6 +205,21 @@ impl Repeat {
     }
 }
 
+/// Repeats are equal whose components are.
+impl PartialEq for Repeat {
+    ghost eq = { λ a b. pointwise (pointwise (symbol.ghosts).eq) a b };
+
+    ghost laws = { lists_per (lists_per symbol_laws.laws-law) };
+
+    fn eq(&self, other: &Self) -> bool {
+        self.components() == other.components()
+    }
+}
+
+impl Eq for Repeat {
+    ghost laws = { lists_equiv (lists_equiv symbol_eq_laws.laws-law) };
+}
+
 /// One or more repeats.
 #[derive(Debug, Drop)]
 pub struct Field {
@@ -162,6 +246,42 @@ impl Field {
         Ok(Field {
             repeats: OneOrMore::new(alloc, repeat),
         })
+    }
+
+    /// The field of one component that holds these bytes, each a character: a delimiter among them is written as an
+    /// escape.
+    pub fn from_text(alloc: Global, text: &[u8]) -> Result<Self, AllocError>
+        ensures { IfOk result (λ field. field ≡ plain_field text.now) }
+    {
+        let component = Component::from_text(alloc, text)?;
+        Ok(Field::new(alloc, Repeat::new(alloc, component)?)?)
+    }
+
+    /// The bytes of a field of one component that holds characters alone; none for any other field.
+    pub fn to_text(&self, alloc: Global) -> Result<Option<Vec<u8>>, AllocError>
+        ensures { IfOk result (λ text. MatchOption text
+            ((bytes : List ℕ) → self.now ≢ plain_field bytes)
+            (λ bytes. self.now ≡ plain_field bytes.items)) }
+    {
+        match self.repeats() {
+            [repeat] => match repeat.components() {
+                [component] => component.to_text(alloc),
+                _ => Ok(None),
+            },
+            _ => Ok(None),
+        }
+    }
+
+    /// The same field once more.
+    pub fn copy(&self, alloc: Global) -> Result<Self, AllocError>
+        ensures { IfOk result (λ field. field ≡ self.now) }
+    {
+        let (first, others) = self.repeats.parts();
+        let mut field = Field::new(alloc, first.copy(alloc)?)?;
+        for repeat in others {
+            field.push(repeat.copy(alloc)?)?;
+        }
+        Ok(field)
     }
 
     /// Puts a repeat at the end. Where memory is refused it comes back, and the field is as before.
@@ -194,4 +314,19 @@ impl Field {
     {
         self.repeats.as_slice()
     }
+}
+
+/// Fields are equal whose repeats are.
+impl PartialEq for Field {
+    ghost eq = { λ a b. pointwise (pointwise (pointwise (symbol.ghosts).eq)) a b };
+
+    ghost laws = { lists_per (lists_per (lists_per symbol_laws.laws-law)) };
+
+    fn eq(&self, other: &Self) -> bool {
+        self.repeats() == other.repeats()
+    }
+}
+
+impl Eq for Field {
+    ghost laws = { lists_equiv (lists_equiv (lists_equiv symbol_eq_laws.laws-law)) };
 }

@@ -7,24 +7,30 @@ ghost use Rattle.lis_frame.specs.Limit.{IsLimit};
 use crate::lent::LentFrame;
 use crate::text::TextOf;
 use std::marker::Model;
+use thiserror::Error;
 
 /// Why the bytes between STX and LF are no frame; the first that stands, in this order, is told.
-#[derive(Debug, Clone, Copy, PartialEq, Eq)]
+#[derive(Debug, Clone, Copy, PartialEq, Eq, Error)]
 pub enum FrameFault {
     /// There are more bytes than a frame of the limit has.
+    #[error("the frame is longer than its limit [F1]")]
     TooLong,
     /// There are fewer than five bytes, the last isn't CR, or no ETB or ETX stands three before it.
+    #[error("the frame has not the shape of one [F2]")]
     Shape,
     /// The first byte isn't a digit from 0 to 7.
+    #[error("the frame's number is no digit from 0 to 7 [F3]")]
     Number,
     /// The byte of the text at this place, from 0, is the first that a text may not hold.
+    #[error("the byte at place {0} of the frame's text may not stand in a text [F4]")]
     Text(usize),
     /// The two bytes before CR aren't hexadecimal digits of the checksum.
+    #[error("the checksum is not that of the frame [F5]")]
     Sum,
 }
 
 /// A frame with at most `N` bytes of text (LIS01-A2, 6.3).
-#[derive(Drop)]
+#[derive(Debug, PartialEq, Eq, Drop)]
 pub struct FrameOf<const N: usize> {
     number: u8,
     last: bool,
@@ -40,6 +46,8 @@ impl<const N: usize> Model for FrameOf<N> {
     ghost view = { λ f. record { number = f.number; last = f.last; text = f.text } };
 
     ghost invariant = { λ f. IsLimit N × IsContent N (record { number = f.number; last = f.last; text = f.text }) };
+
+    ghost inverse = { λ f. record { number = f.number; last = f.last; text = f.text } };
 }
 
 /// A frame with the usual limit.

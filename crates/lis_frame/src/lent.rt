@@ -5,7 +5,7 @@ ghost use Rattle.std.specs.Prelude.{◌≡◌};
 use std::marker::Model;
 
 /// A frame whose text is lent from the bytes that it stands in.
-#[derive(Drop)]
+#[derive(Debug, Drop)]
 pub struct LentFrame<'a> {
     number: u8,
     last: bool,

@@ -16,7 +16,7 @@ use std::marker::Model;
 use std::simd::prelude::*;
 
 /// What a stream of link bytes tells: enquiry, end of transmission, a good frame, or a bad one.
-#[derive(Drop)]
+#[derive(Debug, PartialEq, Eq, Drop)]
 pub enum SignalOf<const N: usize> {
     /// ENQ.
     Enq,
@@ -49,7 +49,7 @@ impl<const N: usize> SignalOf<N> {
 }
 
 /// The same, with a frame's text lent from the bytes that were read, or from what the scanner holds.
-#[derive(Drop)]
+#[derive(Debug, Drop)]
 pub enum Heard<'a> {
     /// ENQ.
     Enq,

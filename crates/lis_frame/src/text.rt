@@ -1,6 +1,8 @@
 //! The text of a frame.
 
-ghost use Rattle.std.specs.Prelude.{◌≡◌, ◌+◌, ◌≤◌, ◌++◌, None, Some, MatchResult, length};
+ghost use Rattle.std.specs.Prelude.{◌≡◌, ◌+◌, ◌≤◌, ◌++◌, None, Some, MatchResult, length, nat_eq};
+ghost use Rattle.std.specs.Cmp.{partial_equiv_from_equiv};
+ghost use Rattle.std.specs.Cmp.Lexicographic.{pointwise, nat_list_eq_equiv};
 ghost use Rattle.arrayvec.specs.ArrayVec.{array_vec_len};
 ghost use Rattle.lis_frame.specs.Limit.{IsLimit};
 ghost use Rattle.lis_text.specs.Text.{IsText, text_fault};
@@ -10,7 +12,7 @@ use lis_text::{TextFault, check_bytes};
 use std::marker::Model;
 
 /// The text of one frame: at most `N` bytes, none of them forbidden (LIS01-A2, 6.3 and 6.5).
-#[derive(Drop)]
+#[derive(Debug, Drop)]
 pub struct TextOf<const N: usize> {
     bytes: ArrayVec<u8, N>,
 }
@@ -67,6 +69,21 @@ impl<const N: usize> TextOf<N> {
     {
         self.bytes.as_slice()
     }
+}
+
+/// Texts are equal whose bytes are.
+impl<const N: usize> PartialEq for TextOf<N> {
+    ghost eq = { λ a b. pointwise nat_eq a b };
+
+    ghost laws = { partial_equiv_from_equiv nat_list_eq_equiv };
+
+    fn eq(&self, other: &Self) -> bool {
+        self.as_slice() == other.as_slice()
+    }
+}
+
+impl<const N: usize> Eq for TextOf<N> {
+    ghost laws = { nat_list_eq_equiv };
 }
 
 /// Puts bytes behind those of a buffer that has room.

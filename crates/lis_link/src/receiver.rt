@@ -62,7 +62,7 @@ pub enum Note {
 
 /// The answer to a byte or an event: the reply to send, the text that is handed out, and what it
 /// meant.
-#[derive(Drop)]
+#[derive(Debug, PartialEq, Eq, Drop)]
 pub struct Step {
     pub reply: Option<u8>,
     pub message: Option<LinkText>,
@@ -70,7 +70,7 @@ pub struct Step {
 }
 
 /// What was heard of bytes: how many of them, and the step of the last one.
-#[derive(Drop)]
+#[derive(Debug, PartialEq, Eq, Drop)]
 pub struct Hearing {
     pub count: usize,
     pub step: Step,

@@ -12,6 +12,7 @@ use crate::queue::QueueOf;
 use lis_frame::FrameOf;
 use lis_text::{ACK, ENQ, EOT, LinkText, TextFault, Texts, check_text};
 use std::marker::Model;
+use thiserror::Error;
 
 mod state;
 
@@ -44,18 +45,21 @@ pub enum Outcome {
 }
 
 /// Why no session was started; the first that stands, in this order, is told.
-#[derive(Debug, Clone, Copy, PartialEq, Eq)]
+#[derive(Debug, Clone, Copy, PartialEq, Eq, Error)]
 pub enum StartFault {
     /// A session is going on.
+    #[error("a session is going on")]
     InSession,
     /// There is no text to send.
+    #[error("there is no text to send")]
     NoText,
     /// The text at this place, from 0, is the first that is no link text, for this reason.
+    #[error("the text at place {index} can't be sent: {fault}")]
     BadText { index: usize, fault: TextFault },
 }
 
 /// What the sender puts on the link at an event.
-#[derive(Drop)]
+#[derive(Debug, PartialEq, Eq, Drop)]
 pub enum EmitOf<const N: usize> {
     /// Nothing.
     Nothing,
@@ -73,7 +77,8 @@ pub enum EmitOf<const N: usize> {
 pub type Emit = EmitOf<240>;
 
 /// A start that was refused: why, and the texts.
-#[derive(Drop)]
+#[derive(Debug, PartialEq, Eq, Drop, Error)]
+#[error("{fault}")]
 pub struct StartRefused {
     pub texts: Texts,
     pub fault: StartFault,

@@ -1,5 +1,5 @@
 -- What a reader of records answers to a piece of a stream.
-use Rattle.std.specs.Prelude.{◌≡◌, ℕ, List, [], ◌∷◌, ◌++◌, ◌⊎◌, ◌<◌, ◌≤◌, length, Option, None, Some}
+use Rattle.std.specs.Prelude.{◌≡◌, ℕ, List, [], ◌∷◌, ◌++◌, ◌⊎◌, ◌<◌, ◌≤◌, length, Option, None, Some, is_some, true, ⊤}
 use Rattle.std.specs.Option.{option_to_list}
 use Rattle.lis_field.specs.Shape.{RecordContent}
 use Rattle.lis_message.specs.declared.records.Found.{Found}
@@ -70,6 +70,13 @@ Reads before after left bytes behind (found.Record entry) = ReadsRecord before a
 Reads before after left bytes behind found.Held =
     (entry : Lent RecordContent) × (after.cut ≡ Some entry) × ReadsRecord before after left bytes behind entry
 Reads before after left bytes behind (found.Refused fault) = Refuses before after left bytes behind fault
+
+-- Unless it tells a fault, it reads some of the bytes, where there are any. A record that was cut can be had then.
+abbrev pub ReadsSome : RecordsState → (bytes behind : List ℕ) → Found → Type 0
+ReadsSome after bytes behind found.Nothing = 0 < length bytes → length behind < length bytes
+ReadsSome after bytes behind (found.Record entry) = length behind < length bytes
+ReadsSome after bytes behind found.Held = (is_some after.cut ≡ true) × (length behind < length bytes)
+ReadsSome after bytes behind (found.Refused fault) = ⊤
 
 -- ---- one record
 

@@ -3,11 +3,11 @@
 
 ghost use Rattle.std.specs.Prelude.{◌≡◌, ◌≢◌, ℕ, true, false, ◌+◌, ◌<◌, ◌≤◌, ◌∷◌, [], ◌++◌, ◌⊎◌};
 ghost use Rattle.std.specs.Prelude.{List, Option, IfOk, IfErr, OnOk, OnSome};
-ghost use Rattle.std.specs.Prelude.{IfSome, IfNone, None, Some, Ok, Err, length};
+ghost use Rattle.std.specs.Prelude.{IfSome, IfNone, None, Some, Ok, Err, is_some, length};
 ghost use Rattle.lis_message.specs.declared.records.Found.TheVariants.{Refused as IsRefusal};
 ghost use Rattle.lis_message.specs.Feeding.{at_end, next_place};
 ghost use Rattle.lis_message.specs.inside.Kept.{opened_of, opened_with};
-ghost use Rattle.lis_message.specs.Records.{EndsHeld, HasLeft, IsRefusedFor, IsStopped, Reads};
+ghost use Rattle.lis_message.specs.Records.{EndsHeld, HasLeft, IsRefusedFor, IsStopped, Reads, ReadsSome};
 ghost use Rattle.lis_message.specs.Stream.{LacksReturn, refusal};
 ghost use Rattle.lis_message.specs.inside.Taking.{ComesNext, front_refusal, left_after};
 ghost use Rattle.lis_record.specs.declared.texts.TheConstants.{RECORD_LIMIT};
@@ -298,6 +298,7 @@ impl RecordReader {
             → Reads self.old self.new left bytes.now result.0.now result.1 }
         ensures failed { IfSome self.old.fault (λ fault. (result.0.now ≡ bytes.now) × (result.1 ≡ IsRefusal fault)
             × (self.new ≡ self.old)) }
+        ensures some { ReadsSome self.new bytes.now result.0.now result.1 }
     {
         if let Some(fault) = self.fault {
             return (bytes, Found::Refused(fault));
@@ -364,6 +365,7 @@ impl RecordReader {
             → Reads self.old self.new left bytes.now answer.0.now answer.1) }
         ensures err { IfErr result (λ reason. (left : Option Begun) → HasLeft self.old left
             → IsStopped left self.old.held bytes.now reason) }
+        ensures some { IfOk result (λ answer. ReadsSome self.new bytes.now answer.0.now answer.1) }
         ensures fault { self.new.fault ≡ self.old.fault }
     {
         let Some((text, behind)) = next_line(bytes) else {
@@ -412,6 +414,7 @@ impl RecordReader {
             → EndsHeld self.old self.new left text.now) }
         ensures err { IfErr result (λ reason. (left : Option Begun) → self.old.opened ≡ opened_of left
             → (reason ≡ reasons.OutOfMemory) ⊎ IsRefusedFor left (self.old.held ++ text.now) reason) }
+        ensures told { OnOk result (is_some self.new.cut ≡ true) }
         ensures fault { self.new.fault ≡ self.old.fault }
     {
         if let Err(reason) = self.kept.hold(text) {

@@ -14,15 +14,19 @@ use lis_record::{Delimiters, Record, WriteFault, write_record};
 use lis_text::{LinkText, MOST_TEXTS, Texts};
 use lis_tree::{Message, Walk};
 use std::alloc::{AllocError, Global};
+use thiserror::Error;
 
 /// Why a message has no texts.
-#[derive(Clone, Copy, Debug, PartialEq, Eq)]
+#[derive(Clone, Copy, Debug, PartialEq, Eq, Error)]
 pub enum TextsFault {
     /// The record at this place, from 1 for the header, can't be written.
+    #[error("record {place}: {fault}")]
     BadRecord { place: u64, fault: WriteFault },
     /// There are more than 65,536 records.
+    #[error("the message has more than 65536 records")]
     TooMany,
     /// A growth was refused.
+    #[error("memory was refused")]
     OutOfMemory,
 }
 

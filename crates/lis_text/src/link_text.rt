@@ -1,15 +1,16 @@
 //! What a session carries: link texts, each a message of the layer above or a part of one.
 
-ghost use Rattle.std.specs.Prelude.{◌≡◌, ◌==◌, ◌≤◌, ◌++◌, ◌∷◌, [], None, Some, MatchResult, IfErr, OnOk, length};
-ghost use Rattle.std.specs.Prelude.{slice_get};
+ghost use Rattle.std.specs.Prelude.{◌≡◌, ◌==◌, ◌≤◌, ◌++◌, ◌∷◌, [], None, Some, MatchResult, IfErr, IfOk, OnOk, length};
+ghost use Rattle.std.specs.Prelude.{map, slice_get};
 ghost use Rattle.std.specs.Option.{option_copied};
 ghost use Rattle.lis_text.specs.LinkText.{IsTextRefused, longest_text};
 ghost use Rattle.lis_text.specs.Text.{text_fault};
 
 use crate::list::List;
 use crate::text::{TextFault, check_bytes};
-use std::alloc::Global;
+use std::alloc::{AllocError, Global};
 use std::marker::Model;
+use thiserror::Error;
 
 /// The most bytes that a link text has.
 pub const LONGEST_TEXT: usize = 1_048_576;
@@ -29,7 +30,7 @@ pub fn check_text(bytes: &[u8]) -> Result<(), TextFault>
 }
 
 /// The texts of a session, at most 65,536.
-#[derive(Drop)]
+#[derive(Debug, PartialEq, Eq, Drop)]
 pub struct Texts {
     texts: List<LinkText>,
 }
@@ -42,14 +43,18 @@ impl Model for Texts {
     ghost view = { λ t. t.texts };
 
     ghost invariant = { λ t. length t.texts ≤ 65536 };
+
+    ghost inverse = { λ texts. record { texts = texts } };
 }
 
 /// Why a text was not put to the others; it comes back.
-#[derive(Drop)]
+#[derive(Debug, PartialEq, Eq, Drop, Error)]
 pub enum TextRefused {
     /// There are as many texts as a session has.
+    #[error("a session has 65536 texts at most")]
     Full(LinkText),
     /// Memory was refused.
+    #[error("memory was refused")]
     OutOfMemory(LinkText),
 }
 
@@ -61,6 +66,29 @@ impl Texts {
         Texts {
             texts: List::new(alloc),
         }
+    }
+
+    /// The texts of these slices, in order, each with memory of its own. There are at most 65,536 of them.
+    pub fn from_slices(alloc: Global, slices: &[&[u8]]) -> Result<Self, AllocError>
+        requires { length slices.now ≤ 65536 }
+        ensures { IfOk result (λ texts. texts ≡ map (λ slice. slice.now) slices.now) }
+    {
+        let mut texts = List::new(alloc);
+        for slice in slices {
+            texts.push(List::from_slice(alloc, slice)?)?;
+        }
+        Ok(Texts { texts })
+    }
+
+    /// The same texts once more, with memory of their own.
+    pub fn copy(&self, alloc: Global) -> Result<Self, AllocError>
+        ensures { IfOk result (λ texts. texts ≡ self.now) }
+    {
+        let mut texts = List::new(alloc);
+        for text in self.as_slice() {
+            texts.push(List::from_slice(alloc, text.as_slice())?)?;
+        }
+        Ok(Texts { texts })
     }
 
     /// Puts a text at the end. That there are as many as a session has is told before any want of
@@ -102,7 +130,8 @@ impl Texts {
 
     /// The texts, as a slice.
     pub fn as_slice(&self) -> &[LinkText]
-        ensures { result.now ≡ self.now }
+        ensures value { result.now ≡ self.now }
+        ensures bound { length self.now ≤ 65536 }
     {
         self.texts.as_slice()
     }

@@ -1,13 +1,14 @@
 //! The list that texts, frames and what stands above them are kept in.
 
-ghost use Rattle.std.specs.Prelude.{◌≡◌, ◌==◌, ◌++◌, ◌∷◌, [], length, slice_get, IfErr, OnOk, OnErr};
+ghost use Rattle.std.specs.Prelude.{◌≡◌, ◌==◌, ◌++◌, ◌∷◌, [], length, slice_get, IfErr, IfOk, OnOk, OnErr};
+ghost use Rattle.std.specs.Cmp.Lexicographic.{pointwise, lists_equiv, lists_per};
 ghost use Rattle.std.specs.Option.{option_copied};
 
 use std::alloc::{AllocError, AllocFailed, Global};
 use std::marker::Model;
 
 /// Items in order. Contracts see the list of them.
-#[derive(Drop)]
+#[derive(Debug, Drop)]
 pub struct List<T> {
     items: Vec<T>,
 }
@@ -82,7 +83,31 @@ impl<T> List<T> {
     }
 }
 
+/// Lists are equal whose items are, one by one.
+impl<T: PartialEq> PartialEq for List<T> {
+    ghost eq = { λ a b. pointwise T.eq a b };
+
+    ghost laws = { lists_per T.laws };
+
+    fn eq(&self, other: &Self) -> bool {
+        self.as_slice() == other.as_slice()
+    }
+}
+
+impl<T: Eq> Eq for List<T> {
+    ghost laws = { lists_equiv T.Eq.laws };
+}
+
 impl<T: Copy> List<T> {
+    /// The list of a slice's items.
+    pub fn from_slice(alloc: Global, items: &[T]) -> Result<Self, AllocError>
+        ensures { IfOk result (λ list. list ≡ items.now) }
+    {
+        Ok(List {
+            items: Vec::from_slice(alloc, items)?,
+        })
+    }
+
     /// Puts items at the end. Where memory is refused the list is as before.
     pub fn extend(&mut self, items: &[T]) -> Result<(), AllocError>
         ensures ok { OnOk result (self.new ≡ self.old ++ items.now) }

@@ -5,13 +5,16 @@ ghost use Rattle.lis_text.specs.Text.{first_forbidden, is_forbidden, text_fault}
 
 use crate::search::{ByteSet, first_in};
 use std::simd::prelude::*;
+use thiserror::Error;
 
 /// Why bytes are no text of a frame or of a link text.
-#[derive(Debug, Clone, Copy, PartialEq, Eq)]
+#[derive(Debug, Clone, Copy, PartialEq, Eq, Error)]
 pub enum TextFault {
     /// There are more bytes than the limit allows.
+    #[error("the text is too long")]
     TooLong,
     /// The byte at this place, from 0, is the first that a text may not hold.
+    #[error("the byte at place {0} may not stand in a text")]
     Forbidden(usize),
 }
 

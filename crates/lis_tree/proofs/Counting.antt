@@ -1,7 +1,7 @@
 -- Counting records, and reading digits.
-use Rattle.std.proofs.Common.{◌≡◌, ◌≢◌, ℕ, ◌+◌, ◌*◌, ◌^◌, ◌<◌, ◌≤◌, List, [], ◌∷◌, ◌++◌, drop, length, Option, Some, None, refl, sym, ◌∙◌, ap, subst, append_assoc, arith, add-one, drop-cons}
+use Rattle.std.proofs.Common.{◌≡◌, ◌≢◌, ℕ, ◌+◌, ◌*◌, ◌^◌, ◌<◌, ◌≤◌, List, [], ◌∷◌, ◌++◌, drop, length, Option, Some, None, refl, sym, ◌∙◌, ap, subst, append_assoc, append-nil, arith, add-one, drop-cons}
 use Rattle.std.specs.Option.{option_to_list}
-use Rattle.std.specs.Prelude.{slice_get, Bool, true, false, not, ◌&&◌, if◌then◌else◌}
+use Rattle.std.specs.Prelude.{slice_get, Bool, true, false, not, ◌&&◌, if◌then◌else◌, nat_le}
 use Rattle.std.proofs.lemmas.Bool.Decides.{nat_tests}
 use Rattle.std.proofs.Math.Nat.{pow-suc}
 use Rattle.std.proofs.lemmas.Option.{slice_get_within, get_or_from_slice_get}
@@ -10,7 +10,7 @@ use Rattle.lis_field.specs.declared.kinds.Kind.TheVariants as kinds
 use Rattle.lis_field.specs.declared.symbols.Sym.{Sym}
 use Rattle.lis_field.specs.Shape.{RecordContent, Symbols, field_at}
 use Rattle.lis_tree.specs.declared.numbering.Finding.{Finding}
-use Rattle.lis_tree.specs.Findings.{finding_on, findings_from}
+use Rattle.lis_tree.specs.Findings.{finding_on, findings_from, kinds_back}
 use Rattle.lis_tree.specs.Numbers.{symbol_digit, digits_from, digits_number, expected_number, field_number, is_number, is_numbered}
 use Rattle.lis_tree.specs.Places.{capped}
 
@@ -82,3 +82,32 @@ pub same_finding : (p q : ℕ) (k j : Kind) (m n : ℕ) → p ≡ q → k ≡ j 
 same_finding p q k j m n e f g =
     let make : ℕ → Kind → ℕ → List Finding = λ a b c. record { place = a; kind = b; expected = c } ∷ [] in
     ap (λ a. make a k m) e ∙ ap (λ b. make q b m) f ∙ ap (make q j) g
+
+-- ---- one record after another
+
+pub kinds_back-more : (earlier : List Kind) (records : List RecordContent) (r : RecordContent) → kinds_back earlier (records ++ r ∷ []) ≡ r.kind ∷ kinds_back earlier records
+kinds_back-more earlier [] r = refl
+kinds_back-more earlier (x ∷ records) r = kinds_back-more (x.kind ∷ earlier) records r
+
+pub findings-more : (earlier : List Kind) (n : ℕ) (records : List RecordContent) (r : RecordContent)
+    → findings_from earlier n (records ++ r ∷ []) ≡ findings_from earlier n records ++ finding_on (kinds_back earlier records) (n + length records) r
+findings-more earlier n [] r =
+    append-nil (finding_on earlier n r) ∙ ap (λ (k : ℕ). finding_on earlier k r) (omega arith)
+findings-more earlier n (x ∷ records) r =
+    ap (λ l. finding_on earlier n x ++ l) (findings-more (x.kind ∷ earlier) (n + 1) records r)
+    ∙ sym (append_assoc (finding_on earlier n x) (findings_from (x.kind ∷ earlier) (n + 1) records) (finding_on (kinds_back (x.kind ∷ earlier) records) (n + 1 + length records) r))
+    ∙ ap (λ (k : ℕ). (finding_on earlier n x ++ findings_from (x.kind ∷ earlier) (n + 1) records) ++ finding_on (kinds_back (x.kind ∷ earlier) records) k r) (omega arith)
+
+-- a symbol that comes first
+pub digits_short : (xs : Symbols) → digits_from 0 xs ≡ None → digits_number xs ≡ None
+digits_short xs none = by (nat_le 1 (length xs) && nat_le (length xs) 9)
+  where
+    by : (b : Bool) → (if b then digits_from 0 xs else None) ≡ None
+    by true = none
+    by false = refl
+
+pub digits_long : (xs : Symbols) → 9 < length xs → digits_number xs ≡ None
+digits_long xs long = grind (arith, nat_tests)
+
+pub digits_none : (xs : Symbols) → length xs ≡ 0 → digits_number xs ≡ None
+digits_none xs none = grind (arith, nat_tests)

@@ -1,9 +1,10 @@
 -- The findings on a message's sequence numbers.
-use Rattle.std.specs.Prelude.{ℕ, ◌+◌, not, ◌&&◌, if◌then◌else◌, List, [], ◌∷◌, ◌++◌}
+use Rattle.std.specs.Prelude.{◌≡◌, ℕ, ◌+◌, not, ◌&&◌, if◌then◌else◌, List, [], ◌∷◌, ◌++◌, length}
 use Rattle.lis_field.specs.declared.kinds.Kind.{Kind}
 use Rattle.lis_field.specs.Shape.{RecordContent, field_at}
 use Rattle.lis_tree.specs.declared.numbering.Finding.{Finding}
-use Rattle.lis_tree.specs.Numbers.{expected_number, field_number, is_number, is_numbered}
+use Rattle.lis_tree.specs.declared.numbering.Numbering.{Numbering}
+use Rattle.lis_tree.specs.Numbers.{CountsOf, expected_number, field_number, is_number, is_numbered}
 use Rattle.lis_tree.specs.Places.{capped}
 use Rattle.lis_tree.specs.Tree.{MessageTree, flatten}
 
@@ -20,3 +21,16 @@ findings_from earlier place (r ∷ records) = finding_on earlier place r ++ find
 -- the findings on a message, in the order of its records
 abbrev pub findings_of : MessageTree → List Finding
 findings_of message = findings_from [] 1 (flatten message)
+
+-- ---- while the records pass
+
+-- the kinds of records, the nearest first, before those that came earlier
+abbrev pub kinds_back : List Kind → List RecordContent → List Kind
+kinds_back earlier [] = earlier
+kinds_back earlier (r ∷ records) = kinds_back (r.kind ∷ earlier) records
+
+-- These records were examined, and the next one comes behind them.
+pub record HasNumbered (numbering : Numbering) (records : List RecordContent) : Type 0 where
+  pub counts : CountsOf (kinds_back [] records) numbering.counts.patients numbering.counts.queries numbering.counts.orders
+      numbering.counts.results numbering.counts.comments
+  pub counted : numbering.count ≡ capped (length records)

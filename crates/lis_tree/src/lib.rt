@@ -14,11 +14,11 @@ mod tree;
 mod walk;
 
 pub use fault::{MessageFault, Reason};
-pub use lis_record::{Delimiters, Kind, Record, RecordFault};
+pub use lis_record::{Delimiters, Kind, LentRecord, Record, RecordFault};
 pub use lis_text::List;
 pub use lists::Records;
 pub use message::Message;
-pub use numbering::{Finding, Findings, findings};
+pub use numbering::{Finding, Findings, Numbering, findings};
 pub use open::OpenMessage;
 pub use standing::Standing;
 pub use tree::{Group, Order, Patient, Query, ResultEntry};

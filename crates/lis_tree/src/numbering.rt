@@ -1,15 +1,15 @@
 //! Findings on sequence numbers (LIS02-A2).
-ghost use Rattle.std.specs.Prelude.{◌≡◌, ◌≢◌, ℕ, ◌+◌, ◌<◌, ◌∷◌, [], ◌++◌, List as Listed, Some, IfSome, IfOk, OnOk};
+ghost use Rattle.std.specs.Prelude.{◌≡◌, ◌≢◌, ℕ, ◌+◌, ◌<◌, ◌∷◌, [], ◌++◌, List as Listed, Some, IfSome, IfOk, OnOk, length};
 ghost use Rattle.lis_field.specs.declared.kinds.Kind.{Kind as KindOf};
-ghost use Rattle.lis_tree.specs.Findings.{finding_on, findings_of};
+ghost use Rattle.lis_tree.specs.Findings.{HasNumbered, finding_on, findings_from, findings_of};
 ghost use Rattle.std.specs.Option.{option_to_list};
-ghost use Rattle.lis_field.specs.Shape.{field_at};
+ghost use Rattle.lis_field.specs.Shape.{RecordContent, field_at};
 ghost use Rattle.lis_tree.specs.Places.{capped};
 ghost use Rattle.lis_tree.specs.Numbers.{CountsOf, symbol_digit, digits_number, field_number, is_number, is_numbered};
 
 use crate::message::Message;
 use crate::walk::Walk;
-use lis_record::{Component, Field, Kind, Record, Sym};
+use lis_record::{Component, Field, Kind, LentField, LentRecord, LentSymbols, Record, Sym};
 use lis_text::List;
 use std::alloc::{AllocError, Global};
 
@@ -163,30 +163,81 @@ fn is_numbered(kind: Kind) -> bool
     !matches!(kind, Kind::H | Kind::M | Kind::S)
 }
 
-/// Whether a record's second field is this number.
-fn has_number(entry: &Record, expected: u64) -> bool
-    ensures { result ≡ is_number (field_number (field_at entry.now 2)) expected }
+/// The number that a record's second field is.
+fn record_number(entry: &Record) -> Option<u64>
+    ensures { result ≡ field_number (field_at entry.now 2) }
 {
     let Some(field) = entry.field(2) else {
-        return false;
+        return None;
     };
-    match field_number(field) {
+    field_number(field)
+}
+
+/// The number that the symbols of a component are, where they are one to nine digits.
+fn symbols_number(symbols: LentSymbols<'_>) -> Option<u64>
+    ensures { result ≡ digits_number symbols.entry }
+{
+    let mut symbols = symbols;
+    let mut number = 0u64;
+    let mut count = 0u64;
+    while let Some(symbol) = symbols.next() {
+        if count == 9 {
+            return None;
+        }
+        let Some(digit) = symbol_digit(&symbol) else {
+            return None;
+        };
+        number = number * 10 + digit;
+        count += 1;
+    }
+    if count == 0 { None } else { Some(number) }
+}
+
+/// The number that a lent field is, where it is one repeat of one component.
+fn lent_field_number(field: &LentField<'_>) -> Option<u64>
+    ensures { result ≡ field_number (Some field.now.content) }
+{
+    if field.len() != 1 {
+        return None;
+    }
+    let repeat = field.repeat(0)?;
+    if repeat.len() != 1 {
+        return None;
+    }
+    let component = repeat.component(0)?;
+    symbols_number(component.symbols())
+}
+
+/// The number that a lent record's second field is.
+fn lent_number(entry: &LentRecord<'_>) -> Option<u64>
+    ensures { result ≡ field_number (field_at entry.now.content 2) }
+{
+    let Some(field) = entry.field(2) else {
+        return None;
+    };
+    lent_field_number(&field)
+}
+
+/// Whether a number is the expected one.
+fn is_number(number: Option<u64>, expected: u64) -> bool
+    ensures { result ≡ is_number number expected }
+{
+    match number {
         None => false,
         Some(number) => number == expected,
     }
 }
 
-/// The finding on a record at this place, if there is one.
-fn finding_on(entry: &Record, kind: Kind, counts: Counts, place: u64) -> Option<Finding>
-    requires { entry.now.kind ≡ kind }
-    ensures { (earlier : Listed KindOf) (n : ℕ) → CountsOf earlier counts.patients counts.queries counts.orders counts.results counts.comments
-        → place ≡ capped n → option_to_list result ≡ finding_on earlier n entry.now }
+/// The finding on a record at this place whose second field is this number, if there is one.
+fn finding_on(kind: Kind, number: Option<u64>, counts: Counts, place: u64) -> Option<Finding>
+    ensures { (earlier : Listed KindOf) (n : ℕ) (r : RecordContent) → CountsOf earlier counts.patients counts.queries counts.orders counts.results counts.comments
+        → place ≡ capped n → r.kind ≡ kind → field_number (field_at r 2) ≡ number → option_to_list result ≡ finding_on earlier n r }
 {
     if !is_numbered(kind) {
         return None;
     }
     let expected = counts.expected(kind);
-    if has_number(entry, expected) {
+    if is_number(number, expected) {
         return None;
     }
     Some(Finding {
@@ -194,6 +245,49 @@ fn finding_on(entry: &Record, kind: Kind, counts: Counts, place: u64) -> Option<
         kind,
         expected,
     })
+}
+
+/// Examines the sequence numbers of a message's records one after another, from the header on, and keeps none of them
+/// (LIS02-A2).
+#[derive(Clone, Copy)]
+pub struct Numbering {
+    counts: Counts,
+    /// How many records there are; it stays at the greatest number.
+    count: u64,
+}
+
+impl Numbering {
+    /// Before the header.
+    pub fn new() -> Self
+        ensures { HasNumbered result [] }
+    {
+        Numbering {
+            counts: Counts::none(),
+            count: 0,
+        }
+    }
+
+    /// The place of the next record, from 1 for the header; it stays at the greatest number.
+    pub fn next_place(&self) -> u64
+        ensures { (records : Listed RecordContent) → HasNumbered self.now records → result ≡ capped (length records + 1) }
+    {
+        self.count.saturating_add(1)
+    }
+
+    /// Takes the next record, and answers the finding on its second field, if there is one: those on all records with
+    /// it are those on the records before, and that.
+    pub fn take(&mut self, entry: &LentRecord<'_>) -> Option<Finding>
+        ensures found { (records : Listed RecordContent) → HasNumbered self.old records
+            → findings_from [] 1 (records ++ entry.now.content ∷ []) ≡ findings_from [] 1 records ++ option_to_list result }
+        ensures numbered { (records : Listed RecordContent) → HasNumbered self.old records
+            → HasNumbered self.new (records ++ entry.now.content ∷ []) }
+    {
+        let kind = entry.kind();
+        let finding = finding_on(kind, lent_number(entry), self.counts, self.next_place());
+        self.counts = self.counts.after(kind);
+        self.count = self.count.saturating_add(1);
+        finding
+    }
 }
 
 /// Adds the finding, if there is one.
@@ -218,7 +312,8 @@ pub fn findings(alloc: Global, message: &Message) -> Result<Findings, AllocError
     let mut place: u64 = 1;
     while let Some(entry) = walk.next() {
         let kind = entry.kind();
-        add(&mut found, finding_on(entry, kind, counts, place))?;
+        let finding = finding_on(kind, record_number(entry), counts, place);
+        add(&mut found, finding)?;
         counts = counts.after(kind);
         place = place.saturating_add(1);
     }

@@ -13,11 +13,13 @@ use crate::session::SessionOf;
 use lis_text::List;
 use std::alloc::Global;
 use std::collections::VecDeque;
+use thiserror::Error;
 
 /// Why events weren't played.
-#[derive(Debug, Clone, Copy, PartialEq, Eq)]
+#[derive(Debug, Clone, Copy, PartialEq, Eq, Error)]
 pub enum PlayFault {
     /// Memory was refused.
+    #[error("memory was refused")]
     OutOfMemory,
 }
 

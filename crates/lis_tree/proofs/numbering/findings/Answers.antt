@@ -1,4 +1,4 @@
-use Rattle.std.proofs.Common.{◌≡◌, ◌∷◌, ◌+◌, subst, arith}
+use Rattle.std.proofs.Common.{◌≡◌, ◌∷◌, ◌+◌, subst, sym, arith}
 use Rattle.lis_field.specs.declared.kinds.Kind.{Kind}
 use Rattle.lis_tree.specs.Findings.{findings_of}
 use Rattle.lis_tree.specs.Numbers.{CountsOf}
@@ -16,6 +16,6 @@ loop-entry-preserved c =
       inv.1 + 1,
       added,
       subst (λ (k : Kind). CountsOf (k ∷ inv.0) counts.patients counts.queries counts.orders counts.results counts.comments) c.kind-kind.ensures.kind (c.after-counts.ensures inv.0 inv.3),
-      findings_step (findings_of c.args.message.now) c.loop-entry.found c.add.new.found c.finding_on.result inv.0 inv.1 r c.loop-entry.walk c.next.new.self inv.4 c.in-Some.ensures.next
-          c.in_ok-add.ensures (c.finding_on.ensures inv.0 inv.1 inv.3 inv.2),
+      findings_step (findings_of c.args.message.now) c.loop-entry.found c.add.new.found c.finding_on-finding.result inv.0 inv.1 r c.loop-entry.walk c.next.new.self inv.4 c.in-Some.ensures.next
+          c.in_ok-add.ensures (c.finding_on-finding.ensures inv.0 inv.1 r inv.3 inv.2 (sym c.kind-kind.ensures.kind) (sym c.record_number.ensures)),
     )
