@@ -1,0 +1,9 @@
+-- What C is told: the numbers that stand for what enums tell, and what a block holds.
+pub mod Codes
+pub mod Emitted
+pub mod Feeding
+pub mod Lending
+pub mod New
+pub mod Signals
+pub mod Status
+pub mod Steps

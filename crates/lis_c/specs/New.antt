@@ -1,0 +1,33 @@
+-- What a new block holds, and what its address is a multiple of.
+use Rattle.std.specs.Prelude.{◌≡◌, ℕ, []}
+use Rattle.std.specs.Borrow.{full_share}
+use Rattle.std.specs.Ptr.{Ptr, lies_at}
+use base.Fml.{Fml, fex}
+use prog.Memory.{align}
+use denote.Memory.{lone}
+use denote.RattleType.{RattleType}
+use Rattle.lis_frame.specs.Scanner.{StandsFor}
+use Rattle.lis_link.specs.Receiver.{new_receiver}
+use Rattle.lis_link.specs.Sender.{new_sender}
+use Rattle.lis_link.specs.inside.Stands.{IsIn}
+use Rattle.lis_c.specs.declared.desk.ScannerDesk.{ScannerDesk}
+use Rattle.lis_c.specs.declared.desk.SenderDesk.{SenderDesk}
+use Rattle.lis_c.specs.declared.desk.ReceiverDesk.{ReceiverDesk}
+use Rattle.lis_c.specs.contracts.desk.ScannerDesk as scanner_desk
+use Rattle.lis_c.specs.contracts.desk.SenderDesk as sender_desk
+use Rattle.lis_c.specs.contracts.desk.ReceiverDesk as receiver_desk
+
+-- a desk with a scanner that has read no byte
+abbrev pub IsNewScanner : Ptr → Fml
+IsNewScanner p = fex ((d : ScannerDesk) × StandsFor 240 d.scanner []) (λ d. lies_at scanner_desk.the_row full_share p d.0)
+
+-- a desk with a sender that was never started, and no text
+abbrev pub IsNewSender : Ptr → Fml
+IsNewSender p = fex ((d : SenderDesk) × (d.sender ≡ new_sender) × (d.texts ≡ [])) (λ d. lies_at sender_desk.the_row full_share p d.0)
+
+-- a desk with a new receiver, and no text
+abbrev pub IsNewReceiver : Ptr → Fml
+IsNewReceiver p = fex ((d : ReceiverDesk) × IsIn 240 d.receiver new_receiver × (d.text ≡ [])) (λ d. lies_at receiver_desk.the_row full_share p d.0)
+
+abbrev pub type_align : RattleType → ℕ
+type_align R = align (lone R.mir)

@@ -1,0 +1,50 @@
+-- What C is told of a receiver's step.
+use Rattle.std.specs.Prelude.{◌≡◌, ◌≢◌, ℕ, ◌<◌, Bool, true, false, List, length, Option, None, Some}
+use Rattle.lis_text.specs.Control.{NAK}
+use Rattle.lis_frame.specs.Frame.{FrameContent}
+use Rattle.lis_link.specs.declared.receiver.Note.TheVariants.{OutOfMemory}
+use Rattle.lis_link.specs.declared.receiver.Step.{Step}
+use Rattle.lis_link.specs.Receiver.{ReceiverState, ReceiverStep}
+use Rattle.lis_link.specs.inside.Stands.{IsIn}
+use Rattle.lis_c.specs.Codes.{note_code, note_detail, note_place, reply_code}
+use Rattle.lis_c.specs.declared.desk.ReceiverDesk.{ReceiverDesk}
+use Rattle.lis_c.specs.declared.out.LisStep.{LisStep}
+
+-- memory was refused
+abbrev pub IsOutOfMemory : LisStep → Type 0
+IsOutOfMemory out = out.note ≡ note_code OutOfMemory
+
+abbrev pub IsNotOutOfMemory : LisStep → Type 0
+IsNotOutOfMemory out = out.note ≢ note_code OutOfMemory
+
+-- a text that is handed out is held, and where none is, the one before it
+abbrev pub HoldsText : Option (List ℕ) → Bool → List ℕ → List ℕ → Type 0
+HoldsText None has before text = (has ≡ false) × (text ≡ before)
+HoldsText (Some message) has before text = (has ≡ true) × (text ≡ message)
+
+-- the answer of a receiver, in numbers
+pub record IsTold (step : Step) (before : List ℕ) (out : LisStep) (text : List ℕ) : Type 0 where
+  pub reply_is : out.reply ≡ reply_code step.reply
+  pub note_is : out.note ≡ note_code step.note
+  pub detail_is : out.detail ≡ note_detail step.note
+  pub place_is : out.place ≡ note_place step.note
+  pub text_is : HoldsText step.message out.has_text before text
+
+-- the step was made and told
+pub record Makes (step : ReceiverStep) (old : ReceiverDesk) (out : LisStep) (new : ReceiverDesk) : Type 0 where
+  pub reply_is : out.reply ≡ reply_code step.reply
+  pub note_is : out.note ≡ note_code step.note
+  pub detail_is : out.detail ≡ note_detail step.note
+  pub place_is : out.place ≡ note_place step.note
+  pub text_is : HoldsText step.message out.has_text old.text new.text
+  pub state : IsIn 240 new.receiver step.after
+
+-- memory was refused for a frame that would be accepted and is longer than the spare room: NAK, and nothing else
+pub record IsRefused (step : ReceiverStep) (r : ReceiverState) (old : ReceiverDesk) (out : LisStep) (new : ReceiverDesk) :
+    Type 0 where
+  pub frame : FrameContent
+  pub would_accept : step.taken ≡ Some frame
+  pub too_long : old.receiver.spare < length frame.text
+  pub reply_is : out.reply ≡ NAK
+  pub text_is : HoldsText None out.has_text old.text new.text
+  pub state : IsIn 240 new.receiver r

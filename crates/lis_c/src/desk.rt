@@ -1,0 +1,193 @@
+//! What stands in the caller's blocks, behind the pointers.
+
+ghost use Rattle.std.specs.Prelude.{◌≡◌, ◌≢◌, ◌++◌, ◌∷◌, [], length, None, Some, MatchResult};
+ghost use Rattle.lis_c.specs.Codes.{note_code, note_detail, note_place};
+ghost use Rattle.lis_c.specs.Status.{AddStatus, OK};
+ghost use Rattle.lis_c.specs.Steps.{IsTold};
+ghost use Rattle.lis_frame.specs.Scanner.{StandsFor};
+ghost use Rattle.lis_link.specs.Receiver.{ReceiverState, new_receiver};
+ghost use Rattle.lis_link.specs.Sender.{new_sender, start_fault, started};
+ghost use Rattle.lis_link.specs.inside.Stands.{IsIn};
+ghost use Rattle.lis_link.specs.declared.sender.EmitOf.TheVariants as Emits;
+
+use crate::out::{LisStep, fault_code, fault_place};
+use crate::status;
+use lis_frame::Scanner;
+use lis_link::{Emit, Note, Receiver, Sender, StartFault, StartRefused, Step};
+use lis_text::{LinkText, List, MOST_TEXTS, Texts};
+use std::alloc::Global;
+use std::mem;
+
+/// A scanner.
+#[derive(Drop)]
+pub struct ScannerDesk {
+    pub scanner: Scanner,
+}
+
+/// A sender, and the texts of its next session.
+#[derive(Drop)]
+pub struct SenderDesk {
+    pub alloc: Global,
+    pub sender: Sender,
+    pub texts: Texts,
+}
+
+/// A receiver, and the text that it handed out last.
+#[derive(Drop)]
+pub struct ReceiverDesk {
+    pub receiver: Receiver,
+    pub text: LinkText,
+}
+
+/// Lets go of all that a desk keeps.
+pub(crate) fn let_go_scanner(_desk: ScannerDesk) {}
+
+/// Lets go of all that a desk keeps.
+pub(crate) fn let_go_sender(_desk: SenderDesk) {}
+
+/// Lets go of all that a desk keeps.
+pub(crate) fn let_go_receiver(_desk: ReceiverDesk) {}
+
+impl ScannerDesk {
+    pub(crate) fn new(_alloc: Global) -> Self
+        ensures { StandsFor 240 result.scanner [] }
+    {
+        ScannerDesk {
+            scanner: Scanner::new(),
+        }
+    }
+}
+
+impl SenderDesk {
+    pub(crate) fn new(alloc: Global) -> Self
+        ensures { (result.sender ≡ new_sender) × (result.texts ≡ []) }
+    {
+        SenderDesk {
+            alloc,
+            sender: Sender::new(),
+            texts: Texts::new(alloc),
+        }
+    }
+
+    /// Puts a copy of a text to the next session; where it is refused the desk is as before.
+    pub(crate) fn add(&mut self, bytes: &[u8]) -> u8
+        ensures added { result ≡ OK →
+            self.new ≡ record self.old { texts = self.old.texts ++ bytes.now ∷ [] } }
+        ensures refused { result ≢ OK → self.new ≡ self.old }
+        ensures status { AddStatus result (length self.old.texts) }
+    {
+        if self.texts.len() >= MOST_TEXTS {
+            return status::FULL;
+        }
+        let mut text = List::new(self.alloc);
+        if let Err(_) = text.extend(bytes) {
+            return status::OUT_OF_MEMORY;
+        }
+        match self.texts.push(text) {
+            Ok(()) => status::OK,
+            Err(_) => status::OUT_OF_MEMORY,
+        }
+    }
+
+    /// Lets go of the texts of the next session.
+    pub(crate) fn clear(&mut self)
+        ensures { self.new ≡ record self.old { texts = [] } }
+    {
+        self.texts = Texts::new(self.alloc);
+    }
+
+    /// Starts a session with the texts. Where it is refused the desk is as before.
+    pub(crate) fn start(&mut self) -> Result<Emit, StartFault>
+        ensures { MatchResult result
+            (λ emit. (start_fault self.old.sender self.old.texts ≡ None) × (emit ≡ Emits.Enq)
+            × (self.new ≡ record self.old { sender = started 240 self.old.texts; texts = [] }))
+            (λ fault. (start_fault self.old.sender self.old.texts ≡ Some fault) × (self.new ≡ self.old)) }
+    {
+        let texts = mem::replace(&mut self.texts, Texts::new(self.alloc));
+        match self.sender.start(texts) {
+            Ok(emit) => Ok(emit),
+            Err(refused) => {
+                let StartRefused { texts, fault } = refused;
+                self.texts = texts;
+                Err(fault)
+            }
+        }
+    }
+}
+
+impl ReceiverDesk {
+    pub(crate) fn new(alloc: Global) -> Self
+        ensures { IsIn 240 result.receiver new_receiver × (result.text ≡ []) }
+    {
+        ReceiverDesk {
+            receiver: Receiver::new(alloc),
+            text: List::new(alloc),
+        }
+    }
+
+    /// Tells a step. A text that it hands out is kept; the receiver has the room of the one before.
+    pub(crate) fn tell(&mut self, step: Step, out: &mut LisStep)
+        ensures told { IsTold step self.old.text out.new self.new.text }
+        ensures receiver { (r : ReceiverState) → IsIn 240 self.old.receiver r → IsIn 240 self.new.receiver r }
+    {
+        let Step {
+            reply,
+            message,
+            note,
+        } = step;
+        out.reply = reply.unwrap_or(0);
+        out.note = note_code(note);
+        out.detail = note_detail(note);
+        out.place = note_place(note);
+        match message {
+            None => out.has_text = false,
+            Some(text) => {
+                out.has_text = true;
+                let before = mem::replace(&mut self.text, text);
+                self.receiver.reuse(before);
+            }
+        }
+    }
+}
+
+/// The code of what a step meant.
+fn note_code(note: Note) -> u8
+    ensures { result ≡ note_code note }
+{
+    match note {
+        Note::Quiet => 0,
+        Note::Opened => 1,
+        Note::NotReady => 2,
+        Note::Ended => 3,
+        Note::Accepted(_) => 4,
+        Note::Duplicate(_) => 5,
+        Note::OutOfTurn(_) => 6,
+        Note::Refused(_) => 7,
+        Note::NoRoom => 8,
+        Note::TooLong => 9,
+        Note::TooMany => 10,
+        Note::OutOfMemory => 11,
+        Note::TimedOut => 12,
+    }
+}
+
+/// The number or the code of the fault that goes with it; 0 where none does.
+fn note_detail(note: Note) -> u8
+    ensures { result ≡ note_detail note }
+{
+    match note {
+        Note::Accepted(number) | Note::Duplicate(number) | Note::OutOfTurn(number) => number,
+        Note::Refused(fault) => fault_code(fault),
+        _ => 0,
+    }
+}
+
+/// The place of the byte that no text may hold; 0 where none is at fault.
+fn note_place(note: Note) -> usize
+    ensures { result ≡ note_place note }
+{
+    match note {
+        Note::Refused(fault) => fault_place(fault),
+        _ => 0,
+    }
+}

@@ -1,0 +1,128 @@
+//! Where an answer is put: structs of the caller's, each of one size, so that no length is owed.
+
+ghost use Rattle.std.specs.Prelude.{◌≡◌, ◌≤◌, length, take};
+ghost use Rattle.lis_c.specs.Codes.{fault_code, fault_place};
+ghost use Rattle.lis_c.specs.Emitted.{emitted};
+ghost use Rattle.lis_c.specs.Signals.{IsTold};
+
+use lis_frame::{FrameFault, Signal, SignalOf, frame_bytes};
+use lis_link::{Emit, EmitOf};
+use lis_text::{ENQ, EOT, NAK};
+
+/// Bytes for the link: the first `len` of `bytes`, at most 247.
+#[repr(C)]
+#[derive(Drop)]
+pub struct LisBytes {
+    pub len: usize,
+    pub bytes: [u8; 247],
+}
+
+/// Puts bytes to the front.
+pub(crate) fn put(out: &mut LisBytes, bytes: &[u8])
+    requires { length bytes.now ≤ 247 }
+    ensures { take out.new.len out.new.bytes ≡ bytes.now }
+{
+    out.bytes[..bytes.len()].copy_from_slice(bytes);
+    out.len = bytes.len();
+}
+
+/// Puts what an emit is on the link.
+pub(crate) fn put_emit(out: &mut LisBytes, emit: &Emit)
+    ensures { take out.new.len out.new.bytes ≡ emitted emit.now }
+{
+    match emit {
+        EmitOf::Nothing => put(out, &[]),
+        EmitOf::Enq => put(out, &[ENQ]),
+        EmitOf::Eot => put(out, &[EOT]),
+        EmitOf::Nak => put(out, &[NAK]),
+        EmitOf::Frame(frame) => put(out, frame_bytes(frame).as_slice()),
+    }
+}
+
+/// Which text of a session is at fault, and the place in it of the byte that no text may hold; 0 where none is.
+#[repr(C)]
+#[derive(Drop)]
+pub struct LisPlace {
+    pub index: usize,
+    pub place: usize,
+}
+
+/// A signal: 0 none, 1 ENQ, 2 EOT, 3 a frame, 4 bytes that are no frame. A frame has its number, whether it is the
+/// last of its message, and the first `len` bytes of `text`, at most 240. Bytes that are none have a fault (1 too
+/// long, 2 shape, 3 number, 4 text, 5 sum) and, where a byte of the text is at fault, its place. All else is 0.
+#[repr(C)]
+#[derive(Drop)]
+pub struct LisSignal {
+    pub kind: u8,
+    pub number: u8,
+    pub last: bool,
+    pub fault: u8,
+    pub place: usize,
+    pub len: usize,
+    pub text: [u8; 240],
+}
+
+/// What a receiver answers: the reply byte, 0 for none; whether a text was handed out, which `lis_receiver_text`
+/// copies; what it meant; the number or the fault that this goes with, and the fault's place.
+#[repr(C)]
+#[derive(Drop)]
+pub struct LisStep {
+    pub reply: u8,
+    pub has_text: bool,
+    pub note: u8,
+    pub detail: u8,
+    pub place: usize,
+}
+
+/// The code of a frame's fault.
+pub(crate) fn fault_code(fault: FrameFault) -> u8
+    ensures { result ≡ fault_code fault }
+{
+    match fault {
+        FrameFault::TooLong => 1,
+        FrameFault::Shape => 2,
+        FrameFault::Number => 3,
+        FrameFault::Text(_) => 4,
+        FrameFault::Sum => 5,
+    }
+}
+
+/// The place of the byte that no text may hold; 0 for any other fault.
+pub(crate) fn fault_place(fault: FrameFault) -> usize
+    ensures { result ≡ fault_place fault }
+{
+    match fault {
+        FrameFault::Text(place) => place,
+        _ => 0,
+    }
+}
+
+/// Tells a signal.
+pub(crate) fn tell_signal(signal: Option<Signal>, out: &mut LisSignal)
+    ensures { IsTold signal out.new }
+{
+    out.kind = 0;
+    out.number = 0;
+    out.last = false;
+    out.fault = 0;
+    out.place = 0;
+    out.len = 0;
+    match signal {
+        None => {}
+        Some(SignalOf::Enq) => out.kind = 1,
+        Some(SignalOf::Eot) => out.kind = 2,
+        Some(SignalOf::Good(frame)) => {
+            out.kind = 3;
+            out.number = frame.number();
+            out.last = frame.is_last();
+            let text = frame.text().as_slice();
+            out.len = text.len();
+            out.text[..text.len()].copy_from_slice(text);
+        }
+        Some(SignalOf::Bad(fault)) => {
+            out.kind = 4;
+            out.fault = fault_code(fault);
+            out.place = fault_place(fault);
+        }
+    }
+}

@@ -1,0 +1,264 @@
+//! The receiver for programs in C.
+
+ghost use Rattle.std.specs.Prelude.{◌≡◌, ◌≢◌, ◌≤◌, ◌∷◌, length, take};
+ghost use Rattle.lis_c.specs.declared.desk.ReceiverDesk.{ReceiverDesk};
+ghost use Rattle.lis_c.specs.Codes.{readiness_code};
+ghost use Rattle.lis_c.specs.New.{IsNewReceiver, type_align};
+ghost use Rattle.lis_c.specs.Status.{BAD_NUMBER, OK, ReserveStatus, copy_status};
+ghost use Rattle.lis_c.specs.Steps.{IsNotOutOfMemory, IsOutOfMemory, IsRefused, Makes};
+ghost use Rattle.lis_c.specs.contracts.desk.ReceiverDesk.{the_row as desk_row};
+ghost use Rattle.lis_link.specs.declared.receiver.Readiness.{Readiness};
+ghost use Rattle.lis_link.specs.Receiver.{ReceiverState, on_byte, on_bytes, on_receiver_timer, receiver_restarted};
+ghost use Rattle.lis_link.specs.Receiver.{with_heard, with_readiness, with_room};
+ghost use Rattle.lis_link.specs.inside.Stands.{IsIn};
+ghost use Rattle.std.specs.Borrow.{sem};
+ghost use Rattle.std.specs.Mem.{type_size};
+ghost use Rattle.std.specs.Ptr.{room_at};
+
+use crate::desk::{ReceiverDesk, let_go_receiver};
+use crate::out::LisStep;
+use crate::status;
+use lis_link::{Hearing, Readiness};
+use lis_text::LONGEST_TEXT;
+use std::alloc::Global;
+use std::marker::Model;
+use std::mem::{align_of, size_of};
+
+/// A receiver, kept behind a pointer that C hands back as it got it.
+#[repr(C)]
+pub struct LisReceiver {
+    at: *mut u8,
+    ghost state: { ReceiverDesk },
+}
+
+impl Model for LisReceiver {
+    ghost use Rattle.std.specs.Borrow.{full_share};
+    ghost use Rattle.std.specs.Ptr.{lies_at};
+    ghost use Rattle.lis_c.specs.contracts.desk.ReceiverDesk.{the_row};
+
+    ghost also_owns = { λ h. lies_at the_row full_share h.at h.state };
+}
+
+impl LisReceiver {
+    ghost use Rattle.lis_c.specs.Lending.{LendsReceiver};
+    ghost use Rattle.lis_c.specs.contracts.desk.ReceiverDesk.{the_row as desk_row};
+    ghost use Rattle.std.specs.Borrow.{full_share, sem};
+    ghost use Rattle.std.specs.Ptr.{lies_at, room_at};
+
+    /// Puts a desk into a block, which is then this handle's.
+    unsafe fn place(at: *mut u8, desk: ReceiverDesk)
+        requires* { sem 𝓛 (room_at desk_row at) }
+        ensures* { sem 𝓛 (lies_at desk_row full_share at desk) }
+    {
+        (at as *mut ReceiverDesk).write(desk);
+    }
+
+    /// Takes what lies behind the pointer; the block is room again.
+    fn take(self) -> ReceiverDesk
+        ensures* room { sem 𝓛 (room_at desk_row self.at) }
+        ensures value { result ≡ self.state }
+    {
+        let LisReceiver { at } = self;
+        unsafe { (at as *mut ReceiverDesk).read() }
+    }
+
+    /// What lies behind the pointer.
+    fn lend(&mut self) -> &mut ReceiverDesk
+        ensures* writes_back { sem 𝓛 (LendsReceiver self.entry result) }
+        ensures value { result.now ≡ self.old.state }
+    {
+        unsafe { &mut *(self.at as *mut ReceiverDesk) }
+    }
+}
+
+/// Hears one byte. Only where a frame would be accepted whose text is longer than the spare room may memory be
+/// refused, note 11; the frame is then answered NAK and not taken.
+#[unsafe(no_mangle)]
+pub extern "C" fn lis_receiver_byte(s: &mut LisReceiver, byte: u8, out: &mut LisStep)
+    ensures step { (r : ReceiverState) → IsIn 240 s.old.state.receiver r → IsNotOutOfMemory out.new
+        → Makes (on_byte 240 byte r) s.old.state out.new s.new.state }
+    ensures refused { (r : ReceiverState) → IsIn 240 s.old.state.receiver r → IsOutOfMemory out.new
+        → IsRefused (on_byte 240 byte r) (record r { past = byte ∷ r.past }) s.old.state out.new s.new.state }
+{
+    s.lend().byte(byte, out);
+}
+
+/// Hears bytes up to the first that means something, or all of them where none does, and answers how many it heard;
+/// `lis_receiver_byte` is the case of one byte.
+#[unsafe(no_mangle)]
+pub extern "C" fn lis_receiver_hear(s: &mut LisReceiver, bytes: &[u8], out: &mut LisStep) -> usize
+    ensures count { (r : ReceiverState) → IsIn 240 s.old.state.receiver r →
+        result ≡ (on_bytes 240 bytes.now r).count }
+    ensures step { (r : ReceiverState) → IsIn 240 s.old.state.receiver r → IsNotOutOfMemory out.new
+        → Makes (on_bytes 240 bytes.now r).step s.old.state out.new s.new.state }
+    ensures refused { (r : ReceiverState) → IsIn 240 s.old.state.receiver r → IsOutOfMemory out.new
+        → IsRefused (on_bytes 240 bytes.now r).step (with_heard (take result bytes.now) r) s.old.state out.new
+        s.new.state }
+{
+    s.lend().hear(bytes, out)
+}
+
+/// The receiver's timer runs out.
+#[unsafe(no_mangle)]
+pub extern "C" fn lis_receiver_timer(s: &mut LisReceiver, out: &mut LisStep)
+    ensures { (r : ReceiverState) → IsIn 240 s.old.state.receiver r →
+        Makes (on_receiver_timer r) s.old.state out.new s.new.state }
+{
+    s.lend().timer(out);
+}
+
+/// The receiver is neutral, ready and has room again; the text that it handed out last stays.
+#[unsafe(no_mangle)]
+pub extern "C" fn lis_receiver_restart(s: &mut LisReceiver)
+    ensures state { (r : ReceiverState) → IsIn 240 s.old.state.receiver r →
+        IsIn 240 s.new.state.receiver (receiver_restarted r) }
+    ensures text { s.new.state.text ≡ s.old.state.text }
+{
+    s.lend().receiver.restart();
+}
+
+/// Whether there is room for another frame from now on.
+#[unsafe(no_mangle)]
+pub extern "C" fn lis_receiver_set_room(s: &mut LisReceiver, room: bool)
+    ensures state { (r : ReceiverState) → IsIn 240 s.old.state.receiver r →
+        IsIn 240 s.new.state.receiver (with_room room r) }
+    ensures text { s.new.state.text ≡ s.old.state.text }
+{
+    s.lend().receiver.set_room(room);
+}
+
+/// How ENQ is answered from now on: 0 ready, 1 busy, 2 contending. `BAD_NUMBER`, and nothing has changed, for any
+/// other number.
+#[unsafe(no_mangle)]
+pub extern "C" fn lis_receiver_set_ready(s: &mut LisReceiver, readiness: u8) -> u8
+    ensures state { (r : ReceiverState) (known : Readiness) → IsIn 240 s.old.state.receiver r →
+        readiness ≡ readiness_code known →
+        (result ≡ OK) × IsIn 240 s.new.state.receiver (with_readiness known r) }
+    ensures refused { 3 ≤ readiness → (result ≡ BAD_NUMBER) × (s.new.state ≡ s.old.state) }
+    ensures text { s.new.state.text ≡ s.old.state.text }
+{
+    let readiness = match readiness {
+        0 => Readiness::Ready,
+        1 => Readiness::Busy,
+        2 => Readiness::Contending,
+        _ => return status::BAD_NUMBER,
+    };
+    s.lend().receiver.set_ready(readiness);
+    status::OK
+}
+
+/// Makes room for `bytes` more bytes of held text, so that taking them takes no memory: `OK`, `TOO_LONG` where no text
+/// has as many, or `OUT_OF_MEMORY`. The state stays.
+#[unsafe(no_mangle)]
+pub extern "C" fn lis_receiver_reserve(s: &mut LisReceiver, bytes: u64) -> u8
+    ensures status { ReserveStatus result bytes }
+    ensures spare { result ≡ OK → bytes ≤ s.new.state.receiver.spare }
+    ensures state { (r : ReceiverState) → IsIn 240 s.old.state.receiver r → IsIn 240 s.new.state.receiver r }
+    ensures text { s.new.state.text ≡ s.old.state.text }
+{
+    if bytes > LONGEST_TEXT as u64 {
+        return status::TOO_LONG;
+    }
+    match s.lend().receiver.reserve(bytes) {
+        Ok(()) => status::OK,
+        Err(_) => status::OUT_OF_MEMORY,
+    }
+}
+
+/// The length of the text that was handed out last; 0 before the first.
+#[unsafe(no_mangle)]
+pub extern "C" fn lis_receiver_text_len(s: &mut LisReceiver) -> usize
+    ensures value { result ≡ length s.old.state.text }
+    ensures same { s.new.state ≡ s.old.state }
+{
+    s.lend().text.len()
+}
+
+/// Copies the text that was handed out last to the front of a buffer. `TOO_SHORT`, and nothing is copied, where it is
+/// longer than the buffer.
+#[unsafe(no_mangle)]
+pub extern "C" fn lis_receiver_text(s: &mut LisReceiver, out: &mut [u8]) -> u8
+    ensures status { result ≡ copy_status (length out.old) (length s.old.state.text) }
+    ensures copied { result ≡ OK → take (length s.old.state.text) out.new ≡ s.old.state.text }
+    ensures refused { result ≢ OK → out.new ≡ out.old }
+    ensures same { s.new.state ≡ s.old.state }
+{
+    let desk = s.lend();
+    let text = desk.text.as_slice();
+    if text.len() > out.len() {
+        return status::TOO_SHORT;
+    }
+    out[..text.len()].copy_from_slice(text);
+    status::OK
+}
+
+impl ReceiverDesk {
+    fn byte(&mut self, byte: u8, out: &mut LisStep)
+        ensures step { (r : ReceiverState) → IsIn 240 self.old.receiver r → IsNotOutOfMemory out.new
+            → Makes (on_byte 240 byte r) self.old out.new self.new }
+        ensures refused { (r : ReceiverState) → IsIn 240 self.old.receiver r → IsOutOfMemory out.new
+            → IsRefused (on_byte 240 byte r) (record r { past = byte ∷ r.past }) self.old out.new self.new }
+    {
+        let step = self.receiver.byte(byte);
+        self.tell(step, out);
+    }
+
+    fn hear(&mut self, bytes: &[u8], out: &mut LisStep) -> usize
+        ensures count { (r : ReceiverState) → IsIn 240 self.old.receiver r →
+            result ≡ (on_bytes 240 bytes.now r).count }
+        ensures step { (r : ReceiverState) → IsIn 240 self.old.receiver r → IsNotOutOfMemory out.new
+            → Makes (on_bytes 240 bytes.now r).step self.old out.new self.new }
+        ensures refused { (r : ReceiverState) → IsIn 240 self.old.receiver r → IsOutOfMemory out.new
+            → IsRefused (on_bytes 240 bytes.now r).step (with_heard (take result bytes.now) r) self.old out.new
+            self.new }
+    {
+        let Hearing { count, step } = self.receiver.bytes(bytes);
+        self.tell(step, out);
+        count
+    }
+
+    fn timer(&mut self, out: &mut LisStep)
+        ensures { (r : ReceiverState) → IsIn 240 self.old.receiver r →
+            Makes (on_receiver_timer r) self.old out.new self.new }
+    {
+        let step = self.receiver.timer();
+        self.tell(step, out);
+    }
+}
+
+/// Ends a receiver; its block is the caller's again.
+#[unsafe(no_mangle)]
+pub extern "C" fn lis_receiver_end(s: LisReceiver)
+    ensures* { sem 𝓛 (room_at desk_row s.at) }
+{
+    let_go_receiver(s.take());
+}
+
+/// Makes a receiver, neutral and ready, in a block of the caller's.
+#[unsafe(no_mangle)]
+pub unsafe extern "C" fn lis_receiver_init(alloc: Global, at: *mut u8)
+    requires* { sem 𝓛 (room_at desk_row at) }
+    ensures* { sem 𝓛 (IsNewReceiver at) }
+{
+    LisReceiver::place(at, ReceiverDesk::new(alloc));
+}
+
+const RECEIVER_SIZE: usize = size_of::<ReceiverDesk>();
+
+const RECEIVER_ALIGN: usize = align_of::<ReceiverDesk>();
+
+/// The number of bytes of a receiver's block.
+#[unsafe(no_mangle)]
+pub extern "C" fn lis_receiver_size() -> usize
+    ensures { result ≡ type_size desk_row }
+{
+    RECEIVER_SIZE
+}
+
+/// What the address of a receiver's block is a multiple of.
+#[unsafe(no_mangle)]
+pub extern "C" fn lis_receiver_align() -> usize
+    ensures { result ≡ type_align desk_row }
+{
+    RECEIVER_ALIGN
+}

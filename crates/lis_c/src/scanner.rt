@@ -1,0 +1,129 @@
+//! The scanner for programs in C.
+
+ghost use Rattle.std.specs.Prelude.{◌≡◌, ◌∷◌, ℕ, List, take};
+ghost use Rattle.lis_c.specs.declared.desk.ScannerDesk.{ScannerDesk};
+ghost use Rattle.lis_c.specs.Signals.{FedAndTold, IsTold};
+ghost use Rattle.lis_frame.specs.Scanner.{StandsFor};
+ghost use Rattle.lis_frame.specs.Stream.{signal_after, stream_with};
+ghost use Rattle.lis_c.specs.New.{IsNewScanner, type_align};
+ghost use Rattle.lis_c.specs.contracts.desk.ScannerDesk.{the_row as desk_row};
+ghost use Rattle.std.specs.Borrow.{sem};
+ghost use Rattle.std.specs.Mem.{type_size};
+ghost use Rattle.std.specs.Ptr.{room_at};
+
+use crate::desk::{ScannerDesk, let_go_scanner};
+use crate::feed::feed;
+use crate::out::{LisSignal, tell_signal};
+use std::alloc::Global;
+use std::marker::Model;
+use std::mem::{align_of, size_of};
+
+/// A scanner, kept behind a pointer that C hands back as it got it.
+#[repr(C)]
+pub struct LisScanner {
+    at: *mut u8,
+    ghost state: { ScannerDesk },
+}
+
+impl Model for LisScanner {
+    ghost use Rattle.std.specs.Borrow.{full_share};
+    ghost use Rattle.std.specs.Ptr.{lies_at};
+    ghost use Rattle.lis_c.specs.contracts.desk.ScannerDesk.{the_row};
+
+    ghost also_owns = { λ h. lies_at the_row full_share h.at h.state };
+}
+
+impl LisScanner {
+    ghost use Rattle.lis_c.specs.Lending.{LendsScanner};
+    ghost use Rattle.lis_c.specs.contracts.desk.ScannerDesk.{the_row as desk_row};
+    ghost use Rattle.std.specs.Borrow.{full_share, sem};
+    ghost use Rattle.std.specs.Ptr.{lies_at, room_at};
+
+    /// Puts a desk into a block, which is then this handle's.
+    unsafe fn place(at: *mut u8, desk: ScannerDesk)
+        requires* { sem 𝓛 (room_at desk_row at) }
+        ensures* { sem 𝓛 (lies_at desk_row full_share at desk) }
+    {
+        (at as *mut ScannerDesk).write(desk);
+    }
+
+    /// Takes what lies behind the pointer; the block is room again.
+    fn take(self) -> ScannerDesk
+        ensures* room { sem 𝓛 (room_at desk_row self.at) }
+        ensures value { result ≡ self.state }
+    {
+        let LisScanner { at } = self;
+        unsafe { (at as *mut ScannerDesk).read() }
+    }
+
+    /// What lies behind the pointer.
+    fn lend(&mut self) -> &mut ScannerDesk
+        ensures* writes_back { sem 𝓛 (LendsScanner self.entry result) }
+        ensures value { result.now ≡ self.old.state }
+    {
+        unsafe { &mut *(self.at as *mut ScannerDesk) }
+    }
+}
+
+/// Reads one byte, and tells the signal that it gives.
+#[unsafe(no_mangle)]
+pub extern "C" fn lis_scanner_push(s: &mut LisScanner, byte: u8, out: &mut LisSignal)
+    ensures signal { (past : List ℕ) → StandsFor 240 s.old.state.scanner past →
+        IsTold (signal_after 240 past byte) out.new }
+    ensures after { (past : List ℕ) → StandsFor 240 s.old.state.scanner past →
+        StandsFor 240 s.new.state.scanner (byte ∷ past) }
+{
+    let signal = s.lend().scanner.push(byte);
+    tell_signal(signal, out);
+}
+
+/// Reads bytes up to the first that gives a signal, or all of them where none does, tells the signal, and answers how
+/// many it read.
+#[unsafe(no_mangle)]
+pub extern "C" fn lis_scanner_feed(s: &mut LisScanner, bytes: &[u8], out: &mut LisSignal) -> usize
+    ensures signal { (past : List ℕ) → StandsFor 240 s.old.state.scanner past →
+        FedAndTold past bytes.now result out.new }
+    ensures after { (past : List ℕ) → StandsFor 240 s.old.state.scanner past →
+        StandsFor 240 s.new.state.scanner (stream_with past (take result bytes.now)) }
+{
+    let (count, signal) = feed(&mut s.lend().scanner, bytes);
+    tell_signal(signal, out);
+    count
+}
+
+/// Ends a scanner; its block is the caller's again.
+#[unsafe(no_mangle)]
+pub extern "C" fn lis_scanner_end(s: LisScanner)
+    ensures* { sem 𝓛 (room_at desk_row s.at) }
+{
+    let_go_scanner(s.take());
+}
+
+/// Makes a scanner that has read no byte in a block of the caller's.
+#[unsafe(no_mangle)]
+pub unsafe extern "C" fn lis_scanner_init(alloc: Global, at: *mut u8)
+    requires* { sem 𝓛 (room_at desk_row at) }
+    ensures* { sem 𝓛 (IsNewScanner at) }
+{
+    LisScanner::place(at, ScannerDesk::new(alloc));
+}
+
+const SCANNER_SIZE: usize = size_of::<ScannerDesk>();
+
+const SCANNER_ALIGN: usize = align_of::<ScannerDesk>();
+
+/// The number of bytes of a scanner's block.
+#[unsafe(no_mangle)]
+pub extern "C" fn lis_scanner_size() -> usize
+    ensures { result ≡ type_size desk_row }
+{
+    SCANNER_SIZE
+}
+
+/// What the address of a scanner's block is a multiple of.
+#[unsafe(no_mangle)]
+pub extern "C" fn lis_scanner_align() -> usize
+    ensures { result ≡ type_align desk_row }
+{
+    SCANNER_ALIGN
+}

@@ -1,0 +1,77 @@
+//! What a call that may fail answers.
+
+ghost use Rattle.std.specs.Prelude.{◌≡◌, Some};
+ghost use Rattle.lis_c.specs.Status.{start_index, start_place, start_status, text_place, text_status};
+
+use lis_link::StartFault;
+use lis_text::TextFault;
+
+/// The call did what it is for.
+pub(crate) const OK: u8 = 0;
+/// A session is going on.
+pub(crate) const IN_SESSION: u8 = 1;
+/// There is no text to send.
+pub(crate) const NO_TEXT: u8 = 2;
+/// There are more bytes than the limit allows.
+pub(crate) const TOO_LONG: u8 = 3;
+/// A byte stands in a text that none may hold.
+pub(crate) const FORBIDDEN: u8 = 4;
+/// There are as many texts as a session has.
+pub(crate) const FULL: u8 = 5;
+/// Memory was refused.
+pub(crate) const OUT_OF_MEMORY: u8 = 6;
+/// The number is none that is known here.
+pub(crate) const BAD_NUMBER: u8 = 7;
+/// The buffer is too short.
+pub(crate) const TOO_SHORT: u8 = 8;
+
+/// The status of bytes that are no text.
+pub(crate) fn text_status(fault: TextFault) -> u8
+    ensures { result ≡ text_status (Some fault) }
+{
+    match fault {
+        TextFault::TooLong => TOO_LONG,
+        TextFault::Forbidden(_) => FORBIDDEN,
+    }
+}
+
+/// The place of the byte that makes them none; 0 where none does.
+pub(crate) fn text_place(fault: TextFault) -> usize
+    ensures { result ≡ text_place (Some fault) }
+{
+    match fault {
+        TextFault::TooLong => 0,
+        TextFault::Forbidden(place) => place,
+    }
+}
+
+/// The status of a start that was refused.
+pub(crate) fn start_status(fault: StartFault) -> u8
+    ensures { result ≡ start_status (Some fault) }
+{
+    match fault {
+        StartFault::InSession => IN_SESSION,
+        StartFault::NoText => NO_TEXT,
+        StartFault::BadText { fault, .. } => text_status(fault),
+    }
+}
+
+/// Which text is at fault; 0 where none is.
+pub(crate) fn start_index(fault: StartFault) -> usize
+    ensures { result ≡ start_index (Some fault) }
+{
+    match fault {
+        StartFault::BadText { index, .. } => index,
+        _ => 0,
+    }
+}
+
+/// The place of the byte of it that no text may hold; 0 where none is at fault.
+pub(crate) fn start_place(fault: StartFault) -> usize
+    ensures { result ≡ start_place (Some fault) }
+{
+    match fault {
+        StartFault::BadText { fault, .. } => text_place(fault),
+        _ => 0,
+    }
+}

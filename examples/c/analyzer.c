@@ -1,0 +1,80 @@
+/* An analyzer: sends the texts of a message in one session, and tells how it ended. */
+#include "loops.h"
+#include <poll.h>
+#include <stdlib.h>
+#include <string.h>
+#include <time.h>
+#include <unistd.h>
+
+static long long milliseconds(void) {
+    struct timespec now;
+    clock_gettime(CLOCK_MONOTONIC, &now);
+    return now.tv_sec * 1000LL + now.tv_nsec / 1000000;
+}
+
+/* How long the sender waits for a reply where it stands, before its timer runs out. */
+static int seconds(uint8_t phase) {
+    switch (phase) {
+    case LIS_BUSY:
+        return LIS_SECONDS_BUSY;
+    case LIS_CONTENTION:
+        return LIS_SECONDS_CONTENTION;
+    default:
+        return LIS_SECONDS_REPLY;
+    }
+}
+
+/* Waits for one byte: 1 and the byte, 0 where the time is over, -1 where the line is closed. */
+static int await(int line, long long until, uint8_t *byte) {
+    long long left = until - milliseconds();
+    struct pollfd ready = {line, POLLIN, 0};
+    if (left <= 0 || poll(&ready, 1, (int)left) == 0)
+        return 0;
+    return read(line, byte, 1) == 1 ? 1 : -1;
+}
+
+static bool put(int line, const lis_bytes *out) {
+    return out->len == 0 || write(line, out->bytes, out->len) == (ssize_t)out->len;
+}
+
+/* Goes on with a session that was started until it is over. */
+static int run(int line, lis_sender *sender, lis_bytes *out, int percent) {
+    while (put(line, out)) {
+        uint8_t phase = lis_sender_phase(sender), byte;
+        if (phase == LIS_NEUTRAL)
+            return lis_sender_outcome(sender);
+        long long until = milliseconds() + seconds(phase) * 10LL * percent;
+        int got;
+        out->len = 0;
+        /* A byte that changes nothing leaves the timer running. */
+        while ((got = await(line, until, &byte)) == 1) {
+            lis_sender_reply(sender, byte, out);
+            if (out->len != 0 || lis_sender_phase(sender) != phase)
+                break;
+        }
+        if (got < 0)
+            return -1;
+        if (got == 0)
+            lis_sender_timer(sender, out);
+    }
+    return -1;
+}
+
+int analyzer(int line, const char *const *texts, size_t count, int percent) {
+    lis_sender sender = {malloc(lis_sender_size())};
+    lis_bytes out;
+    lis_place fault;
+    int outcome = -1;
+    if (sender.at == NULL)
+        return -1;
+    lis_sender_init(sender.at);
+    size_t added = 0;
+    while (added < count
+           && lis_sender_add_text(&sender, (const uint8_t *)texts[added], strlen(texts[added])) == LIS_OK)
+        added++;
+    if (added == count && lis_sender_start(&sender, &out, &fault) == LIS_OK)
+        outcome = run(line, &sender, &out, percent);
+    lis_sender_end(sender);
+    free(sender.at);
+    return outcome;
+}

@@ -1,0 +1,123 @@
+/* Without a C library: a scanner hears a frame that lis_frame_write wrote, and a sender and a receiver talk over a
+ * pool of 8 KiB. On x86-64 Linux its exit status is 0 where all went well, else the number of what did not. */
+#include "lislink.h"
+
+/* The three copies that a compiler expects of every program. */
+void *memcpy(void *to, const void *from, size_t n) {
+    char *a = to;
+    const char *b = from;
+    while (n--)
+        *a++ = *b++;
+    return to;
+}
+
+void *memmove(void *to, const void *from, size_t n) {
+    char *a = to;
+    const char *b = from;
+    if (a < b)
+        return memcpy(to, from, n);
+    while (n--)
+        a[n] = b[n];
+    return to;
+}
+
+void *memset(void *to, int byte, size_t n) {
+    char *a = to;
+    while (n--)
+        *a++ = (char)byte;
+    return to;
+}
+
+static bool same(const uint8_t *a, const uint8_t *b, size_t n) {
+    while (n > 0 && *a == *b)
+        a++, b++, n--;
+    return n == 0;
+}
+
+/* A pool: blocks are taken from the front, and all of them come back once none is in use. */
+static _Alignas(16) uint8_t pool[8192];
+static size_t top, in_use;
+
+rattle_tried rattle_alloc(size_t size, size_t align) {
+    rattle_tried answer = {false, pool};
+    (void)align;
+    if (size > sizeof pool || ((size + 15) & ~(size_t)15) > sizeof pool - top)
+        return answer;
+    answer.ok = true;
+    answer.p = pool + top;
+    top += (size + 15) & ~(size_t)15;
+    in_use++;
+    return answer;
+}
+
+void rattle_dealloc(uint8_t *p) {
+    (void)p;
+    if (--in_use == 0)
+        top = 0;
+}
+
+rattle_tried rattle_realloc(uint8_t *p, size_t kept, size_t size, size_t align) {
+    rattle_tried answer = rattle_alloc(size, align);
+    if (answer.ok) {
+        memcpy(answer.p, p, kept < size ? kept : size);
+        rattle_dealloc(p);
+    }
+    return answer;
+}
+
+/* The blocks; `run` compares their sizes with what the library asks for. */
+static _Alignas(16) uint8_t scanner_block[320], sender_block[128], receiver_block[512];
+static lis_bytes out;
+static lis_signal signal;
+static uint8_t text[1000];
+
+static int hear_a_frame(void) {
+    static const uint8_t header[] = "H|\\^&\r";
+    lis_scanner scanner = {scanner_block};
+    size_t place;
+    if (lis_scanner_size() > sizeof scanner_block || 16 % lis_scanner_align() != 0)
+        return 1;
+    lis_scanner_init(scanner.at);
+    if (lis_frame_write(1, true, header, 6, &out, &place) != LIS_OK)
+        return 2;
+    if (lis_scanner_feed(&scanner, out.bytes, out.len, &signal) != out.len || signal.kind != LIS_FRAME)
+        return 3;
+    if (signal.len != 6 || !same(signal.text, header, 6) || !signal.last || signal.number != 1)
+        return 4;
+    lis_scanner_end(scanner);
+    return 0;
+}
+
+static int carry_a_text(void) {
+    lis_sender sender = {sender_block};
+    lis_receiver receiver = {receiver_block};
+    lis_place fault;
+    if (lis_sender_size() > sizeof sender_block || lis_receiver_size() > sizeof receiver_block)
+        return 5;
+    lis_sender_init(sender.at);
+    lis_receiver_init(receiver.at);
+    memset(text, 'x', sizeof text);
+    if (lis_sender_add_text(&sender, text, sizeof text) != LIS_OK || lis_sender_start(&sender, &out, &fault) != LIS_OK)
+        return 6;
+    while (lis_sender_phase(&sender) != LIS_NEUTRAL) {
+        lis_step step;
+        if (lis_receiver_hear(&receiver, out.bytes, out.len, &step) != out.len || step.reply == 0)
+            return 7;
+        lis_sender_reply(&sender, step.reply, &out);
+    }
+    if (lis_sender_outcome(&sender) != LIS_DONE || lis_receiver_text_len(&receiver) != sizeof text)
+        return 8;
+    lis_sender_end(sender);
+    lis_receiver_end(receiver);
+    return in_use == 0 ? 0 : 9;
+}
+
+static int run(void) {
+    int failed = hear_a_frame();
+    return failed != 0 ? failed : carry_a_text();
+}
+
+__attribute__((force_align_arg_pointer, noreturn)) void _start(void) {
+    __asm__ volatile("syscall" : : "a"(60), "D"(run()) : "rcx", "r11", "memory");
+    __builtin_unreachable();
+}

@@ -1,0 +1,281 @@
+"""The proved link of LIS01-A2 for Python 3, by ctypes and the standard library alone.
+
+The shared library is found by LISLINK_LIBRARY, else beside this file, else by the system's loader. A scanner, a sender
+and a receiver are context managers; what a call refuses is a LinkError with its status.
+"""
+import ctypes
+import enum
+import os
+from typing import Iterator, NamedTuple, Optional
+
+REPLY, BUSY, CONTENTION, RECEIVER = 15, 10, 1, 30  # the standard's timers, in seconds
+
+
+class Status(enum.IntEnum):
+    OK, IN_SESSION, NO_TEXT, TOO_LONG, FORBIDDEN, FULL, OUT_OF_MEMORY, BAD_NUMBER, TOO_SHORT = range(9)
+
+
+class Kind(enum.IntEnum):
+    NONE, ENQ, EOT, FRAME, BAD_FRAME = range(5)
+
+
+class FrameFault(enum.IntEnum):
+    NONE, TOO_LONG, SHAPE, NUMBER, FORBIDDEN, SUM = range(6)
+
+
+class Phase(enum.IntEnum):
+    NEUTRAL, AWAIT_LINE, BUSY, CONTENTION, AWAIT_REPLY = range(5)
+
+
+class Outcome(enum.IntEnum):
+    NONE, DONE, TIMED_OUT, SIX_TRIES, RESTARTED = range(5)
+
+
+class Note(enum.IntEnum):
+    (QUIET, OPENED, NOT_READY, ENDED, ACCEPTED, DUPLICATE, OUT_OF_TURN, REFUSED, NO_ROOM, TEXT_TOO_LONG, TOO_MANY,
+     REFUSED_MEMORY, TIMED_OUT) = range(13)
+
+
+class Readiness(enum.IntEnum):
+    READY, BUSY, CONTENDING = range(3)
+
+
+class LinkError(Exception):
+    """A call was refused: its status, and where it has them the text and the byte at fault, from 0."""
+
+    def __init__(self, status, index=None, place=None):
+        super().__init__(Status(status).name, *(one for one in (index, place) if one is not None))
+        self.status, self.index, self.place = Status(status), index, place
+
+
+class Signal(NamedTuple):
+    """A signal of the line. A frame has a number, whether it is the last of its message, and a text."""
+    kind: Kind
+    number: int
+    last: bool
+    fault: FrameFault
+    place: int
+    text: bytes
+
+
+class Step(NamedTuple):
+    """A receiver's answer: the byte to send, the text that is handed out, and what it meant."""
+    reply: bytes
+    text: Optional[bytes]
+    note: Note
+    detail: int
+    place: int
+
+
+class _Handle(ctypes.Structure):
+    _fields_ = [("at", ctypes.c_void_p)]
+
+
+class _Bytes(ctypes.Structure):
+    _fields_ = [("len", ctypes.c_size_t), ("bytes", ctypes.c_uint8 * 247)]
+
+
+class _Place(ctypes.Structure):
+    _fields_ = [("index", ctypes.c_size_t), ("place", ctypes.c_size_t)]
+
+
+class _Signal(ctypes.Structure):
+    _fields_ = [("kind", ctypes.c_uint8), ("number", ctypes.c_uint8), ("last", ctypes.c_bool), ("fault", ctypes.c_uint8),
+                ("place", ctypes.c_size_t), ("len", ctypes.c_size_t), ("text", ctypes.c_uint8 * 240)]
+
+
+class _Step(ctypes.Structure):
+    _fields_ = [("reply", ctypes.c_uint8), ("has_text", ctypes.c_bool), ("note", ctypes.c_uint8),
+                ("detail", ctypes.c_uint8), ("place", ctypes.c_size_t)]
+
+
+def _load():
+    beside = os.path.join(os.path.dirname(os.path.abspath(__file__)), "liblislink.so")
+    named = os.environ.get("LISLINK_LIBRARY")
+    return ctypes.CDLL(named or (beside if os.path.exists(beside) else "liblislink.so"))
+
+
+_lib = _load()
+_POINTER, _SIZE, _BYTE, _FLAG = ctypes.c_void_p, ctypes.c_size_t, ctypes.c_uint8, ctypes.c_bool
+_CALLS = {
+    "frame_write": (_BYTE, _BYTE, _FLAG, ctypes.c_char_p, _SIZE, _POINTER, _POINTER),
+    "scanner_feed": (_SIZE, _POINTER, ctypes.c_char_p, _SIZE, _POINTER),
+    "sender_add_text": (_BYTE, _POINTER, ctypes.c_char_p, _SIZE),
+    "sender_clear": (None, _POINTER),
+    "sender_start": (_BYTE, _POINTER, _POINTER, _POINTER),
+    "sender_reply": (None, _POINTER, _BYTE, _POINTER),
+    "sender_timer": (None, _POINTER, _POINTER),
+    "sender_restart": (None, _POINTER),
+    "sender_phase": (_BYTE, _POINTER),
+    "sender_outcome": (_BYTE, _POINTER),
+    "sender_acknowledged": (ctypes.c_uint64, _POINTER),
+    "receiver_hear": (_SIZE, _POINTER, ctypes.c_char_p, _SIZE, _POINTER),
+    "receiver_timer": (None, _POINTER, _POINTER),
+    "receiver_restart": (None, _POINTER),
+    "receiver_set_room": (None, _POINTER, _FLAG),
+    "receiver_set_ready": (_BYTE, _POINTER, _BYTE),
+    "receiver_reserve": (_BYTE, _POINTER, ctypes.c_uint64),
+    "receiver_text_len": (_SIZE, _POINTER),
+    "receiver_text": (_BYTE, _POINTER, _POINTER, _SIZE),
+}
+for _kind in ("scanner", "sender", "receiver"):
+    _CALLS.update({f"{_kind}_size": (_SIZE,), f"{_kind}_align": (_SIZE,), f"{_kind}_init": (None, _POINTER),
+                   f"{_kind}_end": (None, _Handle)})
+
+
+def _call(name):
+    call = getattr(_lib, f"lis_{name}")
+    call.restype, *call.argtypes = _CALLS[name]
+    return call
+
+
+_calls = {name: _call(name) for name in _CALLS}
+
+
+def frame_bytes(number, last, text):
+    """The bytes of a frame."""
+    out, place = _Bytes(), ctypes.c_size_t()
+    text = bytes(text)
+    status = _calls["frame_write"](number, last, text, len(text), ctypes.byref(out), ctypes.byref(place))
+    if status:
+        raise LinkError(status, None, place.value)
+    return bytes(out.bytes[:out.len])
+
+
+class _Owner:
+    """What stands in a block; it is let go of by `close`, by `with`, or with the object."""
+    _kind = ""
+
+    def __init__(self):
+        size, align = _calls[f"{self._kind}_size"](), _calls[f"{self._kind}_align"]()
+        self._block = ctypes.create_string_buffer(size + align)
+        start = ctypes.addressof(self._block)
+        self._handle = _Handle(start + -start % align)
+        _calls[f"{self._kind}_init"](self._handle.at)
+
+    def _call(self, name, *words):
+        if self._handle is None:
+            raise ValueError(f"the {self._kind} is closed")
+        return _calls[f"{self._kind}_{name}"](ctypes.byref(self._handle), *words)
+
+    def close(self):
+        handle, self._handle = getattr(self, "_handle", None), None
+        if handle is not None:
+            _calls[f"{self._kind}_end"](handle)
+
+    def __enter__(self):
+        return self
+
+    def __exit__(self, *_):
+        self.close()
+
+    __del__ = close
+
+
+class Scanner(_Owner):
+    """Reads link bytes in pieces."""
+    _kind = "scanner"
+
+    def feed(self, data) -> Iterator[Signal]:
+        """The signals of further bytes, in order. The bytes are read as the signals are taken."""
+        data, out = bytes(data), _Signal()
+        while data:
+            data = data[self._call("feed", data, len(data), ctypes.byref(out)):]
+            if out.kind:
+                yield Signal(Kind(out.kind), out.number, out.last, FrameFault(out.fault), out.place,
+                             bytes(out.text[:out.len]))
+
+
+class Sender(_Owner):
+    """The sending end. `start`, `reply` and `timer` answer the bytes to send."""
+    _kind = "sender"
+
+    def add_text(self, text):
+        text = bytes(text)
+        status = self._call("add_text", text, len(text))
+        if status:
+            raise LinkError(status)
+
+    def clear(self):
+        self._call("clear")
+
+    def start(self):
+        out, fault = _Bytes(), _Place()
+        status = self._call("start", ctypes.byref(out), ctypes.byref(fault))
+        if status:
+            raise LinkError(status, fault.index, fault.place)
+        return bytes(out.bytes[:out.len])
+
+    def reply(self, byte):
+        return self._sent("reply", byte)
+
+    def timer(self):
+        return self._sent("timer")
+
+    def restart(self):
+        self._call("restart")
+
+    def _sent(self, name, *words):
+        out = _Bytes()
+        self._call(name, *words, ctypes.byref(out))
+        return bytes(out.bytes[:out.len])
+
+    @property
+    def phase(self):
+        return Phase(self._call("phase"))
+
+    @property
+    def outcome(self):
+        return Outcome(self._call("outcome"))
+
+    @property
+    def acknowledged(self):
+        return self._call("acknowledged")
+
+    @property
+    def seconds(self):
+        """How long a reply is awaited, or the line left alone, before `timer`; None where no session goes on."""
+        return {Phase.NEUTRAL: None, Phase.BUSY: BUSY, Phase.CONTENTION: CONTENTION}.get(self.phase, REPLY)
+
+
+class Receiver(_Owner):
+    """The receiving end."""
+    _kind = "receiver"
+
+    def hear(self, data) -> Iterator[Step]:
+        """The steps of further bytes that mean something, in order. The bytes are heard as the steps are taken."""
+        data, out = bytes(data), _Step()
+        while data:
+            data = data[self._call("hear", data, len(data), ctypes.byref(out)):]
+            if out.note:
+                yield self._told(out)
+
+    def timer(self) -> Step:
+        out = _Step()
+        self._call("timer", ctypes.byref(out))
+        return self._told(out)
+
+    def restart(self):
+        self._call("restart")
+
+    def set_room(self, room):
+        self._call("set_room", room)
+
+    def set_ready(self, readiness):
+        self._call("set_ready", Readiness(readiness))
+
+    def reserve(self, count):
+        status = self._call("reserve", count)
+        if status:
+            raise LinkError(status)
+
+    def _told(self, out):
+        text = None
+        if out.has_text:
+            size = self._call("text_len")
+            copy = (ctypes.c_uint8 * size)()
+            status = self._call("text", copy, size)
+            if status:
+                raise LinkError(status)
+            text = bytes(copy)
+        return Step(bytes([out.reply]) if out.reply else b"", text, Note(out.note), out.detail, out.place)

@@ -1,0 +1,223 @@
+/* The analyzer side of the laboratory link of CLSI LIS01-A2 (ASTM E1381), for C99 and C++.
+ *
+ * Link with liblislink and with the heap's three functions (below). Each function here is proved to be safe, to end,
+ * and to do what the contract above it in crates/lis_c/src says, for each caller that keeps these duties:
+ *
+ *   - A pointer is not null, also where a length beside it is 0, and points to a whole value of its type. Nothing
+ *     else uses that value while the call runs. A pointer and a length name that many bytes. A buffer that is written
+ *     does not overlap one that is read.
+ *   - A bool is 0 or 1.
+ *   - A handle's `at` is a block of at least lis_X_size() bytes at a multiple of lis_X_align(), which was given to
+ *     lis_X_init. From then to lis_X_end nothing else reads, writes or moves the block, and it has one handle. After
+ *     lis_X_end the block is the caller's again, for anything, or for another lis_X_init.
+ *   - A handle stays on the thread that made it.
+ *   - No call is made from a signal handler, or in a forked child of a process with threads.
+ *
+ * That is all: no call asks for a length, a number or an order of calls. No call keeps a pointer of the caller's but
+ * a handle its block; none blocks, prints, aborts or has a variable of its own. Nothing checks a C caller.
+ *
+ * Memory. A scanner and lis_frame_write take none. A sender takes it in lis_sender_add_text, a receiver for the text
+ * that it holds; lis_X_end gives it back. Where memory is refused, the call says so. */
+#ifndef LISLINK_H
+#define LISLINK_H
+
+#include <stdbool.h>
+#include <stddef.h>
+#include <stdint.h>
+
+#ifdef __cplusplus
+extern "C" {
+#endif
+
+/* The standard's timers, in seconds. The library has no clock: the caller runs the timers and calls lis_X_timer. */
+enum lis_seconds {
+    LIS_SECONDS_REPLY = 15,      /* a sender that awaits the reply to ENQ or to a frame */
+    LIS_SECONDS_BUSY = 10,       /* a sender whose ENQ was refused, at least */
+    LIS_SECONDS_CONTENTION = 1,  /* an analyzer whose ENQ met the computer's, at least */
+    LIS_SECONDS_RECEIVER = 30    /* a receiver whose line is open */
+};
+
+/* Sizes. */
+enum lis_limits {
+    LIS_FRAME_TEXT = 240,          /* the most bytes of a frame's text */
+    LIS_FRAME_BYTES = 247,         /* the most bytes of a frame */
+    LIS_TEXTS = 65536,             /* the most texts of a session */
+    LIS_TEXT_BYTES = 1048576       /* the most bytes of a text */
+};
+
+/* What a call that may fail answers. */
+enum lis_status {
+    LIS_OK = 0,
+    LIS_IN_SESSION = 1,     /* a session is going on */
+    LIS_NO_TEXT = 2,        /* there is no text to send */
+    LIS_TOO_LONG = 3,       /* there are more bytes than the limit allows */
+    LIS_FORBIDDEN = 4,      /* a byte stands in a text that none may hold */
+    LIS_FULL = 5,           /* there are as many texts as a session has */
+    LIS_OUT_OF_MEMORY = 6,  /* memory was refused */
+    LIS_BAD_NUMBER = 7,     /* the number is none that is known */
+    LIS_TOO_SHORT = 8       /* the buffer is too short */
+};
+
+/* Bytes for the link: the first `len` of `bytes`; 0 where nothing is to be sent. */
+typedef struct lis_bytes {
+    size_t len;
+    uint8_t bytes[247];
+} lis_bytes;
+
+/* Which text of a session is at fault, from 0, and the place in it of the byte that no text may hold. */
+typedef struct lis_place {
+    size_t index;
+    size_t place;
+} lis_place;
+
+/* ---- Scanner: bytes of the link in, signals out. ---- */
+
+enum lis_signal_kind { LIS_NO_SIGNAL = 0, LIS_ENQ = 1, LIS_EOT = 2, LIS_FRAME = 3, LIS_BAD_FRAME = 4 };
+
+enum lis_frame_fault {
+    LIS_NO_FAULT = 0,
+    LIS_FRAME_TOO_LONG = 1,
+    LIS_FRAME_SHAPE = 2,
+    LIS_FRAME_NUMBER = 3,
+    LIS_FRAME_FORBIDDEN = 4,
+    LIS_FRAME_SUM = 5
+};
+
+/* A frame has a number, whether it is the last of its message, and the first `len` bytes of `text`. Bytes that are
+ * none have a fault and, for LIS_FRAME_FORBIDDEN, the byte's place in the text. All else is 0. */
+typedef struct lis_signal {
+    uint8_t kind;
+    uint8_t number;
+    bool last;
+    uint8_t fault;
+    size_t place;
+    size_t len;
+    uint8_t text[240];
+} lis_signal;
+
+typedef struct lis_scanner {
+    void *at;
+} lis_scanner;
+
+size_t lis_scanner_size(void);
+size_t lis_scanner_align(void);
+void lis_scanner_init(void *at);
+void lis_scanner_end(lis_scanner s);
+/* Reads one byte, and tells the signal that it gives. */
+void lis_scanner_push(lis_scanner *s, uint8_t byte, lis_signal *out);
+/* Reads bytes up to the first that gives a signal, or all of them where none does; answers how many it read. */
+size_t lis_scanner_feed(lis_scanner *s, const uint8_t *bytes, size_t bytes_len, lis_signal *out);
+
+/* ---- Frames. ---- */
+
+/* Writes a frame. LIS_TOO_LONG or LIS_FORBIDDEN (with the byte's place) where the text is none; LIS_BAD_NUMBER where
+ * the number is over 7. Where it isn't LIS_OK, nothing is written to `out`. */
+uint8_t lis_frame_write(uint8_t number, bool last, const uint8_t *text, size_t text_len, lis_bytes *out,
+                        size_t *place);
+
+/* ---- Sender. ---- */
+
+enum lis_phase { LIS_NEUTRAL = 0, LIS_AWAIT_LINE = 1, LIS_BUSY = 2, LIS_CONTENTION = 3, LIS_AWAIT_REPLY = 4 };
+
+enum lis_outcome {
+    LIS_NO_OUTCOME = 0,
+    LIS_DONE = 1,
+    LIS_SENDER_TIMED_OUT = 2,
+    LIS_SIX_TRIES = 3,
+    LIS_RESTARTED = 4
+};
+
+typedef struct lis_sender {
+    void *at;
+} lis_sender;
+
+size_t lis_sender_size(void);
+size_t lis_sender_align(void);
+void lis_sender_init(void *at);
+void lis_sender_end(lis_sender s);
+/* Puts a copy of a text to the next session: LIS_OK, LIS_FULL or LIS_OUT_OF_MEMORY. */
+uint8_t lis_sender_add_text(lis_sender *s, const uint8_t *text, size_t text_len);
+/* Lets go of the texts of the next session. */
+void lis_sender_clear(lis_sender *s);
+/* Starts a session with the texts that were put: LIS_OK, and `out` has ENQ; else LIS_IN_SESSION, LIS_NO_TEXT, or
+ * LIS_TOO_LONG or LIS_FORBIDDEN with the text and the place. Where it isn't LIS_OK, the texts stay. */
+uint8_t lis_sender_start(lis_sender *s, lis_bytes *out, lis_place *fault);
+/* A reply byte came, the timer ran out: what is to be sent. */
+void lis_sender_reply(lis_sender *s, uint8_t byte, lis_bytes *out);
+void lis_sender_timer(lis_sender *s, lis_bytes *out);
+/* Gives up the session that goes on. */
+void lis_sender_restart(lis_sender *s);
+/* A lis_phase; a lis_outcome of the last session; how many frames of the session are acknowledged. */
+uint8_t lis_sender_phase(lis_sender *s);
+uint8_t lis_sender_outcome(lis_sender *s);
+uint64_t lis_sender_acknowledged(lis_sender *s);
+
+/* ---- Receiver. ---- */
+
+enum lis_note {
+    LIS_QUIET = 0,
+    LIS_OPENED = 1,
+    LIS_NOT_READY = 2,
+    LIS_ENDED = 3,
+    LIS_ACCEPTED = 4,       /* detail: the frame's number */
+    LIS_DUPLICATE = 5,      /* detail: the frame's number */
+    LIS_OUT_OF_TURN = 6,    /* detail: the frame's number */
+    LIS_REFUSED = 7,        /* detail: a lis_frame_fault; place: the forbidden byte's */
+    LIS_NO_ROOM = 8,
+    LIS_TEXT_TOO_LONG = 9,
+    LIS_TOO_MANY = 10,
+    LIS_REFUSED_MEMORY = 11,  /* memory was refused: the frame is answered NAK and not taken */
+    LIS_TIMED_OUT = 12
+};
+
+enum lis_readiness { LIS_READY = 0, LIS_READINESS_BUSY = 1, LIS_CONTENDING = 2 };
+
+/* The reply byte to send, 0 for none; whether a text was handed out; a lis_note with its detail and place. */
+typedef struct lis_step {
+    uint8_t reply;
+    bool has_text;
+    uint8_t note;
+    uint8_t detail;
+    size_t place;
+} lis_step;
+
+typedef struct lis_receiver {
+    void *at;
+} lis_receiver;
+
+size_t lis_receiver_size(void);
+size_t lis_receiver_align(void);
+void lis_receiver_init(void *at);
+void lis_receiver_end(lis_receiver s);
+void lis_receiver_byte(lis_receiver *s, uint8_t byte, lis_step *out);
+/* Hears bytes up to the first that means something, or all of them where none does; answers how many it heard. */
+size_t lis_receiver_hear(lis_receiver *s, const uint8_t *bytes, size_t bytes_len, lis_step *out);
+void lis_receiver_timer(lis_receiver *s, lis_step *out);
+void lis_receiver_restart(lis_receiver *s);
+/* Whether there is room for another frame; how ENQ is answered (a lis_readiness, else LIS_BAD_NUMBER). */
+void lis_receiver_set_room(lis_receiver *s, bool room);
+uint8_t lis_receiver_set_ready(lis_receiver *s, uint8_t readiness);
+/* Makes room for so many more bytes of text: LIS_OK, LIS_TOO_LONG or LIS_OUT_OF_MEMORY. */
+uint8_t lis_receiver_reserve(lis_receiver *s, uint64_t bytes);
+/* The text that was handed out last, until the next one: its length, and a copy (LIS_TOO_SHORT, and nothing is
+ * copied, where the buffer is shorter). */
+size_t lis_receiver_text_len(lis_receiver *s);
+uint8_t lis_receiver_text(lis_receiver *s, uint8_t *out, size_t out_len);
+
+/* ---- The heap, which the program has to give; examples/c/heap.c makes it of malloc, realloc and free. ----
+ *
+ * `ok` is false where memory is refused, and `p` is then any pointer but null. A block is aligned to 16 bytes, or to
+ * `align` where that is more. A size may be 0. What was refused by rattle_realloc stays as it was. */
+typedef struct rattle_tried {
+    bool ok;
+    uint8_t *p;
+} rattle_tried;
+
+rattle_tried rattle_alloc(size_t size, size_t align);
+rattle_tried rattle_realloc(uint8_t *p, size_t kept, size_t size, size_t align);
+void rattle_dealloc(uint8_t *p);
+
+#ifdef __cplusplus
+}
+#endif
+#endif

@@ -1,0 +1,94 @@
+"""Calls of examples/python/lislink.py, at values known from outside: each refusal, and each call on its happy path."""
+import os
+import sys
+
+sys.path.insert(0, os.path.join(os.path.dirname(os.path.dirname(os.path.abspath(__file__))), "examples/python"))
+from lislink import (FrameFault, Kind, LinkError, Note, Outcome, Phase, Readiness, Receiver, Scanner, Sender,  # noqa: E402
+                     Status, frame_bytes)
+
+FIRST = bytes.fromhex("0231487c5c5e260d0345350d0a")
+calls = 0
+
+
+def same(found, wanted):
+    global calls
+    calls += 1
+    if found != wanted:
+        sys.exit(f"call {calls}: {found}, wanted {wanted}")
+
+
+def refused(call, status, index=None, place=None):
+    try:
+        call()
+    except LinkError as error:
+        return same((error.status, error.index, error.place), (status, index, place))
+    sys.exit(f"call {calls + 1} was not refused")
+
+
+def of_frames():
+    same(frame_bytes(1, True, b"H|\\^&\r"), FIRST)
+    refused(lambda: frame_bytes(8, True, b""), Status.BAD_NUMBER, None, 0)
+    refused(lambda: frame_bytes(8, True, b"a\x02"), Status.FORBIDDEN, None, 1)
+    refused(lambda: frame_bytes(1, True, b"a" * 241), Status.TOO_LONG, None, 0)
+    same(len(frame_bytes(1, False, b"a" * 240)), 247)
+
+
+def of_scanner():
+    with Scanner() as scanner:
+        signals = list(scanner.feed(b"\x05" + FIRST + b"\x021\x02\n\x04"))
+        same([signal.kind for signal in signals], [Kind.ENQ, Kind.FRAME, Kind.BAD_FRAME, Kind.EOT])
+        same(signals[1][1:], (1, True, FrameFault.NONE, 0, b"H|\\^&\r"))
+        same(signals[2].fault, FrameFault.SHAPE)
+        same(list(scanner.feed(FIRST[:5])), [])
+        same([signal.text for signal in scanner.feed(FIRST[5:])], [b"H|\\^&\r"])
+        bad = list(scanner.feed(b"\x021a\x10\x0300\r\n"))
+        same((bad[0].fault, bad[0].place), (FrameFault.FORBIDDEN, 1))
+
+
+def of_sender():
+    with Sender() as sender:
+        refused(sender.start, Status.NO_TEXT, 0, 0)
+        sender.add_text(b"ok")
+        sender.add_text(b"bad\n")
+        refused(sender.start, Status.FORBIDDEN, 1, 3)
+        sender.clear()
+        sender.add_text(b"H|\\^&\r")
+        same((sender.start(), sender.phase, sender.seconds), (b"\x05", Phase.AWAIT_LINE, 15))
+        sender.add_text(b"later")
+        refused(sender.start, Status.IN_SESSION, 0, 0)
+        same((sender.reply(21), sender.phase, sender.seconds), (b"", Phase.BUSY, 10))
+        same((sender.timer(), sender.phase), (b"\x05", Phase.AWAIT_LINE))
+        same((sender.reply(6), sender.phase), (FIRST, Phase.AWAIT_REPLY))
+        same(sender.reply(21), FIRST)
+        same((sender.reply(6), sender.outcome, sender.acknowledged), (b"\x04", Outcome.DONE, 1))
+        same(sender.start(), b"\x05")
+        sender.restart()
+        same((sender.phase, sender.outcome, sender.seconds), (Phase.NEUTRAL, Outcome.RESTARTED, None))
+
+
+def of_receiver():
+    with Receiver() as receiver:
+        receiver.reserve(1000)
+        refused(lambda: receiver.reserve(1048577), Status.TOO_LONG)
+        steps = list(receiver.hear(b"noise\x05" + FIRST + FIRST + b"\x04"))
+        same([step.note for step in steps], [Note.OPENED, Note.ACCEPTED, Note.DUPLICATE, Note.ENDED])
+        same([step.reply for step in steps], [b"\x06", b"\x06", b"\x06", b""])
+        same([step.text for step in steps], [None, b"H|\\^&\r", None, None])
+        receiver.set_ready(Readiness.BUSY)
+        same([(step.note, step.reply) for step in receiver.hear(b"\x05")], [(Note.NOT_READY, b"\x15")])
+        receiver.set_ready(Readiness.READY)
+        receiver.set_room(False)
+        same([(step.note, step.reply) for step in receiver.hear(b"\x05" + FIRST)],
+             [(Note.OPENED, b"\x06"), (Note.NO_ROOM, b"\x15")])
+        same(receiver.timer().note, Note.TIMED_OUT)
+        receiver.restart()
+        steps = list(receiver.hear(b"\x05" + FIRST[:-3] + b"0\r\n"))
+        same((steps[1].note, steps[1].detail), (Note.REFUSED, FrameFault.SUM))
+    same(receiver._handle, None)
+
+
+of_frames()
+of_scanner()
+of_sender()
+of_receiver()
+print(f"{calls} calls")
