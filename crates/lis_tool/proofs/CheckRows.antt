@@ -10,11 +10,10 @@ use Rattle.lis_record.specs.declared.faults.RecordFault.TheVariants as record_fa
 use Rattle.lis_record.specs.Escapes.{escape_of}
 use Rattle.lis_record.specs.inside.FrontReading.{escape_at, fields_of, symbols_after}
 use Rattle.lis_record.specs.Spelling.{spelled_symbol}
-use Rattle.lis_tree.specs.declared.fault.MessageFault.{MessageFault}
 use Rattle.lis_tree.specs.declared.fault.Reason.TheVariants as reasons
 use Rattle.lis_tree.specs.declared.tree.Group.TheVariants as groups
 use Rattle.lis_tree.specs.Findings.{findings_of}
-use Rattle.lis_tree.specs.Nodes.{Noted, OrderTree}
+use Rattle.lis_tree.specs.Nodes.{Noted}
 use Rattle.lis_tree.specs.Tree.{MessageTree, flatten}
 use Rattle.lis_tool.specs.Check.{check_message, check_writes, refused_part, sums_line}
 use Rattle.lis_tool.specs.Messages.{messages_text, report_after}

@@ -8,6 +8,8 @@ pub mod MessageLaws
 pub mod MessageRunLaws
 pub mod PlayingLaws
 pub mod PutLaws
+pub mod RecordSteps
+pub mod ResultLaws
 mod ReplayRows
 pub mod RunLaws
 pub mod ShowLaws

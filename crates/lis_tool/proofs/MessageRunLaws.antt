@@ -1,5 +1,5 @@
 -- A run over record text, told by its messages.
-use Rattle.std.proofs.Common.{◌≡◌, ℕ, ◌≤◌, ◌<◌, Bool, true, false, List, [], ◌∷◌, ◌++◌, Option, None, Some, Ok, Err, inl, inr, length, take, refl, sym, ◌∙◌, ap, subst, arith, append_assoc, append-nil, length-append, IfOk}
+use Rattle.std.proofs.Common.{◌≡◌, ℕ, ◌≤◌, Bool, true, false, List, ◌++◌, Option, None, Some, Ok, Err, inl, inr, length, take, refl, sym, ◌∙◌, ap, subst, arith, append_assoc, append-nil, length-append, IfOk}
 use Rattle.std.proofs.lemmas.List.{take-append-le}
 use Rattle.std.specs.declared.result.Result.{Result}
 use Rattle.std.specs.Io.KnownBytes.{Appends}
@@ -22,11 +22,11 @@ use Rattle.lis_tool.proofs.MessageLaws.{cut_whole, messages_text-append, nothing
 -- ---- a front of the bytes, and all of them
 
 -- what all of the bytes come to, where this text is that of a front of them
-record ReadsBehind (w : MessageWrites) (bytes : List ℕ) (ended : Bool) (text : List ℕ) : Type 0 where
-  outcome : Outcome
-  reads : Reads w bytes ended outcome
-  rest : List ℕ
-  text_is : outcome.text ≡ text ++ rest
+pub record ReadsBehind (w : MessageWrites) (bytes : List ℕ) (ended : Bool) (text : List ℕ) : Type 0 where
+  pub outcome : Outcome
+  pub reads : Reads w bytes ended outcome
+  pub rest : List ℕ
+  pub text_is : outcome.text ≡ text ++ rest
 
 module _ (w : MessageWrites) (bytes : List ℕ) (messages more : List MessageTree) where
   longer : messages_text w 0 (messages ++ more) ≡ messages_text w 0 messages ++ messages_text w (length messages) more
@@ -61,7 +61,7 @@ module _ (w : MessageWrites) (bytes : List ℕ) (messages more : List MessageTre
         text_is = longer;
       }
 
-read_behind : (w : MessageWrites) (bytes : List ℕ) (ended : Bool) (messages : List MessageTree) → IsReadFrom bytes messages → ReadsBehind w bytes ended (messages_text w 0 messages)
+pub read_behind : (w : MessageWrites) (bytes : List ℕ) (ended : Bool) (messages : List MessageTree) → IsReadFrom bytes messages → ReadsBehind w bytes ended (messages_text w 0 messages)
 read_behind w bytes ended messages (more, inl cut) = cut_behind w bytes messages more ended cut.0 cut.1 cut.2
 read_behind w bytes ended messages (more, inr stop) =
     record {

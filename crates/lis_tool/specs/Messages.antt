@@ -1,12 +1,23 @@
 -- What a stream of record text comes to, for a command that writes something for each of its messages (LIS02-A2).
-use Rattle.std.specs.Prelude.{◌≡◌, ℕ, ◌+◌, Bool, true, false, List, [], ◌∷◌, ◌++◌, ◌⊎◌, length, Option, None, Some, Ok, Err, refl}
+use Rattle.std.specs.Prelude.{◌≡◌, ℕ, ◌+◌, ◌<◌, Bool, true, false, List, [], ◌∷◌, ◌++◌, ◌⊎◌, length, Option, None, Some, Ok, Err, refl, ⊤}
 use Rattle.std.proofs.Common.{ap, inl}
-use Rattle.lis_message.specs.Feeding.{IsCutShort, ReaderState}
+use Rattle.std.specs.declared.result.Result.{Result}
+use Rattle.lis_field.specs.Shape.{RecordContent}
+use Rattle.lis_message.specs.Feeding.{IsCutShort}
+use Rattle.lis_message.specs.inside.Kept.{RecordsState}
+use Rattle.lis_message.specs.Records.{HasLeft}
 use Rattle.lis_message.specs.Stream.{IsCut, IsRefused}
+use Rattle.lis_message.specs.inside.Taking.{begun_with, records_of}
+use Rattle.lis_record.specs.Lent.{Lent}
+use Rattle.lis_tool.specs.declared.fault.ToolFault.{ToolFault}
 use Rattle.lis_tool.specs.declared.fault.ToolFault.TheVariants.{OutOfMemory}
-use Rattle.lis_tool.specs.declared.report.Refused.{Refused}
+use Rattle.lis_tool.specs.declared.machine.Halt.{Halt}
+use Rattle.lis_tool.specs.declared.machine.Turn.{Turn}
+use Rattle.lis_tool.specs.declared.machine.Turn.TheVariants.{On, Off}
 use Rattle.lis_tool.specs.declared.report.Report.{Report}
 use Rattle.lis_tool.specs.Outcome.{Outcome, going}
+use Rattle.lis_tool.specs.Output.{Out}
+use Rattle.lis_tool.specs.inside.Steps.{Fails, Halts, IsEarly, Puts, Steps}
 use Rattle.lis_tree.specs.inside.Begun.{Begun}
 use Rattle.lis_tree.specs.declared.fault.MessageFault.{MessageFault}
 use Rattle.lis_tree.specs.Tree.{MessageTree, flatten}
@@ -70,17 +81,48 @@ Comes w bytes ended outcome = Reads w bytes ended outcome ⊎ IsStarved w bytes 
 
 -- it has read these bytes, no record of them is refused, and this is the text for their messages
 pub record IsReadingMessages
-    (w : MessageWrites) (stands : List MessageTree → Type 0) (reader : ReaderState) (count : ℕ) (bytes text : List ℕ) : Type 0 where
+    (w : MessageWrites) (stands : List MessageTree → Option Begun → Type 0) (reader : RecordsState) (count : ℕ) (bytes text : List ℕ) : Type 0 where
   pub messages : List MessageTree
-  pub no_fault : reader.fault ≡ None
-  pub cut : IsCut bytes messages reader.left reader.held
-  pub stood : stands messages
+  pub left : Option Begun
+  pub has : HasLeft reader left
+  pub cut : IsCut bytes messages left reader.held
+  pub stood : stands messages left
   pub count_is : count ≡ length messages
   pub text_is : text ≡ messages_text w 0 messages
 
 -- so far the bytes are whole messages and a part of one
 abbrev pub reads_on :
-    {w : MessageWrites} {stands : List MessageTree → Type 0} {reader : ReaderState} {count : ℕ} {bytes text : List ℕ}
+    {w : MessageWrites} {stands : List MessageTree → Option Begun → Type 0} {reader : RecordsState} {count : ℕ} {bytes text : List ℕ}
     → IsReadingMessages w stands reader count bytes text → Comes w bytes false (going text)
 reads_on {reader = reader} reading =
-    inl (goes_on reading.messages reader.left reader.held reading.cut refl (ap going reading.text_is))
+    inl (goes_on reading.messages reading.left reader.held reading.cut refl (ap going reading.text_is))
+
+-- ---- by steps
+
+-- what is left with one more record, the closing one too
+abbrev pub with_record : Option Begun → Lent RecordContent → Option Begun
+with_record left entry = begun_with entry.delimiters (records_of left ++ entry.content ∷ [])
+
+-- a whole message, before it is let go of
+abbrev pub whole_begun : MessageTree → Option Begun
+whole_begun m = begun_with m.delimiters (flatten m)
+
+-- The run halts at a refused record, behind the text for these bytes.
+abbrev pub RefusesBy : MessageWrites → List ℕ → Out → Out → ℕ → List ℕ → Result Halt ToolFault → Type 0
+RefusesBy w bytes old new before text (Ok halt) =
+    Puts (λ all. Halts true (Comes w bytes false) all halt.result × IsEarly true halt.result) old new before halt.written text
+RefusesBy w bytes old new before text (Err fault) = Fails (Comes w bytes false) old new before text fault
+
+-- a step over a front of bytes that follow these
+abbrev pub StepsOver :
+    (w : MessageWrites) (stands : List ℕ → List ℕ → Type 0) (past bytes behind : List ℕ) → Out → Out → ℕ → List ℕ
+    → Result Turn ToolFault → Type 0
+StepsOver w stands past bytes behind old new before text result =
+    (front : List ℕ) × (bytes ≡ front ++ behind)
+    × Steps true true (stands (past ++ front)) (Comes w (past ++ bytes) false) old new before text result
+
+-- where the run goes on, the bytes behind are fewer
+abbrev pub IsShorter : Result Turn ToolFault → (behind bytes : List ℕ) → Type 0
+IsShorter (Ok (On after)) behind bytes = length behind < length bytes
+IsShorter (Ok (Off halt)) behind bytes = ⊤
+IsShorter (Err fault) behind bytes = ⊤

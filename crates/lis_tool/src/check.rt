@@ -1,34 +1,25 @@
 //! The command `check`: messages, their records and what is to be looked at in them (LIS02-A2).
 
-ghost use Rattle.std.specs.Prelude.{◌≡◌, ◌+◌, ◌^◌, ◌<◌, ◌≤◌, ◌++◌, ℕ, List, Option, true, false, is_err, length, IfOk};
-ghost use Rattle.std.specs.List.{flat_map};
-ghost use Rattle.lis_capture.specs.declared.page.TheConstants.{PAGE_ROOM};
-ghost use Rattle.lis_tool.specs.Check.{check_message, check_writes, finding_count, finding_line, message_line, record_line, record_lines, refused_line, refused_part, sums_line};
+ghost use Rattle.std.specs.Prelude.{◌≡◌, ◌^◌, ◌<◌, ◌≤◌, ◌++◌, [], List, None, OnOk, true, false, is_err, length, IfOk};
+ghost use Rattle.lis_tool.specs.Check.{IsChecking, check_writes, finding_count, finding_line, record_line, refused_part, sums_line};
 ghost use Rattle.lis_tool.specs.MessageRuns.{MessagesRan};
 ghost use Rattle.lis_tool.specs.Messages.{report_after};
 ghost use Rattle.lis_tool.specs.Output.{Gathered, out};
 ghost use Rattle.lis_tool.specs.Runs.{IsFresh, StopsBy};
-ghost use Rattle.lis_tree.specs.Findings.{findings_of};
-ghost use Rattle.lis_tree.specs.Tree.{MessageTree, flatten};
+ghost use Rattle.lis_tree.specs.Tree.{MessageTree};
 
 use crate::fault::ToolFault;
-use crate::gather::{append_number, make_room};
-use crate::machine::{Halt, Turn, run};
+use crate::held_text::HeldText;
+use crate::machine::{Halt, run};
 use crate::messages::{MessageMachine, Messages};
 use crate::parts::{Part, gather_parts};
 use crate::report::{Report, reason_code};
 use lis_capture::Page;
-use lis_field::{Kind, Record};
-use lis_message::{Message, MessageFault};
+use lis_field::Kind;
+use lis_message::{LentRecord, MessageFault};
 use lis_port::{Sink, Source};
-use lis_tree::{Finding, Walk, findings};
-use std::alloc::Global;
-
-/// The room for the line of a record: a letter and two numbers.
-const RECORD_ROOM: usize = 100;
-
-/// The room for that of a finding: a word before them.
-const FINDING_ROOM: usize = 120;
+use lis_tree::{Finding, Numbering};
+use std::alloc::{AllocError, Global};
 
 /// Reads record text and writes for each message its number, a line for each of its records and one for each finding on
 /// their sequence numbers; where a record is refused, or the end of the input comes before that of a message, its place
@@ -44,25 +35,51 @@ pub fn run_check<R: Source, W: Sink>(
     ensures stops { StopsBy true true result (R.left source.new) (R.ended source.new) (R.failed source.new) (R.made source.new) (W.taken sink.new) (W.sent sink.new) (W.failed sink.new) reads }
     ensures status { IfOk result (λ report. report.status ≤ 1) }
 {
-    run(
-        Messages::new(alloc, Check { alloc, findings: 0 }),
-        source,
-        sink,
-        reads,
-    )
+    run(Messages::new(alloc, Check::new(alloc)), source, sink, reads)
 }
 
-/// How many findings there were.
+/// What waits of a message that isn't whole: the lines of its records, and those of its findings.
 #[derive(Drop)]
 struct Check {
-    alloc: Global,
-    findings: u64,
+    records: HeldText,
+    findings: HeldText,
+    numbering: Numbering,
+    /// How many findings wait.
+    found: u64,
+    /// How many were written.
+    told: u64,
+}
+
+impl Check {
+    /// No message was read.
+    fn new(alloc: Global) -> Self
+        ensures { IsChecking result.records.bytes.items result.findings.bytes.items result.numbering result.found result.told [] None }
+    {
+        Check {
+            records: HeldText::new(alloc),
+            findings: HeldText::new(alloc),
+            numbering: Numbering::new(),
+            found: 0,
+            told: 0,
+        }
+    }
 }
 
 impl MessageMachine for Check {
     ghost writes = { check_writes };
 
-    ghost stands = { λ m messages. m.findings ≡ finding_count messages };
+    ghost stands = { λ m messages left. IsChecking m.records.bytes.items m.findings.bytes.items m.numbering m.found m.told messages left };
+
+    fn record(&mut self, entry: &LentRecord<'_>) -> Result<(), AllocError> {
+        let place = self.numbering.next_place();
+        add_record(&mut self.records, place, entry.kind(), entry.len() as u64)?;
+        let Some(finding) = self.numbering.take(entry) else {
+            return Ok(());
+        };
+        add_finding(&mut self.findings, finding)?;
+        self.found = self.found.saturating_add(1);
+        Ok(())
+    }
 
     fn message<W: Sink>(
         &mut self,
@@ -70,22 +87,21 @@ impl MessageMachine for Check {
         page: &mut Page,
         written: u64,
         before: u64,
-        message: &Message,
-    ) -> Result<Turn, ToolFault> {
-        let Ok(found) = findings(self.alloc, message) else {
-            return Ok(Turn::Off(Halt {
-                written,
-                result: Err(ToolFault::OutOfMemory),
-            }));
-        };
-        let number = before.saturating_add(1);
-        match gather_whole(sink, page, written, number, message, found.as_slice()) {
-            Ok(after) => {
-                self.findings = self.findings.saturating_add(found.len() as u64);
-                Ok(Turn::On(after))
-            }
-            Err(fault) => Err(fault),
-        }
+    ) -> Result<u64, ToolFault> {
+        let parts = [
+            Part::Text(b"message "),
+            Part::Number(before.saturating_add(1)),
+            Part::Text(b"\n"),
+            Part::Text(self.records.as_slice()),
+            Part::Text(self.findings.as_slice()),
+        ];
+        let result = gather_parts(sink, page, written, &parts);
+        self.told = self.told.saturating_add(self.found);
+        self.found = 0;
+        self.records.clear();
+        self.findings.clear();
+        self.numbering = Numbering::new();
+        result
     }
 
     fn end<W: Sink>(
@@ -96,10 +112,10 @@ impl MessageMachine for Check {
         before: u64,
         fault: Option<MessageFault>,
     ) -> Result<Halt, ToolFault> {
-        match gather_last(sink, page, written, before, fault, self.findings) {
+        match gather_last(sink, page, written, before, fault, self.told) {
             Ok(written) => Ok(Halt {
                 written,
-                result: Ok(report_of(before, fault, self.findings)),
+                result: Ok(report_of(before, fault, self.told)),
             }),
             Err(fault) => Err(fault),
         }
@@ -120,137 +136,23 @@ fn report_of(before: u64, fault: Option<MessageFault>, findings: u64) -> Report
     }
 }
 
-/// Gathers the lines of a message.
-fn gather_whole<W: Sink>(
-    sink: &mut W,
-    page: &mut Page,
-    written: u64,
-    number: u64,
-    message: &Message,
-    findings: &[Finding],
-) -> Result<u64, ToolFault>
-    requires { W.failed sink.old ≡ false }
-    ensures gathered { length (flatten message.now) < 2 ^ 44 →
-        Gathered (out (W.taken sink.old) page.old) (out (W.taken sink.new) page.new) written result
-        (message_line number ++ record_lines 1 (flatten message.now) ++ flat_map finding_line findings.now) }
-    ensures failed { W.failed sink.new ≡ is_err result }
-{
-    let parts = [
-        Part::Text(b"message "),
-        Part::Number(number),
-        Part::Text(b"\n"),
-    ];
-    let begun = match gather_parts(sink, page, written, &parts) {
-        Ok(after) => after,
-        Err(fault) => return Err(fault),
-    };
-    match gather_records(sink, page, begun, message) {
-        Ok(after) => gather_findings(sink, page, after, findings),
-        Err(fault) => Err(fault),
-    }
-}
-
-/// Gathers the lines of a message's records.
-fn gather_records<W: Sink>(
-    sink: &mut W,
-    page: &mut Page,
-    written: u64,
-    message: &Message,
-) -> Result<u64, ToolFault>
-    requires { W.failed sink.old ≡ false }
-    ensures gathered { length (flatten message.now) < 2 ^ 44 →
-        Gathered (out (W.taken sink.old) page.old) (out (W.taken sink.new) page.new) written result (record_lines 1 (flatten message.now)) }
-    ensures failed { W.failed sink.new ≡ is_err result }
-{
-    let mut walk = Walk::new(message);
-    let mut place: u64 = 1;
-    let mut after = written;
-    while let Some(entry) = walk.next() {
-        match gather_record(sink, page, after, place, entry) {
-            Ok(next) => after = next,
-            Err(fault) => return Err(fault),
-        }
-        place = place.saturating_add(1);
-    }
-    Ok(after)
-}
-
-/// Gathers the line of a record.
-fn gather_record<W: Sink>(
-    sink: &mut W,
-    page: &mut Page,
-    written: u64,
-    place: u64,
-    entry: &Record,
-) -> Result<u64, ToolFault>
-    requires { W.failed sink.old ≡ false }
-    ensures gathered { Gathered (out (W.taken sink.old) page.old) (out (W.taken sink.new) page.new) written result
-        (record_line place entry.now.kind (length entry.now.fields)) }
-    ensures failed { W.failed sink.new ≡ is_err result }
-{
-    match make_room(sink, page, written, RECORD_ROOM) {
-        Ok(after) => {
-            append_record(page, place, entry.kind(), entry.len() as u64);
-            Ok(after)
-        }
-        Err(fault) => Err(fault),
-    }
-}
-
-/// Puts the line of a record behind the page.
+/// Adds the line of a record.
 #[inline(always)]
-fn append_record(page: &mut Page, place: u64, kind: Kind, fields: u64)
-    requires { length page.old + RECORD_ROOM ≤ PAGE_ROOM }
-    ensures { page.new ≡ page.old ++ record_line place kind fields }
+fn add_record(lines: &mut HeldText, place: u64, kind: Kind, fields: u64) -> Result<(), AllocError>
+    ensures { OnOk result (lines.new.bytes.items ≡ lines.old.bytes.items ++ record_line place kind fields) }
 {
-    append_number(page, place);
-    page.append(b" ");
-    page.append(&[kind.letter()]);
-    page.append(b" ");
-    append_number(page, fields);
-    page.append(b"\n");
+    lines.add_number(place)?;
+    lines.add(&[b' ', kind.letter(), b' '])?;
+    lines.add_number(fields)?;
+    lines.add(b"\n")
 }
 
-/// Gathers the lines of findings.
-fn gather_findings<W: Sink>(
-    sink: &mut W,
-    page: &mut Page,
-    written: u64,
-    findings: &[Finding],
-) -> Result<u64, ToolFault>
-    requires { W.failed sink.old ≡ false }
-    ensures gathered { Gathered (out (W.taken sink.old) page.old) (out (W.taken sink.new) page.new) written result (flat_map finding_line findings.now) }
-    ensures failed { W.failed sink.new ≡ is_err result }
+/// Adds the line of a finding.
+fn add_finding(lines: &mut HeldText, finding: Finding) -> Result<(), AllocError>
+    ensures { OnOk result (lines.new.bytes.items ≡ lines.old.bytes.items ++ finding_line finding) }
 {
-    let mut after = written;
-    for finding in findings {
-        match gather_finding(sink, page, after, finding) {
-            Ok(count) => after = count,
-            Err(fault) => return Err(fault),
-        }
-    }
-    Ok(after)
-}
-
-/// Gathers the line of a finding.
-fn gather_finding<W: Sink>(
-    sink: &mut W,
-    page: &mut Page,
-    written: u64,
-    finding: &Finding,
-) -> Result<u64, ToolFault>
-    requires { W.failed sink.old ≡ false }
-    ensures gathered { Gathered (out (W.taken sink.old) page.old) (out (W.taken sink.new) page.new) written result (finding_line finding.now) }
-    ensures failed { W.failed sink.new ≡ is_err result }
-{
-    match make_room(sink, page, written, FINDING_ROOM) {
-        Ok(after) => {
-            page.append(b"finding ");
-            append_record(page, finding.place, finding.kind, finding.expected);
-            Ok(after)
-        }
-        Err(fault) => Err(fault),
-    }
+    lines.add(b"finding ")?;
+    add_record(lines, finding.place, finding.kind, finding.expected)
 }
 
 /// Gathers the last lines, behind so many messages.

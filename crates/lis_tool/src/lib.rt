@@ -5,6 +5,7 @@ pub mod check;
 pub mod commands;
 pub mod fault;
 mod gather;
+mod held_text;
 pub mod laws;
 pub mod lines;
 pub mod machine;

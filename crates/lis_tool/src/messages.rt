@@ -1,41 +1,52 @@
-//! Commands that take record text message by message.
+//! Commands that take record text message by message, each record where it stands.
 
-ghost use Rattle.std.specs.Prelude.{◌≡◌, ◌+◌, ◌^◌, ◌<◌, ◌++◌, ◌∷◌, [], ℕ, List, None, Some, Option, false, true, is_err, length};
+ghost use Rattle.std.specs.Prelude.{◌≡◌, ◌+◌, ◌^◌, ◌<◌, ◌++◌, ◌∷◌, [], ℕ, List, None, Some, Option, OnOk, false, true, is_err, length};
+ghost use Rattle.std.specs.Option.{option_to_list};
+ghost use Rattle.lis_message.specs.Feeding.{Stops};
+ghost use Rattle.lis_message.specs.inside.Taking.{ComesNext, Completes, left_after, records_of};
 ghost use Rattle.lis_tool.specs.LineOutcome.{LineEnds, LineSteps};
-ghost use Rattle.lis_tool.specs.Messages.{Comes, IsReadingMessages, MessageWrites, messages_text, reads_on, record_count, report_after};
-ghost use Rattle.lis_tool.specs.Output.{out};
+ghost use Rattle.lis_tool.specs.Messages.{Comes, IsReadingMessages, IsShorter, MessageWrites, RefusesBy, StepsOver, messages_text, reads_on, record_count, report_after, whole_begun, with_record};
+ghost use Rattle.lis_tool.specs.Output.{Gathered, out};
+ghost use Rattle.lis_tree.specs.inside.Begun.{Begun};
 ghost use Rattle.lis_tree.specs.Tree.{MessageTree};
 
 use crate::fault::ToolFault;
 use crate::machine::{Halt, Machine, Turn};
 use lis_capture::Page;
-use lis_message::{Fed, Message, MessageFault, MessageReader, Reason};
+use lis_field::Kind;
+use lis_message::{Found, LentRecord, MessageFault, Reason, RecordReader};
 use lis_port::Sink;
-use std::alloc::Global;
+use std::alloc::{AllocError, Global};
 
-/// A command that takes record text message by message. Contracts see the messages in their order.
+/// A command that takes record text message by message. Contracts see the messages in their order, and the records of
+/// one that isn't closed yet.
 pub trait MessageMachine: Drop {
     // What it writes for a message behind others, and behind them all.
     ghost writes: { MessageWrites };
 
-    // It stands for these messages, for which all was written.
-    ghost stands: { Self → List MessageTree → Type 0 };
+    // It stands for these messages, for which all was written, and for the records of one more, for which nothing was.
+    ghost stands: { Self → List MessageTree → Option Begun → Type 0 };
 
-    /// Takes the message behind so many others, behind `written` bytes of the run. It halts the run only where
-    /// memory is refused.
+    /// Takes the next record of a message. What it comes to waits until the message is whole.
+    fn record(&mut self, entry: &LentRecord<'_>) -> Result<(), AllocError>
+        ensures { OnOk result ((messages : List MessageTree) (left : Option Begun) (text : List ℕ) → stands self.old messages left →
+            ComesNext left text entry.now → record_count messages + length (records_of left) < 2 ^ 44 →
+            stands self.new messages (with_record left entry.now)) };
+
+    /// Writes what waits for a message that is whole, behind so many others and behind `written` bytes of the run.
     fn message<W: Sink>(
         &mut self,
         sink: &mut W,
         page: &mut Page,
         written: u64,
         before: u64,
-        message: &Message,
-    ) -> Result<Turn, ToolFault>
+    ) -> Result<u64, ToolFault>
         requires { W.failed sink.old ≡ false }
-        ensures steps { (messages : List MessageTree) → stands self.old messages → before ≡ length messages →
-            record_count (messages ++ message.now ∷ []) < 2 ^ 44 →
-            LineSteps true (stands self.new (messages ++ message.now ∷ [])) (out (W.taken sink.old) page.old) (out (W.taken sink.new) page.new) written
-            (writes.message (length messages) message.now) result }
+        ensures gathered { (messages : List MessageTree) (message : MessageTree) → stands self.old messages (whole_begun message) →
+            before ≡ length messages → record_count (messages ++ message ∷ []) < 2 ^ 44 →
+            Gathered (out (W.taken sink.old) page.old) (out (W.taken sink.new) page.new) written result (writes.message (length messages) message) }
+        ensures stood { (messages : List MessageTree) (message : MessageTree) → stands self.old messages (whole_begun message) →
+            record_count (messages ++ message ∷ []) < 2 ^ 44 → stands self.new (messages ++ message ∷ []) None }
         ensures failed { W.failed sink.new ≡ is_err result };
 
     /// Takes the end behind so many messages: a record that is refused, or the end of the input.
@@ -48,67 +59,141 @@ pub trait MessageMachine: Drop {
         fault: Option<MessageFault>,
     ) -> Result<Halt, ToolFault>
         requires { W.failed sink.old ≡ false }
-        ensures ends { (messages : List MessageTree) → stands self.now messages → before ≡ length messages → length messages < 2 ^ 44 →
+        ensures ends { (messages : List MessageTree) (left : Option Begun) → stands self.now messages left → before ≡ length messages →
+            length messages < 2 ^ 44 →
             LineEnds (report_after writes messages fault) (out (W.taken sink.old) page.old) (out (W.taken sink.new) page.new) written
             (writes.last messages fault) result }
         ensures failed { W.failed sink.new ≡ is_err result };
 }
 
-/// A command over messages, as one over bytes. It keeps one message.
+/// A command, and how many messages it wrote.
+#[derive(Drop)]
+struct Counted<C> {
+    command: C,
+    count: u64,
+}
+
+impl<C: MessageMachine> Counted<C> {
+    /// The command takes the next record, and writes the message that it completes.
+    fn take<W: Sink>(
+        &mut self,
+        sink: &mut W,
+        page: &mut Page,
+        written: u64,
+        entry: &LentRecord<'_>,
+    ) -> Result<Turn, ToolFault>
+        requires { W.failed sink.old ≡ false }
+        ensures steps { (messages : List MessageTree) (left : Option Begun) (message : Option MessageTree) (text : List ℕ) →
+            C.stands self.old.command messages left → self.old.count ≡ length messages → ComesNext left text entry.now →
+            Completes left entry.now message → record_count messages + length (records_of left) < 2 ^ 44 →
+            record_count (messages ++ option_to_list message) < 2 ^ 44 →
+            LineSteps true (C.stands self.new.command (messages ++ option_to_list message) (left_after left entry.now entry.now.content.kind)
+            × (self.new.count ≡ length (messages ++ option_to_list message)))
+            (out (W.taken sink.old) page.old) (out (W.taken sink.new) page.new) written
+            (messages_text C.writes (length messages) (option_to_list message)) result }
+        ensures failed { W.failed sink.new ≡ is_err result }
+    {
+        if let Err(AllocError) = self.command.record(entry) {
+            return Ok(Turn::Off(Halt {
+                written,
+                result: Err(ToolFault::OutOfMemory),
+            }));
+        }
+        match entry.kind() {
+            Kind::L => match self.command.message(sink, page, written, self.count) {
+                Ok(after) => {
+                    self.count = self.count.saturating_add(1);
+                    Ok(Turn::On(after))
+                }
+                Err(fault) => Err(fault),
+            },
+            _ => Ok(Turn::On(written)),
+        }
+    }
+
+    /// The command takes the end at a record that is refused, or memory is.
+    fn refuse<W: Sink>(
+        &self,
+        sink: &mut W,
+        page: &mut Page,
+        written: u64,
+        fault: MessageFault,
+    ) -> Result<Halt, ToolFault>
+        requires { W.failed sink.old ≡ false }
+        ensures refuses { (messages : List MessageTree) (left : Option Begun) (bytes text : List ℕ) → C.stands self.now.command messages left →
+            self.now.count ≡ length messages → length messages < 2 ^ 44 → text ≡ messages_text C.writes 0 messages → Stops bytes messages fault →
+            RefusesBy C.writes bytes (out (W.taken sink.old) page.old) (out (W.taken sink.new) page.new) written text result }
+        ensures failed { W.failed sink.new ≡ is_err result }
+    {
+        if let Reason::OutOfMemory = fault.reason {
+            return Ok(Halt {
+                written,
+                result: Err(ToolFault::OutOfMemory),
+            });
+        }
+        let fault = Some(fault);
+        self.command.end(sink, page, written, self.count, fault)
+    }
+}
+
+/// A command over messages, as one over bytes. It keeps what waits for one message.
 #[derive(Drop)]
 pub struct Messages<C> {
-    command: C,
-    reader: MessageReader,
-    count: u64,
+    told: Counted<C>,
+    reader: RecordReader,
 }
 
 impl<C: MessageMachine> Messages<C> {
     /// A reader at the start of a stream.
     pub fn new(alloc: Global, command: C) -> Self
-        requires { C.stands command [] }
-        ensures { IsReadingMessages C.writes (C.stands result.command) result.reader result.count [] [] }
+        requires { C.stands command [] None }
+        ensures { IsReadingMessages C.writes (C.stands result.told.command) result.reader result.told.count [] [] }
     {
         Messages {
-            command,
-            reader: MessageReader::new(alloc),
-            count: 0,
+            told: Counted { command, count: 0 },
+            reader: RecordReader::new(alloc),
         }
     }
 
-    /// The command takes these messages.
-    fn take_messages<W: Sink>(
+    /// The command takes the next record of these bytes, or what refuses one; and the bytes behind it.
+    fn read_next<'a, W: Sink>(
         &mut self,
         sink: &mut W,
         page: &mut Page,
         written: u64,
-        messages: &[Message],
-    ) -> Result<Turn, ToolFault>
-        requires { W.failed sink.old ≡ false }
-        ensures steps { (before : List MessageTree) → C.stands self.old.command before → self.old.count ≡ length before →
-            record_count (before ++ messages.now) < 2 ^ 44 →
-            LineSteps true (C.stands self.new.command (before ++ messages.now) × (self.new.count ≡ length (before ++ messages.now)))
-            (out (W.taken sink.old) page.old) (out (W.taken sink.new) page.new) written
-            (messages_text C.writes (length before) messages.now) result }
-        ensures reader { self.new.reader ≡ self.old.reader }
-        ensures failed { W.failed sink.new ≡ is_err result }
+        bytes: &'a [u8],
+    ) -> (&'a [u8], Result<Turn, ToolFault>)
+        requires working { W.failed sink.old ≡ false }
+        requires some { 0 < length bytes.now }
+        ensures steps { (past text : List ℕ) → IsReadingMessages C.writes (C.stands self.old.told.command) self.old.reader self.old.told.count past text →
+            length past + length bytes.now < 2 ^ 44 →
+            StepsOver C.writes (IsReadingMessages C.writes (C.stands self.new.told.command) self.new.reader self.new.told.count) past bytes.now result.0.now
+            (out (W.taken sink.old) page.old) (out (W.taken sink.new) page.new) written text result.1 }
+        ensures shorter { IsShorter result.1 result.0.now bytes.now }
+        ensures failed { W.failed sink.new ≡ is_err result.1 }
     {
-        let mut after = written;
-        for message in messages {
-            match self.command.message(sink, page, after, self.count, message) {
-                Ok(Turn::On(next)) => after = next,
-                Ok(Turn::Off(halt)) => return Ok(Turn::Off(halt)),
-                Err(fault) => return Err(fault),
+        let (behind, found) = self.reader.read(bytes);
+        match found {
+            Found::Nothing => (behind, Ok(Turn::On(written))),
+            Found::Refused(fault) => match self.told.refuse(sink, page, written, fault) {
+                Ok(halt) => (behind, Ok(Turn::Off(halt))),
+                Err(fault) => (behind, Err(fault)),
+            },
+            Found::Record(entry) => (behind, self.told.take(sink, page, written, &entry)),
+            Found::Held => {
+                let Some(entry) = self.reader.cut() else {
+                    unreachable!()
+                };
+                (behind, self.told.take(sink, page, written, &entry))
             }
-            self.count = self.count.saturating_add(1);
         }
-        Ok(Turn::On(after))
     }
 }
 
 impl<C: MessageMachine> Machine for Messages<C> {
     ghost means = { Comes C.writes };
 
-    ghost stands = { λ m bytes text. IsReadingMessages C.writes (C.stands m.command) m.reader m.count bytes text };
+    ghost stands = { λ m bytes text. IsReadingMessages C.writes (C.stands m.told.command) m.reader m.told.count bytes text };
 
     ghost takes_memory = { true };
 
@@ -125,33 +210,23 @@ impl<C: MessageMachine> Machine for Messages<C> {
         written: u64,
         bytes: &[u8],
     ) -> Result<Turn, ToolFault> {
-        let Fed { messages, fault } = self.reader.feed(bytes);
-        let after = match self.take_messages(sink, page, written, messages.as_slice()) {
-            Ok(Turn::On(after)) => after,
-            Ok(Turn::Off(halt)) => return Ok(Turn::Off(halt)),
-            Err(fault) => return Err(fault),
-        };
-        let Some(fault) = fault else {
-            return Ok(Turn::On(after));
-        };
-        if let Reason::OutOfMemory = fault.reason {
-            return Ok(Turn::Off(Halt {
-                written: after,
-                result: Err(ToolFault::OutOfMemory),
-            }));
+        let mut rest = bytes;
+        let mut after = written;
+        while !rest.is_empty() {
+            let (behind, turn) = self.read_next(sink, page, after, rest);
+            match turn {
+                Ok(Turn::On(next)) => after = next,
+                Ok(Turn::Off(halt)) => return Ok(Turn::Off(halt)),
+                Err(fault) => return Err(fault),
+            }
+            rest = behind;
         }
-        match self.command.end(sink, page, after, self.count, Some(fault)) {
-            Ok(halt) => Ok(Turn::Off(halt)),
-            Err(fault) => Err(fault),
-        }
+        Ok(Turn::On(after))
     }
 
     fn end<W: Sink>(self, sink: &mut W, page: &mut Page, written: u64) -> Result<Halt, ToolFault> {
-        let Messages {
-            command,
-            reader,
-            count,
-        } = self;
+        let Messages { told, reader } = self;
+        let Counted { command, count } = told;
         match reader.finish() {
             Ok(()) => command.end(sink, page, written, count, None),
             Err(fault) => command.end(sink, page, written, count, Some(fault)),

@@ -1,17 +1,27 @@
-use Rattle.std.proofs.Common.{◌≡◌, ◌+◌, ◌<◌, ◌^◌, ◌∷◌, ◌++◌, [], ℕ, List, Ok, Err, length, length-append, arith, refl, sym, ap, ◌∙◌}
-use Rattle.lis_tree.specs.Findings.{findings_of}
-use Rattle.lis_tool.specs.Messages.{record_count}
-use Rattle.lis_tool.proofs.CheckLaws.{counted_on, last_few}
+use Rattle.std.proofs.Common.{◌≡◌, ◌+◌, ◌∷◌, ◌++◌, [], ℕ, List, length, length-append, arith, refl, subst}
+use Rattle.lis_tool.specs.Output.{Gathered, out}
+use Rattle.lis_tool.proofs.CheckLaws.{check_text, told_more}
 use Rattle.lis_tool.proofs.MessageLaws.{messages_few}
 use Rattle.lis_tool.proofs.check.CheckMessageMachine.message.Goals as goal
 
-pub returns-in-Ok-gather_whole-clause-steps : goal.returns-in-Ok-gather_whole-clause-steps
-returns-in-Ok-gather_whole-clause-steps g c = λ messages stood counted few.
-    let number : c.saturating_add-number.result ≡ length messages + 1 = omega (arith, c.saturating_add-number.ensures, counted, few, messages_few (messages ++ c.args.message.now ∷ []), length-append messages (c.args.message.now ∷ [])) in
-    let put = rw (c.as_slice.ensures, c.in-Ok.ensures, number) at (c.in-Ok-gather_whole.ensures.gathered (last_few messages c.args.message.now few)) in
-    (put, counted_on messages c.args.message.now c.args.self.now.findings c.len.result c.saturating_add-self.result few stood (c.len.ensures ∙ ap length c.in-Ok.ensures) (λ short. omega (arith, short, c.saturating_add-self.ensures)))
+pub returns-clause-gathered : goal.returns-clause-gathered
+returns-clause-gathered g c = λ messages message is counted few.
+    let self = c.args.self.now in
+    let number : c.saturating_add.result ≡ length messages + 1 =
+    omega (arith, c.saturating_add.ensures, counted, few, messages_few (messages ++ message ∷ []), length-append messages (message ∷ [])) in
+    subst (λ (t : List ℕ). Gathered (out (g.W.Sink.taken c.args.sink.now) c.args.page.now) (out (g.W.Sink.taken c.gather_parts-result.new.sink) c.gather_parts-result.new.page)
+    c.args.written c.gather_parts-result.result t)
+    (check_text self.records.bytes.items self.findings.bytes.items self.numbering self.found self.told (length messages + 1) messages message is)
+    (rw (c.as_slice.ensures, c.as_slice-2.ensures, number) at c.gather_parts-result.ensures.gathered)
 
-pub returns-clause-steps : goal.returns-clause-steps
-returns-clause-steps g c = λ messages stood counted few.
-    let number : c.saturating_add-number.result ≡ length messages + 1 = omega (arith, c.saturating_add-number.ensures, counted, few, messages_few (messages ++ c.args.message.now ∷ []), length-append messages (c.args.message.now ∷ [])) in
-    rw (c.as_slice.ensures, c.in-Ok.ensures, number) at (c.in-Err.ensures.gathered (last_few messages c.args.message.now few))
+pub returns-clause-stood : goal.returns-clause-stood
+returns-clause-stood g c = λ messages message is few.
+    let self = c.args.self.now in
+    record {
+      record_lines_are = c.clear.ensures;
+      finding_lines_are = c.clear-2.ensures;
+      numbered = c.new-self.ensures;
+      found_is = refl;
+      told_is = told_more self.records.bytes.items self.findings.bytes.items self.numbering self.found self.told c.saturating_add-self.result messages message is few
+          (λ short. omega (arith, short, c.saturating_add-self.ensures));
+    }

@@ -1,93 +1,81 @@
-use Rattle.std.proofs.Common.{◌≡◌, ◌+◌, ◌<◌, ◌^◌, [], ◌++◌, ℕ, List, refl, ap, subst, sym, ◌∙◌, inl, None, Some, Ok, Err, append-nil, arith, length, length-append, false}
-use Rattle.lis_tool.specs.Messages.{messages_text, record_count, refused}
+use Rattle.std.proofs.Common.{◌≡◌, ◌+◌, ◌<◌, ◌^◌, ◌++◌, [], ℕ, List, Ok, length, length-append, refl, sym, ◌∙◌, ap, subst, append-nil, arith}
+use Rattle.std.proofs.lemmas.Bool.{eqb-true}
+use Rattle.std.specs.declared.result.Result.{Result}
+use Rattle.lis_tool.specs.declared.fault.ToolFault.{ToolFault}
+use Rattle.lis_tool.specs.declared.machine.Turn.{Turn}
+use Rattle.lis_tool.specs.Messages.{IsReadingMessages, StepsOver}
 use Rattle.lis_tool.specs.Output.{out}
-use Rattle.lis_tool.proofs.MessageLaws.{ends_over, fed_few, fed_part, fed_starved, fed_fails, is_refused, messages_few, refuses_over, text_with}
+use Rattle.lis_tool.specs.inside.Steps.{Puts}
+use Rattle.lis_tool.proofs.GatherLaws.{gathered_nothing}
+use Rattle.lis_tool.proofs.RecordSteps.{all_read, steps_then}
 use Rattle.lis_tool.proofs.messages.MessagesMachine.feed.Goals as goal
+
+pub loop-rest-init : goal.loop-rest-init
+loop-rest-init g c = record {
+  working = c.requires;
+  goes_on = λ past text reading few. (
+    [],
+    refl,
+    record { more = []; put = gathered_nothing _ c.args.written (omega arith); behind = rw (append-nil past, append-nil text) reading },
+  );
+}
+
+pub loop-rest-preserved : goal.loop-rest-preserved
+loop-rest-preserved g c = record {
+  working = rw c.in-Ok-On.is at c.read_next-turn.ensures.failed;
+  goes_on = λ past text reading few.
+      let inv = c.loop-rest.invariant.goes_on past text reading few in
+      let short : length (past ++ inv.0) + length c.loop-rest.rest.now < 2 ^ 44 =
+      omega (arith, few, ap length inv.1, length-append past inv.0, length-append inv.0 c.loop-rest.rest.now) in
+      let next = c.read_next-turn.ensures.steps (past ++ inv.0) (text ++ inv.2.more) inv.2.behind short in
+      let here = IsReadingMessages g.C.MessageMachine.writes (g.C.MessageMachine.stands c.loop-rest.self.told.command) c.loop-rest.self.reader c.loop-rest.self.told.count in
+      let then = IsReadingMessages g.C.MessageMachine.writes (g.C.MessageMachine.stands c.read_next-turn.new.self.told.command) c.read_next-turn.new.self.reader c.read_next-turn.new.self.told.count in
+      let all =
+      steps_then g.C.MessageMachine.writes here then past c.args.bytes.now inv.0 c.loop-rest.rest.now c.read_next-turn.result.0.now text
+      (out (g.W.Sink.taken c.args.sink.now) c.args.page.now) (out (g.W.Sink.taken c.loop-rest.sink) c.loop-rest.page)
+      (out (g.W.Sink.taken c.read_next-turn.new.sink) c.read_next-turn.new.page) c.args.written c.loop-rest.after
+      c.read_next-turn.result.1 inv.1 inv.2 next in
+      subst (λ (r : Result Turn ToolFault). StepsOver g.C.MessageMachine.writes then past c.args.bytes.now c.read_next-turn.result.0.now
+      (out (g.W.Sink.taken c.args.sink.now) c.args.page.now) (out (g.W.Sink.taken c.read_next-turn.new.sink) c.read_next-turn.new.page) c.args.written text r) (c.in-Ok-On.is ∙ ap Ok (rw c.in-Ok-On.is at c.in-Ok-On.field-0-is)) all;
+}
 
 pub returns-in-Ok-Off-clause-steps : goal.returns-in-Ok-Off-clause-steps
 returns-in-Ok-Off-clause-steps g c = λ past text reading few.
-    let new = c.feed-messages.result.messages in
-    let stream = past ++ c.args.bytes.now in
-    let reads = c.feed-messages.ensures.read reading.no_fault past reading.messages reading.cut in
-    let short : record_count (reading.messages ++ new) < 2 ^ 44 = omega (arith, few, fed_few stream (reading.messages ++ new) _ _ reads, length-append past c.args.bytes.now) in
-    let part = fed_part g.C.MessageMachine.writes stream (reading.messages ++ new) _ _ reads in
-    let step = rw c.in-Ok-Off.field-0-is at (c.in-Ok-Off.ensures.steps reading.messages reading.stood reading.count_is (rw c.as_slice.ensures short)) in
-    fed_starved g.C.MessageMachine.writes stream reading.messages new text reading.text_is part
-    _ _ c.args.written c.in-Ok-Off.halt step.2 step.3 (rw c.as_slice.ensures at step.4) step.5 step.0
+    let inv = c.loop-rest.invariant.goes_on past text reading few in
+    let short : length (past ++ inv.0) + length c.loop-rest.rest.now < 2 ^ 44 =
+    omega (arith, few, ap length inv.1, length-append past inv.0, length-append inv.0 c.loop-rest.rest.now) in
+    let next = c.read_next-turn.ensures.steps (past ++ inv.0) (text ++ inv.2.more) inv.2.behind short in
+    let here = IsReadingMessages g.C.MessageMachine.writes (g.C.MessageMachine.stands c.loop-rest.self.told.command) c.loop-rest.self.reader c.loop-rest.self.told.count in
+    let then = IsReadingMessages g.C.MessageMachine.writes (g.C.MessageMachine.stands c.read_next-turn.new.self.told.command) c.read_next-turn.new.self.reader c.read_next-turn.new.self.told.count in
+    let all =
+    steps_then g.C.MessageMachine.writes here then past c.args.bytes.now inv.0 c.loop-rest.rest.now c.read_next-turn.result.0.now text
+    (out (g.W.Sink.taken c.args.sink.now) c.args.page.now) (out (g.W.Sink.taken c.loop-rest.sink) c.loop-rest.page)
+    (out (g.W.Sink.taken c.read_next-turn.new.sink) c.read_next-turn.new.page) c.args.written c.loop-rest.after
+    c.read_next-turn.result.1 inv.1 inv.2 next in
+    let off = subst (λ (r : Result Turn ToolFault). StepsOver g.C.MessageMachine.writes then past c.args.bytes.now c.read_next-turn.result.0.now
+    (out (g.W.Sink.taken c.args.sink.now) c.args.page.now) (out (g.W.Sink.taken c.read_next-turn.new.sink) c.read_next-turn.new.page) c.args.written text r) (c.in-Ok-Off.is ∙ ap Ok (rw c.in-Ok-Off.is at c.in-Ok-Off.field-0-is)) all in off.2
 
 pub returns-in-Err-clause-steps : goal.returns-in-Err-clause-steps
 returns-in-Err-clause-steps g c = λ past text reading few.
-    let new = c.feed-messages.result.messages in
-    let stream = past ++ c.args.bytes.now in
-    let reads = c.feed-messages.ensures.read reading.no_fault past reading.messages reading.cut in
-    let short : record_count (reading.messages ++ new) < 2 ^ 44 = omega (arith, few, fed_few stream (reading.messages ++ new) _ _ reads, length-append past c.args.bytes.now) in
-    let part = fed_part g.C.MessageMachine.writes stream (reading.messages ++ new) _ _ reads in
-    fed_fails g.C.MessageMachine.writes stream reading.messages new text reading.text_is part
-    _ (out (g.W.Sink.taken c.take_messages.new.sink) c.take_messages.new.page) c.args.written c.in-Err.fault
-    (rw c.as_slice.ensures at (c.in-Err.ensures.steps reading.messages reading.stood reading.count_is (rw c.as_slice.ensures short)))
-
-pub returns-in_default-clause-steps : goal.returns-in_default-clause-steps
-returns-in_default-clause-steps g c = λ past text reading few.
-    let new = c.feed-messages.result.messages in
-    let stream = past ++ c.args.bytes.now in
-    let reads = c.feed-messages.ensures.read reading.no_fault past reading.messages reading.cut in
-    let short : record_count (reading.messages ++ new) < 2 ^ 44 = omega (arith, few, fed_few stream (reading.messages ++ new) _ _ reads, length-append past c.args.bytes.now) in
-    let part = fed_part g.C.MessageMachine.writes stream (reading.messages ++ new) _ _ reads in
-    let step = rw (c.in-Ok-On.field-0-is, c.as_slice.ensures) at (c.in-Ok-On.ensures.steps reading.messages reading.stood reading.count_is (rw c.as_slice.ensures short)) in
-    let goes = rw c.in_default.is at reads in
-    rw c.take_messages.ensures.reader
-    (record {
-      more = messages_text g.C.MessageMachine.writes (length reading.messages) new;
-      put = step.0;
-      behind = record {
-        messages = reading.messages ++ new;
-        no_fault = goes.0;
-        cut = goes.1;
-        stood = step.1.0;
-        count_is = step.1.1;
-        text_is = text_with g.C.MessageMachine.writes stream reading.messages new text reading.text_is part;
-      };
-    })
-
-pub returns-in-OutOfMemory-clause-steps : goal.returns-in-OutOfMemory-clause-steps
-returns-in-OutOfMemory-clause-steps g c = λ past text reading few.
-    let new = c.feed-messages.result.messages in
-    let stream = past ++ c.args.bytes.now in
-    let reads = c.feed-messages.ensures.read reading.no_fault past reading.messages reading.cut in
-    let short : record_count (reading.messages ++ new) < 2 ^ 44 = omega (arith, few, fed_few stream (reading.messages ++ new) _ _ reads, length-append past c.args.bytes.now) in
-    let part = fed_part g.C.MessageMachine.writes stream (reading.messages ++ new) _ _ reads in
-    let step = rw (c.in-Ok-On.field-0-is, c.as_slice.ensures) at (c.in-Ok-On.ensures.steps reading.messages reading.stood reading.count_is (rw c.as_slice.ensures short)) in
-    fed_starved g.C.MessageMachine.writes stream reading.messages new text reading.text_is part
-    _ _ c.args.written _ (messages_text g.C.MessageMachine.writes (length reading.messages) new) [] (sym (append-nil _)) step.0 refl
-
-pub returns-in-Ok-clause-steps : goal.returns-in-Ok-clause-steps
-returns-in-Ok-clause-steps g c = λ past text reading few.
-    let new = c.feed-messages.result.messages in
-    let stream = past ++ c.args.bytes.now in
-    let reads = c.feed-messages.ensures.read reading.no_fault past reading.messages reading.cut in
-    let short : record_count (reading.messages ++ new) < 2 ^ 44 = omega (arith, few, fed_few stream (reading.messages ++ new) _ _ reads, length-append past c.args.bytes.now) in
-    let part = fed_part g.C.MessageMachine.writes stream (reading.messages ++ new) _ _ reads in
-    let step = rw (c.in-Ok-On.field-0-is, c.as_slice.ensures) at (c.in-Ok-On.ensures.steps reading.messages reading.stood reading.count_is (rw c.as_slice.ensures short)) in
-    let stops = rw c.in-Some.is at reads in
-    let comes = inl (refused (reading.messages ++ new) c.in-Some.fault (is_refused stream (reading.messages ++ new) c.in-Some.fault stops.1 c.in_default-reason.not-OutOfMemory) refl) in
-    let fits : length (reading.messages ++ new) < 2 ^ 44 = omega (arith, short, messages_few (reading.messages ++ new)) in
-    refuses_over g.C.MessageMachine.writes stream _ _ _ c.args.written c.in-Ok-On.after text (messages_text g.C.MessageMachine.writes (length reading.messages) new) (reading.messages ++ new)
-    c.in-Some.fault c.in-Ok.halt comes
-    (text_with g.C.MessageMachine.writes stream reading.messages new text reading.text_is part)
-    step.0 (c.in-Ok.ensures.ends (reading.messages ++ new) step.1.0 step.1.1 fits)
+    let inv = c.loop-rest.invariant.goes_on past text reading few in
+    let short : length (past ++ inv.0) + length c.loop-rest.rest.now < 2 ^ 44 =
+    omega (arith, few, ap length inv.1, length-append past inv.0, length-append inv.0 c.loop-rest.rest.now) in
+    let next = c.read_next-turn.ensures.steps (past ++ inv.0) (text ++ inv.2.more) inv.2.behind short in
+    let here = IsReadingMessages g.C.MessageMachine.writes (g.C.MessageMachine.stands c.loop-rest.self.told.command) c.loop-rest.self.reader c.loop-rest.self.told.count in
+    let then = IsReadingMessages g.C.MessageMachine.writes (g.C.MessageMachine.stands c.read_next-turn.new.self.told.command) c.read_next-turn.new.self.reader c.read_next-turn.new.self.told.count in
+    let all =
+    steps_then g.C.MessageMachine.writes here then past c.args.bytes.now inv.0 c.loop-rest.rest.now c.read_next-turn.result.0.now text
+    (out (g.W.Sink.taken c.args.sink.now) c.args.page.now) (out (g.W.Sink.taken c.loop-rest.sink) c.loop-rest.page)
+    (out (g.W.Sink.taken c.read_next-turn.new.sink) c.read_next-turn.new.page) c.args.written c.loop-rest.after
+    c.read_next-turn.result.1 inv.1 inv.2 next in
+    let failed = rw c.in-Err.is at all in failed.2
 
 pub returns-clause-steps : goal.returns-clause-steps
 returns-clause-steps g c = λ past text reading few.
-    let new = c.feed-messages.result.messages in
-    let stream = past ++ c.args.bytes.now in
-    let reads = c.feed-messages.ensures.read reading.no_fault past reading.messages reading.cut in
-    let short : record_count (reading.messages ++ new) < 2 ^ 44 = omega (arith, few, fed_few stream (reading.messages ++ new) _ _ reads, length-append past c.args.bytes.now) in
-    let part = fed_part g.C.MessageMachine.writes stream (reading.messages ++ new) _ _ reads in
-    let step = rw (c.in-Ok-On.field-0-is, c.as_slice.ensures) at (c.in-Ok-On.ensures.steps reading.messages reading.stood reading.count_is (rw c.as_slice.ensures short)) in
-    let stops = rw c.in-Some.is at reads in
-    let comes = inl (refused (reading.messages ++ new) c.in-Some.fault (is_refused stream (reading.messages ++ new) c.in-Some.fault stops.1 c.in_default-reason.not-OutOfMemory) refl) in
-    let fits : length (reading.messages ++ new) < 2 ^ 44 = omega (arith, short, messages_few (reading.messages ++ new)) in
-    ends_over g.C.MessageMachine.writes stream false _ _ (out (g.W.Sink.taken c.end.new.sink) c.end.new.page) c.args.written c.in-Ok-On.after text (messages_text g.C.MessageMachine.writes (length reading.messages) new) (reading.messages ++ new)
-    (Some c.in-Some.fault) (Err c.in-Err-end.fault) comes
-    (text_with g.C.MessageMachine.writes stream reading.messages new text reading.text_is part)
-    step.0 (c.in-Err-end.ensures.ends (reading.messages ++ new) step.1.0 step.1.1 fits)
+    let inv = c.loop-rest.invariant.goes_on past text reading few in
+    let here = IsReadingMessages g.C.MessageMachine.writes (g.C.MessageMachine.stands c.loop-rest.self.told.command) c.loop-rest.self.reader c.loop-rest.self.told.count in
+    let none : length c.loop-rest.rest.now ≡ 0 = eqb-true (length c.loop-rest.rest.now) 0 (sym c.loop-rest-test.ensures) in
+    subst
+    (λ (l : List ℕ). Puts (here (past ++ l)) (out (g.W.Sink.taken c.args.sink.now) c.args.page.now)
+    (out (g.W.Sink.taken c.loop-rest.sink) c.loop-rest.page) c.args.written c.loop-rest.after text)
+    (all_read c.args.bytes.now inv.0 c.loop-rest.rest.now inv.1 none) inv.2

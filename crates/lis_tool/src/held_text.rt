@@ -1,0 +1,107 @@
+//! Text that is held in memory until a message is whole.
+
+ghost use Rattle.std.specs.Prelude.{◌≡◌, ◌++◌, [], Some, decimal, OnOk};
+ghost use Rattle.lis_field.specs.Shape.{field_at};
+ghost use Rattle.lis_tool.specs.Results.{field_text};
+
+use itoa::Buffer;
+use lis_message::LentRecord;
+use lis_port::{Failed, Sink};
+use std::alloc::{AllocError, Global};
+
+/// Text in memory. As a sink it fails where memory is refused.
+#[derive(Drop)]
+pub(crate) struct HeldText {
+    bytes: Vec<u8>,
+    failed: bool,
+}
+
+impl HeldText {
+    /// No text. It takes no memory yet.
+    pub(crate) fn new(alloc: Global) -> Self
+        ensures { result.bytes.items ≡ [] }
+    {
+        HeldText {
+            bytes: Vec::new(alloc),
+            failed: false,
+        }
+    }
+
+    /// The text.
+    pub(crate) fn as_slice(&self) -> &[u8]
+        ensures { result.now ≡ self.now.bytes.items }
+    {
+        self.bytes.as_slice()
+    }
+
+    /// Lets go of the text.
+    pub(crate) fn clear(&mut self)
+        ensures { self.new.bytes.items ≡ [] }
+    {
+        self.bytes.clear();
+    }
+
+    /// Adds a text.
+    #[inline(always)]
+    pub(crate) fn add(&mut self, text: &[u8]) -> Result<(), AllocError>
+        ensures { OnOk result (self.new.bytes.items ≡ self.old.bytes.items ++ text.now) }
+    {
+        self.bytes.extend_from_slice(text)
+    }
+
+    /// Adds a number in decimal digits.
+    #[inline(always)]
+    pub(crate) fn add_number(&mut self, number: u64) -> Result<(), AllocError>
+        ensures { OnOk result (self.new.bytes.items ≡ self.old.bytes.items ++ decimal number) }
+    {
+        let mut buffer = Buffer::new();
+        self.add(buffer.format(number).as_bytes())
+    }
+
+    /// Adds a record's field of this number by its spelling; nothing where it is absent.
+    pub(crate) fn add_field(
+        &mut self,
+        entry: &LentRecord<'_>,
+        number: usize,
+    ) -> Result<(), AllocError>
+        ensures { OnOk result (self.new.bytes.items ≡ self.old.bytes.items
+            ++ field_text entry.now.delimiters (field_at entry.now.content number)) }
+    {
+        let Some(field) = entry.field(number) else {
+            return Ok(());
+        };
+        if self.failed {
+            return Err(AllocError);
+        }
+        match field.put(self) {
+            Ok(()) => Ok(()),
+            Err(_) => Err(AllocError),
+        }
+    }
+}
+
+impl Sink for HeldText {
+    ghost taken = { λ s. Some s.bytes.items };
+
+    ghost sent = { λ s. Some s.bytes.items };
+
+    ghost failed = { λ s. s.failed };
+
+    fn write(&mut self, bytes: &[u8]) -> Result<usize, Failed> {
+        match self.bytes.extend_from_slice(bytes) {
+            Ok(()) => Ok(bytes.len()),
+            Err(_) => {
+                self.failed = true;
+                Err(Failed)
+            }
+        }
+    }
+
+    fn flush(&mut self) -> Result<(), Failed> {
+        Ok(())
+    }
+
+    fn failed(&self) -> bool {
+        self.failed
+    }
+}
