@@ -1,4 +1,5 @@
-/* The analyzer side of the laboratory link of CLSI LIS01-A2 (ASTM E1381), for C99 and C++.
+/* The analyzer side of the laboratory link of CLSI LIS01-A2 (ASTM E1381), and the records of CLSI LIS02-A2
+ * (ASTM E1394), for C99 and C++.
  *
  * Link with liblislink and with the heap's three functions (below). Each function here is proved to be safe, to end,
  * and to do what the contract above it in crates/lis_c/src says, for each caller that keeps these duties:
@@ -16,7 +17,7 @@
  * That is all: no call asks for a length, a number or an order of calls. No call keeps a pointer of the caller's but
  * a handle its block; none blocks, prints, aborts or has a variable of its own. Nothing checks a C caller.
  *
- * Memory. A scanner and lis_frame_write take none. A sender takes it in lis_sender_add_text, a receiver for the text
+ * Memory. A scanner, lis_frame_write and the calls of records take none. A sender takes it in lis_sender_add_text, a receiver for the text
  * that it holds; lis_X_end gives it back. Where memory is refused, the call says so. */
 #ifndef LISLINK_H
 #define LISLINK_H
@@ -55,7 +56,11 @@ enum lis_status {
     LIS_FULL = 5,           /* there are as many texts as a session has */
     LIS_OUT_OF_MEMORY = 6,  /* memory was refused */
     LIS_BAD_NUMBER = 7,     /* the number is none that is known */
-    LIS_TOO_SHORT = 8       /* the buffer is too short */
+    LIS_TOO_SHORT = 8,      /* the buffer is too short */
+    LIS_NO_RECORD = 9,      /* the text has no byte */
+    LIS_BAD_LETTER = 10,    /* the first byte is no letter of such a record, or no field delimiter follows it */
+    LIS_BAD_DELIMITERS = 11,  /* the bytes are no four delimiters */
+    LIS_ABSENT = 12         /* there is no such part */
 };
 
 /* Bytes for the link: the first `len` of `bytes`; 0 where nothing is to be sent. */
@@ -203,6 +208,38 @@ uint8_t lis_receiver_reserve(lis_receiver *s, uint64_t bytes);
  * copied, where the buffer is shorter). */
 size_t lis_receiver_text_len(lis_receiver *s);
 uint8_t lis_receiver_text(lis_receiver *s, uint8_t *out, size_t out_len);
+
+/* ---- Records, each a text without its CR. These calls take no memory and keep nothing. ---- */
+
+/* The delimiters of a message, in the order of its header. */
+typedef struct lis_delimiters {
+    uint8_t field;
+    uint8_t repeat;
+    uint8_t component;
+    uint8_t escape;
+} lis_delimiters;
+
+/* A record: its letter in upper case, and how many fields follow the letter, or a header's delimiters. Where the text
+ * is none they are 0, and `place` is that of the byte that no text may hold. */
+typedef struct lis_record {
+    uint8_t letter;
+    size_t fields;
+    size_t place;
+} lis_record;
+
+/* Reads a header, and the delimiters that it declares: LIS_OK, or the first of LIS_NO_RECORD, LIS_BAD_LETTER,
+ * LIS_BAD_DELIMITERS, LIS_FORBIDDEN (with the place) and LIS_TOO_LONG; then the delimiters stay as they were. */
+uint8_t lis_header_read(const uint8_t *text, size_t text_len, lis_delimiters *delimiters, lis_record *out);
+/* Reads any other record under the delimiters of its message; the same answers. */
+uint8_t lis_record_read(const lis_delimiters *delimiters, const uint8_t *text, size_t text_len, lis_record *out);
+/* Copies a component, its escapes as the bytes that they mean, to the front of `out`, and tells its size. Fields are
+ * counted as the standard does: the first behind the letter is 2, behind a header's delimiters 3. Repeats and
+ * components are counted from 0. LIS_OK; LIS_ABSENT; LIS_TOO_SHORT (what is in `out` is then of no use; a buffer as
+ * long as the text is never too short); else as lis_header_read and lis_record_read. */
+uint8_t lis_header_part(const uint8_t *text, size_t text_len, size_t field, size_t repeat, size_t component,
+                        uint8_t *out, size_t out_len, size_t *size);
+uint8_t lis_record_part(const lis_delimiters *delimiters, const uint8_t *text, size_t text_len, size_t field,
+                        size_t repeat, size_t component, uint8_t *out, size_t out_len, size_t *size);
 
 /* ---- The heap, which the program has to give; examples/c/heap.c makes it of malloc, realloc and free. ----
  *

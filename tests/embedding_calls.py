@@ -3,8 +3,8 @@ import os
 import sys
 
 sys.path.insert(0, os.path.join(os.path.dirname(os.path.dirname(os.path.abspath(__file__))), "examples/python"))
-from lislink import (FrameFault, Kind, LinkError, Note, Outcome, Phase, Readiness, Receiver, Scanner, Sender,  # noqa: E402
-                     Status, frame_bytes)
+from lislink import (FrameFault, Kind, LinkError, Note, Outcome, Phase, Readiness, Receiver, Record, Scanner,  # noqa: E402
+                     Sender, Status, frame_bytes, records)
 
 FIRST = bytes.fromhex("0231487c5c5e260d0345350d0a")
 calls = 0
@@ -87,7 +87,27 @@ def of_receiver():
     same(receiver._handle, None)
 
 
+def of_records():
+    header = Record(b"H|\\^&|||Analyzer&F&7")
+    same((header.letter, header.fields, header.part(5)), ("H", 3, b"Analyzer|7"))
+    same((header.part(2), header.part(9)), (None, None))
+    result = Record(b"r|1|^^^GLU\\^^^NA|5.4&X0d&&H&x&N&", header)
+    same((result.letter, result.fields), ("R", 3))
+    same((result.part(3, 0, 3), result.part(3, 1, 3), result.part(3, 2, 0)), (b"GLU", b"NA", None))
+    same((result.part(4), result.part(2), result.part(1)), (b"5.4\rx", b"1", None))
+    refused(lambda: Record(b""), Status.NO_RECORD, None, 0)
+    refused(lambda: Record(b"P|1"), Status.BAD_LETTER, None, 0)
+    refused(lambda: Record(b"H|\\^^"), Status.BAD_DELIMITERS, None, 0)
+    refused(lambda: Record(b"R|1\x02", header), Status.FORBIDDEN, None, 3)
+    refused(lambda: Record(b"R|" + b"1" * 65536, header), Status.TOO_LONG, None, 0)
+    refused(lambda: Record(b"H|\\^&", header), Status.BAD_LETTER, None, 0)
+    texts = [b"H|\\^&\r", b"P|1\rO|1|S7\r", b"H*!+-\rP*2\r"]
+    same([(record.letter, record.part(2)) for record in records(texts)],
+         [("H", None), ("P", b"1"), ("O", b"1"), ("H", None), ("P", b"2")])
+
+
 of_frames()
+of_records()
 of_scanner()
 of_sender()
 of_receiver()

@@ -12,7 +12,8 @@ REPLY, BUSY, CONTENTION, RECEIVER = 15, 10, 1, 30  # the standard's timers, in s
 
 
 class Status(enum.IntEnum):
-    OK, IN_SESSION, NO_TEXT, TOO_LONG, FORBIDDEN, FULL, OUT_OF_MEMORY, BAD_NUMBER, TOO_SHORT = range(9)
+    (OK, IN_SESSION, NO_TEXT, TOO_LONG, FORBIDDEN, FULL, OUT_OF_MEMORY, BAD_NUMBER, TOO_SHORT, NO_RECORD, BAD_LETTER,
+     BAD_DELIMITERS, ABSENT) = range(13)
 
 
 class Kind(enum.IntEnum):
@@ -89,6 +90,14 @@ class _Step(ctypes.Structure):
                 ("detail", ctypes.c_uint8), ("place", ctypes.c_size_t)]
 
 
+class _Delimiters(ctypes.Structure):
+    _fields_ = [(name, ctypes.c_uint8) for name in ("field", "repeat", "component", "escape")]
+
+
+class _Record(ctypes.Structure):
+    _fields_ = [("letter", ctypes.c_uint8), ("fields", ctypes.c_size_t), ("place", ctypes.c_size_t)]
+
+
 def _load():
     beside = os.path.join(os.path.dirname(os.path.abspath(__file__)), "liblislink.so")
     named = os.environ.get("LISLINK_LIBRARY")
@@ -100,6 +109,10 @@ _POINTER, _SIZE, _BYTE, _FLAG = ctypes.c_void_p, ctypes.c_size_t, ctypes.c_uint8
 _CALLS = {
     "frame_write": (_BYTE, _BYTE, _FLAG, ctypes.c_char_p, _SIZE, _POINTER, _POINTER),
     "scanner_feed": (_SIZE, _POINTER, ctypes.c_char_p, _SIZE, _POINTER),
+    "header_read": (_BYTE, ctypes.c_char_p, _SIZE, _POINTER, _POINTER),
+    "record_read": (_BYTE, _POINTER, ctypes.c_char_p, _SIZE, _POINTER),
+    "header_part": (_BYTE, ctypes.c_char_p, _SIZE, _SIZE, _SIZE, _SIZE, _POINTER, _SIZE, _POINTER),
+    "record_part": (_BYTE, _POINTER, ctypes.c_char_p, _SIZE, _SIZE, _SIZE, _SIZE, _POINTER, _SIZE, _POINTER),
     "sender_add_text": (_BYTE, _POINTER, ctypes.c_char_p, _SIZE),
     "sender_clear": (None, _POINTER),
     "sender_start": (_BYTE, _POINTER, _POINTER, _POINTER),
@@ -140,6 +153,51 @@ def frame_bytes(number, last, text):
     if status:
         raise LinkError(status, None, place.value)
     return bytes(out.bytes[:out.len])
+
+
+class Record:
+    """A record without its CR: a header, or any other record under the delimiters of its message's header."""
+
+    def __init__(self, text, header=None):
+        self._text, self._given = bytes(text), header._delimiters if header else None
+        self._delimiters, told = _Delimiters(), _Record()
+        if header is None:
+            status = _calls["header_read"](*self._whole(), ctypes.byref(self._delimiters), ctypes.byref(told))
+        else:
+            self._delimiters = self._given
+            status = _calls["record_read"](ctypes.byref(self._given), *self._whole(), ctypes.byref(told))
+        if status:
+            raise LinkError(status, None, told.place)
+        self.letter, self.fields = chr(told.letter), told.fields
+
+    def _whole(self):
+        return self._text, len(self._text)
+
+    def part(self, field, repeat=0, component=0):
+        """The bytes of a component, its escapes as what they mean; None where there is none. The letter is field 1, and a
+        header's delimiters are field 2; repeats and components are counted from 0."""
+        room, size = (ctypes.c_uint8 * len(self._text))(), ctypes.c_size_t()
+        words = (*self._whole(), field, repeat, component, room, len(self._text), ctypes.byref(size))
+        if self._given is None:
+            status = _calls["header_part"](*words)
+        else:
+            status = _calls["record_part"](ctypes.byref(self._given), *words)
+        if status == Status.ABSENT:
+            return None
+        if status:
+            raise LinkError(status)
+        return bytes(room[:size.value])
+
+
+def records(texts) -> Iterator[Record]:
+    """The records of texts, each with a CR behind it, under the delimiters of the nearest header before them."""
+    header = None
+    for text in texts:
+        for line in bytes(text).removesuffix(b"\r").split(b"\r"):
+            is_header = line[:1] in (b"H", b"h")
+            record = Record(line, None if is_header else header)
+            header = record if is_header else header
+            yield record
 
 
 class _Owner:

@@ -1,3 +1,4 @@
 pub mod FeedLaws
+pub mod RecordLaws
 pub mod Steps
 pub mod StepLaws

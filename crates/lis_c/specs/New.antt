@@ -19,15 +19,21 @@ use Rattle.lis_c.specs.contracts.desk.ReceiverDesk as receiver_desk
 
 -- a desk with a scanner that has read no byte
 abbrev pub IsNewScanner : Ptr → Fml
-IsNewScanner p = fex ((d : ScannerDesk) × StandsFor 240 d.scanner []) (λ d. lies_at scanner_desk.the_row full_share p d.0)
+IsNewScanner p =
+    fex ((d : ScannerDesk) × StandsFor 240 d.scanner [])
+    (λ d. lies_at scanner_desk.the_row full_share p d.0)
 
 -- a desk with a sender that was never started, and no text
 abbrev pub IsNewSender : Ptr → Fml
-IsNewSender p = fex ((d : SenderDesk) × (d.sender ≡ new_sender) × (d.texts ≡ [])) (λ d. lies_at sender_desk.the_row full_share p d.0)
+IsNewSender p =
+    fex ((d : SenderDesk) × (d.sender ≡ new_sender) × (d.texts ≡ []))
+    (λ d. lies_at sender_desk.the_row full_share p d.0)
 
 -- a desk with a new receiver, and no text
 abbrev pub IsNewReceiver : Ptr → Fml
-IsNewReceiver p = fex ((d : ReceiverDesk) × IsIn 240 d.receiver new_receiver × (d.text ≡ [])) (λ d. lies_at receiver_desk.the_row full_share p d.0)
+IsNewReceiver p =
+    fex ((d : ReceiverDesk) × IsIn 240 d.receiver new_receiver × (d.text ≡ []))
+    (λ d. lies_at receiver_desk.the_row full_share p d.0)
 
 abbrev pub type_align : RattleType → ℕ
 type_align R = align (lone R.mir)

@@ -35,6 +35,19 @@ BAD_NUMBER = 7
 abbrev pub TOO_SHORT : ℕ
 TOO_SHORT = 8
 
+-- a text of no byte; a letter of no record; bytes that are no delimiters; a part that isn't there
+abbrev pub NO_RECORD : ℕ
+NO_RECORD = 9
+
+abbrev pub BAD_LETTER : ℕ
+BAD_LETTER = 10
+
+abbrev pub BAD_DELIMITERS : ℕ
+BAD_DELIMITERS = 11
+
+abbrev pub ABSENT : ℕ
+ABSENT = 12
+
 -- bytes are a text, or why they aren't, and the place of the first forbidden byte
 abbrev pub text_status : Option TextFault → ℕ
 text_status None = OK

@@ -40,8 +40,8 @@ pub record Makes (step : ReceiverStep) (old : ReceiverDesk) (out : LisStep) (new
   pub state : IsIn 240 new.receiver step.after
 
 -- memory was refused for a frame that would be accepted and is longer than the spare room: NAK, and nothing else
-pub record IsRefused (step : ReceiverStep) (r : ReceiverState) (old : ReceiverDesk) (out : LisStep) (new : ReceiverDesk) :
-    Type 0 where
+pub record IsRefused (step : ReceiverStep) (r : ReceiverState) (old : ReceiverDesk) (out : LisStep)
+    (new : ReceiverDesk) : Type 0 where
   pub frame : FrameContent
   pub would_accept : step.taken ≡ Some frame
   pub too_long : old.receiver.spare < length frame.text

@@ -24,6 +24,14 @@ pub(crate) const OUT_OF_MEMORY: u8 = 6;
 pub(crate) const BAD_NUMBER: u8 = 7;
 /// The buffer is too short.
 pub(crate) const TOO_SHORT: u8 = 8;
+/// The text has no byte.
+pub(crate) const NO_RECORD: u8 = 9;
+/// The first byte is no letter of such a record, or what follows it isn't the field delimiter.
+pub(crate) const BAD_LETTER: u8 = 10;
+/// The bytes are no four delimiters.
+pub(crate) const BAD_DELIMITERS: u8 = 11;
+/// There is no such part.
+pub(crate) const ABSENT: u8 = 12;
 
 /// The status of bytes that are no text.
 pub(crate) fn text_status(fault: TextFault) -> u8

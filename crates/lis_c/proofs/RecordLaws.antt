@@ -1,0 +1,15 @@
+-- What reading a text answered, where it is known to be a record.
+use Rattle.std.proofs.Common.{◌≡◌, Result, Ok, Err}
+use Rattle.lis_field.specs.Shape.{RecordContent}
+use Rattle.lis_record.specs.declared.faults.RecordFault.{RecordFault}
+use Rattle.lis_record.specs.Lent.{Lent}
+
+pub found_is :
+    (result : Result (Lent RecordContent) RecordFault) (found wanted : Lent RecordContent) →
+    result ≡ Ok found → result ≡ Ok wanted → found ≡ wanted
+found_is result found wanted is only = cc
+
+pub no_fault :
+    (result : Result (Lent RecordContent) RecordFault) (fault : RecordFault) (wanted : Lent RecordContent) →
+    result ≡ Err fault → result ≡ Ok wanted → ⊥
+no_fault result fault wanted is only = cc

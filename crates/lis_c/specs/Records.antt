@@ -1,0 +1,79 @@
+-- What C is told of a record's parts.
+use Rattle.std.specs.Prelude.{◌≡◌, ℕ, ◌<◌, ◌⊎◌, List, [], ◌∷◌, Option, None, Some, length, slice_get, take}
+use Rattle.std.specs.List.{flat_map}
+use Rattle.lis_field.specs.declared.symbols.Sym.{Sym}
+use Rattle.lis_field.specs.declared.symbols.Sym.TheVariants.{Char, Raw, On, Off}
+use Rattle.lis_field.specs.Delimiters.{DelimiterBytes}
+use Rattle.lis_field.specs.Kinds.{letter_of}
+use Rattle.lis_field.specs.Shape.{Components, RecordContent, Repeats, Symbols, field_at}
+use Rattle.lis_record.specs.declared.faults.RecordFault.{RecordFault}
+use Rattle.lis_record.specs.declared.faults.RecordFault.TheVariants as RecordFaults
+use Rattle.lis_c.specs.Status.{OK, TOO_LONG, FORBIDDEN, OUT_OF_MEMORY, TOO_SHORT, NO_RECORD, BAD_LETTER, BAD_DELIMITERS, ABSENT}
+use Rattle.lis_c.specs.declared.records.LisDelimiters.{LisDelimiters}
+use Rattle.lis_c.specs.declared.records.LisRecord.{LisRecord}
+
+-- four bytes as delimiters
+abbrev pub delimiters_in : LisDelimiters → DelimiterBytes
+delimiters_in d = record { field = d.field; repeat = d.repeat; component = d.component; escape = d.escape }
+
+-- why a text is no record, and the place of the byte that no text may hold
+abbrev pub record_status : RecordFault → ℕ
+record_status RecordFaults.Empty = NO_RECORD
+record_status (RecordFaults.UnknownKind byte) = BAD_LETTER
+record_status (RecordFaults.DelimiterPart fault) = BAD_DELIMITERS
+record_status (RecordFaults.Byte place) = FORBIDDEN
+record_status RecordFaults.TooLong = TOO_LONG
+record_status RecordFaults.OutOfMemory = OUT_OF_MEMORY
+
+abbrev pub record_place : RecordFault → ℕ
+record_place RecordFaults.Empty = 0
+record_place (RecordFaults.UnknownKind byte) = 0
+record_place (RecordFaults.DelimiterPart fault) = 0
+record_place (RecordFaults.Byte place) = place
+record_place RecordFaults.TooLong = 0
+record_place RecordFaults.OutOfMemory = 0
+
+-- a record is told by its letter in upper case and the number of its fields
+pub record IsTold (content : RecordContent) (status : ℕ) (out : LisRecord) : Type 0 where
+  pub well : status ≡ OK
+  pub letter_is : out.letter ≡ letter_of content.kind
+  pub fields_are : out.fields ≡ length content.fields
+  pub place_is : out.place ≡ 0
+
+pub record IsRefused (fault : RecordFault) (status : ℕ) (out : LisRecord) : Type 0 where
+  pub why : status ≡ record_status fault
+  pub letter_is : out.letter ≡ 0
+  pub fields_are : out.fields ≡ 0
+  pub place_is : out.place ≡ record_place fault
+
+-- a part by the number of its field and the places of its repeat and component
+abbrev pub repeat_at : Option Repeats → ℕ → Option Components
+repeat_at None place = None
+repeat_at (Some repeats) place = slice_get repeats place
+
+abbrev pub component_at : Option Components → ℕ → Option Symbols
+component_at None place = None
+component_at (Some components) place = slice_get components place
+
+abbrev pub part_at : RecordContent → ℕ → ℕ → ℕ → Option Symbols
+part_at content field repeat component = component_at (repeat_at (field_at content field) repeat) component
+
+-- what a symbol means; highlighting means no byte
+abbrev pub symbol_bytes : Sym → List ℕ
+symbol_bytes (Char byte) = byte ∷ []
+symbol_bytes (Raw byte) = byte ∷ []
+symbol_bytes On = []
+symbol_bytes Off = []
+
+abbrev pub plain : Symbols → List ℕ
+plain symbols = flat_map symbol_bytes symbols
+
+-- its bytes are copied to the front of the buffer, where they fit
+abbrev pub IsCopied : List ℕ → (status : ℕ) (out : List ℕ) (size : ℕ) → Type 0
+IsCopied bytes status out size =
+    ((status ≡ OK) × (take size out ≡ bytes) × (size ≡ length bytes))
+    ⊎ ((status ≡ TOO_SHORT) × (length out < length bytes) × (size ≡ 0))
+
+abbrev pub IsPart : Option Symbols → (status : ℕ) (out : List ℕ) (size : ℕ) → Type 0
+IsPart None status out size = (status ≡ ABSENT) × (size ≡ 0)
+IsPart (Some symbols) status out size = IsCopied (plain symbols) status out size

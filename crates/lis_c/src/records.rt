@@ -1,0 +1,276 @@
+//! Records for programs in C, read where they stand (LIS02-A2, Delimiters). No call takes memory.
+
+ghost use Rattle.std.specs.Prelude.{◌≡◌, ◌≢◌, ◌<◌, length, take, None, Some, IfSome, IfNone, MatchOption};
+ghost use Rattle.std.specs.Option.{option_to_list};
+ghost use Rattle.lis_c.specs.Records.{IsPart, IsRefused, IsTold, delimiters_in, part_at, plain};
+ghost use Rattle.lis_c.specs.Records.{record_place, record_status, symbol_bytes};
+ghost use Rattle.lis_c.specs.Status.{BAD_DELIMITERS};
+ghost use Rattle.lis_field.specs.declared.kinds.Kind.TheVariants as kinds;
+ghost use Rattle.lis_field.specs.Delimiters.{DelimiterBytes, IsDelimiters};
+ghost use Rattle.lis_field.specs.Shape.{RecordContent};
+ghost use Rattle.lis_record.specs.declared.faults.RecordFault.{RecordFault};
+ghost use Rattle.lis_record.specs.Faults.{header_fault, record_fault};
+ghost use Rattle.lis_record.specs.Relation.{IsRecord};
+
+use crate::status;
+use lis_field::{Delimiters, Sym};
+use lis_record::{LentComponent, LentRecord, LentSymbols, RecordFault, lend_header, lend_record};
+
+/// The delimiters of a message, in the order of its header.
+#[repr(C)]
+#[derive(Drop)]
+pub struct LisDelimiters {
+    pub field: u8,
+    pub repeat: u8,
+    pub component: u8,
+    pub escape: u8,
+}
+
+/// A record: its letter in upper case, and the number of its fields after the letter, or after a header's delimiters.
+/// Where the text is none they are 0, and the place is that of the byte that no text may hold.
+#[repr(C)]
+#[derive(Drop)]
+pub struct LisRecord {
+    pub letter: u8,
+    pub fields: usize,
+    pub place: usize,
+}
+
+/// Reads a header, a text without its CR, and the delimiters that it declares: `OK`, or the first of `NO_RECORD`,
+/// `BAD_LETTER`, `BAD_DELIMITERS`, `FORBIDDEN` (with the byte's place) and `TOO_LONG`; then the delimiters stay.
+#[unsafe(no_mangle)]
+pub extern "C" fn lis_header_read(
+    text: &[u8],
+    delimiters: &mut LisDelimiters,
+    out: &mut LisRecord,
+) -> u8
+    ensures found { (d : DelimiterBytes) (content : RecordContent) → IsDelimiters d → IsRecord d text.now content
+        → content.kind ≡ kinds.H → IsTold content result out.new × (delimiters_in delimiters.new ≡ d) }
+    ensures fault { (fault : RecordFault) → header_fault text.now ≡ Some fault
+        → IsRefused fault result out.new × (delimiters.new ≡ delimiters.old) }
+{
+    match lend_header(text) {
+        Ok(entry) => {
+            let declared = entry.delimiters();
+            delimiters.field = declared.field();
+            delimiters.repeat = declared.repeat();
+            delimiters.component = declared.component();
+            delimiters.escape = declared.escape();
+            tell(&entry, out)
+        }
+        Err(fault) => refuse(fault, out),
+    }
+}
+
+/// Reads any other record under the delimiters of its message: `OK`, `BAD_DELIMITERS` where these are none, or the
+/// first of `NO_RECORD`, `BAD_LETTER`, `FORBIDDEN` (with the byte's place) and `TOO_LONG`.
+#[unsafe(no_mangle)]
+pub extern "C" fn lis_record_read(
+    delimiters: &LisDelimiters,
+    text: &[u8],
+    out: &mut LisRecord,
+) -> u8
+    ensures found { (content : RecordContent) → IsDelimiters (delimiters_in delimiters.now)
+        → IsRecord (delimiters_in delimiters.now) text.now content → content.kind ≢ kinds.H
+        → IsTold content result out.new }
+    ensures fault { (fault : RecordFault) → IsDelimiters (delimiters_in delimiters.now)
+        → record_fault (delimiters_in delimiters.now) text.now ≡ Some fault → IsRefused fault result out.new }
+    ensures delimiters { (IsDelimiters (delimiters_in delimiters.now) → ⊥) → result ≡ BAD_DELIMITERS }
+{
+    out.letter = 0;
+    out.fields = 0;
+    out.place = 0;
+    let Some(known) = known(delimiters) else {
+        return status::BAD_DELIMITERS;
+    };
+    match lend_record(&known, text) {
+        Ok(entry) => tell(&entry, out),
+        Err(fault) => refuse(fault, out),
+    }
+}
+
+/// Copies the bytes of a header's component, without its escapes, to the front of a buffer, and tells how many they
+/// are. Fields are counted as the standard does, from 3 in a header; repeats and components from 0. `OK`, `ABSENT`
+/// where there is none, `TOO_SHORT` where the buffer is (one as long as the text never is), else as `lis_header_read`.
+#[unsafe(no_mangle)]
+pub extern "C" fn lis_header_part(
+    text: &[u8],
+    field: usize,
+    repeat: usize,
+    component: usize,
+    out: &mut [u8],
+    size: &mut usize,
+) -> u8
+    ensures part { (d : DelimiterBytes) (content : RecordContent) → IsDelimiters d → IsRecord d text.now content
+        → content.kind ≡ kinds.H → IsPart (part_at content field repeat component) result out.new size.new }
+    ensures fault { (fault : RecordFault) → header_fault text.now ≡ Some fault → result ≡ record_status fault }
+{
+    *size = 0;
+    match lend_header(text) {
+        Ok(entry) => copy_part(&entry, field, repeat, component, out, size),
+        Err(fault) => record_status(fault),
+    }
+}
+
+/// The same of any other record under the delimiters of its message; its first field after the letter has number 2.
+#[unsafe(no_mangle)]
+pub extern "C" fn lis_record_part(
+    delimiters: &LisDelimiters,
+    text: &[u8],
+    field: usize,
+    repeat: usize,
+    component: usize,
+    out: &mut [u8],
+    size: &mut usize,
+) -> u8
+    ensures part { (content : RecordContent) → IsDelimiters (delimiters_in delimiters.now)
+        → IsRecord (delimiters_in delimiters.now) text.now content → content.kind ≢ kinds.H
+        → IsPart (part_at content field repeat component) result out.new size.new }
+    ensures fault { (fault : RecordFault) → IsDelimiters (delimiters_in delimiters.now)
+        → record_fault (delimiters_in delimiters.now) text.now ≡ Some fault → result ≡ record_status fault }
+    ensures delimiters { (IsDelimiters (delimiters_in delimiters.now) → ⊥) → result ≡ BAD_DELIMITERS }
+{
+    *size = 0;
+    let Some(known) = known(delimiters) else {
+        return status::BAD_DELIMITERS;
+    };
+    match lend_record(&known, text) {
+        Ok(entry) => copy_part(&entry, field, repeat, component, out, size),
+        Err(fault) => record_status(fault),
+    }
+}
+
+/// The delimiters that four bytes are.
+fn known(delimiters: &LisDelimiters) -> Option<Delimiters>
+    ensures some { IfSome result (λ known. (known ≡ delimiters_in delimiters.now) × IsDelimiters known) }
+    ensures none { IfNone result (IsDelimiters (delimiters_in delimiters.now) → ⊥) }
+{
+    match Delimiters::new(
+        delimiters.field,
+        delimiters.repeat,
+        delimiters.component,
+        delimiters.escape,
+    ) {
+        Ok(known) => Some(known),
+        Err(_) => None,
+    }
+}
+
+/// Tells a record.
+fn tell(entry: &LentRecord<'_>, out: &mut LisRecord) -> u8
+    ensures { IsTold entry.now.content result out.new }
+{
+    out.letter = entry.kind().letter();
+    out.fields = entry.len();
+    out.place = 0;
+    status::OK
+}
+
+/// Tells why a text is none.
+fn refuse(fault: RecordFault, out: &mut LisRecord) -> u8
+    ensures { IsRefused fault result out.new }
+{
+    out.letter = 0;
+    out.fields = 0;
+    out.place = record_place(fault);
+    record_status(fault)
+}
+
+/// The status of a text that is no record.
+fn record_status(fault: RecordFault) -> u8
+    ensures { result ≡ record_status fault }
+{
+    match fault {
+        RecordFault::Empty => status::NO_RECORD,
+        RecordFault::UnknownKind(_) => status::BAD_LETTER,
+        RecordFault::DelimiterPart(_) => status::BAD_DELIMITERS,
+        RecordFault::Byte(_) => status::FORBIDDEN,
+        RecordFault::TooLong => status::TOO_LONG,
+        RecordFault::OutOfMemory => status::OUT_OF_MEMORY,
+    }
+}
+
+/// The place of the byte that no text may hold; 0 for any other fault.
+fn record_place(fault: RecordFault) -> usize
+    ensures { result ≡ record_place fault }
+{
+    match fault {
+        RecordFault::Byte(place) => place,
+        _ => 0,
+    }
+}
+
+/// Copies the bytes of a component.
+fn copy_part(
+    entry: &LentRecord<'_>,
+    field: usize,
+    repeat: usize,
+    component: usize,
+    out: &mut [u8],
+    size: &mut usize,
+) -> u8
+    requires { size.old ≡ 0 }
+    ensures { IsPart (part_at entry.now.content field repeat component) result out.new size.new }
+{
+    let Some(part) = part(entry, field, repeat, component) else {
+        return status::ABSENT;
+    };
+    match copy_symbols(part.symbols(), out) {
+        Some(count) => {
+            *size = count;
+            status::OK
+        }
+        None => status::TOO_SHORT,
+    }
+}
+
+/// The component at these places.
+fn part<'a>(
+    entry: &LentRecord<'a>,
+    field: usize,
+    repeat: usize,
+    component: usize,
+) -> Option<LentComponent<'a>>
+    ensures { MatchOption result (part_at entry.now.content field repeat component ≡ None)
+        (λ part. part_at entry.now.content field repeat component ≡ Some part.content) }
+{
+    let Some(field) = entry.field(field) else {
+        return None;
+    };
+    let Some(repeat) = field.repeat(repeat) else {
+        return None;
+    };
+    repeat.component(component)
+}
+
+/// Copies the bytes of symbols to the front of a buffer, and answers how many they are; none where it is too short.
+fn copy_symbols(symbols: LentSymbols<'_>, out: &mut [u8]) -> Option<usize>
+    ensures length { length out.new ≡ length out.old }
+    ensures some { IfSome result (λ count. (take count out.new ≡ plain symbols.entry) × (count ≡ length (plain symbols.entry))) }
+    ensures none { IfNone result (length out.new < length (plain symbols.entry)) }
+{
+    let mut rest = symbols;
+    let mut count = 0;
+    while let Some(symbol) = rest.next() {
+        if let Some(byte) = byte_of(symbol) {
+            if count >= out.len() {
+                return None;
+            }
+            out[count] = byte;
+            count += 1;
+        }
+    }
+    Some(count)
+}
+
+/// The byte that a symbol means; none for the marks of highlighting.
+fn byte_of(symbol: Sym) -> Option<u8>
+    ensures { option_to_list result ≡ symbol_bytes symbol }
+{
+    match symbol {
+        Sym::Char(byte) => Some(byte),
+        Sym::Raw(byte) => Some(byte),
+        Sym::On => None,
+        Sym::Off => None,
+    }
+}
