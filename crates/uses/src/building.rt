@@ -1,0 +1,52 @@
+//! Building a message of results, and its link texts.
+
+use lis_field::{Component, Delimiters, Field, Kind, Record, Repeat};
+use lis_message::{Message, MessageFault, Records, Texts, TextsFault, message_texts};
+use std::alloc::{AllocError, Global};
+use thiserror::Error;
+
+/// Why there is nothing to send.
+#[derive(Debug, Clone, Copy, PartialEq, Eq, Error)]
+pub enum BuildFault {
+    #[error("memory was refused")]
+    Memory(#[from(alloc)] AllocError),
+    #[error("no message: {0}")]
+    Message(#[from] MessageFault),
+    #[error("no texts: {0}")]
+    Texts(#[from] TextsFault),
+}
+
+/// The message of one result: header, patient, order, result, and the record that closes it.
+pub fn result_message(alloc: Global, sample: &[u8], value: &[u8]) -> Result<Message, BuildFault> {
+    let patient = Record::from_texts(alloc, Kind::P, &[b"1".as_slice()])?;
+    let mut order = Record::from_texts(alloc, Kind::O, &[b"1".as_slice()])?;
+    order.push(Field::from_text(alloc, sample)?)?;
+    let result = result_record(alloc, value)?;
+    let closing = Record::from_texts(alloc, Kind::L, &[b"1".as_slice(), b"N".as_slice()])?;
+    let mut records = Records::new(alloc);
+    records.push(Record::new(alloc, Kind::H))?;
+    records.push(patient)?;
+    records.push(order)?;
+    records.push(result)?;
+    records.push(closing)?;
+    Ok(Message::from_records(alloc, Delimiters::usual(), records)?)
+}
+
+/// The record of a glucose result. Its test, `^^^GLU`, is a field of four components.
+fn result_record(alloc: Global, value: &[u8]) -> Result<Record, AllocError> {
+    let mut test = Repeat::new(alloc, Component::new(alloc))?;
+    test.push(Component::new(alloc))?;
+    test.push(Component::new(alloc))?;
+    test.push(Component::from_text(alloc, b"GLU")?)?;
+    let mut entry = Record::from_texts(alloc, Kind::R, &[b"1".as_slice()])?;
+    entry.push(Field::new(alloc, test)?)?;
+    entry.push(Field::from_text(alloc, value)?)?;
+    entry.push(Field::from_text(alloc, b"mmol/L")?)?;
+    Ok(entry)
+}
+
+/// The texts that a sender takes for it: one for each record, with its CR.
+pub fn result_texts(alloc: Global, sample: &[u8], value: &[u8]) -> Result<Texts, BuildFault> {
+    let message = result_message(alloc, sample, value)?;
+    Ok(message_texts(alloc, &message)?)
+}

@@ -1,0 +1,13 @@
+//! Checking a capture: whether the computer answered as a receiver does.
+
+use lis_port::{Cut, Slow, Then};
+use lis_tool::{ToolFault, run_replay};
+use std::alloc::Global;
+
+/// Whether each reply in a capture is the one that a receiver gives, and each line is one.
+pub fn is_as_played(alloc: Global, capture: &[u8]) -> Result<bool, ToolFault> {
+    let mut source = Cut::new(capture, 4096, Then::End);
+    let mut sink = Slow::new(131_072, 131_072);
+    let report = run_replay(alloc, &mut source, &mut sink, 1_000_000)?;
+    Ok(report.status == 0)
+}
