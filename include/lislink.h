@@ -204,6 +204,11 @@ void lis_receiver_set_room(lis_receiver *s, bool room);
 uint8_t lis_receiver_set_ready(lis_receiver *s, uint8_t readiness);
 /* Makes room for so many more bytes of text: LIS_OK, LIS_TOO_LONG or LIS_OUT_OF_MEMORY. */
 uint8_t lis_receiver_reserve(lis_receiver *s, uint64_t bytes);
+/* Whether the line is open, and the receiver's timer runs; how many frames were accepted since it was opened; how many
+ * bytes are held of a text that isn't complete. */
+bool lis_receiver_is_open(lis_receiver *s);
+uint64_t lis_receiver_accepted(lis_receiver *s);
+uint64_t lis_receiver_held(lis_receiver *s);
 /* The text that was handed out last, until the next one: its length, and a copy (LIS_TOO_SHORT, and nothing is
  * copied, where the buffer is shorter). */
 size_t lis_receiver_text_len(lis_receiver *s);

@@ -6,7 +6,7 @@ and a receiver are context managers; what a call refuses is a LinkError with its
 import ctypes
 import enum
 import os
-from typing import Iterator, NamedTuple, Optional
+from typing import Iterator, NamedTuple, Optional, Tuple
 
 REPLY, BUSY, CONTENTION, RECEIVER = 15, 10, 1, 30  # the standard's timers, in seconds
 
@@ -108,6 +108,7 @@ _lib = _load()
 _POINTER, _SIZE, _BYTE, _FLAG = ctypes.c_void_p, ctypes.c_size_t, ctypes.c_uint8, ctypes.c_bool
 _CALLS = {
     "frame_write": (_BYTE, _BYTE, _FLAG, ctypes.c_char_p, _SIZE, _POINTER, _POINTER),
+    "scanner_push": (None, _POINTER, _BYTE, _POINTER),
     "scanner_feed": (_SIZE, _POINTER, ctypes.c_char_p, _SIZE, _POINTER),
     "header_read": (_BYTE, ctypes.c_char_p, _SIZE, _POINTER, _POINTER),
     "record_read": (_BYTE, _POINTER, ctypes.c_char_p, _SIZE, _POINTER),
@@ -122,12 +123,16 @@ _CALLS = {
     "sender_phase": (_BYTE, _POINTER),
     "sender_outcome": (_BYTE, _POINTER),
     "sender_acknowledged": (ctypes.c_uint64, _POINTER),
+    "receiver_byte": (None, _POINTER, _BYTE, _POINTER),
     "receiver_hear": (_SIZE, _POINTER, ctypes.c_char_p, _SIZE, _POINTER),
     "receiver_timer": (None, _POINTER, _POINTER),
     "receiver_restart": (None, _POINTER),
     "receiver_set_room": (None, _POINTER, _FLAG),
     "receiver_set_ready": (_BYTE, _POINTER, _BYTE),
     "receiver_reserve": (_BYTE, _POINTER, ctypes.c_uint64),
+    "receiver_is_open": (_FLAG, _POINTER),
+    "receiver_accepted": (ctypes.c_uint64, _POINTER),
+    "receiver_held": (ctypes.c_uint64, _POINTER),
     "receiver_text_len": (_SIZE, _POINTER),
     "receiver_text": (_BYTE, _POINTER, _POINTER, _SIZE),
 }
@@ -236,12 +241,17 @@ class Scanner(_Owner):
 
     def feed(self, data) -> Iterator[Signal]:
         """The signals of further bytes, in order. The bytes are read as the signals are taken."""
-        data, out = bytes(data), _Signal()
-        while data:
-            data = data[self._call("feed", data, len(data), ctypes.byref(out)):]
+        return (signal for _, signal in self.feed_placed(data))
+
+    def feed_placed(self, data) -> Iterator[Tuple[int, Signal]]:
+        """The same, each with the place of the byte that completes it."""
+        data, out, place = bytes(data), _Signal(), 0
+        while place < len(data):
+            rest = data[place:]
+            place += self._call("feed", rest, len(rest), ctypes.byref(out))
             if out.kind:
-                yield Signal(Kind(out.kind), out.number, out.last, FrameFault(out.fault), out.place,
-                             bytes(out.text[:out.len]))
+                yield place - 1, Signal(Kind(out.kind), out.number, out.last, FrameFault(out.fault), out.place,
+                                        bytes(out.text[:out.len]))
 
 
 class Sender(_Owner):
@@ -302,11 +312,16 @@ class Receiver(_Owner):
 
     def hear(self, data) -> Iterator[Step]:
         """The steps of further bytes that mean something, in order. The bytes are heard as the steps are taken."""
-        data, out = bytes(data), _Step()
-        while data:
-            data = data[self._call("hear", data, len(data), ctypes.byref(out)):]
+        return (step for _, step in self.hear_placed(data))
+
+    def hear_placed(self, data) -> Iterator[Tuple[int, Step]]:
+        """The same, each with the place of the byte that it answers."""
+        data, out, place = bytes(data), _Step(), 0
+        while place < len(data):
+            rest = data[place:]
+            place += self._call("hear", rest, len(rest), ctypes.byref(out))
             if out.note:
-                yield self._told(out)
+                yield place - 1, self._told(out)
 
     def timer(self) -> Step:
         out = _Step()
@@ -326,6 +341,18 @@ class Receiver(_Owner):
         status = self._call("reserve", count)
         if status:
             raise LinkError(status)
+
+    @property
+    def is_open(self):
+        return self._call("is_open")
+
+    @property
+    def accepted(self):
+        return self._call("accepted")
+
+    @property
+    def held(self):
+        return self._call("held")
 
     def _told(self, out):
         text = None

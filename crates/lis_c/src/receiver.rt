@@ -9,7 +9,7 @@ ghost use Rattle.lis_c.specs.Steps.{IsNotOutOfMemory, IsOutOfMemory, IsRefused, 
 ghost use Rattle.lis_c.specs.contracts.desk.ReceiverDesk.{the_row as desk_row};
 ghost use Rattle.lis_link.specs.declared.receiver.Readiness.{Readiness};
 ghost use Rattle.lis_link.specs.Receiver.{ReceiverState, on_byte, on_bytes, on_receiver_timer, receiver_restarted};
-ghost use Rattle.lis_link.specs.Receiver.{with_heard, with_readiness, with_room};
+ghost use Rattle.lis_link.specs.Receiver.{held_length, with_heard, with_readiness, with_room};
 ghost use Rattle.lis_link.specs.inside.Stands.{IsIn};
 ghost use Rattle.std.specs.Borrow.{sem};
 ghost use Rattle.std.specs.Mem.{type_size};
@@ -163,6 +163,33 @@ pub extern "C" fn lis_receiver_reserve(s: &mut LisReceiver, bytes: u64) -> u8
         Ok(()) => status::OK,
         Err(_) => status::OUT_OF_MEMORY,
     }
+}
+
+/// Whether the line is open: while it is, the caller runs the receiver's timer.
+#[unsafe(no_mangle)]
+pub extern "C" fn lis_receiver_is_open(s: &mut LisReceiver) -> bool
+    ensures value { (r : ReceiverState) → IsIn 240 s.old.state.receiver r → result ≡ r.is_open }
+    ensures same { s.new.state ≡ s.old.state }
+{
+    s.lend().receiver.is_open()
+}
+
+/// How many frames were accepted since the line was last opened.
+#[unsafe(no_mangle)]
+pub extern "C" fn lis_receiver_accepted(s: &mut LisReceiver) -> u64
+    ensures value { (r : ReceiverState) → IsIn 240 s.old.state.receiver r → result ≡ length r.accepted }
+    ensures same { s.new.state ≡ s.old.state }
+{
+    s.lend().receiver.accepted()
+}
+
+/// How many bytes are held of the text that isn't complete.
+#[unsafe(no_mangle)]
+pub extern "C" fn lis_receiver_held(s: &mut LisReceiver) -> u64
+    ensures value { (r : ReceiverState) → IsIn 240 s.old.state.receiver r → result ≡ held_length r }
+    ensures same { s.new.state ≡ s.old.state }
+{
+    s.lend().receiver.held()
 }
 
 /// The length of the text that was handed out last; 0 before the first.
