@@ -1,4 +1,5 @@
 pub mod CaptureLaws
+pub mod CarriedLaws
 pub mod CheckLaws
 mod CheckRows
 pub mod GatherLaws

@@ -1,13 +1,25 @@
--- The statement of the law of upgrading.
-use Rattle.std.specs.Prelude.{◌≡◌, ℕ, true, false, List, []}
+-- The statements of the laws.
+use Rattle.std.specs.Prelude.{◌≡◌, ℕ, true, false, List, [], Option, None, Some, MatchOption}
+use Rattle.std.specs.List.{AllByRecursion, Contains, flat_map}
 use Rattle.lis_frame.specs.Stream.{stream_with}
 use Rattle.lis_capture.specs.declared.line.CaptureVersion.{CaptureVersion}
 use Rattle.lis_capture.specs.declared.line.CaptureVersion.TheVariants.{Untold, First, Second}
 use Rattle.lis_capture.specs.Capture.{Lines, capture, version_of}
+use Rattle.lis_link.specs.declared.sender.Outcome.TheVariants.{Done}
+use Rattle.lis_message.specs.Feeding.{ReadsWhole}
+use Rattle.lis_message.specs.Stream.{IsCut}
+use Rattle.lis_message.specs.Texts.{FitsInTexts}
+use Rattle.lis_message.specs.Writing.{message_bytes, message_texts_of}
 use Rattle.lis_tool.specs.LineOutcome.{capture_outcome}
 use Rattle.lis_tool.specs.Outcome.{Outcome}
 use Rattle.lis_tool.specs.Replay.{replay_writes_from, texts}
 use Rattle.lis_tool.specs.Upgrade.{upgrade}
+use Rattle.lis_tree.specs.declared.fault.MessageFault.{MessageFault}
+use Rattle.lis_tree.specs.declared.fault.Reason.TheVariants as reasons
+use Rattle.lis_tree.specs.Tree.{IsTree, MessageTree}
+use Rattle.lis_world.specs.declared.event.Event.{Event}
+use Rattle.lis_world.specs.Session.{Session}
+use Rattle.lis_world.specs.Steps.{world}
 
 -- the lines of a whole capture, and the version that they tell
 abbrev pub lines_in : List ℕ → Lines
@@ -37,3 +49,30 @@ UpgradedSaysTheSame =
     × (upgrade (upgrade bytes) ≡ upgrade bytes)
     × (texts limit (upgrade bytes) ≡ texts limit bytes)
     × (replay_from 1 limit (upgrade bytes) ≡ replay_from (number_upgraded (version_in bytes)) limit bytes)
+
+-- ---- messages over the link
+
+-- what a session handed out, one text behind the other
+abbrev pub handed_bytes : Session → List ℕ
+handed_bytes x = flat_map (λ text. text) x.handed
+
+-- A session of the link that is done was started with the texts of these messages, one for each of their records.
+pub record HasCarried (limit : ℕ) (events : List Event) (x : Session) (messages : List MessageTree) : Type 0 where
+  pub session : Contains (world limit events).sessions x
+  pub done : x.outcome ≡ Some Done
+  pub texts : x.texts ≡ flat_map message_texts_of messages
+  pub trees : AllByRecursion IsTree messages
+  pub fit : AllByRecursion FitsInTexts messages
+
+-- Whatever happened on the link, what it handed out is the bytes of the messages, which are cut into them with nothing left.
+abbrev pub CarriesMessages : ℕ → Type 0
+CarriesMessages limit =
+    (events : List Event) (x : Session) (messages : List MessageTree) → HasCarried limit events x messages
+    → (handed_bytes x ≡ flat_map message_bytes messages) × IsCut (handed_bytes x) messages None []
+
+-- And a reader of messages that is fed with it and finished reads these messages, unless it wants memory.
+abbrev pub ReadsCarried : ℕ → Type 0
+ReadsCarried limit =
+    (events : List Event) (x : Session) (messages : List MessageTree) → HasCarried limit events x messages
+    → (read : List MessageTree) (fault : Option MessageFault) → ReadsWhole (handed_bytes x) read fault
+    → MatchOption fault (read ≡ messages) (λ f. f.reason ≡ reasons.OutOfMemory)

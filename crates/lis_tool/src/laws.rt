@@ -1,6 +1,10 @@
-//! A law of the commands, the contract of a function that does nothing.
+//! Laws of the commands and of the whole way of a message, each the contract of a function that does nothing.
 
-ghost use Rattle.lis_tool.specs.Laws.{UpgradedSaysTheSame};
+ghost use Rattle.lis_frame.specs.Limit.{IsLimit};
+ghost use Rattle.lis_tool.specs.Laws.{CarriesMessages, ReadsCarried, UpgradedSaysTheSame};
+
+use lis_message::laws::{one_cut, read_back};
+use lis_world::laws::safe_of;
 
 /// What `upgrade` writes of a capture of which no line is refused is read in version 2, and says the same: upgraded
 /// again it is the same bytes, and it has the same texts and the same replay, with the numbers of lines one higher
@@ -8,3 +12,25 @@ ghost use Rattle.lis_tool.specs.Laws.{UpgradedSaysTheSame};
 pub fn upgraded()
     ensures { UpgradedSaysTheSame }
 {}
+
+/// Over every list of events on the link: where a session is done that was started with the texts of messages, as
+/// `message_texts` gives them, what it handed out is the messages' bytes, and these are cut into them with nothing
+/// left. So `read_messages` reads the same messages of it, unless memory runs out. At every limit on a frame's text.
+pub fn carried_of<const N: usize>()
+    requires { IsLimit N }
+    ensures bytes { CarriesMessages N }
+    ensures read { ReadsCarried N }
+{
+    // It follows from these laws alone.
+    safe_of::<N>();
+    read_back();
+    one_cut();
+}
+
+/// The same with the usual limit on a frame's text.
+pub fn carried()
+    ensures bytes { CarriesMessages 240 }
+    ensures read { ReadsCarried 240 }
+{
+    carried_of::<240>();
+}
