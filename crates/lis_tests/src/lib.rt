@@ -13,6 +13,8 @@ mod link_text;
 #[cfg(test)]
 mod list;
 #[cfg(test)]
+mod loops;
+#[cfg(test)]
 mod memory;
 #[cfg(test)]
 mod message;
