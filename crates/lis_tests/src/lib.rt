@@ -7,6 +7,8 @@ mod capture;
 #[cfg(test)]
 mod commands;
 #[cfg(test)]
+mod faults;
+#[cfg(test)]
 mod field;
 #[cfg(test)]
 mod link_text;
