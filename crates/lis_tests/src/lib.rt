@@ -7,11 +7,15 @@ mod capture;
 #[cfg(test)]
 mod commands;
 #[cfg(test)]
+mod faults;
+#[cfg(test)]
 mod field;
 #[cfg(test)]
 mod link_text;
 #[cfg(test)]
 mod list;
+#[cfg(test)]
+mod loops;
 #[cfg(test)]
 mod memory;
 #[cfg(test)]
