@@ -18,7 +18,8 @@
  * a handle its block; none blocks, prints, aborts or has a variable of its own. Nothing checks a C caller.
  *
  * Memory. A scanner, lis_frame_write and the calls of records take none. A sender takes it in lis_sender_add_text, a receiver for the text
- * that it holds; lis_X_end gives it back. Where memory is refused, the call says so. */
+ * that it holds, and a reader for the bytes of one record; lis_X_end gives it back. Where memory is refused, the call
+ * says so. */
 #ifndef LISLINK_H
 #define LISLINK_H
 
@@ -60,7 +61,8 @@ enum lis_status {
     LIS_NO_RECORD = 9,      /* the text has no byte */
     LIS_BAD_LETTER = 10,    /* the first byte is no letter of such a record, or no field delimiter follows it */
     LIS_BAD_DELIMITERS = 11,  /* the bytes are no four delimiters */
-    LIS_ABSENT = 12         /* there is no such part */
+    LIS_ABSENT = 12,        /* there is no such part */
+    LIS_UNFINISHED = 13     /* a message isn't closed, or a record isn't ended or can't be read */
 };
 
 /* Bytes for the link: the first `len` of `bytes`; 0 where nothing is to be sent. */
@@ -245,6 +247,51 @@ uint8_t lis_header_part(const uint8_t *text, size_t text_len, size_t field, size
                         uint8_t *out, size_t out_len, size_t *size);
 uint8_t lis_record_part(const lis_delimiters *delimiters, const uint8_t *text, size_t text_len, size_t field,
                         size_t repeat, size_t component, uint8_t *out, size_t out_len, size_t *size);
+
+/* ---- Reader: the records of a stream that comes in pieces, each where the message may have it. ---- */
+
+enum lis_found_kind { LIS_NOTHING = 0, LIS_RECORD = 1, LIS_RECORD_REFUSED = 2 };
+
+enum lis_reason {
+    LIS_NO_REASON = 0,
+    LIS_BAD_RECORD = 1,         /* detail: a lis_status; place: the forbidden byte's */
+    LIS_NOT_HEADER = 2,         /* outside a message */
+    LIS_NO_PARENT = 3,          /* detail: the record's letter */
+    LIS_SECOND_HEADER = 4,
+    LIS_MESSAGE_UNFINISHED = 5,
+    LIS_RECORD_TOO_LONG = 6,    /* over 65,536 bytes */
+    LIS_NO_MEMORY = 7           /* memory was refused for bytes that are held */
+};
+
+/* A record has its letter in upper case and the number of its fields. One that can't be read has the reason, and its
+ * number in its message, from 1 for a header. All else is 0. */
+typedef struct lis_found {
+    uint8_t kind;
+    uint8_t letter;
+    uint8_t reason;
+    uint8_t detail;
+    size_t fields;
+    size_t place;
+    uint64_t number;
+} lis_found;
+
+typedef struct lis_reader {
+    void *at;
+} lis_reader;
+
+size_t lis_reader_size(void);
+size_t lis_reader_align(void);
+void lis_reader_init(void *at);
+void lis_reader_end(lis_reader s);
+/* Reads on: the bytes before the first CR, or a CR that stands first, which ends a record; answers how many it read. A
+ * record's parts are had until the next read. A record that can't be read is told, and none of these bytes count as
+ * read: stop there, for the reader gives that fault for good. It holds one record's bytes at most. */
+size_t lis_reader_read(lis_reader *s, const uint8_t *bytes, size_t bytes_len, lis_found *out);
+/* A component of the record that was read last, as by lis_record_part. */
+uint8_t lis_reader_part(lis_reader *s, size_t field, size_t repeat, size_t component, uint8_t *out, size_t out_len,
+                        size_t *size);
+/* The end of the stream: LIS_OK, or LIS_UNFINISHED and `out` has the reason. */
+uint8_t lis_reader_finish(lis_reader *s, lis_found *out);
 
 /* ---- The heap, which the program has to give; examples/c/heap.c makes it of malloc, realloc and free. ----
  *

@@ -3,8 +3,8 @@ import os
 import sys
 
 sys.path.insert(0, os.path.join(os.path.dirname(os.path.dirname(os.path.abspath(__file__))), "examples/python"))
-from lislink import (FrameFault, Kind, LinkError, Note, Outcome, Phase, Readiness, Receiver, Record, Scanner,  # noqa: E402
-                     Sender, Status, frame_bytes, records)
+from lislink import (FrameFault, Kind, LinkError, MessageError, Note, Outcome, Phase, Readiness, Reason,  # noqa: E402
+                     Receiver, Record, Scanner, Sender, Status, frame_bytes, messages, records)
 
 FIRST = bytes.fromhex("0231487c5c5e260d0345350d0a")
 calls = 0
@@ -106,7 +106,35 @@ def of_records():
          [("H", None), ("P", b"1"), ("O", b"1"), ("H", None), ("P", b"2")])
 
 
+def read_error(pieces):
+    """What a stream is refused for."""
+    try:
+        list(messages(pieces))
+    except MessageError as error:
+        return error.number, error.reason, error.detail, error.place
+    return None
+
+
+def of_messages():
+    stream = b"H|\\^&\rP|1\rO|1|S7||^^^GLU\\^^^NA\rR|1|^^^GLU|5&X0D&\rL|1|N\r"
+    for size in (1, 3, len(stream)):
+        pieces = [stream[at:at + size] for at in range(0, len(stream), size)]
+        told = list(messages(pieces + pieces))
+        same([[row.letter for row in rows] for rows in told], [list("HPORL")] * 2)
+        same(told[1][2].fields, [[[b"1"]], [[b"S7"]], [[b""]], [[b"", b"", b"", b"GLU"], [b"", b"", b"", b"NA"]]])
+        same((told[0][3].part(3, 0, 3), told[0][3].part(4), told[0][3].part(5)), (b"GLU", b"5\r", None))
+    same(read_error([b"H|\\^&\rR|1\r"]), (2, Reason.NO_PARENT, ord("R"), 0))
+    same(read_error([b"P|1\r"]), (1, Reason.NOT_HEADER, 0, 0))
+    same(read_error([b"H|\\^&\r", b"H|\\^&\r"]), (2, Reason.SECOND_HEADER, 0, 0))
+    same(read_error([b"H|\\^&\rP|1", b"\x02\r"]), (2, Reason.BAD_RECORD, Status.FORBIDDEN, 3))
+    same(read_error([b"H|\\^&\r\r"]), (2, Reason.BAD_RECORD, Status.NO_RECORD, 0))
+    same(read_error([b"H|\\^&\rP|"]), (2, Reason.UNFINISHED, 0, 0))
+    same(read_error([b"H|\\^&\rP|" + b"1" * 65536]), (2, Reason.TOO_LONG, 0, 0))
+    same(read_error([]), None)
+
+
 of_frames()
+of_messages()
 of_records()
 of_scanner()
 of_sender()

@@ -1,3 +1,4 @@
+#!/usr/bin/env python3
 """An analyzer and a host on a TCP line, over the proved library, with real timers.
 
     line.py host PORT          hears analyzers on 127.0.0.1, one after another, and prints each text

@@ -5,15 +5,16 @@ and a receiver are context managers; what a call refuses is a LinkError with its
 """
 import ctypes
 import enum
+import itertools
 import os
-from typing import Iterator, NamedTuple, Optional, Tuple
+from typing import Iterator, List, NamedTuple, Optional, Tuple
 
 REPLY, BUSY, CONTENTION, RECEIVER = 15, 10, 1, 30  # the standard's timers, in seconds
 
 
 class Status(enum.IntEnum):
     (OK, IN_SESSION, NO_TEXT, TOO_LONG, FORBIDDEN, FULL, OUT_OF_MEMORY, BAD_NUMBER, TOO_SHORT, NO_RECORD, BAD_LETTER,
-     BAD_DELIMITERS, ABSENT) = range(13)
+     BAD_DELIMITERS, ABSENT, UNFINISHED) = range(14)
 
 
 class Kind(enum.IntEnum):
@@ -47,6 +48,18 @@ class LinkError(Exception):
     def __init__(self, status, index=None, place=None):
         super().__init__(Status(status).name, *(one for one in (index, place) if one is not None))
         self.status, self.index, self.place = Status(status), index, place
+
+
+class Reason(enum.IntEnum):
+    NONE, BAD_RECORD, NOT_HEADER, NO_PARENT, SECOND_HEADER, UNFINISHED, TOO_LONG, OUT_OF_MEMORY = range(8)
+
+
+class MessageError(Exception):
+    """A record that can't be read: its number in its message, from 1, why, and what goes with that."""
+
+    def __init__(self, number, reason, detail, place):
+        super().__init__(number, Reason(reason).name, detail, place)
+        self.number, self.reason, self.detail, self.place = number, Reason(reason), detail, place
 
 
 class Signal(NamedTuple):
@@ -94,6 +107,11 @@ class _Delimiters(ctypes.Structure):
     _fields_ = [(name, ctypes.c_uint8) for name in ("field", "repeat", "component", "escape")]
 
 
+class _Found(ctypes.Structure):
+    _fields_ = [(name, ctypes.c_uint8) for name in ("kind", "letter", "reason", "detail")] + [
+        ("fields", ctypes.c_size_t), ("place", ctypes.c_size_t), ("number", ctypes.c_uint64)]
+
+
 class _Record(ctypes.Structure):
     _fields_ = [("letter", ctypes.c_uint8), ("fields", ctypes.c_size_t), ("place", ctypes.c_size_t)]
 
@@ -114,6 +132,9 @@ _CALLS = {
     "record_read": (_BYTE, _POINTER, ctypes.c_char_p, _SIZE, _POINTER),
     "header_part": (_BYTE, ctypes.c_char_p, _SIZE, _SIZE, _SIZE, _SIZE, _POINTER, _SIZE, _POINTER),
     "record_part": (_BYTE, _POINTER, ctypes.c_char_p, _SIZE, _SIZE, _SIZE, _SIZE, _POINTER, _SIZE, _POINTER),
+    "reader_read": (_SIZE, _POINTER, ctypes.c_char_p, _SIZE, _POINTER),
+    "reader_part": (_BYTE, _POINTER, _SIZE, _SIZE, _SIZE, _POINTER, _SIZE, _POINTER),
+    "reader_finish": (_BYTE, _POINTER, _POINTER),
     "sender_add_text": (_BYTE, _POINTER, ctypes.c_char_p, _SIZE),
     "sender_clear": (None, _POINTER),
     "sender_start": (_BYTE, _POINTER, _POINTER, _POINTER),
@@ -136,7 +157,7 @@ _CALLS = {
     "receiver_text_len": (_SIZE, _POINTER),
     "receiver_text": (_BYTE, _POINTER, _POINTER, _SIZE),
 }
-for _kind in ("scanner", "sender", "receiver"):
+for _kind in ("scanner", "sender", "receiver", "reader"):
     _CALLS.update({f"{_kind}_size": (_SIZE,), f"{_kind}_align": (_SIZE,), f"{_kind}_init": (None, _POINTER),
                    f"{_kind}_end": (None, _Handle)})
 
@@ -364,3 +385,73 @@ class Receiver(_Owner):
                 raise LinkError(status)
             text = bytes(copy)
         return Step(bytes([out.reply]) if out.reply else b"", text, Note(out.note), out.detail, out.place)
+
+
+class Row(NamedTuple):
+    """A record of a message: its letter, and its fields as lists of repeats, these as lists of components."""
+    letter: str
+    fields: List[List[List[bytes]]]
+
+    def part(self, field, repeat=0, component=0):
+        """A component; None where there is none. The letter is field 1, a header's delimiters are field 2."""
+        number = field - (3 if self.letter == "H" else 2)
+        try:
+            return None if number < 0 else self.fields[number][repeat][component]
+        except IndexError:
+            return None
+
+
+class Reader(_Owner):
+    """Reads the records of a stream that comes in pieces, each where its message may have it."""
+    _kind = "reader"
+    _LONGEST = 65536
+
+    def __init__(self):
+        super().__init__()
+        self._room = (ctypes.c_uint8 * self._LONGEST)()
+
+    def feed(self, data) -> Iterator[Row]:
+        """The records that further bytes end, in order; MessageError at the first that can't be read."""
+        data, out, place = bytes(data), _Found(), 0
+        while place < len(data):
+            rest = data[place:]
+            place += self._call("read", rest, len(rest), ctypes.byref(out))
+            if out.kind == 2:
+                raise MessageError(out.number, out.reason, out.detail, out.place)
+            if out.kind == 1:
+                letter = chr(out.letter)
+                first = 3 if letter == "H" else 2
+                yield Row(letter, [self._field(first + number) for number in range(out.fields)])
+
+    def finish(self):
+        """The end of the stream: MessageError where a message isn't closed, or a record isn't ended."""
+        out = _Found()
+        if self._call("finish", ctypes.byref(out)):
+            raise MessageError(out.number, out.reason, out.detail, out.place)
+
+    def _field(self, number):
+        return list(_until_none(lambda repeat: list(_until_none(
+            lambda component: self._part(number, repeat, component))) or None))
+
+    def _part(self, *where):
+        size = ctypes.c_size_t()
+        if self._call("part", *where, self._room, self._LONGEST, ctypes.byref(size)):
+            return None
+        return bytes(self._room[:size.value])
+
+
+def _until_none(call):
+    return itertools.takewhile(lambda one: one is not None, map(call, itertools.count()))
+
+
+def messages(pieces) -> Iterator[List[Row]]:
+    """The messages of a stream, each as its records; MessageError where it can't be read, or ends too early."""
+    with Reader() as reader:
+        rows = []
+        for piece in pieces:
+            for row in reader.feed(piece):
+                rows.append(row)
+                if row.letter == "L":
+                    yield rows
+                    rows = []
+        reader.finish()

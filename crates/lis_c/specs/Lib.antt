@@ -4,6 +4,7 @@ pub mod Emitted
 pub mod Feeding
 pub mod Lending
 pub mod New
+pub mod Reading
 pub mod Records
 pub mod Signals
 pub mod Status

@@ -1,5 +1,5 @@
 -- What a new block holds, and what its address is a multiple of.
-use Rattle.std.specs.Prelude.{◌≡◌, ℕ, []}
+use Rattle.std.specs.Prelude.{◌≡◌, ℕ, [], None}
 use Rattle.std.specs.Borrow.{full_share}
 use Rattle.std.specs.Ptr.{Ptr, lies_at}
 use base.Fml.{Fml, fex}
@@ -10,9 +10,12 @@ use Rattle.lis_frame.specs.Scanner.{StandsFor}
 use Rattle.lis_link.specs.Receiver.{new_receiver}
 use Rattle.lis_link.specs.Sender.{new_sender}
 use Rattle.lis_link.specs.inside.Stands.{IsIn}
+use Rattle.lis_message.specs.Records.{HasLeft}
+use Rattle.lis_c.specs.declared.desk.ReaderDesk.{ReaderDesk}
 use Rattle.lis_c.specs.declared.desk.ScannerDesk.{ScannerDesk}
 use Rattle.lis_c.specs.declared.desk.SenderDesk.{SenderDesk}
 use Rattle.lis_c.specs.declared.desk.ReceiverDesk.{ReceiverDesk}
+use Rattle.lis_c.specs.contracts.desk.ReaderDesk as reader_desk
 use Rattle.lis_c.specs.contracts.desk.ScannerDesk as scanner_desk
 use Rattle.lis_c.specs.contracts.desk.SenderDesk as sender_desk
 use Rattle.lis_c.specs.contracts.desk.ReceiverDesk as receiver_desk
@@ -34,6 +37,12 @@ abbrev pub IsNewReceiver : Ptr → Fml
 IsNewReceiver p =
     fex ((d : ReceiverDesk) × IsIn 240 d.receiver new_receiver × (d.text ≡ []))
     (λ d. lies_at receiver_desk.the_row full_share p d.0)
+
+-- a desk with a reader at the start of a stream
+abbrev pub IsNewReader : Ptr → Fml
+IsNewReader p =
+    fex ((d : ReaderDesk) × HasLeft d.reader None)
+    (λ d. lies_at reader_desk.the_row full_share p d.0)
 
 abbrev pub type_align : RattleType → ℕ
 type_align R = align (lone R.mir)

@@ -48,6 +48,10 @@ BAD_DELIMITERS = 11
 abbrev pub ABSENT : ℕ
 ABSENT = 12
 
+-- a message that isn't closed, or a record that isn't ended or can't be read
+abbrev pub UNFINISHED : ℕ
+UNFINISHED = 13
+
 -- bytes are a text, or why they aren't, and the place of the first forbidden byte
 abbrev pub text_status : Option TextFault → ℕ
 text_status None = OK

@@ -9,11 +9,13 @@ ghost use Rattle.lis_link.specs.Receiver.{ReceiverState, new_receiver};
 ghost use Rattle.lis_link.specs.Sender.{new_sender, start_fault, started};
 ghost use Rattle.lis_link.specs.inside.Stands.{IsIn};
 ghost use Rattle.lis_link.specs.declared.sender.EmitOf.TheVariants as Emits;
+ghost use Rattle.lis_message.specs.Records.{HasLeft};
 
 use crate::out::{LisStep, fault_code, fault_place};
 use crate::status;
 use lis_frame::Scanner;
 use lis_link::{Emit, Note, Receiver, Sender, StartFault, StartRefused, Step};
+use lis_message::RecordReader;
 use lis_text::{LinkText, List, MOST_TEXTS, Texts};
 use std::alloc::Global;
 use std::mem;
@@ -39,6 +41,12 @@ pub struct ReceiverDesk {
     pub text: LinkText,
 }
 
+/// A reader of records.
+#[derive(Drop)]
+pub struct ReaderDesk {
+    pub reader: RecordReader,
+}
+
 /// Lets go of all that a desk keeps.
 pub(crate) fn let_go_scanner(_desk: ScannerDesk) {}
 
@@ -47,6 +55,19 @@ pub(crate) fn let_go_sender(_desk: SenderDesk) {}
 
 /// Lets go of all that a desk keeps.
 pub(crate) fn let_go_receiver(_desk: ReceiverDesk) {}
+
+/// Lets go of all that a desk keeps.
+pub(crate) fn let_go_reader(_desk: ReaderDesk) {}
+
+impl ReaderDesk {
+    pub(crate) fn new(alloc: Global) -> Self
+        ensures { HasLeft result.reader None }
+    {
+        ReaderDesk {
+            reader: RecordReader::new(alloc),
+        }
+    }
+}
 
 impl ScannerDesk {
     pub(crate) fn new(_alloc: Global) -> Self

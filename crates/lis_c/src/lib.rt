@@ -6,6 +6,7 @@ mod desk;
 mod feed;
 mod frames;
 mod out;
+mod reader;
 mod receiver;
 mod records;
 mod scanner;

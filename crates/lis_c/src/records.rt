@@ -177,7 +177,7 @@ fn refuse(fault: RecordFault, out: &mut LisRecord) -> u8
 }
 
 /// The status of a text that is no record.
-fn record_status(fault: RecordFault) -> u8
+pub(crate) fn record_status(fault: RecordFault) -> u8
     ensures { result ≡ record_status fault }
 {
     match fault {
@@ -191,7 +191,7 @@ fn record_status(fault: RecordFault) -> u8
 }
 
 /// The place of the byte that no text may hold; 0 for any other fault.
-fn record_place(fault: RecordFault) -> usize
+pub(crate) fn record_place(fault: RecordFault) -> usize
     ensures { result ≡ record_place fault }
 {
     match fault {
@@ -201,7 +201,7 @@ fn record_place(fault: RecordFault) -> usize
 }
 
 /// Copies the bytes of a component.
-fn copy_part(
+pub(crate) fn copy_part(
     entry: &LentRecord<'_>,
     field: usize,
     repeat: usize,

@@ -32,6 +32,8 @@ pub(crate) const BAD_LETTER: u8 = 10;
 pub(crate) const BAD_DELIMITERS: u8 = 11;
 /// There is no such part.
 pub(crate) const ABSENT: u8 = 12;
+/// A message isn't closed, or a record isn't ended, or none can be read any more.
+pub(crate) const UNFINISHED: u8 = 13;
 
 /// The status of bytes that are no text.
 pub(crate) fn text_status(fault: TextFault) -> u8

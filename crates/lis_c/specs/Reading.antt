@@ -1,0 +1,92 @@
+-- What C is told of the records of a stream.
+use Rattle.std.specs.Prelude.{◌≡◌, ℕ, ◌-◌, ◌==◌, List, Option, None, Some, Result, Ok, Err, if◌then◌else◌, length, position, take}
+use Rattle.lis_text.specs.Control.{CR}
+use Rattle.lis_field.specs.Kinds.{letter_of}
+use Rattle.lis_field.specs.Shape.{RecordContent}
+use Rattle.lis_record.specs.Lent.{Lent}
+use Rattle.lis_tree.specs.inside.Begun.{Begun}
+use Rattle.lis_tree.specs.declared.fault.MessageFault.{MessageFault}
+use Rattle.lis_tree.specs.declared.fault.Reason.{Reason}
+use Rattle.lis_tree.specs.declared.fault.Reason.TheVariants as Reasons
+use Rattle.lis_message.specs.declared.records.Found.{Found}
+use Rattle.lis_message.specs.declared.records.Found.TheVariants as founds
+use Rattle.lis_message.specs.inside.Kept.{RecordsState}
+use Rattle.lis_message.specs.Records.{Reads}
+use Rattle.lis_c.specs.Records.{IsPart, part_at, record_place, record_status}
+use Rattle.lis_c.specs.Status.{OK, UNFINISHED, ABSENT}
+use Rattle.lis_c.specs.declared.reader.LisFound.{LisFound}
+
+-- the bytes before the first CR, or a CR that stands first: by the place of the first CR, and how many bytes there are
+abbrev pub piece_by : Option ℕ → ℕ → ℕ
+piece_by None count = count
+piece_by (Some place) count = if place == 0 then 1 else place
+
+abbrev pub piece_length : List ℕ → ℕ
+piece_length bytes = piece_by (position (λ b. b == CR) bytes) (length bytes)
+
+-- why a record can't be read, with the status of its text or the letter of its kind, and the place of a byte
+abbrev pub reason_code : Reason → ℕ
+reason_code (Reasons.BadRecord fault) = 1
+reason_code Reasons.NotHeader = 2
+reason_code (Reasons.NoParent kind) = 3
+reason_code Reasons.SecondHeader = 4
+reason_code Reasons.Unfinished = 5
+reason_code Reasons.RecordTooLong = 6
+reason_code Reasons.OutOfMemory = 7
+
+abbrev pub detail_of : Reason → ℕ
+detail_of (Reasons.BadRecord fault) = record_status fault
+detail_of (Reasons.NoParent kind) = letter_of kind
+detail_of reason = 0
+
+abbrev pub place_of : Reason → ℕ
+place_of (Reasons.BadRecord fault) = record_place fault
+place_of reason = 0
+
+abbrev pub nothing : LisFound
+nothing = record { kind = 0; letter = 0; reason = 0; detail = 0; fields = 0; place = 0; number = 0 }
+
+abbrev pub told_record : RecordContent → LisFound
+told_record content = record nothing { kind = 1; letter = letter_of content.kind; fields = length content.fields }
+
+abbrev pub told_fault : MessageFault → LisFound
+told_fault fault =
+    record nothing {
+      kind = 2;
+      reason = reason_code fault.reason;
+      detail = detail_of fault.reason;
+      place = place_of fault.reason;
+      number = fault.place;
+    }
+
+-- what is told of what was found; a record whose bytes were held is the one that the reader keeps
+abbrev pub IsTold : Found → Option (Lent RecordContent) → LisFound → Type 0
+IsTold founds.Nothing cut out = out ≡ nothing
+IsTold (founds.Record entry) cut out = out ≡ told_record entry.content
+IsTold founds.Held cut out = (entry : Lent RecordContent) → cut ≡ Some entry → out ≡ told_record entry.content
+IsTold (founds.Refused fault) cut out = out ≡ told_fault fault
+
+-- this piece was read, so many bytes of it, and what was found is told
+pub record ReadsAndTells (before after : RecordsState) (left : Option Begun) (piece : List ℕ) (count : ℕ)
+    (out : LisFound) : Type 0 where
+  pub behind : List ℕ
+  pub found : Found
+  pub reads : Reads before after left piece behind found
+  pub count_is : count ≡ length piece - length behind
+  pub told : IsTold found after.cut out
+
+abbrev pub ReadsPiece : RecordsState → RecordsState → Option Begun → List ℕ → ℕ → LisFound → Type 0
+ReadsPiece before after left bytes count out =
+    ReadsAndTells before after left (take (piece_length bytes) bytes) count out
+
+-- a part of the record that was read last
+abbrev pub IsCutPart : Option (Lent RecordContent) → (field repeat component : ℕ) → (status : ℕ) (out : List ℕ)
+    (size : ℕ) → Type 0
+IsCutPart None field repeat component status out size = (status ≡ ABSENT) × (size ≡ 0)
+IsCutPart (Some entry) field repeat component status out size =
+    IsPart (part_at entry.content field repeat component) status out size
+
+-- the end of the stream
+abbrev pub AtEnd : Result (Unit {0}) MessageFault → ℕ → LisFound → Type 0
+AtEnd (Ok done) status out = (status ≡ OK) × (out ≡ nothing)
+AtEnd (Err fault) status out = (status ≡ UNFINISHED) × (out ≡ told_fault fault)

@@ -1,0 +1,286 @@
+//! The reader of records for programs in C: a stream in pieces, each record in its place (LIS02-A2).
+
+ghost use Rattle.std.specs.Prelude.{◌≡◌, ◌==◌, ◌≤◌, ◌<◌, Option, IfSome, length, position};
+ghost use Rattle.lis_c.specs.declared.desk.ReaderDesk.{ReaderDesk};
+ghost use Rattle.lis_c.specs.New.{IsNewReader, type_align};
+ghost use Rattle.lis_c.specs.Reading.{AtEnd, IsCutPart, ReadsAndTells, ReadsPiece};
+ghost use Rattle.lis_c.specs.Reading.{detail_of, nothing, piece_length, place_of, reason_code, told_fault, told_record};
+ghost use Rattle.lis_c.specs.contracts.desk.ReaderDesk.{the_row as desk_row};
+ghost use Rattle.lis_message.specs.Feeding.{at_end};
+ghost use Rattle.lis_message.specs.Records.{HasLeft};
+ghost use Rattle.lis_tree.specs.inside.Begun.{Begun};
+ghost use Rattle.lis_text.specs.Control.{CR};
+ghost use Rattle.std.specs.Borrow.{sem};
+ghost use Rattle.std.specs.Mem.{type_size};
+ghost use Rattle.std.specs.Ptr.{room_at};
+
+use crate::desk::{ReaderDesk, let_go_reader};
+use crate::records::{copy_part, record_place, record_status};
+use crate::status;
+use lis_message::{Found, LentRecord, MessageFault, Reason};
+use lis_text::CR;
+use std::alloc::Global;
+use std::marker::Model;
+use std::mem::{align_of, size_of};
+
+/// What reading on found: 0 nothing, 1 a record, 2 a record that can't be read. A record has its letter in upper case and
+/// the number of its fields; `lis_reader_part` has its parts until the next read. One that can't be read has its number
+/// in its message, from 1 for a header, the reason, and its detail: the status of a text that is no record with the
+/// place of a byte, or the letter of a record without a parent. All else is 0.
+#[repr(C)]
+#[derive(Drop)]
+pub struct LisFound {
+    pub kind: u8,
+    pub letter: u8,
+    pub reason: u8,
+    pub detail: u8,
+    pub fields: usize,
+    pub place: usize,
+    pub number: u64,
+}
+
+/// A reader, kept behind a pointer that C hands back as it got it.
+#[repr(C)]
+pub struct LisReader {
+    at: *mut u8,
+    ghost state: { ReaderDesk },
+}
+
+impl Model for LisReader {
+    ghost use Rattle.std.specs.Borrow.{full_share};
+    ghost use Rattle.std.specs.Ptr.{lies_at};
+    ghost use Rattle.lis_c.specs.contracts.desk.ReaderDesk.{the_row};
+
+    ghost also_owns = { λ h. lies_at the_row full_share h.at h.state };
+}
+
+impl LisReader {
+    ghost use Rattle.lis_c.specs.Lending.{LendsReader};
+    ghost use Rattle.lis_c.specs.Reading.{detail_of, nothing, piece_length, place_of, reason_code, told_fault, told_record};
+    ghost use Rattle.lis_c.specs.contracts.desk.ReaderDesk.{the_row as desk_row};
+    ghost use Rattle.std.specs.Borrow.{full_share, sem};
+    ghost use Rattle.std.specs.Ptr.{lies_at, room_at};
+
+    /// Puts a desk into a block, which is then this handle's.
+    unsafe fn place(at: *mut u8, desk: ReaderDesk)
+        requires* { sem 𝓛 (room_at desk_row at) }
+        ensures* { sem 𝓛 (lies_at desk_row full_share at desk) }
+    {
+        (at as *mut ReaderDesk).write(desk);
+    }
+
+    /// Takes what lies behind the pointer; the block is room again.
+    fn take(self) -> ReaderDesk
+        ensures* room { sem 𝓛 (room_at desk_row self.at) }
+        ensures value { result ≡ self.state }
+    {
+        let LisReader { at } = self;
+        unsafe { (at as *mut ReaderDesk).read() }
+    }
+
+    /// What lies behind the pointer.
+    fn lend(&mut self) -> &mut ReaderDesk
+        ensures* writes_back { sem 𝓛 (LendsReader self.entry result) }
+        ensures value { result.now ≡ self.old.state }
+    {
+        unsafe { &mut *(self.at as *mut ReaderDesk) }
+    }
+}
+
+/// Reads on: the bytes before the first CR, or a CR that stands first, which ends a record; answers how many it read. Of
+/// bytes in which a record is refused none count as read, and the reader then gives that fault for good. Memory may be
+/// refused for bytes that are held, which is told as a fault too.
+#[unsafe(no_mangle)]
+pub extern "C" fn lis_reader_read(s: &mut LisReader, bytes: &[u8], out: &mut LisFound) -> usize
+    ensures { (left : Option Begun) → HasLeft s.old.state.reader left →
+        ReadsPiece s.old.state.reader s.new.state.reader left bytes.now result out.new }
+{
+    let piece = &bytes[..piece_length(bytes)];
+    s.lend().read(piece, out)
+}
+
+/// Copies the bytes of a component of the record that was read last, as `lis_record_part` does.
+#[unsafe(no_mangle)]
+pub extern "C" fn lis_reader_part(
+    s: &mut LisReader,
+    field: usize,
+    repeat: usize,
+    component: usize,
+    out: &mut [u8],
+    size: &mut usize,
+) -> u8
+    ensures part { IsCutPart s.old.state.reader.cut field repeat component result out.new size.new }
+    ensures same { s.new.state ≡ s.old.state }
+{
+    *size = 0;
+    match s.lend().reader.cut() {
+        None => status::ABSENT,
+        Some(entry) => copy_part(&entry, field, repeat, component, out, size),
+    }
+}
+
+/// The end of the stream: `OK`, or `UNFINISHED` where a message isn't closed or a record isn't ended, or the fault that
+/// was met; `out` has it as `lis_reader_read` tells it.
+#[unsafe(no_mangle)]
+pub extern "C" fn lis_reader_finish(s: &mut LisReader, out: &mut LisFound) -> u8
+    ensures read { (left : Option Begun) → HasLeft s.old.state.reader left →
+        AtEnd (at_end left s.old.state.reader.held) result out.new }
+    ensures same { s.new.state ≡ s.old.state }
+{
+    clear(out);
+    match s.lend().reader.finish() {
+        Ok(()) => status::OK,
+        Err(fault) => {
+            refuse(fault, out);
+            status::UNFINISHED
+        }
+    }
+}
+
+impl ReaderDesk {
+    fn read(&mut self, piece: &[u8], out: &mut LisFound) -> usize
+        ensures { (left : Option Begun) → HasLeft self.old.reader left →
+            ReadsAndTells self.old.reader self.new.reader left piece.now result out.new }
+    {
+        clear(out);
+        let (behind, found) = self.reader.read(piece);
+        match found {
+            Found::Nothing => {}
+            Found::Record(entry) => tell(&entry, out),
+            Found::Held => {
+                if let Some(entry) = self.reader.cut() {
+                    tell(&entry, out);
+                }
+            }
+            Found::Refused(fault) => refuse(fault, out),
+        }
+        piece.len().saturating_sub(behind.len())
+    }
+}
+
+/// Ends a reader; its block is the caller's again.
+#[unsafe(no_mangle)]
+pub extern "C" fn lis_reader_end(s: LisReader)
+    ensures* { sem 𝓛 (room_at desk_row s.at) }
+{
+    let_go_reader(s.take());
+}
+
+/// Makes a reader at the start of a stream in a block of the caller's.
+#[unsafe(no_mangle)]
+pub unsafe extern "C" fn lis_reader_init(alloc: Global, at: *mut u8)
+    requires* { sem 𝓛 (room_at desk_row at) }
+    ensures* { sem 𝓛 (IsNewReader at) }
+{
+    LisReader::place(at, ReaderDesk::new(alloc));
+}
+
+const READER_SIZE: usize = size_of::<ReaderDesk>();
+
+const READER_ALIGN: usize = align_of::<ReaderDesk>();
+
+/// The number of bytes of a reader's block.
+#[unsafe(no_mangle)]
+pub extern "C" fn lis_reader_size() -> usize
+    ensures { result ≡ type_size desk_row }
+{
+    READER_SIZE
+}
+
+/// What the address of a reader's block is a multiple of.
+#[unsafe(no_mangle)]
+pub extern "C" fn lis_reader_align() -> usize
+    ensures { result ≡ type_align desk_row }
+{
+    READER_ALIGN
+}
+
+/// How many bytes stand before the first CR; 1 where it stands first.
+fn piece_length(bytes: &[u8]) -> usize
+    ensures count { result ≡ piece_length bytes.now }
+    ensures bound { result ≤ length bytes.now }
+{
+    match first_return(bytes) {
+        None => bytes.len(),
+        Some(place) => { if place == 0 { 1 } else { place } }
+    }
+}
+
+/// The place of the first CR.
+fn first_return(bytes: &[u8]) -> Option<usize>
+    ensures place { result ≡ position (λ b. b == CR) bytes.now }
+    ensures bound { IfSome result (λ place. place < length bytes.now) }
+{
+    bytes.iter().position(|byte| *byte == CR)
+}
+
+/// Tells nothing.
+fn clear(out: &mut LisFound)
+    ensures { out.new ≡ nothing }
+{
+    out.kind = 0;
+    out.letter = 0;
+    out.reason = 0;
+    out.detail = 0;
+    out.fields = 0;
+    out.place = 0;
+    out.number = 0;
+}
+
+/// Tells a record.
+fn tell(entry: &LentRecord<'_>, out: &mut LisFound)
+    requires { out.old ≡ nothing }
+    ensures { out.new ≡ told_record entry.now.content }
+{
+    out.kind = 1;
+    out.letter = entry.kind().letter();
+    out.fields = entry.len();
+}
+
+/// Tells why a record can't be read.
+fn refuse(fault: MessageFault, out: &mut LisFound)
+    requires { out.old ≡ nothing }
+    ensures { out.new ≡ told_fault fault }
+{
+    out.kind = 2;
+    out.number = fault.place;
+    out.reason = reason_code(fault.reason);
+    out.detail = detail_of(fault.reason);
+    out.place = place_of(fault.reason);
+}
+
+/// The code of a reason.
+fn reason_code(reason: Reason) -> u8
+    ensures { result ≡ reason_code reason }
+{
+    match reason {
+        Reason::BadRecord(_) => 1,
+        Reason::NotHeader => 2,
+        Reason::NoParent(_) => 3,
+        Reason::SecondHeader => 4,
+        Reason::Unfinished => 5,
+        Reason::RecordTooLong => 6,
+        Reason::OutOfMemory => 7,
+    }
+}
+
+/// The status of a text that is no record, or the letter of a record without a parent; 0 for any other reason.
+fn detail_of(reason: Reason) -> u8
+    ensures { result ≡ detail_of reason }
+{
+    match reason {
+        Reason::BadRecord(fault) => record_status(fault),
+        Reason::NoParent(kind) => kind.letter(),
+        _ => 0,
+    }
+}
+
+/// The place of the byte that no text may hold; 0 where none is at fault.
+fn place_of(reason: Reason) -> usize
+    ensures { result ≡ place_of reason }
+{
+    match reason {
+        Reason::BadRecord(fault) => record_place(fault),
+        _ => 0,
+    }
+}
