@@ -111,3 +111,22 @@ fn memory_is_taken_before_it_is_used(rt: HostRuntime) -> Result<(), Fail> {
     assert_eq!(rt; record.len(), 1);
     Ok(())
 }
+
+#[test]
+fn a_record_is_made_of_texts_and_copied(rt: HostRuntime) -> Result<(), Fail> {
+    let alloc = rt.alloc();
+    let entry = Record::from_texts(alloc, Kind::R, &[b"1".as_slice(), b"5|4".as_slice()])?;
+    assert_eq!(rt; entry.first_number(), 2);
+    let field = entry.field(3).ok_or("no field 3")?;
+    let text = field.to_text(alloc)?.ok_or("no text")?;
+    assert_eq!(rt; text.as_slice(), b"5|4".as_slice());
+    assert!(rt; field.copy(alloc)? == *field);
+    assert!(rt; entry.copy(alloc)? == entry);
+    assert!(rt; Record::new(alloc, Kind::R) != entry);
+    let mut marked = Component::new(alloc);
+    marked.push(Sym::On)?;
+    assert!(rt; marked.to_text(alloc)?.is_none());
+    let repeat = Repeat::new(alloc, marked)?;
+    assert!(rt; repeat.copy(alloc)? == repeat);
+    Ok(())
+}

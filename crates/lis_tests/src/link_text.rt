@@ -29,3 +29,17 @@ fn a_link_text_is_tested_for_its_length_first(rt: HostRuntime) -> Result<(), Fai
     assert_eq!(rt; check_text(b"A\n"), Err(TextFault::Forbidden(1)));
     Ok(())
 }
+
+#[test]
+fn texts_are_made_of_slices_and_copied(rt: HostRuntime) -> Result<(), Fail> {
+    let alloc = rt.alloc();
+    let slices = [b"AB".as_slice(), b"".as_slice(), b"C".as_slice()];
+    let texts = Texts::from_slices(alloc, &slices)?;
+    assert_eq!(rt; texts.len(), 3);
+    for (text, slice) in texts.as_slice().iter().zip(&slices) {
+        assert_eq!(rt; text.as_slice(), *slice);
+    }
+    assert!(rt; texts.copy(alloc)? == texts);
+    assert!(rt; Texts::new(alloc) != texts);
+    Ok(())
+}
