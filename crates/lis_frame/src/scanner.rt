@@ -115,7 +115,7 @@ impl<const N: usize> Model for ScannerOf<N> {
 pub type Scanner = ScannerOf<240>;
 
 impl<const N: usize> ScannerOf<N> {
-    /// A scanner that has read no byte.
+    /// A scanner that has read no byte. `N` is a limit on a frame's text, from 240 to 63,993 bytes.
     pub fn new() -> Self
         requires { IsLimit N }
         ensures { StandsFor N result [] }

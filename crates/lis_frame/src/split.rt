@@ -18,7 +18,7 @@ pub type FramesOf<const N: usize> = List<FrameOf<N>>;
 /// Frames with the usual limit.
 pub type Frames = FramesOf<240>;
 
-/// The number behind a number: 7 is followed by 0.
+/// The number behind a frame's number, which is 7 at most: 7 is followed by 0 (LIS01-A2, 6.3).
 pub fn next_number(number: u8) -> u8
     requires { number ≤ 7 }
     ensures value { result ≡ (number + 1) % 8 }
@@ -28,7 +28,10 @@ pub fn next_number(number: u8) -> u8
 }
 
 /// The frame of this number that carries the piece of a text at an offset: `N` bytes, or those that
-/// are left; it is the last where no byte follows.
+/// are left; it is the last where no byte follows (LIS01-A2, 6.3).
+///
+/// The text is a link text (`lis_text::check_text`), the number 7 at most, and the offset a multiple of `N` that is 0
+/// or within the text. `N` is a limit, from 240 to 63,993.
 pub fn split_at_of<const N: usize>(text: &LinkText, offset: usize, number: u8) -> FrameOf<N>
     requires limit { IsLimit N }
     requires text { text_fault longest_text text.now ≡ None }
@@ -68,7 +71,9 @@ pub fn split_at(text: &LinkText, offset: usize, number: u8) -> Frame
     split_at_of(text, offset, number)
 }
 
-/// All frames of a text, the first of this number. The error is want of memory.
+/// All frames of a text, the first of this number (LIS01-A2, 6.3). The error is want of memory.
+///
+/// The text is a link text (`lis_text::check_text`), and the number 7 at most. `N` is a limit, from 240 to 63,993.
 pub fn split_all_of<const N: usize>(
     alloc: Global,
     text: &LinkText,

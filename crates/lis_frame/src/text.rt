@@ -33,7 +33,8 @@ impl<const N: usize> Model for TextOf<N> {
 pub type Text = TextOf<240>;
 
 impl<const N: usize> TextOf<N> {
-    /// The text of these bytes. Its length is tested first, then its bytes from the front.
+    /// The text of these bytes. Its length is tested first, then its bytes from the front. `N` is a limit, from 240 to
+    /// 63,993.
     pub fn from_slice(bytes: &[u8]) -> Result<Self, TextFault>
         requires { IsLimit N }
         ensures { MatchResult result (λ text. (text ≡ bytes.now) × (text_fault N bytes.now ≡ None))

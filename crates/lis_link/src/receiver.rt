@@ -115,7 +115,8 @@ impl Step {
 }
 
 impl<const N: usize> ReceiverOf<N> {
-    /// A receiver that is neutral and ready, and has room. It reserves nothing.
+    /// A receiver that is neutral and ready, and has room. It reserves nothing. `N` is a limit on a frame's text,
+    /// from 240 to 63,993 bytes.
     pub fn new(alloc: Global) -> Self
         requires { IsLimit N }
         ensures { IsIn N result new_receiver }
@@ -167,7 +168,7 @@ impl<const N: usize> ReceiverOf<N> {
         self.line.timer()
     }
 
-    /// Makes room for `bytes` more bytes of held text, so that taking them takes no memory. Where
+    /// Makes room for `bytes` more bytes of held text, at most 1,048,576, so that taking them takes no memory. Where
     /// memory is refused the receiver is as before.
     pub fn reserve(&mut self, bytes: u64) -> Result<(), AllocError>
         requires { bytes ≤ longest_text }

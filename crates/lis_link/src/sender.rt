@@ -119,7 +119,7 @@ impl<const N: usize> Model for SenderOf<N> {
 pub type Sender = SenderOf<240>;
 
 impl<const N: usize> SenderOf<N> {
-    /// A sender that was never started.
+    /// A sender that was never started. `N` is a limit on a frame's text, from 240 to 63,993 bytes.
     pub fn new() -> Self
         requires { IsLimit N }
         ensures { result ≡ new_sender }

@@ -72,6 +72,9 @@ fn write_records<W: Sink>(
 /// Writes a message from the record at a place on, from 1 for the header, without the first `skip` bytes of that one.
 /// All records are tested before any byte is written. Where the sink fails, the count is that of the record at the
 /// fault's place, with what was skipped of it.
+///
+/// The sink has not failed, the message has a record at the place, and no more bytes are skipped than that one has.
+/// What `MessageWriteFault::resume` gives is such a place and such a count.
 pub fn write_message_from<W: Sink>(
     sink: &mut W,
     message: &Message,
@@ -96,7 +99,8 @@ pub fn write_message_from<W: Sink>(
     write_records(sink, message.delimiters(), walk, place, skip)
 }
 
-/// Writes a message: its records' spellings, CR after each. All records are tested before any byte is written.
+/// Writes a message to a sink that has not failed: its records' spellings, CR after each. All records are tested before
+/// any byte is written.
 pub fn write_message<W: Sink>(sink: &mut W, message: &Message) -> Result<(), MessageWriteFault>
     requires { W.failed sink.old ≡ false }
     ensures wrote { WroteMessage message.now 1 0 (W.taken sink.old) (W.taken sink.new) result }

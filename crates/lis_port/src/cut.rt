@@ -50,7 +50,8 @@ impl<'a> Model for Cut<'a> {
 }
 
 impl<'a> Cut<'a> {
-    /// A source that was never read, over `bytes`, and behind them what `then` says.
+    /// A source that was never read, over `bytes`, and behind them what `then` says. `step`, the most bytes that a read
+    /// gives, is at least 1.
     pub fn new(bytes: &'a [u8], step: usize, then: Then) -> Self
         requires { 1 ≤ step }
         ensures value { result ≡ new_cut bytes.now step then }

@@ -33,7 +33,8 @@ impl Model for Slow {
 }
 
 impl Slow {
-    /// A sink that has taken nothing and has not failed.
+    /// A sink that has taken nothing and has not failed. `room`, the bytes that it takes in all, is at most 131,072,
+    /// and `step`, the most that a write takes, at least 1.
     pub fn new(room: usize, step: usize) -> Self
         requires fits { room ≤ 131072 }
         requires moves { 1 ≤ step }

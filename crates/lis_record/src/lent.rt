@@ -135,7 +135,7 @@ impl<'a> LentField<'a> {
         read_field(alloc, self.delimiters, self.text)
     }
 
-    /// Writes the field's spelling, of any length and without memory.
+    /// Writes the field's spelling, of any length and without memory, to a sink that has not failed.
     ///
     /// On `Io(count)` the sink failed, and the first `count` bytes are out; the count stops at
     /// 18,446,744,073,709,551,615. There is no other fault.

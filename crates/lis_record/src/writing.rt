@@ -222,7 +222,8 @@ pub fn check_record(delimiters: &Delimiters, entry: &Record) -> Result<(), Write
     Ok(())
 }
 
-/// Writes a record's spelling and CR, without the first `skip` bytes of these.
+/// Writes a record's spelling and CR, without the first `skip` bytes of these, to a sink that has not failed. No more
+/// bytes are skipped than there are.
 ///
 /// `CharNotText` and `TooLong` are those of `check_record`, and then nothing was written. On `Io(count)` the
 /// sink failed, and the first `count` bytes of the spelling and CR, those that were skipped among them, are out.
@@ -247,7 +248,7 @@ pub fn write_record_from<W: Sink>(
     send(sink, &mut chunk, &mut cursor, left, skip)
 }
 
-/// Writes a record's spelling and CR.
+/// Writes a record's spelling and CR to a sink that has not failed.
 ///
 /// `CharNotText` and `TooLong` are those of `check_record`, and then nothing was written. On `Io(count)` the
 /// sink failed, and the first `count` bytes of the spelling and CR are out. Nothing is tried again.
@@ -264,7 +265,7 @@ pub fn write_record<W: Sink>(
     write_record_from(sink, delimiters, entry, 0)
 }
 
-/// Writes a field's spelling alone, of any length.
+/// Writes a field's spelling alone, of any length, to a sink that has not failed.
 ///
 /// `CharNotText(0)`, where it has a `Char` that is no text byte: then nothing was written. On `Io(count)` the
 /// sink failed, and the first `count` bytes are out; the count stops at 18,446,744,073,709,551,615.
@@ -286,7 +287,7 @@ pub fn put_field<W: Sink>(
     send(sink, &mut chunk, &mut cursor, 0, 0)
 }
 
-/// Writes a field's spelling alone.
+/// Writes a field's spelling alone to a sink that has not failed.
 ///
 /// `CharNotText(0)`, where it has a `Char` that is no text byte; else `TooLong`, where the spelling has over
 /// 65,536 bytes: then nothing was written. On `Io(count)` the sink failed, and the first `count` bytes are out.

@@ -24,6 +24,8 @@ use std::alloc::{AllocError, Global};
 /// Reads record text and writes for each message its number, a line for each of its records and one for each finding on
 /// their sequence numbers; where a record is refused, or the end of the input comes before that of a message, its place
 /// and the reason; and a last line with the sums. The status is 1 where there is a finding or a refusal.
+///
+/// The source was never read, and neither it nor the sink has failed.
 pub fn run_check<R: Source, W: Sink>(
     alloc: Global,
     source: &mut R,

@@ -64,7 +64,7 @@ pub struct Lines<C> {
 }
 
 impl<C: LineMachine> Lines<C> {
-    /// A reader at the start of a capture.
+    /// A reader at the start of a capture, with a command that was told no line.
     pub fn new(command: C) -> Self
         requires { C.stands command [] }
         ensures { IsLined C.writes (C.stands result.command) result.reader [] [] }

@@ -144,7 +144,7 @@ pub struct Messages<C> {
 }
 
 impl<C: MessageMachine> Messages<C> {
-    /// A reader at the start of a stream.
+    /// A reader at the start of a stream, with a command that was told no message.
     pub fn new(alloc: Global, command: C) -> Self
         requires { C.stands command [] None }
         ensures { IsReadingMessages C.writes (C.stands result.told.command) result.reader result.told.count [] [] }

@@ -27,6 +27,8 @@ const TEXT_LINE_ROOM: usize = 100;
 /// Plays a capture to a new receiver whose frames have at most `N` bytes of text (LIS01-A2, 6.3): it hears what the
 /// analyzer sent, and what it replies is compared with what the computer sent. A line tells each text that it hands
 /// out and each difference, and a last one their counts; the status is 1 where there is a difference.
+///
+/// The source was never read, and neither it nor the sink has failed.
 pub fn run_replay_of<const N: usize, R: Source, W: Sink>(
     alloc: Global,
     source: &mut R,
@@ -48,6 +50,8 @@ pub fn run_replay_of<const N: usize, R: Source, W: Sink>(
 }
 
 /// The same with the usual limit of 240 bytes.
+///
+/// The source was never read, and neither it nor the sink has failed.
 pub fn run_replay<R: Source, W: Sink>(
     alloc: Global,
     source: &mut R,

@@ -19,6 +19,8 @@ use std::alloc::Global;
 /// Runs a command from the source to the sink, by at most `reads` calls of read; with `long` for
 /// frames of up to 63,993 bytes of text. What it writes and its faults are those of the command's own
 /// function.
+///
+/// The source was never read, and neither it nor the sink has failed.
 pub fn run_command<R: Source, W: Sink>(
     alloc: Global,
     command: Command,

@@ -27,6 +27,8 @@ const FRAME_ROOM: usize = 100;
 /// that no line waits with it, and where the run ends. The faults are those of the source and the sink and
 /// too many reads; what went out by then is the text of the bytes read, and where the sink failed as
 /// much of it as is told.
+///
+/// The source was never read, and neither it nor the sink has failed.
 pub fn run_show_of<const N: usize, R: Source, W: Sink>(
     source: &mut R,
     sink: &mut W,
@@ -43,6 +45,8 @@ pub fn run_show_of<const N: usize, R: Source, W: Sink>(
 }
 
 /// The same with the usual limit.
+///
+/// The source was never read, and neither it nor the sink has failed.
 pub fn run_show<R: Source, W: Sink>(
     source: &mut R,
     sink: &mut W,

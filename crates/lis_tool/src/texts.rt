@@ -16,6 +16,8 @@ use std::alloc::Global;
 
 /// Plays a capture to a new receiver whose frames have at most `N` bytes of text (LIS01-A2, 6.3): it hears what the
 /// analyzer sent, and each text that it hands out is written as it stands, with nothing between them.
+///
+/// The source was never read, and neither it nor the sink has failed.
 pub fn run_texts_of<const N: usize, R: Source, W: Sink>(
     alloc: Global,
     source: &mut R,
@@ -37,6 +39,8 @@ pub fn run_texts_of<const N: usize, R: Source, W: Sink>(
 }
 
 /// The same with the usual limit of 240 bytes.
+///
+/// The source was never read, and neither it nor the sink has failed.
 pub fn run_texts<R: Source, W: Sink>(
     alloc: Global,
     source: &mut R,

@@ -18,6 +18,8 @@ use lis_port::{Sink, Source};
 
 /// Writes a capture as one of version 2: the line `capture 2`, and then each of its lines, with digits in
 /// lower case and without CR. Where a line is none, the lines before it are written. It takes no memory.
+///
+/// The source was never read, and neither it nor the sink has failed.
 pub fn run_upgrade<R: Source, W: Sink>(
     source: &mut R,
     sink: &mut W,

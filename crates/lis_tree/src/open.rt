@@ -38,7 +38,7 @@ impl Model for OpenMessage {
 }
 
 impl OpenMessage {
-    /// The message that begins with this header.
+    /// The message that begins with this header, an H record.
     pub fn new(alloc: Global, delimiters: Delimiters, header: Record) -> Self
         requires { header.kind ≡ kinds.H }
         ensures { result ≡ record { delimiters = delimiters; records = header ∷ [] } }
@@ -94,7 +94,7 @@ impl OpenMessage {
         })
     }
 
-    /// The message that this record closes.
+    /// The message that this record, an L record, closes.
     pub fn closed(self, alloc: Global, closing: Record) -> Result<Message, AllocError>
         requires { closing.kind ≡ kinds.L }
         ensures delimiters { IfOk result (λ m. m.delimiters ≡ self.delimiters) }
