@@ -5,6 +5,8 @@
 #[cfg(test)]
 mod capture;
 #[cfg(test)]
+mod carried;
+#[cfg(test)]
 mod commands;
 #[cfg(test)]
 mod faults;
