@@ -17,9 +17,9 @@
  * That is all: no call asks for a length, a number or an order of calls. No call keeps a pointer of the caller's but
  * a handle its block; none blocks, prints, aborts or has a variable of its own. Nothing checks a C caller.
  *
- * Memory. A scanner, lis_frame_write and the calls of records take none. A sender takes it in lis_sender_add_text, a receiver for the text
- * that it holds, and a reader for the bytes of one record; lis_X_end gives it back. Where memory is refused, the call
- * says so. */
+ * Memory. A scanner, lis_frame_write and the calls of records take none. A sender takes it in lis_sender_add_text, a
+ * receiver for the text that it holds, a reader for the bytes of one record, and a writer for the record that is begun
+ * and the texts of those that are put; lis_X_end gives it back. Where memory is refused, the call says so. */
 #ifndef LISLINK_H
 #define LISLINK_H
 
@@ -58,11 +58,14 @@ enum lis_status {
     LIS_OUT_OF_MEMORY = 6,  /* memory was refused */
     LIS_BAD_NUMBER = 7,     /* the number is none that is known */
     LIS_TOO_SHORT = 8,      /* the buffer is too short */
-    LIS_NO_RECORD = 9,      /* the text has no byte */
-    LIS_BAD_LETTER = 10,    /* the first byte is no letter of such a record, or no field delimiter follows it */
+    LIS_NO_RECORD = 9,      /* the text has no byte, or no record is begun */
+    LIS_BAD_LETTER = 10,    /* the byte is no letter of such a record, or no field delimiter follows it */
     LIS_BAD_DELIMITERS = 11,  /* the bytes are no four delimiters */
     LIS_ABSENT = 12,        /* there is no such part */
-    LIS_UNFINISHED = 13     /* a message isn't closed, or a record isn't ended or can't be read */
+    LIS_UNFINISHED = 13,    /* a message isn't closed, or a record or a field isn't ended, or none can be read */
+    LIS_PUT_NOT_HEADER = 14,    /* outside a message a header comes first */
+    LIS_PUT_NO_PARENT = 15,     /* an order stands under a patient, a result under an order */
+    LIS_PUT_SECOND_HEADER = 16  /* the message has its header */
 };
 
 /* Bytes for the link: the first `len` of `bytes`; 0 where nothing is to be sent. */
@@ -292,6 +295,33 @@ uint8_t lis_reader_part(lis_reader *s, size_t field, size_t repeat, size_t compo
                         size_t *size);
 /* The end of the stream: LIS_OK, or LIS_UNFINISHED and `out` has the reason. */
 uint8_t lis_reader_finish(lis_reader *s, lis_found *out);
+
+/* ---- Writer: records by their fields in, link texts out. Delimiters in a field's bytes are escaped. ---- */
+
+typedef struct lis_writer {
+    void *at;
+} lis_writer;
+
+size_t lis_writer_size(void);
+size_t lis_writer_align(void);
+/* A new writer is outside a message, and has the usual delimiters. */
+void lis_writer_init(void *at);
+void lis_writer_end(lis_writer s);
+/* Lets go of all that was written, and begins with these delimiters: LIS_OK or LIS_BAD_DELIMITERS. */
+uint8_t lis_writer_start(lis_writer *s, const lis_delimiters *delimiters);
+/* Begins a record by the letter of its kind: LIS_OK or LIS_BAD_LETTER. One that isn't put is let go. */
+uint8_t lis_writer_record(lis_writer *s, uint8_t letter);
+/* A component of the record's next field that isn't its last, and the last one, which ends the field: LIS_OK,
+ * LIS_NO_RECORD, or LIS_OUT_OF_MEMORY, and then the record is let go: begin it again. */
+uint8_t lis_writer_component(lis_writer *s, const uint8_t *bytes, size_t bytes_len);
+uint8_t lis_writer_field(lis_writer *s, const uint8_t *bytes, size_t bytes_len);
+/* Puts the record's text behind the others: LIS_OK, else nothing has changed: LIS_NO_RECORD, LIS_UNFINISHED,
+ * LIS_PUT_NOT_HEADER, LIS_PUT_SECOND_HEADER, LIS_PUT_NO_PARENT, LIS_FORBIDDEN and `field` is the number of the first
+ * field at fault, LIS_TOO_LONG, LIS_FULL or LIS_OUT_OF_MEMORY. Behind a closing record the next message begins. */
+uint8_t lis_writer_put(lis_writer *s, size_t *field);
+/* The texts, one for each record, each with its CR; a text's place is from 0: LIS_OK, LIS_ABSENT or LIS_TOO_SHORT. */
+size_t lis_writer_texts(lis_writer *s);
+uint8_t lis_writer_text(lis_writer *s, size_t place, uint8_t *out, size_t out_len, size_t *size);
 
 /* ---- The heap, which the program has to give; examples/c/heap.c makes it of malloc, realloc and free. ----
  *

@@ -4,7 +4,7 @@ import sys
 
 sys.path.insert(0, os.path.join(os.path.dirname(os.path.dirname(os.path.abspath(__file__))), "examples/python"))
 from lislink import (FrameFault, Kind, LinkError, MessageError, Note, Outcome, Phase, Readiness, Reason,  # noqa: E402
-                     Receiver, Record, Scanner, Sender, Status, frame_bytes, messages, records)
+                     Receiver, Record, Scanner, Sender, Status, Writer, frame_bytes, messages, records)
 
 FIRST = bytes.fromhex("0231487c5c5e260d0345350d0a")
 calls = 0
@@ -64,6 +64,23 @@ def of_sender():
         same(sender.start(), b"\x05")
         sender.restart()
         same((sender.phase, sender.outcome, sender.seconds), (Phase.NEUTRAL, Outcome.RESTARTED, None))
+
+
+def of_writer():
+    with Writer() as writer:
+        refused(lambda: writer.record("P", [b"1"]), Status.PUT_NOT_HEADER)
+        refused(lambda: writer.record("x", []), Status.BAD_LETTER)
+        writer.record("H", [b"", b"", b"analyzer"])
+        refused(lambda: writer.record("H", []), Status.PUT_SECOND_HEADER)
+        refused(lambda: writer.record("R", [b"1"]), Status.PUT_NO_PARENT)
+        writer.record("P", [b"1"])
+        writer.record("O", [b"1", b"S7", b"", [b"", b"", b"", b"GLU"]])
+        refused(lambda: writer.record("R", [b"1", b"a\nb"]), Status.FORBIDDEN, None, 3)
+        writer.record("R", [b"1", [b"", b"", b"", b"GLU"], b"5.4", b"a|b&c"])
+        writer.record("L", [b"1", b"N"])
+        same(writer.texts(), [b"H|\\^&|||analyzer\r", b"P|1\r", b"O|1|S7||^^^GLU\r", b"R|1|^^^GLU|5.4|a&F&b&E&c\r",
+                              b"L|1|N\r"])
+        same([row.letter for row in records(writer.texts())], ["H", "P", "O", "R", "L"])
 
 
 def of_receiver():
@@ -138,5 +155,6 @@ of_messages()
 of_records()
 of_scanner()
 of_sender()
+of_writer()
 of_receiver()
 print(f"{calls} calls")

@@ -1,33 +1,7 @@
 /* Each allocation of a session refused in turn: what was refused is told, nothing leaks, and the session can be had. */
-#include "lislink.h"
+#include "refusing_heap.h"
 #include <stdio.h>
-#include <stdlib.h>
 #include <string.h>
-
-/* A heap that refuses one call. */
-static size_t calls, live, refused_at;
-
-static rattle_tried tell(void *p) {
-    rattle_tried answer = {p != NULL, p != NULL ? (uint8_t *)p : (uint8_t *)&calls};
-    return answer;
-}
-
-rattle_tried rattle_alloc(size_t size, size_t align) {
-    if (++calls == refused_at)
-        return tell(NULL);
-    live++;
-    return tell(malloc(size != 0 ? size : align));
-}
-
-rattle_tried rattle_realloc(uint8_t *p, size_t kept, size_t size, size_t align) {
-    (void)kept;
-    return tell(++calls == refused_at ? NULL : realloc(p, size != 0 ? size : align));
-}
-
-void rattle_dealloc(uint8_t *p) {
-    live--;
-    free(p);
-}
 
 static char long_text[600];
 static size_t added, refused_adds, refused_frames, handed_out;

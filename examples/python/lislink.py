@@ -14,7 +14,8 @@ REPLY, BUSY, CONTENTION, RECEIVER = 15, 10, 1, 30  # the standard's timers, in s
 
 class Status(enum.IntEnum):
     (OK, IN_SESSION, NO_TEXT, TOO_LONG, FORBIDDEN, FULL, OUT_OF_MEMORY, BAD_NUMBER, TOO_SHORT, NO_RECORD, BAD_LETTER,
-     BAD_DELIMITERS, ABSENT, UNFINISHED) = range(14)
+     BAD_DELIMITERS, ABSENT, UNFINISHED, PUT_NOT_HEADER, PUT_NO_PARENT,
+     PUT_SECOND_HEADER) = range(17)
 
 
 class Kind(enum.IntEnum):
@@ -135,6 +136,13 @@ _CALLS = {
     "reader_read": (_SIZE, _POINTER, ctypes.c_char_p, _SIZE, _POINTER),
     "reader_part": (_BYTE, _POINTER, _SIZE, _SIZE, _SIZE, _POINTER, _SIZE, _POINTER),
     "reader_finish": (_BYTE, _POINTER, _POINTER),
+    "writer_start": (_BYTE, _POINTER, _POINTER),
+    "writer_record": (_BYTE, _POINTER, _BYTE),
+    "writer_component": (_BYTE, _POINTER, ctypes.c_char_p, _SIZE),
+    "writer_field": (_BYTE, _POINTER, ctypes.c_char_p, _SIZE),
+    "writer_put": (_BYTE, _POINTER, _POINTER),
+    "writer_texts": (_SIZE, _POINTER),
+    "writer_text": (_BYTE, _POINTER, _SIZE, _POINTER, _SIZE, _POINTER),
     "sender_add_text": (_BYTE, _POINTER, ctypes.c_char_p, _SIZE),
     "sender_clear": (None, _POINTER),
     "sender_start": (_BYTE, _POINTER, _POINTER, _POINTER),
@@ -157,7 +165,7 @@ _CALLS = {
     "receiver_text_len": (_SIZE, _POINTER),
     "receiver_text": (_BYTE, _POINTER, _POINTER, _SIZE),
 }
-for _kind in ("scanner", "sender", "receiver", "reader"):
+for _kind in ("scanner", "sender", "receiver", "reader", "writer"):
     _CALLS.update({f"{_kind}_size": (_SIZE,), f"{_kind}_align": (_SIZE,), f"{_kind}_init": (None, _POINTER),
                    f"{_kind}_end": (None, _Handle)})
 
@@ -442,6 +450,36 @@ class Reader(_Owner):
 
 def _until_none(call):
     return itertools.takewhile(lambda one: one is not None, map(call, itertools.count()))
+
+
+class Writer(_Owner):
+    """Writes records by their fields, each bytes or a list of components, as link texts."""
+    _kind = "writer"
+    _LONGEST = 65537
+
+    def record(self, letter, fields):
+        """Puts a record behind the others; LinkError with the status, and the number of a field at fault as place."""
+        self._check(self._call("record", ord(letter)))
+        for field in fields:
+            *parts, last = [field] if isinstance(field, (bytes, bytearray)) else field
+            for part in parts:
+                self._check(self._call("component", bytes(part), len(part)))
+            self._check(self._call("field", bytes(last), len(last)))
+        place = ctypes.c_size_t()
+        self._check(self._call("put", ctypes.byref(place)), place)
+
+    def texts(self) -> List[bytes]:
+        """The text of each record, with its CR."""
+        room, size, texts = (ctypes.c_uint8 * self._LONGEST)(), ctypes.c_size_t(), []
+        for place in range(self._call("texts")):
+            self._check(self._call("text", place, room, self._LONGEST, ctypes.byref(size)))
+            texts.append(bytes(room[:size.value]))
+        return texts
+
+    @staticmethod
+    def _check(status, place=None):
+        if status:
+            raise LinkError(Status(status), place=place.value or None if place is not None else None)
 
 
 def messages(pieces) -> Iterator[List[Row]]:

@@ -9,3 +9,4 @@ pub mod Records
 pub mod Signals
 pub mod Status
 pub mod Steps
+pub mod Writing

@@ -12,6 +12,9 @@ use Rattle.lis_link.specs.Sender.{new_sender}
 use Rattle.lis_link.specs.inside.Stands.{IsIn}
 use Rattle.lis_message.specs.Records.{HasLeft}
 use Rattle.lis_c.specs.declared.desk.ReaderDesk.{ReaderDesk}
+use Rattle.lis_field.specs.Delimiters.{usual}
+use Rattle.lis_c.specs.declared.draft.WriterDesk.{WriterDesk}
+use Rattle.lis_c.specs.contracts.draft.WriterDesk as writer_desk
 use Rattle.lis_c.specs.declared.desk.ScannerDesk.{ScannerDesk}
 use Rattle.lis_c.specs.declared.desk.SenderDesk.{SenderDesk}
 use Rattle.lis_c.specs.declared.desk.ReceiverDesk.{ReceiverDesk}
@@ -43,6 +46,12 @@ abbrev pub IsNewReader : Ptr → Fml
 IsNewReader p =
     fex ((d : ReaderDesk) × HasLeft d.reader None)
     (λ d. lies_at reader_desk.the_row full_share p d.0)
+
+-- a desk outside a message with the usual delimiters, and no text
+abbrev pub IsNewWriter : Ptr → Fml
+IsNewWriter p =
+    fex ((d : WriterDesk) × (d.delimiters ≡ usual) × (d.standing ≡ None) × (d.draft ≡ None) × (d.texts ≡ []))
+    (λ d. lies_at writer_desk.the_row full_share p d.0)
 
 abbrev pub type_align : RattleType → ℕ
 type_align R = align (lone R.mir)

@@ -52,6 +52,16 @@ ABSENT = 12
 abbrev pub UNFINISHED : ℕ
 UNFINISHED = 13
 
+-- a record that isn't a header outside a message; one without its parent; a header inside a message
+abbrev pub PUT_NOT_HEADER : ℕ
+PUT_NOT_HEADER = 14
+
+abbrev pub PUT_NO_PARENT : ℕ
+PUT_NO_PARENT = 15
+
+abbrev pub PUT_SECOND_HEADER : ℕ
+PUT_SECOND_HEADER = 16
+
 -- bytes are a text, or why they aren't, and the place of the first forbidden byte
 abbrev pub text_status : Option TextFault → ℕ
 text_status None = OK

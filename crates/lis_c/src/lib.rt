@@ -3,6 +3,7 @@
 #![tactic(auto)]
 
 mod desk;
+mod draft;
 mod feed;
 mod frames;
 mod out;
@@ -12,3 +13,4 @@ mod records;
 mod scanner;
 mod sender;
 mod status;
+mod writer;

@@ -141,7 +141,7 @@ pub extern "C" fn lis_record_part(
 }
 
 /// The delimiters that four bytes are.
-fn known(delimiters: &LisDelimiters) -> Option<Delimiters>
+pub(crate) fn known(delimiters: &LisDelimiters) -> Option<Delimiters>
     ensures some { IfSome result (λ known. (known ≡ delimiters_in delimiters.now) × IsDelimiters known) }
     ensures none { IfNone result (IsDelimiters (delimiters_in delimiters.now) → ⊥) }
 {

@@ -24,16 +24,22 @@ pub(crate) const OUT_OF_MEMORY: u8 = 6;
 pub(crate) const BAD_NUMBER: u8 = 7;
 /// The buffer is too short.
 pub(crate) const TOO_SHORT: u8 = 8;
-/// The text has no byte.
+/// The text has no byte, or no record is begun.
 pub(crate) const NO_RECORD: u8 = 9;
-/// The first byte is no letter of such a record, or what follows it isn't the field delimiter.
+/// The byte is no letter of such a record, or what follows it isn't the field delimiter.
 pub(crate) const BAD_LETTER: u8 = 10;
 /// The bytes are no four delimiters.
 pub(crate) const BAD_DELIMITERS: u8 = 11;
 /// There is no such part.
 pub(crate) const ABSENT: u8 = 12;
-/// A message isn't closed, or a record isn't ended, or none can be read any more.
+/// A message isn't closed, or a record or a field isn't ended, or none can be read any more.
 pub(crate) const UNFINISHED: u8 = 13;
+/// Outside a message a header comes first.
+pub(crate) const PUT_NOT_HEADER: u8 = 14;
+/// The record has no parent: an order stands under a patient, a result under an order.
+pub(crate) const PUT_NO_PARENT: u8 = 15;
+/// The message has its header.
+pub(crate) const PUT_SECOND_HEADER: u8 = 16;
 
 /// The status of bytes that are no text.
 pub(crate) fn text_status(fault: TextFault) -> u8

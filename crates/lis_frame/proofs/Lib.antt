@@ -8,3 +8,4 @@ pub mod PieceLaws
 pub mod ScannerLemmas
 pub mod StreamLaws
 pub mod StretchLemmas
+mod PutLaws

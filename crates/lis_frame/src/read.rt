@@ -12,7 +12,8 @@ ghost use Rattle.lis_frame.specs.Stretch.{pair_value};
 
 use crate::frame::{Frame, FrameFault, FrameOf};
 use crate::lent::LentFrame;
-use lis_text::{CR, ETB, ETX, LF, STX, first_forbidden};
+use crate::write::{lower_digit, upper_digit};
+use lis_text::{CR, ETB, ETX, LF, STX, text_and_sum};
 
 /// The bytes of a stretch that aren't its text: number, end byte, two digits, CR (LIS01-A2, 6.3.1).
 pub(crate) const FRAMING: usize = 5;
@@ -125,10 +126,11 @@ impl<'a> Parts<'a> {
         if !is_number(self.number) {
             return Some(FrameFault::Number);
         }
-        if let Some(place) = first_forbidden(self.text) {
+        let (forbidden, sum) = text_and_sum(self.text);
+        if let Some(place) = forbidden {
             return Some(FrameFault::Text(place));
         }
-        if self.is_summed() {
+        if self.is_summed(sum) {
             None
         } else {
             Some(FrameFault::Sum)
@@ -142,17 +144,14 @@ impl<'a> Parts<'a> {
         self.close == CR && (self.end == ETX || self.end == ETB)
     }
 
-    /// Whether the digits are those of the checksum.
+    /// Whether the digits are those of the checksum, where the text has this sum.
     #[inline(always)]
-    fn is_summed(&self) -> bool
+    fn is_summed(&self, text_sum: u8) -> bool
         ensures { result ≡ is_value (pair_value (digit_value self.now.high) (digit_value self.now.low))
-            (((self.now.number + sum self.now.text.now) % 256 + self.now.end) % 256) }
+            ((self.now.number + text_sum + self.now.end) % 256) }
     {
-        let sum = total_of(self.number, self.text).wrapping_add(self.end);
-        match pair_value(self.high, self.low) {
-            Some(value) => value == sum,
-            None => false,
-        }
+        let sum = self.number.wrapping_add(text_sum).wrapping_add(self.end);
+        is_digit_of(self.high, sum / 16) && is_digit_of(self.low, sum % 16)
     }
 }
 
@@ -190,7 +189,8 @@ fn front_text<const N: usize>(number: u8, behind: &[u8]) -> Option<usize>
           text = take place behind.now;
         })) }
 {
-    let Some(place) = first_forbidden(behind) else {
+    let (forbidden, sum) = text_and_sum(behind);
+    let Some(place) = forbidden else {
         return None;
     };
     let (text, rest) = behind.split_at(place);
@@ -205,7 +205,7 @@ fn front_text<const N: usize>(number: u8, behind: &[u8]) -> Option<usize>
         low: *low,
         close: *close,
     };
-    if place > N || *line_feed != LF || !parts.is_shaped() || !parts.is_summed() {
+    if place > N || *line_feed != LF || !parts.is_shaped() || !parts.is_summed(sum) {
         return None;
     }
     Some(place)
@@ -218,33 +218,11 @@ fn is_number(byte: u8) -> bool
     b'0' <= byte && byte <= b'7'
 }
 
-/// The sum of the number and the text, modulo 256.
-pub(crate) fn total_of(number: u8, text: &[u8]) -> u8
-    ensures { result ≡ (number + sum text.now) % 256 }
+/// Whether a byte is the hexadecimal digit of a value, in either case.
+#[inline(always)]
+fn is_digit_of(byte: u8, value: u8) -> bool
+    requires { value < 16 }
+    ensures { result ≡ is_value (digit_value byte) value }
 {
-    let mut total = number;
-    for byte in text {
-        total = total.wrapping_add(*byte);
-    }
-    total
-}
-
-/// The number of two hexadecimal digits in either case, the high one first.
-fn pair_value(high: u8, low: u8) -> Option<u8>
-    ensures { result ≡ pair_value (digit_value high) (digit_value low) }
-{
-    Some(16 * digit_value(high)? + digit_value(low)?)
-}
-
-/// The value of a hexadecimal digit in either case.
-fn digit_value(byte: u8) -> Option<u8>
-    ensures value { result ≡ digit_value byte }
-    ensures small { IfSome result (λ value. value < 16) }
-{
-    match byte {
-        b'0'..=b'9' => Some(byte - b'0'),
-        b'A'..=b'F' => Some(byte - b'A' + 10),
-        b'a'..=b'f' => Some(byte - b'a' + 10),
-        _ => None,
-    }
+    byte == upper_digit(value) || byte == lower_digit(value)
 }

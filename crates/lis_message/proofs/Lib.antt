@@ -1,6 +1,7 @@
 mod DefinitionRows
 pub mod Cuts
 pub mod EveryStream
+pub mod LeftLaws
 pub mod Lines
 pub mod NextRecord
 pub mod OneRefusal

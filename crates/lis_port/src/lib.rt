@@ -16,7 +16,7 @@ pub use buffered::Buffered;
 pub use cut::{Cut, Then};
 pub use faltering::Faltering;
 pub use once::Once;
-pub use port::{Failed, Sink, Source, read_sent};
+pub use port::{Failed, Sink, Source, read_sent, write_all};
 pub use read_ahead::ReadAhead;
 pub use reading::Reading;
 pub use slow::Slow;

@@ -1,8 +1,8 @@
 //! The two ports: a source of bytes and a sink for bytes.
 
 ghost use Rattle.std.specs.Prelude.{◌≡◌, ℕ, ◌+◌, ◌<◌, ◌≤◌, ◌↔◌, Bool, List, Option, IfOk, MatchResult, OnOk, true};
-ghost use Rattle.std.specs.Prelude.{false, is_err, length, IsTrue};
-ghost use Rattle.std.specs.Io.KnownBytes.{Keeps, ReadConsumes, WriteAppends};
+ghost use Rattle.std.specs.Prelude.{false, is_err, length, take, IfErr, IsTrue};
+ghost use Rattle.std.specs.Io.KnownBytes.{Appends, Keeps, ReadConsumes, WriteAppends};
 
 /// A read or a write that failed. Nothing is tried again: a port that failed may not be called.
 #[derive(Debug, Clone, Copy, PartialEq, Eq)]
@@ -109,4 +109,26 @@ pub fn read_sent<R: Source, W: Sink>(
     ensures ready { R.may_wait source.old ≡ false → MatchResult result (λ n. 0 < n) (λ _. ⊥) }
 {
     source.read(buffer)
+}
+
+/// Writes all of the bytes to a sink that has not failed; where it fails, how many it took before. Nothing is tried
+/// again.
+pub fn write_all<W: Sink>(sink: &mut W, bytes: &[u8]) -> Result<(), usize>
+    requires { W.failed sink.old ≡ false }
+    ensures ok { OnOk result (Appends (W.taken sink.old) (W.taken sink.new) bytes.now) }
+    ensures err { IfErr result (λ count. (count < length bytes.now)
+        × Appends (W.taken sink.old) (W.taken sink.new) (take count bytes.now)) }
+    ensures failed { W.failed sink.new ≡ is_err result }
+{
+    let mut rest = bytes;
+    while !rest.is_empty() {
+        match sink.write(rest) {
+            Ok(count) => {
+                let (_, others) = rest.split_at(count);
+                rest = others;
+            }
+            Err(_failed) => return Err(bytes.len() - rest.len()),
+        }
+    }
+    Ok(())
 }

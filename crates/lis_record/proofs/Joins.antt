@@ -36,7 +36,7 @@ parts_of-apart byte (b ∷ bs) =
       | inr other ↦ rw other.0 (onto_first-apart byte b other.1 (parts_of byte bs) more)
     ]
 
-Lacks-tests : (byte : ℕ) (text : List ℕ) → Lacks byte text → All (λ b. (b == byte) ≡ false) text
+pub Lacks-tests : (byte : ℕ) (text : List ℕ) → Lacks byte text → All (λ b. (b == byte) ≡ false) text
 Lacks-tests byte text h =
     All-weaker (λ b. b ≢ byte) (λ b. (b == byte) ≡ false)
     (λ b other. elim (eqb_tells b byte) [ inl same ↦ absurd (other same.1) | inr test ↦ test.0 ]) text h

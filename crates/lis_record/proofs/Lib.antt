@@ -1,8 +1,11 @@
 mod DefinitionRows
+pub mod BadBytes
 pub mod Components
 pub mod FaultLaws
 pub mod FaultlessTexts
+pub mod FieldTexts
 pub mod Joins
+pub mod Lanes
 pub mod LentTexts
 pub mod Opening
 pub mod Pairs

@@ -6,7 +6,6 @@ use Rattle.std.proofs.lemmas.Bool.{lt-ltb}
 use Rattle.std.proofs.Common.{◌≡◌, ◌≢◌, ℕ, zero, suc, ◌+◌, ◌-◌, ◌<◌, ◌≤◌, ◌==◌, ◌||◌, Bool, not, slice_get, slice_index, sub-one, true, false, ltb, List, [], ◌∷◌, ◌++◌, length, take, drop, Option, Some, None, option_map, unwrap_or, refl, sym, ap, ◌∙◌, arith, inl, inr}
 use Rattle.std.specs.List.{AllPass, list_any, position, position_or_len}
 use Rattle.std.proofs.lemmas.List.Elements.{All-cons, All-nil}
-use Rattle.memchr.specs.Find.{IsFirstByte, is_byte}
 use Rattle.std.proofs.lemmas.List.{drop-drop, drop_all, drop_more, nil_from_length, take_all, take_rest}
 use Rattle.std.proofs.lemmas.List.Splits.{slice_split_first, slice_split_none}
 use Rattle.std.proofs.lemmas.List.Sums.{fails_before_first, position_or_len_is}
@@ -18,18 +17,6 @@ use Rattle.lis_field.specs.Shape.{Symbols}
 use Rattle.lis_field.proofs.FirstFaults.{ltb-past, ltb_tells, position-AllPass, test_false}
 use Rattle.lis_record.proofs.Components.{symbols_of-escape, symbols_of-lone, symbols_of-plain}
 use Rattle.lis_record.proofs.Pairs.{ArePairs-none, digit_symbols-none, raw_of_others, raw_of_pairs}
-
-cases_false : (b : Bool) → ¬ (b ≡ true) → b ≡ false
-cases_false true h = absurd (h refl)
-cases_false false h = refl
-
-or_false : (a b : Bool) → (a || b) ≡ false → (a ≡ false) × (b ≡ false)
-or_false true b h = cc h
-or_false false b h = (refl, h)
-
-not_false : (b : Bool) → not b ≡ false → b ≡ true
-not_false true h = refl
-not_false false h = cc h
 
 module _ (mark : ℕ) (text : List ℕ) where
   first : ℕ
@@ -75,32 +62,6 @@ module _ (mark : ℕ) (text : List ℕ) where
       go : (o : Option ℕ) → position (λ b. b == mark) text ≡ o → parts_of mark text ≡ take end text ∷ parts_behind mark (drop end text)
       go None e = rw (h ∙ ap (λ (o : Option ℕ). unwrap_or o (length text)) e) (parts_of-none (past-position e))
       go (Some n) e = rw (h ∙ ap (λ (o : Option ℕ). unwrap_or o (length text)) e) (parts_of-some n (IsFound-position n e))
-
--- what a search for a byte answers is its first place
-pub position-IsFirstByte : (mark : ℕ) (text : List ℕ) (r : Option ℕ) → IsFirstByte (is_byte mark) text r → r ≡ position (λ b. b == mark) text
-position-IsFirstByte mark text None none =
-    let test = λ (b : ℕ). b == mark in
-    let e : position_or_len test text ≡ length text =
-    position_or_len_is test text (length text) 0 (omega arith) (λ k below. cases_false (slice_index text k == mark) (none k (omega arith) below)) (λ past. absurd (omega arith)) in
-    let g : ltb (length text) (length text) ≡ false = ltb-past (length text) (length text) (omega arith) in
-    rw (e, g) refl
-position-IsFirstByte mark text (Some k) first =
-    let test = λ (b : ℕ). b == mark in
-    let inside : k < length text = first.0.high in
-    let e : position_or_len test text ≡ k =
-    position_or_len_is test text k 0 (omega arith) (λ j below. cases_false (slice_index text j == mark) (first.0.before j (omega arith) below)) (λ within. first.1) in
-    let g : ltb k (length text) ≡ true = lt-ltb k (length text) inside in
-    rw (e, g) refl
-
--- where no byte fails a test, none is found
-pub position-none_bad : (p : ℕ → Bool) (text : List ℕ) → list_any (λ b. not (p b)) text ≡ false → position (λ b. not (p b)) text ≡ None
-position-none_bad p text h = position-AllPass p text (all_pass text h)
-  where
-    all_pass : (l : List ℕ) → list_any (λ b. not (p b)) l ≡ false → AllPass p l
-    all_pass [] none = All-nil (λ b. p b ≡ true)
-    all_pass (x ∷ xs) none =
-        let both = or_false (not (p x)) (list_any (λ b. not (p b)) xs) none in
-        All-cons (λ b. p b ≡ true) x xs (not_false (p x) both.0) (all_pass xs both.1)
 
 -- the parts behind the first one
 pub slice_get-behind : {A : Type 0} (parts others : List A) (part : A) (place : ℕ) → parts ≡ part ∷ others → 0 < place → slice_get parts place ≡ slice_get others (place - 1)

@@ -7,7 +7,7 @@ ghost use Rattle.hex.specs.Hex.{decode_of, hex_digit_value, is_hex_digit};
 ghost use Rattle.lis_record.specs.Escapes.{escape_of, letter_symbol, raw_symbols};
 ghost use Rattle.lis_record.specs.inside.FrontReading.{ArePairs, digit_symbols, symbols_left, symbols_of};
 
-use crate::texts::place_of;
+use crate::search::place_of;
 use lis_field::{Component, Delimiters, Sym};
 use std::alloc::{AllocError, Global};
 use std::marker::Model;

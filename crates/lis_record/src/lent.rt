@@ -1,9 +1,11 @@
 //! Records and their parts where they stand in a text, without memory (LIS02-A2, Delimiters).
 
-ghost use Rattle.std.specs.Prelude.{◌≡◌, IfOk, length, option_map, slice_get, false};
-ghost use Rattle.lis_field.specs.Shape.{field_at};
+ghost use Rattle.std.specs.Prelude.{◌≡◌, ◌<◌, ◌≤◌, ◌∷◌, [], IfOk, IfSome, MatchOption, drop, length, option_map, slice_get};
+ghost use Rattle.std.specs.Prelude.{false, take};
+ghost use Rattle.lis_field.specs.Shape.{field_at, plain_field};
 ghost use Rattle.lis_field.specs.declared.kinds.Kind.{Kind as KindOf};
 ghost use Rattle.lis_record.specs.inside.FrontReading.{components_of, fields_of, repeats_of, symbols_of};
+ghost use Rattle.lis_record.specs.inside.Remaining.{more_fields};
 ghost use Rattle.lis_record.specs.Lent.{front_length, lent, record_in};
 ghost use Rattle.lis_record.specs.Relation.{Lacks};
 ghost use Rattle.lis_record.specs.Spelling.{spelled_field};
@@ -15,10 +17,11 @@ use crate::cursor::Spelling;
 use crate::escapes::LentSymbols;
 use crate::faults::WriteFault;
 use crate::lent_cursor::LentCursor;
-use crate::texts::{count_parts, part_at, part_behind, place_of};
-use crate::writing::{send, write_all};
+use crate::search::place_of;
+use crate::texts::{count_parts, first_part, part_at, part_behind};
+use crate::writing::send;
 use lis_field::{Delimiters, Field, Kind, Record};
-use lis_port::Sink;
+use lis_port::{Sink, write_all};
 use std::alloc::{AllocError, Global};
 use std::marker::Model;
 
@@ -128,6 +131,24 @@ impl<'a> LentField<'a> {
         })
     }
 
+    /// The bytes of a field that is one component without an escape byte, each of them a character.
+    #[inline(always)]
+    pub fn only_component(&self) -> Option<&'a [u8]>
+        ensures { IfSome result (λ bytes. self.now.content ≡ plain_field bytes.now) }
+    {
+        let [repeat, component, escape] = [
+            self.delimiters.repeat(),
+            self.delimiters.component(),
+            self.delimiters.escape(),
+        ];
+        for byte in self.text {
+            if *byte == repeat || *byte == component || *byte == escape {
+                return None;
+            }
+        }
+        Some(self.text)
+    }
+
     /// The field with memory of its own.
     pub fn to_field(&self, alloc: Global) -> Result<Field, AllocError>
         ensures { IfOk result (λ field. field ≡ self.now.content) }
@@ -169,6 +190,74 @@ fn put_symbols<W: Sink>(sink: &mut W, delimiters: Delimiters, text: &[u8]) -> Re
     send(sink, &mut chunk, &mut cursor, 0, 0)
 }
 
+/// The fields of a record that stand in a text and weren't taken yet.
+#[derive(Drop)]
+pub struct LentFields<'a> {
+    delimiters: Delimiters,
+    text: &'a [u8],
+}
+
+impl<'a> Model for LentFields<'a> {
+    ghost use Rattle.lis_field.specs.Shape.{Fields};
+    ghost use Rattle.lis_record.specs.inside.FrontReading.{fields_of};
+    ghost use Rattle.lis_record.specs.Lent.{Lent, lent};
+
+    ghost Value = { Lent Fields };
+
+    ghost view = { λ f. lent f.delimiters (fields_of f.delimiters f.text.now) };
+}
+
+impl<'a> LentFields<'a> {
+    /// Takes the first field; none where no field is left.
+    #[inline(always)]
+    pub fn next(&mut self) -> Option<LentField<'a>>
+        ensures { MatchOption result ((self.old.content ≡ []) × (self.new ≡ self.old))
+            (λ field. (field.delimiters ≡ self.old.delimiters)
+            × (self.old.content ≡ field.content ∷ self.new.content) × (self.new.delimiters ≡ self.old.delimiters)) }
+    {
+        let Some((_delimiter, behind)) = self.text.split_first() else {
+            return None;
+        };
+        let (text, rest) = first_part(behind, self.delimiters.field());
+        self.text = rest;
+        Some(LentField {
+            delimiters: self.delimiters,
+            text,
+        })
+    }
+
+    /// Takes so many fields as they stand, with the delimiters between them, in one pass; none where there are fewer, or
+    /// where an escape byte is among them, and then all are left. At least one is asked for.
+    #[inline(always)]
+    pub fn take_plain(&mut self, count: usize) -> Option<&'a [u8]>
+        requires { 0 < count }
+        ensures { MatchOption result (self.new ≡ self.old) (λ text. (count ≤ length self.old.content)
+            × (self.old.delimiters.field ∷ text.now ≡ more_fields self.old.delimiters (take count self.old.content))
+            × (self.new ≡ lent self.old.delimiters (drop count self.old.content))) }
+    {
+        let field = self.delimiters.field();
+        let Some((_delimiter, text)) = self.text.split_first() else {
+            return None;
+        };
+        let (_first, mut rest) = first_part(text, field);
+        let mut left = count - 1;
+        while left > 0 {
+            let Some((_mark, behind)) = rest.split_first() else {
+                return None;
+            };
+            let (_part, others) = first_part(behind, field);
+            rest = others;
+            left -= 1;
+        }
+        let (taken, _behind) = text.split_at(text.len() - rest.len());
+        if place_of(taken, self.delimiters.escape()).is_some() {
+            return None;
+        }
+        self.text = rest;
+        Some(taken)
+    }
+}
+
 // How many bytes stand before a record's fields.
 fn front_length(kind: Kind) -> usize
     ensures { result ≡ front_length kind }
@@ -199,6 +288,7 @@ impl<'a> Model for LentRecord<'a> {
 
 impl<'a> LentRecord<'a> {
     // A record of this kind, whose fields are those of this text.
+    #[inline(always)]
     pub(crate) fn of_parts(delimiters: Delimiters, kind: Kind, fields: &'a [u8]) -> Self
         ensures { result ≡ lent delimiters (record { kind = kind; fields = fields_of delimiters fields.now }) }
     {
@@ -223,6 +313,7 @@ impl<'a> LentRecord<'a> {
     }
 
     /// The delimiters that the record is read under; a header's own.
+    #[inline(always)]
     pub fn delimiters(&self) -> Delimiters
         ensures { result ≡ self.now.delimiters }
     {
@@ -230,6 +321,7 @@ impl<'a> LentRecord<'a> {
     }
 
     /// What the record tells.
+    #[inline(always)]
     pub fn kind(&self) -> Kind
         ensures { result ≡ self.now.content.kind }
     {
@@ -237,6 +329,7 @@ impl<'a> LentRecord<'a> {
     }
 
     /// The number of fields after the letter, or after a header's delimiters.
+    #[inline(always)]
     pub fn len(&self) -> usize
         ensures { result ≡ length self.now.content.fields }
     {
@@ -261,6 +354,17 @@ impl<'a> LentRecord<'a> {
             delimiters: self.delimiters,
             text,
         })
+    }
+
+    /// The fields, to be taken one after another: each is found where the one before it ends.
+    #[inline(always)]
+    pub fn fields(&self) -> LentFields<'a>
+        ensures { result ≡ lent self.now.delimiters self.now.content.fields }
+    {
+        LentFields {
+            delimiters: self.delimiters,
+            text: self.fields,
+        }
     }
 
     /// The record with memory of its own.

@@ -11,14 +11,20 @@ mod lent;
 mod lent_cursor;
 mod pieces;
 mod reading;
+mod search;
 mod texts;
 mod writing;
 
 pub use escapes::LentSymbols;
 pub use faults::{DelimiterPartFault, RecordFault, WriteFault};
-pub use lent::{LentComponent, LentField, LentRecord, LentRepeat};
+pub use lent::{LentComponent, LentField, LentFields, LentRecord, LentRepeat};
 pub use lis_field::{Component, DelimiterFault, Delimiters, Field, Kind, Record, Repeat, Sym};
 pub use pieces::FieldSpelling;
-pub use reading::{lend_header, lend_record, read_header, read_record};
+pub use reading::{
+    lend_header, lend_record, lend_searched_header, lend_searched_record, read_header, read_record,
+};
+pub use search::first_bad_byte;
 pub use texts::RECORD_LIMIT;
-pub use writing::{check_record, put_field, write_field, write_record, write_record_from};
+pub use writing::{
+    check_record, put_field, spelled_length, write_field, write_record, write_record_from,
+};

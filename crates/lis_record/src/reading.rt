@@ -10,19 +10,23 @@ ghost use Rattle.lis_field.specs.Shape.{RecordContent};
 ghost use Rattle.lis_field.specs.declared.kinds.Kind.TheVariants as kinds;
 ghost use Rattle.lis_record.specs.declared.faults.RecordFault.TheVariants.{OutOfMemory};
 ghost use Rattle.lis_field.specs.Kinds.{kind_of};
+ghost use Rattle.lis_record.specs.Text.{bad_byte_place};
 
 use crate::faults::{DelimiterPartFault, RecordFault};
 use crate::lent::LentRecord;
-use crate::texts::{RECORD_LIMIT, bad_byte_place};
+use crate::search::first_bad_byte;
+use crate::texts::RECORD_LIMIT;
 use lis_field::{Delimiters, Kind, Record};
 use std::alloc::{AllocError, Global};
 
-// A byte that is no text byte, else too many bytes.
+// A byte that is no text byte, the first of which stands at `bad`, else too many bytes.
 #[tactic(auto, unfolding(crate::specs::Faults::text_fault))]
-fn text_fault(text: &[u8]) -> Option<RecordFault>
+#[inline(always)]
+fn text_fault(text: &[u8], bad: Option<usize>) -> Option<RecordFault>
+    requires { bad ≡ bad_byte_place text.now }
     ensures { result ≡ text_fault text.now }
 {
-    if let Some(place) = bad_byte_place(text) {
+    if let Some(place) = bad {
         return Some(RecordFault::Byte(place));
     }
     if text.len() > RECORD_LIMIT {
@@ -32,6 +36,7 @@ fn text_fault(text: &[u8]) -> Option<RecordFault>
 }
 
 // A first byte other than the field delimiter.
+#[inline(always)]
 fn trailing_byte(field: u8, bytes: &[u8]) -> Option<u8>
     ensures { result ≡ trailing_byte field bytes.now }
 {
@@ -39,6 +44,7 @@ fn trailing_byte(field: u8, bytes: &[u8]) -> Option<u8>
 }
 
 // The kind of a record other than a header, by its letter.
+#[inline(always)]
 fn other_kind(letter: u8) -> Option<Kind>
     ensures { MatchOption result (is_other_kind (kind_of letter) ≡ false)
         (λ kind. (kind_of letter ≡ Some kind) × (is_other_kind (kind_of letter) ≡ true)) }
@@ -50,6 +56,7 @@ fn other_kind(letter: u8) -> Option<Kind>
 }
 
 // Whether a letter is a header's.
+#[inline(always)]
 fn is_header_letter(letter: u8) -> bool
     ensures { result ≡ is_header_kind (kind_of letter) }
 {
@@ -57,7 +64,13 @@ fn is_header_letter(letter: u8) -> bool
 }
 
 // The kind of a text that is a record other than a header, and what follows its letter; else its first fault.
-fn open_record(delimiters: Delimiters, text: &[u8]) -> Result<(Kind, &[u8]), RecordFault>
+#[inline(always)]
+fn open_record(
+    delimiters: Delimiters,
+    text: &[u8],
+    bad: Option<usize>,
+) -> Result<(Kind, &[u8]), RecordFault>
+    requires { bad ≡ bad_byte_place text.now }
     ensures opened { MatchResult result
         (λ found. OpensRecord delimiters text.now found.0 found.1.now)
         (λ fault. record_fault delimiters text.now ≡ Some fault) }
@@ -73,13 +86,14 @@ fn open_record(delimiters: Delimiters, text: &[u8]) -> Result<(Kind, &[u8]), Rec
     if let Some(byte) = trailing_byte(field, rest) {
         return Err(RecordFault::UnknownKind(byte));
     }
-    if let Some(fault) = text_fault(text) {
+    if let Some(fault) = text_fault(text, bad) {
         return Err(fault);
     }
     Ok((kind, rest))
 }
 
 // The delimiters behind a header's letter, and what follows them; else the first fault.
+#[inline(always)]
 fn read_delimiters(text: &[u8]) -> Result<(Delimiters, &[u8]), DelimiterPartFault>
     ensures { MatchResult result
         (λ found. DeclaresDelimiters text.now found.0 found.1.now)
@@ -98,7 +112,9 @@ fn read_delimiters(text: &[u8]) -> Result<(Delimiters, &[u8]), DelimiterPartFaul
 }
 
 // The delimiters of a text that is a header, and what follows them; else its first fault.
-fn open_header(text: &[u8]) -> Result<(Delimiters, &[u8]), RecordFault>
+#[inline(always)]
+fn open_header(text: &[u8], bad: Option<usize>) -> Result<(Delimiters, &[u8]), RecordFault>
+    requires { bad ≡ bad_byte_place text.now }
     ensures { MatchResult result
         (λ found. OpensHeader text.now found.0 found.1.now)
         (λ fault. header_fault text.now ≡ Some fault) }
@@ -111,10 +127,42 @@ fn open_header(text: &[u8]) -> Result<(Delimiters, &[u8]), RecordFault>
     }
     match read_delimiters(part) {
         Err(fault) => Err(RecordFault::DelimiterPart(fault)),
-        Ok(found) => match text_fault(text) {
+        Ok(found) => match text_fault(text, bad) {
             Some(fault) => Err(fault),
             None => Ok(found),
         },
+    }
+}
+
+/// Finds the record other than a header that a text without CR is, under these delimiters, where it stands.
+///
+/// The answer is the record, else the first of these faults: `Empty`; `UnknownKind`, where the first byte
+/// is no letter of such a record, in either case, or the second byte isn't the field delimiter; `Byte`;
+/// `TooLong`. It takes no memory.
+///
+/// The first byte that no record may hold stands at `bad`, as `first_bad_byte` finds it. It isn't looked for again.
+#[inline(always)]
+pub fn lend_searched_record<'a>(
+    delimiters: &Delimiters,
+    text: &'a [u8],
+    bad: Option<usize>,
+) -> Result<LentRecord<'a>, RecordFault>
+    requires { bad ≡ bad_byte_place text.now }
+    // What is found is the record that the text is.
+    ensures found { IfOk result (λ entry. (entry.delimiters ≡ delimiters.now)
+        × IsRecord delimiters.now text.now entry.content × (entry.content.kind ≢ kinds.H)) }
+    // Its fields stand behind its letter.
+    ensures place { IfOk result (λ entry. entry ≡ record_in entry.delimiters entry.content.kind text.now) }
+    // A text that is a record is found to be it.
+    ensures only { (content : RecordContent) → IsRecord delimiters.now text.now content → content.kind ≢ kinds.H
+        → result ≡ Ok (lent delimiters.now content) }
+    // Which fault it is.
+    ensures fault { MatchResult result (λ _. record_fault delimiters.now text.now ≡ None)
+        (λ fault. record_fault delimiters.now text.now ≡ Some fault) }
+{
+    match open_record(*delimiters, text, bad) {
+        Err(fault) => Err(fault),
+        Ok((kind, rest)) => Ok(LentRecord::of_parts(*delimiters, kind, rest)),
     }
 }
 
@@ -139,9 +187,32 @@ pub fn lend_record<'a>(
     ensures fault { MatchResult result (λ _. record_fault delimiters.now text.now ≡ None)
         (λ fault. record_fault delimiters.now text.now ≡ Some fault) }
 {
-    match open_record(*delimiters, text) {
+    lend_searched_record(delimiters, text, first_bad_byte(text))
+}
+
+/// Finds the header that a text without CR is, under the delimiters that it declares, where it stands.
+///
+/// The answer is the header, else the first of these faults: `Empty`; `UnknownKind`, where the first byte is
+/// neither H nor h; `DelimiterPart`; `Byte`; `TooLong`. It takes no memory.
+///
+/// The first byte that no record may hold stands at `bad`, as `first_bad_byte` finds it. It isn't looked for again.
+#[inline(always)]
+pub fn lend_searched_header(text: &[u8], bad: Option<usize>) -> Result<LentRecord<'_>, RecordFault>
+    requires { bad ≡ bad_byte_place text.now }
+    // What is found is the header that the text is, under the delimiters that it declares.
+    ensures found { IfOk result (λ entry. IsDelimiters entry.delimiters
+        × IsRecord entry.delimiters text.now entry.content × (entry.content.kind ≡ kinds.H)) }
+    // Its fields stand behind its delimiters.
+    ensures place { IfOk result (λ entry. entry ≡ record_in entry.delimiters entry.content.kind text.now) }
+    // A text that is a header is found to be it.
+    ensures only { (d : DelimiterBytes) (content : RecordContent) → IsDelimiters d → IsRecord d text.now content → content.kind ≡ kinds.H
+        → result ≡ Ok (lent d content) }
+    // Which fault it is.
+    ensures fault { MatchResult result (λ _. header_fault text.now ≡ None) (λ fault. header_fault text.now ≡ Some fault) }
+{
+    match open_header(text, bad) {
         Err(fault) => Err(fault),
-        Ok((kind, rest)) => Ok(LentRecord::of_parts(*delimiters, kind, rest)),
+        Ok(found) => Ok(LentRecord::of_parts(found.0, Kind::H, found.1)),
     }
 }
 
@@ -161,10 +232,7 @@ pub fn lend_header(text: &[u8]) -> Result<LentRecord<'_>, RecordFault>
     // Which fault it is.
     ensures fault { MatchResult result (λ _. header_fault text.now ≡ None) (λ fault. header_fault text.now ≡ Some fault) }
 {
-    match open_header(text) {
-        Err(fault) => Err(fault),
-        Ok(found) => Ok(LentRecord::of_parts(found.0, Kind::H, found.1)),
-    }
+    lend_searched_header(text, first_bad_byte(text))
 }
 
 /// Reads a record other than a header, from its text without CR, under these delimiters.

@@ -1,63 +1,29 @@
-//! Text bytes, and the parts of a text round a delimiter (LIS02-A2, Character Codes and Delimiters).
+//! The parts of a text round a delimiter (LIS02-A2, Delimiters).
 
-ghost use Rattle.std.specs.Prelude.{◌≡◌, ◌≤◌, ◌∷◌, ◌==◌, length, position, slice_get};
-ghost use Rattle.std.specs.List.{list_any};
+ghost use Rattle.std.specs.Prelude.{◌≡◌, ◌≤◌, ◌∷◌, ◌++◌, None, length, slice_get};
 ghost use Rattle.std.specs.Option.{option_copied};
-ghost use Rattle.std.specs.Prelude.{not};
+ghost use Rattle.lis_record.specs.Faults.{trailing_byte};
 ghost use Rattle.lis_record.specs.inside.FrontReading.{parts_behind, parts_of};
-ghost use Rattle.lis_record.specs.Text.{bad_byte_place, is_text_byte};
 
-use memchr::memchr;
+use crate::search::{count_of, place_of};
 
 /// The most bytes that a record has, without its CR.
 pub const RECORD_LIMIT: usize = 65_536;
 
-/// Whether a byte may stand in a record: 7, 9, 11, 12, 32 to 126 and 128 to 254.
-#[tactic(auto, unfolding(crate::specs::Text::is_text_byte))]
-pub(crate) fn is_text_byte(byte: u8) -> bool
-    ensures { result ≡ is_text_byte byte }
-{
-    matches!(byte, 7 | 9 | 11 | 12 | 32..=126 | 128..=254)
-}
-
-// Whether a byte is no text byte. Every byte is looked at, since a loop without an early exit is many times faster.
-fn has_bad_byte(text: &[u8]) -> bool
-    ensures { result ≡ list_any (λ b. not (is_text_byte b)) text.now }
-{
-    let mut found = false;
-    for byte in text {
-        found |= !is_text_byte(*byte);
-    }
-    found
-}
-
-// The place of the first byte that is no text byte.
-pub(crate) fn bad_byte_place(text: &[u8]) -> Option<usize>
-    ensures { result ≡ bad_byte_place text.now }
-{
-    if !has_bad_byte(text) {
-        return None;
-    }
-    text.iter().position(|byte| !is_text_byte(*byte))
-}
-
-// The place of the first byte that is this one.
-pub(crate) fn place_of(text: &[u8], mark: u8) -> Option<usize>
-    ensures { result ≡ position (λ b. b == mark) text.now }
-{
-    memchr(mark, text)
-}
-
 // What stands before the first delimiter, and the rest from that delimiter on.
+#[inline(always)]
 pub(crate) fn first_part(text: &[u8], delimiter: u8) -> (&[u8], &[u8])
     ensures parts { parts_of delimiter text.now ≡ result.0.now ∷ parts_behind delimiter result.1.now }
     ensures shorter { length result.1.now ≤ length text.now }
+    ensures joined { text.now ≡ result.0.now ++ result.1.now }
+    ensures mark { trailing_byte delimiter result.1.now ≡ None }
 {
     let end = place_of(text, delimiter).unwrap_or(text.len());
     text.split_at(end)
 }
 
 // The part at a place among those round a delimiter.
+#[inline]
 pub(crate) fn part_at(text: &[u8], delimiter: u8, place: usize) -> Option<&[u8]>
     ensures { option_copied result ≡ slice_get (parts_of delimiter text.now) place }
 {
@@ -76,6 +42,7 @@ pub(crate) fn part_at(text: &[u8], delimiter: u8, place: usize) -> Option<&[u8]>
 }
 
 // The part at a place among those behind a first delimiter.
+#[inline]
 pub(crate) fn part_behind(text: &[u8], delimiter: u8, place: usize) -> Option<&[u8]>
     ensures { option_copied result ≡ slice_get (parts_behind delimiter text.now) place }
 {
@@ -86,14 +53,9 @@ pub(crate) fn part_behind(text: &[u8], delimiter: u8, place: usize) -> Option<&[
 }
 
 // The number of parts round a delimiter.
+#[inline]
 pub(crate) fn count_parts(text: &[u8], delimiter: u8) -> usize
     ensures { result ≡ length (parts_of delimiter text.now) }
 {
-    let mut count: usize = 1;
-    for byte in text {
-        if *byte == delimiter {
-            count += 1;
-        }
-    }
-    count
+    count_of(text, delimiter) + 1
 }

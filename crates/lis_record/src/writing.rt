@@ -1,7 +1,6 @@
 //! Writing records and fields to a sink, without memory (LIS02-A2, Delimiters).
 
-ghost use Rattle.std.specs.Prelude.{◌≡◌, ◌+◌, ◌<◌, ◌≤◌, ◌++◌, [], ◌↔◌, length, take, drop, false, not, is_err, IsTrue, IfErr, OnOk, MatchResult, position, None, Some};
-ghost use Rattle.std.specs.Io.KnownBytes.{Appends};
+ghost use Rattle.std.specs.Prelude.{◌≡◌, ◌+◌, ◌-◌, ◌^◌, min, ◌<◌, ◌≤◌, ◌++◌, [], ◌↔◌, length, drop, false, not, IsTrue, OnOk, MatchResult, position, None, Some};
 ghost use Rattle.lis_record.specs.Faults.{bad_field_number, check_fault, field_char_fault, field_fault, is_text_component, is_text_field, is_text_repeat, is_text_symbol};
 ghost use Rattle.lis_record.specs.Relation.{IsRecord, declared_part};
 ghost use Rattle.lis_field.specs.Shape.{IsRecordShape, first_number};
@@ -11,30 +10,10 @@ ghost use Rattle.lis_record.specs.Writing.{Sent, Wrote, WroteAny, is_io};
 use crate::chunk::Chunk;
 use crate::cursor::{Cursor, Spelling};
 use crate::faults::WriteFault;
-use crate::texts::{RECORD_LIMIT, is_text_byte};
+use crate::search::is_text_byte;
+use crate::texts::RECORD_LIMIT;
 use lis_field::{Component, Delimiters, Field, Kind, Record, Repeat, Sym};
-use lis_port::Sink;
-
-// Writes all of the bytes; else how many the sink took before it failed.
-pub(crate) fn write_all<W: Sink>(sink: &mut W, bytes: &[u8]) -> Result<(), usize>
-    requires { W.failed sink.old ≡ false }
-    ensures ok { OnOk result (Appends (W.taken sink.old) (W.taken sink.new) bytes.now) }
-    ensures err { IfErr result (λ count. (count < length bytes.now)
-        × Appends (W.taken sink.old) (W.taken sink.new) (take count bytes.now)) }
-    ensures failed { W.failed sink.new ≡ is_err result }
-{
-    let mut rest = bytes;
-    while !rest.is_empty() {
-        match sink.write(rest) {
-            Ok(count) => {
-                let (_, others) = rest.split_at(count);
-                rest = others;
-            }
-            Err(_failed) => return Err(bytes.len() - rest.len()),
-        }
-    }
-    Ok(())
-}
+use lis_port::{Sink, write_all};
 
 // Writes the chunk from `left` on, and then what the cursor has; where the sink fails, the fault counts those
 // that were passed before too.
@@ -220,6 +199,22 @@ pub fn check_record(delimiters: &Delimiters, entry: &Record) -> Result<(), Write
         return Err(WriteFault::TooLong);
     }
     Ok(())
+}
+
+/// How many bytes a record's spelling has, without its CR, whether it can be written or not. It stays at the greatest
+/// number.
+pub fn spelled_length(delimiters: &Delimiters, entry: &Record) -> u64
+    ensures { result ≡ min (length (spelled delimiters.now entry.now)) (2 ^ 64 - 1) }
+{
+    let mut chunk = Chunk::new();
+    let mut cursor = begin_record(&mut chunk, *delimiters, entry, &[]);
+    let mut count: u64 = 0;
+    while !chunk.is_empty() {
+        count = count.saturating_add(chunk.len() as u64);
+        chunk.clear();
+        cursor.fill(&mut chunk);
+    }
+    count
 }
 
 /// Writes a record's spelling and CR, without the first `skip` bytes of these, to a sink that has not failed. No more

@@ -1,7 +1,9 @@
 //! What no contract and no conformance row says: a field that is put from where it stands.
 
 use lis_port::{Faltering, Slow, Writing};
-use lis_record::{Delimiters, WriteFault, lend_record};
+use lis_record::{
+    Delimiters, Kind, Record, WriteFault, first_bad_byte, lend_record, spelled_length, write_record,
+};
 use std::alloc::Global;
 use std::io::ErrorKind;
 use std::process::Abort;
@@ -61,5 +63,84 @@ fn a_failed_write_of_a_field_is_not_made_again(rt: HostRuntime) -> Result<(), Fa
     let mut sink = Writing::new(writer);
     assert_eq!(rt; field.put(&mut sink), Err(WriteFault::Io(0)));
     assert_eq!(rt; sink.into_inner().calls(), 1);
+    Ok(())
+}
+
+#[test]
+fn the_length_of_a_spelling_is_that_of_what_is_written(rt: HostRuntime) -> Result<(), Fail> {
+    let alloc = rt.alloc();
+    let usual = Delimiters::usual();
+    let texts = [b"1".as_slice(), b"", b"Smith & Sons", b"a|b\\c^d"];
+    for (kind, length) in [(Kind::P, 33), (Kind::H, 37)] {
+        let entry = Record::from_texts(alloc, kind, &texts)?;
+        let mut sink = Slow::new(131_072, 131_072);
+        write_record(&mut sink, &usual, &entry)?;
+        assert_eq!(rt; sink.took().len(), length + 1);
+        assert_eq!(rt; spelled_length(&usual, &entry), length as u64);
+    }
+    assert_eq!(rt; spelled_length(&usual, &Record::new(alloc, Kind::L)), 1);
+    // The length of what is too long to be written is told too.
+    let long = long_text(alloc, b"", 30_000, b'&')?;
+    let entry = Record::from_texts(alloc, Kind::C, &[long.as_slice()])?;
+    assert_eq!(rt; spelled_length(&usual, &entry), 90_002);
+    Ok(())
+}
+
+#[test]
+fn fields_come_in_order(rt: HostRuntime) -> Result<(), Fail> {
+    let record = lend_record(&Delimiters::usual(), b"R|1|^^^GLU||5.4")?;
+    let mut fields = record.fields();
+    let number = fields.next().ok_or("no field 2")?;
+    assert_eq!(rt; number.only_component(), Some(b"1".as_slice()));
+    let test = fields.next().ok_or("no field 3")?;
+    assert_eq!(rt; test.only_component(), None);
+    let absent = fields.next().ok_or("no field 4")?;
+    assert_eq!(rt; absent.only_component(), Some(b"".as_slice()));
+    let value = fields.next().ok_or("no field 5")?;
+    assert_eq!(rt; value.only_component(), Some(b"5.4".as_slice()));
+    assert!(rt; fields.next().is_none());
+    assert!(rt; fields.next().is_none());
+    Ok(())
+}
+
+#[test]
+fn fields_are_taken_as_they_stand(rt: HostRuntime) -> Result<(), Fail> {
+    let record = lend_record(&Delimiters::usual(), b"R|1|^^^GLU|5.4||3.9 to 6.1|A&F&B|x")?;
+    let mut fields = record.fields();
+    assert_eq!(rt; fields.take_plain(1), Some(b"1".as_slice()));
+    assert_eq!(rt;
+        fields.take_plain(4),
+        Some(b"^^^GLU|5.4||3.9 to 6.1".as_slice())
+    );
+    assert_eq!(rt; fields.take_plain(1), None);
+    assert_eq!(rt; fields.take_plain(3), None);
+    assert!(rt; fields.next().is_some());
+    assert_eq!(rt; fields.take_plain(2), None);
+    assert_eq!(rt; fields.take_plain(1), Some(b"x".as_slice()));
+    assert_eq!(rt; fields.take_plain(1), None);
+    Ok(())
+}
+
+#[test]
+fn the_first_bad_byte_is_found_at_each_place(rt: HostRuntime) -> Result<(), Fail> {
+    for place in 0..40usize {
+        let mut text = long_text(rt.alloc(), b"", place, b'A')?;
+        assert_eq!(rt; first_bad_byte(text.as_slice()), None);
+        text.push(13)?;
+        text.extend_from_slice(b"R|1\r")?;
+        assert_eq!(rt; first_bad_byte(text.as_slice()), Some(place));
+    }
+    assert_eq!(rt;
+        first_bad_byte(&[
+            7, 9, 11, 12, 32, 126, 128, 254, 7, 9, 11, 12, 32, 126, 128, 254, 255
+        ]),
+        Some(16)
+    );
+    assert_eq!(rt;
+        first_bad_byte(&[
+            7, 9, 11, 12, 32, 126, 128, 254, 7, 9, 11, 12, 32, 126, 127, 254, 255
+        ]),
+        Some(14)
+    );
     Ok(())
 }

@@ -1,8 +1,9 @@
 ghost use Rattle.lis_frame.specs.Limit.{IsLimit};
 
 use lis_frame::{
-    Frames, FramesOf, frame_bytes, frame_bytes_of, next_number, split_all_of, split_at,
+    Frames, FramesOf, frame_bytes, frame_bytes_of, next_number, put_frame, split_all_of, split_at,
 };
+use lis_port::Slow;
 use lis_text::{LinkText, List, check_text};
 use std::alloc::{AllocError, Global};
 use std::test::Fail;
@@ -58,5 +59,36 @@ fn a_piece_is_taken_at_its_offset(rt: HostRuntime) -> Result<(), Fail> {
     );
     assert_eq!(rt; next_number(6), 7);
     assert_eq!(rt; next_number(7), 0);
+    Ok(())
+}
+
+#[test]
+fn a_frame_is_put_whatever_a_write_takes(rt: HostRuntime) -> Result<(), Fail> {
+    let frames: FramesOf<63993> = frames_of(rt.alloc(), 63_993)?;
+    let long = frames.get(0).ok_or("one frame")?;
+    let want = frame_bytes_of::<63993, 64000>(long);
+    for most in [1, 1000, 131_072] {
+        let mut sink = Slow::new(131_072, most);
+        assert_eq!(rt; put_frame(&mut sink, long), Ok(()));
+        assert_eq!(rt; sink.took(), want.as_slice());
+    }
+    Ok(())
+}
+
+#[test]
+fn a_failed_sink_has_the_counted_bytes_of_a_frame(rt: HostRuntime) -> Result<(), Fail> {
+    let text = letters(rt.alloc(), 241)?;
+    check_text(text.as_slice())?;
+    assert_eq!(rt; text.len(), 241);
+    let frame = split_at(&text, 240, 2);
+    let want = b"\x022A\x0376\r\n".as_slice();
+    for room in 0..8usize {
+        let mut sink = Slow::new(room, 131_072);
+        assert_eq!(rt; put_frame(&mut sink, &frame), Err(room));
+        assert_eq!(rt; sink.took(), want.get(..room).ok_or("eight bytes")?);
+    }
+    let mut sink = Slow::new(8, 131_072);
+    assert_eq!(rt; put_frame(&mut sink, &frame), Ok(()));
+    assert_eq!(rt; sink.took(), want);
     Ok(())
 }

@@ -21,3 +21,17 @@ fn the_first_forbidden_byte_is_found_in_a_long_text(rt: HostRuntime) -> Result<(
     assert_eq!(rt; first_forbidden(&text[5..]), Some(16));
     Ok(())
 }
+
+#[test]
+fn a_text_is_summed_up_to_its_end(rt: HostRuntime) -> Result<(), Fail> {
+    let frame = b"R|1|^^^GLU|5.9|mmol/L\x03\x0a";
+    assert_eq!(rt; text_and_sum(frame), (Some(21), 65));
+    assert_eq!(rt; text_and_sum(&frame[..21]), (None, 65));
+    assert_eq!(rt; text_and_sum(&frame[5..]), (Some(16), 104));
+    assert_eq!(rt; text_and_sum(b""), (None, 0));
+    assert_eq!(rt; text_and_sum(b"\x03AB"), (Some(0), 0));
+    assert_eq!(rt; sum_of(b"H|\\^&|||Analyzer"), 94);
+    // Forty bytes of 200 come to 8,000.
+    assert_eq!(rt; text_and_sum(&[200; 40]), (None, 64));
+    Ok(())
+}

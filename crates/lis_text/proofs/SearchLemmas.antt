@@ -111,6 +111,11 @@ module _ (f : ℕ → Bool) (xs : List ℕ) where
           cc
       by false t = grind (arith, nat_tests, t, prefix_len-le-length (λ x. not (f x)) xs)
 
+-- what was passed holds no byte of the set
+pub record Passed (f : ℕ → Bool) (place : ℕ) (rest bytes : List ℕ) : Type 0 where
+  pub fits : place + length rest ≡ length bytes
+  pub same : position_from f 0 bytes ≡ position_from f place rest
+
 -- the same by the mask of a vector's lanes
 pub passed-chunk :
     (f : ℕ → Bool) (i n : ℕ) (xs : List ℕ) → n ≤ length xs → mask_l (map f (take n xs)) ≡ 0 →
@@ -119,6 +124,21 @@ passed-chunk f i n xs room none =
     let long : length (take n xs) ≡ n = omega (arith, length-take n xs) in
     let passed = position-none f i (take n xs) (drop n xs) (leading_from_mask_l f (take n xs) none) in
     rw (take-append-drop n xs, long) at passed
+
+positive : (m : ℕ) → (m ≡ 0 → ⊥) → 0 < m
+positive zero some = absurd (some refl)
+positive (suc m) some = omega arith
+
+within : (f : ℕ → Bool) (ys : List ℕ) → 0 < mask_l (map f ys) → prefix_len (λ x. not (f x)) ys < length ys
+within f [] set = absurd (omega arith)
+within f (y ∷ ys) set = by (f y) set (within f ys)
+  where
+    by :
+        (test : Bool) → 0 < cond test 1 0 + 2 * mask_l (map f ys) →
+        (0 < mask_l (map f ys) → prefix_len (λ x. not (f x)) ys < length ys) →
+        cond (not test) (1 + prefix_len (λ x. not (f x)) ys) 0 < suc (length ys)
+    by true set later = omega arith
+    by false set later = omega (arith, later (omega arith))
 
 pub found-chunk :
     (f : ℕ → Bool) (i n : ℕ) (xs : List ℕ) → n ≤ 64 → n ≤ length xs → (mask_l (map f (take n xs)) ≡ 0 → ⊥) →
@@ -129,21 +149,15 @@ found-chunk f i n xs short room some =
     let at = trailing_mask_l f 64 (take n xs) (omega arith) set in
     let inside : prefix_len (λ x. not (f x)) (take n xs) < length (take n xs) = within f (take n xs) set in
     rw (take-append-drop n xs, ← at) at (position-some f i (take n xs) (drop n xs) inside)
-  where
-    positive : (m : ℕ) → (m ≡ 0 → ⊥) → 0 < m
-    positive zero some = absurd (some refl)
-    positive (suc m) some = omega arith
 
-    within : (f : ℕ → Bool) (ys : List ℕ) → 0 < mask_l (map f ys) → prefix_len (λ x. not (f x)) ys < length ys
-    within f [] set = absurd (omega arith)
-    within f (y ∷ ys) set = by (f y) set (within f ys)
-      where
-        by :
-            (test : Bool) → 0 < cond test 1 0 + 2 * mask_l (map f ys) →
-            (0 < mask_l (map f ys) → prefix_len (λ x. not (f x)) ys < length ys) →
-            cond (not test) (1 + prefix_len (λ x. not (f x)) ys) 0 < suc (length ys)
-        by true set later = omega arith
-        by false set later = omega (arith, later (omega arith))
+pub found-within :
+    (f : ℕ → Bool) (n : ℕ) (xs : List ℕ) → n ≤ 64 → n ≤ length xs → (mask_l (map f (take n xs)) ≡ 0 → ⊥) →
+    count_trailing_zeros 64 (mask_l (map f (take n xs))) < n
+found-within f n xs short room some =
+    let long : length (take n xs) ≡ n = omega (arith, length-take n xs) in
+    let set : 0 < mask_l (map f (take n xs)) = positive _ some in
+    let at = trailing_mask_l f 64 (take n xs) (omega arith) set in
+    omega (arith, at, within f (take n xs) set)
 
 -- places counted from elsewhere
 pub position-shift :

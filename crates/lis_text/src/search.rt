@@ -1,8 +1,11 @@
-//! The first byte of a set, found sixteen bytes at a time.
+//! The first byte of a set, found sixteen bytes at a time, and the sum of the bytes before it.
 
-ghost use Rattle.std.specs.Prelude.{◌≡◌, ◌≤◌, ◌<◌, ℕ, Bool, IfSome, length, map, take};
-ghost use Rattle.std.specs.List.{position_from};
-ghost use Rattle.std.specs.Simd.Lanes.{mask_l};
+ghost use Rattle.std.specs.Prelude.{◌≡◌, ◌≤◌, ◌<◌, ◌+◌, ◌%◌, ℕ, Bool, IfSome, length, map, take};
+ghost use Rattle.std.specs.List.{position_from, sum};
+ghost use Rattle.std.specs.Option.{unwrap_or};
+ghost use Rattle.std.specs.Simd.Lanes.{mask_l, sum_l};
+
+use std::simd::prelude::*;
 
 /// A set of bytes.
 pub trait ByteSet {
@@ -46,4 +49,62 @@ fn first_by_one<S: ByteSet>(bytes: &[u8]) -> Option<usize>
     ensures bound { IfSome result (λ found. found < length bytes.now) }
 {
     bytes.iter().position(|byte| S::has(*byte))
+}
+
+/// The place of the first byte that is in the set, from 0, and the sum modulo 256 of the bytes before it; where none is,
+/// that of all. Both come of one pass over the bytes.
+pub fn first_and_sum<S: ByteSet>(bytes: &[u8]) -> (Option<usize>, u8)
+    ensures first { result.0 ≡ position_from S.member 0 bytes.now }
+    ensures sum { result.1 ≡ sum (take (unwrap_or result.0 (length bytes.now)) bytes.now) % 256 }
+{
+    let mut rest = bytes;
+    let mut place = 0;
+    let mut sums = u8x16::splat(0);
+    while rest.len() >= 16 {
+        let bits = S::bits(rest);
+        let sixteen = u8x16::from_slice(rest);
+        if bits != 0 {
+            let count = bits.trailing_zeros() as usize;
+            return (
+                Some(place + count),
+                (sums + front_lanes(sixteen, count)).reduce_sum(),
+            );
+        }
+        sums += sixteen;
+        let (_, behind) = rest.split_at(16);
+        rest = behind;
+        place += 16;
+    }
+    let sum = sums.reduce_sum();
+    match first_by_one::<S>(rest) {
+        None => (None, sum.wrapping_add(sum_of(rest))),
+        Some(found) => {
+            let (front, _) = rest.split_at(found);
+            (Some(place + found), sum.wrapping_add(sum_of(front)))
+        }
+    }
+}
+
+/// The first of sixteen bytes, so many, and 0 in place of the others.
+#[inline(always)]
+fn front_lanes(sixteen: u8x16, count: usize) -> u8x16
+    requires { count ≤ 16 }
+    ensures sum { sum_l result ≡ sum (take count sixteen) }
+    ensures lanes { length result ≡ 16 }
+{
+    let places = u8x16::from_array([0, 1, 2, 3, 4, 5, 6, 7, 8, 9, 10, 11, 12, 13, 14, 15]);
+    places
+        .simd_lt(u8x16::splat(count as u8))
+        .select(sixteen, u8x16::splat(0))
+}
+
+/// The sum of bytes modulo 256.
+pub fn sum_of(bytes: &[u8]) -> u8
+    ensures { result ≡ sum bytes.now % 256 }
+{
+    let mut total: u8 = 0;
+    for byte in bytes {
+        total = total.wrapping_add(*byte);
+    }
+    total
 }

@@ -1,9 +1,11 @@
 //! The bytes of a text: which none may hold, and why bytes are no text (LIS01-A2, 6.3 and 6.5).
 
-ghost use Rattle.std.specs.Prelude.{◌≡◌, None, Some, MatchResult};
+ghost use Rattle.std.specs.Prelude.{◌≡◌, ◌%◌, None, Some, MatchResult, length, take};
+ghost use Rattle.std.specs.List.{sum};
+ghost use Rattle.std.specs.Option.{unwrap_or};
 ghost use Rattle.lis_text.specs.Text.{first_forbidden, is_forbidden, text_fault};
 
-use crate::search::{ByteSet, first_in};
+use crate::search::{ByteSet, first_and_sum, first_in};
 use std::simd::prelude::*;
 use thiserror::Error;
 
@@ -47,6 +49,15 @@ pub fn first_forbidden(bytes: &[u8]) -> Option<usize>
     ensures { result ≡ first_forbidden bytes.now }
 {
     first_in::<ForbiddenBytes>(bytes)
+}
+
+/// The place of the first byte that no text may hold, from 0, and the sum modulo 256 of the bytes before it; where there
+/// is none, that of all (LIS01-A2, 6.3.1 and 6.5).
+pub fn text_and_sum(bytes: &[u8]) -> (Option<usize>, u8)
+    ensures first { result.0 ≡ first_forbidden bytes.now }
+    ensures sum { result.1 ≡ sum (take (unwrap_or result.0 (length bytes.now)) bytes.now) % 256 }
+{
+    first_and_sum::<ForbiddenBytes>(bytes)
 }
 
 /// Whether bytes are a text of at most `limit` bytes; if not, why. Their number is tested first, then each byte from

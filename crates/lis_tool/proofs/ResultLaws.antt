@@ -1,14 +1,15 @@
 -- The lines of results, record by record.
-use Rattle.std.proofs.Common.{◌≡◌, ℕ, List, [], ◌∷◌, ◌++◌, Option, None, Some, refl, sym, ◌∙◌, ap, subst, append-nil, append_assoc}
+use Rattle.std.proofs.Common.{◌≡◌, ℕ, List, [], ◌∷◌, ◌++◌, Option, None, Some, refl, sym, ◌∙◌, ap, subst, append-nil, append_assoc, ◌≤◌, length, take, drop, arith}
 use Rattle.lis_field.specs.declared.kinds.Kind.{Kind}
 use Rattle.lis_field.specs.declared.kinds.Kind.TheVariants as kinds
 use Rattle.lis_field.specs.Delimiters.{DelimiterBytes}
-use Rattle.lis_field.specs.Shape.{RecordContent, Repeats}
+use Rattle.lis_field.specs.Shape.{Fields, RecordContent, Repeats}
+use Rattle.lis_record.specs.inside.Remaining.{more_fields}
 use Rattle.lis_message.specs.inside.Taking.{ComesNext, header, inner}
 use Rattle.lis_record.specs.Lent.{Lent}
 use Rattle.lis_tree.specs.inside.Begun.{Begun}
 use Rattle.lis_tool.specs.Messages.{with_record}
-use Rattle.lis_tool.specs.Results.{IsTelling, field_text, line_of, result_lines, sample_after, sample_behind}
+use Rattle.lis_tool.specs.Results.{IsTelling, field_text, fields_behind, told_fields, line_of, result_lines, sample_after, sample_behind}
 
 result_lines-more : (d : DelimiterBytes) (sample : Option Repeats) (records : List RecordContent) (r : RecordContent)
     → result_lines d sample (records ++ r ∷ []) ≡ result_lines d sample records ++ line_of d (sample_behind sample records) r r.kind
@@ -87,3 +88,27 @@ pub result_added : (d : DelimiterBytes) (named : Option Repeats) (r : RecordCont
 result_added d named r kind lines lines' sample is line told =
     subst (λ (k : Kind). (lines' ≡ lines ++ line_of d named r k) × (sample ≡ field_text d (sample_after named r k))) (sym is)
     (line, told)
+
+-- fields 3 to 7 as they stand, and field 9
+pub told_plain :
+    (d : DelimiterBytes) (r : RecordContent) → r.kind ≡ kinds.R → (number flag : Repeats) (from_3 from_8 from_9 : Fields) (front last : List ℕ)
+    → r.fields ≡ number ∷ from_3 → 5 ≤ length from_3 → d.field ∷ front ≡ more_fields d (take 5 from_3) → from_8 ≡ drop 5 from_3
+    → from_8 ≡ flag ∷ from_9 → 1 ≤ length from_9 → d.field ∷ last ≡ more_fields d (take 1 from_9)
+    → (d.field ∷ front) ++ d.field ∷ last ≡ fields_behind d r told_fields
+told_plain d r kind number flag from_3 from_8 from_9 front last fields five fronts behind eight one lasts =
+    rw (kind, fields)
+    (ap (λ (l : List ℕ). l ++ d.field ∷ last) fronts ∙ ap (λ (l : List ℕ). more_fields d (take 5 from_3) ++ l) lasts
+    ∙ by from_3 from_9 five one (sym behind ∙ eight))
+  where
+    by : (from_3 from_9 : Fields) → 5 ≤ length from_3 → 1 ≤ length from_9 → drop 5 from_3 ≡ flag ∷ from_9
+        → more_fields d (take 5 from_3) ++ more_fields d (take 1 from_9)
+        ≡ fields_behind d (record { kind = kinds.R; fields = number ∷ from_3 }) told_fields
+    by (a ∷ b ∷ c ∷ e ∷ f ∷ flag' ∷ g ∷ more) (g' ∷ more') five one behind = let same : g ≡ g' = cc in rw same (simp append_assoc)
+    by (a ∷ b ∷ c ∷ e ∷ f ∷ flag' ∷ []) (g' ∷ more') five one behind = cc
+    by (a ∷ b ∷ c ∷ e ∷ f ∷ []) from_9 five one behind = cc
+    by (a ∷ b ∷ c ∷ e ∷ []) from_9 five one behind = absurd (omega arith)
+    by (a ∷ b ∷ c ∷ []) from_9 five one behind = absurd (omega arith)
+    by (a ∷ b ∷ []) from_9 five one behind = absurd (omega arith)
+    by (a ∷ []) from_9 five one behind = absurd (omega arith)
+    by [] from_9 five one behind = absurd (omega arith)
+    by from_3 [] five one behind = absurd (omega arith)

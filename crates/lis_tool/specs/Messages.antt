@@ -113,6 +113,12 @@ RefusesBy w bytes old new before text (Ok halt) =
     Puts (λ all. Halts true (Comes w bytes false) all halt.result × IsEarly true halt.result) old new before halt.written text
 RefusesBy w bytes old new before text (Err fault) = Fails (Comes w bytes false) old new before text fault
 
+-- what becomes of the run where a record was taken: it goes on, or memory was refused, or the sink failed
+abbrev pub turn_after : ℕ → Result (Option ℕ) ToolFault → Result Turn ToolFault
+turn_after written (Ok (Some after)) = Ok (On after)
+turn_after written (Ok None) = Ok (Off (record { written = written; result = Err OutOfMemory }))
+turn_after written (Err fault) = Err fault
+
 -- a step over a front of bytes that follow these
 abbrev pub StepsOver :
     (w : MessageWrites) (stands : List ℕ → List ℕ → Type 0) (past bytes behind : List ℕ) → Out → Out → ℕ → List ℕ

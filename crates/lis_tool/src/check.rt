@@ -72,6 +72,7 @@ impl MessageMachine for Check {
 
     ghost stands = { λ m messages left. IsChecking m.records.bytes.items m.findings.bytes.items m.numbering m.found m.told messages left };
 
+    #[inline(always)]
     fn record(&mut self, entry: &LentRecord<'_>) -> Result<(), AllocError> {
         let place = self.numbering.next_place();
         add_record(&mut self.records, place, entry.kind(), entry.len() as u64)?;
@@ -83,6 +84,7 @@ impl MessageMachine for Check {
         Ok(())
     }
 
+    #[inline(never)]
     fn message<W: Sink>(
         &mut self,
         sink: &mut W,
@@ -146,10 +148,11 @@ fn add_record(lines: &mut HeldText, place: u64, kind: Kind, fields: u64) -> Resu
     lines.add_number(place)?;
     lines.add(&[b' ', kind.letter(), b' '])?;
     lines.add_number(fields)?;
-    lines.add(b"\n")
+    lines.add_byte(b'\n')
 }
 
 /// Adds the line of a finding.
+#[inline(never)]
 fn add_finding(lines: &mut HeldText, finding: Finding) -> Result<(), AllocError>
     ensures { OnOk result (lines.new.bytes.items ≡ lines.old.bytes.items ++ finding_line finding) }
 {

@@ -1,6 +1,6 @@
 //! Text that is held in memory until a message is whole.
 
-ghost use Rattle.std.specs.Prelude.{◌≡◌, ◌++◌, [], Some, decimal, OnOk};
+ghost use Rattle.std.specs.Prelude.{◌≡◌, ◌++◌, ◌∷◌, [], Some, decimal, OnOk};
 ghost use Rattle.lis_field.specs.Shape.{field_at};
 ghost use Rattle.lis_tool.specs.Results.{field_text};
 
@@ -49,6 +49,17 @@ impl HeldText {
         self.bytes.extend_from_slice(text)
     }
 
+    /// Adds a byte.
+    #[inline(always)]
+    pub(crate) fn add_byte(&mut self, byte: u8) -> Result<(), AllocError>
+        ensures { OnOk result (self.new.bytes.items ≡ self.old.bytes.items ++ byte ∷ []) }
+    {
+        match self.bytes.push(byte) {
+            Ok(()) => Ok(()),
+            Err(_) => Err(AllocError),
+        }
+    }
+
     /// Adds a number in decimal digits.
     #[inline(always)]
     pub(crate) fn add_number(&mut self, number: u64) -> Result<(), AllocError>
@@ -59,6 +70,7 @@ impl HeldText {
     }
 
     /// Adds a record's field of this number by its spelling; nothing where it is absent.
+    #[inline(never)]
     pub(crate) fn add_field(
         &mut self,
         entry: &LentRecord<'_>,

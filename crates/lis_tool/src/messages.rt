@@ -1,11 +1,11 @@
 //! Commands that take record text message by message, each record where it stands.
 
-ghost use Rattle.std.specs.Prelude.{◌≡◌, ◌+◌, ◌^◌, ◌<◌, ◌++◌, ◌∷◌, [], ℕ, List, None, Some, Option, OnOk, false, true, is_err, length};
+ghost use Rattle.std.specs.Prelude.{◌≡◌, ◌+◌, ◌^◌, ◌<◌, ◌++◌, ◌∷◌, [], ℕ, List, None, Some, Option, IfNone, IfSome, OnOk, false, true, is_err, length, Ok};
 ghost use Rattle.std.specs.Option.{option_to_list};
 ghost use Rattle.lis_message.specs.Feeding.{Stops};
 ghost use Rattle.lis_message.specs.inside.Taking.{ComesNext, Completes, left_after, records_of};
 ghost use Rattle.lis_tool.specs.LineOutcome.{LineEnds, LineSteps};
-ghost use Rattle.lis_tool.specs.Messages.{Comes, IsReadingMessages, IsShorter, MessageWrites, RefusesBy, StepsOver, messages_text, reads_on, record_count, report_after, whole_begun, with_record};
+ghost use Rattle.lis_tool.specs.Messages.{Comes, IsReadingMessages, IsShorter, MessageWrites, RefusesBy, StepsOver, messages_text, reads_on, record_count, report_after, turn_after, whole_begun, with_record};
 ghost use Rattle.lis_tool.specs.Output.{Gathered, out};
 ghost use Rattle.lis_tree.specs.inside.Begun.{Begun};
 ghost use Rattle.lis_tree.specs.Tree.{MessageTree};
@@ -74,14 +74,16 @@ struct Counted<C> {
 }
 
 impl<C: MessageMachine> Counted<C> {
-    /// The command takes the next record, and writes the message that it completes.
+    /// The command takes the next record, and writes the message that it completes; the count of the bytes that then
+    /// went out, none where memory is refused.
+    #[inline(always)]
     fn take<W: Sink>(
         &mut self,
         sink: &mut W,
         page: &mut Page,
         written: u64,
         entry: &LentRecord<'_>,
-    ) -> Result<Turn, ToolFault>
+    ) -> Result<Option<u64>, ToolFault>
         requires { W.failed sink.old ≡ false }
         ensures steps { (messages : List MessageTree) (left : Option Begun) (message : Option MessageTree) (text : List ℕ) →
             C.stands self.old.command messages left → self.old.count ≡ length messages → ComesNext left text entry.now →
@@ -90,28 +92,26 @@ impl<C: MessageMachine> Counted<C> {
             LineSteps true (C.stands self.new.command (messages ++ option_to_list message) (left_after left entry.now entry.now.content.kind)
             × (self.new.count ≡ length (messages ++ option_to_list message)))
             (out (W.taken sink.old) page.old) (out (W.taken sink.new) page.new) written
-            (messages_text C.writes (length messages) (option_to_list message)) result }
+            (messages_text C.writes (length messages) (option_to_list message)) (turn_after written result) }
         ensures failed { W.failed sink.new ≡ is_err result }
     {
         if let Err(AllocError) = self.command.record(entry) {
-            return Ok(Turn::Off(Halt {
-                written,
-                result: Err(ToolFault::OutOfMemory),
-            }));
+            return Ok(None);
         }
         match entry.kind() {
             Kind::L => match self.command.message(sink, page, written, self.count) {
                 Ok(after) => {
                     self.count = self.count.saturating_add(1);
-                    Ok(Turn::On(after))
+                    Ok(Some(after))
                 }
                 Err(fault) => Err(fault),
             },
-            _ => Ok(Turn::On(written)),
+            _ => Ok(Some(written)),
         }
     }
 
     /// The command takes the end at a record that is refused, or memory is.
+    #[inline(never)]
     fn refuse<W: Sink>(
         &self,
         sink: &mut W,
@@ -136,6 +136,29 @@ impl<C: MessageMachine> Counted<C> {
     }
 }
 
+/// The run ends behind `written` bytes, as memory was refused.
+#[inline(never)]
+fn starved(written: u64) -> Result<Turn, ToolFault>
+    ensures { result ≡ turn_after written (Ok None) }
+{
+    Ok(Turn::Off(Halt {
+        written,
+        result: Err(ToolFault::OutOfMemory),
+    }))
+}
+
+/// What becomes of the run behind `written` bytes, where a record was taken.
+fn as_turn(written: u64, taken: Result<Option<u64>, ToolFault>) -> Result<Turn, ToolFault>
+    ensures turn { result ≡ turn_after written taken }
+    ensures failed { is_err result ≡ is_err taken }
+{
+    match taken {
+        Ok(Some(after)) => Ok(Turn::On(after)),
+        Ok(None) => starved(written),
+        Err(fault) => Err(fault),
+    }
+}
+
 /// A command over messages, as one over bytes. It keeps what waits for one message.
 #[derive(Drop)]
 pub struct Messages<C> {
@@ -155,7 +178,35 @@ impl<C: MessageMachine> Messages<C> {
         }
     }
 
+    /// The command takes the next record of these bytes where it stands whole in them, as most do, and answers the bytes
+    /// behind it, and the count of the bytes that then went out, none where memory is refused. Else nothing is taken.
+    #[inline(always)]
+    fn take_whole<'a, W: Sink>(
+        &mut self,
+        sink: &mut W,
+        page: &mut Page,
+        written: u64,
+        bytes: &'a [u8],
+    ) -> Option<(&'a [u8], Result<Option<u64>, ToolFault>)>
+        requires { W.failed sink.old ≡ false }
+        ensures steps { IfSome result (λ found. (past text : List ℕ) →
+            IsReadingMessages C.writes (C.stands self.old.told.command) self.old.reader self.old.told.count past text →
+            length past + length bytes.now < 2 ^ 44 →
+            StepsOver C.writes (IsReadingMessages C.writes (C.stands self.new.told.command) self.new.reader self.new.told.count) past bytes.now found.0.now
+            (out (W.taken sink.old) page.old) (out (W.taken sink.new) page.new) written text (turn_after written found.1)) }
+        ensures shorter { IfSome result (λ found. length found.0.now < length bytes.now) }
+        ensures failed { IfSome result (λ found. W.failed sink.new ≡ is_err found.1) }
+        ensures none { IfNone result ((self.new ≡ self.old) × (sink.new ≡ sink.old) × (page.new ≡ page.old)) }
+    {
+        let Some((entry, behind)) = self.reader.read_whole(bytes) else {
+            return None;
+        };
+        Some((behind, self.told.take(sink, page, written, &entry)))
+    }
+
     /// The command takes the next record of these bytes, or what refuses one; and the bytes behind it.
+    // Its result is large: within the loop of its caller each record would pay for it.
+    #[inline(never)]
     fn read_next<'a, W: Sink>(
         &mut self,
         sink: &mut W,
@@ -179,12 +230,18 @@ impl<C: MessageMachine> Messages<C> {
                 Ok(halt) => (behind, Ok(Turn::Off(halt))),
                 Err(fault) => (behind, Err(fault)),
             },
-            Found::Record(entry) => (behind, self.told.take(sink, page, written, &entry)),
+            Found::Record(entry) => (
+                behind,
+                as_turn(written, self.told.take(sink, page, written, &entry)),
+            ),
             Found::Held => {
                 let Some(entry) = self.reader.cut() else {
                     unreachable!()
                 };
-                (behind, self.told.take(sink, page, written, &entry))
+                (
+                    behind,
+                    as_turn(written, self.told.take(sink, page, written, &entry)),
+                )
             }
         }
     }
@@ -213,13 +270,22 @@ impl<C: MessageMachine> Machine for Messages<C> {
         let mut rest = bytes;
         let mut after = written;
         while !rest.is_empty() {
-            let (behind, turn) = self.read_next(sink, page, after, rest);
-            match turn {
-                Ok(Turn::On(next)) => after = next,
-                Ok(Turn::Off(halt)) => return Ok(Turn::Off(halt)),
-                Err(fault) => return Err(fault),
+            if let Some((behind, taken)) = self.take_whole(sink, page, after, rest) {
+                match taken {
+                    Ok(Some(next)) => after = next,
+                    Ok(None) => return starved(after),
+                    Err(fault) => return Err(fault),
+                }
+                rest = behind;
+            } else {
+                let (behind, turn) = self.read_next(sink, page, after, rest);
+                match turn {
+                    Ok(Turn::On(next)) => after = next,
+                    Ok(Turn::Off(halt)) => return Ok(Turn::Off(halt)),
+                    Err(fault) => return Err(fault),
+                }
+                rest = behind;
             }
-            rest = behind;
         }
         Ok(Turn::On(after))
     }

@@ -1,10 +1,11 @@
 //! The command `results`: the result records of messages, with the samples that their orders name (LIS02-A2).
 
-ghost use Rattle.std.specs.Prelude.{◌≡◌, ◌^◌, ◌<◌, ◌≤◌, ◌++◌, List, Option, None, OnOk, true, length, IfOk};
+ghost use Rattle.std.specs.Prelude.{◌≡◌, ◌^◌, ◌<◌, ◌≤◌, ◌++◌, ◌∷◌, List, Option, None, OnOk, true, length, IfOk, IfSome};
+ghost use Rattle.lis_field.specs.declared.kinds.Kind.TheVariants as kinds;
 ghost use Rattle.lis_field.specs.Shape.{Repeats};
 ghost use Rattle.lis_tool.specs.MessageRuns.{MessagesRan};
 ghost use Rattle.lis_tool.specs.Messages.{report_after};
-ghost use Rattle.lis_tool.specs.Results.{IsTelling, field_text, fields_behind, result_line, results_writes};
+ghost use Rattle.lis_tool.specs.Results.{IsTelling, field_text, fields_behind, result_line, results_writes, told_fields};
 ghost use Rattle.lis_tool.specs.Runs.{IsFresh, StopsBy};
 ghost use Rattle.lis_tree.specs.Tree.{MessageTree};
 
@@ -71,6 +72,7 @@ impl MessageMachine for Results {
 
     ghost stands = { λ m messages left. IsTelling m.lines.bytes.items m.sample.bytes.items left };
 
+    #[inline(always)]
     fn record(&mut self, entry: &LentRecord<'_>) -> Result<(), AllocError> {
         match entry.kind() {
             Kind::O => {
@@ -82,6 +84,7 @@ impl MessageMachine for Results {
         }
     }
 
+    #[inline(never)]
     fn message<W: Sink>(
         &mut self,
         sink: &mut W,
@@ -124,16 +127,60 @@ fn report_of(before: u64, fault: Option<MessageFault>) -> Report
 }
 
 /// Adds the line of a result under this sample.
+#[inline(always)]
 fn add_result(lines: &mut HeldText, sample: &[u8], entry: &LentRecord<'_>) -> Result<(), AllocError>
+    requires { entry.now.content.kind ≡ kinds.R }
     ensures { OnOk result ((named : Option Repeats) → sample.now ≡ field_text entry.now.delimiters named →
         lines.new.bytes.items ≡ lines.old.bytes.items ++ result_line entry.now.delimiters named entry.now.content) }
 {
     lines.add(sample)?;
-    add_fields(lines, entry, &TOLD_FIELDS)?;
-    lines.add(b"\n")
+    add_told(lines, entry)?;
+    lines.add_byte(b'\n')
+}
+
+/// Adds the fields of a result that are told, each behind a field delimiter.
+#[inline(always)]
+fn add_told(lines: &mut HeldText, entry: &LentRecord<'_>) -> Result<(), AllocError>
+    requires { entry.now.content.kind ≡ kinds.R }
+    ensures { OnOk result (lines.new.bytes.items ≡ lines.old.bytes.items
+        ++ fields_behind entry.now.delimiters entry.now.content told_fields) }
+{
+    let Some((front, last)) = plain_fields(entry) else {
+        return add_fields(lines, entry, &TOLD_FIELDS);
+    };
+    let mark = entry.delimiters().field();
+    lines.add_byte(mark)?;
+    lines.add(front)?;
+    lines.add_byte(mark)?;
+    lines.add(last)
+}
+
+/// Fields 3 to 7 of a result as they stand, with the delimiters between them, and field 9; none where one is absent or
+/// an escape byte is among them.
+#[inline(always)]
+fn plain_fields<'a>(entry: &LentRecord<'a>) -> Option<(&'a [u8], &'a [u8])>
+    requires { entry.now.content.kind ≡ kinds.R }
+    ensures { IfSome result (λ parts. (entry.now.delimiters.field ∷ parts.0.now) ++ entry.now.delimiters.field ∷ parts.1.now
+        ≡ fields_behind entry.now.delimiters entry.now.content told_fields) }
+{
+    let mut fields = entry.fields();
+    let Some(_number) = fields.next() else {
+        return None;
+    };
+    let Some(front) = fields.take_plain(5) else {
+        return None;
+    };
+    let Some(_flag) = fields.next() else {
+        return None;
+    };
+    match fields.take_plain(1) {
+        Some(last) => Some((front, last)),
+        None => None,
+    }
 }
 
 /// Adds the fields of these numbers, each behind a field delimiter.
+#[inline(never)]
 fn add_fields(
     lines: &mut HeldText,
     entry: &LentRecord<'_>,

@@ -6,5 +6,6 @@ pub mod Levels
 pub mod ListFaults
 pub mod Notes
 pub mod Refusing
+pub mod ResultLaws
 pub mod Trees
 pub mod Viable

@@ -7,5 +7,6 @@ pub mod Notes
 pub mod Numbers
 pub mod Places
 pub mod Refusing
+pub mod Results
 pub mod Tree
 pub mod inside

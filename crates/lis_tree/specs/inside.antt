@@ -5,3 +5,4 @@ pub mod Open
 pub mod Spine
 pub mod Standing
 pub mod Walk
+pub mod ResultsLeft

@@ -6,6 +6,7 @@ ghost use Rattle.lis_tree.specs.Hierarchy.{IsViable};
 ghost use Rattle.lis_tree.specs.Level.{StandsFrom, level_after, misplaced, outside};
 ghost use Rattle.lis_tree.specs.Notes.{IsNotedOn, Placed, placed};
 ghost use Rattle.lis_tree.specs.Refusing.{IsRefusedFor};
+ghost use Rattle.lis_tree.specs.Results.{result_record, results_among, results_of};
 ghost use Rattle.lis_tree.specs.Tree.{IsTree, MessageTree, flatten};
 
 /// The hierarchy by the place of the next record is that in the standard's words.
@@ -33,4 +34,10 @@ pub fn notes()
     ensures records { (m : MessageTree) → map (λ p. p.content) (placed m) ≡ flatten m }
     ensures notes { (m : MessageTree) → IsTree m → (before behind : List Placed) (p : Placed)
         → placed m ≡ before ++ p ∷ behind → IsNotedOn (map (λ q. q.content) before) p.content p.note_on }
+{}
+
+/// The results that a tree has are the result records of the message, each under the last order record and the last
+/// patient record before it (LIS02-A2).
+pub fn results()
+    ensures { (m : MessageTree) → IsTree m → map result_record (results_of m) ≡ results_among None None (flatten m) }
 {}

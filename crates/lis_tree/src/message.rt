@@ -4,24 +4,27 @@ ghost use Rattle.lis_tree.specs.declared.fault.Reason.TheVariants as reasons;
 ghost use Rattle.lis_tree.specs.Level.{misplaced, closed, kinds_of};
 ghost use Rattle.lis_tree.specs.ListFaults.{IsListFault};
 ghost use Rattle.lis_tree.specs.Places.{capped};
+ghost use Rattle.lis_tree.specs.Results.{results_left, results_of};
 ghost use Rattle.lis_tree.specs.Tree.{MessageTree, IsTree, flatten};
 
 use crate::fault::{MessageFault, Reason};
-use crate::lists::Records;
+use crate::lists::{Records, copy_records};
 use crate::open::OpenMessage;
+use crate::results::Results;
 use crate::tree::Group;
 use crate::walk::{Walk, count};
 use lis_record::{Delimiters, Kind, Record};
-use std::alloc::Global;
+use lis_text::List;
+use std::alloc::{AllocError, Global};
 use std::marker::Model;
 
 /// A whole message: its header with notes, its patients and queries, and the record that closes it.
-#[derive(Drop)]
+#[derive(Debug, PartialEq, Eq, Drop)]
 pub struct Message {
     delimiters: Delimiters,
     header: Record,
     notes: Records,
-    groups: Vec<Group>,
+    groups: List<Group>,
     closing: Record,
 }
 
@@ -30,9 +33,11 @@ impl Model for Message {
 
     ghost Value = { MessageTree };
 
-    ghost view = { λ m. record { delimiters = m.delimiters; header = m.header; notes = m.notes; groups = m.groups.items; closing = m.closing } };
+    ghost view = { λ m. record { delimiters = m.delimiters; header = m.header; notes = m.notes; groups = m.groups; closing = m.closing } };
 
-    ghost invariant = { λ m. IsTree (record { delimiters = m.delimiters; header = m.header; notes = m.notes; groups = m.groups.items; closing = m.closing }) };
+    ghost invariant = { λ m. IsTree (record { delimiters = m.delimiters; header = m.header; notes = m.notes; groups = m.groups; closing = m.closing }) };
+
+    ghost inverse = { λ m. record { delimiters = m.delimiters; header = m.header; notes = m.notes; groups = m.groups; closing = m.closing } };
 }
 
 impl Message {
@@ -40,11 +45,11 @@ impl Message {
         delimiters: Delimiters,
         header: Record,
         notes: Records,
-        groups: Vec<Group>,
+        groups: List<Group>,
         closing: Record,
     ) -> Self
-        requires { IsTree (record { delimiters = delimiters; header = header; notes = notes; groups = groups.items; closing = closing }) }
-        ensures { result ≡ record { delimiters = delimiters; header = header; notes = notes; groups = groups.items; closing = closing } }
+        requires { IsTree (record { delimiters = delimiters; header = header; notes = notes; groups = groups; closing = closing }) }
+        ensures { result ≡ record { delimiters = delimiters; header = header; notes = notes; groups = groups; closing = closing } }
     {
         Message {
             delimiters,
@@ -107,6 +112,31 @@ impl Message {
             place: begun.next_place(),
             reason: Reason::Unfinished,
         })
+    }
+
+    /// The same message once more, with memory of its own.
+    pub fn copy(&self, alloc: Global) -> Result<Self, AllocError>
+        ensures { IfOk result (λ message. message ≡ self.now) }
+    {
+        let delimiters = self.delimiters();
+        let mut groups = List::new(alloc);
+        for group in self.groups() {
+            groups.push(group.copy(alloc)?)?;
+        }
+        Ok(Message::new(
+            delimiters,
+            self.header.copy(alloc)?,
+            copy_records(alloc, &self.notes)?,
+            groups,
+            self.closing.copy(alloc)?,
+        ))
+    }
+
+    /// The results of its orders, in order, each with the order and the patient that it belongs to.
+    pub fn results(&self) -> Results<'_>
+        ensures { results_left result ≡ results_of self.now }
+    {
+        Results::new(self.groups())
     }
 
     /// The delimiters that its header names.

@@ -3,7 +3,7 @@ ghost use Rattle.std.specs.Prelude.{◌≡◌, ◌≢◌, ℕ, ◌+◌, ◌<◌,
 ghost use Rattle.lis_field.specs.declared.kinds.Kind.{Kind as KindOf};
 ghost use Rattle.lis_tree.specs.Findings.{HasNumbered, finding_on, findings_from, findings_of};
 ghost use Rattle.std.specs.Option.{option_to_list};
-ghost use Rattle.lis_field.specs.Shape.{RecordContent, field_at};
+ghost use Rattle.lis_field.specs.Shape.{RecordContent, field_at, plain_component};
 ghost use Rattle.lis_tree.specs.Places.{capped};
 ghost use Rattle.lis_tree.specs.Numbers.{CountsOf, symbol_digit, digits_number, field_number, is_number, is_numbered};
 
@@ -53,6 +53,7 @@ impl Counts {
     }
 
     /// The number that a record of this kind should have.
+    #[inline(always)]
     fn expected(self, kind: Kind) -> u64
         ensures { (earlier : Listed KindOf) → CountsOf earlier self.patients self.queries self.orders self.results self.comments
             → kind ≢ kinds.H → kind ≢ kinds.M → kind ≢ kinds.S → result ≡ capped (expected_number kind earlier) }
@@ -68,6 +69,7 @@ impl Counts {
     }
 
     /// The counts behind a record of this kind.
+    #[inline(always)]
     fn after(self, kind: Kind) -> Self
         ensures { (earlier : Listed KindOf) → CountsOf earlier self.patients self.queries self.orders self.results self.comments
             → CountsOf (kind ∷ earlier) result.patients result.queries result.orders result.results result.comments }
@@ -106,6 +108,7 @@ impl Counts {
 }
 
 /// The value of a symbol that is a digit.
+#[inline(always)]
 fn symbol_digit(symbol: &Sym) -> Option<u64>
     ensures value { result ≡ symbol_digit symbol.now }
     ensures small { IfSome result (λ digit. digit < 10) }
@@ -157,6 +160,7 @@ fn field_number(field: &Field) -> Option<u64>
 }
 
 /// Whether records of this kind carry a number that is examined.
+#[inline(always)]
 fn is_numbered(kind: Kind) -> bool
     ensures { result ≡ is_numbered kind }
 {
@@ -193,8 +197,42 @@ fn symbols_number(symbols: LentSymbols<'_>) -> Option<u64>
     if count == 0 { None } else { Some(number) }
 }
 
+/// The number that bytes are, where they are one to nine digits.
+#[inline(always)]
+fn bytes_number(bytes: &[u8]) -> Option<u64>
+    ensures { result ≡ digits_number (plain_component bytes.now) }
+{
+    let mut rest = bytes;
+    let mut number = 0u64;
+    let mut count = 0u64;
+    while let Some((byte, behind)) = rest.split_first() {
+        if count == 9 {
+            return None;
+        }
+        let Some(digit) = symbol_digit(&Sym::Char(*byte)) else {
+            return None;
+        };
+        number = number * 10 + digit;
+        count += 1;
+        rest = behind;
+    }
+    if count == 0 { None } else { Some(number) }
+}
+
 /// The number that a lent field is, where it is one repeat of one component.
+#[inline(always)]
 fn lent_field_number(field: &LentField<'_>) -> Option<u64>
+    ensures { result ≡ field_number (Some field.now.content) }
+{
+    match field.only_component() {
+        Some(bytes) => bytes_number(bytes),
+        None => other_field_number(field),
+    }
+}
+
+/// The same, where there may be more repeats or components, or an escape.
+#[inline(never)]
+fn other_field_number(field: &LentField<'_>) -> Option<u64>
     ensures { result ≡ field_number (Some field.now.content) }
 {
     if field.len() != 1 {
@@ -209,16 +247,22 @@ fn lent_field_number(field: &LentField<'_>) -> Option<u64>
 }
 
 /// The number that a lent record's second field is.
+#[inline(always)]
 fn lent_number(entry: &LentRecord<'_>) -> Option<u64>
     ensures { result ≡ field_number (field_at entry.now.content 2) }
 {
-    let Some(field) = entry.field(2) else {
+    // A header's second field is its delimiters.
+    if let Kind::H = entry.kind() {
         return None;
-    };
-    lent_field_number(&field)
+    }
+    match entry.fields().next() {
+        Some(field) => lent_field_number(&field),
+        None => None,
+    }
 }
 
 /// Whether a number is the expected one.
+#[inline(always)]
 fn is_number(number: Option<u64>, expected: u64) -> bool
     ensures { result ≡ is_number number expected }
 {
@@ -229,6 +273,7 @@ fn is_number(number: Option<u64>, expected: u64) -> bool
 }
 
 /// The finding on a record at this place whose second field is this number, if there is one.
+#[inline(always)]
 fn finding_on(kind: Kind, number: Option<u64>, counts: Counts, place: u64) -> Option<Finding>
     ensures { (earlier : Listed KindOf) (n : ℕ) (r : RecordContent) → CountsOf earlier counts.patients counts.queries counts.orders counts.results counts.comments
         → place ≡ capped n → r.kind ≡ kind → field_number (field_at r 2) ≡ number → option_to_list result ≡ finding_on earlier n r }
@@ -276,6 +321,7 @@ impl Numbering {
 
     /// Takes the next record, and answers the finding on its second field, if there is one: those on all records with
     /// it are those on the records before, and that.
+    #[inline(always)]
     pub fn take(&mut self, entry: &LentRecord<'_>) -> Option<Finding>
         ensures found { (records : Listed RecordContent) → HasNumbered self.old records
             → findings_from [] 1 (records ++ entry.now.content ∷ []) ≡ findings_from [] 1 records ++ option_to_list result }

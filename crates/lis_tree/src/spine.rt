@@ -12,6 +12,7 @@ use crate::message::Message;
 use crate::standing::Standing;
 use crate::tree::{Group, Order, Patient, Query, ResultEntry};
 use lis_record::{Delimiters, Kind, Record};
+use lis_text::List;
 use std::alloc::{AllocError, Global};
 use std::marker::Model;
 
@@ -68,14 +69,14 @@ impl Item {
         ensures { result ≡ record { head = self.head; notes = self.notes; results = [] } }
     {
         let Item { head, notes } = self;
-        Order::new(head, notes, Vec::new(alloc))
+        Order::new(head, notes, List::new(alloc))
     }
 
     fn into_patient(self, alloc: Global) -> Patient
         ensures { result ≡ record { head = self.head; notes = self.notes; orders = [] } }
     {
         let Item { head, notes } = self;
-        Patient::new(head, notes, Vec::new(alloc))
+        Patient::new(head, notes, List::new(alloc))
     }
 }
 
@@ -84,7 +85,7 @@ impl Item {
 pub(crate) struct Front {
     header: Record,
     notes: Records,
-    groups: Vec<Group>,
+    groups: List<Group>,
 }
 
 impl Model for Front {
@@ -92,7 +93,7 @@ impl Model for Front {
 
     ghost Value = { FrontTree };
 
-    ghost view = { λ f. record { header = f.header; notes = f.notes; groups = f.groups.items } };
+    ghost view = { λ f. record { header = f.header; notes = f.notes; groups = f.groups } };
 }
 
 impl Front {
@@ -103,7 +104,7 @@ impl Front {
         Front {
             header: head,
             notes,
-            groups: Vec::new(alloc),
+            groups: List::new(alloc),
         }
     }
 

@@ -22,6 +22,7 @@ pub enum Standing {
 impl Standing {
     /// Why a record of this kind can't stand here: a second header can't, an order stands under a patient
     /// alone, and a result under an order (LIS02-A2, the hierarchy of records).
+    #[inline(always)]
     pub fn place_fault(self, kind: Kind) -> Option<Reason>
         ensures { result ≡ misplaced (standing_level self) kind }
     {
@@ -40,6 +41,7 @@ impl Standing {
 
     /// Where the next record will stand behind one of this kind, which stands here; none where that closes
     /// the message.
+    #[inline(always)]
     pub fn after(self, kind: Kind) -> Option<Standing>
         ensures { standing_or_closed result ≡ next_level (standing_level self) kind }
     {

@@ -1,5 +1,7 @@
 //! What stands below a message's header: patients with their orders and results, and queries.
 
+ghost use Rattle.std.specs.Prelude.{◌≡◌, IfOk};
+
 mod entry;
 mod order;
 mod patient;
@@ -9,10 +11,23 @@ pub use entry::ResultEntry;
 pub use order::Order;
 pub use patient::Patient;
 pub use query::Query;
+use std::alloc::{AllocError, Global};
 
 /// What stands right under a header.
-#[derive(Drop)]
+#[derive(Debug, PartialEq, Eq, Drop)]
 pub enum Group {
     Patient(Patient),
     Query(Query),
+}
+
+impl Group {
+    /// The same patient or query once more, with memory of its own.
+    pub fn copy(&self, alloc: Global) -> Result<Self, AllocError>
+        ensures { IfOk result (λ group. group ≡ self.now) }
+    {
+        Ok(match self {
+            Group::Patient(patient) => Group::Patient(patient.copy(alloc)?),
+            Group::Query(query) => Group::Query(query.copy(alloc)?),
+        })
+    }
 }

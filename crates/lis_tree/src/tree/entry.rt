@@ -1,11 +1,12 @@
-ghost use Rattle.std.specs.Prelude.{◌≡◌};
+ghost use Rattle.std.specs.Prelude.{◌≡◌, IfOk};
 
-use crate::lists::Records;
+use crate::lists::{Records, copy_records};
 use lis_record::Record;
+use std::alloc::{AllocError, Global};
 use std::marker::Model;
 
 /// A result with its notes.
-#[derive(Drop)]
+#[derive(Debug, PartialEq, Eq, Drop)]
 pub struct ResultEntry {
     head: Record,
     notes: Records,
@@ -17,6 +18,8 @@ impl Model for ResultEntry {
     ghost Value = { Noted };
 
     ghost view = { λ e. record { head = e.head; notes = e.notes } };
+
+    ghost inverse = { λ e. record { head = e.head; notes = e.notes } };
 }
 
 impl ResultEntry {
@@ -38,5 +41,15 @@ impl ResultEntry {
         ensures { result.now ≡ self.now.notes }
     {
         &self.notes
+    }
+
+    /// The same result once more, with memory of its own.
+    pub fn copy(&self, alloc: Global) -> Result<Self, AllocError>
+        ensures { IfOk result (λ entry. entry ≡ self.now) }
+    {
+        Ok(ResultEntry {
+            head: self.head.copy(alloc)?,
+            notes: copy_records(alloc, &self.notes)?,
+        })
     }
 }

@@ -1,17 +1,18 @@
-ghost use Rattle.std.specs.Prelude.{◌≡◌, ◌++◌, ◌∷◌, [], OnOk};
+ghost use Rattle.std.specs.Prelude.{◌≡◌, ◌++◌, ◌∷◌, [], IfOk, OnOk};
 
 use super::entry::ResultEntry;
-use crate::lists::Records;
+use crate::lists::{Records, copy_records};
 use lis_record::Record;
-use std::alloc::AllocFailed;
+use lis_text::List;
+use std::alloc::{AllocError, AllocFailed, Global};
 use std::marker::Model;
 
 /// An order with its notes and its results.
-#[derive(Drop)]
+#[derive(Debug, PartialEq, Eq, Drop)]
 pub struct Order {
     head: Record,
     notes: Records,
-    results: Vec<ResultEntry>,
+    results: List<ResultEntry>,
 }
 
 impl Model for Order {
@@ -19,12 +20,14 @@ impl Model for Order {
 
     ghost Value = { OrderTree };
 
-    ghost view = { λ o. record { head = o.head; notes = o.notes; results = o.results.items } };
+    ghost view = { λ o. record { head = o.head; notes = o.notes; results = o.results } };
+
+    ghost inverse = { λ o. record { head = o.head; notes = o.notes; results = o.results } };
 }
 
 impl Order {
-    pub(crate) fn new(head: Record, notes: Records, results: Vec<ResultEntry>) -> Self
-        ensures { result ≡ record { head = head; notes = notes; results = results.items } }
+    pub(crate) fn new(head: Record, notes: Records, results: List<ResultEntry>) -> Self
+        ensures { result ≡ record { head = head; notes = notes; results = results } }
     {
         Order {
             head,
@@ -59,5 +62,20 @@ impl Order {
         ensures { result.now ≡ self.now.results }
     {
         self.results.as_slice()
+    }
+
+    /// The same order once more, with memory of its own.
+    pub fn copy(&self, alloc: Global) -> Result<Self, AllocError>
+        ensures { IfOk result (λ order. order ≡ self.now) }
+    {
+        let mut results = List::new(alloc);
+        for entry in self.results() {
+            results.push(entry.copy(alloc)?)?;
+        }
+        Ok(Order::new(
+            self.head.copy(alloc)?,
+            copy_records(alloc, &self.notes)?,
+            results,
+        ))
     }
 }

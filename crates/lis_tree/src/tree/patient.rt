@@ -1,17 +1,18 @@
-ghost use Rattle.std.specs.Prelude.{◌≡◌, ◌++◌, ◌∷◌, [], OnOk};
+ghost use Rattle.std.specs.Prelude.{◌≡◌, ◌++◌, ◌∷◌, [], IfOk, OnOk};
 
 use super::order::Order;
-use crate::lists::Records;
+use crate::lists::{Records, copy_records};
 use lis_record::Record;
-use std::alloc::AllocFailed;
+use lis_text::List;
+use std::alloc::{AllocError, AllocFailed, Global};
 use std::marker::Model;
 
 /// A patient with the notes and the orders.
-#[derive(Drop)]
+#[derive(Debug, PartialEq, Eq, Drop)]
 pub struct Patient {
     head: Record,
     notes: Records,
-    orders: Vec<Order>,
+    orders: List<Order>,
 }
 
 impl Model for Patient {
@@ -19,12 +20,14 @@ impl Model for Patient {
 
     ghost Value = { PatientTree };
 
-    ghost view = { λ p. record { head = p.head; notes = p.notes; orders = p.orders.items } };
+    ghost view = { λ p. record { head = p.head; notes = p.notes; orders = p.orders } };
+
+    ghost inverse = { λ p. record { head = p.head; notes = p.notes; orders = p.orders } };
 }
 
 impl Patient {
-    pub(crate) fn new(head: Record, notes: Records, orders: Vec<Order>) -> Self
-        ensures { result ≡ record { head = head; notes = notes; orders = orders.items } }
+    pub(crate) fn new(head: Record, notes: Records, orders: List<Order>) -> Self
+        ensures { result ≡ record { head = head; notes = notes; orders = orders } }
     {
         Patient {
             head,
@@ -59,5 +62,20 @@ impl Patient {
         ensures { result.now ≡ self.now.orders }
     {
         self.orders.as_slice()
+    }
+
+    /// The same patient once more, with memory of their own.
+    pub fn copy(&self, alloc: Global) -> Result<Self, AllocError>
+        ensures { IfOk result (λ patient. patient ≡ self.now) }
+    {
+        let mut orders = List::new(alloc);
+        for order in self.orders() {
+            orders.push(order.copy(alloc)?)?;
+        }
+        Ok(Patient::new(
+            self.head.copy(alloc)?,
+            copy_records(alloc, &self.notes)?,
+            orders,
+        ))
     }
 }

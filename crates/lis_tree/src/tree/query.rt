@@ -1,11 +1,12 @@
-ghost use Rattle.std.specs.Prelude.{◌≡◌};
+ghost use Rattle.std.specs.Prelude.{◌≡◌, IfOk};
 
-use crate::lists::Records;
+use crate::lists::{Records, copy_records};
 use lis_record::Record;
+use std::alloc::{AllocError, Global};
 use std::marker::Model;
 
 /// A query with its notes.
-#[derive(Drop)]
+#[derive(Debug, PartialEq, Eq, Drop)]
 pub struct Query {
     head: Record,
     notes: Records,
@@ -17,6 +18,8 @@ impl Model for Query {
     ghost Value = { Noted };
 
     ghost view = { λ q. record { head = q.head; notes = q.notes } };
+
+    ghost inverse = { λ q. record { head = q.head; notes = q.notes } };
 }
 
 impl Query {
@@ -38,5 +41,15 @@ impl Query {
         ensures { result.now ≡ self.now.notes }
     {
         &self.notes
+    }
+
+    /// The same query once more, with memory of its own.
+    pub fn copy(&self, alloc: Global) -> Result<Self, AllocError>
+        ensures { IfOk result (λ query. query ≡ self.now) }
+    {
+        Ok(Query {
+            head: self.head.copy(alloc)?,
+            notes: copy_records(alloc, &self.notes)?,
+        })
     }
 }

@@ -1,4 +1,5 @@
-use Rattle.std.proofs.Common.{◌≡◌, ◌∙◌, None, get_or, refl, sym, arith}
+use Rattle.std.proofs.Common.{◌≡◌, ◌∙◌, ◌+◌, ◌%◌, None, get_or, refl, sym, arith}
+use Rattle.std.specs.List.{sum}
 use Rattle.lis_frame.specs.Stretch.{stretch_of, stretch_fault}
 use Rattle.lis_text.specs.Text.{is_forbidden, first_forbidden}
 use Rattle.lis_text.proofs.SearchLemmas.{clean-before}
@@ -8,12 +9,12 @@ use Rattle.lis_frame.proofs.read.front_text.Goals as goal
 
 pub split_at-requires : goal.split_at-requires
 split_at-requires g c =
-    let before = clean-before is_forbidden c.args.behind.now c.in-Some.place (sym c.in-Some.ensures) in
+    let before = clean-before is_forbidden c.args.behind.now c.in-Some.place (sym c.text_and_sum-forbidden.ensures.first ∙ c.in-Some.is) in
     omega (arith, before.0)
 
 pub returns-clause-frame : goal.returns-clause-frame
 returns-clause-frame g c =
-    let before = clean-before is_forbidden c.args.behind.now c.in-Some.place (sym c.in-Some.ensures) in
+    let before = clean-before is_forbidden c.args.behind.now c.in-Some.place (sym c.text_and_sum-forbidden.ensures.first ∙ c.in-Some.is) in
     let text = c.split_at.result.0.now in
     let rest = c.split_at.result.1.now in
     let end = get_or rest 0 0 in
@@ -21,6 +22,10 @@ returns-clause-frame g c =
     let low = get_or rest 2 0 in
     let close = get_or rest 3 0 in
     let clean : first_forbidden text ≡ None = rw c.split_at.ensures.front before.1 in
+    let text_sum : sum text % 256 ≡ c.text_and_sum-forbidden.result.1 =
+    rw (c.split_at.ensures.front) (sym (rw c.in-Some.is at c.text_and_sum-forbidden.ensures.sum)) in
+    let total : ((c.args.number + sum text) % 256 + end) % 256
+    ≡ (c.args.number + c.text_and_sum-forbidden.result.1 + end) % 256 = omega (arith, text_sum) in
     let sound : stretch_fault g.row.N (stretch_of c.args.number text end high low close) ≡ None =
     stretch_fault-parts c.args.number text end high low close g.row.N (omega (arith, c.split_at.ensures.front_len))
     ∙ rw (
@@ -28,6 +33,7 @@ returns-clause-frame g c =
       c.if-not-is_shaped.false,
       c.requires,
       clean,
+      total,
       ← c.is_summed.ensures,
       c.if-not-is_summed.false,
     )

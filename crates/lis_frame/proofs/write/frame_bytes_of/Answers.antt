@@ -15,11 +15,7 @@ returns-clause-bytes g c =
       c.new-bytes.ensures,
       c.as_slice.ensures.value,
       c.text.ensures,
-      c.upper_digit.ensures,
-      c.upper_digit-2.ensures,
-      c.checksum-sum.ensures,
-      c.end_byte-end.ensures,
-      c.is_last.ensures,
+      c.tail.ensures,
       c.number.ensures.value,
     )
     refl

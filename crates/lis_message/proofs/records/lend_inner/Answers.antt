@@ -4,7 +4,7 @@ use Rattle.lis_message.proofs.records.lend_inner.Goals as goal
 
 pub returns-in-Err-clause-err : goal.returns-in-Err-clause-err
 returns-in-Err-clause-err c = λ begun is.
-    inner_fault _ begun (c.opened.view_is ∙ is) c.args.text.now c.in-Err.fault c.requires c.in-Err.ensures.fault
+    inner_fault _ begun (c.opened.view_is ∙ is) c.args.text.now c.in-Err.fault c.requires.front c.in-Err.ensures.fault
 
 pub returns-in-None-clause-ok : goal.returns-in-None-clause-ok
 returns-in-None-clause-ok c = λ begun is.

@@ -8,19 +8,19 @@ use Rattle.lis_message.proofs.records.RecordReader.end_held.Goals as goal
 pub returns-clause-ok : goal.returns-clause-ok
 returns-clause-ok c = λ left is.
     let here = ap (λ (r : RecordsState). r.opened) c.self.view_is ∙ is in
-    let text = c.text.ensures.value ∙ ap (λ (h : Holding). h.held) c.in_default.ensures.ok in
+    let text = c.text-text.ensures.value ∙ ap (λ (h : Holding). h.held) c.in_default.ensures.ok in
     let comes = c.in-Ok.ensures.ok left here in
     record {
       entry = c.in-Ok.entry;
       comes = subst (λ (l : List ℕ). ComesNext left l c.in-Ok.entry)
           (text ∙ ap (λ (r : RecordsState). r.held ++ c.args.text.now) c.self.view_is) comes;
       opened =
-          c.opened_after-self-inside.ensures left c.text.result.now c.in-Ok.entry here comes
+          c.opened_after-self-inside.ensures left c.text-text.result.now c.in-Ok.entry here comes
           (sym c.delimiters.ensures) (sym c.kind.ensures)
           ∙ ap (λ (k : Kind). opened_of (left_after left c.in-Ok.entry k)) c.kind.ensures;
       told =
           ap (λ (h : Holding). h.cut) c.end.ensures
-          ∙ known_told c.in-Ok.entry c.delimiters.result c.kind.result c.text.result.now c.hold.new.self.held
-          c.in-Ok.ensures.place c.delimiters.ensures c.kind.ensures c.text.ensures.value;
+          ∙ known_told c.in-Ok.entry c.delimiters.result c.kind.result c.text-text.result.now c.hold.new.self.held
+          c.in-Ok.ensures.place c.delimiters.ensures c.kind.ensures c.text-text.ensures.value;
       empty = ap (λ (h : Holding). h.held) c.end.ensures;
     }

@@ -1,5 +1,6 @@
 use Rattle.std.proofs.Common.{◌<◌, ◌^◌, ◌++◌, [], length, sym, arith}
 use Rattle.lis_message.proofs.RecordLaws.{cut_told}
+use Rattle.lis_tool.specs.Messages.{turn_after}
 use Rattle.lis_tool.proofs.RecordSteps.{held_steps, read_few, record_steps, refused_why}
 use Rattle.lis_tool.proofs.messages.Messages.read_next.Goals as goal
 
@@ -43,17 +44,19 @@ returns-in-Err-clause-steps g c = λ past text reading few.
 pub returns-in-Record-clause-steps : goal.returns-in-Record-clause-steps
 returns-in-Record-clause-steps g c = λ past text reading few.
     let told = c.args.self.now.told in
-    record_steps g.C.MessageMachine.writes (g.C.MessageMachine.stands told.command) (g.C.MessageMachine.stands c.take.new.self.command)
+    rw c.as_turn.ensures.turn
+    (record_steps g.C.MessageMachine.writes (g.C.MessageMachine.stands told.command) (g.C.MessageMachine.stands c.take.new.self.command)
     c.args.self.now.reader c.read-found.new.self told.count c.take.new.self.count
-    past c.args.bytes.now c.read-found.result.0.now text c.in-Record.entry _ _ c.args.written c.take.result few reading
-    (rw c.in-Record.is at (c.read-found.ensures.read reading.left reading.has)) c.take.ensures.steps
+    past c.args.bytes.now c.read-found.result.0.now text c.in-Record.entry _ _ c.args.written (turn_after c.args.written c.take.result) few reading
+    (rw c.in-Record.is at (c.read-found.ensures.read reading.left reading.has)) c.take.ensures.steps)
 
 pub returns-in-Some-clause-steps : goal.returns-in-Some-clause-steps
 returns-in-Some-clause-steps g c = λ past text reading few.
     let told = c.args.self.now.told in
     let reads = rw c.in-Held.is at (c.read-found.ensures.read reading.left reading.has) in
-    record_steps g.C.MessageMachine.writes (g.C.MessageMachine.stands told.command) (g.C.MessageMachine.stands c.take-in-Held.new.self.command)
+    rw c.as_turn-in-Held.ensures.turn
+    (record_steps g.C.MessageMachine.writes (g.C.MessageMachine.stands told.command) (g.C.MessageMachine.stands c.take-in-Held.new.self.command)
     c.args.self.now.reader c.read-found.new.self told.count c.take-in-Held.new.self.count
-    past c.args.bytes.now c.read-found.result.0.now text c.in-Some.entry _ _ c.args.written c.take-in-Held.result few reading
+    past c.args.bytes.now c.read-found.result.0.now text c.in-Some.entry _ _ c.args.written (turn_after c.args.written c.take-in-Held.result) few reading
     (cut_told c.args.self.now.reader c.read-found.new.self reading.left c.args.bytes.now c.read-found.result.0.now c.in-Some.entry reads c.in-Some.ensures)
-    c.take-in-Held.ensures.steps
+    c.take-in-Held.ensures.steps)

@@ -1,6 +1,6 @@
 use Rattle.std.proofs.Common.{◌≡◌, ℕ, ◌+◌, ◌++◌, ◌∷◌, [], List, length, length-append, sym, ◌∙◌, ap, subst, arith}
 use Rattle.lis_field.specs.declared.kinds.Kind.{Kind}
-use Rattle.lis_tree.specs.Findings.{findings_from, finding_on, kinds_back}
+use Rattle.lis_tree.specs.Findings.{findings_from, kinds_back}
 use Rattle.lis_tree.specs.Numbers.{CountsOf}
 use Rattle.lis_tree.specs.Places.{capped}
 use Rattle.lis_tree.proofs.Counting.{findings-more, kinds_back-more}

@@ -1,0 +1,118 @@
+-- What C is told of the message that it writes.
+use Rattle.std.specs.Prelude.{◌≡◌, ℕ, ◌⊎◌, Bool, true, false, List, [], ◌∷◌, ◌++◌, Option, None, Some}
+use Rattle.lis_field.specs.Delimiters.{DelimiterBytes}
+use Rattle.lis_field.specs.declared.kinds.Kind.{Kind}
+use Rattle.lis_field.specs.Shape.{Components, plain_component}
+use Rattle.lis_record.specs.declared.faults.WriteFault.{WriteFault}
+use Rattle.lis_record.specs.declared.faults.WriteFault.TheVariants as WriteFaults
+use Rattle.lis_record.specs.Faults.{check_fault}
+use Rattle.lis_record.specs.Spelling.{written}
+use Rattle.lis_tree.specs.declared.fault.Reason.{Reason}
+use Rattle.lis_tree.specs.declared.fault.Reason.TheVariants as Reasons
+use Rattle.lis_tree.specs.declared.standing.Standing.{Standing}
+use Rattle.lis_tree.specs.inside.Standing.{standing_level}
+use Rattle.lis_tree.specs.Level.{Level, outside, closed, misplaced, next_level}
+use Rattle.lis_c.specs.Records.{IsCopied}
+use Rattle.lis_c.specs.Status.{OK, TOO_LONG, FORBIDDEN, OUT_OF_MEMORY, NO_RECORD, BAD_LETTER, ABSENT, UNFINISHED, PUT_NOT_HEADER, PUT_NO_PARENT, PUT_SECOND_HEADER, AddStatus}
+use Rattle.lis_c.specs.declared.draft.Draft.{Draft}
+use Rattle.lis_c.specs.declared.draft.PutFault.{PutFault}
+use Rattle.lis_c.specs.declared.draft.WriterDesk.{WriterDesk}
+
+-- where the next record will stand: none is outside a message, as it is behind the closing record
+abbrev pub level_at : Option Standing → Level
+level_at None = outside
+level_at (Some standing) = standing_level standing
+
+abbrev pub reopened : Level → Level
+reopened closed = outside
+reopened level = level
+
+abbrev pub after_kind : Level → Kind → Level
+after_kind level kind = reopened (next_level level kind)
+
+-- the components of a field that isn't ended, one more of these bytes, and the field ended by it
+abbrev pub parts_of : Option Components → Components
+parts_of None = []
+parts_of (Some parts) = parts
+
+abbrev pub with_parts : Draft → List ℕ → Draft
+with_parts draft bytes = record draft { parts = Some (parts_of draft.parts ++ plain_component bytes ∷ []) }
+
+abbrev pub with_field : Draft → List ℕ → Draft
+with_field draft bytes =
+    record {
+      entry = record {
+          kind = draft.entry.kind;
+          fields = draft.entry.fields ++ ((parts_of draft.parts ++ plain_component bytes ∷ []) ∷ []) ∷ [];
+        };
+      parts = None;
+    }
+
+abbrev pub with_bytes : Draft → Bool → List ℕ → Draft
+with_bytes draft true bytes = with_field draft bytes
+with_bytes draft false bytes = with_parts draft bytes
+
+-- a record is begun, or the letter is none
+abbrev pub BeginStatus : Option Kind → WriterDesk → ℕ → WriterDesk → Type 0
+BeginStatus None old status new = (status ≡ BAD_LETTER) × (new ≡ old)
+BeginStatus (Some kind) old status new =
+    (status ≡ OK)
+    × (new ≡ record old { draft = Some (record { entry = record { kind = kind; fields = [] }; parts = None }) })
+
+-- a component is put to a record: there is none, or it was put, or memory was refused and the record is let go
+abbrev pub PartStatus : Option Draft → Bool → List ℕ → WriterDesk → ℕ → WriterDesk → Type 0
+PartStatus None last bytes old status new = (status ≡ NO_RECORD) × (new ≡ old)
+PartStatus (Some draft) last bytes old status new =
+    ((status ≡ OK) × (new ≡ record old { draft = Some (with_bytes draft last bytes) }))
+    ⊎ ((status ≡ OUT_OF_MEMORY) × (new ≡ record old { draft = None }))
+
+-- ---- why a record can't be put, the first of these
+
+abbrev pub misplaced_status : Reason → ℕ
+misplaced_status Reasons.SecondHeader = PUT_SECOND_HEADER
+misplaced_status (Reasons.NoParent kind) = PUT_NO_PARENT
+misplaced_status reason = PUT_NOT_HEADER
+
+abbrev pub write_fault : WriteFault → PutFault
+write_fault (WriteFaults.CharNotText number) = record { status = FORBIDDEN; field = number }
+write_fault WriteFaults.TooLong = record { status = TOO_LONG; field = 0 }
+write_fault (WriteFaults.Io count) = record { status = OUT_OF_MEMORY; field = 0 }
+
+abbrev pub unwritable : Option WriteFault → Option PutFault
+unwritable None = None
+unwritable (Some fault) = Some (write_fault fault)
+
+-- it can't come next, or can't be written
+abbrev pub refused_at : Option Reason → Option WriteFault → Option PutFault
+refused_at (Some reason) fault = Some (record { status = misplaced_status reason; field = 0 })
+refused_at None fault = unwritable fault
+
+-- it has a field that isn't ended
+abbrev pub refused_with : Option Components → Option PutFault → Option PutFault
+refused_with (Some parts) fault = Some (record { status = UNFINISHED; field = 0 })
+refused_with None fault = fault
+
+-- there is none
+abbrev pub put_fault : DelimiterBytes → Option Standing → Option Draft → Option PutFault
+put_fault d standing None = Some (record { status = NO_RECORD; field = 0 })
+put_fault d standing (Some draft) =
+    refused_with draft.parts (refused_at (misplaced (level_at standing) draft.entry.kind) (check_fault d draft.entry))
+
+-- a record that can be put behind so many texts: they are as many as a session has, or it was, or memory was refused
+abbrev pub PutStatus : Option PutFault → ℕ → ℕ → ℕ → Type 0
+PutStatus None texts status field = AddStatus status texts × (field ≡ 0)
+PutStatus (Some fault) texts status field = (status ≡ fault.status) × (field ≡ fault.field)
+
+-- its text stands behind the others, and the next record will stand behind it
+pub record IsPut (old new : WriterDesk) : Type 0 where
+  pub draft : Draft
+  pub had : old.draft ≡ Some draft
+  pub delimiters_stay : new.delimiters ≡ old.delimiters
+  pub stands : level_at new.standing ≡ after_kind (level_at old.standing) draft.entry.kind
+  pub none_left : new.draft ≡ None
+  pub text : new.texts ≡ old.texts ++ written old.delimiters draft.entry ∷ []
+
+-- a text by its place
+abbrev pub IsText : Option (List ℕ) → (status : ℕ) (out : List ℕ) (size : ℕ) → Type 0
+IsText None status out size = (status ≡ ABSENT) × (size ≡ 0)
+IsText (Some text) status out size = IsCopied text status out size

@@ -1,0 +1,207 @@
+//! The writer of a message for programs in C: records by their fields, as link texts (LIS02-A2).
+
+ghost use Rattle.std.specs.Prelude.{◌≡◌, ◌≢◌, [], None, Some, Option, false, length, slice_get, true};
+ghost use Rattle.lis_c.specs.declared.draft.WriterDesk.{WriterDesk};
+ghost use Rattle.lis_c.specs.New.{IsNewWriter, type_align};
+ghost use Rattle.lis_c.specs.Records.{delimiters_in};
+ghost use Rattle.lis_c.specs.Status.{BAD_DELIMITERS, BAD_LETTER, OK};
+ghost use Rattle.lis_c.specs.Writing.{BeginStatus, IsPut, IsText, PartStatus, PutStatus, put_fault};
+ghost use Rattle.lis_c.specs.contracts.draft.WriterDesk.{the_row as desk_row};
+ghost use Rattle.lis_field.specs.Delimiters.{IsDelimiters};
+ghost use Rattle.lis_field.specs.Kinds.{kind_of};
+ghost use Rattle.std.specs.Borrow.{sem};
+ghost use Rattle.std.specs.Mem.{type_size};
+ghost use Rattle.std.specs.Ptr.{room_at};
+
+use crate::draft::{WriterDesk, let_go_writer};
+use crate::records::{LisDelimiters, known};
+use crate::status;
+use lis_field::Kind;
+use std::alloc::Global;
+use std::marker::Model;
+use std::mem::{align_of, size_of};
+
+/// A writer, kept behind a pointer that C hands back as it got it.
+#[repr(C)]
+pub struct LisWriter {
+    at: *mut u8,
+    ghost state: { WriterDesk },
+}
+
+impl Model for LisWriter {
+    ghost use Rattle.std.specs.Borrow.{full_share};
+    ghost use Rattle.std.specs.Ptr.{lies_at};
+    ghost use Rattle.lis_c.specs.contracts.draft.WriterDesk.{the_row};
+
+    ghost also_owns = { λ h. lies_at the_row full_share h.at h.state };
+}
+
+impl LisWriter {
+    ghost use Rattle.lis_c.specs.Lending.{LendsWriter};
+    ghost use Rattle.lis_c.specs.contracts.draft.WriterDesk.{the_row as desk_row};
+    ghost use Rattle.std.specs.Borrow.{full_share, sem};
+    ghost use Rattle.std.specs.Ptr.{lies_at, room_at};
+
+    /// Puts a desk into a block, which is then this handle's.
+    unsafe fn place(at: *mut u8, desk: WriterDesk)
+        requires* { sem 𝓛 (room_at desk_row at) }
+        ensures* { sem 𝓛 (lies_at desk_row full_share at desk) }
+    {
+        (at as *mut WriterDesk).write(desk);
+    }
+
+    /// Takes what lies behind the pointer; the block is room again.
+    fn take(self) -> WriterDesk
+        ensures* room { sem 𝓛 (room_at desk_row self.at) }
+        ensures value { result ≡ self.state }
+    {
+        let LisWriter { at } = self;
+        unsafe { (at as *mut WriterDesk).read() }
+    }
+
+    /// What lies behind the pointer.
+    fn lend(&mut self) -> &mut WriterDesk
+        ensures* writes_back { sem 𝓛 (LendsWriter self.entry result) }
+        ensures value { result.now ≡ self.old.state }
+    {
+        unsafe { &mut *(self.at as *mut WriterDesk) }
+    }
+}
+
+/// Lets go of all that was written, and begins with these delimiters: `OK`, or `BAD_DELIMITERS`, and then nothing has
+/// changed.
+#[unsafe(no_mangle)]
+pub extern "C" fn lis_writer_start(s: &mut LisWriter, delimiters: &LisDelimiters) -> u8
+    ensures started { IsDelimiters (delimiters_in delimiters.now) → (result ≡ OK)
+        × (s.new.state ≡ record s.old.state {
+            delimiters = delimiters_in delimiters.now; standing = None; draft = None; texts = [] }) }
+    ensures refused { (IsDelimiters (delimiters_in delimiters.now) → ⊥) →
+        (result ≡ BAD_DELIMITERS) × (s.new.state ≡ s.old.state) }
+{
+    match known(delimiters) {
+        Some(known) => {
+            s.lend().start(known);
+            status::OK
+        }
+        None => status::BAD_DELIMITERS,
+    }
+}
+
+/// Begins a record by the letter of its kind, in either case: `OK`, or `BAD_LETTER`, and then nothing has changed. A
+/// record that isn't put is let go. Whether it can come next is told by `lis_writer_put`.
+#[unsafe(no_mangle)]
+pub extern "C" fn lis_writer_record(s: &mut LisWriter, letter: u8) -> u8
+    ensures { BeginStatus (kind_of letter) s.old.state result s.new.state }
+{
+    match Kind::of_letter(letter) {
+        Some(kind) => {
+            s.lend().begin(kind);
+            status::OK
+        }
+        None => status::BAD_LETTER,
+    }
+}
+
+/// Puts a component to the record's field that isn't ended, one that isn't its last: `OK`, `NO_RECORD` where none is
+/// begun, or `OUT_OF_MEMORY`, and then the record is let go.
+#[unsafe(no_mangle)]
+pub extern "C" fn lis_writer_component(s: &mut LisWriter, bytes: &[u8]) -> u8
+    ensures { PartStatus s.old.state.draft false bytes.now s.old.state result s.new.state }
+{
+    s.lend().add(bytes, false)
+}
+
+/// Puts the last component of the record's field, for most fields the only one, and ends it; as
+/// `lis_writer_component`. Bytes that are delimiters are escaped.
+#[unsafe(no_mangle)]
+pub extern "C" fn lis_writer_field(s: &mut LisWriter, bytes: &[u8]) -> u8
+    ensures { PartStatus s.old.state.draft true bytes.now s.old.state result s.new.state }
+{
+    s.lend().add(bytes, true)
+}
+
+/// Puts the record's text, with its CR, behind the others: `OK`; else the first of `NO_RECORD`; `UNFINISHED`, where a
+/// field isn't ended; `PUT_NOT_HEADER`, `PUT_SECOND_HEADER` or `PUT_NO_PARENT`, where it can't come next; `FORBIDDEN`,
+/// with the number of the first field that holds a byte that no text may hold; `TOO_LONG`; `FULL`, where there are as
+/// many texts as a session has; or `OUT_OF_MEMORY`. Where it isn't `OK` nothing has changed. `field` is 0 where none is
+/// at fault.
+#[unsafe(no_mangle)]
+pub extern "C" fn lis_writer_put(s: &mut LisWriter, field: &mut usize) -> u8
+    ensures put { result ≡ OK → IsPut s.old.state s.new.state }
+    ensures refused { result ≢ OK → s.new.state ≡ s.old.state }
+    ensures status { PutStatus (put_fault s.old.state.delimiters s.old.state.standing s.old.state.draft)
+        (length s.old.state.texts) result field.new }
+{
+    s.lend().put(field)
+}
+
+/// How many texts there are, one for each record that was put.
+#[unsafe(no_mangle)]
+pub extern "C" fn lis_writer_texts(s: &mut LisWriter) -> usize
+    ensures value { result ≡ length s.old.state.texts }
+    ensures same { s.new.state ≡ s.old.state }
+{
+    s.lend().texts.len()
+}
+
+/// Copies a text, by its place from 0, to the front of a buffer, and tells how many bytes it has: `OK`, `ABSENT`, or
+/// `TOO_SHORT`, which a buffer of 65,537 bytes never is.
+#[unsafe(no_mangle)]
+pub extern "C" fn lis_writer_text(
+    s: &mut LisWriter,
+    place: usize,
+    out: &mut [u8],
+    size: &mut usize,
+) -> u8
+    ensures text { IsText (slice_get s.old.state.texts place) result out.new size.new }
+    ensures same { s.new.state ≡ s.old.state }
+{
+    *size = 0;
+    let Some(text) = s.lend().texts.get(place) else {
+        return status::ABSENT;
+    };
+    let text = text.as_slice();
+    if text.len() > out.len() {
+        return status::TOO_SHORT;
+    }
+    out[..text.len()].copy_from_slice(text);
+    *size = text.len();
+    status::OK
+}
+
+/// Ends a writer; its block is the caller's again.
+#[unsafe(no_mangle)]
+pub extern "C" fn lis_writer_end(s: LisWriter)
+    ensures* { sem 𝓛 (room_at desk_row s.at) }
+{
+    let_go_writer(s.take());
+}
+
+/// Makes a writer outside a message, with the usual delimiters, in a block of the caller's.
+#[unsafe(no_mangle)]
+pub unsafe extern "C" fn lis_writer_init(alloc: Global, at: *mut u8)
+    requires* { sem 𝓛 (room_at desk_row at) }
+    ensures* { sem 𝓛 (IsNewWriter at) }
+{
+    LisWriter::place(at, WriterDesk::new(alloc));
+}
+
+const WRITER_SIZE: usize = size_of::<WriterDesk>();
+
+const WRITER_ALIGN: usize = align_of::<WriterDesk>();
+
+/// The number of bytes of a writer's block.
+#[unsafe(no_mangle)]
+pub extern "C" fn lis_writer_size() -> usize
+    ensures { result ≡ type_size desk_row }
+{
+    WRITER_SIZE
+}
+
+/// What the address of a writer's block is a multiple of.
+#[unsafe(no_mangle)]
+pub extern "C" fn lis_writer_align() -> usize
+    ensures { result ≡ type_align desk_row }
+{
+    WRITER_ALIGN
+}

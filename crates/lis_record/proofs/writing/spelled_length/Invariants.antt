@@ -1,0 +1,12 @@
+use Rattle.std.proofs.Common.{◌≡◌, ◌+◌, ◌-◌, ◌^◌, ◌≤◌, min, [], ◌++◌, length}
+use Rattle.lis_record.proofs.writing.spelled_length.Given as goal
+
+abbrev pub invariant-loop-chunk : goal.invariant-loop-chunk
+invariant-loop-chunk l = record {
+  same : min (l.count + length (l.chunk ++ l.cursor)) (2 ^ 64 - 1) ≡ min (length (l.initial.chunk ++ l.initial.cursor)) (2 ^ 64 - 1);
+  filled : length l.chunk ≡ 0 → l.cursor ≡ [];
+  bound : l.count ≤ 2 ^ 64 - 1;
+}
+
+abbrev pub decreases-loop-chunk : goal.decreases-loop-chunk
+decreases-loop-chunk l = length l.chunk + length l.cursor

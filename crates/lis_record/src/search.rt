@@ -1,0 +1,132 @@
+//! Places of bytes in a text, looked for sixteen bytes at a time (LIS02-A2, Character Codes).
+
+ghost use Rattle.std.specs.Prelude.{◌≡◌, ◌≤◌, ◌<◌, ◌==◌, IfNone, IfSome, None, length, map, not, position, take};
+ghost use Rattle.std.specs.Prelude.{count_by};
+ghost use Rattle.std.specs.List.{position_from};
+ghost use Rattle.std.specs.Simd.Lanes.{mask_l};
+ghost use Rattle.lis_record.specs.Text.{IsText, bad_byte_place, is_text_byte};
+
+use lis_text::{ByteSet, first_in};
+use std::simd::prelude::*;
+
+/// Whether a byte may stand in a record: 7, 9, 11, 12, 32 to 126 and 128 to 254.
+#[tactic(auto, unfolding(crate::specs::Text::is_text_byte))]
+pub(crate) fn is_text_byte(byte: u8) -> bool
+    ensures { result ≡ is_text_byte byte }
+{
+    matches!(byte, 7 | 9 | 11 | 12 | 32..=126 | 128..=254)
+}
+
+/// The bytes that no record may hold.
+struct BadBytes;
+
+impl ByteSet for BadBytes {
+    ghost member = { λ b. not (is_text_byte b) };
+
+    #[inline(always)]
+    fn has(byte: u8) -> bool {
+        !is_text_byte(byte)
+    }
+
+    #[inline(always)]
+    fn bits(bytes: &[u8]) -> u64 {
+        let sixteen = u8x16::from_slice(bytes);
+        // Most bytes are from 32 to 126.
+        let low = sixteen.simd_le(u8x16::splat(31)) | sixteen.simd_eq(u8x16::splat(127));
+        let unusual = low | sixteen.simd_ge(u8x16::splat(255));
+        if unusual.to_bitmask() == 0 {
+            return 0;
+        }
+        let bells = sixteen.simd_eq(u8x16::splat(7)) | sixteen.simd_eq(u8x16::splat(9));
+        let feeds = sixteen.simd_eq(u8x16::splat(11)) | sixteen.simd_eq(u8x16::splat(12));
+        let ascii = sixteen.simd_ge(u8x16::splat(32)) & sixteen.simd_le(u8x16::splat(126));
+        let high = sixteen.simd_ge(u8x16::splat(128)) & sixteen.simd_le(u8x16::splat(254));
+        let allowed = bells | feeds | ascii | high;
+        65_535 - allowed.to_bitmask()
+    }
+}
+
+/// The place of the first byte that no record may hold, from 0. A CR is such a byte, so that one search finds the end of
+/// a record and tests its text.
+#[inline(always)]
+pub fn first_bad_byte(bytes: &[u8]) -> Option<usize>
+    ensures place { result ≡ bad_byte_place bytes.now }
+    ensures bound { IfSome result (λ place. place < length bytes.now) }
+    ensures before { IfSome result (λ place. bad_byte_place (take place bytes.now) ≡ None) }
+    ensures texts { IfSome result (λ place. IsText (take place bytes.now)) }
+    ensures text { IfNone result (IsText bytes.now) }
+{
+    first_in::<BadBytes>(bytes)
+}
+
+/// The places among sixteen bytes that hold this one, as bits.
+#[inline(always)]
+fn bits_of(bytes: &[u8], mark: u8) -> u64
+    requires { 16 ≤ length bytes.now }
+    ensures { result ≡ mask_l (map (λ b. b == mark) (take 16 bytes.now)) }
+{
+    u8x16::from_slice(bytes)
+        .simd_eq(u8x16::splat(mark))
+        .to_bitmask()
+}
+
+/// The place of the first byte that is this one.
+#[inline(always)]
+pub(crate) fn place_of(text: &[u8], mark: u8) -> Option<usize>
+    ensures { result ≡ position (λ b. b == mark) text.now }
+{
+    let mut rest = text;
+    let mut place = 0;
+    while rest.len() >= 16 {
+        let bits = bits_of(rest, mark);
+        if bits != 0 {
+            return Some(place + bits.trailing_zeros() as usize);
+        }
+        let (_, behind) = rest.split_at(16);
+        rest = behind;
+        place += 16;
+    }
+    match place_by_one(rest, mark) {
+        None => None,
+        Some(found) => Some(place + found),
+    }
+}
+
+/// The same, a byte at a time.
+#[inline(always)]
+fn place_by_one(text: &[u8], mark: u8) -> Option<usize>
+    ensures place { result ≡ position_from (λ b. b == mark) 0 text.now }
+    ensures bound { IfSome result (λ found. found < length text.now) }
+{
+    text.iter().position(|byte| *byte == mark)
+}
+
+/// How many bytes are this one.
+#[inline(always)]
+pub(crate) fn count_of(text: &[u8], mark: u8) -> usize
+    ensures count { result ≡ count_by (λ b. b == mark) text.now }
+    ensures bound { result ≤ length text.now }
+{
+    let mut rest = text;
+    let mut count: usize = 0;
+    while rest.len() >= 16 {
+        count += bits_of(rest, mark).count_ones() as usize;
+        let (_, behind) = rest.split_at(16);
+        rest = behind;
+    }
+    count + count_by_one(rest, mark)
+}
+
+/// The same, a byte at a time.
+#[inline(always)]
+fn count_by_one(text: &[u8], mark: u8) -> usize
+    ensures { result ≡ count_by (λ b. b == mark) text.now }
+{
+    let mut count: usize = 0;
+    for byte in text {
+        if *byte == mark {
+            count += 1;
+        }
+    }
+    count
+}
