@@ -42,9 +42,9 @@ abbrev pub with_field : Draft → List ℕ → Draft
 with_field draft bytes =
     record {
       entry = record {
-          kind = draft.entry.kind;
-          fields = draft.entry.fields ++ ((parts_of draft.parts ++ plain_component bytes ∷ []) ∷ []) ∷ [];
-        };
+        kind = draft.entry.kind;
+        fields = draft.entry.fields ++ ((parts_of draft.parts ++ plain_component bytes ∷ []) ∷ []) ∷ [];
+      };
       parts = None;
     }
 

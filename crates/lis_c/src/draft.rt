@@ -232,7 +232,11 @@ impl WriterDesk {
     /// Lets go of all, and begins with these delimiters.
     pub(crate) fn start(&mut self, delimiters: Delimiters)
         ensures { self.new ≡ record self.old {
-            delimiters = delimiters; standing = None; draft = None; texts = [] } }
+          delimiters = delimiters;
+          standing = None;
+          draft = None;
+          texts = [];
+        } }
     {
         self.delimiters = delimiters;
         self.standing = None;
@@ -243,7 +247,8 @@ impl WriterDesk {
     /// Begins a record of this kind; one that isn't put is let go.
     pub(crate) fn begin(&mut self, kind: Kind)
         ensures { self.new ≡ record self.old {
-            draft = Some (record { entry = record { kind = kind; fields = [] }; parts = None }) } }
+          draft = Some (record { entry = record { kind = kind; fields = [] }; parts = None });
+        } }
     {
         self.draft = Some(Draft {
             entry: Record::new(self.alloc, kind),

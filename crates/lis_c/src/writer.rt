@@ -74,7 +74,11 @@ impl LisWriter {
 pub extern "C" fn lis_writer_start(s: &mut LisWriter, delimiters: &LisDelimiters) -> u8
     ensures started { IsDelimiters (delimiters_in delimiters.now) → (result ≡ OK)
         × (s.new.state ≡ record s.old.state {
-            delimiters = delimiters_in delimiters.now; standing = None; draft = None; texts = [] }) }
+          delimiters = delimiters_in delimiters.now;
+          standing = None;
+          draft = None;
+          texts = [];
+        }) }
     ensures refused { (IsDelimiters (delimiters_in delimiters.now) → ⊥) →
         (result ≡ BAD_DELIMITERS) × (s.new.state ≡ s.old.state) }
 {

@@ -60,8 +60,11 @@ selected i n (x ∷ xs) = by (nat_lt i n) refl (selected (i + 1) n xs)
     by false t later =
         let at : n - i ≡ 0 = grind (arith, nat_tests, t) in
         let behind : n - (i + 1) ≡ 0 = grind (arith, nat_tests, t) in
-        rw (at, zero-add (sum_l (sel_l (map (λ (a : ℕ). nat_lt a n) (range_with_len (i + 1) (length xs))) xs
-        (replicate (length xs) 0)))) (rw behind at later)
+        rw (
+          at,
+          zero-add (sum_l (sel_l (map (λ (a : ℕ). nat_lt a n) (range_with_len (i + 1) (length xs))) xs
+              (replicate (length xs) 0))),
+        ) (rw behind at later)
 
 pub front-selected :
     (n : ℕ) (xs : List ℕ) → length xs ≡ 16 →

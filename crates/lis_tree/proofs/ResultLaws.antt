@@ -52,7 +52,7 @@ of_orders p before (o ∷ os) rest (h, hs) same =
     let others = flat_map order_records os in
     let entries = flat_map noted_records o.results in
     let place : (order_records o ++ others) ++ rest ≡ o.head ∷ (o.notes ++ (entries ++ (others ++ rest))) =
-        append_assoc (order_records o) others rest ∙ append_assoc (o.head ∷ o.notes) entries (others ++ rest) in
+    append_assoc (order_records o) others rest ∙ append_assoc (o.head ∷ o.notes) entries (others ++ rest) in
     ap (results_among (Some p.head) before) place
     ∙ behind_one (Some p.head) before o.head (o.notes ++ (entries ++ (others ++ rest))) kinds.O h.head
     ∙ behind_notes (Some p.head) (Some o.head) o.notes (entries ++ (others ++ rest)) h.notes
@@ -70,7 +70,7 @@ of_groups p o (groups.Patient q ∷ gs) closing end (h, hs) =
     let orders = flat_map order_records q.orders in
     let rest = others ++ closing ∷ [] in
     let place : (group_records (groups.Patient q) ++ others) ++ closing ∷ [] ≡ q.head ∷ (q.notes ++ (orders ++ rest)) =
-        append_assoc (group_records (groups.Patient q)) others (closing ∷ []) ∙ append_assoc (q.head ∷ q.notes) orders rest in
+    append_assoc (group_records (groups.Patient q)) others (closing ∷ []) ∙ append_assoc (q.head ∷ q.notes) orders rest in
     ap (results_among p o) place
     ∙ behind_one p o q.head (q.notes ++ (orders ++ rest)) kinds.P h.head
     ∙ behind_notes (Some q.head) None q.notes (orders ++ rest) h.notes

@@ -37,11 +37,11 @@ impl<'a> Model for Results<'a> {
     ghost Value = { ResultsLeft };
 
     ghost view = { λ r. record {
-        patient = option_copied r.patient;
-        order = option_copied r.order;
-        entries = r.entries.now;
-        orders = r.orders.now;
-        groups = r.groups.now
+      patient = option_copied r.patient;
+      order = option_copied r.order;
+      entries = r.entries.now;
+      orders = r.orders.now;
+      groups = r.groups.now;
     } };
 }
 
