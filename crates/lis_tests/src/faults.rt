@@ -2,14 +2,17 @@
 
 use lis_field::{DelimiterFault, Kind};
 use lis_frame::FrameFault;
-use lis_link::StartFault;
+use lis_link::{Sender, StartFault};
 use lis_message::{MessageFault, MessageWriteFault, Reason, TextsFault};
 use lis_record::{DelimiterPartFault, RecordFault, WriteFault};
-use lis_text::{LinkText, TextFault, TextRefused};
-use std::alloc::Global;
+use lis_text::{LinkText, TextFault, TextRefused, Texts};
+use lis_tool::ToolFault;
+use lis_world::PlayFault;
+use std::alloc::{AllocError, Global};
 use std::error::Error;
 use std::process::Abort;
 use std::test::Fail;
+use uses::building::BuildFault;
 
 /// Fails where a fault doesn't say this.
 fn assert_says<F: Error>(
@@ -68,19 +71,33 @@ fn faults_of_the_link_say_what_is_wrong(rt: HostRuntime) -> Result<(), Fail> {
         assert_says(&rt, alloc, &fault, want)?;
     }
     let text = LinkText::from_slice(alloc, b"A")?;
-    assert_says(
-        &rt,
-        alloc,
-        &TextRefused::Full(text),
-        "a session has 65536 texts at most",
-    )
+    let full = TextRefused::Full(text);
+    assert_says(&rt, alloc, &full, "a session has 65536 texts at most")?;
+    let starved = TextRefused::OutOfMemory(LinkText::from_slice(alloc, b"A")?);
+    assert_says(&rt, alloc, &starved, "memory was refused")?;
+    let Err(refused) = Sender::new().start(Texts::new(alloc)) else {
+        return Err(Fail::from("a session without a text"));
+    };
+    assert_says(&rt, alloc, &refused, "there is no text to send")?;
+    assert_says(&rt, alloc, &PlayFault::OutOfMemory, "memory was refused")
 }
 
 #[test]
 fn faults_of_records_say_what_is_wrong(rt: HostRuntime) -> Result<(), Fail> {
     let alloc = rt.alloc();
     let repeated = DelimiterPartFault::Fault(DelimiterFault::Repeated(2));
+    let plain = DelimiterPartFault::Fault(DelimiterFault::NotPunctuation(1));
     for (fault, want) in [
+        (plain, "the delimiter at place 1 is no punctuation"),
+        (
+            DelimiterPartFault::Trailing(65),
+            "byte 65 follows the delimiters in place of the field delimiter",
+        ),
+    ] {
+        assert_says(&rt, alloc, &fault, want)?;
+    }
+    for (fault, want) in [
+        (RecordFault::OutOfMemory, "memory was refused"),
         (RecordFault::Empty, "the record is empty [G1 C1]"),
         (
             RecordFault::UnknownKind(88),
@@ -169,10 +186,46 @@ fn faults_of_messages_say_what_is_wrong(rt: HostRuntime) -> Result<(), Fail> {
         &refused,
         "record 2: the record would have more than 65536 bytes",
     )?;
-    assert_says(
-        &rt,
-        alloc,
-        &TextsFault::TooMany,
-        "the message has more than 65536 records",
-    )
+    for (fault, want) in [
+        (
+            TextsFault::TooMany,
+            "the message has more than 65536 records",
+        ),
+        (TextsFault::OutOfMemory, "memory was refused"),
+    ] {
+        assert_says(&rt, alloc, &fault, want)?;
+    }
+    Ok(())
+}
+
+#[test]
+fn faults_of_runs_say_what_is_wrong(rt: HostRuntime) -> Result<(), Fail> {
+    let alloc = rt.alloc();
+    for (fault, want) in [
+        (ToolFault::CaptureLine { line: 7 }, "lislink: K1 line 7"),
+        (ToolFault::Read, "lislink: K2"),
+        (ToolFault::Write { written: 5 }, "lislink: K3"),
+        (ToolFault::OutOfMemory, "lislink: K4"),
+        (ToolFault::TooManyReads, "lislink: K5"),
+    ] {
+        assert_says(&rt, alloc, &fault, want)?;
+    }
+    let unfinished = MessageFault {
+        place: 6,
+        reason: Reason::Unfinished,
+    };
+    for (fault, want) in [
+        (
+            BuildFault::Message(unfinished),
+            "no message: record 6: the end came before the message's closing record [G5]",
+        ),
+        (
+            BuildFault::Texts(TextsFault::TooMany),
+            "no texts: the message has more than 65536 records",
+        ),
+        (BuildFault::Memory(AllocError), "memory was refused"),
+    ] {
+        assert_says(&rt, alloc, &fault, want)?;
+    }
+    Ok(())
 }

@@ -1,5 +1,10 @@
 //! Building a message of results, and its link texts.
 
+ghost use Rattle.std.specs.Prelude.{◌≡◌, IfErr, IfOk, map};
+ghost use Rattle.lis_field.specs.Delimiters.{usual};
+ghost use Rattle.lis_record.specs.Spelling.{written};
+ghost use Rattle.uses.specs.Building.{HasNoResultTexts, IsMemory, IsResultMessage, glucose_record, result_records};
+
 use lis_field::{Component, Delimiters, Field, Kind, Record, Repeat};
 use lis_message::{Message, MessageFault, Records, Texts, TextsFault, message_texts};
 use std::alloc::{AllocError, Global};
@@ -17,23 +22,33 @@ pub enum BuildFault {
 }
 
 /// The message of one result: header, patient, order, result, and the record that closes it.
-pub fn result_message(alloc: Global, sample: &[u8], value: &[u8]) -> Result<Message, BuildFault> {
-    let patient = Record::from_texts(alloc, Kind::P, &[b"1".as_slice()])?;
+pub fn result_message(alloc: Global, sample: &[u8], value: &[u8]) -> Result<Message, BuildFault>
+    ensures ok { IfOk result (IsResultMessage sample.now value.now) }
+    ensures err { IfErr result IsMemory }
+{
+    let records = result_records(alloc, sample, value).map_err(BuildFault::Memory)?;
+    Message::from_records(alloc, Delimiters::usual(), records).map_err(BuildFault::Message)
+}
+
+/// Its records.
+fn result_records(alloc: Global, sample: &[u8], value: &[u8]) -> Result<Records, AllocError>
+    ensures { IfOk result (λ records. records ≡ result_records sample.now value.now) }
+{
     let mut order = Record::from_texts(alloc, Kind::O, &[b"1".as_slice()])?;
     order.push(Field::from_text(alloc, sample)?)?;
-    let result = result_record(alloc, value)?;
-    let closing = Record::from_texts(alloc, Kind::L, &[b"1".as_slice(), b"N".as_slice()])?;
     let mut records = Records::new(alloc);
     records.push(Record::new(alloc, Kind::H))?;
-    records.push(patient)?;
+    records.push(Record::from_texts(alloc, Kind::P, &[b"1".as_slice()])?)?;
     records.push(order)?;
-    records.push(result)?;
-    records.push(closing)?;
-    Ok(Message::from_records(alloc, Delimiters::usual(), records)?)
+    records.push(glucose_record(alloc, value)?)?;
+    records.push(Record::from_texts(alloc, Kind::L, &[b"1".as_slice(), b"N".as_slice()])?)?;
+    Ok(records)
 }
 
 /// The record of a glucose result. Its test, `^^^GLU`, is a field of four components.
-fn result_record(alloc: Global, value: &[u8]) -> Result<Record, AllocError> {
+fn glucose_record(alloc: Global, value: &[u8]) -> Result<Record, AllocError>
+    ensures { IfOk result (λ entry. entry ≡ glucose_record value.now) }
+{
     let mut test = Repeat::new(alloc, Component::new(alloc))?;
     test.push(Component::new(alloc))?;
     test.push(Component::new(alloc))?;
@@ -46,7 +61,10 @@ fn result_record(alloc: Global, value: &[u8]) -> Result<Record, AllocError> {
 }
 
 /// The texts that a sender takes for it: one for each record, with its CR.
-pub fn result_texts(alloc: Global, sample: &[u8], value: &[u8]) -> Result<Texts, BuildFault> {
+pub fn result_texts(alloc: Global, sample: &[u8], value: &[u8]) -> Result<Texts, BuildFault>
+    ensures ok { IfOk result (λ texts. texts ≡ map (written usual) (result_records sample.now value.now)) }
+    ensures err { IfErr result (HasNoResultTexts sample.now value.now) }
+{
     let message = result_message(alloc, sample, value)?;
-    Ok(message_texts(alloc, &message)?)
+    message_texts(alloc, &message).map_err(BuildFault::Texts)
 }

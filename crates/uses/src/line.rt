@@ -1,5 +1,8 @@
 //! What the loops ask of a serial line or a socket.
 
+ghost use Rattle.std.specs.Prelude.{List, [], ◌∷◌, Option};
+ghost use Rattle.uses.specs.Line.{Deed, GoesOn, sent, timed, waited};
+
 /// What happens on a line.
 #[derive(Debug, Clone, Copy, PartialEq, Eq)]
 pub enum Event {
@@ -13,12 +16,18 @@ pub enum Event {
 
 /// A serial line or a socket, with one timer beside it.
 pub trait Line {
+    // What happened on it and was done with it, oldest first, where that is known.
+    ghost deeds: { Self → Option (List Deed) };
+
     /// Sends bytes.
-    fn send(&mut self, bytes: &[u8]);
+    fn send(&mut self, bytes: &[u8])
+        ensures { GoesOn (deeds self.old) (deeds self.new) (sent bytes.now ∷ []) };
 
     /// Starts the timer anew, to run out after so many seconds.
-    fn start_timer(&mut self, seconds: u32);
+    fn start_timer(&mut self, seconds: u32)
+        ensures { GoesOn (deeds self.old) (deeds self.new) (timed seconds ∷ []) };
 
     /// Waits for what happens next.
-    fn wait(&mut self) -> Event;
+    fn wait(&mut self) -> Event
+        ensures { GoesOn (deeds self.old) (deeds self.new) (waited result ∷ []) };
 }

@@ -1,10 +1,18 @@
 //! Reading results out of a stream of records.
 
+ghost use Rattle.std.specs.Prelude.{◌≡◌, [], IfErr, IfOk, List, None, ℕ, length};
+ghost use Rattle.std.specs.List.{AllZip, flat_map};
+ghost use Rattle.lis_field.specs.Shape.{field_at};
+ghost use Rattle.lis_message.specs.Stream.{IsCut};
+ghost use Rattle.lis_tree.specs.Results.{results_of};
+ghost use Rattle.lis_tree.specs.Tree.{MessageTree};
+ghost use Rattle.uses.specs.Readings.{IsReading, IsText, IsUnread, counted, result_count};
+
 use lis_field::Record;
-use lis_message::{Group, Message, MessageFault, MessageReader};
+use lis_message::{Message, MessageFault, MessageReader};
 use std::alloc::{AllocError, Global};
 
-/// One result: the sample of its order, and the test, value and units of its record.
+/// One result: the sample of its order, and the value and units of its record.
 #[derive(Debug, Drop)]
 pub struct Reading {
     pub sample: Vec<u8>,
@@ -13,27 +21,24 @@ pub struct Reading {
 }
 
 /// The results of a message, in order.
-pub fn readings(alloc: Global, message: &Message) -> Result<Vec<Reading>, AllocError> {
+pub fn readings(alloc: Global, message: &Message) -> Result<Vec<Reading>, AllocError>
+    ensures { IfOk result (λ found. AllZip IsReading (results_of message.now) found.items) }
+{
     let mut found = Vec::new(alloc);
-    for group in message.groups() {
-        let Group::Patient(patient) = group else {
-            continue;
-        };
-        for order in patient.orders() {
-            for entry in order.results() {
-                found.push(Reading {
-                    sample: text_of(alloc, order.head(), 3)?,
-                    value: text_of(alloc, entry.head(), 4)?,
-                    units: text_of(alloc, entry.head(), 5)?,
-                })?;
-            }
-        }
+    for placed in message.results() {
+        found.push(Reading {
+            sample: text_of(alloc, placed.order.head(), 3)?,
+            value: text_of(alloc, placed.entry.head(), 4)?,
+            units: text_of(alloc, placed.entry.head(), 5)?,
+        })?;
     }
     Ok(found)
 }
 
 /// The text of the field of this number; empty where it is absent, or is no plain text.
-fn text_of(alloc: Global, entry: &Record, number: usize) -> Result<Vec<u8>, AllocError> {
+fn text_of(alloc: Global, entry: &Record, number: usize) -> Result<Vec<u8>, AllocError>
+    ensures { IfOk result (λ text. IsText (field_at entry.now number) text.items) }
+{
     let text = match entry.field(number) {
         Some(field) => field.to_text(alloc)?,
         None => None,
@@ -41,14 +46,18 @@ fn text_of(alloc: Global, entry: &Record, number: usize) -> Result<Vec<u8>, Allo
     Ok(text.unwrap_or(Vec::new(alloc)))
 }
 
-/// How many results a stream has that comes in pieces.
-pub fn count_results(alloc: Global, pieces: &[&[u8]]) -> Result<usize, MessageFault> {
+/// How many results a stream has that comes in pieces; where they are more than a number can tell, the greatest number.
+pub fn count_results(alloc: Global, pieces: &[&[u8]]) -> Result<usize, MessageFault>
+    ensures ok { IfOk result (λ count. (messages : List MessageTree)
+        × IsCut (flat_map (λ piece. piece.now) pieces.now) messages None [] × (count ≡ counted (result_count messages))) }
+    ensures err { IfErr result (IsUnread (flat_map (λ piece. piece.now) pieces.now)) }
+{
     let mut reader = MessageReader::new(alloc);
     let mut count = 0usize;
     for piece in pieces {
         let fed = reader.feed(piece);
         for message in fed.messages.as_slice() {
-            count = count.saturating_add(results_of(message));
+            count = count.saturating_add(results_in(message));
         }
         if let Some(fault) = fed.fault {
             return Err(fault);
@@ -59,14 +68,12 @@ pub fn count_results(alloc: Global, pieces: &[&[u8]]) -> Result<usize, MessageFa
 }
 
 /// How many results a message has.
-fn results_of(message: &Message) -> usize {
+fn results_in(message: &Message) -> usize
+    ensures { result ≡ counted (length (results_of message.now)) }
+{
     let mut count = 0usize;
-    for group in message.groups() {
-        if let Group::Patient(patient) = group {
-            for order in patient.orders() {
-                count = count.saturating_add(order.results().len());
-            }
-        }
+    for _placed in message.results() {
+        count = count.saturating_add(1);
     }
     count
 }

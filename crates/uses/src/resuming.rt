@@ -1,6 +1,7 @@
 //! Writing a message on behind a sink that failed.
 
 ghost use Rattle.std.specs.Prelude.{◌≡◌, false};
+ghost use Rattle.uses.specs.Resuming.{WroteToBoth};
 
 use lis_message::{Message, MessageWriteFault, write_message, write_message_from};
 use lis_port::Sink;
@@ -13,6 +14,7 @@ pub fn write_to_both<W: Sink, V: Sink>(
 ) -> Result<(), MessageWriteFault>
     requires first { W.failed first.old ≡ false }
     requires second { V.failed second.old ≡ false }
+    ensures { WroteToBoth message.now (W.taken first.old) (W.taken first.new) (V.taken second.old) (V.taken second.new) result }
 {
     let Err(fault) = write_message(first, message) else {
         return Ok(());

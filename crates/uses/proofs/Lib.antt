@@ -1,0 +1,5 @@
+mod BuildingLaws
+mod LoopLaws
+mod ReadingLaws
+mod ReceptionLaws
+mod SessionLaws

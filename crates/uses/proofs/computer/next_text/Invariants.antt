@@ -1,0 +1,8 @@
+use Rattle.lis_link.specs.inside.Stands.{IsIn}
+use Rattle.lis_link.specs.Receiver.{ReceiverState}
+use Rattle.uses.proofs.ReceptionLaws.{IsSoFar}
+use Rattle.uses.proofs.computer.next_text.Given as goal
+
+-- what was done so far goes on as the receiver that is kept does
+abbrev pub invariant-loop-turn : goal.invariant-loop-turn
+invariant-loop-turn g l = (r : ReceiverState) → IsIn 240 l.fn.receiver r → IsSoFar r (g.L.Line.deeds l.fn.line) (g.L.Line.deeds l.line) l._turn l.receiver

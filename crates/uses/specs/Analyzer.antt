@@ -1,0 +1,70 @@
+-- A session on an analyzer's line: each event is answered as a sender answers it (LIS01-A2, 6.3 to 6.6), and a timer runs
+-- while a reply is awaited or the line is left to others.
+use Rattle.std.specs.Prelude.{◌≡◌, ◌≢◌, ℕ, ◌+◌, List, [], ◌∷◌, ◌++◌, Option, None, Some}
+use Rattle.lis_text.specs.Control.{ENQ, EOT, NAK}
+use Rattle.lis_frame.specs.Frame.{frame_bytes}
+use Rattle.lis_link.specs.declared.sender.EmitOf.{EmitOf}
+use Rattle.lis_link.specs.declared.sender.EmitOf.TheVariants as emits
+use Rattle.lis_link.specs.declared.sender.Outcome.{Outcome}
+use Rattle.lis_link.specs.declared.sender.Phase.{Phase}
+use Rattle.lis_link.specs.declared.sender.Phase.TheVariants.{Neutral, AwaitLine, Busy, Contention, AwaitReply}
+use Rattle.lis_link.specs.Sender.{SenderState, SenderStep, gives, on_reply, on_sender_timer, started}
+use Rattle.uses.specs.declared.line.Event.{Event}
+use Rattle.uses.specs.declared.line.Event.TheVariants.{Byte, Timer, Closed}
+use Rattle.uses.specs.Line.{Deed, GoesOn, most_events, sent, timed, waited}
+
+-- the seconds of the timer in a phase (LIS01-A2, 6.5.2): for a reply, behind NAK to ENQ, behind ENQ to ENQ
+abbrev pub seconds_in : Phase → Option ℕ
+seconds_in Neutral = None
+seconds_in AwaitLine = Some 15
+seconds_in AwaitReply = Some 15
+seconds_in Busy = Some 10
+seconds_in Contention = Some 1
+
+-- what is sent of what the sender emits
+abbrev pub put_out : EmitOf 240 → List Deed
+put_out emits.Nothing = []
+put_out emits.Enq = sent (ENQ ∷ []) ∷ []
+put_out emits.Eot = sent (EOT ∷ []) ∷ []
+put_out emits.Nak = sent (NAK ∷ []) ∷ []
+put_out (emits.Frame frame) = sent (frame_bytes frame) ∷ []
+
+-- the sender's step at an event
+abbrev pub step_at : Event → SenderState → SenderStep 240
+step_at (Byte byte) s = on_reply byte s
+step_at Timer s = on_sender_timer s
+step_at Closed s = gives emits.Nothing s
+
+-- the event means nothing in this phase: nothing is emitted, and the phase stays
+abbrev pub MeansNothing : Phase → SenderStep 240 → Type 0
+MeansNothing phase step = (step.emit ≡ emits.Nothing) × (step.after.phase ≡ phase)
+
+-- The rest of a session of a sender, of which so many events are waited for at most: the deeds on the line, and how it
+-- ended, none where the line was closed before. An event that means nothing leaves the timer running; behind any other
+-- that of the phase is started anew.
+pub data IsSession : ℕ → SenderState → List Deed → Option Outcome → Type 0 where
+  closed : {left : ℕ} {s : SenderState} {deeds : List Deed} {outcome : Option Outcome} (more : ℕ)
+      → left ≡ more + 1 → deeds ≡ waited Closed ∷ [] → outcome ≡ None → IsSession left s deeds outcome
+  over : {left : ℕ} {s : SenderState} {deeds : List Deed} {outcome : Option Outcome} (more : ℕ) (event : Event)
+      → left ≡ more + 1 → event ≢ Closed → seconds_in (step_at event s).after.phase ≡ None
+      → deeds ≡ waited event ∷ put_out (step_at event s).emit → outcome ≡ (step_at event s).after.outcome
+      → IsSession left s deeds outcome
+  quiet : {left : ℕ} {s : SenderState} {deeds : List Deed} {outcome : Option Outcome} (more : ℕ) (event : Event)
+      (seconds : ℕ) (rest : List Deed)
+      → left ≡ more + 1 → event ≢ Closed → seconds_in (step_at event s).after.phase ≡ Some seconds
+      → MeansNothing s.phase (step_at event s) → deeds ≡ waited event ∷ rest
+      → IsSession more (step_at event s).after rest outcome → IsSession left s deeds outcome
+  answered : {left : ℕ} {s : SenderState} {deeds : List Deed} {outcome : Option Outcome} (more : ℕ) (event : Event)
+      (seconds : ℕ) (rest : List Deed)
+      → left ≡ more + 1 → event ≢ Closed → seconds_in (step_at event s).after.phase ≡ Some seconds
+      → ¬ (MeansNothing s.phase (step_at event s))
+      → deeds ≡ waited event ∷ put_out (step_at event s).emit ++ timed seconds ∷ rest
+      → IsSession more (step_at event s).after rest outcome → IsSession left s deeds outcome
+  given_up : {left : ℕ} {s : SenderState} {deeds : List Deed} {outcome : Option Outcome}
+      → left ≡ 0 → deeds ≡ [] → outcome ≡ None → IsSession left s deeds outcome
+
+-- a session with these texts: ENQ, the timer for its reply, and the rest
+pub record WasSession (texts : List (List ℕ)) (past now : Option (List Deed)) (outcome : Option Outcome) : Type 0 where
+  pub deeds : List Deed
+  pub done : GoesOn past now (sent (ENQ ∷ []) ∷ timed 15 ∷ deeds)
+  pub session : IsSession most_events (started 240 texts) deeds outcome

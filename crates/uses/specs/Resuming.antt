@@ -1,0 +1,20 @@
+-- A message that two sinks take, one after the other.
+use Rattle.std.specs.Prelude.{◌≡◌, ◌≢◌, ℕ, ◌<◌, List, Option, Err}
+use Rattle.std.specs.declared.result.Result.{Result}
+use Rattle.lis_message.specs.declared.fault.MessageWriteFault.{MessageWriteFault}
+use Rattle.lis_message.specs.Writing.{WroteMessage}
+use Rattle.lis_record.specs.declared.faults.WriteFault.TheVariants.{Io}
+use Rattle.lis_tree.specs.Tree.{MessageTree}
+
+-- The first sink takes all of it, or it is refused before any byte: the second one gets nothing. Or the first sink fails in
+-- a record, and the second one gets the rest.
+pub data WroteToBoth
+    (message : MessageTree) (first_old first_new second_old second_new : Option (List ℕ)) (result : Result (Unit {0}) MessageWriteFault)
+    : Type 0 where
+  first : ((place count : ℕ) → place < 18446744073709551615 → result ≢ Err (record { place = place; fault = Io count }))
+      → WroteMessage message 1 0 first_old first_new result → second_new ≡ second_old
+      → WroteToBoth message first_old first_new second_old second_new result
+  both : (place count : ℕ) → place < 18446744073709551615
+      → WroteMessage message 1 0 first_old first_new (Err (record { place = place; fault = Io count }))
+      → WroteMessage message place count second_old second_new result
+      → WroteToBoth message first_old first_new second_old second_new result
