@@ -167,6 +167,12 @@ fn faults_of_messages_say_what_is_wrong(rt: HostRuntime) -> Result<(), Fail> {
     ] {
         assert_says(&rt, alloc, &MessageFault { place: 3, reason }, want)?;
     }
+    Ok(())
+}
+
+#[test]
+fn faults_of_written_messages_say_what_is_wrong(rt: HostRuntime) -> Result<(), Fail> {
+    let alloc = rt.alloc();
     let fault = WriteFault::Io(12);
     let stopped = MessageWriteFault { place: 2, fault };
     assert_says(
