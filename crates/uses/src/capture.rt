@@ -8,6 +8,7 @@ use lis_tool::{ToolFault, run_replay};
 use std::alloc::Global;
 
 /// Whether each reply in a capture is the one that a receiver gives, and each line is one.
+/// A replay that writes more than 131,072 bytes is told as a failed write.
 pub fn is_as_played(alloc: Global, capture: &[u8]) -> Result<bool, ToolFault>
     ensures ok { IfOk result (WasPlayed capture.now) }
     ensures err { IfErr result (WasNotPlayed capture.now) }
