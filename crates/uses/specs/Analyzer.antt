@@ -13,7 +13,7 @@ use Rattle.uses.specs.declared.line.Event.{Event}
 use Rattle.uses.specs.declared.line.Event.TheVariants.{Byte, Timer, Closed}
 use Rattle.uses.specs.Line.{Deed, GoesOn, most_events, sent, timed, waited}
 
--- the seconds of the timer in a phase (LIS01-A2, 6.5.2): for a reply, behind NAK to ENQ, behind ENQ to ENQ
+-- the seconds of the timer in a phase (LIS01-A2, 6.2 to 6.5): for a reply, behind NAK to ENQ, behind ENQ to ENQ
 abbrev pub seconds_in : Phase → Option ℕ
 seconds_in Neutral = None
 seconds_in AwaitLine = Some 15

@@ -38,7 +38,7 @@ abbrev pub replied : Option ℕ → List Deed
 replied None = []
 replied (Some byte) = sent (byte ∷ []) ∷ []
 
--- the timer for the next frame or EOT (LIS01-A2, 6.5.2) is started anew by each step that isn't quiet and leaves the line
+-- the timer for the next frame or EOT (LIS01-A2, 6.2 to 6.5) is started anew by each step that isn't quiet and leaves the line
 -- open
 abbrev pub timer_behind : Note → Bool → List Deed
 timer_behind note false = []
