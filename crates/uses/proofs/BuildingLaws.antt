@@ -18,7 +18,8 @@ too_few : (before : List Kind) (kind : Kind) (behind : List Kind) → [] ≡ bef
 too_few [] kind behind e = cc
 too_few (a ∷ before) kind behind e = cc
 
-none_is_misplaced : (before : List Kind) (kind : Kind) (behind : List Kind) (reason : Reason) → H ∷ P ∷ O ∷ R ∷ L ∷ [] ≡ before ++ kind ∷ behind
+none_is_misplaced : (before : List Kind) (kind : Kind) (behind : List Kind) (reason : Reason)
+    → H ∷ P ∷ O ∷ R ∷ L ∷ [] ≡ before ++ kind ∷ behind
     → misplaced (level_after outside before) kind ≡ Some reason → ⊥
 none_is_misplaced [] kind behind reason whole why =
     let last : kind ≡ H = cc in
@@ -57,7 +58,8 @@ is_message fault is = elim is [
 ]
 
 -- and memory alone can be wanted
-pub only_memory : (sample value : List ℕ) (records : List RecordContent) (made : Result MessageTree MessageFault) (result : Result MessageTree BuildFault)
+pub only_memory : (sample value : List ℕ) (records : List RecordContent) (made : Result MessageTree MessageFault)
+    (result : Result MessageTree BuildFault)
     → records ≡ result_records sample value
     → IfErr made (λ fault. (fault.reason ≡ OutOfMemory) ⊎ IsListFault (kinds_of records) fault)
     → MatchResult made (λ message. result ≡ Ok message) (λ fault. IsErrAnd result (λ told. told ≡ Message fault))

@@ -8,11 +8,13 @@ none_yet None = record {}
 none_yet (Some past) = sym (append-nil past)
 
 -- none behind deeds
-pub goes_on_none : (past now : Option (List Deed)) (deeds : List Deed) → GoesOn past now deeds → GoesOn past now (deeds ++ [])
+pub goes_on_none : (past now : Option (List Deed)) (deeds : List Deed) → GoesOn past now deeds
+    → GoesOn past now (deeds ++ [])
 goes_on_none past now deeds done = rw (append-nil deeds) done
 
 -- deeds behind deeds
-pub goes_on_then : (past now last : Option (List Deed)) (deeds more : List Deed) → GoesOn past now deeds → GoesOn now last more
+pub goes_on_then : (past now last : Option (List Deed)) (deeds more : List Deed) → GoesOn past now deeds
+    → GoesOn now last more
     → GoesOn past last (deeds ++ more)
 goes_on_then None now last deeds more done behind = record {}
 goes_on_then (Some past) None last deeds more done behind = elim done [ ]

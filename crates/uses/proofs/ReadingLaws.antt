@@ -1,5 +1,6 @@
 -- Results that were read so far, and one more; counts of them.
-use Rattle.std.proofs.Common.{◌≡◌, ℕ, ◌+◌, ◌<◌, List, [], ◌∷◌, ◌++◌, None, length, take, refl, sym, ap, ◌∙◌, arith, append-nil, min, get_or, drop, Bor, Result, Ok, Err}
+use Rattle.std.proofs.Common.{◌≡◌, ℕ, ◌+◌, ◌<◌, List, [], ◌∷◌, ◌++◌, None, length, take, refl, sym, ap, ◌∙◌, arith}
+use Rattle.std.proofs.Common.{append-nil, min, get_or, drop, Bor, Result, Ok, Err}
 use Rattle.std.specs.Result.{IfErr, IsErrAnd}
 use Rattle.std.proofs.lemmas.Grind.{flat_map-append}
 use Rattle.std.proofs.lemmas.List.{take_more, take-append-drop}
@@ -12,14 +13,16 @@ use Rattle.uses.specs.Readings.{IsReading, counted, result_count}
 
 -- one more reading
 pub one_more : (nodes : List ResultNode) (readings : List Reading) (node : ResultNode) (reading : Reading)
-    → AllZip IsReading nodes readings → IsReading node reading → AllZip IsReading (nodes ++ node ∷ []) (readings ++ reading ∷ [])
+    → AllZip IsReading nodes readings → IsReading node reading
+    → AllZip IsReading (nodes ++ node ∷ []) (readings ++ reading ∷ [])
 one_more [] [] node reading all is = (is, record {})
 one_more [] (r ∷ readings) node reading all is = elim all [ ]
 one_more (n ∷ nodes) [] node reading all is = elim all [ ]
 one_more (n ∷ nodes) (r ∷ readings) node reading all is = (all.0, one_more nodes readings node reading all.1 is)
 
 -- the results of messages behind others
-pub result_count-append : (messages more : List MessageTree) → result_count (messages ++ more) ≡ result_count messages + result_count more
+pub result_count-append : (messages more : List MessageTree)
+    → result_count (messages ++ more) ≡ result_count messages + result_count more
 result_count-append [] more = omega arith
 result_count-append (m ∷ messages) more = omega (arith, result_count-append messages more)
 
@@ -28,31 +31,55 @@ pub counted_more : (count more : ℕ) → counted (counted count + counted more)
 counted_more count more = omega arith
 
 -- the results of one message more
-pub counts_next : (base index : ℕ) (messages : List MessageTree) (message : MessageTree) (count more : ℕ) → index < length messages
-    → message ≡ get_or messages index message → count ≡ counted (base + result_count (take index messages)) → more ≡ counted (length (results_of message))
+pub counts_next : (base index : ℕ) (messages : List MessageTree) (message : MessageTree) (count more : ℕ)
+    → index < length messages
+    → message ≡ get_or messages index message → count ≡ counted (base + result_count (take index messages))
+    → more ≡ counted (length (results_of message))
     → min (count + more) 18446744073709551615 ≡ counted (base + result_count (take (index + 1) messages))
 counts_next base index messages message count more few is before next =
-    rw (take_more messages index message few, sym is, result_count-append (take index messages) (message ∷ []), before, next)
+    rw (
+      take_more messages index message few,
+      sym is,
+      result_count-append (take index messages) (message ∷ []),
+      before,
+      next,
+    )
     (omega arith)
 
 -- a stream of one piece more
 pub stream_next : (pieces : List (Bor (List ℕ))) (index : ℕ) (none : Bor (List ℕ)) → index < length pieces
-    → flat_map (λ (p : Bor (List ℕ)). p.now) (take (index + 1) pieces) ≡ flat_map (λ (p : Bor (List ℕ)). p.now) (take index pieces) ++ (get_or pieces index none).now
+    → flat_map (λ (p : Bor (List ℕ)). p.now) (take (index + 1) pieces) ≡ flat_map (λ (p : Bor (List ℕ)). p.now)
+    (take index pieces) ++ (get_or pieces index none).now
 stream_next pieces index none few =
-    rw (take_more pieces index none few, flat_map-append (λ (p : Bor (List ℕ)). p.now) (take index pieces) (get_or pieces index none ∷ []), append-nil (get_or pieces index none).now) refl
+    rw (
+      take_more pieces index none few,
+      flat_map-append (λ (p : Bor (List ℕ)). p.now) (take index pieces)
+          (get_or pieces index none ∷ []),
+      append-nil (get_or pieces index none).now,
+    ) refl
 
 -- the pieces behind a front
 pub stream_rest : (pieces : List (Bor (List ℕ))) (index : ℕ)
-    → flat_map (λ (p : Bor (List ℕ)). p.now) pieces ≡ flat_map (λ (p : Bor (List ℕ)). p.now) (take index pieces) ++ flat_map (λ (p : Bor (List ℕ)). p.now) (drop index pieces)
+    → flat_map (λ (p : Bor (List ℕ)). p.now) pieces ≡ flat_map (λ (p : Bor (List ℕ)). p.now) (take index pieces)
+    ++ flat_map (λ (p : Bor (List ℕ)). p.now) (drop index pieces)
 stream_rest pieces index =
     ap (flat_map (λ (p : Bor (List ℕ)). p.now)) (sym (take-append-drop index pieces))
     ∙ flat_map-append (λ (p : Bor (List ℕ)). p.now) (take index pieces) (drop index pieces)
 
 -- nothing was read yet
 pub nothing_read : IsCut [] [] None []
-nothing_read = record { groups = []; texts = []; whole = refl; read = record {}; begun = refl; lacks = record {}; short = omega arith }
+nothing_read = record {
+  groups = [];
+  texts = [];
+  whole = refl;
+  read = record {};
+  begun = refl;
+  lacks = record {};
+  short = omega arith;
+}
 
 -- an error that is passed on
-pub if_err : {T E : Type 0} (P Q : E → Type 0) (result : Result T E) → IsErrAnd result P → ((e : E) → P e → Q e) → IfErr result Q
+pub if_err : {T E : Type 0} (P Q : E → Type 0) (result : Result T E) → IsErrAnd result P → ((e : E) → P e → Q e)
+    → IfErr result Q
 if_err P Q (Ok value) is implies = record {}
 if_err P Q (Err e) is implies = implies e is

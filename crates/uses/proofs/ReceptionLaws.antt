@@ -1,5 +1,6 @@
 -- Receiving on a line so far, and how it goes on.
-use Rattle.std.proofs.Common.{◌≡◌, ◌≢◌, ℕ, ◌+◌, ◌-◌, ◌<◌, Bool, ◌⊎◌, inl, inr, List, true, false, [], ◌∷◌, ◌++◌, Option, None, Some, refl, sym, subst, arith, append_assoc}
+use Rattle.std.proofs.Common.{◌≡◌, ◌≢◌, ℕ, ◌+◌, ◌-◌, ◌<◌, Bool, ◌⊎◌, inl, inr, List, true, false, [], ◌∷◌, ◌++◌}
+use Rattle.std.proofs.Common.{Option, None, Some, refl, sym, subst, arith, append_assoc}
 use Rattle.std.proofs.lemmas.Bool.{false≢true}
 use Rattle.std.specs.Option.{is_some}
 use Rattle.lis_link.specs.declared.receiver.Note.{Note}
@@ -8,7 +9,8 @@ use Rattle.lis_link.specs.declared.receiver.Step.{Step}
 use Rattle.lis_link.specs.inside.Kept.{Kept}
 use Rattle.lis_link.specs.inside.Stands.{IsIn, IsRefused, Makes}
 use Rattle.lis_link.specs.Receiver.{ReceiverState, on_byte, on_receiver_timer}
-use Rattle.uses.specs.Computer.{Answers, IsReception, WasReception, closed, whole, goes_on, given_up, made, refused, deeds_at, replied, timer_behind}
+use Rattle.uses.specs.Computer.{Answers, IsReception, WasReception, closed, whole, goes_on, given_up, made, refused}
+use Rattle.uses.specs.Computer.{deeds_at, replied, timer_behind}
 use Rattle.uses.specs.Line.{Deed, GoesOn, most_events, waited}
 use Rattle.uses.specs.declared.line.Event.{Event}
 use Rattle.uses.specs.declared.line.Event.TheVariants.{Byte, Timer, Closed}
@@ -33,22 +35,26 @@ wants_memory Notes.TimedOut = inr (λ e. cc)
 -- the answer to a byte, and to the timer
 pub answers_byte : (byte spare : ℕ) (r : ReceiverState) (answer : Step) (new : Kept)
     → (answer.note ≢ Notes.OutOfMemory → Makes 240 (on_byte 240 byte r) answer new)
-    → (answer.note ≡ Notes.OutOfMemory → IsRefused 240 spare (on_byte 240 byte r) (record r { past = byte ∷ r.past }) answer new)
+    → (answer.note ≡ Notes.OutOfMemory → IsRefused 240 spare (on_byte 240 byte r)
+    (record r { past = byte ∷ r.past }) answer new)
     → Answers (Byte byte) r answer new
 answers_byte byte spare r answer new makes refuses = elim (wants_memory answer.note) [
   | inl out ↦
       let was = refuses out in
       record {
         after = record r { past = byte ∷ r.past };
-        answer = refused byte was.frame refl was.would_accept refl (record { reply_is = was.reply_is; message_is = was.message_is; note_is = out });
+        answer = refused byte was.frame refl was.would_accept refl
+            (record { reply_is = was.reply_is; message_is = was.message_is; note_is = out });
         state = was.state;
       }
   | inr fine ↦
       record { after = (on_byte 240 byte r).after; answer = made (makes fine).answer refl; state = (makes fine).state }
 ]
 
-pub answers_timer : (r : ReceiverState) (answer : Step) (new : Kept) → Makes 240 (on_receiver_timer r) answer new → Answers Timer r answer new
-answers_timer r answer new makes = record { after = (on_receiver_timer r).after; answer = made makes.answer refl; state = makes.state }
+pub answers_timer : (r : ReceiverState) (answer : Step) (new : Kept) → Makes 240 (on_receiver_timer r) answer new
+    → Answers Timer r answer new
+answers_timer r answer new makes = record
+    { after = (on_receiver_timer r).after; answer = made makes.answer refl; state = makes.state }
 
 -- a text is handed out, or none is
 pub is_handed_out : (message : Option (List ℕ)) → true ≡ is_some message → message ≢ None
@@ -68,7 +74,8 @@ pub record IsSoFar (first : ReceiverState) (past now : Option (List Deed)) (turn
   pub behind : (left : ℕ) (rest : List Deed) (text : Option (List ℕ)) (last : ReceiverState) → turn + left ≡ most_events
       → IsReception left r rest text last → IsReception most_events first (deeds ++ rest) text last
 
-pub begun : (first : ReceiverState) (past : Option (List Deed)) (kept : Kept) → IsIn 240 kept first → IsSoFar first past past 0 kept
+pub begun : (first : ReceiverState) (past : Option (List Deed)) (kept : Kept) → IsIn 240 kept first
+    → IsSoFar first past past 0 kept
 begun first past kept state = record {
   deeds = [];
   done = none_yet past;
@@ -91,7 +98,8 @@ was_closed first past now last turn kept so_far more waits = record {
 }
 
 -- a text is whole
-pub was_whole : (first : ReceiverState) (past now mid last : Option (List Deed)) (turn : ℕ) (kept new : Kept) (event : Event) (answer : Step) (is_open : Bool)
+pub was_whole : (first : ReceiverState) (past now mid last : Option (List Deed)) (turn : ℕ) (kept new : Kept)
+    (event : Event) (answer : Step) (is_open : Bool)
     (so_far : IsSoFar first past now turn kept) → turn < most_events → event ≢ Closed
     → ((r : ReceiverState) → IsIn 240 kept r → Answers event r answer new)
     → ((r : ReceiverState) → IsIn 240 new r → is_open ≡ r.is_open)
@@ -104,7 +112,8 @@ was_whole first past now mid last turn kept new event answer is_open so_far more
     record {
       deeds = so_far.deeds ++ deeds;
       done = goes_on_then past now last so_far.deeds deeds so_far.done
-          (goes_on_then now mid last (waited event ∷ []) (replied answer.reply ++ timer_behind answer.note given.after.is_open) waits
+          (goes_on_then now mid last (waited event ∷ [])
+          (replied answer.reply ++ timer_behind answer.note given.after.is_open) waits
           (rw (tells given.after given.state) at puts));
       last = given.after;
       reception = so_far.behind (most_events - turn) deeds answer.message given.after (omega (arith, more))
@@ -113,7 +122,8 @@ was_whole first past now mid last turn kept new event answer is_open so_far more
     }
 
 -- none is
-pub goes_on_behind : (first : ReceiverState) (past now mid last : Option (List Deed)) (turn : ℕ) (kept new : Kept) (event : Event) (answer : Step) (is_open : Bool)
+pub goes_on_behind : (first : ReceiverState) (past now mid last : Option (List Deed)) (turn : ℕ) (kept new : Kept)
+    (event : Event) (answer : Step) (is_open : Bool)
     (so_far : IsSoFar first past now turn kept) → event ≢ Closed
     → ((r : ReceiverState) → IsIn 240 kept r → Answers event r answer new)
     → ((r : ReceiverState) → IsIn 240 new r → is_open ≡ r.is_open)
@@ -126,7 +136,8 @@ goes_on_behind first past now mid last turn kept new event answer is_open so_far
     record {
       deeds = so_far.deeds ++ deeds;
       done = goes_on_then past now last so_far.deeds deeds so_far.done
-          (goes_on_then now mid last (waited event ∷ []) (replied answer.reply ++ timer_behind answer.note given.after.is_open) waits
+          (goes_on_then now mid last (waited event ∷ [])
+          (replied answer.reply ++ timer_behind answer.note given.after.is_open) waits
           (rw (tells given.after given.state) at puts));
       r = given.after;
       state = given.state;

@@ -1,9 +1,11 @@
 -- A session on a line so far, and how it goes on.
-use Rattle.std.proofs.Common.{◌≡◌, ◌≢◌, ℕ, ◌+◌, ◌-◌, ◌<◌, List, [], ◌∷◌, ◌++◌, Option, None, Some, refl, ap, subst, arith, append_assoc}
+use Rattle.std.proofs.Common.{◌≡◌, ◌≢◌, ℕ, ◌+◌, ◌-◌, ◌<◌, List, [], ◌∷◌, ◌++◌, Option, None, Some, refl, ap, subst}
+use Rattle.std.proofs.Common.{arith, append_assoc}
 use Rattle.lis_text.specs.Control.{ENQ}
 use Rattle.lis_link.specs.declared.sender.Outcome.{Outcome}
 use Rattle.lis_link.specs.Sender.{SenderState, started}
-use Rattle.uses.specs.Analyzer.{IsSession, MeansNothing, WasSession, closed, over, quiet, answered, given_up, put_out, seconds_in, step_at}
+use Rattle.uses.specs.Analyzer.{IsSession, MeansNothing, WasSession, closed, over, quiet, answered, given_up, put_out}
+use Rattle.uses.specs.Analyzer.{seconds_in, step_at}
 use Rattle.uses.specs.Line.{Deed, GoesOn, most_events, sent, timed, waited}
 use Rattle.uses.specs.declared.line.Event.{Event}
 use Rattle.uses.specs.declared.line.Event.TheVariants.{Closed}
@@ -13,7 +15,8 @@ use Rattle.uses.proofs.LoopLaws.{goes_on_none, goes_on_then}
 pub record IsSoFar (texts : List (List ℕ)) (past now : Option (List Deed)) (turn : ℕ) (s : SenderState) : Type 0 where
   pub deeds : List Deed
   pub done : GoesOn past now (sent (ENQ ∷ []) ∷ timed 15 ∷ deeds)
-  pub goes_on : (left : ℕ) (rest : List Deed) (outcome : Option Outcome) → turn + left ≡ most_events → IsSession left s rest outcome
+  pub goes_on : (left : ℕ) (rest : List Deed) (outcome : Option Outcome) → turn + left ≡ most_events
+      → IsSession left s rest outcome
       → IsSession most_events (started 240 texts) (deeds ++ rest) outcome
 
 pub begun : (texts : List (List ℕ)) (past mid now : Option (List Deed)) → GoesOn past mid (sent (ENQ ∷ []) ∷ [])
@@ -21,11 +24,13 @@ pub begun : (texts : List (List ℕ)) (past mid now : Option (List Deed)) → Go
 begun texts past mid now asked timing = record {
   deeds = [];
   done = goes_on_then past mid now (sent (ENQ ∷ []) ∷ []) (timed 15 ∷ []) asked timing;
-  goes_on = λ left rest outcome all is. subst (λ (n : ℕ). IsSession n (started 240 texts) rest outcome) (omega (arith, all)) is;
+  goes_on = λ left rest outcome all is. subst (λ (n : ℕ). IsSession n (started 240 texts) rest outcome)
+      (omega (arith, all)) is;
 }
 
 -- it ends with these deeds
-pub ended : (texts : List (List ℕ)) (past now last : Option (List Deed)) (turn left : ℕ) (s : SenderState) (rest : List Deed) (outcome : Option Outcome)
+pub ended : (texts : List (List ℕ)) (past now last : Option (List Deed)) (turn left : ℕ) (s : SenderState)
+    (rest : List Deed) (outcome : Option Outcome)
     → IsSoFar texts past now turn s → turn + left ≡ most_events → GoesOn now last rest → IsSession left s rest outcome
     → WasSession texts past last outcome
 ended texts past now last turn left s rest outcome so_far all behind is = record {
@@ -43,19 +48,24 @@ was_closed texts past now last turn s so_far more behind =
     (closed (most_events - turn - 1) (omega (arith, more)) refl refl)
 
 -- the sender's session is over
-pub was_over : (texts : List (List ℕ)) (past now mid last : Option (List Deed)) (turn : ℕ) (s : SenderState) (event : Event)
+pub was_over : (texts : List (List ℕ)) (past now mid last : Option (List Deed)) (turn : ℕ) (s : SenderState)
+    (event : Event)
     → IsSoFar texts past now turn s → turn < most_events → event ≢ Closed → GoesOn now mid (waited event ∷ [])
     → GoesOn mid last (put_out (step_at event s).emit) → seconds_in (step_at event s).after.phase ≡ None
     → WasSession texts past last (step_at event s).after.outcome
 was_over texts past now mid last turn s event so_far more still waits puts none =
-    ended texts past now last turn (most_events - turn) s (waited event ∷ put_out (step_at event s).emit) (step_at event s).after.outcome
-    so_far (omega (arith, more)) (goes_on_then now mid last (waited event ∷ []) (put_out (step_at event s).emit) waits puts)
+    ended texts past now last turn (most_events - turn) s (waited event ∷ put_out (step_at event s).emit)
+    (step_at event s).after.outcome
+    so_far (omega (arith, more)) (goes_on_then now mid last (waited event ∷ [])
+    (put_out (step_at event s).emit) waits puts)
     (over (most_events - turn - 1) event (omega (arith, more)) still none refl refl)
 
 -- it goes on behind an event that means nothing, and behind any other
-pub goes_on_quiet : (texts : List (List ℕ)) (past now mid last : Option (List Deed)) (turn : ℕ) (s : SenderState) (event : Event) (seconds : ℕ)
+pub goes_on_quiet : (texts : List (List ℕ)) (past now mid last : Option (List Deed)) (turn : ℕ) (s : SenderState)
+    (event : Event) (seconds : ℕ)
     → IsSoFar texts past now turn s → event ≢ Closed → GoesOn now mid (waited event ∷ [])
-    → GoesOn mid last (put_out (step_at event s).emit) → seconds_in (step_at event s).after.phase ≡ Some seconds → MeansNothing s.phase (step_at event s)
+    → GoesOn mid last (put_out (step_at event s).emit) → seconds_in (step_at event s).after.phase ≡ Some seconds
+    → MeansNothing s.phase (step_at event s)
     → IsSoFar texts past last (turn + 1) (step_at event s).after
 goes_on_quiet texts past now mid last turn s event seconds so_far still waits puts some nothing = record {
   deeds = so_far.deeds ++ waited event ∷ [];
@@ -66,7 +76,8 @@ goes_on_quiet texts past now mid last turn s event seconds so_far still waits pu
       (quiet left event seconds rest refl still some nothing refl is));
 }
 
-pub goes_on_answered : (texts : List (List ℕ)) (past now mid sent_on last : Option (List Deed)) (turn : ℕ) (s : SenderState) (event : Event) (seconds : ℕ)
+pub goes_on_answered : (texts : List (List ℕ)) (past now mid sent_on last : Option (List Deed)) (turn : ℕ)
+    (s : SenderState) (event : Event) (seconds : ℕ)
     → IsSoFar texts past now turn s → event ≢ Closed → GoesOn now mid (waited event ∷ [])
     → GoesOn mid sent_on (put_out (step_at event s).emit) → GoesOn sent_on last (timed seconds ∷ [])
     → seconds_in (step_at event s).after.phase ≡ Some seconds → ¬ (MeansNothing s.phase (step_at event s))
@@ -81,7 +92,8 @@ goes_on_answered texts past now mid sent_on last turn s event seconds so_far sti
           (goes_on_then now mid sent_on (waited event ∷ []) emitted waits puts) timing);
       goes_on = λ left rest outcome all is. rw (append_assoc so_far.deeds answer rest)
           (so_far.goes_on (left + 1) (answer ++ rest) outcome (omega (arith, all))
-          (answered left event seconds rest refl still some means (ap (λ (l : List Deed). waited event ∷ l) (append_assoc emitted (timed seconds ∷ []) rest)) is));
+          (answered left event seconds rest refl still some means
+          (ap (λ (l : List Deed). waited event ∷ l) (append_assoc emitted (timed seconds ∷ []) rest)) is));
     }
 
 -- so many events were answered that no more are waited for

@@ -1,5 +1,5 @@
--- A session on an analyzer's line: each event is answered as a sender answers it (LIS01-A2, 6.3 to 6.6), and a timer runs
--- while a reply is awaited or the line is left to others.
+-- A session on an analyzer's line: each event is answered as a sender answers it (LIS01-A2, 6.3 to 6.6), and a timer
+-- runs while a reply is awaited or the line is left to others.
 use Rattle.std.specs.Prelude.{◌≡◌, ◌≢◌, ℕ, ◌+◌, List, [], ◌∷◌, ◌++◌, Option, None, Some}
 use Rattle.lis_text.specs.Control.{ENQ, EOT, NAK}
 use Rattle.lis_frame.specs.Frame.{frame_bytes}
@@ -39,9 +39,9 @@ step_at Closed s = gives emits.Nothing s
 abbrev pub MeansNothing : Phase → SenderStep 240 → Type 0
 MeansNothing phase step = (step.emit ≡ emits.Nothing) × (step.after.phase ≡ phase)
 
--- The rest of a session of a sender, of which so many events are waited for at most: the deeds on the line, and how it
--- ended, none where the line was closed before. An event that means nothing leaves the timer running; behind any other
--- that of the phase is started anew.
+-- The rest of a session of a sender, of which so many events are waited for at most: the deeds on the line, and how
+-- it ended, none where the line was closed before. An event that means nothing leaves the timer running; behind any
+-- other that of the phase is started anew.
 pub data IsSession : ℕ → SenderState → List Deed → Option Outcome → Type 0 where
   closed : {left : ℕ} {s : SenderState} {deeds : List Deed} {outcome : Option Outcome} (more : ℕ)
       → left ≡ more + 1 → deeds ≡ waited Closed ∷ [] → outcome ≡ None → IsSession left s deeds outcome

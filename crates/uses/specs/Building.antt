@@ -26,7 +26,8 @@ glucose_record value =
 -- the header, a patient, an order for the sample, its result, and the record that closes the message
 abbrev pub result_records : (sample value : List ℕ) → List RecordContent
 result_records sample value =
-    plain_record H [] ∷ plain_record P (codes "1" ∷ []) ∷ plain_record O (codes "1" ∷ sample ∷ []) ∷ glucose_record value
+    plain_record H [] ∷ plain_record P (codes "1" ∷ []) ∷ plain_record O (codes "1" ∷ sample ∷ [])
+    ∷ glucose_record value
     ∷ plain_record L (codes "1" ∷ codes "N" ∷ []) ∷ []
 
 -- the message of these records
@@ -42,5 +43,6 @@ IsMemory (Texts fault) = ⊥
 
 -- memory was refused, or the message has no texts
 abbrev pub HasNoResultTexts : (sample value : List ℕ) → BuildFault → Type 0
-HasNoResultTexts sample value (Texts fault) = (message : MessageTree) × IsResultMessage sample value message × HasNoTexts message fault
+HasNoResultTexts sample value (Texts fault) = (message : MessageTree) × IsResultMessage sample value message
+    × HasNoTexts message fault
 HasNoResultTexts sample value fault = IsMemory fault

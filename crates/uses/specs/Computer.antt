@@ -1,5 +1,5 @@
--- Receiving on a computer's line: each event is answered as a receiver answers it (LIS01-A2, 6.3 to 6.6), and a timer runs
--- while the line is open.
+-- Receiving on a computer's line: each event is answered as a receiver answers it (LIS01-A2, 6.3 to 6.6), and a
+-- timer runs while the line is open.
 use Rattle.std.specs.Prelude.{◌≡◌, ◌≢◌, ℕ, ◌+◌, Bool, true, false, List, [], ◌∷◌, ◌++◌, Option, None, Some}
 use Rattle.lis_text.specs.Control.{NAK}
 use Rattle.lis_frame.specs.Frame.{FrameContent}
@@ -19,8 +19,8 @@ step_at (Byte byte) r = on_byte 240 byte r
 step_at Timer r = on_receiver_timer r
 step_at Closed r = answers None Quiet r
 
--- The program's answer to an event: the receiver's step. Or memory is refused for a frame that would be accepted: that is
--- answered NAK, and nothing of it is kept.
+-- The program's answer to an event: the receiver's step. Or memory is refused for a frame that would be accepted:
+-- that is answered NAK, and nothing of it is kept.
 pub data IsAnswer (event : Event) (r : ReceiverState) (answer : Step) (after : ReceiverState) : Type 0 where
   made : IsStep (step_at event r) answer → after ≡ (step_at event r).after → IsAnswer event r answer after
   refused : (byte : ℕ) (frame : FrameContent) → event ≡ Byte byte → (on_byte 240 byte r).taken ≡ Some frame
@@ -38,8 +38,8 @@ abbrev pub replied : Option ℕ → List Deed
 replied None = []
 replied (Some byte) = sent (byte ∷ []) ∷ []
 
--- the timer for the next frame or EOT (LIS01-A2, 6.2 to 6.5) is started anew by each step that isn't quiet and leaves the line
--- open
+-- the timer for the next frame or EOT (LIS01-A2, 6.2 to 6.5) is started anew by each step that isn't quiet and
+-- leaves the line open
 abbrev pub timer_behind : Note → Bool → List Deed
 timer_behind note false = []
 timer_behind Quiet true = []
@@ -49,8 +49,8 @@ timer_behind note true = timed 30 ∷ []
 abbrev pub deeds_at : Event → Step → Bool → List Deed
 deeds_at event answer is_open = waited event ∷ replied answer.reply ++ timer_behind answer.note is_open
 
--- The deeds on the line until a text is whole, of which so many events are waited for at most, the text, none where the
--- line was closed before, and the receiver behind them.
+-- The deeds on the line until a text is whole, of which so many events are waited for at most, the text, none where
+-- the line was closed before, and the receiver behind them.
 pub data IsReception : ℕ → ReceiverState → List Deed → Option (List ℕ) → ReceiverState → Type 0 where
   closed : {left : ℕ} {r last : ReceiverState} {deeds : List Deed} {text : Option (List ℕ)} (more : ℕ)
       → left ≡ more + 1 → deeds ≡ waited Closed ∷ [] → text ≡ None → last ≡ r → IsReception left r deeds text last

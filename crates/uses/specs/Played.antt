@@ -18,4 +18,5 @@ pub record WasNotPlayed (bytes : List ℕ) (fault : ToolFault) : Type 0 where
   pub whole : bytes ≡ front ++ rest
   pub ended : Bool
   pub taken : Option (List ℕ)
-  pub answer : LineAnswer true (replay_writes 240) (capture (stream_with [] front) ended) ended (Err fault) (Some []) taken
+  pub answer : LineAnswer true (replay_writes 240) (capture (stream_with [] front) ended) ended (Err fault)
+      (Some []) taken

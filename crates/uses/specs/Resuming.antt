@@ -6,10 +6,11 @@ use Rattle.lis_message.specs.Writing.{WroteMessage}
 use Rattle.lis_record.specs.declared.faults.WriteFault.TheVariants.{Io}
 use Rattle.lis_tree.specs.Tree.{MessageTree}
 
--- The first sink takes all of it, or it is refused before any byte: the second one gets nothing. Or the first sink fails in
--- a record, and the second one gets the rest.
+-- The first sink takes all of it, or it is refused before any byte: the second one gets nothing. Or the first sink
+-- fails in a record, and the second one gets the rest.
 pub data WroteToBoth
-    (message : MessageTree) (first_old first_new second_old second_new : Option (List ℕ)) (result : Result (Unit {0}) MessageWriteFault)
+    (message : MessageTree) (first_old first_new second_old second_new : Option (List ℕ))
+    (result : Result (Unit {0}) MessageWriteFault)
     : Type 0 where
   first : ((place count : ℕ) → place < 18446744073709551615 → result ≢ Err (record { place = place; fault = Io count }))
       → WroteMessage message 1 0 first_old first_new result → second_new ≡ second_old

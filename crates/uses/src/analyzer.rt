@@ -34,7 +34,8 @@ pub fn sender_seconds(phase: Phase) -> Option<u32>
 /// Sends texts over a line, and tells how the session ended; none where the line was closed before.
 pub fn send_texts<L: Line>(line: &mut L, texts: Texts) -> Result<Option<Outcome>, StartRefused>
     ensures { MatchResult result
-        (λ outcome. (start_fault new_sender texts ≡ None) × WasSession texts (L.deeds line.old) (L.deeds line.new) outcome)
+        (λ outcome. (start_fault new_sender texts ≡ None)
+        × WasSession texts (L.deeds line.old) (L.deeds line.new) outcome)
         (λ refused. (start_fault new_sender texts ≡ Some refused.fault) × (refused.texts ≡ texts)
         × (L.deeds line.new ≡ L.deeds line.old)) }
 {

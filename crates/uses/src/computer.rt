@@ -53,8 +53,8 @@ fn step_at(receiver: &mut Receiver, event: Event) -> Option<Step>
     }
 }
 
-/// Sends the reply and starts the timer, by what an event meant. Each answer but that to EOT starts the timer anew; noise
-/// leaves it running.
+/// Sends the reply and starts the timer, by what an event meant. Each answer but that to EOT starts the timer anew;
+/// noise leaves it running.
 fn put<L: Line>(line: &mut L, reply: Option<u8>, note: Note, is_open: bool)
     ensures { GoesOn (L.deeds line.old) (L.deeds line.new) (replied reply ++ timer_behind note is_open) }
 {

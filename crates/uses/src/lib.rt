@@ -1,5 +1,5 @@
-//! Small callers of the crates, which `docs/GUIDE.md` quotes: the loops of both ends of a line, reading results, building
-//! and sending a message, writing it on behind a sink that failed, and checking a capture.
+//! Small callers of the crates, which `docs/GUIDE.md` quotes: the loops of both ends of a line, reading results,
+//! building and sending a message, writing it on behind a sink that failed, and checking a capture.
 #![tactic(auto)]
 
 pub mod analyzer;

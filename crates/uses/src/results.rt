@@ -49,7 +49,8 @@ fn text_of(alloc: Global, entry: &Record, number: usize) -> Result<Vec<u8>, Allo
 /// How many results a stream has that comes in pieces; where they are more than a number can tell, the greatest number.
 pub fn count_results(alloc: Global, pieces: &[&[u8]]) -> Result<usize, MessageFault>
     ensures ok { IfOk result (λ count. (messages : List MessageTree)
-        × IsCut (flat_map (λ piece. piece.now) pieces.now) messages None [] × (count ≡ counted (result_count messages))) }
+        × IsCut (flat_map (λ piece. piece.now) pieces.now) messages None []
+        × (count ≡ counted (result_count messages))) }
     ensures err { IfErr result (IsUnread (flat_map (λ piece. piece.now) pieces.now)) }
 {
     let mut reader = MessageReader::new(alloc);

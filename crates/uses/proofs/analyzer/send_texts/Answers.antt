@@ -8,7 +8,8 @@ use Rattle.uses.proofs.analyzer.send_texts.Goals as goal
 
 pub loop-turn-init : goal.loop-turn-init
 loop-turn-init g c =
-    rw c.in_ok-start.ensures.2 (begun _ _ (g.L.Line.deeds c.put.new.line) _ (rw c.in_ok-start.ensures.1 at c.put.ensures) c.start_timer.ensures)
+    rw c.in_ok-start.ensures.2 (begun _ _ (g.L.Line.deeds c.put.new.line) _
+    (rw c.in_ok-start.ensures.1 at c.put.ensures) c.start_timer.ensures)
 
 pub returns-in_default : goal.returns-in_default
 returns-in_default g c = (
@@ -25,7 +26,8 @@ returns-in_default-sender_seconds g c =
     ap (λ (s : SenderState). seconds_in s.phase) (sym after) ∙ ap seconds_in (sym c.phase.ensures)
     ∙ sym c.sender_seconds.ensures ∙ c.in_default-sender_seconds.is in (
       rw c.new-sender.ensures at c.in_ok-start.ensures.0,
-      rw (c.outcome.ensures, after) (was_over _ _ _ (g.L.Line.deeds c.wait-event.new.self) _ c.loop-turn._turn c.loop-turn.sender event
+      rw (c.outcome.ensures, after) (was_over _ _ _
+          (g.L.Line.deeds c.wait-event.new.self) _ c.loop-turn._turn c.loop-turn.sender event
           c.loop-turn.invariant c.loop-turn-test.true c.in-Some.ensures.0 c.wait-event.ensures
           (rw c.in-Some.ensures.1 at c.put-in-loop-turn.ensures) none),
     )
@@ -42,8 +44,10 @@ loop-turn-preserved g c =
     let puts = rw c.in-Some.ensures.1 at c.put-in-loop-turn.ensures in
     elim c.if-not-means_nothing.branch [
       | then-not-means_nothing w ↦ rw (after, w.line-is)
-          (goes_on_answered _ _ _ (g.L.Line.deeds c.wait-event.new.self) (g.L.Line.deeds c.put-in-loop-turn.new.line) _ c.loop-turn._turn
-          c.loop-turn.sender event c.in-Some-sender_seconds.seconds c.loop-turn.invariant c.in-Some.ensures.0 c.wait-event.ensures puts
+          (goes_on_answered _ _ _ (g.L.Line.deeds c.wait-event.new.self)
+          (g.L.Line.deeds c.put-in-loop-turn.new.line) _ c.loop-turn._turn
+          c.loop-turn.sender event c.in-Some-sender_seconds.seconds c.loop-turn.invariant c.in-Some.ensures.0
+          c.wait-event.ensures puts
           w.start_timer-then-not-means_nothing.ensures some
           (λ nothing. false≢true (rw w.if-not-means_nothing.true at (c.means_nothing.ensures.1
           (c.in-Some.ensures.1 ∙ nothing.0, phase ∙ nothing.1 ∙ sym c.phase-before.ensures)))))
@@ -56,4 +60,8 @@ loop-turn-preserved g c =
     ]
 
 pub returns : goal.returns
-returns g c = (rw c.new-sender.ensures at c.in_ok-start.ensures.0, was_given_up _ _ _ c.loop-turn._turn c.loop-turn.sender c.loop-turn.invariant (omega (arith, c.loop-turn-test.false, c.loop-turn.auto._turn-end)))
+returns g c = (
+  rw c.new-sender.ensures at c.in_ok-start.ensures.0,
+  was_given_up _ _ _ c.loop-turn._turn c.loop-turn.sender c.loop-turn.invariant
+      (omega (arith, c.loop-turn-test.false, c.loop-turn.auto._turn-end)),
+)

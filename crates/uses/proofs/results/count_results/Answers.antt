@@ -1,4 +1,5 @@
-use Rattle.std.proofs.Common.{◌≡◌, Err, append-nil, take_all, ◌+◌, [], ◌++◌, inl, inr, take, drop, flat_map, refl, sym, ap, ◌∙◌, arith}
+use Rattle.std.proofs.Common.{◌≡◌, Err, append-nil, take_all, ◌+◌, [], ◌++◌, inl, inr, take, drop, flat_map, refl}
+use Rattle.std.proofs.Common.{sym, ap, ◌∙◌, arith}
 use Rattle.uses.specs.Readings.{counted, result_count}
 use Rattle.uses.proofs.ReadingLaws.{counts_next, result_count-append, stream_next, stream_rest, nothing_read, if_err}
 use Rattle.uses.proofs.results.count_results.Goals as goal
@@ -8,7 +9,8 @@ loop-piece-init c = ([], rw c.new-reader.ensures refl, rw c.new-reader.ensures n
 
 pub loop-message-preserved : goal.loop-message-preserved
 loop-message-preserved c = c.saturating_add-count.ensures
-    ∙ counts_next c.loop-piece.count c.loop-message.message-index _ c.message-item.result c.loop-message.count c.results_in.result
+    ∙ counts_next c.loop-piece.count c.loop-message.message-index _ c.message-item.result c.loop-message.count
+    c.results_in.result
     c.loop-message-test.true c.message-item.is c.loop-message.invariant c.results_in.ensures
 
 pub returns-in-Some-clause-err : goal.returns-in-Some-clause-err
@@ -20,7 +22,8 @@ returns-in-Some-clause-err c =
       rest = flat_map (λ piece. piece.now) (drop (c.loop-piece.piece-index + 1) c.args.pieces.now);
       whole = stream_rest c.args.pieces.now (c.loop-piece.piece-index + 1);
       messages = so_far.0 ++ c.feed-fed.result.messages;
-      stops = inl (rw (stream_next c.args.pieces.now c.loop-piece.piece-index (record { ref_ptr = (0, 0); now = [] }) c.loop-piece-test.true) read.1);
+      stops = inl (rw (stream_next c.args.pieces.now c.loop-piece.piece-index
+          (record { ref_ptr = (0, 0); now = [] }) c.loop-piece-test.true) read.1);
     }
 
 pub loop-piece-preserved : goal.loop-piece-preserved
@@ -28,11 +31,16 @@ loop-piece-preserved c =
     let so_far = c.loop-piece.invariant in
     let read = rw c.in_default.is at (c.feed-fed.ensures.read so_far.1 _ so_far.0 so_far.2) in
     let last : c.loop-message.count ≡ counted (c.loop-piece.count + result_count c.feed-fed.result.messages) =
-    rw (take_all c.loop-message.message-index c.as_slice-message-items.result.now (omega (arith, c.loop-message-test.false)), c.as_slice-message-items.ensures)
+    rw (
+      take_all c.loop-message.message-index c.as_slice-message-items.result.now
+          (omega (arith, c.loop-message-test.false)),
+      c.as_slice-message-items.ensures,
+    )
     at c.loop-message.invariant in (
       so_far.0 ++ c.feed-fed.result.messages,
       read.0,
-      rw (stream_next c.args.pieces.now c.loop-piece.piece-index (record { ref_ptr = (0, 0); now = [] }) c.loop-piece-test.true) read.1,
+      rw (stream_next c.args.pieces.now c.loop-piece.piece-index
+          (record { ref_ptr = (0, 0); now = [] }) c.loop-piece-test.true) read.1,
       rw (result_count-append so_far.0 c.feed-fed.result.messages, last, so_far.3) (omega arith),
     )
 
@@ -49,7 +57,8 @@ returns-in_err-finish-clause-err c = if_err _ _ c.from_residual.result c.from_re
         record {
           left = _;
           held = _;
-          cut = rw (take_all c.loop-piece.piece-index c.args.pieces.now (omega (arith, c.loop-piece-test.false))) at so_far.2;
+          cut = rw (take_all c.loop-piece.piece-index c.args.pieces.now (omega (arith, c.loop-piece-test.false))) at
+              so_far.2;
           why = sym (rw so_far.1 at c.in_err-finish.ensures) ∙ ap Err (sym gives);
         },
       );
