@@ -1,4 +1,5 @@
 mod BuildingLaws
+mod DefinitionRows
 mod LoopLaws
 mod ReadingLaws
 mod ReceptionLaws
