@@ -19,7 +19,7 @@ use thiserror::Error;
 /// Why a message has no texts.
 #[derive(Clone, Copy, Debug, PartialEq, Eq, Error)]
 pub enum TextsFault {
-    /// The record at this place, from 1 for the header, can't be written.
+    /// The record at this place, from 1 for the header, can't be written; `Io` isn't among these.
     #[error("record {place}: {fault}")]
     BadRecord { place: u64, fault: WriteFault },
     /// There are more than 65,536 records.
