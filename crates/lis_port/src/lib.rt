@@ -4,7 +4,9 @@
 
 mod buffered;
 mod cut;
+mod discard;
 mod faltering;
+mod in_memory;
 mod once;
 mod port;
 mod read_ahead;
@@ -14,7 +16,9 @@ mod writing;
 
 pub use buffered::Buffered;
 pub use cut::{Cut, Then};
+pub use discard::Discard;
 pub use faltering::Faltering;
+pub use in_memory::InMemory;
 pub use once::Once;
 pub use port::{Failed, Sink, Source, read_sent, write_all};
 pub use read_ahead::ReadAhead;

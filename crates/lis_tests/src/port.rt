@@ -1,6 +1,6 @@
 use lis_port::{
-    Buffered, Cut, Failed, Faltering, Once, ReadAhead, Reading, Sink, Slow, Source, Then, Writing,
-    read_sent,
+    Buffered, Cut, Discard, Failed, Faltering, InMemory, Once, ReadAhead, Reading, Sink, Slow,
+    Source, Then, Writing, read_sent,
 };
 use std::io::{self, BufReader, BufWriter, ErrorKind, Write};
 use std::mem;
@@ -61,6 +61,32 @@ fn a_slow_sink_holds_nothing_back(rt: HostRuntime) -> Result<(), Fail> {
     assert_eq!(rt; sink.flush(), Ok(()));
     assert!(rt; !sink.failed());
     assert_eq!(rt; sink.took(), b"a".as_slice());
+    Ok(())
+}
+
+#[test]
+fn bytes_in_memory_are_given_as_far_as_there_is_room(rt: HostRuntime) -> Result<(), Fail> {
+    let mut source = InMemory::new(b"abcde");
+    let mut buffer = [0; 3];
+    assert_eq!(rt; source.read(&mut buffer), Ok(3));
+    assert_eq!(rt; buffer, [b'a', b'b', b'c']);
+    assert_eq!(rt; source.read(&mut buffer), Ok(2));
+    assert_eq!(rt; buffer, [b'd', b'e', b'c']);
+    assert!(rt; !source.ended());
+    assert_eq!(rt; source.read(&mut buffer), Ok(0));
+    assert!(rt; source.ended() && source.may_wait());
+    assert!(rt; !source.failed());
+    assert_eq!(rt; source.made(), 3);
+    Ok(())
+}
+
+#[test]
+fn a_discarding_sink_takes_everything(rt: HostRuntime) -> Result<(), Fail> {
+    let mut sink = Discard;
+    assert_eq!(rt; sink.write(b"abc"), Ok(3));
+    assert_eq!(rt; sink.write(&[0; 4096]), Ok(4096));
+    assert_eq!(rt; sink.flush(), Ok(()));
+    assert!(rt; !sink.failed());
     Ok(())
 }
 

@@ -7,7 +7,8 @@ invariant-loop-rest g l = record {
   open_sink : g.W.Sink.failed l.sink ≡ false;
   within : length l.rest ≤ length l.bytes;
   rest : l.rest ≡ drop (length l.bytes - length l.rest) l.bytes;
-  taken : Appends (g.W.Sink.taken l.initial.sink) (g.W.Sink.taken l.sink) (take (length l.bytes - length l.rest) l.bytes);
+  taken : Appends (g.W.Sink.taken l.initial.sink) (g.W.Sink.taken l.sink)
+      (take (length l.bytes - length l.rest) l.bytes);
 }
 
 abbrev pub decreases-loop-rest : goal.decreases-loop-rest
