@@ -9,25 +9,25 @@ use Rattle.hex.specs.Hex.{encode_lower}
 use Rattle.lis_capture.specs.declared.line.Keeping.{Keeping}
 use Rattle.lis_capture.specs.declared.line.Keeping.TheVariants.{Bytes, Digits}
 use Rattle.lis_capture.specs.Digits.{bytes_of}
-use Rattle.lis_capture.specs.inside.Kept.{IsKept, kept_bytes}
+use Rattle.lis_capture.specs.inside.Kept.{KeptAs, kept_bytes}
 use Rattle.lis_capture.proofs.EncodeLemmas.{length-encode_lower}
 use Rattle.lis_capture.proofs.LowerLemmas.{encoded_nothing}
 use Rattle.lis_capture.proofs.SpellingLemmas.{IsSent-bytes_of, bytes_of-digits}
 
-pub nothing_kept : (keeping : Keeping) → IsKept keeping []
+pub nothing_kept : (keeping : Keeping) → KeptAs keeping []
 nothing_kept Bytes = omega arith
 nothing_kept Digits = (omega arith, encoded_nothing)
 
-pub bytes_kept : (keeping : Keeping) (kept : List ℕ) → keeping ≡ Bytes → length kept ≤ 2047 → IsKept keeping kept
+pub bytes_kept : (keeping : Keeping) (kept : List ℕ) → keeping ≡ Bytes → length kept ≤ 2047 → KeptAs keeping kept
 bytes_kept Bytes kept is short = short
 bytes_kept Digits kept is short = cc
 
-pub short_bytes : (keeping : Keeping) (kept : List ℕ) → keeping ≡ Bytes → IsKept keeping kept → length kept ≤ 2047
+pub short_bytes : (keeping : Keeping) (kept : List ℕ) → keeping ≡ Bytes → KeptAs keeping kept → length kept ≤ 2047
 short_bytes Bytes kept is short = short
 short_bytes Digits kept is short = cc
 
 -- digits are those of bytes
-pub digits_kept : (keeping : Keeping) (kept : List ℕ) → keeping ≡ Digits → IsKept keeping kept
+pub digits_kept : (keeping : Keeping) (kept : List ℕ) → keeping ≡ Digits → KeptAs keeping kept
     → (encode_lower (kept_bytes keeping kept) ≡ kept) × (length kept ≡ 2 * length (kept_bytes keeping kept))
     × (length kept ≤ 4094)
 digits_kept Bytes kept is all = cc
@@ -40,7 +40,7 @@ none_of (x ∷ xs) none = absurd (omega arith)
 
 -- and are read as these
 pub read_kept :
-    (keeping : Keeping) (kept bytes : List ℕ) (t : Bool) → keeping ≡ Digits → IsKept keeping kept
+    (keeping : Keeping) (kept bytes : List ℕ) (t : Bool) → keeping ≡ Digits → KeptAs keeping kept
     → length kept ≡ 2 * length bytes → bytes_of kept ≡ (if t then Some bytes else None)
     → bytes ≡ kept_bytes keeping kept
 read_kept Bytes kept bytes t is all room told = cc
@@ -76,14 +76,14 @@ lowered_bytes Digits digits lowered t is short told = (lowered_by digits lowered
 pub lowered_kept :
     (keeping : Keeping) (digits lowered : List ℕ) (t : Bool) → keeping ≡ Digits → length digits ≤ 4094
     → length lowered ≤ 4094 → option_map encode_lower (bytes_of digits) ≡ (if t then Some lowered else None) → t ≡ true
-    → IsKept keeping lowered
+    → KeptAs keeping lowered
 lowered_kept Bytes digits lowered t is short room told all = cc
 lowered_kept Digits digits lowered t is short room told all =
     (room, (lowered_by digits lowered t (bytes_of digits) short refl told).1 all)
 
 -- where it stands in front of a buffer
-pub kept_front : (keeping : Keeping) (kept rest : List ℕ) (len : ℕ) → length kept ≡ len → IsKept keeping kept
-    → IsKept keeping (take len (kept ++ rest))
+pub kept_front : (keeping : Keeping) (kept rest : List ℕ) (len : ℕ) → length kept ≡ len → KeptAs keeping kept
+    → KeptAs keeping (take len (kept ++ rest))
 kept_front keeping kept rest len long is =
-    subst (λ (l : List ℕ). IsKept keeping l) (sym (ap (λ (n : ℕ). take n (kept ++ rest)) (sym long)
+    subst (λ (l : List ℕ). KeptAs keeping l) (sym (ap (λ (n : ℕ). take n (kept ++ rest)) (sym long)
     ∙ take-append_seam kept rest)) is

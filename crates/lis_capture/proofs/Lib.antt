@@ -9,6 +9,7 @@ pub mod SpellingLemmas
 pub mod VersionLemmas
 mod DefinitionRows
 mod DecodeLemmas
+mod FirstByteLemmas
 mod LaneLemmas
 mod LowerLemmas
 mod KeptLemmas

@@ -7,7 +7,7 @@ ghost use Rattle.lis_capture.specs.declared.line.Line.TheVariants.{Empty};
 ghost use Rattle.lis_capture.specs.Digits.{bytes_of};
 ghost use Rattle.lis_capture.specs.Line.{added_line, line_of, plain_line, said, version_after, without_return};
 ghost use Rattle.hex.specs.Hex.{encode_lower};
-ghost use Rattle.lis_capture.specs.inside.Kept.{IsKept, kept_bytes, kept_room};
+ghost use Rattle.lis_capture.specs.inside.Kept.{KeptAs, kept_bytes, kept_room};
 ghost use Rattle.lis_capture.specs.inside.Told.{line_with};
 
 use crate::digits::{decode, lower};
@@ -73,13 +73,13 @@ pub struct LineBytes<'a> {
 
 impl<'a> Model for LineBytes<'a> {
     ghost use Rattle.std.specs.Prelude.{ℕ, List};
-    ghost use Rattle.lis_capture.specs.inside.Kept.{IsKept, kept_bytes};
+    ghost use Rattle.lis_capture.specs.inside.Kept.{KeptAs, kept_bytes};
 
     ghost Value = { List ℕ };
 
     ghost view = { λ b. kept_bytes b.keeping b.kept.now };
 
-    ghost invariant = { λ b. IsKept b.keeping b.kept.now };
+    ghost invariant = { λ b. KeptAs b.keeping b.kept.now };
 }
 
 impl<'a> LineBytes<'a> {
@@ -139,7 +139,7 @@ pub(crate) struct Told {
 impl Model for Told {
     ghost use Rattle.std.specs.Prelude.{◌≡◌, ◌≤◌, if◌then◌else◌, length, take};
     ghost use Rattle.lis_capture.specs.declared.line.Line.{Line};
-    ghost use Rattle.lis_capture.specs.inside.Kept.{IsKept, kept_bytes};
+    ghost use Rattle.lis_capture.specs.inside.Kept.{KeptAs, kept_bytes};
     ghost use Rattle.lis_capture.specs.inside.Told.{line_with};
 
     ghost Value = { Line };
@@ -147,7 +147,7 @@ impl Model for Told {
     ghost view = { λ t. line_with t.kind (kept_bytes t.keeping (take t.len (if t.in_back then t.back else t.front))) };
 
     ghost invariant = { λ t. (t.len ≤ 4094) × (length t.front ≡ 4094) × (length t.back ≡ 4094)
-        × IsKept t.keeping (take t.len (if t.in_back then t.back else t.front)) };
+        × KeptAs t.keeping (take t.len (if t.in_back then t.back else t.front)) };
 }
 
 impl Told {
@@ -306,7 +306,7 @@ fn keep(keeping: Keeping, digits: &[u8], room: &mut [u8]) -> bool
     requires short { length digits.now ≤ MOST_DIGITS }
     requires room { length digits.now ≡ kept_room keeping * length room.old }
     ensures bytes { bytes_of digits.now ≡ (if result then Some (kept_bytes keeping room.new) else None) }
-    ensures kept { result ≡ true → IsKept keeping room.new }
+    ensures kept { result ≡ true → KeptAs keeping room.new }
 {
     match keeping {
         Keeping::Bytes => decode(digits, room),

@@ -16,6 +16,6 @@ kept_room Bytes = 2
 kept_room Digits = 1
 
 -- no more than a line tells, and digits only in lower case
-abbrev pub IsKept : Keeping → List ℕ → Type 0
-IsKept Bytes kept = length kept ≤ 2047
-IsKept Digits kept = (length kept ≤ 4094) × (encode_lower (unwrap_or (bytes_of kept) []) ≡ kept)
+abbrev pub KeptAs : Keeping → List ℕ → Type 0
+KeptAs Bytes kept = length kept ≤ 2047
+KeptAs Digits kept = (length kept ≤ 4094) × (encode_lower (unwrap_or (bytes_of kept) []) ≡ kept)
