@@ -5,19 +5,19 @@ use Rattle.std.specs.Option.{option_to_list}
 use Rattle.std.proofs.lemmas.List.{take-append-drop}
 use Rattle.lis_frame.specs.Frame.{FrameContent}
 use Rattle.lis_frame.specs.Pieces.{Piece, pieces_from, pieces, all_pieces, numbered, next_number, session_frames}
-use Rattle.lis_link.specs.Joining.{held_after, completed, groups, rest}
+use Rattle.lis_link.specs.Joining.{held_with, completed, groups, rest}
 
 pub rest-append : (held : List ℕ) (xs ys : List FrameContent) → rest held (xs ++ ys) ≡ rest (rest held xs) ys
 rest-append held [] ys = refl
-rest-append held (x ∷ xs) ys = rest-append (held_after held x) xs ys
+rest-append held (x ∷ xs) ys = rest-append (held_with held x) xs ys
 
 pub groups-append : (held : List ℕ) (xs ys : List FrameContent)
     → groups held (xs ++ ys) ≡ groups held xs ++ groups (rest held xs) ys
 groups-append held [] ys = refl
 groups-append held (x ∷ xs) ys =
-    ap (λ t. option_to_list (completed held x) ++ t) (groups-append (held_after held x) xs ys)
-    ∙ sym (append_assoc (option_to_list (completed held x)) (groups (held_after held x) xs)
-    (groups (rest (held_after held x) xs) ys))
+    ap (λ t. option_to_list (completed held x) ++ t) (groups-append (held_with held x) xs ys)
+    ∙ sym (append_assoc (option_to_list (completed held x)) (groups (held_with held x) xs)
+    (groups (rest (held_with held x) xs) ys))
 
 -- the frames of one text complete it, whatever their numbers are
 groups-pieces :

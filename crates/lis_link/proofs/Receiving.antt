@@ -5,7 +5,7 @@ use Rattle.lis_frame.specs.declared.scanner.SignalOf.TheVariants.{Good}
 use Rattle.lis_frame.specs.Frame.{FrameContent}
 use Rattle.lis_link.specs.declared.receiver.Note.TheVariants.{Accepted}
 use Rattle.lis_link.specs.declared.receiver.Step.{Step}
-use Rattle.lis_link.specs.Joining.{held_after, completed}
+use Rattle.lis_link.specs.Joining.{held_with, completed}
 use Rattle.lis_frame.specs.Scanner.{Held}
 use Rattle.lis_link.specs.inside.Kept.{KeptLine, kept_of}
 use Rattle.lis_link.specs.Receiver.{ReceiverState, judged_by, judged, on_judged, heard_by, held_text, held_while}
@@ -33,7 +33,7 @@ taken_step limit scanner old new r f n result is_in open_is taken =
             readiness_is = is_in.readiness_is;
             room_is = is_in.room_is;
             held_is =
-                ap (λ t. held_after t f) held ∙ sym (rest-append [] r.accepted (f ∷ []))
+                ap (λ t. held_with t f) held ∙ sym (rest-append [] r.accepted (f ∷ []))
                 ∙ sym (ap (λ o. held_while o (held_text (record r { accepted = r.accepted ++ f ∷ [] }))) open_is);
             stream_is = is_in.stream_is;
           });

@@ -14,8 +14,8 @@ text_by_end true joined = Some joined
 text_by_end false joined = None
 
 -- what is held after a frame
-abbrev pub held_after : List ℕ → FrameContent → List ℕ
-held_after held frame = held_by_end frame.last (held ++ frame.text)
+abbrev pub held_with : List ℕ → FrameContent → List ℕ
+held_with held frame = held_by_end frame.last (held ++ frame.text)
 
 -- the text that a frame completes, if it is the last of its message
 abbrev pub completed : List ℕ → FrameContent → Option (List ℕ)
@@ -24,9 +24,9 @@ completed held frame = text_by_end frame.last (held ++ frame.text)
 -- the whole texts of a list of frames, with this text held before them
 abbrev pub groups : List ℕ → List FrameContent → List (List ℕ)
 groups held [] = []
-groups held (frame ∷ frames) = option_to_list (completed held frame) ++ groups (held_after held frame) frames
+groups held (frame ∷ frames) = option_to_list (completed held frame) ++ groups (held_with held frame) frames
 
 -- what a list of frames leaves held
 abbrev pub rest : List ℕ → List FrameContent → List ℕ
 rest held [] = held
-rest held (frame ∷ frames) = rest (held_after held frame) frames
+rest held (frame ∷ frames) = rest (held_with held frame) frames

@@ -49,9 +49,9 @@ abbrev pub ends : {limit : ℕ} → Outcome → SenderState → SenderStep limit
 ends outcome s = gives Eot (over outcome s)
 
 -- the first of the frames that are left is sent for the first time; where none is left, the session is done
-abbrev pub sends : {limit : ℕ} → List FrameContent → SenderState → SenderStep limit
-sends [] s = ends Done s
-sends (frame ∷ frames) s = gives (Frame frame) (record s { phase = AwaitReply; tries = 1 })
+abbrev pub sends_first : {limit : ℕ} → List FrameContent → SenderState → SenderStep limit
+sends_first [] s = ends Done s
+sends_first (frame ∷ frames) s = gives (Frame frame) (record s { phase = AwaitReply; tries = 1 })
 
 -- the same frame is sent again, or given up
 abbrev pub sends_again : {limit : ℕ} → List FrameContent → SenderState → SenderStep limit
@@ -60,20 +60,20 @@ sends_again (frame ∷ frames) s =
     if nat_lt s.tries most_tries then gives (Frame frame) (record s { tries = s.tries + 1 }) else ends SixTries s
 
 -- the present frame is accepted
-abbrev pub is_accepted : {limit : ℕ} → SenderState → SenderStep limit
-is_accepted s = sends (drop (s.acknowledged + 1) s.frames) (record s { acknowledged = s.acknowledged + 1 })
+abbrev pub on_accepted : {limit : ℕ} → SenderState → SenderStep limit
+on_accepted s = sends_first (drop (s.acknowledged + 1) s.frames) (record s { acknowledged = s.acknowledged + 1 })
 
 -- a reply byte, by phases
 abbrev pub reply_in : {limit : ℕ} → Phase → ℕ → SenderState → SenderStep limit
 reply_in Neutral b s = if b == ENQ then gives Nak s else gives Nothing s
 reply_in AwaitLine b s =
-    if b == ACK then sends s.frames s
+    if b == ACK then sends_first s.frames s
     else if b == ENQ then gives Nothing (record s { phase = Contention })
     else gives Nothing (record s { phase = Busy })
 reply_in Busy b s = gives Nothing s
 reply_in Contention b s = gives Nothing s
 reply_in AwaitReply b s =
-    if b == ACK || b == EOT then is_accepted s else sends_again (drop s.acknowledged s.frames) s
+    if b == ACK || b == EOT then on_accepted s else sends_again (drop s.acknowledged s.frames) s
 
 abbrev pub on_reply : {limit : ℕ} → ℕ → SenderState → SenderStep limit
 on_reply b s = reply_in s.phase b s

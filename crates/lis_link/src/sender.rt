@@ -5,8 +5,8 @@ ghost use Rattle.lis_frame.specs.Limit.{IsLimit};
 ghost use Rattle.lis_link.specs.declared.sender.EmitOf.TheVariants as Emits;
 ghost use Rattle.lis_link.specs.declared.sender.Phase.TheVariants as Phases;
 ghost use Rattle.lis_link.specs.inside.Queue.{first_frame};
-ghost use Rattle.lis_link.specs.Sender.{SenderState, reply_in, new_sender, over, bad_text, start_fault, started, sends};
-ghost use Rattle.lis_link.specs.Sender.{is_accepted, sends_again, on_reply, on_sender_timer, sender_restarted};
+ghost use Rattle.lis_link.specs.Sender.{SenderState, reply_in, new_sender, over, bad_text, start_fault, started, sends_first};
+ghost use Rattle.lis_link.specs.Sender.{on_accepted, sends_again, on_reply, on_sender_timer, sender_restarted};
 
 use crate::queue::QueueOf;
 use lis_frame::FrameOf;
@@ -138,7 +138,8 @@ impl<const N: usize> SenderOf<N> {
     pub fn start(&mut self, texts: Texts) -> Result<EmitOf<N>, StartRefused>
         ensures { MatchResult result
             (λ emit. (start_fault self.old texts ≡ None) × (emit ≡ Emits.Enq) × (self.new ≡ started N texts))
-            (λ refused. (start_fault self.old texts ≡ Some refused.fault) × (refused.texts ≡ texts) × (self.new ≡ self.old)) }
+            (λ refused. (start_fault self.old texts ≡ Some refused.fault) × (refused.texts ≡ texts)
+            × (self.new ≡ self.old)) }
     {
         if let Some(fault) = self.start_fault(&texts) {
             return Err(StartRefused { texts, fault });
@@ -279,8 +280,8 @@ impl<const N: usize> SenderOf<N> {
     /// The frame behind the acknowledged ones is sent for the first time; where none is left, the
     /// session is done.
     fn send(&mut self) -> EmitOf<N>
-        ensures emit { result ≡ (sends {limit = N} (drop self.old.acknowledged self.old.frames) self.old).emit }
-        ensures after { self.new ≡ (sends {limit = N} (drop self.old.acknowledged self.old.frames) self.old).after }
+        ensures emit { result ≡ (sends_first {limit = N} (drop self.old.acknowledged self.old.frames) self.old).emit }
+        ensures after { self.new ≡ (sends_first {limit = N} (drop self.old.acknowledged self.old.frames) self.old).after }
     {
         match self.present() {
             None => self.end(Outcome::Done),
@@ -295,8 +296,8 @@ impl<const N: usize> SenderOf<N> {
     /// The present frame is accepted.
     fn accepted(&mut self) -> EmitOf<N>
         requires { self.old.acknowledged < length self.old.frames }
-        ensures emit { result ≡ (is_accepted {limit = N} self.old).emit }
-        ensures after { self.new ≡ (is_accepted {limit = N} self.old).after }
+        ensures emit { result ≡ (on_accepted {limit = N} self.old).emit }
+        ensures after { self.new ≡ (on_accepted {limit = N} self.old).after }
     {
         self.count_off();
         self.send()

@@ -23,7 +23,8 @@ result_under_a_patient = refl
 
 -- a second header
 header_twice :
-    refusal (Some (record { delimiters = usual; records = header ∷ [] })) (0x48 ∷ 0x7c ∷ 0x5c ∷ 0x5e ∷ 0x26 ∷ []) ≡ Some reasons.SecondHeader
+    refusal (Some (record { delimiters = usual; records = header ∷ [] })) (0x48 ∷ 0x7c ∷ 0x5c ∷ 0x5e ∷ 0x26 ∷ [])
+    ≡ Some reasons.SecondHeader
 unfolding refusal kind_refusal kind_of
 header_twice = refl
 
@@ -33,6 +34,7 @@ unfolding refusal kind_refusal kind_of
 patient_first = refl
 
 -- CR alone
-empty_record : refusal (Some (record { delimiters = usual; records = header ∷ [] })) [] ≡ Some (reasons.BadRecord record_faults.Empty)
+empty_record : refusal (Some (record { delimiters = usual; records = header ∷ [] })) []
+    ≡ Some (reasons.BadRecord record_faults.Empty)
 unfolding refusal
 empty_record = refl

@@ -1,5 +1,6 @@
 -- Every stream is cut or refused, and what follows a stream only adds messages.
-use Rattle.std.proofs.Common.{◌≡◌, ◌≢◌, ℕ, ◌≤◌, ◌⊎◌, inl, inr, List, [], ◌∷◌, ◌++◌, length, Option, Some, None, option_map, refl, sym, ◌∙◌, ap, subst, append_assoc, arith, length-append}
+use Rattle.std.proofs.Common.{◌≡◌, ◌≢◌, ℕ, ◌≤◌, ◌⊎◌, inl, inr, List, [], ◌∷◌, ◌++◌, length, Option, Some, None}
+use Rattle.std.proofs.Common.{option_map, refl, sym, ◌∙◌, ap, subst, append_assoc, arith, length-append}
 use Rattle.std.proofs.lemmas.Bool.Decides.{eqb_tells}
 use Rattle.std.proofs.lemmas.List.{append-nil}
 use Rattle.std.proofs.lemmas.Bool.{cases_lt}
@@ -18,7 +19,8 @@ use Rattle.lis_record.proofs.Shapes.{IsRecord-shape}
 use Rattle.lis_record.specs.declared.faults.DelimiterPartFault.TheVariants.{Fault, Trailing}
 use Rattle.lis_record.specs.declared.faults.RecordFault.TheVariants as record_faults
 use Rattle.lis_record.specs.declared.texts.TheConstants.{RECORD_LIMIT}
-use Rattle.lis_record.specs.Faults.{delimiter_part_fault, header_fault, is_header_kind, is_other_kind, record_fault, text_fault, trailing_byte}
+use Rattle.lis_record.specs.Faults.{delimiter_part_fault, header_fault, is_header_kind, is_other_kind, record_fault}
+use Rattle.lis_record.specs.Faults.{text_fault, trailing_byte}
 use Rattle.lis_record.specs.inside.FrontReading.{fields_of}
 use Rattle.lis_record.specs.Relation.{IsRecord}
 use Rattle.lis_tree.proofs.Trees.{tree_of}
@@ -28,7 +30,8 @@ use Rattle.lis_tree.specs.inside.Begun.{Begun, level_of}
 use Rattle.lis_tree.specs.Level.{misplaced}
 use Rattle.lis_tree.specs.Tree.{MessageTree}
 use Rattle.lis_message.specs.Feeding.{next_place}
-use Rattle.lis_message.specs.Stream.{AreBegun, AreLeft, IsCut, IsReadFrom, IsRefused, kind_refusal, letter_refusal, refusal}
+use Rattle.lis_message.specs.Stream.{AreBegun, AreLeft, IsCut, IsReadFrom, IsRefused, kind_refusal, letter_refusal}
+use Rattle.lis_message.specs.Stream.{refusal}
 use Rattle.lis_message.specs.inside.Taking.{ComesNext, Completes, header, inner, left_after, records_of}
 use Rattle.lis_record.specs.Lent.{Lent, lent}
 use Rattle.lis_message.proofs.Cuts.{cut_hold, cut_start, cut_taken}
@@ -40,41 +43,50 @@ record CanTake (left : Option Begun) (text : List ℕ) : Type 0 where
   entry : Lent RecordContent
   comes : ComesNext left text entry
 
-header_open : (letter : ℕ) (part : List ℕ) → header_fault (letter ∷ part) ≡ None → (delimiter_part_fault part ≡ None) × (text_fault (letter ∷ part) ≡ None)
+header_open : (letter : ℕ) (part : List ℕ) → header_fault (letter ∷ part) ≡ None → (delimiter_part_fault part ≡ None)
+    × (text_fault (letter ∷ part) ≡ None)
 unfolding header_fault
 header_open letter part none =
     let rest =
     option_or-none (if is_header_kind (kind_of letter) then None else Some (record_faults.UnknownKind letter))
-    (option_or (option_map record_faults.DelimiterPart (delimiter_part_fault part)) (text_fault (letter ∷ part))) none in
-    let both = option_or-none (option_map record_faults.DelimiterPart (delimiter_part_fault part)) (text_fault (letter ∷ part)) rest.1 in
+    (option_or (option_map record_faults.DelimiterPart (delimiter_part_fault part)) (text_fault (letter ∷ part)))
+    none in
+    let both = option_or-none (option_map record_faults.DelimiterPart (delimiter_part_fault part))
+    (text_fault (letter ∷ part)) rest.1 in
     (option_map-none record_faults.DelimiterPart (delimiter_part_fault part) both.0, both.1)
 
 -- outside a message it is a header
-header_taken : (letter : ℕ) (part : List ℕ) → kind_of letter ≡ Some kinds.H → delimiter_part_fault part ≡ None → text_fault (letter ∷ part) ≡ None → CanTake None (letter ∷ part)
+header_taken : (letter : ℕ) (part : List ℕ) → kind_of letter ≡ Some kinds.H → delimiter_part_fault part ≡ None
+    → text_fault (letter ∷ part) ≡ None → CanTake None (letter ∷ part)
 unfolding delimiter_part_fault
 header_taken letter [] is none texts = cc
 header_taken letter (f ∷ []) is none texts = cc
 header_taken letter (f ∷ r ∷ []) is none texts = cc
 header_taken letter (f ∷ r ∷ c ∷ []) is none texts = cc
 header_taken letter (f ∷ r ∷ c ∷ e ∷ bytes) is none texts =
-    let parts = option_or-none (option_map Fault (delimiter_fault (f ∷ r ∷ c ∷ e ∷ []))) (option_map Trailing (trailing_byte f bytes)) none in
-    let marks : delimiter_fault (f ∷ r ∷ c ∷ e ∷ []) ≡ None = option_map-none Fault (delimiter_fault (f ∷ r ∷ c ∷ e ∷ [])) parts.0 in
+    let parts = option_or-none (option_map Fault (delimiter_fault (f ∷ r ∷ c ∷ e ∷ [])))
+    (option_map Trailing (trailing_byte f bytes)) none in
+    let marks : delimiter_fault (f ∷ r ∷ c ∷ e ∷ []) ≡ None =
+    option_map-none Fault (delimiter_fault (f ∷ r ∷ c ∷ e ∷ [])) parts.0 in
     let trailing : trailing_byte f bytes ≡ None = option_map-none Trailing (trailing_byte f bytes) parts.1 in
     let d = delimiters_of f r c e in
     let content : RecordContent = record { kind = kinds.H; fields = fields_of d bytes } in
     record {
       entry = lent d content;
-      comes = header refl (IsDelimiters-delimiters_of f r c e marks) (IsRecord-header letter f r c e bytes is marks trailing texts) refl;
+      comes = header refl (IsDelimiters-delimiters_of f r c e marks)
+          (IsRecord-header letter f r c e bytes is marks trailing texts) refl;
     }
 
 record OutsideKind (k : Option Kind) (text : List ℕ) : Type 0 where
   is : k ≡ Some kinds.H
   none : header_fault text ≡ None
 
-outside_kind : (letter : ℕ) (k : Option Kind) (text : List ℕ) → letter_refusal None letter k text ≡ None → OutsideKind k text
+outside_kind : (letter : ℕ) (k : Option Kind) (text : List ℕ) → letter_refusal None letter k text ≡ None
+    → OutsideKind k text
 unfolding kind_refusal
 outside_kind letter None text e = cc
-outside_kind letter (Some kinds.H) text e = record { is = refl; none = option_map-none reasons.BadRecord (header_fault text) e }
+outside_kind letter (Some kinds.H) text e = record
+    { is = refl; none = option_map-none reasons.BadRecord (header_fault text) e }
 outside_kind letter (Some kinds.P) text e = cc
 outside_kind letter (Some kinds.O) text e = cc
 outside_kind letter (Some kinds.R) text e = cc
@@ -93,12 +105,22 @@ record InsideKind (b : Begun) (k : Option Kind) (text : List ℕ) : Type 0 where
   placed : misplaced (level_of (Some b)) kind ≡ None
 
 inside : (b : Begun) (kind : Kind) (text : List ℕ) → kind ≢ kinds.H
-    → option_or (option_map reasons.BadRecord (record_fault b.delimiters text)) (misplaced (level_of (Some b)) kind) ≡ None → InsideKind b (Some kind) text
+    → option_or (option_map reasons.BadRecord (record_fault b.delimiters text)) (misplaced (level_of (Some b)) kind)
+    ≡ None → InsideKind b (Some kind) text
 inside b kind text other e =
-    let both = option_or-none (option_map reasons.BadRecord (record_fault b.delimiters text)) (misplaced (level_of (Some b)) kind) e in
-    record { kind = kind; is = refl; other = other; fine = option_map-none reasons.BadRecord (record_fault b.delimiters text) both.0; placed = both.1 }
+    let both = option_or-none (option_map reasons.BadRecord (record_fault b.delimiters text))
+    (misplaced (level_of (Some b)) kind) e in
+    record {
+      kind = kind;
+      is = refl;
+      other = other;
+      fine =
+          option_map-none reasons.BadRecord (record_fault b.delimiters text) both.0;
+      placed = both.1;
+    }
 
-inside_kind : (b : Begun) (letter : ℕ) (k : Option Kind) (text : List ℕ) → letter_refusal (Some b) letter k text ≡ None → InsideKind b k text
+inside_kind : (b : Begun) (letter : ℕ) (k : Option Kind) (text : List ℕ)
+    → letter_refusal (Some b) letter k text ≡ None → InsideKind b k text
 unfolding kind_refusal
 inside_kind b letter None text e = cc
 inside_kind b letter (Some kinds.H) text e = cc
@@ -111,17 +133,22 @@ inside_kind b letter (Some kinds.M) text e = inside b kinds.M text (λ x. cc) e
 inside_kind b letter (Some kinds.S) text e = inside b kinds.S text (λ x. cc) e
 inside_kind b letter (Some kinds.L) text e = inside b kinds.L text (λ x. cc) e
 
-record_found : (d : DelimiterBytes) → IsDelimiters d → (letter : ℕ) (bytes : List ℕ) (kind : Kind) → kind_of letter ≡ Some kind → kind ≢ kinds.H → record_fault d (letter ∷ bytes) ≡ None
+record_found : (d : DelimiterBytes) → IsDelimiters d → (letter : ℕ) (bytes : List ℕ) (kind : Kind)
+    → kind_of letter ≡ Some kind → kind ≢ kinds.H → record_fault d (letter ∷ bytes) ≡ None
     → IsRecord d (letter ∷ bytes) (record { kind = kind; fields = fields_of d bytes })
 unfolding record_fault
 record_found d good letter bytes kind is other none =
     let rest =
     option_or-none (if is_other_kind (kind_of letter) then None else Some (record_faults.UnknownKind letter))
-    (option_or (option_map record_faults.UnknownKind (trailing_byte d.field bytes)) (text_fault (letter ∷ bytes))) none in
-    let both = option_or-none (option_map record_faults.UnknownKind (trailing_byte d.field bytes)) (text_fault (letter ∷ bytes)) rest.1 in
-    IsRecord-fields_of d good letter bytes kind is other (option_map-none record_faults.UnknownKind (trailing_byte d.field bytes) both.0) both.1
+    (option_or (option_map record_faults.UnknownKind (trailing_byte d.field bytes)) (text_fault (letter ∷ bytes)))
+    none in
+    let both = option_or-none (option_map record_faults.UnknownKind (trailing_byte d.field bytes))
+    (text_fault (letter ∷ bytes)) rest.1 in
+    IsRecord-fields_of d good letter bytes kind is other
+    (option_map-none record_faults.UnknownKind (trailing_byte d.field bytes) both.0) both.1
 
-shapes : (d : DelimiterBytes) → IsDelimiters d → (texts : List (List ℕ)) (rs : List RecordContent) → AllZip (IsRecord d) texts rs → AllByRecursion IsRecordShape rs
+shapes : (d : DelimiterBytes) → IsDelimiters d → (texts : List (List ℕ)) (rs : List RecordContent)
+    → AllZip (IsRecord d) texts rs → AllByRecursion IsRecordShape rs
 shapes d good [] [] each = tt
 shapes d good [] (r ∷ rs) each = absurd each
 shapes d good (text ∷ texts) [] each = tt
@@ -139,22 +166,35 @@ is_closing kinds.S = inr (λ e. cc)
 is_closing kinds.L = inl refl
 
 -- what a record completes
-pub completed : (left : Option Begun) (texts : List (List ℕ)) → AreLeft texts left → (text : List ℕ) (entry : Lent RecordContent) → ComesNext left text entry
+pub completed : (left : Option Begun) (texts : List (List ℕ)) → AreLeft texts left
+    → (text : List ℕ) (entry : Lent RecordContent) → ComesNext left text entry
     → (message : Option MessageTree) × Completes left entry message
-completed left texts are text entry (header l good is kind) = (None, λ e. let clash : kinds.H ≡ kinds.L = sym kind ∙ e in cc)
+completed left texts are text entry (header l good is kind) =
+    (None, λ e. let clash : kinds.H ≡ kinds.L = sym kind ∙ e in cc)
 completed left texts are text entry (inner b l d is placed) =
     let begun : AreBegun texts b = subst (AreLeft texts) l are in
-    let here : IsRecord b.delimiters text entry.content = subst (λ (x : DelimiterBytes). IsRecord x text entry.content) d is in
+    let here : IsRecord b.delimiters text entry.content =
+    subst (λ (x : DelimiterBytes). IsRecord x text entry.content) d is in
     elim (is_closing entry.content.kind) [
       | inl last ↦
           let whole =
-          tree_of b.delimiters begun.delimiters b.records entry.content begun.some begun.placed begun.unclosed last (shapes b.delimiters begun.delimiters texts b.records begun.each)
-          (IsRecord-shape b.delimiters begun.delimiters text entry.content here) in
-          (Some whole.0, (last, whole.1.tree, whole.1.delimiters ∙ sym d, whole.1.records_are ∙ ap (λ (x : Option Begun). records_of x ++ entry.content ∷ []) (sym l)))
+          tree_of b.delimiters begun.delimiters b.records entry.content begun.some begun.placed begun.unclosed last
+          (shapes b.delimiters begun.delimiters texts b.records begun.each)
+          (IsRecord-shape b.delimiters begun.delimiters text entry.content here) in (
+            Some whole.0,
+            (
+              last,
+              whole.1.tree,
+              whole.1.delimiters ∙ sym d,
+              whole.1.records_are
+                  ∙ ap (λ (x : Option Begun). records_of x ++ entry.content ∷ []) (sym l),
+            ),
+          )
       | inr other ↦ (None, other)
     ]
 
-can_take : (left : Option Begun) (texts : List (List ℕ)) → AreLeft texts left → (text : List ℕ) → refusal left text ≡ None → CanTake left text
+can_take : (left : Option Begun) (texts : List (List ℕ)) → AreLeft texts left → (text : List ℕ)
+    → refusal left text ≡ None → CanTake left text
 unfolding refusal
 can_take None texts are [] none = cc
 can_take None texts are (letter ∷ bytes) none =
@@ -166,7 +206,8 @@ can_take (Some b) texts are (letter ∷ bytes) none =
     let found = inside_kind b letter (kind_of letter) (letter ∷ bytes) none in
     record {
       entry = lent b.delimiters (record { kind = found.kind; fields = fields_of b.delimiters bytes });
-      comes = inner b refl refl (record_found b.delimiters are.delimiters letter bytes found.kind found.is found.other found.fine) found.placed;
+      comes = inner b refl refl (record_found b.delimiters are.delimiters letter bytes found.kind found.is found.other
+          found.fine) found.placed;
     }
 
 -- ---- byte by byte
@@ -175,27 +216,37 @@ cases : {X : Type 0} (o : Option X) → (o ≡ None) ⊎ ((x : X) × (o ≡ Some
 cases None = inl refl
 cases (Some x) = inr (x, refl)
 
-with_more : (stream : List ℕ) (messages xs : List MessageTree) → IsReadFrom stream (messages ++ xs) → IsReadFrom stream messages
+with_more : (stream : List ℕ) (messages xs : List MessageTree) → IsReadFrom stream (messages ++ xs)
+    → IsReadFrom stream messages
 with_more stream messages xs (more, inl cut) = (
   xs ++ more,
-  inl (cut.0, cut.1, subst (λ (ms : List MessageTree). IsCut stream ms cut.0 cut.1) (append_assoc messages xs more) cut.2),
+  inl (
+    cut.0,
+    cut.1,
+    subst (λ (ms : List MessageTree). IsCut stream ms cut.0 cut.1) (append_assoc messages xs more)
+        cut.2,
+  ),
 )
 with_more stream messages xs (more, inr stop) = (
   xs ++ more,
   inr (stop.0, subst (λ (ms : List MessageTree). IsRefused stream ms stop.0) (append_assoc messages xs more) stop.1),
 )
 
-stopped : (stream : List ℕ) (messages : List MessageTree) (fault : MessageFault) → IsRefused stream messages fault → IsReadFrom stream messages
-stopped stream messages fault is = ([], inr (fault, subst (λ (ms : List MessageTree). IsRefused stream ms fault) (sym (append-nil messages)) is))
+stopped : (stream : List ℕ) (messages : List MessageTree) (fault : MessageFault) → IsRefused stream messages fault
+    → IsReadFrom stream messages
+stopped stream messages fault is =
+    ([], inr (fault, subst (λ (ms : List MessageTree). IsRefused stream ms fault) (sym (append-nil messages)) is))
 
-moved : (front : List ℕ) (b : ℕ) (more : List ℕ) (messages : List MessageTree) → IsReadFrom ((front ++ b ∷ []) ++ more) messages → IsReadFrom (front ++ b ∷ more) messages
+moved : (front : List ℕ) (b : ℕ) (more : List ℕ) (messages : List MessageTree)
+    → IsReadFrom ((front ++ b ∷ []) ++ more) messages → IsReadFrom (front ++ b ∷ more) messages
 moved front b more messages = subst (λ (s : List ℕ). IsReadFrom s messages) (append_assoc front (b ∷ []) more)
 
 short_with : (held : List ℕ) → length held ≤ RECORD_LIMIT → length (held ++ []) ≤ RECORD_LIMIT
 short_with held short = omega (arith, short, length-append held [])
 
 -- what follows a stream adds messages, until a record is refused
-pub goes_on : (more front : List ℕ) (messages : List MessageTree) (left : Option Begun) (held : List ℕ) → IsCut front messages left held → IsReadFrom (front ++ more) messages
+pub goes_on : (more front : List ℕ) (messages : List MessageTree) (left : Option Begun) (held : List ℕ)
+    → IsCut front messages left held → IsReadFrom (front ++ more) messages
 goes_on [] front messages left held c = (
   [],
   inl (
@@ -215,18 +266,23 @@ goes_on (b ∷ more) front messages left held c =
             subst (λ (x : ℕ). IsReadFrom (front ++ x ∷ more) messages) (sym same.1)
             (moved front 13 more messages
             (with_more ((front ++ 13 ∷ []) ++ more) messages (option_to_list whole.0)
-            (goes_on more (front ++ 13 ∷ []) (messages ++ option_to_list whole.0) (left_after left can.entry can.entry.content.kind) [] next)))
+            (goes_on more (front ++ 13 ∷ []) (messages ++ option_to_list whole.0)
+            (left_after left can.entry can.entry.content.kind) [] next)))
         | inr why ↦
             let fault : MessageFault = record { place = next_place left; reason = why.0 } in
             subst (λ (x : ℕ). IsReadFrom (front ++ x ∷ more) messages) (sym same.1)
             (stopped (front ++ 13 ∷ more) messages fault
-            (refused_line front messages left held [] more fault c tt (short_with held c.short) (ap (refusal left) (append-nil held) ∙ why.1) refl))
+            (refused_line front messages left held [] more fault c tt (short_with held c.short)
+            (ap (refusal left) (append-nil held) ∙ why.1) refl))
       ]
       | inr other ↦ elim (cases_lt RECORD_LIMIT (length (held ++ b ∷ []))) [
-        | inr short ↦ moved front b more messages (goes_on more (front ++ b ∷ []) messages left (held ++ b ∷ []) (cut_hold front messages left held (b ∷ []) c (other.1, tt) short))
+        | inr short ↦
+            moved front b more messages (goes_on more (front ++ b ∷ []) messages left (held ++ b ∷ [])
+            (cut_hold front messages left held (b ∷ []) c (other.1, tt) short))
         | inl long ↦
             let fault : MessageFault = record { place = next_place left; reason = reasons.RecordTooLong } in
-            stopped (front ++ b ∷ more) messages fault (refused_long front messages left held (b ∷ []) more fault c (other.1, tt) (omega (arith, long)) refl refl)
+            stopped (front ++ b ∷ more) messages fault (refused_long front messages left held (b ∷ []) more fault c
+            (other.1, tt) (omega (arith, long)) refl refl)
       ]
     ]
 

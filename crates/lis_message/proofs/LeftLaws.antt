@@ -19,12 +19,14 @@ stays_open left entry kinds.M h = refl
 stays_open left entry kinds.S h = refl
 stays_open left entry kinds.L h = absurd (h refl)
 
-one_header : (begun : Begun) (entry : Lent RecordContent) (text : List ℕ) → ComesNext (Some begun) text entry → entry.delimiters ≡ begun.delimiters
+one_header : (begun : Begun) (entry : Lent RecordContent) (text : List ℕ) → ComesNext (Some begun) text entry
+    → entry.delimiters ≡ begun.delimiters
 one_header begun entry text (header none marks is kind) = cc
 one_header begun entry text (inner other same marks is placed) = cc
 
 -- the message with the record
-pub left_longer : (left : Option Begun) (begun : Begun) (entry : Lent RecordContent) (text : List ℕ) (content : RecordContent) (longer : Begun)
+pub left_longer : (left : Option Begun) (begun : Begun) (entry : Lent RecordContent) (text : List ℕ)
+    (content : RecordContent) (longer : Begun)
     → ComesNext left text entry → left ≡ Some begun → content ≡ entry.content → entry.content.kind ≢ kinds.L
     → longer ≡ record { delimiters = begun.delimiters; records = begun.records ++ content ∷ [] }
     → Some longer ≡ left_after left entry entry.content.kind

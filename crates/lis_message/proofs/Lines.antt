@@ -1,5 +1,6 @@
 -- Texts that a CR ends can be told apart.
-use Rattle.std.proofs.Common.{◌≡◌, ◌≢◌, ℕ, ◌≤◌, List, [], ◌∷◌, ◌++◌, length, true, refl, sym, ◌∙◌, ap, append_assoc, arith}
+use Rattle.std.proofs.Common.{◌≡◌, ◌≢◌, ℕ, ◌≤◌, List, [], ◌∷◌, ◌++◌, length, true, refl, sym, ◌∙◌, ap, append_assoc}
+use Rattle.std.proofs.Common.{arith}
 use Rattle.std.specs.List.{AllByRecursion}
 use Rattle.std.proofs.lemmas.List.Elements.{recursion_from_All}
 use Rattle.std.proofs.lemmas.Grind.{flat_map-append}
@@ -60,24 +61,28 @@ pub ended_snoc : (ts : List (List ℕ)) (t r : List ℕ) → ended (ts ++ t ∷ 
 ended_snoc ts t r = simp (ended_append, append_assoc)
 
 -- Lines that a stream begins with are among its own lines, and the rest is that of its own.
-pub lines_front : (xs ys : List (List ℕ)) (r h : List ℕ) → AllLack xs → AllLack ys → LacksReturn h → ended xs ++ r ≡ ended ys ++ h
+pub lines_front : (xs ys : List (List ℕ)) (r h : List ℕ) → AllLack xs → AllLack ys → LacksReturn h
+    → ended xs ++ r ≡ ended ys ++ h
     → (zs : List (List ℕ)) × (ys ≡ xs ++ zs) × (r ≡ ended zs ++ h)
 lines_front [] ys r h lx ly lh e = (ys, refl, e)
 lines_front (x ∷ xs) [] r h lx ly lh e = absurd (no_return_in x (ended xs ++ r) h lh (sym (ended_cons x xs r) ∙ e))
 lines_front (x ∷ xs) (y ∷ ys) r h lx ly lh e =
-    let both = line_one x y (ended xs ++ r) (ended ys ++ h) lx.0 ly.0 (sym (ended_cons x xs r) ∙ e ∙ ended_cons y ys h) in
+    let both = line_one x y (ended xs ++ r) (ended ys ++ h) lx.0 ly.0
+    (sym (ended_cons x xs r) ∙ e ∙ ended_cons y ys h) in
     let below = lines_front xs ys r h lx.1 ly.1 lh both.1 in
     let one : x ≡ y = both.0 in
     let others : ys ≡ xs ++ below.0 = below.1 in
     (below.0, cc, below.2)
 
 -- the lines of a stream, and what follows the last, are determined
-pub lines_one : (xs ys : List (List ℕ)) (r h : List ℕ) → AllLack xs → AllLack ys → LacksReturn r → LacksReturn h → ended xs ++ r ≡ ended ys ++ h → (xs ≡ ys) × (r ≡ h)
+pub lines_one : (xs ys : List (List ℕ)) (r h : List ℕ) → AllLack xs → AllLack ys → LacksReturn r → LacksReturn h
+    → ended xs ++ r ≡ ended ys ++ h → (xs ≡ ys) × (r ≡ h)
 lines_one [] [] r h lx ly lr lh e = (refl, e)
 lines_one [] (y ∷ ys) r h lx ly lr lh e = absurd (no_return_in y (ended ys ++ h) r lr (sym (ended_cons y ys h) ∙ sym e))
 lines_one (x ∷ xs) [] r h lx ly lr lh e = absurd (no_return_in x (ended xs ++ r) h lh (sym (ended_cons x xs r) ∙ e))
 lines_one (x ∷ xs) (y ∷ ys) r h lx ly lr lh e =
-    let both = line_one x y (ended xs ++ r) (ended ys ++ h) lx.0 ly.0 (sym (ended_cons x xs r) ∙ e ∙ ended_cons y ys h) in
+    let both = line_one x y (ended xs ++ r) (ended ys ++ h) lx.0 ly.0
+    (sym (ended_cons x xs r) ∙ e ∙ ended_cons y ys h) in
     let below = lines_one xs ys r h lx.1 ly.1 lr lh both.1 in
     let one : x ≡ y = both.0 in
     let others : xs ≡ ys = below.0 in

@@ -1,5 +1,6 @@
 -- The records of a stream read one by one: a machine over the texts. What it reads is the stream's one cut.
-use Rattle.std.proofs.Common.{◌≡◌, ◌≢◌, ℕ, List, [], ◌∷◌, ◌++◌, Option, Some, None, refl, sym, ◌∙◌, ap, subst, append_assoc}
+use Rattle.std.proofs.Common.{◌≡◌, ◌≢◌, ℕ, List, [], ◌∷◌, ◌++◌, Option, Some, None, refl, sym, ◌∙◌, ap, subst}
+use Rattle.std.proofs.Common.{append_assoc}
 use Rattle.std.specs.List.{AllZip, flat_map}
 use Rattle.std.proofs.lemmas.List.{append-nil}
 use Rattle.lis_field.specs.declared.kinds.Kind.TheVariants as kinds
@@ -8,11 +9,13 @@ use Rattle.lis_record.specs.Relation.{IsRecord, declared_part}
 use Rattle.lis_field.specs.Shape.{RecordContent}
 use Rattle.lis_record.proofs.RecordTexts.{IsRecord-one}
 use Rattle.lis_tree.specs.inside.Begun.{Begun, level_of}
-use Rattle.lis_tree.specs.Level.{Level, outside, in_header, in_patient, in_order, in_query, closed, next_level, level_after, misplaced, StandsFrom, kinds_of}
+use Rattle.lis_tree.specs.Level.{Level, outside, in_header, in_patient, in_order, in_query, closed, next_level}
+use Rattle.lis_tree.specs.Level.{level_after, misplaced, StandsFrom, kinds_of}
 use Rattle.lis_message.specs.Stream.{ended, AreMessage, AreLeft, IsCut, LacksReturn}
 use Rattle.lis_tree.specs.Tree.{MessageTree, IsTree, flatten, group_records}
 use Rattle.lis_tree.proofs.Flatten.{flatten_one}
-use Rattle.lis_tree.proofs.Levels.{IsInside, header_first, level_append, map_append, next_begun, other_kind, tree_leads, unclosed_first}
+use Rattle.lis_tree.proofs.Levels.{IsInside, header_first, level_append, map_append, next_begun, other_kind}
+use Rattle.lis_tree.proofs.Levels.{tree_leads, unclosed_first}
 use Rattle.lis_message.proofs.Lines.{AllLack, text_lacks, lines_one, ended_append}
 
 -- the messages that are read, and what is left
@@ -34,8 +37,13 @@ pub record Heads (messages : List MessageTree) (text : List ℕ) (next : State) 
 
 -- what a record leads to: the message goes on, or it is whole
 pub data Continues (messages : List MessageTree) (begun : Begun) (r : RecordContent) (next : State) : Type 0 where
-  more : r.kind ≢ kinds.L → next ≡ record { messages = messages; left = begun_with begun.delimiters (begun.records ++ r ∷ []) } → Continues messages begun r next
-  whole : r.kind ≡ kinds.L → (m : MessageTree) → IsTree m → m.delimiters ≡ begun.delimiters → flatten m ≡ begun.records ++ r ∷ []
+  more : r.kind ≢ kinds.L → next ≡ record {
+    messages = messages;
+    left =
+        begun_with begun.delimiters (begun.records ++ r ∷ []);
+  } → Continues messages begun r next
+  whole : r.kind ≡ kinds.L → (m : MessageTree) → IsTree m → m.delimiters ≡ begun.delimiters
+      → flatten m ≡ begun.records ++ r ∷ []
       → next ≡ record { messages = messages ++ m ∷ []; left = None } → Continues messages begun r next
 
 -- another record is read
@@ -66,40 +74,50 @@ same_delimiters a b e =
     let r : a.repeat ≡ b.repeat = cc in
     let c : a.component ≡ b.component = cc in
     let x : a.escape ≡ b.escape = cc in
-    let make : ℕ → ℕ → ℕ → ℕ → DelimiterBytes = λ p q s t. record { field = p; repeat = q; component = s; escape = t } in
+    let make : ℕ → ℕ → ℕ → ℕ → DelimiterBytes = λ p q s t. record
+    { field = p; repeat = q; component = s; escape = t } in
     ap (λ p. make p a.repeat a.component a.escape) f ∙ ap (λ q. make b.field q a.component a.escape) r
     ∙ ap (λ s. make b.field b.repeat s a.escape) c ∙ ap (make b.field b.repeat b.component) x
 
 -- a header's text determines its delimiters
-pub delimiters_one : (d e : DelimiterBytes) (text : List ℕ) (r s : RecordContent) → IsRecord d text r → IsRecord e text s → r.kind ≡ kinds.H → s.kind ≡ kinds.H → d ≡ e
+pub delimiters_one : (d e : DelimiterBytes) (text : List ℕ) (r s : RecordContent) → IsRecord d text r
+    → IsRecord e text s → r.kind ≡ kinds.H → s.kind ≡ kinds.H → d ≡ e
 delimiters_one d e text r s h g kr ks =
     let hw : text ≡ h.letter ∷ declared_part d kinds.H ++ h.fields_text = rw kr at h.whole in
     let gw : text ≡ g.letter ∷ declared_part e kinds.H ++ g.fields_text = rw ks at g.whole in
-    let both : h.letter ∷ d.field ∷ d.repeat ∷ d.component ∷ d.escape ∷ h.fields_text ≡ g.letter ∷ e.field ∷ e.repeat ∷ e.component ∷ e.escape ∷ g.fields_text = sym hw ∙ gw in
-    let lists : delimiter_list d ≡ delimiter_list e = (let f : d.field ≡ e.field = cc in let q : d.repeat ≡ e.repeat = cc in let c : d.component ≡ e.component = cc in let x : d.escape ≡ e.escape = cc in cc) in
+    let both : h.letter ∷ d.field ∷ d.repeat ∷ d.component ∷ d.escape ∷ h.fields_text ≡ g.letter ∷ e.field ∷ e.repeat
+    ∷ e.component ∷ e.escape ∷ g.fields_text = sym hw ∙ gw in
+    let lists : delimiter_list d ≡ delimiter_list e =
+    (let f : d.field ≡ e.field = cc in let q : d.repeat ≡ e.repeat = cc in let c : d.component ≡ e.component =
+    cc in let x : d.escape ≡ e.escape = cc in cc) in
     same_delimiters d e lists
 
 heads_one : (ms : List MessageTree) (t : List ℕ) (a b : State) → Heads ms t a → Heads ms t b → a ≡ b
 heads_one ms t a b h g =
-    let marks : h.delimiters ≡ g.delimiters = delimiters_one h.delimiters g.delimiters t h.header g.header h.is g.is h.kind g.kind in
+    let marks : h.delimiters ≡ g.delimiters = delimiters_one h.delimiters g.delimiters t h.header g.header h.is g.is
+    h.kind g.kind in
     let moved : IsRecord g.delimiters t h.header = subst (λ d. IsRecord d t h.header) marks h.is in
     let same : h.header ≡ g.header = IsRecord-one g.delimiters g.good t h.header g.header moved g.is in
     h.goes ∙ ap (λ d. record { messages = ms; left = begun_with d (h.header ∷ []) }) marks
     ∙ ap (λ r. record { messages = ms; left = begun_with g.delimiters (r ∷ []) }) same ∙ sym g.goes
 
-continues_one : (ms : List MessageTree) (begun : Begun) (r : RecordContent) (a b : State) → Continues ms begun r a → Continues ms begun r b → a ≡ b
+continues_one : (ms : List MessageTree) (begun : Begun) (r : RecordContent) (a b : State) → Continues ms begun r a
+    → Continues ms begun r b → a ≡ b
 continues_one ms begun r a b (more k e) (more l f) = e ∙ sym f
 continues_one ms begun r a b (more k e) (whole l m is marks records f) = absurd (k l)
 continues_one ms begun r a b (whole k m is marks records e) (more l f) = absurd (l k)
 continues_one ms begun r a b (whole k m is marks records e) (whole l n is' marks' records' f) =
-    e ∙ ap (λ (x : MessageTree). record { messages = ms ++ x ∷ []; left = None }) (flatten_one m n is is' (marks ∙ sym marks') (records ∙ sym records')) ∙ sym f
+    e ∙ ap (λ (x : MessageTree). record { messages = ms ++ x ∷ []; left = None })
+    (flatten_one m n is is' (marks ∙ sym marks') (records ∙ sym records')) ∙ sym f
 
-adds_one : (ms : List MessageTree) (begun : Begun) (t : List ℕ) (a b : State) → Adds ms begun t a → Adds ms begun t b → a ≡ b
+adds_one : (ms : List MessageTree) (begun : Begun) (t : List ℕ) (a b : State) → Adds ms begun t a → Adds ms begun t b
+    → a ≡ b
 adds_one ms begun t a b h g =
     let same : h.entry ≡ g.entry = IsRecord-one begun.delimiters g.good t h.entry g.entry h.is g.is in
     continues_one ms begun g.entry a b (subst (λ r. Continues ms begun r a) same h.continues) g.continues
 
-step_from_one : (ms : List MessageTree) (left : Option Begun) (t : List ℕ) (a b : State) → StepFrom ms left t a → StepFrom ms left t b → a ≡ b
+step_from_one : (ms : List MessageTree) (left : Option Begun) (t : List ℕ) (a b : State) → StepFrom ms left t a
+    → StepFrom ms left t b → a ≡ b
 step_from_one ms None t a b h g = heads_one ms t a b h g
 step_from_one ms (Some begun) t a b h g = adds_one ms begun t a b h g
 
@@ -113,7 +131,8 @@ pub run_append : (s : State) (xs ys : List (List ℕ)) (m e : State) → Run s x
 run_append s [] ys m e h g = subst (λ n. Run n ys e) (sym h) g
 run_append s (x ∷ xs) ys m e h g = (h.0, h.1, run_append h.0 xs ys m e h.2 g)
 
-pub run_split : (s : State) (xs ys : List (List ℕ)) (e : State) → Run s (xs ++ ys) e → (m : State) × Run s xs m × Run m ys e
+pub run_split : (s : State) (xs ys : List (List ℕ)) (e : State) → Run s (xs ++ ys) e → (m : State) × Run s xs m
+    × Run m ys e
 run_split s [] ys e h = (s, refl, h)
 run_split s (x ∷ xs) ys e h = let below = run_split h.0 xs ys e h.2 in (below.0, (h.0, h.1, below.1), below.2)
 
@@ -123,50 +142,71 @@ run_split s (x ∷ xs) ys e h = let below = run_split h.0 xs ys e h.2 in (below.
 abbrev with_one : Begun → RecordContent → Begun
 with_one b r = record { delimiters = b.delimiters; records = b.records ++ r ∷ [] }
 
-level_with_one : (b : Begun) (r : RecordContent) → level_of (Some (with_one b r)) ≡ next_level (level_of (Some b)) r.kind
+level_with_one : (b : Begun) (r : RecordContent)
+    → level_of (Some (with_one b r)) ≡ next_level (level_of (Some b)) r.kind
 level_with_one b r =
     ap (level_after outside) (map_append b.records (r ∷ [])) ∙ level_append outside (kinds_of b.records) (r.kind ∷ [])
 
 -- records behind a begun message are read one by one
-rest_runs : (ms : List MessageTree) (b : Begun) → IsDelimiters b.delimiters → level_of (Some b) ≢ outside → (ts : List (List ℕ)) (rs : List RecordContent) → AllZip (IsRecord b.delimiters) ts rs
+rest_runs : (ms : List MessageTree) (b : Begun) → IsDelimiters b.delimiters → level_of (Some b) ≢ outside
+    → (ts : List (List ℕ)) (rs : List RecordContent) → AllZip (IsRecord b.delimiters) ts rs
     → StandsFrom (level_of (Some b)) (kinds_of rs) → level_after (level_of (Some b)) (kinds_of rs) ≢ closed
-    → Run (record { messages = ms; left = Some b }) ts (record { messages = ms; left = begun_with b.delimiters (b.records ++ rs) })
-rest_runs ms b good o [] [] z p u = ap (λ l. record { messages = ms; left = begun_with b.delimiters l }) (sym (append-nil b.records))
+    → Run (record { messages = ms; left = Some b }) ts
+    (record { messages = ms; left = begun_with b.delimiters (b.records ++ rs) })
+rest_runs ms b good o [] [] z p u = ap (λ l. record { messages = ms; left = begun_with b.delimiters l })
+    (sym (append-nil b.records))
 rest_runs ms b good o [] (r ∷ rs) z p u = absurd z
 rest_runs ms b good o (t ∷ ts) [] z p u = absurd z
 rest_runs ms b good o (t ∷ ts) (r ∷ rs) z p u =
     let goes = level_with_one b r in
-    let begun : level_of (Some (with_one b r)) ≢ outside = subst (λ l. l ≢ outside) (sym goes) (next_begun (level_of (Some b)) r.kind o) in
+    let begun : level_of (Some (with_one b r)) ≢ outside =
+    subst (λ l. l ≢ outside) (sym goes) (next_begun (level_of (Some b)) r.kind o) in
     let below = rest_runs ms (with_one b r) good begun ts rs z.1
     (subst (λ l. StandsFrom l (kinds_of rs)) (sym goes) p.1)
     (subst (λ l. level_after l (kinds_of rs) ≢ closed) (sym goes) u) in (
       record { messages = ms; left = Some (with_one b r) },
-      record { entry = r; is = z.0; good = good; other = other_kind (level_of (Some b)) r.kind o p.0; placed = p.0; continues = more (unclosed_first (level_of (Some b)) r.kind (kinds_of rs) p u) refl },
-      subst (λ l. Run (record { messages = ms; left = Some (with_one b r) }) ts (record { messages = ms; left = begun_with b.delimiters l }))
+      record {
+        entry = r;
+        is = z.0;
+        good = good;
+        other = other_kind (level_of (Some b)) r.kind o p.0;
+        placed =
+            p.0;
+        continues = more (unclosed_first (level_of (Some b)) r.kind (kinds_of rs) p u) refl;
+      },
+      subst (λ l. Run (record { messages = ms; left = Some (with_one b r) }) ts
+          (record { messages = ms; left = begun_with b.delimiters l }))
           (append_assoc b.records (r ∷ []) rs) below,
     )
 
 -- so is a message that begins
-begun_runs : (ms : List MessageTree) (d : DelimiterBytes) → IsDelimiters d → (ts : List (List ℕ)) (r : RecordContent) (rs : List RecordContent) → AllZip (IsRecord d) ts (r ∷ rs)
+begun_runs : (ms : List MessageTree) (d : DelimiterBytes) → IsDelimiters d
+    → (ts : List (List ℕ)) (r : RecordContent) (rs : List RecordContent) → AllZip (IsRecord d) ts (r ∷ rs)
     → StandsFrom outside (kinds_of (r ∷ rs)) → level_after outside (kinds_of (r ∷ rs)) ≢ closed
     → Run (record { messages = ms; left = None }) ts (record { messages = ms; left = begun_with d (r ∷ rs) })
 begun_runs ms d good [] r rs z p u = absurd z
 begun_runs ms d good (t ∷ ts) r rs z p u =
     let is_header : r.kind ≡ kinds.H = header_first r.kind p.0 in
-    let begun : next_level outside r.kind ≢ outside = subst (λ k. next_level outside k ≢ outside) (sym is_header) (λ e. cc) in (
+    let begun : next_level outside r.kind ≢ outside =
+    subst (λ k. next_level outside k ≢ outside) (sym is_header) (λ e. cc) in (
       record { messages = ms; left = begun_with d (r ∷ []) },
       record { delimiters = d; header = r; is = z.0; kind = is_header; good = good; goes = refl },
       rest_runs ms (record { delimiters = d; records = r ∷ [] }) good begun ts rs z.1 p.1 u,
     )
 
-open_runs : (ms : List MessageTree) (texts : List (List ℕ)) (d : DelimiterBytes) (rs : List RecordContent) → IsDelimiters d → rs ≢ [] → AllZip (IsRecord d) texts rs
-    → StandsFrom outside (kinds_of rs) → level_after outside (kinds_of rs) ≢ closed → Run (record { messages = ms; left = None }) texts (record { messages = ms; left = begun_with d rs })
+open_runs : (ms : List MessageTree) (texts : List (List ℕ)) (d : DelimiterBytes) (rs : List RecordContent)
+    → IsDelimiters d → rs ≢ [] → AllZip (IsRecord d) texts rs
+    → StandsFrom outside (kinds_of rs) → level_after outside (kinds_of rs) ≢ closed
+    → Run (record { messages = ms; left = None }) texts (record { messages = ms; left = begun_with d rs })
 open_runs ms texts d [] good some z p u = absurd (some refl)
 open_runs ms texts d (r ∷ rs) good some z p u = begun_runs ms d good texts r rs z p u
 
-left_runs : (ms : List MessageTree) (texts : List (List ℕ)) (left : Option Begun) → AreLeft texts left → Run (record { messages = ms; left = None }) texts (record { messages = ms; left = left })
-left_runs ms texts None are = subst (λ ts. Run (record { messages = ms; left = None }) ts (record { messages = ms; left = None })) (sym are) refl
-left_runs ms texts (Some begun) are = open_runs ms texts begun.delimiters begun.records are.delimiters are.some are.each are.placed are.unclosed
+left_runs : (ms : List MessageTree) (texts : List (List ℕ)) (left : Option Begun) → AreLeft texts left
+    → Run (record { messages = ms; left = None }) texts (record { messages = ms; left = left })
+left_runs ms texts None are =
+    subst (λ ts. Run (record { messages = ms; left = None }) ts (record { messages = ms; left = None })) (sym are) refl
+left_runs ms texts (Some begun) are = open_runs ms texts begun.delimiters begun.records are.delimiters are.some
+    are.each are.placed are.unclosed
 
 -- texts of a list and one more
 record EndsZip (d : DelimiterBytes) (texts : List (List ℕ)) (rs : List RecordContent) (r : RecordContent) : Type 0 where
@@ -176,14 +216,22 @@ record EndsZip (d : DelimiterBytes) (texts : List (List ℕ)) (rs : List RecordC
   each : AllZip (IsRecord d) front rs
   is : IsRecord d last r
 
-ends_zip : (d : DelimiterBytes) (texts : List (List ℕ)) (rs : List RecordContent) (r : RecordContent) → AllZip (IsRecord d) texts (rs ++ r ∷ []) → EndsZip d texts rs r
+ends_zip : (d : DelimiterBytes) (texts : List (List ℕ)) (rs : List RecordContent) (r : RecordContent)
+    → AllZip (IsRecord d) texts (rs ++ r ∷ []) → EndsZip d texts rs r
 ends_zip d [] [] r z = absurd z
 ends_zip d (t ∷ []) [] r z = record { front = []; last = t; parts = refl; each = tt; is = z.0 }
 ends_zip d (t ∷ u ∷ ts) [] r z = absurd z.1
 ends_zip d [] (x ∷ rs) r z = absurd z
 ends_zip d (t ∷ ts) (x ∷ rs) r z =
     let below = ends_zip d ts rs r z.1 in
-    record { front = t ∷ below.front; last = below.last; parts = ap (λ l. t ∷ l) below.parts; each = (z.0, below.each); is = below.is }
+    record {
+      front = t ∷ below.front;
+      last = below.last;
+      parts = ap (λ l. t ∷ l) below.parts;
+      each =
+          (z.0, below.each);
+      is = below.is;
+    }
 
 inside_open : (l : Level) → IsInside l → l ≢ closed
 inside_open in_header i e = cc
@@ -201,26 +249,44 @@ inside_closes in_query i = refl
 inside_closes outside i = elim i [ ]
 inside_closes closed i = elim i [ ]
 
-message_runs : (ms : List MessageTree) (texts : List (List ℕ)) (m : MessageTree) → AreMessage texts m → Run (record { messages = ms; left = None }) texts (record { messages = ms ++ m ∷ []; left = None })
+message_runs : (ms : List MessageTree) (texts : List (List ℕ)) (m : MessageTree) → AreMessage texts m
+    → Run (record { messages = ms; left = None }) texts (record { messages = ms ++ m ∷ []; left = None })
 message_runs ms texts m are =
     let rs = m.notes ++ flat_map group_records m.groups in
     let ends = ends_zip m.delimiters texts (m.header ∷ rs) m.closing are.each in
     let leads = tree_leads m are.tree in
-    let unclosed : level_after outside (kinds_of (m.header ∷ rs)) ≢ closed = subst (λ l. l ≢ closed) (sym leads.2.arrives) (inside_open leads.0 leads.1) in
-    let front = begun_runs ms m.delimiters are.tree.delimiters ends.front m.header rs ends.each leads.2.stands unclosed in
+    let unclosed : level_after outside (kinds_of (m.header ∷ rs)) ≢ closed =
+    subst (λ l. l ≢ closed) (sym leads.2.arrives) (inside_open leads.0 leads.1) in
+    let front = begun_runs ms m.delimiters are.tree.delimiters ends.front m.header rs ends.each leads.2.stands
+    unclosed in
     let placed : misplaced (level_after outside (kinds_of (m.header ∷ rs))) m.closing.kind ≡ None =
-    ap (misplaced (level_after outside (kinds_of (m.header ∷ rs)))) are.tree.closing ∙ ap (λ l. misplaced l kinds.L) leads.2.arrives ∙ inside_closes leads.0 leads.1 in
+    ap (misplaced (level_after outside (kinds_of (m.header ∷ rs)))) are.tree.closing
+    ∙ ap (λ l. misplaced l kinds.L) leads.2.arrives ∙ inside_closes leads.0 leads.1 in
     let end : State = record { messages = ms ++ m ∷ []; left = None } in
-    let last : Run (record { messages = ms; left = begun_with m.delimiters (m.header ∷ rs) }) (ends.last ∷ []) end =
-    (end, record { entry = m.closing; is = ends.is; good = are.tree.delimiters; other = (λ e. let h : kinds.L ≡ kinds.H = sym are.tree.closing ∙ e in cc); placed = placed; continues = whole are.tree.closing m are.tree refl refl refl }, refl) in
+    let last : Run (record { messages = ms; left = begun_with m.delimiters (m.header ∷ rs) }) (ends.last ∷ []) end = (
+      end,
+      record {
+        entry = m.closing;
+        is = ends.is;
+        good = are.tree.delimiters;
+        other =
+            (λ e. let h : kinds.L ≡ kinds.H = sym are.tree.closing ∙ e in cc);
+        placed = placed;
+        continues =
+            whole are.tree.closing m are.tree refl refl refl;
+      },
+      refl,
+    ) in
     subst (λ ts. Run (record { messages = ms; left = None }) ts end) (sym ends.parts)
-    (run_append (record { messages = ms; left = None }) ends.front (ends.last ∷ []) (record { messages = ms; left = begun_with m.delimiters (m.header ∷ rs) }) end front last)
+    (run_append (record { messages = ms; left = None }) ends.front (ends.last ∷ [])
+    (record { messages = ms; left = begun_with m.delimiters (m.header ∷ rs) }) end front last)
 
 -- the texts of all groups
 abbrev pub all_texts : List (List (List ℕ)) → List (List ℕ)
 all_texts groups = flat_map (λ g. g) groups
 
-groups_run : (ms : List MessageTree) (groups : List (List (List ℕ))) (messages : List MessageTree) → AllZip AreMessage groups messages
+groups_run : (ms : List MessageTree) (groups : List (List (List ℕ))) (messages : List MessageTree)
+    → AllZip AreMessage groups messages
     → Run (record { messages = ms; left = None }) (all_texts groups) (record { messages = ms ++ messages; left = None })
 groups_run ms [] [] z = ap (λ l. record { messages = l; left = None }) (sym (append-nil ms))
 groups_run ms [] (m ∷ messages) z = absurd z
@@ -229,17 +295,21 @@ groups_run ms (g ∷ groups) (m ∷ messages) z =
     let mid : State = record { messages = ms ++ m ∷ []; left = None } in
     let first = message_runs ms g m z.0 in
     let below = groups_run (ms ++ m ∷ []) groups messages z.1 in
-    subst (λ l. Run (record { messages = ms; left = None }) (g ++ all_texts groups) (record { messages = l; left = None })) (append_assoc ms (m ∷ []) messages)
-    (run_append (record { messages = ms; left = None }) g (all_texts groups) mid (record { messages = (ms ++ m ∷ []) ++ messages; left = None }) first below)
+    subst (λ l. Run (record { messages = ms; left = None }) (g ++ all_texts groups)
+    (record { messages = l; left = None })) (append_assoc ms (m ∷ []) messages)
+    (run_append (record { messages = ms; left = None }) g (all_texts groups) mid
+    (record { messages = (ms ++ m ∷ []) ++ messages; left = None }) first below)
 
 abbrev pub start : State
 start = record { messages = []; left = None }
 
 -- the texts of a cut are read one by one
-pub cut_runs : (stream : List ℕ) (messages : List MessageTree) (left : Option Begun) (held : List ℕ) (c : IsCut stream messages left held)
+pub cut_runs : (stream : List ℕ) (messages : List MessageTree) (left : Option Begun) (held : List ℕ)
+    (c : IsCut stream messages left held)
     → Run start (all_texts c.groups ++ c.texts) (record { messages = messages; left = left })
 cut_runs stream messages left held c =
-    run_append start (all_texts c.groups) c.texts (record { messages = messages; left = None }) (record { messages = messages; left = left })
+    run_append start (all_texts c.groups) c.texts (record { messages = messages; left = None })
+    (record { messages = messages; left = left })
     (groups_run [] c.groups messages c.read) (left_runs messages c.texts left c.begun)
 
 -- ---- the lines of a cut
@@ -249,12 +319,15 @@ ended_groups [] = refl
 ended_groups (g ∷ groups) = ap (λ l. ended g ++ l) (ended_groups groups) ∙ sym (ended_append g (all_texts groups))
 
 -- a stream that is cut is its lines and what is held
-pub cut_lines : (stream : List ℕ) (messages : List MessageTree) (left : Option Begun) (held : List ℕ) (c : IsCut stream messages left held)
+pub cut_lines : (stream : List ℕ) (messages : List MessageTree) (left : Option Begun) (held : List ℕ)
+    (c : IsCut stream messages left held)
     → stream ≡ ended (all_texts c.groups ++ c.texts) ++ held
 cut_lines stream messages left held c =
-    c.whole ∙ ap (λ l. l ++ ended c.texts ++ held) (ended_groups c.groups) ∙ ap (λ l. l ++ held) (sym (ended_append (all_texts c.groups) c.texts))
+    c.whole ∙ ap (λ l. l ++ ended c.texts ++ held) (ended_groups c.groups)
+    ∙ ap (λ l. l ++ held) (sym (ended_append (all_texts c.groups) c.texts))
 
-step_from_lacks : (ms : List MessageTree) (left : Option Begun) (t : List ℕ) (n : State) → StepFrom ms left t n → LacksReturn t
+step_from_lacks : (ms : List MessageTree) (left : Option Begun) (t : List ℕ) (n : State) → StepFrom ms left t n
+    → LacksReturn t
 step_from_lacks ms None t n h = text_lacks t h.is.is_text
 step_from_lacks ms (Some begun) t n h = text_lacks t h.is.is_text
 
@@ -267,7 +340,8 @@ run_lacks s [] e h = tt
 run_lacks s (t ∷ ts) e h = (step_lacks s t h.0 h.1, run_lacks h.0 ts e h.2)
 
 -- A stream is cut in one way at most.
-pub cut_one : (stream : List ℕ) (m n : List MessageTree) (l k : Option Begun) (h g : List ℕ) → IsCut stream m l h → IsCut stream n k g → (m ≡ n) × (l ≡ k) × (h ≡ g)
+pub cut_one : (stream : List ℕ) (m n : List MessageTree) (l k : Option Begun) (h g : List ℕ) → IsCut stream m l h
+    → IsCut stream n k g → (m ≡ n) × (l ≡ k) × (h ≡ g)
 cut_one stream m n l k h g a b =
     let ra = cut_runs stream m l h a in
     let rb = cut_runs stream n k g b in
@@ -275,6 +349,7 @@ cut_one stream m n l k h g a b =
     let tb = all_texts b.groups ++ b.texts in
     let ea : State = record { messages = m; left = l } in
     let eb : State = record { messages = n; left = k } in
-    let lines = lines_one ta tb h g (run_lacks start ta ea ra) (run_lacks start tb eb rb) a.lacks b.lacks (sym (cut_lines stream m l h a) ∙ cut_lines stream n k g b) in
+    let lines = lines_one ta tb h g (run_lacks start ta ea ra) (run_lacks start tb eb rb) a.lacks b.lacks
+    (sym (cut_lines stream m l h a) ∙ cut_lines stream n k g b) in
     let same : ea ≡ eb = run_one start tb ea eb (subst (λ ts. Run start ts ea) lines.0 ra) rb in
     (ap (λ (s : State). s.messages) same, ap (λ (s : State). s.left) same, lines.1)

@@ -1,5 +1,6 @@
 -- Where a stream is read, and where its reading stops.
-use Rattle.std.proofs.Common.{◌≡◌, ℕ, ◌+◌, ◌<◌, ◌≤◌, inl, inr, List, [], ◌∷◌, ◌++◌, length, take, drop, Option, Some, refl, zero, suc, sym, ◌∙◌, ap, subst, append_assoc, arith, length-take}
+use Rattle.std.proofs.Common.{◌≡◌, ℕ, ◌+◌, ◌<◌, ◌≤◌, inl, inr, List, [], ◌∷◌, ◌++◌, length, take, drop, Option, Some}
+use Rattle.std.proofs.Common.{refl, zero, suc, sym, ◌∙◌, ap, subst, append_assoc, arith, length-take}
 use Rattle.std.specs.List.{flat_map}
 use Rattle.std.proofs.lemmas.List.{append-nil, take-append-drop}
 use Rattle.lis_record.specs.declared.texts.TheConstants.{RECORD_LIMIT}
@@ -12,7 +13,8 @@ use Rattle.lis_tree.specs.Tree.{MessageTree}
 use Rattle.lis_message.proofs.Lines.{lacks_append}
 
 -- the stream without what is held
-front_cut : (stream : List ℕ) (messages : List MessageTree) (left : Option Begun) (held : List ℕ) (c : IsCut stream messages left held)
+front_cut : (stream : List ℕ) (messages : List MessageTree) (left : Option Begun) (held : List ℕ)
+    (c : IsCut stream messages left held)
     → IsCut (flat_map ended c.groups ++ ended c.texts) messages left []
 front_cut stream messages left held c = record {
   groups = c.groups;
@@ -30,8 +32,10 @@ lacks_take (suc n) [] l = tt
 lacks_take (suc n) (x ∷ xs) l = (l.0, lacks_take n xs l.1)
 
 -- a record is refused at its CR
-pub refused_line : (stream : List ℕ) (messages : List MessageTree) (left : Option Begun) (held text rest : List ℕ) (fault : MessageFault) → IsCut stream messages left held → LacksReturn text → length (held ++ text) ≤ RECORD_LIMIT
-    → refusal left (held ++ text) ≡ Some fault.reason → fault.place ≡ next_place left → IsRefused (stream ++ (text ++ 13 ∷ rest)) messages fault
+pub refused_line : (stream : List ℕ) (messages : List MessageTree) (left : Option Begun) (held text rest : List ℕ)
+    (fault : MessageFault) → IsCut stream messages left held → LacksReturn text → length (held ++ text) ≤ RECORD_LIMIT
+    → refusal left (held ++ text) ≡ Some fault.reason → fault.place ≡ next_place left
+    → IsRefused (stream ++ (text ++ 13 ∷ rest)) messages fault
 refused_line stream messages left held text rest fault c lacks short why place = record {
   front = flat_map ended c.groups ++ ended c.texts;
   left = left;
@@ -51,8 +55,10 @@ spread : (front a b rest : List ℕ) → front ++ ((a ++ b) ++ rest) ≡ front +
 spread front a b rest = simp append_assoc
 
 -- a record is too long, before its CR
-pub refused_long : (stream : List ℕ) (messages : List MessageTree) (left : Option Begun) (held text rest : List ℕ) (fault : MessageFault) → IsCut stream messages left held → LacksReturn text → RECORD_LIMIT < length (held ++ text)
-    → fault.reason ≡ reasons.RecordTooLong → fault.place ≡ next_place left → IsRefused (stream ++ (text ++ rest)) messages fault
+pub refused_long : (stream : List ℕ) (messages : List MessageTree) (left : Option Begun) (held text rest : List ℕ)
+    (fault : MessageFault) → IsCut stream messages left held → LacksReturn text → RECORD_LIMIT < length (held ++ text)
+    → fault.reason ≡ reasons.RecordTooLong → fault.place ≡ next_place left
+    → IsRefused (stream ++ (text ++ rest)) messages fault
 refused_long stream messages left held text rest fault c lacks long why place =
     let front = flat_map ended c.groups ++ ended c.texts in
     let all = held ++ text in
@@ -63,7 +69,8 @@ refused_long stream messages left held text rest fault c lacks long why place =
       left = left;
       text = take n all;
       more = drop n all ++ rest;
-      whole = ap (λ l. l ++ (text ++ rest)) c.whole ∙ regroup front held text rest ∙ ap (λ l. front ++ (l ++ rest)) (sym parts) ∙ spread front (take n all) (drop n all) rest;
+      whole = ap (λ l. l ++ (text ++ rest)) c.whole ∙ regroup front held text rest
+          ∙ ap (λ l. front ++ (l ++ rest)) (sym parts) ∙ spread front (take n all) (drop n all) rest;
       cut = front_cut stream messages left held c;
       lacks = lacks_take n all (lacks_append held text c.lacks lacks);
       place = place;
@@ -71,8 +78,10 @@ refused_long stream messages left held text rest fault c lacks long why place =
     }
 
 -- memory is refused
-pub starved : (stream : List ℕ) (messages : List MessageTree) (left : Option Begun) (held bytes : List ℕ) (fault : MessageFault) → IsCut stream messages left held
-    → fault.place ≡ next_place left → fault.reason ≡ reasons.OutOfMemory → IsWantOfMemory (stream ++ bytes) messages fault
+pub starved : (stream : List ℕ) (messages : List MessageTree) (left : Option Begun) (held bytes : List ℕ)
+    (fault : MessageFault) → IsCut stream messages left held
+    → fault.place ≡ next_place left → fault.reason ≡ reasons.OutOfMemory
+    → IsWantOfMemory (stream ++ bytes) messages fault
 starved stream messages left held bytes fault c place why = record {
   front = flat_map ended c.groups ++ ended c.texts;
   left = left;
@@ -86,10 +95,12 @@ starved stream messages left held bytes fault c place why = record {
 -- ---- the reader's steps
 
 -- one stretch after another
-pub goes_then : (a b c : Unended) (ms ns os : List MessageTree) (xs ys : List ℕ) → Goes a ms xs b ns → Goes b ns ys c os → Goes a ms (xs ++ ys) c os
+pub goes_then : (a b c : Unended) (ms ns os : List MessageTree) (xs ys : List ℕ) → Goes a ms xs b ns
+    → Goes b ns ys c os → Goes a ms (xs ++ ys) c os
 goes_then a b c ms ns os xs ys g h past base cut =
     subst (λ s. IsCut s (base ++ os) c.left c.held) (append_assoc past xs ys) (h (past ++ xs) base (g past base cut))
 
-pub goes_stops : (a b : Unended) (ms ns os : List MessageTree) (xs ys : List ℕ) (fault : MessageFault) → Goes a ms xs b ns → StopsIn b ns ys os fault → StopsIn a ms (xs ++ ys) os fault
+pub goes_stops : (a b : Unended) (ms ns os : List MessageTree) (xs ys : List ℕ) (fault : MessageFault)
+    → Goes a ms xs b ns → StopsIn b ns ys os fault → StopsIn a ms (xs ++ ys) os fault
 goes_stops a b ms ns os xs ys fault g h past base cut =
     subst (λ s. Stops s (base ++ os) fault) (append_assoc past xs ys) (h (past ++ xs) base (g past base cut))

@@ -20,7 +20,8 @@ use Rattle.lis_message.proofs.Refusals.{refusal_at, refusal-header, refusal-othe
 
 -- ---- what the letter tells
 
-outside_letter : (letter : ℕ) (k : Option Kind) (text : List ℕ) (e : Reason) → letter_front false letter k ≡ Some e → letter_refusal None letter k text ≡ Some e
+outside_letter : (letter : ℕ) (k : Option Kind) (text : List ℕ) (e : Reason) → letter_front false letter k ≡ Some e
+    → letter_refusal None letter k text ≡ Some e
 unfolding kind_refusal
 outside_letter letter None text e h = h
 outside_letter letter (Some kinds.H) text e h = absurd cc
@@ -33,7 +34,8 @@ outside_letter letter (Some kinds.M) text e h = h
 outside_letter letter (Some kinds.S) text e h = h
 outside_letter letter (Some kinds.L) text e h = h
 
-inside_letter : (b : Begun) (letter : ℕ) (k : Option Kind) (text : List ℕ) (e : Reason) → letter_front true letter k ≡ Some e → letter_refusal (Some b) letter k text ≡ Some e
+inside_letter : (b : Begun) (letter : ℕ) (k : Option Kind) (text : List ℕ) (e : Reason)
+    → letter_front true letter k ≡ Some e → letter_refusal (Some b) letter k text ≡ Some e
 unfolding kind_refusal
 inside_letter b letter None text e h = h
 inside_letter b letter (Some kinds.H) text e h = h
@@ -47,14 +49,16 @@ inside_letter b letter (Some kinds.S) text e h = absurd cc
 inside_letter b letter (Some kinds.L) text e h = absurd cc
 
 -- what the letter tells is the first reason
-pub front_refused : (left : Option Begun) (text : List ℕ) (e : Reason) → front_refusal (is_some left) text ≡ Some e → refusal left text ≡ Some e
+pub front_refused : (left : Option Begun) (text : List ℕ) (e : Reason) → front_refusal (is_some left) text ≡ Some e
+    → refusal left text ≡ Some e
 unfolding refusal
 front_refused None [] e h = h
 front_refused None (letter ∷ bytes) e h = outside_letter letter (kind_of letter) (letter ∷ bytes) e h
 front_refused (Some b) [] e h = h
 front_refused (Some b) (letter ∷ bytes) e h = inside_letter b letter (kind_of letter) (letter ∷ bytes) e h
 
-outside_header : (letter : ℕ) (k : Option Kind) (text : List ℕ) → letter_front false letter k ≡ None → letter_refusal None letter k text ≡ kind_refusal None kinds.H text
+outside_header : (letter : ℕ) (k : Option Kind) (text : List ℕ) → letter_front false letter k ≡ None
+    → letter_refusal None letter k text ≡ kind_refusal None kinds.H text
 outside_header letter None text h = absurd cc
 outside_header letter (Some kinds.H) text h = refl
 outside_header letter (Some kinds.P) text h = absurd cc
@@ -67,10 +71,12 @@ outside_header letter (Some kinds.S) text h = absurd cc
 outside_header letter (Some kinds.L) text h = absurd cc
 
 -- outside a message a text that may go on is told by a header's faults
-header_told : (text : List ℕ) → front_refusal false text ≡ None → refusal None text ≡ option_map reasons.BadRecord (header_fault text)
+header_told : (text : List ℕ) → front_refusal false text ≡ None
+    → refusal None text ≡ option_map reasons.BadRecord (header_fault text)
 unfolding refusal
 header_told [] h = absurd cc
-header_told (letter ∷ bytes) h = outside_header letter (kind_of letter) (letter ∷ bytes) h ∙ refusal-header (letter ∷ bytes)
+header_told (letter ∷ bytes) h = outside_header letter (kind_of letter) (letter ∷ bytes) h
+    ∙ refusal-header (letter ∷ bytes)
 
 -- the kind of a text's letter, in a message
 record IsInner (b : Begun) (text : List ℕ) : Type 0 where
@@ -78,7 +84,8 @@ record IsInner (b : Begun) (text : List ℕ) : Type 0 where
   other : kind ≢ kinds.H
   told : refusal (Some b) text ≡ kind_refusal (Some b) kind text
 
-inside_kind : (b : Begun) (letter : ℕ) (k : Option Kind) (text : List ℕ) → letter_front true letter k ≡ None → refusal (Some b) text ≡ letter_refusal (Some b) letter k text → IsInner b text
+inside_kind : (b : Begun) (letter : ℕ) (k : Option Kind) (text : List ℕ) → letter_front true letter k ≡ None
+    → refusal (Some b) text ≡ letter_refusal (Some b) letter k text → IsInner b text
 inside_kind b letter None text h e = absurd cc
 inside_kind b letter (Some kinds.H) text h e = absurd cc
 inside_kind b letter (Some kinds.P) text h e = record { kind = kinds.P; other = (λ x. cc); told = e }
@@ -97,17 +104,22 @@ inner_told b (letter ∷ bytes) h = inside_kind b letter (kind_of letter) (lette
 
 -- ---- what the text tells
 
-pub header_refused : (text : List ℕ) (e : RecordFault) → front_refusal false text ≡ None → header_fault text ≡ Some e → refusal None text ≡ Some (reasons.BadRecord e)
+pub header_refused : (text : List ℕ) (e : RecordFault) → front_refusal false text ≡ None → header_fault text ≡ Some e
+    → refusal None text ≡ Some (reasons.BadRecord e)
 header_refused text e front f = header_told text front ∙ ap (option_map reasons.BadRecord) f
 
-pub inner_refused : (b : Begun) (text : List ℕ) (e : RecordFault) → front_refusal true text ≡ None → record_fault b.delimiters text ≡ Some e → refusal (Some b) text ≡ Some (reasons.BadRecord e)
+pub inner_refused : (b : Begun) (text : List ℕ) (e : RecordFault) → front_refusal true text ≡ None
+    → record_fault b.delimiters text ≡ Some e → refusal (Some b) text ≡ Some (reasons.BadRecord e)
 inner_refused b text e front f =
     let inner = inner_told b text front in
-    inner.told ∙ refusal-other b inner.kind text inner.other ∙ ap (λ x. option_or (option_map reasons.BadRecord x) (misplaced (level_of (Some b)) inner.kind)) f
+    inner.told ∙ refusal-other b inner.kind text inner.other
+    ∙ ap (λ x. option_or (option_map reasons.BadRecord x) (misplaced (level_of (Some b)) inner.kind)) f
 
 -- where the text is a record, its place is what is left to tell
-pub place_refused : (b : Begun) (text : List ℕ) (r : RecordContent) (reason : Reason) → IsRecord b.delimiters text r → r.kind ≢ kinds.H → misplaced (level_of (Some b)) r.kind ≡ Some reason
+pub place_refused : (b : Begun) (text : List ℕ) (r : RecordContent) (reason : Reason) → IsRecord b.delimiters text r
+    → r.kind ≢ kinds.H → misplaced (level_of (Some b)) r.kind ≡ Some reason
     → refusal (Some b) text ≡ Some reason
 place_refused b text r reason is other m =
     refusal_at (Some b) b.delimiters text r is ∙ refusal-other b r.kind text other
-    ∙ ap (λ x. option_or (option_map reasons.BadRecord x) (misplaced (level_of (Some b)) r.kind)) (record_fault-IsRecord b.delimiters text r other is) ∙ m
+    ∙ ap (λ x. option_or (option_map reasons.BadRecord x) (misplaced (level_of (Some b)) r.kind))
+    (record_fault-IsRecord b.delimiters text r other is) ∙ m

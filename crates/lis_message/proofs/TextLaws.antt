@@ -1,5 +1,6 @@
 -- The texts of a message, joined, and each as a link text.
-use Rattle.std.proofs.Common.{◌≡◌, ℕ, ◌+◌, ◌≤◌, true, false, cond, List, [], ◌∷◌, ◌++◌, length, map, Some, None, refl, ◌∙◌, ap, arith, length-append}
+use Rattle.std.proofs.Common.{◌≡◌, ℕ, ◌+◌, ◌≤◌, true, false, cond, List, [], ◌∷◌, ◌++◌, length, map, Some, None, refl}
+use Rattle.std.proofs.Common.{◌∙◌, ap, arith, length-append}
 use Rattle.std.specs.Prelude.{option_map, nat_lt, if◌then◌else◌}
 use Rattle.std.specs.List.{AllByRecursion, flat_map, position_from}
 use Rattle.std.proofs.lemmas.Bool.Decides.{nat_tests}
@@ -15,7 +16,8 @@ use Rattle.lis_record.proofs.ReadBack.{IsRecord-spelled}
 use Rattle.lis_message.specs.Writing.{records_bytes, AreWritable}
 
 -- joined, they are the message's bytes
-pub texts_joined : (d : DelimiterBytes) (rs : List RecordContent) → flat_map (λ t. t) (map (written d) rs) ≡ records_bytes d rs
+pub texts_joined : (d : DelimiterBytes) (rs : List RecordContent)
+    → flat_map (λ t. t) (map (written d) rs) ≡ records_bytes d rs
 texts_joined d [] = refl
 texts_joined d (r ∷ rs) = ap (λ l. written d r ++ l) (texts_joined d rs)
 
@@ -24,21 +26,25 @@ allowed : (b : ℕ) → is_text_byte b ≡ true → is_forbidden b ≡ false
 unfolding is_text_byte
 allowed b t = grind (arith, nat_tests)
 
-allowed_all : (bytes : List ℕ) → AllByRecursion (λ b. is_text_byte b ≡ true) bytes → (n : ℕ) → position_from is_forbidden n (bytes ++ 13 ∷ []) ≡ None
+allowed_all : (bytes : List ℕ) → AllByRecursion (λ b. is_text_byte b ≡ true) bytes → (n : ℕ)
+    → position_from is_forbidden n (bytes ++ 13 ∷ []) ≡ None
 allowed_all [] a n = refl
-allowed_all (b ∷ bytes) a n = ap (λ t. cond t (Some n) (position_from is_forbidden (n + 1) (bytes ++ 13 ∷ []))) (allowed b a.0) ∙ allowed_all bytes a.1 (n + 1)
+allowed_all (b ∷ bytes) a n = ap (λ t. cond t (Some n) (position_from is_forbidden (n + 1) (bytes ++ 13 ∷ [])))
+    (allowed b a.0) ∙ allowed_all bytes a.1 (n + 1)
 
 not_long : (bytes : List ℕ) → length bytes ≤ longest_text → nat_lt longest_text (length bytes) ≡ false
 not_long bytes h = grind (arith, nat_tests)
 
 -- a record's text can be sent
-pub text_sent : (d : DelimiterBytes) → IsDelimiters d → (rs : List RecordContent) → AllByRecursion IsRecordShape rs → AreWritable d rs → AllByRecursion (λ t. text_fault longest_text t ≡ None) (map (written d) rs)
+pub text_sent : (d : DelimiterBytes) → IsDelimiters d → (rs : List RecordContent) → AllByRecursion IsRecordShape rs
+    → AreWritable d rs → AllByRecursion (λ t. text_fault longest_text t ≡ None) (map (written d) rs)
 text_sent d good [] shapes writable = tt
 text_sent d good (r ∷ rs) shapes writable =
     let is = IsRecord-spelled d good r shapes.0 writable.0 in
     let bytes = spelled d r in
     let short : length (written d r) ≤ longest_text = omega (arith, length-append bytes (13 ∷ []), is.short) in
     let clean = allowed_all bytes (recursion_from_All (λ b. is_text_byte b ≡ true) bytes is.is_text) 0 in (
-      ap (λ t. if t then Some TooLong else option_map Forbidden (position_from is_forbidden 0 (written d r))) (not_long (written d r) short) ∙ ap (option_map Forbidden) clean,
+      ap (λ t. if t then Some TooLong else option_map Forbidden (position_from is_forbidden 0 (written d r)))
+          (not_long (written d r) short) ∙ ap (option_map Forbidden) clean,
       text_sent d good rs shapes.1 writable.1,
     )

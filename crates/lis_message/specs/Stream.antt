@@ -75,7 +75,8 @@ kind_refusal None kinds.H text = option_map reasons.BadRecord (header_fault text
 kind_refusal None kind text = Some reasons.NotHeader
 kind_refusal (Some begun) kinds.H text = Some reasons.SecondHeader
 kind_refusal (Some begun) kind text =
-    option_or (option_map reasons.BadRecord (record_fault begun.delimiters text)) (misplaced (level_of (Some begun)) kind)
+    option_or (option_map reasons.BadRecord (record_fault begun.delimiters text))
+    (misplaced (level_of (Some begun)) kind)
 
 -- the same with the letter's kind, which is none for a byte that is no letter
 abbrev pub letter_refusal : Option Begun → ℕ → Option Kind → List ℕ → Option Reason
@@ -115,4 +116,5 @@ pub record IsRefused (stream : List ℕ) (messages : List MessageTree) (fault : 
 abbrev pub IsReadFrom : List ℕ → List MessageTree → Type 0
 IsReadFrom stream messages =
     (more : List MessageTree)
-    × (((left : Option Begun) × (held : List ℕ) × IsCut stream (messages ++ more) left held) ⊎ ((fault : MessageFault) × IsRefused stream (messages ++ more) fault))
+    × (((left : Option Begun) × (held : List ℕ) × IsCut stream (messages ++ more) left held) ⊎
+    ((fault : MessageFault) × IsRefused stream (messages ++ more) fault))

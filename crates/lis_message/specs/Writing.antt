@@ -1,5 +1,6 @@
 -- The bytes of a message.
-use Rattle.std.specs.Prelude.{◌≡◌, ℕ, ◌+◌, ◌-◌, ◌<◌, ◌≤◌, Bool, false, List, [], ◌∷◌, ◌++◌, length, map, take, drop, Option, None, Some, Result, Ok, Err}
+use Rattle.std.specs.Prelude.{◌≡◌, ℕ, ◌+◌, ◌-◌, ◌<◌, ◌≤◌, Bool, false, List, [], ◌∷◌, ◌++◌, length, map, take, drop}
+use Rattle.std.specs.Prelude.{Option, None, Some, Result, Ok, Err}
 use Rattle.std.specs.Io.KnownBytes.{Appends, Keeps}
 use Rattle.std.specs.List.{AllByRecursion, flat_map}
 use Rattle.lis_record.specs.declared.faults.WriteFault.{WriteFault}
@@ -33,7 +34,11 @@ IsWritable message = AreWritable message.delimiters (flatten message)
 abbrev pub refusal_from : DelimiterBytes → ℕ → List RecordContent → Option MessageWriteFault
 refusal_from d place [] = None
 refusal_from d place (r ∷ records) =
-    elim (check_fault d r) [ Some fault ↦ Some (record { place = capped place; fault = fault }) | None ↦ refusal_from d (place + 1) records ]
+    elim (check_fault d r) [
+      | Some fault ↦ Some (record { place = capped place; fault = fault })
+      | None ↦
+          refusal_from d (place + 1) records
+    ]
 
 -- why a message is not written
 abbrev pub write_refusal : MessageTree → Option MessageWriteFault
@@ -56,13 +61,17 @@ abbrev pub front_of : DelimiterBytes → List RecordContent → ℕ → ℕ → 
 front_of d records whole count = records_bytes d (take whole records) ++ first_bytes d count (drop whole records)
 
 -- Where the sink fails, these bytes of a front went out; nothing of them is said of another fault.
-abbrev pub StoppedIn : DelimiterBytes → List RecordContent → ℕ → ℕ → Option (List ℕ) → Option (List ℕ) → ℕ → WriteFault → Type 0
+abbrev pub StoppedIn : DelimiterBytes → List RecordContent → ℕ → ℕ → Option (List ℕ) → Option (List ℕ) → ℕ
+    → WriteFault → Type 0
 StoppedIn d records place skip old new found (write_faults.Io count) =
-    (whole : ℕ) × (found ≡ capped (place + whole)) × (whole < length records) × (count < first_length d (drop whole records)) × (skip ≤ length (front_of d records whole count)) × Appends old new (drop skip (front_of d records whole count))
+    (whole : ℕ) × (found ≡ capped (place + whole)) × (whole < length records)
+    × (count < first_length d (drop whole records)) × (skip ≤ length (front_of d records whole count))
+    × Appends old new (drop skip (front_of d records whole count))
 StoppedIn d records place skip old new found fault = ⊥
 
 -- These records, the first of which has this place, are written without the first `skip` bytes.
-abbrev pub WroteRecords : DelimiterBytes → List RecordContent → ℕ → ℕ → Option (List ℕ) → Option (List ℕ) → Result (Unit {0}) MessageWriteFault → Type 0
+abbrev pub WroteRecords : DelimiterBytes → List RecordContent → ℕ → ℕ → Option (List ℕ) → Option (List ℕ)
+    → Result (Unit {0}) MessageWriteFault → Type 0
 WroteRecords d records place skip old new (Ok done) = Appends old new (drop skip (records_bytes d records))
 WroteRecords d records place skip old new (Err fault) = StoppedIn d records place skip old new fault.place fault.fault
 
@@ -72,7 +81,8 @@ is_sink_fault (Ok done) = false
 is_sink_fault (Err fault) = is_io (Err fault.fault)
 
 -- The records of a message from this place on are written without the first `skip` bytes, or refused before any byte.
-abbrev pub WroteMessage : MessageTree → ℕ → ℕ → Option (List ℕ) → Option (List ℕ) → Result (Unit {0}) MessageWriteFault → Type 0
+abbrev pub WroteMessage : MessageTree → ℕ → ℕ → Option (List ℕ) → Option (List ℕ)
+    → Result (Unit {0}) MessageWriteFault → Type 0
 WroteMessage message place skip old new result =
     elim (write_refusal message) [
       | None ↦ WroteRecords message.delimiters (drop (place - 1) (flatten message)) place skip old new result
@@ -86,5 +96,6 @@ message_texts_of message = map (written message.delimiters) (flatten message)
 -- Where the sink failed, the rest can be written from the fault's place on, unless that place is the greatest number.
 abbrev pub CanResume : MessageTree → ℕ → WriteFault → Type 0
 CanResume message place (write_faults.Io count) =
-    place < 18446744073709551615 → (1 ≤ place) × (place ≤ length (flatten message)) × (count ≤ first_length message.delimiters (drop (place - 1) (flatten message)))
+    place < 18446744073709551615 → (1 ≤ place) × (place ≤ length (flatten message))
+    × (count ≤ first_length message.delimiters (drop (place - 1) (flatten message)))
 CanResume message place fault = Unit {0}

@@ -14,7 +14,8 @@ pub struct MessageWriteFault {
 }
 
 impl MessageWriteFault {
-    /// Where `write_message_from` writes on behind a sink that failed: the place of the record, and how many bytes of it
+    /// Where `write_message_from` writes on behind a sink that failed: the place of the record, and how many bytes of
+    /// it
     /// are out. None where no sink failed, or the place is the greatest number.
     pub fn resume(&self) -> Option<(u64, u64)>
         ensures { MatchOption result

@@ -24,7 +24,8 @@ pub fn read_back()
     ensures cut { (ms : List MessageTree) → AllByRecursion IsTree ms → AllByRecursion IsWritable ms
         → IsCut (flat_map message_bytes ms) ms None [] }
     ensures alone { (ms : List MessageTree) → AllByRecursion IsTree ms → AllByRecursion IsWritable ms
-        → (others : List MessageTree) (left : Option Begun) (held : List ℕ) → IsCut (flat_map message_bytes ms) others left held
+        → (others : List MessageTree) (left : Option Begun) (held : List ℕ)
+        → IsCut (flat_map message_bytes ms) others left held
         → (others ≡ ms) × (left ≡ None) × (held ≡ []) }
 {}
 

@@ -1,4 +1,5 @@
-//! Messages of LIS02-A2 as bytes: a reader over a stream that comes in pieces, a writer, and the link texts of a message.
+//! Messages of LIS02-A2 as bytes: a reader over a stream that comes in pieces, a writer, and the link texts of a
+//! message.
 #![tactic(auto)]
 
 mod fault;

@@ -148,7 +148,8 @@ fn opened_after(opened: &Option<Opened>, delimiters: Delimiters, kind: Kind) -> 
     })
 }
 
-/// The bytes before the first CR, those behind it, and the place of the first of those before it that no record may hold.
+/// The bytes before the first CR, those behind it, and the place of the first of those before it that no record may
+/// hold.
 /// One search finds both, where there is none before it: a CR is such a byte.
 #[inline(always)]
 fn next_line(bytes: &[u8]) -> Option<(&[u8], &[u8], Option<usize>)>
@@ -371,8 +372,10 @@ impl RecordReader {
         }
     }
 
-    /// Reads the next record where it stands whole in the bytes and nothing is held, and answers it and the bytes behind;
-    /// none where that isn't so, or it is refused, and then the reader is as it was: `read` tells what there is. What it
+    /// Reads the next record where it stands whole in the bytes and nothing is held, and answers it and the bytes
+    /// behind;
+    /// none where that isn't so, or it is refused, and then the reader is as it was: `read` tells what there is. What
+    /// it
     /// reads is what `read` does, in less time.
     #[inline(always)]
     pub fn read_whole<'a>(&mut self, bytes: &'a [u8]) -> Option<(LentRecord<'a>, &'a [u8])>

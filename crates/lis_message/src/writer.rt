@@ -1,9 +1,11 @@
 //! Writing a message, record by record.
-ghost use Rattle.std.specs.Prelude.{◌≡◌, ◌-◌, ◌≤◌, ◌<◌, false, None, Some, Result, OnOk, IfErr, MatchResult, length, drop};
+ghost use Rattle.std.specs.Prelude.{◌≡◌, ◌-◌, ◌≤◌, ◌<◌, false, None, Some, Result, OnOk, IfErr, MatchResult, length};
+ghost use Rattle.std.specs.Prelude.{drop};
 ghost use Rattle.lis_record.specs.Spelling.{written};
 ghost use Rattle.lis_message.specs.Stream.{IsMessage};
 ghost use Rattle.lis_tree.specs.Tree.{flatten};
-ghost use Rattle.lis_message.specs.Writing.{AreWritable, CanResume, WroteMessage, WroteRecords, first_length, is_sink_fault, message_bytes, refusal_from};
+ghost use Rattle.lis_message.specs.Writing.{AreWritable, CanResume, WroteMessage, WroteRecords, first_length};
+ghost use Rattle.lis_message.specs.Writing.{is_sink_fault, message_bytes, refusal_from};
 
 use crate::fault::MessageWriteFault;
 use lis_port::Sink;

@@ -75,7 +75,8 @@ front-selected n xs long =
     let tops = tops_compared w8 nat_lt (range_with_len 0 16) (replicate 16 n) in
     let lanes = zip2_splat {Z = Bool} nat_lt (range_with_len 0 16) 16 n refl in
     let all : n - 0 ≡ n = omega arith in
-    let few : sum_l (sel_l (map (λ (a : ℕ). nat_lt a n) (range_with_len 0 16)) xs (replicate 16 0)) ≡ sum_l (take n xs) =
+    let few : sum_l (sel_l (map (λ (a : ℕ). nat_lt a n) (range_with_len 0 16)) xs (replicate 16 0))
+    ≡ sum_l (take n xs) =
     rw (long, all) at (selected 0 n xs) in
     ap (λ (ms : List Bool). sum_l (sel_l ms xs (replicate 16 0))) (tops ∙ lanes) ∙ (few ∙ sum_l-sum (take n xs))
 

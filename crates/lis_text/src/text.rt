@@ -51,7 +51,8 @@ pub fn first_forbidden(bytes: &[u8]) -> Option<usize>
     first_in::<ForbiddenBytes>(bytes)
 }
 
-/// The place of the first byte that no text may hold, from 0, and the sum modulo 256 of the bytes before it; where there
+/// The place of the first byte that no text may hold, from 0, and the sum modulo 256 of the bytes before it; where
+/// there
 /// is none, that of all (LIS01-A2, 6.3.1 and 6.5).
 pub fn text_and_sum(bytes: &[u8]) -> (Option<usize>, u8)
     ensures first { result.0 ≡ first_forbidden bytes.now }

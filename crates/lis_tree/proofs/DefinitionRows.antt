@@ -23,7 +23,8 @@ whole_message_is_closed : level_after outside (kinds.H ∷ kinds.P ∷ kinds.O �
 whole_message_is_closed = refl
 
 -- a seventh record, L again
-second_closing : misplaced (level_after outside (kinds.H ∷ kinds.P ∷ kinds.O ∷ kinds.R ∷ kinds.C ∷ kinds.L ∷ [])) kinds.L ≡ Some reasons.NotHeader
+second_closing : misplaced (level_after outside (kinds.H ∷ kinds.P ∷ kinds.O ∷ kinds.R ∷ kinds.C ∷ kinds.L ∷ []))
+    kinds.L ≡ Some reasons.NotHeader
 second_closing = refl
 
 -- the order should have number 1; with 2 it is found, with 01 it isn't
@@ -33,6 +34,7 @@ order_with_number_two :
 unfolding header patient with_number
 order_with_number_two = refl
 
-order_with_a_leading_zero : findings_from [] 1 (header ∷ patient ∷ with_number kinds.O (Char 0x30 ∷ Char 0x31 ∷ []) ∷ []) ≡ []
+order_with_a_leading_zero : findings_from [] 1
+    (header ∷ patient ∷ with_number kinds.O (Char 0x30 ∷ Char 0x31 ∷ []) ∷ []) ≡ []
 unfolding header patient with_number
 order_with_a_leading_zero = refl

@@ -8,7 +8,8 @@ use Rattle.lis_field.specs.Shape.{RecordContent}
 use Rattle.lis_tree.specs.Nodes.{Noted, OrderTree, PatientTree}
 use Rattle.lis_tree.specs.declared.tree.Group.{Group}
 use Rattle.lis_tree.specs.declared.tree.Group.TheVariants as groups
-use Rattle.lis_tree.specs.Tree.{MessageTree, noted_records, order_records, patient_records, group_records, flatten, IsNote, AreNotes, IsNoted, IsOrder, IsPatient, IsGroup, IsTree}
+use Rattle.lis_tree.specs.Tree.{MessageTree, noted_records, order_records, patient_records, group_records, flatten}
+use Rattle.lis_tree.specs.Tree.{IsNote, AreNotes, IsNoted, IsOrder, IsPatient, IsGroup, IsTree}
 
 -- each record's kind passes a test
 abbrev Pass : (Kind → Bool) → List RecordContent → Type 0
@@ -23,7 +24,8 @@ not_both : (b : Bool) → b ≡ true → b ≡ false → ⊥
 not_both b t f = let e : true ≡ false = sym t ∙ f in cc
 
 -- two lists that begin with records that pass, up to one that fails, begin alike
-span_one : (p : Kind → Bool) (xs ys r s : List RecordContent) → Pass p xs → Pass p ys → Stops p r → Stops p s → xs ++ r ≡ ys ++ s → (xs ≡ ys) × (r ≡ s)
+span_one : (p : Kind → Bool) (xs ys r s : List RecordContent) → Pass p xs → Pass p ys → Stops p r → Stops p s
+    → xs ++ r ≡ ys ++ s → (xs ≡ ys) × (r ≡ s)
 span_one p [] [] r s ax ay sr ss e = (refl, e)
 span_one p [] (y ∷ ys) [] s ax ay sr ss e = absurd cc
 span_one p [] (y ∷ ys) (a ∷ r) s ax ay sr ss e =
@@ -45,13 +47,15 @@ record IsPiece (p : Kind → Bool) (records : List RecordContent) : Type 0 where
   fails : p head.kind ≡ false
   passes : Pass p tail
 
-module _ {X : Type 0} (p : Kind → Bool) (f : X → List RecordContent) (Is : X → Type 0) (piece : (x : X) → Is x → IsPiece p (f x)) (one : (x y : X) → Is x → Is y → f x ≡ f y → x ≡ y) where
+module _ {X : Type 0} (p : Kind → Bool) (f : X → List RecordContent) (Is : X → Type 0)
+    (piece : (x : X) → Is x → IsPiece p (f x)) (one : (x y : X) → Is x → Is y → f x ≡ f y → x ≡ y) where
   pieces_stop : (xs : List X) → AllByRecursion Is xs → Stops p (flat_map f xs)
   pieces_stop [] a = tt
   pieces_stop (x ∷ xs) a =
       let h = piece x a.0 in subst (λ l. Stops p (l ++ flat_map f xs)) (sym h.whole) h.fails
 
-  starts : (x : X) (rest : List RecordContent) (is : Is x) → f x ++ rest ≡ (piece x is).head ∷ ((piece x is).tail ++ rest)
+  starts : (x : X) (rest : List RecordContent) (is : Is x)
+      → f x ++ rest ≡ (piece x is).head ∷ ((piece x is).tail ++ rest)
   starts x rest is = ap (λ l. l ++ rest) (piece x is).whole
 
   -- the same records make the same pieces
@@ -66,7 +70,8 @@ module _ {X : Type 0} (p : Kind → Bool) (f : X → List RecordContent) (Is : X
       sym (starts x (flat_map f xs) ax.0) ∙ e ∙ starts y (flat_map f ys) ay.0 in
       let heads : a.head ≡ b.head = cc in
       let behind : a.tail ++ flat_map f xs ≡ b.tail ++ flat_map f ys = cc in
-      let both = span_one p a.tail b.tail (flat_map f xs) (flat_map f ys) a.passes b.passes (pieces_stop xs ax.1) (pieces_stop ys ay.1) behind in
+      let both = span_one p a.tail b.tail (flat_map f xs) (flat_map f ys) a.passes b.passes (pieces_stop xs ax.1)
+      (pieces_stop ys ay.1) behind in
       let tails : a.tail ≡ b.tail = both.0 in
       let same : f x ≡ f y = a.whole ∙ (let w : a.head ∷ a.tail ≡ b.head ∷ b.tail = cc in w) ∙ sym b.whole in
       let first : x ≡ y = one x y ax.0 ay.0 same in
@@ -121,7 +126,14 @@ kind_as p r k b e h = ap p e ∙ h
 -- ---- results
 
 result_piece : (n : Noted) → IsNoted kinds.R n → IsPiece in_noted (noted_records n)
-result_piece n is = record { head = n.head; tail = n.notes; whole = refl; fails = kind_as in_noted n.head kinds.R false is.head refl; passes = notes_noted n.notes is.notes }
+result_piece n is = record {
+  head = n.head;
+  tail = n.notes;
+  whole = refl;
+  fails =
+      kind_as in_noted n.head kinds.R false is.head refl;
+  passes = notes_noted n.notes is.notes;
+}
 
 noted_one : (k : Kind) (a b : Noted) → IsNoted k a → IsNoted k b → noted_records a ≡ noted_records b → a ≡ b
 noted_one k a b ia ib e =
@@ -130,7 +142,8 @@ noted_one k a b ia ib e =
     let make : RecordContent → List RecordContent → Noted = λ h n. record { head = h; notes = n } in
     ap (λ h. make h a.notes) heads ∙ ap (make b.head) notes
 
-results_one : (xs ys : List Noted) → AllByRecursion (IsNoted kinds.R) xs → AllByRecursion (IsNoted kinds.R) ys → flat_map noted_records xs ≡ flat_map noted_records ys → xs ≡ ys
+results_one : (xs ys : List Noted) → AllByRecursion (IsNoted kinds.R) xs → AllByRecursion (IsNoted kinds.R) ys
+    → flat_map noted_records xs ≡ flat_map noted_records ys → xs ≡ ys
 results_one = pieces_one in_noted noted_records (IsNoted kinds.R) result_piece (noted_one kinds.R)
 
 results_stop : (xs : List Noted) → AllByRecursion (IsNoted kinds.R) xs → Stops in_noted (flat_map noted_records xs)
@@ -158,7 +171,8 @@ order_piece o is = record {
   tail = o.notes ++ flat_map noted_records o.results;
   whole = refl;
   fails = kind_as below_order o.head kinds.O false is.head refl;
-  passes = pass_append below_order o.notes (flat_map noted_records o.results) (notes_order o.notes is.notes) (results_pass o.results is.results);
+  passes = pass_append below_order o.notes (flat_map noted_records o.results) (notes_order o.notes is.notes)
+      (results_pass o.results is.results);
 }
 
 order_one : (a b : OrderTree) → IsOrder a → IsOrder b → order_records a ≡ order_records b → a ≡ b
@@ -166,12 +180,16 @@ order_one a b ia ib e =
     let heads : a.head ≡ b.head = cc in
     let behind : a.notes ++ flat_map noted_records a.results ≡ b.notes ++ flat_map noted_records b.results = cc in
     let both = span_one in_noted a.notes b.notes (flat_map noted_records a.results) (flat_map noted_records b.results)
-    (notes_noted a.notes ia.notes) (notes_noted b.notes ib.notes) (results_stop a.results ia.results) (results_stop b.results ib.results) behind in
+    (notes_noted a.notes ia.notes) (notes_noted b.notes ib.notes) (results_stop a.results ia.results)
+    (results_stop b.results ib.results) behind in
     let results = results_one a.results b.results ia.results ib.results both.1 in
-    let make : RecordContent → List RecordContent → List Noted → OrderTree = λ h n r. record { head = h; notes = n; results = r } in
-    ap (λ h. make h a.notes a.results) heads ∙ ap (λ n. make b.head n a.results) both.0 ∙ ap (make b.head b.notes) results
+    let make : RecordContent → List RecordContent → List Noted → OrderTree =
+    λ h n r. record { head = h; notes = n; results = r } in
+    ap (λ h. make h a.notes a.results) heads ∙ ap (λ n. make b.head n a.results) both.0
+    ∙ ap (make b.head b.notes) results
 
-orders_one : (xs ys : List OrderTree) → AllByRecursion IsOrder xs → AllByRecursion IsOrder ys → flat_map order_records xs ≡ flat_map order_records ys → xs ≡ ys
+orders_one : (xs ys : List OrderTree) → AllByRecursion IsOrder xs → AllByRecursion IsOrder ys
+    → flat_map order_records xs ≡ flat_map order_records ys → xs ≡ ys
 orders_one = pieces_one below_order order_records IsOrder order_piece order_one
 
 order_stops : (xs : List OrderTree) → AllByRecursion IsOrder xs → Stops in_noted (flat_map order_records xs)
@@ -195,18 +213,28 @@ group_piece (groups.Patient p) is = record {
   tail = p.notes ++ flat_map order_records p.orders;
   whole = refl;
   fails = kind_as below_group p.head kinds.P false is.head refl;
-  passes = pass_append below_group p.notes (flat_map order_records p.orders) (notes_group p.notes is.notes) (orders_pass p.orders is.orders);
+  passes = pass_append below_group p.notes (flat_map order_records p.orders) (notes_group p.notes is.notes)
+      (orders_pass p.orders is.orders);
 }
-group_piece (groups.Query q) is = record { head = q.head; tail = q.notes; whole = refl; fails = kind_as below_group q.head kinds.Q false is.head refl; passes = notes_group q.notes is.notes }
+group_piece (groups.Query q) is = record {
+  head = q.head;
+  tail = q.notes;
+  whole = refl;
+  fails =
+      kind_as below_group q.head kinds.Q false is.head refl;
+  passes = notes_group q.notes is.notes;
+}
 
 patient_one : (a b : PatientTree) → IsPatient a → IsPatient b → patient_records a ≡ patient_records b → a ≡ b
 patient_one a b ia ib e =
     let heads : a.head ≡ b.head = cc in
     let behind : a.notes ++ flat_map order_records a.orders ≡ b.notes ++ flat_map order_records b.orders = cc in
     let both = span_one in_noted a.notes b.notes (flat_map order_records a.orders) (flat_map order_records b.orders)
-    (notes_noted a.notes ia.notes) (notes_noted b.notes ib.notes) (order_stops a.orders ia.orders) (order_stops b.orders ib.orders) behind in
+    (notes_noted a.notes ia.notes) (notes_noted b.notes ib.notes) (order_stops a.orders ia.orders)
+    (order_stops b.orders ib.orders) behind in
     let orders = orders_one a.orders b.orders ia.orders ib.orders both.1 in
-    let make : RecordContent → List RecordContent → List OrderTree → PatientTree = λ h n r. record { head = h; notes = n; orders = r } in
+    let make : RecordContent → List RecordContent → List OrderTree → PatientTree =
+    λ h n r. record { head = h; notes = n; orders = r } in
     ap (λ h. make h a.notes a.orders) heads ∙ ap (λ n. make b.head n a.orders) both.0 ∙ ap (make b.head b.notes) orders
 
 different_kinds : (a b : RecordContent) → a ≡ b → a.kind ≡ kinds.P → b.kind ≡ kinds.Q → ⊥
@@ -215,10 +243,13 @@ different_kinds a b e p q = let k : kinds.P ≡ kinds.Q = sym p ∙ ap (λ (r : 
 group_one : (a b : Group) → IsGroup a → IsGroup b → group_records a ≡ group_records b → a ≡ b
 group_one (groups.Patient p) (groups.Patient q) ia ib e = ap groups.Patient (patient_one p q ia ib e)
 group_one (groups.Query p) (groups.Query q) ia ib e = ap groups.Query (noted_one kinds.Q p q ia ib e)
-group_one (groups.Patient p) (groups.Query q) ia ib e = let h : p.head ≡ q.head = cc in absurd (different_kinds p.head q.head h ia.head ib.head)
-group_one (groups.Query p) (groups.Patient q) ia ib e = let h : q.head ≡ p.head = cc in absurd (different_kinds q.head p.head h ib.head ia.head)
+group_one (groups.Patient p) (groups.Query q) ia ib e = let h : p.head ≡ q.head = cc in
+    absurd (different_kinds p.head q.head h ia.head ib.head)
+group_one (groups.Query p) (groups.Patient q) ia ib e = let h : q.head ≡ p.head = cc in
+    absurd (different_kinds q.head p.head h ib.head ia.head)
 
-groups_one : (xs ys : List Group) → AllByRecursion IsGroup xs → AllByRecursion IsGroup ys → flat_map group_records xs ≡ flat_map group_records ys → xs ≡ ys
+groups_one : (xs ys : List Group) → AllByRecursion IsGroup xs → AllByRecursion IsGroup ys
+    → flat_map group_records xs ≡ flat_map group_records ys → xs ≡ ys
 groups_one = pieces_one below_group group_records IsGroup group_piece group_one
 
 groups_stop : (xs : List Group) → AllByRecursion IsGroup xs → Stops in_noted (flat_map group_records xs)
@@ -242,16 +273,21 @@ snoc_one (a ∷ xs) (b ∷ ys) x y e =
     (let one : xs ≡ ys = both.0 in cc, both.1)
 
 -- the records of a message and its delimiters determine it
-pub flatten_one : (a b : MessageTree) → IsTree a → IsTree b → a.delimiters ≡ b.delimiters → flatten a ≡ flatten b → a ≡ b
+pub flatten_one : (a b : MessageTree) → IsTree a → IsTree b → a.delimiters ≡ b.delimiters → flatten a ≡ flatten b
+    → a ≡ b
 flatten_one a b ia ib marks e =
-    let ends = snoc_one ((a.header ∷ a.notes) ++ flat_map group_records a.groups) ((b.header ∷ b.notes) ++ flat_map group_records b.groups) a.closing b.closing e in
-    let front : a.header ∷ (a.notes ++ flat_map group_records a.groups) ≡ b.header ∷ (b.notes ++ flat_map group_records b.groups) = ends.0 in
+    let ends = snoc_one ((a.header ∷ a.notes) ++ flat_map group_records a.groups)
+    ((b.header ∷ b.notes) ++ flat_map group_records b.groups) a.closing b.closing e in
+    let front : a.header ∷ (a.notes ++ flat_map group_records a.groups) ≡ b.header
+    ∷ (b.notes ++ flat_map group_records b.groups) = ends.0 in
     let heads : a.header ≡ b.header = cc in
     let behind : a.notes ++ flat_map group_records a.groups ≡ b.notes ++ flat_map group_records b.groups = cc in
     let both = span_one in_noted a.notes b.notes (flat_map group_records a.groups) (flat_map group_records b.groups)
-    (notes_noted a.notes ia.notes) (notes_noted b.notes ib.notes) (groups_stop a.groups ia.groups) (groups_stop b.groups ib.groups) behind in
+    (notes_noted a.notes ia.notes) (notes_noted b.notes ib.notes) (groups_stop a.groups ia.groups)
+    (groups_stop b.groups ib.groups) behind in
     let groups = groups_one a.groups b.groups ia.groups ib.groups both.1 in
-    let make : DelimiterBytes → RecordContent → List RecordContent → List Group → RecordContent → MessageTree = λ d h n g c. record { delimiters = d; header = h; notes = n; groups = g; closing = c } in
+    let make : DelimiterBytes → RecordContent → List RecordContent → List Group → RecordContent → MessageTree =
+    λ d h n g c. record { delimiters = d; header = h; notes = n; groups = g; closing = c } in
     ap (λ d. make d a.header a.notes a.groups a.closing) marks
     ∙ ap (λ h. make b.delimiters h a.notes a.groups a.closing) heads
     ∙ ap (λ n. make b.delimiters b.header n a.groups a.closing) both.0

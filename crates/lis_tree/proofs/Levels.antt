@@ -10,8 +10,10 @@ use Rattle.lis_tree.specs.declared.tree.Group.{Group}
 use Rattle.lis_tree.specs.declared.tree.Group.TheVariants as groups
 use Rattle.lis_tree.specs.declared.spine.Spine.{Spine}
 use Rattle.lis_tree.specs.declared.spine.Spine.TheVariants as spines
-use Rattle.lis_tree.specs.Level.{Level, outside, in_header, in_patient, in_order, in_query, closed, next_level, level_after, misplaced, StandsFrom, kinds_of}
-use Rattle.lis_tree.specs.Tree.{MessageTree, noted_records, order_records, patient_records, group_records, IsNote, AreNotes, IsNoted, IsOrder, IsPatient, IsGroup, IsTree}
+use Rattle.lis_tree.specs.Level.{Level, outside, in_header, in_patient, in_order, in_query, closed, next_level}
+use Rattle.lis_tree.specs.Level.{level_after, misplaced, StandsFrom, kinds_of}
+use Rattle.lis_tree.specs.Tree.{MessageTree, noted_records, order_records, patient_records, group_records, IsNote}
+use Rattle.lis_tree.specs.Tree.{AreNotes, IsNoted, IsOrder, IsPatient, IsGroup, IsTree}
 use Rattle.lis_tree.specs.inside.Spine.{front_records, spine_records, spine_level, IsFront, IsSpine}
 
 -- a run of kinds that all stand, and where it leads
@@ -30,7 +32,8 @@ pub level_append : (l : Level) (xs ys : List Kind) → level_after l (xs ++ ys) 
 level_append l [] ys = refl
 level_append l (x ∷ xs) ys = level_append (next_level l x) xs ys
 
-pub stands_append : (l : Level) (xs ys : List Kind) → StandsFrom l xs → StandsFrom (level_after l xs) ys → StandsFrom l (xs ++ ys)
+pub stands_append : (l : Level) (xs ys : List Kind) → StandsFrom l xs → StandsFrom (level_after l xs) ys
+    → StandsFrom l (xs ++ ys)
 stands_append l [] ys p q = q
 stands_append l (x ∷ xs) ys p q = (p.0, stands_append (next_level l x) xs ys p.1 q)
 
@@ -49,7 +52,8 @@ leads_kinds a b c xs ys p q = record {
 }
 
 pub leads_then : (a b c : Level) (xs ys : List RecordContent) → LeadsBy a xs b → LeadsBy b ys c → LeadsBy a (xs ++ ys) c
-leads_then a b c xs ys p q = subst (λ ks. Leads a ks c) (sym (map_append xs ys)) (leads_kinds a b c (kinds_of xs) (kinds_of ys) p q)
+leads_then a b c xs ys p q = subst (λ ks. Leads a ks c) (sym (map_append xs ys))
+    (leads_kinds a b c (kinds_of xs) (kinds_of ys) p q)
 
 -- inside a message a note stands anywhere
 pub data IsInside : Level → Type 0 where
@@ -108,7 +112,8 @@ notes_lead l (x ∷ xs) i n =
       arrives = ap (λ m. level_after m (kinds_of xs)) s.1 ∙ rest.arrives;
     }
 
-head_leads : (l : Level) (head : RecordContent) (notes : List RecordContent) (k : Kind) (to : Level) → head.kind ≡ k → misplaced l k ≡ None → next_level l k ≡ to → IsInside to → AreNotes notes → LeadsBy l (head ∷ notes) to
+head_leads : (l : Level) (head : RecordContent) (notes : List RecordContent) (k : Kind) (to : Level) → head.kind ≡ k
+    → misplaced l k ≡ None → next_level l k ≡ to → IsInside to → AreNotes notes → LeadsBy l (head ∷ notes) to
 head_leads l head notes k to is placed goes inside notes_are =
     let rest = notes_lead to notes inside notes_are in
     let goes' : next_level l head.kind ≡ to = ap (next_level l) is ∙ goes in
@@ -117,15 +122,19 @@ head_leads l head notes k to is placed goes inside notes_are =
       arrives = ap (λ m. level_after m (kinds_of notes)) goes' ∙ rest.arrives;
     }
 
-pub noted_leads : (l : Level) (n : Noted) (k : Kind) (to : Level) → IsNoted k n → misplaced l k ≡ None → next_level l k ≡ to → IsInside to → LeadsBy l (noted_records n) to
+pub noted_leads : (l : Level) (n : Noted) (k : Kind) (to : Level) → IsNoted k n → misplaced l k ≡ None
+    → next_level l k ≡ to → IsInside to → LeadsBy l (noted_records n) to
 noted_leads l n k to is placed goes inside = head_leads l n.head n.notes k to is.head placed goes inside is.notes
 
-results_lead : (rs : List Noted) → AllByRecursion (IsNoted kinds.R) rs → LeadsBy in_order (flat_map noted_records rs) in_order
+results_lead : (rs : List Noted) → AllByRecursion (IsNoted kinds.R) rs
+    → LeadsBy in_order (flat_map noted_records rs) in_order
 results_lead [] a = record { stands = tt; arrives = refl }
 results_lead (r ∷ rs) a =
-    leads_then in_order in_order in_order (noted_records r) (flat_map noted_records rs) (noted_leads in_order r kinds.R in_order a.0 refl refl order) (results_lead rs a.1)
+    leads_then in_order in_order in_order (noted_records r) (flat_map noted_records rs)
+    (noted_leads in_order r kinds.R in_order a.0 refl refl order) (results_lead rs a.1)
 
-pub order_leads : (l : Level) (o : OrderTree) → IsOrder o → misplaced l kinds.O ≡ None → LeadsBy l (order_records o) in_order
+pub order_leads : (l : Level) (o : OrderTree) → IsOrder o → misplaced l kinds.O ≡ None
+    → LeadsBy l (order_records o) in_order
 order_leads l o is placed =
     leads_then l in_order in_order (o.head ∷ o.notes) (flat_map noted_records o.results)
     (head_leads l o.head o.notes kinds.O in_order is.head placed refl order is.notes)
@@ -144,13 +153,19 @@ takes_order in_query u = elim u [ ]
 takes_order outside u = elim u [ ]
 takes_order closed u = elim u [ ]
 
-orders_lead : (l : Level) (os : List OrderTree) → IsUnderPatient l → AllByRecursion IsOrder os → (to : Level) × IsUnderPatient to × LeadsBy l (flat_map order_records os) to
+orders_lead : (l : Level) (os : List OrderTree) → IsUnderPatient l → AllByRecursion IsOrder os → (to : Level)
+    × IsUnderPatient to × LeadsBy l (flat_map order_records os) to
 orders_lead l [] u a = (l, u, record { stands = tt; arrives = refl })
 orders_lead l (o ∷ os) u a =
-    let rest = orders_lead in_order os later a.1 in
-    (rest.0, rest.1, leads_then l in_order rest.0 (order_records o) (flat_map order_records os) (order_leads l o a.0 (takes_order l u)) rest.2)
+    let rest = orders_lead in_order os later a.1 in (
+      rest.0,
+      rest.1,
+      leads_then l in_order rest.0 (order_records o) (flat_map order_records os)
+          (order_leads l o a.0 (takes_order l u)) rest.2,
+    )
 
-pub patient_leads : (l : Level) (p : PatientTree) → IsPatient p → misplaced l kinds.P ≡ None → (to : Level) × IsUnderPatient to × LeadsBy l (patient_records p) to
+pub patient_leads : (l : Level) (p : PatientTree) → IsPatient p → misplaced l kinds.P ≡ None → (to : Level)
+    × IsUnderPatient to × LeadsBy l (patient_records p) to
 patient_leads l p is placed =
     let rest = orders_lead in_patient p.orders first is.orders in (
       rest.0,
@@ -168,7 +183,8 @@ inside_under outside u = elim u [ ]
 inside_under closed u = elim u [ ]
 
 -- inside a message a patient, a query and the closing record stand anywhere
-pub inside_takes : (l : Level) → IsInside l → (misplaced l kinds.P ≡ None) × (misplaced l kinds.Q ≡ None) × (misplaced l kinds.L ≡ None)
+pub inside_takes : (l : Level) → IsInside l → (misplaced l kinds.P ≡ None) × (misplaced l kinds.Q ≡ None)
+    × (misplaced l kinds.L ≡ None)
 inside_takes in_header i = (refl, refl, refl)
 inside_takes in_patient i = (refl, refl, refl)
 inside_takes in_order i = (refl, refl, refl)
@@ -176,13 +192,15 @@ inside_takes in_query i = (refl, refl, refl)
 inside_takes outside i = elim i [ ]
 inside_takes closed i = elim i [ ]
 
-group_leads : (l : Level) (g : Group) → IsInside l → IsGroup g → (to : Level) × IsInside to × LeadsBy l (group_records g) to
+group_leads : (l : Level) (g : Group) → IsInside l → IsGroup g → (to : Level) × IsInside to
+    × LeadsBy l (group_records g) to
 group_leads l (groups.Patient p) i is =
     let r = patient_leads l p is (inside_takes l i).0 in (r.0, inside_under r.0 r.1, r.2)
 group_leads l (groups.Query q) i is =
     (in_query, query, noted_leads l q kinds.Q in_query is (inside_takes l i).1 refl query)
 
-pub groups_lead : (l : Level) (gs : List Group) → IsInside l → AllByRecursion IsGroup gs → (to : Level) × IsInside to × LeadsBy l (flat_map group_records gs) to
+pub groups_lead : (l : Level) (gs : List Group) → IsInside l → AllByRecursion IsGroup gs → (to : Level) × IsInside to
+    × LeadsBy l (flat_map group_records gs) to
 groups_lead l [] i a = (l, i, record { stands = tt; arrives = refl })
 groups_lead l (g ∷ gs) i a =
     let here = group_leads l g i a.0 in
@@ -225,7 +243,8 @@ spine_leads (spines.Entry f p o item) is =
     (noted_leads in_order item kinds.R in_order is.3 refl refl order)
 
 -- the records of a whole message stand, and lead to its end
-pub tree_leads : (m : MessageTree) → IsTree m → (to : Level) × IsInside to × LeadsBy outside ((m.header ∷ m.notes) ++ flat_map group_records m.groups) to
+pub tree_leads : (m : MessageTree) → IsTree m → (to : Level) × IsInside to
+    × LeadsBy outside ((m.header ∷ m.notes) ++ flat_map group_records m.groups) to
 tree_leads m is =
     let rest = groups_lead in_header m.groups header is.groups in (
       rest.0,
@@ -248,11 +267,14 @@ next_unclosed l kinds.M u o e = u e
 next_unclosed l kinds.S u o e = u e
 next_unclosed l kinds.L u o e = o refl
 
-pub level_more : (rs : List RecordContent) (r : RecordContent) → level_after outside (kinds_of (rs ++ r ∷ [])) ≡ next_level (level_after outside (kinds_of rs)) r.kind
+pub level_more : (rs : List RecordContent) (r : RecordContent)
+    → level_after outside (kinds_of (rs ++ r ∷ [])) ≡ next_level (level_after outside (kinds_of rs)) r.kind
 level_more rs r = ap (level_after outside) (map_append rs (r ∷ [])) ∙ level_append outside (kinds_of rs) (r.kind ∷ [])
 
-pub stands_more : (rs : List RecordContent) (r : RecordContent) → StandsFrom outside (kinds_of rs) → misplaced (level_after outside (kinds_of rs)) r.kind ≡ None → StandsFrom outside (kinds_of (rs ++ r ∷ []))
-stands_more rs r p q = subst (StandsFrom outside) (sym (map_append rs (r ∷ []))) (stands_append outside (kinds_of rs) (r.kind ∷ []) p (q, tt))
+pub stands_more : (rs : List RecordContent) (r : RecordContent) → StandsFrom outside (kinds_of rs)
+    → misplaced (level_after outside (kinds_of rs)) r.kind ≡ None → StandsFrom outside (kinds_of (rs ++ r ∷ []))
+stands_more rs r p q = subst (StandsFrom outside) (sym (map_append rs (r ∷ [])))
+    (stands_append outside (kinds_of rs) (r.kind ∷ []) p (q, tt))
 
 -- ---- where a record of a kind may stand
 
@@ -280,7 +302,8 @@ header_first kinds.S e = absurd cc
 header_first kinds.L e = absurd cc
 
 -- the first record of a run that doesn't end a message doesn't end it
-pub unclosed_first : (l : Level) (k : Kind) (ks : List Kind) → StandsFrom l (k ∷ ks) → level_after l (k ∷ ks) ≢ closed → k ≢ kinds.L
+pub unclosed_first : (l : Level) (k : Kind) (ks : List Kind) → StandsFrom l (k ∷ ks) → level_after l (k ∷ ks) ≢ closed
+    → k ≢ kinds.L
 unclosed_first l k [] p u e = u (ap (next_level l) e)
 unclosed_first l k (j ∷ ks) p u e =
     nothing_closed j (subst (λ m. misplaced m j ≡ None) (ap (next_level l) e) p.1.0)
@@ -289,7 +312,8 @@ unclosed_first l k (j ∷ ks) p u e =
 pub other_kind : (l : Level) (k : Kind) → l ≢ outside → misplaced l k ≡ None → k ≢ kinds.H
 other_kind outside k o p e = o refl
 other_kind in_header k o p e = let h : misplaced in_header kinds.H ≡ None = ap (misplaced in_header) (sym e) ∙ p in cc
-other_kind in_patient k o p e = let h : misplaced in_patient kinds.H ≡ None = ap (misplaced in_patient) (sym e) ∙ p in cc
+other_kind in_patient k o p e = let h : misplaced in_patient kinds.H ≡ None = ap (misplaced in_patient) (sym e) ∙ p in
+    cc
 other_kind in_order k o p e = let h : misplaced in_order kinds.H ≡ None = ap (misplaced in_order) (sym e) ∙ p in cc
 other_kind in_query k o p e = let h : misplaced in_query kinds.H ≡ None = ap (misplaced in_query) (sym e) ∙ p in cc
 other_kind closed k o p e = nothing_closed k p

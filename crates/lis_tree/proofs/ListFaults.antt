@@ -1,5 +1,6 @@
 -- What goes on while the records of a list are taken, and why no message is made of them.
-use Rattle.std.proofs.Common.{◌≡◌, ◌≢◌, suc, ◌+◌, List, [], ◌∷◌, ◌++◌, length, Option, Some, None, ◌⊎◌, inl, inr, ⊎_elim, refl, sym, ◌∙◌, ap, subst, append_assoc, arith, length-append}
+use Rattle.std.proofs.Common.{◌≡◌, ◌≢◌, suc, ◌+◌, List, [], ◌∷◌, ◌++◌, length, Option, Some, None, ◌⊎◌, inl, inr}
+use Rattle.std.proofs.Common.{⊎_elim, refl, sym, ◌∙◌, ap, subst, append_assoc, arith, length-append}
 use Rattle.std.specs.List.{flat_map}
 use Rattle.std.specs.Option.{option_to_list}
 use Rattle.std.specs.Prelude.{MatchOption}
@@ -15,10 +16,12 @@ use Rattle.lis_tree.specs.Level.{Level, outside, closed, next_level, level_after
 use Rattle.lis_tree.specs.Places.{capped}
 use Rattle.lis_tree.specs.ListFaults.{IsListFault, IsMisplacedAt, IsUnclosed}
 use Rattle.lis_tree.specs.Tree.{MessageTree, IsTree, flatten, group_records}
-use Rattle.lis_tree.proofs.Levels.{map_append, stands_back, tree_leads, inside_takes, next_unclosed, level_more, stands_more}
+use Rattle.lis_tree.proofs.Levels.{map_append, stands_back, tree_leads, inside_takes, next_unclosed, level_more}
+use Rattle.lis_tree.proofs.Levels.{stands_more}
 
 -- the open message has the first records of the list, and these are left
-pub record IsSoFar (delimiters : DelimiterBytes) (records : List RecordContent) (begun : Begun) (rest : List RecordContent) : Type 0 where
+pub record IsSoFar (delimiters : DelimiterBytes) (records : List RecordContent) (begun : Begun)
+    (rest : List RecordContent) : Type 0 where
   pub marks : begun.delimiters ≡ delimiters
   pub whole : records ≡ begun.records ++ rest
   pub placed : StandsFrom outside (kinds_of begun.records)
@@ -28,32 +31,48 @@ header_unclosed : (k : Kind) → k ≡ kinds.H → next_level outside k ≢ clos
 header_unclosed k h e = let f : next_level outside kinds.H ≡ closed = ap (next_level outside) (sym h) ∙ e in cc
 
 -- at the header
-pub so_far_header : (d : DelimiterBytes) (records : List RecordContent) (begun : Begun) (header : RecordContent) (rest : List RecordContent) → header.kind ≡ kinds.H → begun ≡ record { delimiters = d; records = header ∷ [] } → records ≡ header ∷ rest
+pub so_far_header : (d : DelimiterBytes) (records : List RecordContent) (begun : Begun) (header : RecordContent)
+    (rest : List RecordContent) → header.kind ≡ kinds.H → begun ≡ record { delimiters = d; records = header ∷ [] }
+    → records ≡ header ∷ rest
     → IsSoFar d records begun rest
 so_far_header d records begun header rest kind is whole =
-    subst (λ (b : Begun). IsSoFar d records b rest) (sym is) (record { marks = refl; whole = whole; placed = (ap (misplaced outside) kind, tt); unclosed = header_unclosed header.kind kind })
+    subst (λ (b : Begun). IsSoFar d records b rest) (sym is)
+    (record {
+      marks = refl;
+      whole = whole;
+      placed = (ap (misplaced outside) kind, tt);
+      unclosed = header_unclosed
+          header.kind kind;
+    })
 
 -- at a further record
-pub so_far_more : (d : DelimiterBytes) (records : List RecordContent) (begun next : Begun) (r : RecordContent) (rest later : List RecordContent) → IsSoFar d records begun rest → rest ≡ r ∷ later
-    → misplaced (level_of (Some begun)) r.kind ≡ None → r.kind ≢ kinds.L → next ≡ record { delimiters = begun.delimiters; records = begun.records ++ r ∷ [] } → IsSoFar d records next later
+pub so_far_more : (d : DelimiterBytes) (records : List RecordContent) (begun next : Begun) (r : RecordContent)
+    (rest later : List RecordContent) → IsSoFar d records begun rest → rest ≡ r ∷ later
+    → misplaced (level_of (Some begun)) r.kind ≡ None → r.kind ≢ kinds.L
+    → next ≡ record { delimiters = begun.delimiters; records = begun.records ++ r ∷ [] }
+    → IsSoFar d records next later
 so_far_more d records begun next r rest later s is placed other becomes =
     subst (λ (b : Begun). IsSoFar d records b later) (sym becomes) (record {
       marks = s.marks;
       whole = s.whole ∙ ap (λ l. begun.records ++ l) is ∙ sym (append_assoc begun.records (r ∷ []) later);
       placed = stands_more begun.records r s.placed placed;
-      unclosed = subst (λ l. l ≢ closed) (sym (level_more begun.records r)) (next_unclosed (level_of (Some begun)) r.kind s.unclosed other);
+      unclosed = subst (λ l. l ≢ closed) (sym (level_more begun.records r))
+          (next_unclosed (level_of (Some begun)) r.kind s.unclosed other);
     })
 
 kinds_length : (rs : List RecordContent) → length (kinds_of rs) ≡ length rs
 kinds_length [] = refl
 kinds_length (r ∷ rs) = ap suc (kinds_length rs)
 
-kinds_whole : (records before : List RecordContent) (r : RecordContent) (later : List RecordContent) → records ≡ before ++ r ∷ later → kinds_of records ≡ kinds_of before ++ r.kind ∷ kinds_of later
+kinds_whole : (records before : List RecordContent) (r : RecordContent) (later : List RecordContent)
+    → records ≡ before ++ r ∷ later → kinds_of records ≡ kinds_of before ++ r.kind ∷ kinds_of later
 kinds_whole records before r later e = ap kinds_of e ∙ map_append before (r ∷ later)
 
 -- a record that can't stand there
-pub misplaced_fault : (d : DelimiterBytes) (records : List RecordContent) (begun : Begun) (r : RecordContent) (rest later : List RecordContent) (fault : MessageFault) → IsSoFar d records begun rest → rest ≡ r ∷ later
-    → misplaced (level_of (Some begun)) r.kind ≡ Some fault.reason → fault.place ≡ capped (length begun.records + 1) → IsListFault (kinds_of records) fault
+pub misplaced_fault : (d : DelimiterBytes) (records : List RecordContent) (begun : Begun) (r : RecordContent)
+    (rest later : List RecordContent) (fault : MessageFault) → IsSoFar d records begun rest → rest ≡ r ∷ later
+    → misplaced (level_of (Some begun)) r.kind ≡ Some fault.reason → fault.place ≡ capped (length begun.records + 1)
+    → IsListFault (kinds_of records) fault
 misplaced_fault d records begun r rest later fault s is why place = inl (record {
   before = kinds_of begun.records;
   kind = r.kind;
@@ -68,24 +87,32 @@ closes : (l : Level) (k : Kind) → k ≡ kinds.L → next_level l k ≡ closed
 closes l k e = ap (next_level l) e
 
 -- a record behind the closing one
-pub extra_fault : (d : DelimiterBytes) (records : List RecordContent) (begun : Begun) (closing extra : RecordContent) (rest later : List RecordContent) (fault : MessageFault) → IsSoFar d records begun rest → rest ≡ closing ∷ extra ∷ later
-    → closing.kind ≡ kinds.L → misplaced (level_of (Some begun)) closing.kind ≡ None → misplaced closed extra.kind ≡ Some fault.reason → fault.place ≡ capped (length begun.records + 2) → IsListFault (kinds_of records) fault
+pub extra_fault : (d : DelimiterBytes) (records : List RecordContent) (begun : Begun) (closing extra : RecordContent)
+    (rest later : List RecordContent) (fault : MessageFault) → IsSoFar d records begun rest
+    → rest ≡ closing ∷ extra ∷ later
+    → closing.kind ≡ kinds.L → misplaced (level_of (Some begun)) closing.kind ≡ None
+    → misplaced closed extra.kind ≡ Some fault.reason → fault.place ≡ capped (length begun.records + 2)
+    → IsListFault (kinds_of records) fault
 extra_fault d records begun closing extra rest later fault s is kind placed why place =
     let all = begun.records ++ closing ∷ [] in
-    let level : level_after outside (kinds_of all) ≡ closed = level_more begun.records closing ∙ closes (level_of (Some begun)) closing.kind kind in
+    let level : level_after outside (kinds_of all) ≡ closed =
+    level_more begun.records closing ∙ closes (level_of (Some begun)) closing.kind kind in
     inl (record {
       before = kinds_of all;
       kind = extra.kind;
       behind = kinds_of later;
-      whole = kinds_whole records all extra later (s.whole ∙ ap (λ l. begun.records ++ l) is ∙ sym (append_assoc begun.records (closing ∷ []) (extra ∷ later)));
+      whole = kinds_whole records all extra later (s.whole ∙ ap (λ l. begun.records ++ l) is
+          ∙ sym (append_assoc begun.records (closing ∷ []) (extra ∷ later)));
       placed = stands_more begun.records closing s.placed placed;
       why = ap (λ l. misplaced l extra.kind) level ∙ why;
       place = place ∙ ap capped (omega (arith, kinds_length all, length-append begun.records (closing ∷ [])));
     })
 
 -- no closing record
-pub unclosed_fault : (d : DelimiterBytes) (records : List RecordContent) (begun : Begun) (rest : List RecordContent) (fault : MessageFault) → IsSoFar d records begun rest → rest ≡ []
-    → fault.reason ≡ reasons.Unfinished → fault.place ≡ capped (length begun.records + 1) → IsListFault (kinds_of records) fault
+pub unclosed_fault : (d : DelimiterBytes) (records : List RecordContent) (begun : Begun) (rest : List RecordContent)
+    (fault : MessageFault) → IsSoFar d records begun rest → rest ≡ []
+    → fault.reason ≡ reasons.Unfinished → fault.place ≡ capped (length begun.records + 1)
+    → IsListFault (kinds_of records) fault
 unclosed_fault d records begun rest fault s is why place =
     let whole : records ≡ begun.records = s.whole ∙ ap (λ l. begun.records ++ l) is ∙ append-nil begun.records in
     inr (record {
@@ -96,13 +123,18 @@ unclosed_fault d records begun rest fault s is why place =
     })
 
 -- The records of a tree have no fault.
-tree_kinds : (m : MessageTree) → IsTree m → StandsFrom outside (kinds_of (flatten m)) × (level_after outside (kinds_of (flatten m)) ≡ closed)
+tree_kinds : (m : MessageTree) → IsTree m → StandsFrom outside (kinds_of (flatten m))
+    × (level_after outside (kinds_of (flatten m)) ≡ closed)
 tree_kinds m is =
     let front = (m.header ∷ m.notes) ++ flat_map group_records m.groups in
     let leads = tree_leads m is in
     let placed : misplaced (level_after outside (kinds_of front)) m.closing.kind ≡ None =
-    ap (misplaced (level_after outside (kinds_of front))) is.closing ∙ ap (λ l. misplaced l kinds.L) leads.2.arrives ∙ (inside_takes leads.0 leads.1).2 in
-    (stands_more front m.closing leads.2.stands placed, level_more front m.closing ∙ closes (level_after outside (kinds_of front)) m.closing.kind is.closing)
+    ap (misplaced (level_after outside (kinds_of front))) is.closing ∙ ap (λ l. misplaced l kinds.L) leads.2.arrives
+    ∙ (inside_takes leads.0 leads.1).2 in (
+      stands_more front m.closing leads.2.stands placed,
+      level_more front m.closing
+          ∙ closes (level_after outside (kinds_of front)) m.closing.kind is.closing,
+    )
 
 faultless : (m : MessageTree) → IsTree m → (fault : MessageFault) → IsListFault (kinds_of (flatten m)) fault → ⊥
 faultless m is fault why =
@@ -113,11 +145,13 @@ faultless m is fault why =
     (λ (w : IsUnclosed (kinds_of (flatten m)) fault). w.unclosed all.1) why
 
 -- so where a message has these records, memory was refused
-pub only_memory : (records : List RecordContent) (fault : MessageFault) → (fault.reason ≡ reasons.OutOfMemory) ⊎ IsListFault (kinds_of records) fault
+pub only_memory : (records : List RecordContent) (fault : MessageFault)
+    → (fault.reason ≡ reasons.OutOfMemory) ⊎ IsListFault (kinds_of records) fault
     → (m : MessageTree) → IsTree m → flatten m ≡ records → fault.reason ≡ reasons.OutOfMemory
 only_memory records fault why m is e =
     ⊎_elim (λ (oom : fault.reason ≡ reasons.OutOfMemory). oom)
-    (λ (w : IsListFault (kinds_of records) fault). absurd (faultless m is fault (subst (λ rs. IsListFault (kinds_of rs) fault) (sym e) w))) why
+    (λ (w : IsListFault (kinds_of records) fault). absurd
+    (faultless m is fault (subst (λ rs. IsListFault (kinds_of rs) fault) (sym e) w))) why
 
 not_other : (k : Kind) → k ≢ kinds.H → misplaced outside k ≡ Some reasons.NotHeader
 not_other kinds.H o = absurd (o refl)
@@ -131,25 +165,46 @@ not_other kinds.S o = refl
 not_other kinds.L o = refl
 
 -- a first record that is no header
-pub first_fault : (records : List RecordContent) (r : RecordContent) (rest : List RecordContent) → records ≡ r ∷ rest → r.kind ≢ kinds.H → IsListFault (kinds_of records) (record { place = 1; reason = reasons.NotHeader })
-first_fault records r rest e other = inl (record { before = []; kind = r.kind; behind = kinds_of rest; whole = ap kinds_of e; placed = tt; why = not_other r.kind other; place = refl })
+pub first_fault : (records : List RecordContent) (r : RecordContent) (rest : List RecordContent) → records ≡ r ∷ rest
+    → r.kind ≢ kinds.H → IsListFault (kinds_of records) (record { place = 1; reason = reasons.NotHeader })
+first_fault records r rest e other =
+    inl (record {
+      before = [];
+      kind = r.kind;
+      behind = kinds_of rest;
+      whole = ap kinds_of e;
+      placed = tt;
+      why =
+          not_other r.kind other;
+      place = refl;
+    })
 
 -- no record at all
-pub empty_fault : (records : List RecordContent) → records ≡ [] → IsListFault (kinds_of records) (record { place = 1; reason = reasons.Unfinished })
-empty_fault records e = subst (λ rs. IsListFault (kinds_of rs) (record { place = 1; reason = reasons.Unfinished })) (sym e)
+pub empty_fault : (records : List RecordContent) → records ≡ []
+    → IsListFault (kinds_of records) (record { place = 1; reason = reasons.Unfinished })
+empty_fault records e = subst (λ rs. IsListFault (kinds_of rs) (record { place = 1; reason = reasons.Unfinished }))
+    (sym e)
     (inr (record { placed = tt; unclosed = (λ h. cc); why = refl; place = refl }))
 
 -- what stands behind the closing record
-pub close_told : (d : DelimiterBytes) (records : List RecordContent) (begun : Begun) (closing : RecordContent) (rest after later : List RecordContent) (next : Option RecordContent) (fault : MessageFault) → IsSoFar d records begun rest → rest ≡ closing ∷ after
-    → after ≡ option_to_list next ++ later → closing.kind ≡ kinds.L → misplaced (level_of (Some begun)) closing.kind ≡ None
-    → MatchOption next (fault.reason ≡ reasons.OutOfMemory) (λ r. (misplaced closed r.kind ≡ Some fault.reason) × (fault.place ≡ capped (length begun.records + 2)))
+pub close_told : (d : DelimiterBytes) (records : List RecordContent) (begun : Begun) (closing : RecordContent)
+    (rest after later : List RecordContent) (next : Option RecordContent) (fault : MessageFault)
+    → IsSoFar d records begun rest → rest ≡ closing ∷ after
+    → after ≡ option_to_list next ++ later → closing.kind ≡ kinds.L
+    → misplaced (level_of (Some begun)) closing.kind ≡ None
+    → MatchOption next (fault.reason ≡ reasons.OutOfMemory)
+    (λ r. (misplaced closed r.kind ≡ Some fault.reason) × (fault.place ≡ capped (length begun.records + 2)))
     → (fault.reason ≡ reasons.OutOfMemory) ⊎ IsListFault (kinds_of records) fault
 close_told d records begun closing rest after later None fault s is behind kind placed why = inl why
 close_told d records begun closing rest after later (Some r) fault s is behind kind placed why =
-    inr (extra_fault d records begun closing r rest later fault s (is ∙ ap (λ l. closing ∷ l) behind) kind placed why.0 why.1)
+    inr (extra_fault d records begun closing r rest later fault s (is ∙ ap (λ l. closing ∷ l) behind) kind placed
+    why.0 why.1)
 
 -- the records of a list whose last closes it
-pub closed_records : (d : DelimiterBytes) (records : List RecordContent) (begun : Begun) (closing : RecordContent) (rest after later : List RecordContent) (next : Option RecordContent) → IsSoFar d records begun rest → rest ≡ closing ∷ after → after ≡ option_to_list next ++ later
+pub closed_records : (d : DelimiterBytes) (records : List RecordContent) (begun : Begun) (closing : RecordContent)
+    (rest after later : List RecordContent) (next : Option RecordContent) → IsSoFar d records begun rest
+    → rest ≡ closing ∷ after → after ≡ option_to_list next ++ later
     → next ≡ None → later ≡ [] → records ≡ begun.records ++ closing ∷ []
 closed_records d records begun closing rest after later next s is behind none empty =
-    s.whole ∙ ap (λ l. begun.records ++ l) (is ∙ ap (λ l. closing ∷ l) (behind ∙ ap (λ o. option_to_list o ++ later) none ∙ empty))
+    s.whole ∙ ap (λ l. begun.records ++ l) (is ∙ ap (λ l. closing ∷ l)
+    (behind ∙ ap (λ o. option_to_list o ++ later) none ∙ empty))

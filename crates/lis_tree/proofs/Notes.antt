@@ -8,8 +8,10 @@ use Rattle.lis_field.specs.Shape.{RecordContent}
 use Rattle.lis_tree.specs.Nodes.{Noted, OrderTree, PatientTree}
 use Rattle.lis_tree.specs.declared.tree.Group.{Group}
 use Rattle.lis_tree.specs.declared.tree.Group.TheVariants as groups
-use Rattle.lis_tree.specs.Notes.{Placed, placed_notes, placed_noted, placed_order, placed_patient, placed_group, placed, IsLastHead, IsNotedOn}
-use Rattle.lis_tree.specs.Tree.{MessageTree, noted_records, order_records, patient_records, group_records, flatten, IsNote, AreNotes, IsNoted, IsOrder, IsPatient, IsGroup, IsTree}
+use Rattle.lis_tree.specs.Notes.{Placed, placed_notes, placed_noted, placed_order, placed_patient, placed_group}
+use Rattle.lis_tree.specs.Notes.{placed, IsLastHead, IsNotedOn}
+use Rattle.lis_tree.specs.Tree.{MessageTree, noted_records, order_records, patient_records, group_records, flatten}
+use Rattle.lis_tree.specs.Tree.{IsNote, AreNotes, IsNoted, IsOrder, IsPatient, IsGroup, IsTree}
 
 -- what stands behind some records is noted as it should be
 abbrev AreNotedOn : List RecordContent → List Placed → Type 0
@@ -19,15 +21,22 @@ AreNotedOn before (p ∷ ps) = IsNotedOn before p.content p.note_on × AreNotedO
 abbrev contents : List Placed → List RecordContent
 contents = map (λ p. p.content)
 
-more : (before : List RecordContent) (r : RecordContent) (rs : List RecordContent) → (before ++ r ∷ []) ++ rs ≡ before ++ r ∷ rs
+more : (before : List RecordContent) (r : RecordContent) (rs : List RecordContent)
+    → (before ++ r ∷ []) ++ rs ≡ before ++ r ∷ rs
 more before r rs = append_assoc before (r ∷ []) rs
 
-both_noted : (before : List RecordContent) (ps qs : List Placed) → AreNotedOn before ps → AreNotedOn (before ++ contents ps) qs → AreNotedOn before (ps ++ qs)
+both_noted : (before : List RecordContent) (ps qs : List Placed) → AreNotedOn before ps
+    → AreNotedOn (before ++ contents ps) qs → AreNotedOn before (ps ++ qs)
 both_noted before [] qs a b = subst (λ l. AreNotedOn l qs) (append-nil before) b
-both_noted before (p ∷ ps) qs a b =
-    (a.0, both_noted (before ++ p.content ∷ []) ps qs a.1 (subst (λ l. AreNotedOn l qs) (sym (more before p.content (contents ps))) b))
+both_noted before (p ∷ ps) qs a b = (
+  a.0,
+  both_noted (before ++ p.content ∷ []) ps qs a.1
+      (subst (λ l. AreNotedOn l qs) (sym (more before p.content (contents ps))) b),
+)
 
-all_noted : {X : Type 0} (f : X → List Placed) (Is : X → Type 0) (one : (x : X) → Is x → (before : List RecordContent) → AreNotedOn before (f x)) (xs : List X) → AllByRecursion Is xs → (before : List RecordContent) → AreNotedOn before (flat_map f xs)
+all_noted : {X : Type 0} (f : X → List Placed) (Is : X → Type 0)
+    (one : (x : X) → Is x → (before : List RecordContent) → AreNotedOn before (f x)) (xs : List X)
+    → AllByRecursion Is xs → (before : List RecordContent) → AreNotedOn before (flat_map f xs)
 all_noted f Is one [] a before = tt
 all_noted f Is one (x ∷ xs) a before =
     both_noted before (f x) (flat_map f xs) (one x a.0 before) (all_noted f Is one xs a.1 (before ++ contents (f x)))
@@ -36,7 +45,8 @@ notes_append : (xs ys : List RecordContent) → AreNotes xs → AreNotes ys → 
 notes_append [] ys a b = b
 notes_append (x ∷ xs) ys a b = (a.0, notes_append xs ys a.1 b)
 
-still_last : (records : List RecordContent) (head note : RecordContent) → IsLastHead records head → IsNote note.kind → IsLastHead (records ++ note ∷ []) head
+still_last : (records : List RecordContent) (head note : RecordContent) → IsLastHead records head → IsNote note.kind
+    → IsLastHead (records ++ note ∷ []) head
 still_last records head note l is = record {
   before = l.before;
   notes = l.notes ++ note ∷ [];
@@ -45,25 +55,33 @@ still_last records head note l is = record {
   are_notes = notes_append l.notes (note ∷ []) l.are_notes (is, tt);
 }
 
-notes_noted : (head : RecordContent) (notes : List RecordContent) → AreNotes notes → (before : List RecordContent) → IsLastHead before head → AreNotedOn before (map (λ note. record { content = note; note_on = Some head }) notes)
+notes_noted : (head : RecordContent) (notes : List RecordContent) → AreNotes notes → (before : List RecordContent)
+    → IsLastHead before head → AreNotedOn before (map (λ note. record { content = note; note_on = Some head }) notes)
 notes_noted head [] a before l = tt
-notes_noted head (n ∷ ns) a before l = ((a.0, l), notes_noted head ns a.1 (before ++ n ∷ []) (still_last before head n l a.0))
+notes_noted head (n ∷ ns) a before l =
+    ((a.0, l), notes_noted head ns a.1 (before ++ n ∷ []) (still_last before head n l a.0))
 
-head_noted : (head : RecordContent) (notes : List RecordContent) → (IsNote head.kind → ⊥) → AreNotes notes → (before : List RecordContent) → AreNotedOn before (placed_notes head notes)
-head_noted head notes never a before =
-    (never, notes_noted head notes a (before ++ head ∷ []) (record { before = before; notes = []; whole = refl; is_no_note = never; are_notes = tt }))
+head_noted : (head : RecordContent) (notes : List RecordContent) → (IsNote head.kind → ⊥) → AreNotes notes
+    → (before : List RecordContent) → AreNotedOn before (placed_notes head notes)
+head_noted head notes never a before = (
+  never,
+  notes_noted head notes a (before ++ head ∷ [])
+      (record { before = before; notes = []; whole = refl; is_no_note = never; are_notes = tt }),
+)
 
 no_note : (r : RecordContent) (k : Kind) → (IsNote k → ⊥) → r.kind ≡ k → IsNote r.kind → ⊥
 no_note r k never e is = never (subst IsNote e is)
 
-noted_noted : (k : Kind) → (IsNote k → ⊥) → (n : Noted) → IsNoted k n → (before : List RecordContent) → AreNotedOn before (placed_noted n)
+noted_noted : (k : Kind) → (IsNote k → ⊥) → (n : Noted) → IsNoted k n → (before : List RecordContent)
+    → AreNotedOn before (placed_noted n)
 noted_noted k never n is = head_noted n.head n.notes (no_note n.head k never is.head) is.notes
 
 order_noted : (o : OrderTree) → IsOrder o → (before : List RecordContent) → AreNotedOn before (placed_order o)
 order_noted o is before =
     both_noted before (placed_notes o.head o.notes) (flat_map placed_noted o.results)
     (head_noted o.head o.notes (no_note o.head kinds.O (λ n. n) is.head) is.notes before)
-    (all_noted placed_noted (IsNoted kinds.R) (noted_noted kinds.R (λ n. n)) o.results is.results (before ++ contents (placed_notes o.head o.notes)))
+    (all_noted placed_noted (IsNoted kinds.R) (noted_noted kinds.R (λ n. n)) o.results is.results
+    (before ++ contents (placed_notes o.head o.notes)))
 
 patient_noted : (p : PatientTree) → IsPatient p → (before : List RecordContent) → AreNotedOn before (placed_patient p)
 patient_noted p is before =
@@ -85,12 +103,14 @@ tree_noted m is =
     (all_noted placed_group IsGroup group_noted m.groups is.groups (contents header)))
     (head_noted m.closing [] (no_note m.closing kinds.L (λ n. n) is.closing) tt (contents (header ++ groups)))
 
-at_place : (start : List RecordContent) (ps before behind : List Placed) (p : Placed) → AreNotedOn start ps → ps ≡ before ++ p ∷ behind → IsNotedOn (start ++ contents before) p.content p.note_on
+at_place : (start : List RecordContent) (ps before behind : List Placed) (p : Placed) → AreNotedOn start ps
+    → ps ≡ before ++ p ∷ behind → IsNotedOn (start ++ contents before) p.content p.note_on
 at_place start [] [] behind p a e = absurd cc
 at_place start [] (b ∷ bs) behind p a e = absurd cc
 at_place start (q ∷ qs) [] behind p a e =
     let same : q ≡ p = cc in
-    subst (λ l. IsNotedOn l p.content p.note_on) (sym (append-nil start)) (subst (λ (x : Placed). IsNotedOn start x.content x.note_on) same a.0)
+    subst (λ l. IsNotedOn l p.content p.note_on) (sym (append-nil start))
+    (subst (λ (x : Placed). IsNotedOn start x.content x.note_on) same a.0)
 at_place start (q ∷ qs) (b ∷ bs) behind p a e =
     let same : q ≡ b = cc in
     let others : qs ≡ bs ++ p ∷ behind = cc in
@@ -98,17 +118,20 @@ at_place start (q ∷ qs) (b ∷ bs) behind p a e =
     (ap (λ (x : Placed). (start ++ x.content ∷ []) ++ contents bs) same ∙ more start b.content (contents bs))
     (at_place (start ++ q.content ∷ []) qs bs behind p a.1 others)
 
-pub notes_placed : (m : MessageTree) → IsTree m → (before behind : List Placed) (p : Placed) → placed m ≡ before ++ p ∷ behind → IsNotedOn (contents before) p.content p.note_on
+pub notes_placed : (m : MessageTree) → IsTree m → (before behind : List Placed) (p : Placed)
+    → placed m ≡ before ++ p ∷ behind → IsNotedOn (contents before) p.content p.note_on
 notes_placed m is before behind p e = at_place [] (placed m) before behind p (tree_noted m is) e
 
 contents_append : (ps qs : List Placed) → contents (ps ++ qs) ≡ contents ps ++ contents qs
 contents_append [] qs = refl
 contents_append (p ∷ ps) qs = ap (λ l. p.content ∷ l) (contents_append ps qs)
 
-contents_flat : {X : Type 0} (f : X → List Placed) (g : X → List RecordContent) (one : (x : X) → contents (f x) ≡ g x) (xs : List X) → contents (flat_map f xs) ≡ flat_map g xs
+contents_flat : {X : Type 0} (f : X → List Placed) (g : X → List RecordContent) (one : (x : X) → contents (f x) ≡ g x)
+    (xs : List X) → contents (flat_map f xs) ≡ flat_map g xs
 contents_flat f g one [] = refl
 contents_flat f g one (x ∷ xs) =
-    contents_append (f x) (flat_map f xs) ∙ ap (λ l. l ++ contents (flat_map f xs)) (one x) ∙ ap (λ l. g x ++ l) (contents_flat f g one xs)
+    contents_append (f x) (flat_map f xs) ∙ ap (λ l. l ++ contents (flat_map f xs)) (one x)
+    ∙ ap (λ l. g x ++ l) (contents_flat f g one xs)
 
 contents_notes : (head : RecordContent) (notes : List RecordContent) → contents (placed_notes head notes) ≡ head ∷ notes
 contents_notes head [] = refl

@@ -1,11 +1,13 @@
 -- The reason by the place of the next record is that in the standard's words.
-use Rattle.std.proofs.Common.{◌≡◌, ◌≢◌, ◌⊎◌, inl, inr, List, [], ◌∷◌, ◌++◌, Option, Some, None, refl, sym, ◌∙◌, ap, subst}
+use Rattle.std.proofs.Common.{◌≡◌, ◌≢◌, ◌⊎◌, inl, inr, List, [], ◌∷◌, ◌++◌, Option, Some, None, refl, sym, ◌∙◌, ap}
+use Rattle.std.proofs.Common.{subst}
 use Rattle.lis_field.specs.declared.kinds.Kind.{Kind}
 use Rattle.lis_field.specs.declared.kinds.Kind.TheVariants as kinds
 use Rattle.lis_tree.specs.declared.fault.Reason.{Reason}
 use Rattle.lis_tree.specs.declared.fault.Reason.TheVariants as reasons
 use Rattle.lis_tree.specs.Hierarchy.{HasParent, IsViable}
-use Rattle.lis_tree.specs.Level.{Level, outside, in_header, in_patient, in_order, in_query, closed, next_level, level_after, misplaced, StandsFrom}
+use Rattle.lis_tree.specs.Level.{Level, outside, in_header, in_patient, in_order, in_query, closed, next_level}
+use Rattle.lis_tree.specs.Level.{level_after, misplaced, StandsFrom}
 use Rattle.lis_tree.specs.Refusing.{IsClosed, IsRefusedFor}
 use Rattle.lis_tree.proofs.Levels.{level_append, stands_append, stands_back, header_first, nothing_closed}
 use Rattle.lis_tree.proofs.Viable.{from_viable, viable_from, parent_from, place_from, begun_after, in_header_at}
@@ -181,7 +183,8 @@ told_by b ks k reason s e (inr (inr none)) =
       λ last. none.1 (last_closed (b ∷ ks) last),
       λ parent. some_not_none reason (misplaced (level_after outside (b ∷ ks)) k) e
           (ap (λ l. misplaced l k) header.level_is
-          ∙ place_from ks k header.placed (λ c. none.1 (header.level_is ∙ c)) none.0 (subst (λ h. HasParent (h ∷ ks) k) header.is_header parent)),
+          ∙ place_from ks k header.placed (λ c. none.1 (header.level_is ∙ c)) none.0
+          (subst (λ h. HasParent (h ∷ ks) k) header.is_header parent)),
     )
 
 told :
@@ -229,9 +232,11 @@ refused (b ∷ ks) k reasons.NotHeader s why = go why.1
     go (inl none) = absurd (cons_not_nil b ks none)
     go (inr last) = ap (λ l. misplaced l k) (last_closed (b ∷ ks) last) ∙ closed_refused k why.0
 refused (b ∷ ks) k reasons.SecondHeader s why =
-    ap (misplaced (level_after outside (b ∷ ks))) why.0 ∙ header_refused (level_after outside (b ∷ ks)) (behind_header b ks s).begun
+    ap (misplaced (level_after outside (b ∷ ks))) why.0
+    ∙ header_refused (level_after outside (b ∷ ks)) (behind_header b ks s).begun
 refused (b ∷ ks) k (reasons.NoParent kind) s why =
-    no_parent_refused b ks k (misplaced (level_after outside (b ∷ ks)) k) s why.2 why.3 refl ∙ ap (λ j. Some (reasons.NoParent j)) (sym why.0)
+    no_parent_refused b ks k (misplaced (level_after outside (b ∷ ks)) k) s why.2 why.3 refl
+    ∙ ap (λ j. Some (reasons.NoParent j)) (sym why.0)
 refused (b ∷ ks) k (reasons.BadRecord fault) s why = absurd why
 refused (b ∷ ks) k reasons.Unfinished s why = absurd why
 refused (b ∷ ks) k reasons.RecordTooLong s why = absurd why

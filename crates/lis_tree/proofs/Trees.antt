@@ -9,9 +9,11 @@ use Rattle.lis_field.specs.Delimiters.{DelimiterBytes, IsDelimiters}
 use Rattle.lis_field.specs.Shape.{IsRecordShape, RecordContent}
 use Rattle.lis_tree.specs.declared.tree.Group.{Group}
 use Rattle.lis_tree.specs.declared.tree.Group.TheVariants as groups
-use Rattle.lis_tree.specs.Level.{Level, StandsFrom, closed, in_header, in_order, in_patient, in_query, kinds_of, level_after, misplaced, next_level, outside}
+use Rattle.lis_tree.specs.Level.{Level, StandsFrom, closed, in_header, in_order, in_patient, in_query, kinds_of}
+use Rattle.lis_tree.specs.Level.{level_after, misplaced, next_level, outside}
 use Rattle.lis_tree.specs.Nodes.{Noted, OrderTree}
-use Rattle.lis_tree.specs.Tree.{AreNotes, IsGroup, IsNote, IsNoted, IsOrder, IsTree, MessageTree, flatten, group_records, noted_records, order_records}
+use Rattle.lis_tree.specs.Tree.{AreNotes, IsGroup, IsNote, IsNoted, IsOrder, IsTree, MessageTree, flatten}
+use Rattle.lis_tree.specs.Tree.{group_records, noted_records, order_records}
 
 -- in a message that isn't closed
 abbrev IsInside : Level → Type 0
@@ -58,7 +60,8 @@ record IsParsed (level : Level) (rs : List RecordContent) : Type 0 where
   lacks_results : LacksResults level results
   lacks_orders : LacksOrders level orders
 
-note_parsed : (level : Level) (r : RecordContent) (rs : List RecordContent) → IsNote r.kind → IsParsed level rs → IsParsed level (r ∷ rs)
+note_parsed : (level : Level) (r : RecordContent) (rs : List RecordContent) → IsNote r.kind → IsParsed level rs
+    → IsParsed level (r ∷ rs)
 note_parsed level r rs note p = record {
   notes = r ∷ p.notes;
   results = p.results;
@@ -73,7 +76,8 @@ note_parsed level r rs note p = record {
   lacks_orders = p.lacks_orders;
 }
 
-result_parsed : (r : RecordContent) (rs : List RecordContent) → r.kind ≡ kinds.R → IsParsed in_order rs → IsParsed in_order (r ∷ rs)
+result_parsed : (r : RecordContent) (rs : List RecordContent) → r.kind ≡ kinds.R → IsParsed in_order rs
+    → IsParsed in_order (r ∷ rs)
 result_parsed r rs kind p = record {
   notes = [];
   results = record { head = r; notes = p.notes } ∷ p.results;
@@ -104,7 +108,8 @@ order_parsed level r rs kind has p = record {
   lacks_orders = has _;
 }
 
-patient_parsed : (level : Level) (r : RecordContent) (rs : List RecordContent) → r.kind ≡ kinds.P → IsParsed in_patient rs → IsParsed level (r ∷ rs)
+patient_parsed : (level : Level) (r : RecordContent) (rs : List RecordContent) → r.kind ≡ kinds.P
+    → IsParsed in_patient rs → IsParsed level (r ∷ rs)
 patient_parsed level r rs kind p = record {
   notes = [];
   results = [];
@@ -112,8 +117,10 @@ patient_parsed level r rs kind p = record {
   groups = groups.Patient (record { head = r; notes = p.notes; orders = p.orders }) ∷ p.groups;
   whole =
       ap (λ (l : List RecordContent). r ∷ l) (p.whole
-      ∙ ap (λ (results : List Noted). p.notes ++ flat_map noted_records results ++ flat_map order_records p.orders ++ flat_map group_records p.groups) p.lacks_results
-      ∙ ap (λ (l : List RecordContent). l ++ flat_map order_records p.orders ++ flat_map group_records p.groups) (append-nil p.notes));
+      ∙ ap (λ (results : List Noted). p.notes ++ flat_map noted_records results ++ flat_map order_records p.orders
+      ++ flat_map group_records p.groups) p.lacks_results
+      ∙ ap (λ (l : List RecordContent). l ++ flat_map order_records p.orders ++ flat_map group_records p.groups)
+      (append-nil p.notes));
   are_notes = tt;
   are_results = tt;
   are_orders = tt;
@@ -122,7 +129,8 @@ patient_parsed level r rs kind p = record {
   lacks_orders = no_orders level;
 }
 
-query_parsed : (level : Level) (r : RecordContent) (rs : List RecordContent) → r.kind ≡ kinds.Q → IsParsed in_query rs → IsParsed level (r ∷ rs)
+query_parsed : (level : Level) (r : RecordContent) (rs : List RecordContent) → r.kind ≡ kinds.Q → IsParsed in_query rs
+    → IsParsed level (r ∷ rs)
 query_parsed level r rs kind p = record {
   notes = [];
   results = [];
@@ -130,8 +138,10 @@ query_parsed level r rs kind p = record {
   groups = groups.Query (record { head = r; notes = p.notes }) ∷ p.groups;
   whole =
       ap (λ (l : List RecordContent). r ∷ l) (p.whole
-      ∙ ap (λ (results : List Noted). p.notes ++ flat_map noted_records results ++ flat_map order_records p.orders ++ flat_map group_records p.groups) p.lacks_results
-      ∙ ap (λ (orders : List OrderTree). p.notes ++ [] ++ flat_map order_records orders ++ flat_map group_records p.groups) p.lacks_orders
+      ∙ ap (λ (results : List Noted). p.notes ++ flat_map noted_records results ++ flat_map order_records p.orders
+      ++ flat_map group_records p.groups) p.lacks_results
+      ∙ ap (λ (orders : List OrderTree). p.notes ++ [] ++ flat_map order_records orders
+      ++ flat_map group_records p.groups) p.lacks_orders
       ∙ ap (λ (l : List RecordContent). l ++ [] ++ flat_map group_records p.groups) (append-nil p.notes)
       ∙ ap (λ (l : List RecordContent). l ++ flat_map group_records p.groups) (append-nil p.notes));
   are_notes = tt;
@@ -143,7 +153,8 @@ query_parsed level r rs kind p = record {
 }
 
 -- an order stands under a patient or an order
-order_placed : (level : Level) → IsInside level → misplaced level kinds.O ≡ None → (orders : List OrderTree) → LacksOrders level orders
+order_placed : (level : Level) → IsInside level → misplaced level kinds.O ≡ None → (orders : List OrderTree)
+    → LacksOrders level orders
 order_placed outside inside may orders = absurd inside
 order_placed closed inside may orders = absurd inside
 order_placed in_header inside may orders = cc
@@ -167,14 +178,16 @@ header_placed in_query inside may = cc
 header_placed in_patient inside may = cc
 header_placed in_order inside may = cc
 
-one_more : (level : Level) (k : Kind) (r : RecordContent) (rs : List RecordContent) → r.kind ≡ k → IsInside level → misplaced level k ≡ None → IsInside (next_level level k)
+one_more : (level : Level) (k : Kind) (r : RecordContent) (rs : List RecordContent) → r.kind ≡ k → IsInside level
+    → misplaced level k ≡ None → IsInside (next_level level k)
     → IsParsed (next_level level k) rs → IsParsed level (r ∷ rs)
 one_more level kinds.H r rs is inside may next p = absurd (header_placed level inside may)
 one_more level kinds.P r rs is inside may next p = patient_parsed level r rs is p
 one_more level kinds.O r rs is inside may next p = order_parsed level r rs is (order_placed level inside may) p
 one_more level kinds.R r rs is inside may next p =
     let at = result_placed level inside may in
-    subst (λ (l : Level). IsParsed l (r ∷ rs)) (sym at) (result_parsed r rs is (subst (λ (l : Level). IsParsed l rs) at p))
+    subst (λ (l : Level). IsParsed l (r ∷ rs)) (sym at)
+    (result_parsed r rs is (subst (λ (l : Level). IsParsed l rs) at p))
 one_more level kinds.C r rs is inside may next p = note_parsed level r rs (subst IsNote (sym is) tt) p
 one_more level kinds.Q r rs is inside may next p = query_parsed level r rs is p
 one_more level kinds.M r rs is inside may next p = note_parsed level r rs (subst IsNote (sym is) tt) p
@@ -194,7 +207,8 @@ closed_over (kinds.M ∷ ks) stands open' = let e = stands.0 in cc
 closed_over (kinds.S ∷ ks) stands open' = let e = stands.0 in cc
 closed_over (kinds.L ∷ ks) stands open' = let e = stands.0 in cc
 
-stays_inside : (level : Level) (k : Kind) (ks : List Kind) → IsInside level → StandsFrom (next_level level k) ks → level_after (next_level level k) ks ≢ closed → IsInside (next_level level k)
+stays_inside : (level : Level) (k : Kind) (ks : List Kind) → IsInside level → StandsFrom (next_level level k) ks
+    → level_after (next_level level k) ks ≢ closed → IsInside (next_level level k)
 stays_inside level kinds.H ks inside stands open' = tt
 stays_inside level kinds.P ks inside stands open' = tt
 stays_inside level kinds.O ks inside stands open' = tt
@@ -205,7 +219,8 @@ stays_inside level kinds.M ks inside stands open' = inside
 stays_inside level kinds.S ks inside stands open' = inside
 stays_inside level kinds.L ks inside stands open' = closed_over ks stands open'
 
-parsed : (level : Level) (rs : List RecordContent) → IsInside level → StandsFrom level (kinds_of rs) → level_after level (kinds_of rs) ≢ closed → IsParsed level rs
+parsed : (level : Level) (rs : List RecordContent) → IsInside level → StandsFrom level (kinds_of rs)
+    → level_after level (kinds_of rs) ≢ closed → IsParsed level rs
 parsed level [] inside stands open' = record {
   notes = [];
   results = [];
@@ -234,7 +249,8 @@ first_header kinds.M e = cc
 first_header kinds.S e = cc
 first_header kinds.L e = cc
 
-all_shapes : (xs : List RecordContent) (r : RecordContent) → AllByRecursion IsRecordShape xs → IsRecordShape r → AllByRecursion IsRecordShape (xs ++ r ∷ [])
+all_shapes : (xs : List RecordContent) (r : RecordContent) → AllByRecursion IsRecordShape xs → IsRecordShape r
+    → AllByRecursion IsRecordShape (xs ++ r ∷ [])
 all_shapes [] r h last = (last, tt)
 all_shapes (x ∷ xs) r h last = (h.0, all_shapes xs r h.1 last)
 
@@ -245,8 +261,10 @@ pub record IsTreeOf (d : DelimiterBytes) (records : List RecordContent) (message
   pub records_are : flatten message ≡ records
 
 pub tree_of :
-    (d : DelimiterBytes) → IsDelimiters d → (rs : List RecordContent) (closing : RecordContent) → rs ≢ [] → StandsFrom outside (kinds_of rs)
-    → level_after outside (kinds_of rs) ≢ closed → closing.kind ≡ kinds.L → AllByRecursion IsRecordShape rs → IsRecordShape closing
+    (d : DelimiterBytes) → IsDelimiters d → (rs : List RecordContent) (closing : RecordContent) → rs ≢ []
+    → StandsFrom outside (kinds_of rs)
+    → level_after outside (kinds_of rs) ≢ closed → closing.kind ≡ kinds.L → AllByRecursion IsRecordShape rs
+    → IsRecordShape closing
     → (message : MessageTree) × IsTreeOf d (rs ++ closing ∷ []) message
 tree_of d good [] closing some stands open' kind shapes last = absurd (some refl)
 tree_of d good (r ∷ rs) closing some stands open' kind shapes last =
@@ -256,8 +274,10 @@ tree_of d good (r ∷ rs) closing some stands open' kind shapes last =
     (subst (λ (l : Level). level_after l (kinds_of rs) ≢ closed) level open') in
     let whole : rs ≡ p.notes ++ flat_map group_records p.groups =
     p.whole
-    ∙ ap (λ (results : List Noted). p.notes ++ flat_map noted_records results ++ flat_map order_records p.orders ++ flat_map group_records p.groups) p.lacks_results
-    ∙ ap (λ (orders : List OrderTree). p.notes ++ [] ++ flat_map order_records orders ++ flat_map group_records p.groups) p.lacks_orders
+    ∙ ap (λ (results : List Noted). p.notes ++ flat_map noted_records results ++ flat_map order_records p.orders
+    ++ flat_map group_records p.groups) p.lacks_results
+    ∙ ap (λ (orders : List OrderTree). p.notes ++ [] ++ flat_map order_records orders
+    ++ flat_map group_records p.groups) p.lacks_orders
     ∙ ap (λ (l : List RecordContent). l ++ [] ++ flat_map group_records p.groups) (append-nil p.notes)
     ∙ ap (λ (l : List RecordContent). l ++ flat_map group_records p.groups) (append-nil p.notes) in
     let same : (r ∷ p.notes) ++ flat_map group_records p.groups ++ closing ∷ [] ≡ (r ∷ rs) ++ closing ∷ [] =

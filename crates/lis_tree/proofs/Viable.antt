@@ -1,13 +1,16 @@
 -- The machine over the kinds and the standard's words say the same.
-use Rattle.std.proofs.Common.{◌≡◌, ◌≢◌, Bool, true, false, List, [], ◌∷◌, ◌++◌, Option, Some, None, refl, sym, ◌∙◌, ap, subst, append_assoc}
+use Rattle.std.proofs.Common.{◌≡◌, ◌≢◌, Bool, true, false, List, [], ◌∷◌, ◌++◌, Option, Some, None, refl, sym, ◌∙◌}
+use Rattle.std.proofs.Common.{ap, subst, append_assoc}
 use Rattle.std.specs.Prelude.{if◌then◌else◌}
 use Rattle.std.specs.List.{AllByRecursion}
 use Rattle.std.specs.Option.{option_or}
 use Rattle.lis_field.specs.declared.kinds.Kind.{Kind}
 use Rattle.lis_field.specs.declared.kinds.Kind.TheVariants as kinds
 use Rattle.lis_tree.specs.Hierarchy.{last_of, is_group, is_group_or_order, HasParent, HasHeaderFirst, IsViable}
-use Rattle.lis_tree.specs.Level.{Level, outside, in_header, in_patient, in_order, in_query, closed, next_level, level_after, misplaced, StandsFrom}
-use Rattle.lis_tree.proofs.Levels.{level_append, stands_append, stands_back, stands_front, header_first, next_begun, nothing_closed, other_kind, unclosed_first}
+use Rattle.lis_tree.specs.Level.{Level, outside, in_header, in_patient, in_order, in_query, closed, next_level}
+use Rattle.lis_tree.specs.Level.{level_after, misplaced, StandsFrom}
+use Rattle.lis_tree.proofs.Levels.{level_append, stands_append, stands_back, stands_front, header_first, next_begun}
+use Rattle.lis_tree.proofs.Levels.{nothing_closed, other_kind, unclosed_first}
 
 -- whether an order, or a result, stands at a place
 abbrev takes_order : Level → Bool
@@ -30,7 +33,8 @@ order_or None b = b
 order_or (Some kinds.O) b = true
 order_or (Some k) b = false
 
-order_step : (l : Level) (k : Kind) → misplaced l k ≡ None → k ≢ kinds.L → k ≢ kinds.H → takes_order (next_level l k) ≡ patient_or (if is_group k then Some k else None) (takes_order l)
+order_step : (l : Level) (k : Kind) → misplaced l k ≡ None → k ≢ kinds.L → k ≢ kinds.H
+    → takes_order (next_level l k) ≡ patient_or (if is_group k then Some k else None) (takes_order l)
 order_step l kinds.H p o h = absurd (h refl)
 order_step l kinds.P p o h = refl
 order_step in_patient kinds.O p o h = refl
@@ -46,7 +50,8 @@ order_step l kinds.M p o h = refl
 order_step l kinds.S p o h = refl
 order_step l kinds.L p o h = absurd (o refl)
 
-result_step : (l : Level) (k : Kind) → misplaced l k ≡ None → k ≢ kinds.L → k ≢ kinds.H → takes_result (next_level l k) ≡ order_or (if is_group_or_order k then Some k else None) (takes_result l)
+result_step : (l : Level) (k : Kind) → misplaced l k ≡ None → k ≢ kinds.L → k ≢ kinds.H
+    → takes_result (next_level l k) ≡ order_or (if is_group_or_order k then Some k else None) (takes_result l)
 result_step l kinds.H p o h = absurd (h refl)
 result_step l kinds.P p o h = refl
 result_step l kinds.O p o h = refl
@@ -82,18 +87,21 @@ order_then (Some kinds.S) b c = refl
 order_then (Some kinds.L) b c = refl
 
 -- the place tells the last patient or query, and whether an order stands since
-order_told : (l : Level) (ks : List Kind) → StandsFrom l ks → l ≢ outside → level_after l ks ≢ closed → takes_order (level_after l ks) ≡ patient_or (last_of is_group ks) (takes_order l)
+order_told : (l : Level) (ks : List Kind) → StandsFrom l ks → l ≢ outside → level_after l ks ≢ closed
+    → takes_order (level_after l ks) ≡ patient_or (last_of is_group ks) (takes_order l)
 order_told l [] s o u = refl
 order_told l (k ∷ ks) s o u =
     order_told (next_level l k) ks s.1 (next_begun l k o) u
     ∙ ap (patient_or (last_of is_group ks)) (order_step l k s.0 (unclosed_first l k ks s u) (other_kind l k o s.0))
     ∙ sym (patient_then (last_of is_group ks) (if is_group k then Some k else None) (takes_order l))
 
-result_told : (l : Level) (ks : List Kind) → StandsFrom l ks → l ≢ outside → level_after l ks ≢ closed → takes_result (level_after l ks) ≡ order_or (last_of is_group_or_order ks) (takes_result l)
+result_told : (l : Level) (ks : List Kind) → StandsFrom l ks → l ≢ outside → level_after l ks ≢ closed
+    → takes_result (level_after l ks) ≡ order_or (last_of is_group_or_order ks) (takes_result l)
 result_told l [] s o u = refl
 result_told l (k ∷ ks) s o u =
     result_told (next_level l k) ks s.1 (next_begun l k o) u
-    ∙ ap (order_or (last_of is_group_or_order ks)) (result_step l k s.0 (unclosed_first l k ks s u) (other_kind l k o s.0))
+    ∙ ap (order_or (last_of is_group_or_order ks))
+    (result_step l k s.0 (unclosed_first l k ks s u) (other_kind l k o s.0))
     ∙ sym (order_then (last_of is_group_or_order ks) (if is_group_or_order k then Some k else None) (takes_result l))
 
 -- ---- each way
@@ -155,7 +163,8 @@ takes_then_result outside e = absurd cc
 takes_then_result closed e = absurd cc
 
 -- behind a header: a record that stands has its parent, and the other way round
-pub parent_from : (ks : List Kind) (k : Kind) → StandsFrom in_header ks → misplaced (level_after in_header ks) k ≡ None → HasParent (kinds.H ∷ ks) k
+pub parent_from : (ks : List Kind) (k : Kind) → StandsFrom in_header ks
+    → misplaced (level_after in_header ks) k ≡ None → HasParent (kinds.H ∷ ks) k
 parent_from ks kinds.O s p =
     let at = order_stands (level_after in_header ks) p in
     let none = patient_is (last_of is_group ks) (sym (order_told in_header ks s (λ e. cc) at.1) ∙ at.0) in
@@ -176,7 +185,8 @@ option_or_none : (o : Option Kind) → option_or o None ≡ o
 option_or_none None = refl
 option_or_none (Some k) = refl
 
-inside_free : (l : Level) (k : Kind) → l ≢ outside → l ≢ closed → k ≢ kinds.H → k ≢ kinds.O → k ≢ kinds.R → misplaced l k ≡ None
+inside_free : (l : Level) (k : Kind) → l ≢ outside → l ≢ closed → k ≢ kinds.H → k ≢ kinds.O → k ≢ kinds.R
+    → misplaced l k ≡ None
 inside_free outside k o c h x r = absurd (o refl)
 inside_free closed k o c h x r = absurd (c refl)
 inside_free l kinds.H o c h x r = absurd (h refl)
@@ -211,18 +221,27 @@ pub begun_after : (l : Level) (ks : List Kind) → l ≢ outside → level_after
 begun_after l [] o = o
 begun_after l (k ∷ ks) o = begun_after (next_level l k) ks (next_begun l k o)
 
-pub place_from : (ks : List Kind) (k : Kind) → StandsFrom in_header ks → level_after in_header ks ≢ closed → k ≢ kinds.H → HasParent (kinds.H ∷ ks) k → misplaced (level_after in_header ks) k ≡ None
+pub place_from : (ks : List Kind) (k : Kind) → StandsFrom in_header ks → level_after in_header ks ≢ closed
+    → k ≢ kinds.H → HasParent (kinds.H ∷ ks) k → misplaced (level_after in_header ks) k ≡ None
 place_from ks kinds.O s u h p =
-    takes_then_order (level_after in_header ks) (order_told in_header ks s (λ e. cc) u ∙ ap (λ o. patient_or o false) (sym (option_or_none (last_of is_group ks)) ∙ p))
+    takes_then_order (level_after in_header ks) (order_told in_header ks s (λ e. cc) u
+    ∙ ap (λ o. patient_or o false) (sym (option_or_none (last_of is_group ks)) ∙ p))
 place_from ks kinds.R s u h p =
-    takes_then_result (level_after in_header ks) (result_told in_header ks s (λ e. cc) u ∙ ap (λ o. order_or o false) (sym (option_or_none (last_of is_group_or_order ks)) ∙ p))
+    takes_then_result (level_after in_header ks) (result_told in_header ks s (λ e. cc) u
+    ∙ ap (λ o. order_or o false) (sym (option_or_none (last_of is_group_or_order ks)) ∙ p))
 place_from ks kinds.H s u h p = absurd (h refl)
-place_from ks kinds.P s u h p = inside_free (level_after in_header ks) kinds.P (begun_after in_header ks (λ e. cc)) u h (λ e. cc) (λ e. cc)
-place_from ks kinds.C s u h p = inside_free (level_after in_header ks) kinds.C (begun_after in_header ks (λ e. cc)) u h (λ e. cc) (λ e. cc)
-place_from ks kinds.Q s u h p = inside_free (level_after in_header ks) kinds.Q (begun_after in_header ks (λ e. cc)) u h (λ e. cc) (λ e. cc)
-place_from ks kinds.M s u h p = inside_free (level_after in_header ks) kinds.M (begun_after in_header ks (λ e. cc)) u h (λ e. cc) (λ e. cc)
-place_from ks kinds.S s u h p = inside_free (level_after in_header ks) kinds.S (begun_after in_header ks (λ e. cc)) u h (λ e. cc) (λ e. cc)
-place_from ks kinds.L s u h p = inside_free (level_after in_header ks) kinds.L (begun_after in_header ks (λ e. cc)) u h (λ e. cc) (λ e. cc)
+place_from ks kinds.P s u h p = inside_free (level_after in_header ks) kinds.P (begun_after in_header ks (λ e. cc)) u
+    h (λ e. cc) (λ e. cc)
+place_from ks kinds.C s u h p = inside_free (level_after in_header ks) kinds.C (begun_after in_header ks (λ e. cc)) u
+    h (λ e. cc) (λ e. cc)
+place_from ks kinds.Q s u h p = inside_free (level_after in_header ks) kinds.Q (begun_after in_header ks (λ e. cc)) u
+    h (λ e. cc) (λ e. cc)
+place_from ks kinds.M s u h p = inside_free (level_after in_header ks) kinds.M (begun_after in_header ks (λ e. cc)) u
+    h (λ e. cc) (λ e. cc)
+place_from ks kinds.S s u h p = inside_free (level_after in_header ks) kinds.S (begun_after in_header ks (λ e. cc)) u
+    h (λ e. cc) (λ e. cc)
+place_from ks kinds.L s u h p = inside_free (level_after in_header ks) kinds.L (begun_after in_header ks (λ e. cc)) u
+    h (λ e. cc) (λ e. cc)
 
 no_header : (l : Level) (ks : List Kind) → l ≢ outside → StandsFrom l ks → AllByRecursion (λ j. j ≢ kinds.H) ks
 no_header l [] o s = tt
@@ -236,15 +255,18 @@ pub in_header_at : (k : Kind) → k ≡ kinds.H → next_level outside k ≡ in_
 in_header_at k e = ap (next_level outside) e
 
 closing_last : (ks before behind : List Kind) → StandsFrom outside ks → ks ≡ before ++ kinds.L ∷ behind → behind ≡ []
-closing_last ks before behind s e = nothing_behind behind (stands_back outside before (kinds.L ∷ behind) (subst (StandsFrom outside) e s)).1
+closing_last ks before behind s e = nothing_behind behind
+    (stands_back outside before (kinds.L ∷ behind) (subst (StandsFrom outside) e s)).1
 
 parents_stand : (before behind : List Kind) (k : Kind) → StandsFrom outside (before ++ k ∷ behind) → HasParent before k
 parents_stand [] behind k s = subst (HasParent []) (sym (header_first k s.0)) tt
 parents_stand (b ∷ before) behind k s =
     let is : b ≡ kinds.H = header_first b s.0 in
-    let rest : StandsFrom in_header (before ++ k ∷ behind) = subst (λ l. StandsFrom l (before ++ k ∷ behind)) (in_header_at b is) s.1 in
+    let rest : StandsFrom in_header (before ++ k ∷ behind) =
+    subst (λ l. StandsFrom l (before ++ k ∷ behind)) (in_header_at b is) s.1 in
     subst (λ h. HasParent (h ∷ before) k) (sym is)
-    (parent_from before k (stands_front in_header before (k ∷ behind) rest) (stands_back in_header before (k ∷ behind) rest).0)
+    (parent_from before k (stands_front in_header before (k ∷ behind) rest)
+    (stands_back in_header before (k ∷ behind) rest).0)
 
 header_stands : (ks : List Kind) → StandsFrom outside ks → HasHeaderFirst ks
 header_stands [] s = tt
@@ -274,19 +296,24 @@ stays_open l kinds.L u o e = o refl
 module _ (whole : List Kind) (viable : IsViable whole) where
   not_last : (before : List Kind) (k i : Kind) (rest : List Kind) → whole ≡ before ++ k ∷ i ∷ rest → k ≢ kinds.L
   not_last before k i rest e l =
-      let none : i ∷ rest ≡ [] = viable.closing before (i ∷ rest) (subst (λ j. whole ≡ before ++ j ∷ i ∷ rest) l e) in cc
+      let none : i ∷ rest ≡ [] = viable.closing before (i ∷ rest) (subst (λ j. whole ≡ before ++ j ∷ i ∷ rest) l e) in
+      cc
 
-  rest_from : (done rest : List Kind) → whole ≡ kinds.H ∷ (done ++ rest) → StandsFrom in_header done → level_after in_header done ≢ closed → AllByRecursion (λ j. j ≢ kinds.H) rest
+  rest_from : (done rest : List Kind) → whole ≡ kinds.H ∷ (done ++ rest) → StandsFrom in_header done
+      → level_after in_header done ≢ closed → AllByRecursion (λ j. j ≢ kinds.H) rest
       → StandsFrom (level_after in_header done) rest
   rest_from done [] e s u h = tt
   rest_from done (k ∷ []) e s u h = (place_from done k s u h.0 (viable.parents (kinds.H ∷ done) [] k e), tt)
   rest_from done (k ∷ i ∷ rest) e s u h =
       let placed = place_from done k s u h.0 (viable.parents (kinds.H ∷ done) (i ∷ rest) k e) in
-      let goes : level_after in_header (done ++ k ∷ []) ≡ next_level (level_after in_header done) k = level_append in_header done (k ∷ []) in
+      let goes : level_after in_header (done ++ k ∷ []) ≡ next_level (level_after in_header done) k =
+      level_append in_header done (k ∷ []) in
       let more = stands_append in_header done (k ∷ []) s (placed, tt) in
       let still : level_after in_header (done ++ k ∷ []) ≢ closed =
-      subst (λ l. l ≢ closed) (sym goes) (stays_open (level_after in_header done) k u (not_last (kinds.H ∷ done) k i rest e)) in
-      let below = rest_from (done ++ k ∷ []) (i ∷ rest) (e ∙ ap (λ l. kinds.H ∷ l) (sym (append_assoc done (k ∷ []) (i ∷ rest)))) more still h.1 in
+      subst (λ l. l ≢ closed) (sym goes) (stays_open (level_after in_header done) k u
+      (not_last (kinds.H ∷ done) k i rest e)) in
+      let below = rest_from (done ++ k ∷ []) (i ∷ rest)
+      (e ∙ ap (λ l. kinds.H ∷ l) (sym (append_assoc done (k ∷ []) (i ∷ rest)))) more still h.1 in
       (placed, subst (λ l. StandsFrom l (i ∷ rest)) goes below)
 
 -- what is viable the machine takes

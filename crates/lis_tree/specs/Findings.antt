@@ -16,7 +16,8 @@ finding_on earlier place r =
 
 abbrev pub findings_from : List Kind → ℕ → List RecordContent → List Finding
 findings_from earlier place [] = []
-findings_from earlier place (r ∷ records) = finding_on earlier place r ++ findings_from (r.kind ∷ earlier) (place + 1) records
+findings_from earlier place (r ∷ records) = finding_on earlier place r
+    ++ findings_from (r.kind ∷ earlier) (place + 1) records
 
 -- the findings on a message, in the order of its records
 abbrev pub findings_of : MessageTree → List Finding
@@ -31,6 +32,7 @@ kinds_back earlier (r ∷ records) = kinds_back (r.kind ∷ earlier) records
 
 -- These records were examined, and the next one comes behind them.
 pub record HasNumbered (numbering : Numbering) (records : List RecordContent) : Type 0 where
-  pub counts : CountsOf (kinds_back [] records) numbering.counts.patients numbering.counts.queries numbering.counts.orders
+  pub counts : CountsOf (kinds_back [] records) numbering.counts.patients numbering.counts.queries
+      numbering.counts.orders
       numbering.counts.results numbering.counts.comments
   pub counted : numbering.count ≡ capped (length records)

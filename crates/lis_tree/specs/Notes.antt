@@ -14,7 +14,8 @@ pub record Placed : Type 0 where
 
 -- a record and its notes, as the tree has them
 abbrev pub placed_notes : RecordContent → List RecordContent → List Placed
-placed_notes head notes = record { content = head; note_on = None } ∷ map (λ note. record { content = note; note_on = Some head }) notes
+placed_notes head notes = record { content = head; note_on = None }
+    ∷ map (λ note. record { content = note; note_on = Some head }) notes
 
 abbrev pub placed_noted : Noted → List Placed
 placed_noted n = placed_notes n.head n.notes

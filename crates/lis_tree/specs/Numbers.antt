@@ -1,6 +1,7 @@
 -- Sequence numbers (LIS02-A2): the second field of a record is its position among the records of its kind under its
 -- parent.
-use Rattle.std.specs.Prelude.{◌≡◌, ℕ, ◌+◌, ◌*◌, ◌-◌, ◌==◌, nat_le, Bool, true, false, ◌&&◌, if◌then◌else◌, List, [], ◌∷◌, length, Option, Some, None}
+use Rattle.std.specs.Prelude.{◌≡◌, ℕ, ◌+◌, ◌*◌, ◌-◌, ◌==◌, nat_le, Bool, true, false, ◌&&◌, if◌then◌else◌, List, []}
+use Rattle.std.specs.Prelude.{◌∷◌, length, Option, Some, None}
 use Rattle.lis_field.specs.declared.kinds.Kind.{Kind}
 use Rattle.lis_field.specs.declared.kinds.Kind.TheVariants as kinds
 use Rattle.lis_field.specs.declared.symbols.Sym.{Sym}
@@ -39,7 +40,8 @@ same_kind k j = false
 -- how many records of a kind stand behind its parent, going back from here: the kinds before, the nearest first
 abbrev pub siblings : Kind → List Kind → ℕ
 siblings k [] = 0
-siblings k (j ∷ earlier) = if belongs_to k j then 0 else if same_kind k j then siblings k earlier + 1 else siblings k earlier
+siblings k (j ∷ earlier) = if belongs_to k j then 0 else if same_kind k j then siblings k earlier + 1
+    else siblings k earlier
 
 -- the number that a record should have; that of the closing record is 1
 abbrev pub expected_number : Kind → List Kind → ℕ
@@ -54,7 +56,8 @@ symbol_digit s = None
 -- the number that digits make behind a number
 abbrev pub digits_from : ℕ → Symbols → Option ℕ
 digits_from number [] = Some number
-digits_from number (s ∷ symbols) = elim (symbol_digit s) [ None ↦ None | Some digit ↦ digits_from (number * 10 + digit) symbols ]
+digits_from number (s ∷ symbols) = elim (symbol_digit s)
+    [ None ↦ None | Some digit ↦ digits_from (number * 10 + digit) symbols ]
 
 -- the number that one to nine digits are
 abbrev pub digits_number : Symbols → Option ℕ

@@ -1,4 +1,5 @@
-ghost use Rattle.std.specs.Prelude.{◌≡◌, ◌+◌, ◌∷◌, [], ◌++◌, ◌⊎◌, IfOk, IfErr, MatchResult, MatchOption, None, Some, length};
+ghost use Rattle.std.specs.Prelude.{◌≡◌, ◌+◌, ◌∷◌, [], ◌++◌, ◌⊎◌, IfOk, IfErr, MatchResult, MatchOption, None, Some};
+ghost use Rattle.std.specs.Prelude.{length};
 ghost use Rattle.lis_field.specs.declared.kinds.Kind.TheVariants as kinds;
 ghost use Rattle.lis_tree.specs.declared.fault.Reason.TheVariants as reasons;
 ghost use Rattle.lis_tree.specs.Level.{misplaced, closed, kinds_of};
@@ -33,11 +34,33 @@ impl Model for Message {
 
     ghost Value = { MessageTree };
 
-    ghost view = { λ m. record { delimiters = m.delimiters; header = m.header; notes = m.notes; groups = m.groups; closing = m.closing } };
+    ghost view = { λ m. record {
+      delimiters = m.delimiters;
+      header = m.header;
+      notes = m.notes;
+      groups = m.groups;
+      closing =
+          m.closing;
+    } };
 
-    ghost invariant = { λ m. IsTree (record { delimiters = m.delimiters; header = m.header; notes = m.notes; groups = m.groups; closing = m.closing }) };
+    ghost invariant = { λ m. IsTree
+        (record {
+          delimiters = m.delimiters;
+          header = m.header;
+          notes = m.notes;
+          groups = m.groups;
+          closing =
+              m.closing;
+        }) };
 
-    ghost inverse = { λ m. record { delimiters = m.delimiters; header = m.header; notes = m.notes; groups = m.groups; closing = m.closing } };
+    ghost inverse = { λ m. record {
+      delimiters = m.delimiters;
+      header = m.header;
+      notes = m.notes;
+      groups = m.groups;
+      closing =
+          m.closing;
+    } };
 }
 
 impl Message {
@@ -48,8 +71,15 @@ impl Message {
         groups: List<Group>,
         closing: Record,
     ) -> Self
-        requires { IsTree (record { delimiters = delimiters; header = header; notes = notes; groups = groups; closing = closing }) }
-        ensures { result ≡ record { delimiters = delimiters; header = header; notes = notes; groups = groups; closing = closing } }
+        requires { IsTree
+            (record { delimiters = delimiters; header = header; notes = notes; groups = groups; closing = closing }) }
+        ensures { result ≡ record {
+          delimiters = delimiters;
+          header = header;
+          notes = notes;
+          groups = groups;
+          closing = closing;
+        } }
     {
         Message {
             delimiters,
@@ -72,7 +102,8 @@ impl Message {
         ensures shape { IfOk result IsTree }
         ensures only { (m : MessageTree) → IsTree m → m.delimiters ≡ delimiters → flatten m ≡ records
             → MatchResult result (λ found. found ≡ m) (λ fault. fault.reason ≡ reasons.OutOfMemory) }
-        ensures err { IfErr result (λ fault. (fault.reason ≡ reasons.OutOfMemory) ⊎ IsListFault (kinds_of records) fault) }
+        ensures err { IfErr result (λ fault. (fault.reason ≡ reasons.OutOfMemory) ⊎ IsListFault (kinds_of records)
+            fault) }
     {
         let mut rest = records.into_vec().into_iter();
         let Some(header) = rest.next() else {

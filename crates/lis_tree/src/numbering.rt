@@ -1,5 +1,6 @@
 //! Findings on sequence numbers (LIS02-A2).
-ghost use Rattle.std.specs.Prelude.{◌≡◌, ◌≢◌, ℕ, ◌+◌, ◌<◌, ◌∷◌, [], ◌++◌, List as Listed, Some, IfSome, IfOk, OnOk, length};
+ghost use Rattle.std.specs.Prelude.{◌≡◌, ◌≢◌, ℕ, ◌+◌, ◌<◌, ◌∷◌, [], ◌++◌, List as Listed, Some, IfSome, IfOk, OnOk};
+ghost use Rattle.std.specs.Prelude.{length};
 ghost use Rattle.lis_field.specs.declared.kinds.Kind.{Kind as KindOf};
 ghost use Rattle.lis_tree.specs.Findings.{HasNumbered, finding_on, findings_from, findings_of};
 ghost use Rattle.std.specs.Option.{option_to_list};
@@ -55,7 +56,8 @@ impl Counts {
     /// The number that a record of this kind should have.
     #[inline(always)]
     fn expected(self, kind: Kind) -> u64
-        ensures { (earlier : Listed KindOf) → CountsOf earlier self.patients self.queries self.orders self.results self.comments
+        ensures { (earlier : Listed KindOf) → CountsOf earlier self.patients self.queries self.orders self.results
+            self.comments
             → kind ≢ kinds.H → kind ≢ kinds.M → kind ≢ kinds.S → result ≡ capped (expected_number kind earlier) }
     {
         match kind {
@@ -71,7 +73,8 @@ impl Counts {
     /// The counts behind a record of this kind.
     #[inline(always)]
     fn after(self, kind: Kind) -> Self
-        ensures { (earlier : Listed KindOf) → CountsOf earlier self.patients self.queries self.orders self.results self.comments
+        ensures { (earlier : Listed KindOf) → CountsOf earlier self.patients self.queries self.orders self.results
+            self.comments
             → CountsOf (kind ∷ earlier) result.patients result.queries result.orders result.results result.comments }
     {
         let mut next = self;
@@ -275,8 +278,10 @@ fn is_number(number: Option<u64>, expected: u64) -> bool
 /// The finding on a record at this place whose second field is this number, if there is one.
 #[inline(always)]
 fn finding_on(kind: Kind, number: Option<u64>, counts: Counts, place: u64) -> Option<Finding>
-    ensures { (earlier : Listed KindOf) (n : ℕ) (r : RecordContent) → CountsOf earlier counts.patients counts.queries counts.orders counts.results counts.comments
-        → place ≡ capped n → r.kind ≡ kind → field_number (field_at r 2) ≡ number → option_to_list result ≡ finding_on earlier n r }
+    ensures { (earlier : Listed KindOf) (n : ℕ) (r : RecordContent)
+        → CountsOf earlier counts.patients counts.queries counts.orders counts.results counts.comments
+        → place ≡ capped n → r.kind ≡ kind → field_number (field_at r 2) ≡ number
+        → option_to_list result ≡ finding_on earlier n r }
 {
     if !is_numbered(kind) {
         return None;
@@ -314,7 +319,8 @@ impl Numbering {
 
     /// The place of the next record, from 1 for the header; it stays at the greatest number.
     pub fn next_place(&self) -> u64
-        ensures { (records : Listed RecordContent) → HasNumbered self.now records → result ≡ capped (length records + 1) }
+        ensures { (records : Listed RecordContent) → HasNumbered self.now records
+            → result ≡ capped (length records + 1) }
     {
         self.count.saturating_add(1)
     }
@@ -324,7 +330,8 @@ impl Numbering {
     #[inline(always)]
     pub fn take(&mut self, entry: &LentRecord<'_>) -> Option<Finding>
         ensures found { (records : Listed RecordContent) → HasNumbered self.old records
-            → findings_from [] 1 (records ++ entry.now.content ∷ []) ≡ findings_from [] 1 records ++ option_to_list result }
+            → findings_from [] 1 (records ++ entry.now.content ∷ []) ≡ findings_from [] 1 records
+            ++ option_to_list result }
         ensures numbered { (records : Listed RecordContent) → HasNumbered self.old records
             → HasNumbered self.new (records ++ entry.now.content ∷ []) }
     {

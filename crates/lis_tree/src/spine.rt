@@ -3,7 +3,8 @@
 ghost use Rattle.std.specs.Prelude.{◌≡◌, ◌∷◌, [], ◌++◌, ◌≢◌, IfOk, None};
 ghost use Rattle.lis_field.specs.declared.kinds.Kind.TheVariants as kinds;
 ghost use Rattle.lis_tree.specs.Level.{misplaced};
-ghost use Rattle.lis_tree.specs.Tree.{noted_records, order_records, patient_records, group_records, IsNote, IsNoted, IsOrder, IsPatient, IsGroup, IsTree};
+ghost use Rattle.lis_tree.specs.Tree.{noted_records, order_records, patient_records, group_records, IsNote, IsNoted};
+ghost use Rattle.lis_tree.specs.Tree.{IsOrder, IsPatient, IsGroup, IsTree};
 ghost use Rattle.lis_tree.specs.inside.Spine.{front_records, spine_records, spine_level, IsFront, IsSpine};
 ghost use Rattle.lis_tree.specs.inside.Standing.{standing_level};
 
@@ -109,7 +110,8 @@ impl Front {
     }
 
     fn with_group(self, group: Group) -> Result<Front, AllocError>
-        ensures { IfOk result (λ f. f ≡ record { header = self.header; notes = self.notes; groups = self.groups ++ group ∷ [] }) }
+        ensures { IfOk result
+            (λ f. f ≡ record { header = self.header; notes = self.notes; groups = self.groups ++ group ∷ [] }) }
     {
         let Front {
             header,
@@ -128,8 +130,22 @@ impl Front {
 
     /// The message that the closing record makes of it.
     pub(crate) fn into_message(self, delimiters: Delimiters, closing: Record) -> Message
-        requires { IsTree (record { delimiters = delimiters; header = self.header; notes = self.notes; groups = self.groups; closing = closing }) }
-        ensures { result ≡ record { delimiters = delimiters; header = self.header; notes = self.notes; groups = self.groups; closing = closing } }
+        requires { IsTree
+            (record {
+              delimiters = delimiters;
+              header = self.header;
+              notes = self.notes;
+              groups = self.groups;
+              closing = closing;
+            }) }
+        ensures { result ≡ record {
+          delimiters = delimiters;
+          header = self.header;
+          notes = self.notes;
+          groups =
+              self.groups;
+          closing = closing;
+        } }
     {
         let Front {
             header,

@@ -29,7 +29,8 @@ impl<'a> Model for Walk<'a> {
 
     ghost use Rattle.lis_tree.specs.inside.Walk.{walk_records};
 
-    ghost view = { λ w. walk_records (option_copied w.head) w.notes.now w.results.now w.orders.now w.groups.now (option_copied w.closing) };
+    ghost view = { λ w. walk_records (option_copied w.head) w.notes.now w.results.now w.orders.now w.groups.now
+        (option_copied w.closing) };
 }
 
 impl<'a> Walk<'a> {

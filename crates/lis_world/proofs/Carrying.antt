@@ -13,7 +13,7 @@ use Rattle.lis_link.specs.declared.sender.Outcome.TheVariants.{Done}
 use Rattle.lis_link.specs.declared.sender.Phase.TheVariants.{AwaitLine}
 use Rattle.lis_link.specs.declared.receiver.Readiness.TheVariants as Readinesses
 use Rattle.lis_link.specs.Joining.{groups}
-use Rattle.lis_link.specs.Sender.{sends, started, most_tries}
+use Rattle.lis_link.specs.Sender.{sends_first, started, most_tries}
 use Rattle.lis_link.specs.Receiver.{bid_with, heard_by}
 use Rattle.lis_link.proofs.JoiningLaws.{groups-session_frames}
 use Rattle.lis_world.specs.declared.event.Event.{Event}
@@ -317,7 +317,7 @@ begun limit texts w is_limit h calm room holds =
     subst (Holds limit) e2 (event_holds limit Deliver w1 is_limit holds) in
     let w3 : World = record (settled [] after w1) { replies = [] } in
     let e3 : after_event limit Reply w2 ≡ sender_steps {limit = limit}
-    (sends (session_frames limit texts) (started limit texts)) w3 =
+    (sends_first (session_frames limit texts) (started limit texts)) w3 =
     ap (after_event limit Reply) e2 ∙ ap (λ rs. replied limit rs (settled [] after w1)) replies_are in
     let count : length (session_frames limit texts) ≡ length (session_frames limit texts) = refl in
     sent_on limit c (session_frames limit texts) (length (session_frames limit texts)) (started limit texts) w3

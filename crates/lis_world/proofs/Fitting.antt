@@ -8,12 +8,12 @@ use Rattle.lis_text.specs.LinkText.{longest_text}
 use Rattle.lis_text.specs.Text.{IsText}
 use Rattle.lis_frame.specs.Frame.{FrameContent}
 use Rattle.lis_frame.specs.Pieces.{Piece, pieces_from, pieces, all_pieces, next_number, numbered, session_frames}
-use Rattle.lis_link.specs.Joining.{held_after, rest}
+use Rattle.lis_link.specs.Joining.{held_with, rest}
 
 -- each frame's text fits behind what is held then
 abbrev FitsAll : List ℕ → List FrameContent → Type 0
 FitsAll held [] = Unit {0}
-FitsAll held (f ∷ fs) = (length held + length f.text ≤ longest_text) × FitsAll (held_after held f) fs
+FitsAll held (f ∷ fs) = (length held + length f.text ≤ longest_text) × FitsAll (held_with held f) fs
 
 fits-pieces_from :
     (limit full n : ℕ) (held text : List ℕ) (later : List Piece)
@@ -43,7 +43,7 @@ fits-all_pieces limit n (text ∷ texts) h =
 fits_at : (held : List ℕ) (before : List FrameContent) (f : FrameContent) (left : List FrameContent)
     → FitsAll held (before ++ f ∷ left) → length (rest held before) + length f.text ≤ longest_text
 fits_at held [] f left h = h.0
-fits_at held (x ∷ before) f left h = fits_at (held_after held x) before f left h.1
+fits_at held (x ∷ before) f left h = fits_at (held_with held x) before f left h.1
 
 pub fits-session_frames :
     (limit : ℕ) (texts : List (List ℕ)) (before : List FrameContent) (f : FrameContent) (left : List FrameContent)

@@ -159,7 +159,7 @@ kept_frames limit w p h is =
     h.current.frames_are
 
 -- the sessions differ in what was accepted and handed out alone
-pub record IsKept (x y : Session) : Type 0 where
+pub record IsKeptSession (x y : Session) : Type 0 where
   pub texts_same : y.texts ≡ x.texts
   pub sent_same : y.sent ≡ x.sent
   pub acknowledged_same : y.acknowledged ≡ x.acknowledged
@@ -167,7 +167,7 @@ pub record IsKept (x y : Session) : Type 0 where
 
 pub record AreKept (ss ss' : List Session) : Type 0 where
   pub length_same : length ss' ≡ length ss
-  pub each_kept : (k : ℕ) → IsKept (session_at k ss) (session_at k ss')
+  pub each_kept : (k : ℕ) → IsKeptSession (session_at k ss) (session_at k ss')
 
 -- the computer's side after a unit has left the link, whether or not its bytes came
 pub record IsLeft (limit s : ℕ) (load : Load) (d d' : Desk) : Type 0 where

@@ -9,7 +9,7 @@ use Rattle.lis_world.specs.Unit.{Load, enquiry, ending, one_frame, Travelling}
 use Rattle.lis_world.specs.Session.{Session, session_at}
 use Rattle.lis_world.specs.World.{World, Desk, desk_of, replies_with, lowered, settled}
 use Rattle.lis_world.proofs.Invariant.{Unsent, Waits, Behind, Leads, Front, KeepsFrames, IsCurrent, AllEndings, BidsBy}
-use Rattle.lis_world.proofs.Invariant.{Bids, BidAnswer, FrameAnswer, IsAwaiting, InPhase, Holds, IsKept, AreKept}
+use Rattle.lis_world.proofs.Invariant.{Bids, BidAnswer, FrameAnswer, IsAwaiting, InPhase, Holds, IsKeptSession, AreKept}
 use Rattle.lis_world.proofs.Invariant.{IsLeft}
 
 pub unsent_kept : (ss ss' : List Session) (s : ℕ) → AreKept ss ss' → Unsent ss s → Unsent ss' s
@@ -41,7 +41,7 @@ lowered_within : (m n : ℕ) → m ≤ suc n → lowered m ≤ n
 lowered_within zero n h = omega arith
 lowered_within (suc m) n h = omega arith
 
-pub current_kept : (limit : ℕ) (sender : SenderState) (x y : Session) → IsKept x y → IsCurrent limit sender x
+pub current_kept : (limit : ℕ) (sender : SenderState) (x y : Session) → IsKeptSession x y → IsCurrent limit sender x
     → IsCurrent limit sender y
 current_kept limit sender x y kept h = record {
   frames_are =

@@ -12,7 +12,7 @@ use Rattle.lis_link.specs.declared.sender.Phase.TheVariants.{Neutral, AwaitLine,
 use Rattle.lis_link.specs.declared.sender.Outcome.TheVariants.{Done, SixTries}
 use Rattle.lis_link.specs.declared.sender.EmitOf.TheVariants.{Nothing}
 use Rattle.lis_link.specs.declared.sender.EmitOf.TheVariants as Emits
-use Rattle.lis_link.specs.Sender.{SenderState, over, gives, ends, sends, sends_again, is_accepted, reply_in, on_reply}
+use Rattle.lis_link.specs.Sender.{SenderState, over, gives, ends, sends_first, sends_again, on_accepted, reply_in, on_reply}
 use Rattle.lis_link.specs.Sender.{most_tries}
 use Rattle.lis_world.specs.Unit.{one_frame, Travelling}
 use Rattle.lis_world.specs.Session.{session_at, changed, follows}
@@ -61,7 +61,7 @@ line_given :
     → w.sender.frames ≡ session_frames limit (session_at w.current w.sessions).texts
     → (frames : List FrameContent)
     → w.sender.frames ≡ frames
-    → Holds limit (sender_steps {limit = limit} (sends frames w.sender) (record w { replies = bs }))
+    → Holds limit (sender_steps {limit = limit} (sends_first frames w.sender) (record w { replies = bs }))
 line_given limit w bs h unsent zero_is no_unit no_reply owner kept [] frames_are =
     let can = can_follow limit w h in
     ended_with_ending limit (over Done w.sender) (record w { replies = bs })
@@ -146,7 +146,7 @@ bid_answered limit b bs w h are kept bidding = go bidding.traffic
     go (inr one) =
         let e : b ∷ bs ≡ one.1.0 ∷ [] = sym are ∙ one.1.1 in
         let no_reply : bs ≡ [] = cc in
-        cond_both (b == ACK) (sends w.sender.frames w.sender) _
+        cond_both (b == ACK) (sends_first w.sender.frames w.sender) _
         (λ step. Holds limit (sender_steps {limit = limit} step (record w { replies = bs })))
         (λ ack. line_given limit w bs h bidding.unsent bidding.none_acknowledged one.0 no_reply one.1.2 kept
         w.sender.frames refl)
@@ -169,7 +169,7 @@ next_sent :
     → (session_at w.current w.sessions).accepted ≡ awaiting.before ++ awaiting.frame ∷ []
     → (left : List FrameContent)
     → awaiting.left ≡ left
-    → Holds limit (sender_steps {limit = limit} (sends left
+    → Holds limit (sender_steps {limit = limit} (sends_first left
     (record w.sender { acknowledged = w.sender.acknowledged + 1 })) (record w { replies = bs }))
 next_sent limit w bs h awaiting kept no_unit no_reply accepted [] none =
     let can = can_follow limit w h in
@@ -303,12 +303,12 @@ frame_answered limit b bs w h are awaits awaiting = go awaiting.traffic
         → (IsYes b → (session_at w.current w.sessions).accepted ≡ before ++ f ∷ [])
         → Replied limit AwaitReply b bs w
     one_answer no_unit no_reply accepted =
-        cond_both (b == ACK || b == EOT) (is_accepted {limit = limit} w.sender)
+        cond_both (b == ACK || b == EOT) (on_accepted {limit = limit} w.sender)
         (sends_again {limit = limit} (drop w.sender.acknowledged w.sender.frames) w.sender)
         (λ step. Holds limit (sender_steps {limit = limit} step (record w { replies = bs })))
         (λ yes.
         subst (λ xs. Holds limit (sender_steps {limit = limit}
-        (sends xs (record w.sender { acknowledged = w.sender.acknowledged + 1 })) (record w { replies = bs })))
+        (sends_first xs (record w.sender { acknowledged = w.sender.acknowledged + 1 })) (record w { replies = bs })))
         (sym left_then)
         (next_sent limit w bs h awaiting (kept_frames limit w AwaitReply h awaits) no_unit no_reply
         (accepted (is_yes (or_cases (b == ACK) (b == EOT) yes))) awaiting.left refl))

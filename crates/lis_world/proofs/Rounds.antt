@@ -18,7 +18,7 @@ use Rattle.lis_link.specs.declared.receiver.Note.{Note}
 use Rattle.lis_link.specs.declared.receiver.Note.TheVariants.{Accepted, Duplicate, NoRoom}
 use Rattle.lis_text.specs.LinkText.{longest_text}
 use Rattle.lis_link.specs.Joining.{rest}
-use Rattle.lis_link.specs.Sender.{SenderState, over, gives, ends, sends, sends_again, is_accepted, reply_in, on_reply}
+use Rattle.lis_link.specs.Sender.{SenderState, over, gives, ends, sends_first, sends_again, on_accepted, reply_in, on_reply}
 use Rattle.lis_link.specs.Sender.{most_tries}
 use Rattle.lis_link.specs.Receiver.{judged, on_judged, heard_by, held_text, most_frames}
 use Rattle.lis_world.specs.declared.event.Event.TheVariants.{Deliver, DeliverNoRoom, Damage, Reply, DamageReply}
@@ -131,7 +131,7 @@ pub sent_on :
     → session_frames limit (session_at w.current w.sessions).texts ≡ frames
     → sender.acknowledged + k ≡ length frames
     → (left : List FrameContent)
-    → w2 ≡ sender_steps {limit = limit} (sends left sender) w
+    → w2 ≡ sender_steps {limit = limit} (sends_first left sender) w
     → GoesOn limit c frames k w2
 sent_on limit c frames k sender w w2 current_is length_is mute_within holds no_unit no_reply is_open room frames_are
     remaining [] e =
@@ -184,7 +184,7 @@ after_yes limit c frames k t w is_limit answered =
     let sender : SenderState = record w.sender { acknowledged = w.sender.acknowledged + 1 } in
     let w1 : World = record w { replies = [] } in
     let e : after_event limit Reply w ≡ sender_steps {limit = limit}
-    (sends (drop (w.sender.acknowledged + 1) w.sender.frames) sender) w1 =
+    (sends_first (drop (w.sender.acknowledged + 1) w.sender.frames) sender) w1 =
     ap (λ rs. replied limit rs w) answered.reply_is
     ∙ ap (λ p. sender_steps {limit = limit} (reply_in p ACK w.sender) w1) answered.awaits in
     let remaining = answered.remaining in
@@ -221,7 +221,7 @@ after_no limit c frames k t b r w w2 answered refused few holds e =
     let few_tries : nat_lt w.sender.tries most_tries ≡ true = lt-ltb w.sender.tries most_tries (omega arith) in
     let step_is : on_reply {limit = limit} r w.sender ≡ gives (Emits.Frame f) again =
     ap (λ p. reply_in {limit = limit} p r w.sender) answered.awaits
-    ∙ cond-false (r == ACK || r == EOT) (is_accepted {limit = limit} w.sender)
+    ∙ cond-false (r == ACK || r == EOT) (on_accepted {limit = limit} w.sender)
     (sends_again {limit = limit} (drop w.sender.acknowledged w.sender.frames) w.sender) no_yes
     ∙ ap (λ xs. sends_again {limit = limit} xs w.sender) same_then
     ∙ cond-true (nat_lt w.sender.tries most_tries) (gives {limit = limit} (Emits.Frame f) again)

@@ -113,7 +113,8 @@ impl<const N: usize> RunOf<N> {
     /// play.
     fn start(&mut self, texts: Texts) -> Result<(), AllocError>
         ensures world { (r : ReceiverState) → IsIn N self.old.desk.receiver r →
-            OnOk result (IsWorld N self.new (begins N (start_fault self.old.sender texts) texts (world_at self.old r))) }
+            OnOk result (IsWorld N self.new (begins N (start_fault self.old.sender texts) texts
+            (world_at self.old r))) }
         ensures refused { OnErr result (start_fault self.old.sender texts ≡ None) }
     {
         if self.sender.start_fault(&texts).is_some() {

@@ -6,7 +6,7 @@ use Rattle.lis_frame.specs.Scanner.{StandsFor}
 use Rattle.lis_link.specs.declared.receiver.Hearing.{Hearing}
 use Rattle.lis_link.specs.declared.receiver.Note.TheVariants.{Accepted, OutOfMemory, Quiet}
 use Rattle.lis_link.specs.declared.receiver.Step.{Step}
-use Rattle.lis_link.specs.Joining.{completed, held_after}
+use Rattle.lis_link.specs.Joining.{completed, held_with}
 use Rattle.lis_link.specs.inside.Kept.{Kept, KeptLine}
 use Rattle.lis_link.specs.Receiver.{ReceiverState, ReceiverStep, answers, held_text, held_while, heard_on, on_bytes}
 use Rattle.lis_link.specs.Receiver.{with_heard}
@@ -54,7 +54,7 @@ pub record IsTaken (old : KeptLine) (frame : FrameContent) (number : ℕ) (resul
   pub reply_is : result.reply ≡ Some ACK
   pub message_is : result.message ≡ completed old.held frame
   pub note_is : result.note ≡ Accepted number
-  pub new_is : new ≡ record old { accepted = old.accepted + 1; held = held_after old.held frame; spare = new.spare }
+  pub new_is : new ≡ record old { accepted = old.accepted + 1; held = held_with old.held frame; spare = new.spare }
 
 -- the front of bytes was heard: all but its last byte were quiet, this step is meant for the last, and it was made or
 -- refused; where it is quiet too, nothing has changed but the stream

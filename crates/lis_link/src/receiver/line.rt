@@ -233,13 +233,15 @@ impl Line {
     pub(crate) fn good(&mut self, frame: &LentFrame<'_>) -> Step
         ensures step { (limit : ℕ) (scanner : Held) (r : ReceiverState) → IsIn limit (kept_of self.old scanner) r →
             result.note ≢ Notes.OutOfMemory →
-            Makes limit (heard_by {limit = limit} r.is_open (Signals.Good frame.now) r) result (kept_of self.new scanner) }
+            Makes limit (heard_by {limit = limit} r.is_open (Signals.Good frame.now) r) result
+            (kept_of self.new scanner) }
         ensures refused { (limit : ℕ) (scanner : Held) (r : ReceiverState) → IsIn limit (kept_of self.old scanner) r →
             result.note ≡ Notes.OutOfMemory →
             IsRefused limit self.old.spare (heard_by {limit = limit} r.is_open (Signals.Good frame.now) r) r result
             (kept_of self.new scanner) }
         ensures spare { (limit : ℕ) (scanner : Held) (r : ReceiverState) → IsIn limit (kept_of self.old scanner) r →
-            SpareAfter self.old.spare self.new.spare (heard_by {limit = limit} r.is_open (Signals.Good frame.now) r).taken }
+            SpareAfter self.old.spare self.new.spare (heard_by {limit = limit} r.is_open (Signals.Good frame.now)
+            r).taken }
     {
         if !self.is_open {
             return Step::of(None, Note::Quiet);

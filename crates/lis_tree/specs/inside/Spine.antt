@@ -4,7 +4,8 @@ use Rattle.std.specs.List.{flat_map, AllByRecursion}
 use Rattle.lis_field.specs.declared.kinds.Kind.TheVariants as kinds
 use Rattle.lis_field.specs.Shape.{RecordContent}
 use Rattle.lis_tree.specs.inside.Front.{FrontTree}
-use Rattle.lis_tree.specs.Tree.{noted_records, order_records, patient_records, group_records, AreNotes, IsNoted, IsOrder, IsPatient, IsGroup}
+use Rattle.lis_tree.specs.Tree.{noted_records, order_records, patient_records, group_records, AreNotes, IsNoted}
+use Rattle.lis_tree.specs.Tree.{IsOrder, IsPatient, IsGroup}
 use Rattle.lis_tree.specs.Level.{Level, in_header, in_patient, in_order, in_query}
 use Rattle.lis_tree.specs.declared.spine.Spine.{Spine}
 use Rattle.lis_tree.specs.declared.spine.Spine.TheVariants as spines
@@ -40,4 +41,5 @@ IsSpine (spines.Header item) = IsNoted kinds.H item
 IsSpine (spines.Query front item) = IsFront front × IsNoted kinds.Q item
 IsSpine (spines.Patient front item) = IsFront front × IsNoted kinds.P item
 IsSpine (spines.Order front patient item) = IsFront front × IsPatient patient × IsNoted kinds.O item
-IsSpine (spines.Entry front patient order item) = IsFront front × IsPatient patient × IsOrder order × IsNoted kinds.R item
+IsSpine (spines.Entry front patient order item) =
+    IsFront front × IsPatient patient × IsOrder order × IsNoted kinds.R item

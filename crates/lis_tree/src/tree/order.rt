@@ -38,7 +38,13 @@ impl Order {
 
     /// Adds a result at the end.
     pub(crate) fn push(&mut self, entry: ResultEntry) -> Result<(), AllocFailed<ResultEntry>>
-        ensures { OnOk result (self.new ≡ record { head = self.old.head; notes = self.old.notes; results = self.old.results ++ entry ∷ [] }) }
+        ensures { OnOk result
+            (self.new ≡ record {
+              head = self.old.head;
+              notes = self.old.notes;
+              results = self.old.results ++ entry
+                  ∷ [];
+            }) }
     {
         self.results.push(entry)
     }

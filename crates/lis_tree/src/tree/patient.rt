@@ -38,7 +38,13 @@ impl Patient {
 
     /// Adds an order at the end.
     pub(crate) fn push(&mut self, order: Order) -> Result<(), AllocFailed<Order>>
-        ensures { OnOk result (self.new ≡ record { head = self.old.head; notes = self.old.notes; orders = self.old.orders ++ order ∷ [] }) }
+        ensures { OnOk result
+            (self.new ≡ record {
+              head = self.old.head;
+              notes = self.old.notes;
+              orders = self.old.orders ++ order
+                  ∷ [];
+            }) }
     {
         self.orders.push(order)
     }

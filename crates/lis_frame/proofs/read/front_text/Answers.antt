@@ -9,12 +9,14 @@ use Rattle.lis_frame.proofs.read.front_text.Goals as goal
 
 pub split_at-requires : goal.split_at-requires
 split_at-requires g c =
-    let before = clean-before is_forbidden c.args.behind.now c.in-Some.place (sym c.text_and_sum-forbidden.ensures.first ∙ c.in-Some.is) in
+    let before = clean-before is_forbidden c.args.behind.now c.in-Some.place
+    (sym c.text_and_sum-forbidden.ensures.first ∙ c.in-Some.is) in
     omega (arith, before.0)
 
 pub returns-clause-frame : goal.returns-clause-frame
 returns-clause-frame g c =
-    let before = clean-before is_forbidden c.args.behind.now c.in-Some.place (sym c.text_and_sum-forbidden.ensures.first ∙ c.in-Some.is) in
+    let before = clean-before is_forbidden c.args.behind.now c.in-Some.place
+    (sym c.text_and_sum-forbidden.ensures.first ∙ c.in-Some.is) in
     let text = c.split_at.result.0.now in
     let rest = c.split_at.result.1.now in
     let end = get_or rest 0 0 in

@@ -26,7 +26,8 @@ returns-in-Err-write_all-clause-err g c =
     let text = rw (c.as_slice-text.ensures.value, c.text.ensures) at c.in_default.ensures.ok in
     let failed = rw c.tail.ensures at c.in-Err-write_all.ensures.err in
     let part = part_behind _ _ _ _ _ _ front (part_behind _ _ _ _ _ _ text failed) in
-    let count : 2 + length c.args.frame.now.text + c.in-Err-write_all.count ≡ 2 + (length c.args.frame.now.text + c.in-Err-write_all.count) = omega arith in
+    let count : 2 + length c.args.frame.now.text + c.in-Err-write_all.count ≡ 2
+    + (length c.args.frame.now.text + c.in-Err-write_all.count) = omega arith in
     rw (c.as_slice-text.ensures.value, c.text.ensures, count) part
 
 pub returns-clause-ok : goal.returns-clause-ok

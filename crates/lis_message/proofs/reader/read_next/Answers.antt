@@ -37,10 +37,13 @@ returns-in-Ok-take_entry-clause-on c =
 
 pub returns-in-Err-clause-err : goal.returns-in-Err-clause-err
 returns-in-Err-clause-err c =
-    memory_stops c.args.records.now c.args.begun.now c.args.bytes.now c.args.messages.now c.take_entry.new.messages c.in-Err.fault
+    memory_stops c.args.records.now c.args.begun.now c.args.bytes.now c.args.messages.now c.take_entry.new.messages
+    c.in-Err.fault
     (c.in-Err.ensures.place ∙ c.next_place-place.ensures c.args.begun.now c.requires.opened) c.in-Err.ensures.err
 
 pub returns-in-Err-take_entry-clause-err : goal.returns-in-Err-take_entry-clause-err
 returns-in-Err-take_entry-clause-err c =
-    memory_stops c.args.records.now c.args.begun.now c.args.bytes.now c.args.messages.now c.take_entry-in-Held.new.messages c.in-Err-take_entry.fault
-    (c.in-Err-take_entry.ensures.place ∙ c.next_place-place.ensures c.args.begun.now c.requires.opened) c.in-Err-take_entry.ensures.err
+    memory_stops c.args.records.now c.args.begun.now c.args.bytes.now c.args.messages.now
+    c.take_entry-in-Held.new.messages c.in-Err-take_entry.fault
+    (c.in-Err-take_entry.ensures.place ∙ c.next_place-place.ensures c.args.begun.now c.requires.opened)
+    c.in-Err-take_entry.ensures.err

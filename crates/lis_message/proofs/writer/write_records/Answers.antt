@@ -13,8 +13,10 @@ returns-in-Err-clause-wrote g c =
     let is : c.loop-entry.walk ≡ c.in-Some.entry.now ∷ c.next.new.self = c.in-Some.ensures.next in
     let w = subst (AreWritable d) is inv.writable in
     inv.goes new (Err (record { place = c.loop-entry.at; fault = c.in-Err.fault }))
-    (subst (λ rs. WroteRecords d rs c.loop-entry.at c.loop-entry.passed now new (Err (record { place = c.loop-entry.at; fault = c.in-Err.fault }))) (sym is)
-    (wrote_stop d c.in-Some.entry.now c.next.new.self c.loop-entry.at c.loop-entry.passed now new c.in-Err.fault inv.fits w.0 c.in-Err.ensures.wrote))
+    (subst (λ rs. WroteRecords d rs c.loop-entry.at c.loop-entry.passed now new
+    (Err (record { place = c.loop-entry.at; fault = c.in-Err.fault }))) (sym is)
+    (wrote_stop d c.in-Some.entry.now c.next.new.self c.loop-entry.at c.loop-entry.passed now new c.in-Err.fault
+    inv.fits w.0 c.in-Err.ensures.wrote))
 
 pub loop-entry-preserved : goal.loop-entry-preserved
 loop-entry-preserved g c =
@@ -33,6 +35,7 @@ loop-entry-preserved g c =
       room = omega arith;
       goes = λ new result x. inv.goes new result
           (subst (λ rs. WroteRecords d rs c.loop-entry.at c.loop-entry.passed now new result) (sym is)
-          (wrote_step d c.in-Some.entry.now c.next.new.self c.loop-entry.at c.loop-entry.passed now mid new result room c.in_default-write_record_from.ensures.wrote.1
+          (wrote_step d c.in-Some.entry.now c.next.new.self c.loop-entry.at c.loop-entry.passed now mid new result
+          room c.in_default-write_record_from.ensures.wrote.1
           (subst (λ n. WroteRecords d c.next.new.self n 0 mid new result) added x)));
     }

@@ -1,4 +1,5 @@
-use Rattle.std.proofs.Common.{◌≡◌, ℕ, ◌+◌, ◌%◌, ◌<◌, ◌∙◌, None, Some, List, length, take, drop, length-take, ap, sym, arith}
+use Rattle.std.proofs.Common.{◌≡◌, ℕ, ◌+◌, ◌%◌, ◌<◌, ◌∙◌, None, Some, List, length, take, drop, length-take, ap, sym}
+use Rattle.std.proofs.Common.{arith}
 use Rattle.std.specs.List.{sum}
 use Rattle.std.specs.Simd.Lanes.{sum_l, zip2}
 use Rattle.std.specs.Int.Count.{count_trailing_zeros}

@@ -5,4 +5,5 @@ use Rattle.vectors.proofs.resuming.write_rest.Given as goal
 
 abbrev pub invariant-loop : goal.invariant-loop
 invariant-loop l =
-    (1 ≤ l.at) × (l.at ≤ length (flatten l.message)) × (l.passed ≤ first_length l.message.delimiters (drop (l.at - 1) (flatten l.message)))
+    (1 ≤ l.at) × (l.at ≤ length (flatten l.message))
+    × (l.passed ≤ first_length l.message.delimiters (drop (l.at - 1) (flatten l.message)))

@@ -11,14 +11,16 @@ returns-in-Ok-clause-read c = λ left has.
     let end = c.in-Some.end in
     let rest = c.in-Some-split_first.rest.now in
     let clear = c.is_clear.ensures c.if-not-is_clear.false in
-    let none : c.args.self.now.held ≡ [] = ap (λ (r : RecordsState). r.held) (sym c.self.view_is) ∙ ap (λ (h : Holding). h.held) clear in
+    let none : c.args.self.now.held ≡ [] = ap (λ (r : RecordsState). r.held) (sym c.self.view_is)
+    ∙ ap (λ (h : Holding). h.held) clear in
     let read = c.in-Ok.ensures.ok left has.opened in
     record {
       text = text;
       whole =
           sym (take-append-drop end bytes) ∙ ap (λ (l : List ℕ). l ++ drop end bytes) (sym c.split_at.ensures.front)
           ∙ ap (λ (l : List ℕ). text ++ l)
-          (sym c.split_at.ensures.back ∙ c.in-Some-split_first.ensures.cases.0 ∙ ap (λ (b : ℕ). b ∷ rest) c.if-byte-ne-CR.false);
+          (sym c.split_at.ensures.back ∙ c.in-Some-split_first.ensures.cases.0
+          ∙ ap (λ (b : ℕ). b ∷ rest) c.if-byte-ne-CR.false);
       lacks = rw c.split_at.ensures.front (text_lacks _ c.in-Some.ensures.texts);
       comes = subst (λ (h : List ℕ). ComesNext left (h ++ text) c.in-Ok.entry) (sym none) read.0;
       left_then = record { no_fault = c.end_whole.ensures.fault ∙ has.no_fault; opened = read.1 };

@@ -9,7 +9,8 @@ use Rattle.lis_tree.proofs.numbering.Numbering.take.Goals as goal
 pub returns-clause-found : goal.returns-clause-found
 returns-clause-found c = λ records has.
     let r = c.args.entry.now.content in
-    let place : c.next_place.result ≡ capped (1 + length records) = c.next_place.ensures records has ∙ ap (λ (k : ℕ). capped k) (omega arith) in
+    let place : c.next_place.result ≡ capped (1 + length records) =
+    c.next_place.ensures records has ∙ ap (λ (k : ℕ). capped k) (omega arith) in
     findings-more [] 1 records r
     ∙ ap (λ l. findings_from [] 1 records ++ l)
     (sym (c.finding_on-finding.ensures (kinds_back [] records) (1 + length records) r has.counts place
