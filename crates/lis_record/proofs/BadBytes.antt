@@ -9,7 +9,8 @@ use Rattle.lis_text.proofs.SearchLemmas.{clean-before}
 none_before : (bytes : List ℕ) (place : ℕ) → Some place ≡ position_from (λ b. not (is_text_byte b)) 0 bytes
     → bad_byte_place (take place bytes) ≡ None
 none_before bytes place is =
-    position_from-zero (λ b. not (is_text_byte b)) (take place bytes) ∙ (clean-before (λ b. not (is_text_byte b)) bytes place (sym is)).1
+    position_from-zero (λ b. not (is_text_byte b)) (take place bytes)
+    ∙ (clean-before (λ b. not (is_text_byte b)) bytes place (sym is)).1
 
 pub found_bound : (bytes : List ℕ) (found : Option ℕ) → found ≡ position_from (λ b. not (is_text_byte b)) 0 bytes
     → IfSome found (λ place. place < length bytes)

@@ -32,7 +32,8 @@ short_delimiters : header_fault (0x48 ∷ 0x7c ∷ 0x5c ∷ 0x5e ∷ []) ≡ Som
 unfolding header_fault delimiter_part_fault text_fault delimiter_fault is_punctuation is_text_byte kind_of
 short_delimiters = refl
 
-byte_behind_the_delimiters : header_fault (0x48 ∷ 0x7c ∷ 0x5c ∷ 0x5e ∷ 0x26 ∷ 0x41 ∷ []) ≡ Some (DelimiterPart (Trailing 0x41))
+byte_behind_the_delimiters : header_fault (0x48 ∷ 0x7c ∷ 0x5c ∷ 0x5e ∷ 0x26 ∷ 0x41 ∷ [])
+    ≡ Some (DelimiterPart (Trailing 0x41))
 unfolding header_fault delimiter_part_fault text_fault delimiter_fault is_punctuation is_text_byte kind_of
 byte_behind_the_delimiters = refl
 
@@ -58,7 +59,8 @@ hexadecimal_escape : symbols_of usual (0x26 ∷ 0x58 ∷ 0x30 ∷ 0x44 ∷ 0x30 
 unfolding symbols_after escape_at escape_of decode_pairs usual
 hexadecimal_escape = refl
 
-odd_digits_are_no_escape : symbols_of usual (0x26 ∷ 0x58 ∷ 0x34 ∷ 0x26 ∷ []) ≡ Char 0x26 ∷ Char 0x58 ∷ Char 0x34 ∷ Char 0x26 ∷ []
+odd_digits_are_no_escape : symbols_of usual (0x26 ∷ 0x58 ∷ 0x34 ∷ 0x26 ∷ []) ≡ Char 0x26 ∷ Char 0x58 ∷ Char 0x34
+    ∷ Char 0x26 ∷ []
 unfolding symbols_after escape_at escape_of decode_pairs usual
 odd_digits_are_no_escape = refl
 
@@ -90,7 +92,12 @@ empty_field_written = refl
 
 -- field 4 holds CR
 bad_character :
-    check_fault usual (record { kind = kinds.P; fields = (((Char 0x31 ∷ []) ∷ []) ∷ []) ∷ (([] ∷ []) ∷ []) ∷ (((Char 0x0d ∷ []) ∷ []) ∷ []) ∷ [] })
+    check_fault usual
+    (record {
+      kind = kinds.P;
+      fields = (((Char 0x31 ∷ []) ∷ []) ∷ []) ∷ (([] ∷ []) ∷ [])
+          ∷ (((Char 0x0d ∷ []) ∷ []) ∷ []) ∷ [];
+    })
     ≡ Some (CharNotText 4)
 unfolding check_fault spelled_symbol usual is_text_byte
 bad_character = refl

@@ -10,10 +10,12 @@ use Rattle.lis_field.specs.Delimiters.{DelimiterBytes, IsDelimiters, delimiter_f
 use Rattle.lis_field.specs.Kinds.{kind_of}
 use Rattle.lis_record.specs.declared.faults.DelimiterPartFault.TheVariants.{Fault, Trailing}
 use Rattle.lis_record.specs.declared.faults.RecordFault.TheVariants as record_faults
-use Rattle.lis_record.specs.Faults.{delimiter_part_fault, header_fault, is_header_kind, is_other_kind, record_fault, text_fault, trailing_byte}
+use Rattle.lis_record.specs.Faults.{delimiter_part_fault, header_fault, is_header_kind, is_other_kind, record_fault}
+use Rattle.lis_record.specs.Faults.{text_fault, trailing_byte}
 use Rattle.lis_record.specs.Faultless.{IsSomeHeader, IsSomeRecord}
 use Rattle.lis_record.specs.inside.FrontReading.{fields_of}
-use Rattle.lis_record.proofs.FaultLaws.{IsRecord-fields_of, IsRecord-header, header_fault-IsRecord, record_fault-IsRecord}
+use Rattle.lis_record.proofs.FaultLaws.{IsRecord-fields_of, IsRecord-header, header_fault-IsRecord}
+use Rattle.lis_record.proofs.FaultLaws.{record_fault-IsRecord}
 
 -- ---- records other than headers
 
@@ -44,9 +46,11 @@ record_without_fault d [] good none = cc
 record_without_fault d (letter ∷ bytes) good none =
     let parts =
     option_or-none (if is_other_kind (kind_of letter) then None else Some (record_faults.UnknownKind letter))
-    (option_or (option_map record_faults.UnknownKind (trailing_byte d.field bytes)) (text_fault (letter ∷ bytes))) none in
+    (option_or (option_map record_faults.UnknownKind (trailing_byte d.field bytes)) (text_fault (letter ∷ bytes)))
+    none in
     let both =
-    option_or-none (option_map record_faults.UnknownKind (trailing_byte d.field bytes)) (text_fault (letter ∷ bytes)) parts.1 in
+    option_or-none (option_map record_faults.UnknownKind (trailing_byte d.field bytes)) (text_fault (letter ∷ bytes))
+    parts.1 in
     let first = other_letter (kind_of letter) letter parts.0 in
     record {
       content = record { kind = first.kind; fields = fields_of d bytes };
@@ -77,7 +81,8 @@ header_letter (Some kinds.L) letter e = absurd cc
 
 header_parts :
     (letter : ℕ) (part : List ℕ)
-    → kind_of letter ≡ Some kinds.H → delimiter_part_fault part ≡ None → text_fault (letter ∷ part) ≡ None → IsSomeHeader (letter ∷ part)
+    → kind_of letter ≡ Some kinds.H → delimiter_part_fault part ≡ None → text_fault (letter ∷ part) ≡ None
+    → IsSomeHeader (letter ∷ part)
 unfolding delimiter_part_fault
 header_parts letter [] is none texts = cc
 header_parts letter (f ∷ []) is none texts = cc
@@ -85,7 +90,8 @@ header_parts letter (f ∷ r ∷ []) is none texts = cc
 header_parts letter (f ∷ r ∷ c ∷ []) is none texts = cc
 header_parts letter (f ∷ r ∷ c ∷ e ∷ bytes) is none texts =
     let parts =
-    option_or-none (option_map Fault (delimiter_fault (f ∷ r ∷ c ∷ e ∷ []))) (option_map Trailing (trailing_byte f bytes)) none in
+    option_or-none (option_map Fault (delimiter_fault (f ∷ r ∷ c ∷ e ∷ [])))
+    (option_map Trailing (trailing_byte f bytes)) none in
     let marks : delimiter_fault (f ∷ r ∷ c ∷ e ∷ []) ≡ None =
     option_map-none Fault (delimiter_fault (f ∷ r ∷ c ∷ e ∷ [])) parts.0 in
     let trailing : trailing_byte f bytes ≡ None = option_map-none Trailing (trailing_byte f bytes) parts.1 in
@@ -103,9 +109,11 @@ header_without_fault [] none = cc
 header_without_fault (letter ∷ part) none =
     let parts =
     option_or-none (if is_header_kind (kind_of letter) then None else Some (record_faults.UnknownKind letter))
-    (option_or (option_map record_faults.DelimiterPart (delimiter_part_fault part)) (text_fault (letter ∷ part))) none in
+    (option_or (option_map record_faults.DelimiterPart (delimiter_part_fault part)) (text_fault (letter ∷ part)))
+    none in
     let both =
-    option_or-none (option_map record_faults.DelimiterPart (delimiter_part_fault part)) (text_fault (letter ∷ part)) parts.1 in
+    option_or-none (option_map record_faults.DelimiterPart (delimiter_part_fault part)) (text_fault (letter ∷ part))
+    parts.1 in
     header_parts letter part (header_letter (kind_of letter) letter parts.0)
     (option_map-none record_faults.DelimiterPart (delimiter_part_fault part) both.0) both.1
 

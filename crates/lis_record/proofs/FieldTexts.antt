@@ -1,5 +1,7 @@
 -- Fields that are taken one after another, and fields that are taken as they stand.
-use Rattle.std.proofs.Common.{◌≡◌, ◌≢◌, ℕ, zero, suc, ◌+◌, ◌-◌, ◌<◌, ◌≤◌, List, [], ◌∷◌, ◌++◌, length, map, take, drop, None, Some, refl, sym, ap, ◌∙◌, arith, append_assoc, append-nil, length-append, eqb, true, false, Bool, cond, not, ◌==◌, Option, unwrap_or}
+use Rattle.std.proofs.Common.{◌≡◌, ◌≢◌, ℕ, zero, suc, ◌+◌, ◌-◌, ◌<◌, ◌≤◌, List, [], ◌∷◌, ◌++◌, length, map, take}
+use Rattle.std.proofs.Common.{drop, None, Some, refl, sym, ap, ◌∙◌, arith, append_assoc, append-nil, length-append}
+use Rattle.std.proofs.Common.{eqb, true, false, Bool, cond, not, ◌==◌, Option, unwrap_or}
 use Rattle.std.specs.List.{All, flat_map}
 use Rattle.std.proofs.lemmas.Bool.{eqb-true}
 use Rattle.std.proofs.lemmas.Grind.{flat_map-append}
@@ -13,7 +15,8 @@ use Rattle.lis_field.specs.Delimiters.{DelimiterBytes}
 use Rattle.lis_record.specs.Faults.{trailing_byte}
 use Rattle.lis_field.specs.Shape.{Components, Fields, Symbols, plain_component, plain_field}
 use Rattle.lis_field.specs.declared.symbols.Sym.TheVariants.{Char}
-use Rattle.lis_record.specs.inside.FrontReading.{components_of, fields_of, parts_behind, parts_of, repeats_of, symbols_of}
+use Rattle.lis_record.specs.inside.FrontReading.{components_of, fields_of, parts_behind, parts_of, repeats_of}
+use Rattle.lis_record.specs.inside.FrontReading.{symbols_of}
 use Rattle.lis_record.specs.inside.Remaining.{more_fields}
 use Rattle.lis_record.specs.Relation.{Lacks}
 use Rattle.lis_record.specs.Spelling.{spelled_field}
@@ -23,11 +26,14 @@ use Rattle.lis_record.proofs.Places.{IsFound-position, symbols_of-nil}
 use Rattle.lis_record.proofs.LentTexts.{field_as_is}
 
 -- the first part of a text doesn't hold the delimiter
-pub Lacks-first : (mark : ℕ) (text part rest : List ℕ) → parts_of mark text ≡ part ∷ parts_behind mark rest → Lacks mark part
-Lacks-first mark text part rest is = All-head (Lacks mark) part (parts_behind mark rest) (rw is at (parts_of-apart mark text))
+pub Lacks-first : (mark : ℕ) (text part rest : List ℕ) → parts_of mark text ≡ part ∷ parts_behind mark rest
+    → Lacks mark part
+Lacks-first mark text part rest is = All-head (Lacks mark) part (parts_behind mark rest)
+    (rw is at (parts_of-apart mark text))
 
 -- what a text without another first byte begins with
-pub trailing-none : (mark byte : ℕ) (bytes text : List ℕ) → text ≡ byte ∷ bytes → trailing_byte mark text ≡ None → byte ≡ mark
+pub trailing-none : (mark byte : ℕ) (bytes text : List ℕ) → text ≡ byte ∷ bytes → trailing_byte mark text ≡ None
+    → byte ≡ mark
 trailing-none mark byte bytes text is none = by (eqb byte mark) refl (rw is at none)
   where
     by : (test : Bool) → eqb byte mark ≡ test → cond test None (Some byte) ≡ None → byte ≡ mark
@@ -35,7 +41,8 @@ trailing-none mark byte bytes text is none = by (eqb byte mark) refl (rw is at n
     by false t none = cc none
 
 -- behind a part stands the delimiter, or nothing
-behind_first : (mark : ℕ) (text : List ℕ) → trailing_byte mark (drop (position_or_len (λ b. b == mark) text) text) ≡ None
+behind_first : (mark : ℕ) (text : List ℕ) → trailing_byte mark (drop (position_or_len (λ b. b == mark) text) text)
+    ≡ None
 behind_first mark [] = refl
 behind_first mark (x ∷ xs) = by (eqb x mark) refl (behind_first mark xs)
   where
@@ -46,14 +53,16 @@ behind_first mark (x ∷ xs) = by (eqb x mark) refl (behind_first mark xs)
         let more : 1 + position_or_len (λ b. b == mark) xs ≡ suc (position_or_len (λ b. b == mark) xs) = omega arith in
         rw more later
 
-pub part_behind-mark : (mark : ℕ) (text : List ℕ) (end : ℕ) → end ≡ unwrap_or (position (λ b. b == mark) text) (length text)
+pub part_behind-mark : (mark : ℕ) (text : List ℕ) (end : ℕ)
+    → end ≡ unwrap_or (position (λ b. b == mark) text) (length text)
     → trailing_byte mark (drop end text) ≡ None
 part_behind-mark mark text end is = go (position (λ b. b == mark) text) refl
   where
     go : (o : Option ℕ) → position (λ b. b == mark) text ≡ o → trailing_byte mark (drop end text) ≡ None
     go None e = rw (is, e, drop_all (length text) text (omega arith)) refl
     go (Some n) e =
-        let at : end ≡ position_or_len (λ b. b == mark) text = rw (is, e) (sym (IsFound-position mark text n e).is_first) in
+        let at : end ≡ position_or_len (λ b. b == mark) text =
+        rw (is, e) (sym (IsFound-position mark text n e).is_first) in
         rw at (behind_first mark text)
 
 -- ---- a field that is one component without an escape byte
@@ -62,15 +71,18 @@ module _ (d : DelimiterBytes) where
   plain_symbols [] free = symbols_of-nil d [] refl
   plain_symbols (b ∷ bs) free =
       let P : ℕ → Type 0 = λ c. c ≢ d.escape in
-      symbols_of-plain d b bs (All-head P b bs free) ∙ ap (λ (l : Symbols). Char b ∷ l) (plain_symbols bs (All-tail P b bs free))
+      symbols_of-plain d b bs (All-head P b bs free)
+      ∙ ap (λ (l : Symbols). Char b ∷ l) (plain_symbols bs (All-tail P b bs free))
 
   whole_part : (mark : ℕ) (text : List ℕ) → Lacks mark text → parts_of mark text ≡ text ∷ []
   whole_part mark text free = slice_split_none (λ b. b == mark) text (Lacks-tests mark text free)
 
-  pub plain_read : (text : List ℕ) → Lacks d.repeat text → Lacks d.component text → Lacks d.escape text → repeats_of d text ≡ plain_field text
+  pub plain_read : (text : List ℕ) → Lacks d.repeat text → Lacks d.component text → Lacks d.escape text
+      → repeats_of d text ≡ plain_field text
   plain_read text repeat component escape =
       let one : components_of d text ≡ plain_component text ∷ [] =
-      ap (map (symbols_of d)) (whole_part d.component text component) ∙ ap (λ (s : Symbols). s ∷ []) (plain_symbols text escape) in
+      ap (map (symbols_of d)) (whole_part d.component text component)
+      ∙ ap (λ (s : Symbols). s ∷ []) (plain_symbols text escape) in
       ap (map (components_of d)) (whole_part d.repeat text repeat) ∙ ap (λ (r : Components). r ∷ []) one
 
 -- ---- the texts of fields that were passed over, and what is left
@@ -81,7 +93,8 @@ pub record Passed (mark : ℕ) (text rest : List ℕ) (passed : ℕ) : Type 0 wh
   pub behind : parts_of mark text ≡ parts ++ parts_behind mark rest
   pub next : trailing_byte mark rest ≡ None
 
-pub passed_one : (mark : ℕ) (text part rest : List ℕ) → parts_of mark text ≡ part ∷ parts_behind mark rest → text ≡ part ++ rest
+pub passed_one : (mark : ℕ) (text part rest : List ℕ) → parts_of mark text ≡ part ∷ parts_behind mark rest
+    → text ≡ part ++ rest
     → trailing_byte mark rest ≡ None → Passed mark text rest 1
 passed_one mark text part rest first joined next = record {
   parts = part ∷ [];
@@ -92,29 +105,35 @@ passed_one mark text part rest first joined next = record {
 }
 
 pub passed_more :
-    (mark : ℕ) (text rest : List ℕ) (passed : ℕ) (byte : ℕ) (behind part others : List ℕ) → Passed mark text rest passed → rest ≡ byte ∷ behind
-    → parts_of mark behind ≡ part ∷ parts_behind mark others → behind ≡ part ++ others → trailing_byte mark others ≡ None
+    (mark : ℕ) (text rest : List ℕ) (passed : ℕ) (byte : ℕ) (behind part others : List ℕ)
+    → Passed mark text rest passed → rest ≡ byte ∷ behind
+    → parts_of mark behind ≡ part ∷ parts_behind mark others → behind ≡ part ++ others
+    → trailing_byte mark others ≡ None
     → Passed mark text others (passed + 1)
 passed_more mark text rest passed byte behind part others p is first joined next =
     let same : byte ≡ mark = trailing-none mark byte behind rest is p.next in
-    let whole : rest ≡ (mark ∷ part) ++ others = is ∙ ap (λ (b : ℕ). b ∷ behind) same ∙ ap (λ (l : List ℕ). mark ∷ l) joined in
+    let whole : rest ≡ (mark ∷ part) ++ others = is ∙ ap (λ (b : ℕ). b ∷ behind) same
+    ∙ ap (λ (l : List ℕ). mark ∷ l) joined in
     let f = λ (l : List ℕ). mark ∷ l in
     let one : flat_map f (part ∷ []) ≡ mark ∷ part = append-nil (mark ∷ part) in
     record {
       parts = p.parts ++ part ∷ [];
       count = length-append p.parts (part ∷ []) ∙ ap (λ (n : ℕ). n + 1) p.count;
       joined =
-          p.joined ∙ ap (λ (l : List ℕ). flat_map f p.parts ++ l) whole ∙ sym (append_assoc (flat_map f p.parts) (mark ∷ part) others)
+          p.joined ∙ ap (λ (l : List ℕ). flat_map f p.parts ++ l) whole
+          ∙ sym (append_assoc (flat_map f p.parts) (mark ∷ part) others)
           ∙ ap (λ (l : List ℕ). (flat_map f p.parts ++ l) ++ others) (sym one)
           ∙ ap (λ (l : List ℕ). l ++ others) (sym (flat_map-append f p.parts (part ∷ [])));
       behind =
-          p.behind ∙ ap (λ (l : List ℕ). p.parts ++ parts_behind mark l) is ∙ ap (λ (l : List (List ℕ)). p.parts ++ l) first
+          p.behind ∙ ap (λ (l : List ℕ). p.parts ++ parts_behind mark l) is
+          ∙ ap (λ (l : List (List ℕ)). p.parts ++ l) first
           ∙ sym (append_assoc p.parts (part ∷ []) (parts_behind mark others));
       next = next;
     }
 
 -- the bytes that were passed over
-taken_text : (mark : ℕ) (text rest front : List ℕ) → mark ∷ text ≡ front ++ rest → 0 ≢ length front → mark ∷ take (length text - length rest) text ≡ front
+taken_text : (mark : ℕ) (text rest front : List ℕ) → mark ∷ text ≡ front ++ rest → 0 ≢ length front
+    → mark ∷ take (length text - length rest) text ≡ front
 taken_text mark text rest [] whole some = absurd (some refl)
 taken_text mark text rest (byte ∷ front) whole some =
     let same : byte ≡ mark = cc in
@@ -134,7 +153,8 @@ Lacks-behind mark (b ∷ bs) h = All-tail (λ c. c ≢ mark) b bs h
 
 module _ (d : DelimiterBytes) where
   -- fields without an escape byte are spelled as they stand
-  plain_texts : (parts : List (List ℕ)) → All (Lacks d.field) parts → Lacks d.escape (drop 1 (flat_map (λ part. d.field ∷ part) parts))
+  plain_texts : (parts : List (List ℕ)) → All (Lacks d.field) parts
+      → Lacks d.escape (drop 1 (flat_map (λ part. d.field ∷ part) parts))
       → more_fields d (map (repeats_of d) parts) ≡ flat_map (λ part. d.field ∷ part) parts
   plain_texts [] apart free = refl
   plain_texts (part ∷ parts) apart free =
@@ -161,7 +181,8 @@ module _ (d : DelimiterBytes) where
       let long : length (map R p.parts) ≡ count = length-map p.parts R ∙ p.count in
       let f = λ (part : List ℕ). d.field ∷ part in
       let shown : d.field ∷ taken ≡ flat_map f p.parts =
-      ap (λ (l : List ℕ). d.field ∷ l) is ∙ taken_text d.field text rest (flat_map f p.parts) p.joined (filled p.parts p.count) in
+      ap (λ (l : List ℕ). d.field ∷ l) is ∙ taken_text d.field text rest (flat_map f p.parts) p.joined
+      (filled p.parts p.count) in
       let apart = (All-split (Lacks d.field) p.parts others (rw p.behind at (parts_of-apart d.field text))).0 in
       let front : take count (fields_of d all) ≡ map R p.parts =
       rw (fields, ← long) (take-append_seam (map R p.parts) (map R others)) in
@@ -179,10 +200,12 @@ module _ (d : DelimiterBytes) where
       filled (part ∷ parts) e none = absurd (omega arith)
 
 -- fewer bytes are left
-pub passed_within : (mark : ℕ) (text rest : List ℕ) (passed : ℕ) → Passed mark text rest passed → 0 < passed → length rest ≤ length text
+pub passed_within : (mark : ℕ) (text rest : List ℕ) (passed : ℕ) → Passed mark text rest passed → 0 < passed
+    → length rest ≤ length text
 passed_within mark text rest passed p some = by p.parts p.count p.joined
   where
-    by : (parts : List (List ℕ)) → length parts ≡ passed → mark ∷ text ≡ flat_map (λ part. mark ∷ part) parts ++ rest → length rest ≤ length text
+    by : (parts : List (List ℕ)) → length parts ≡ passed → mark ∷ text ≡ flat_map (λ part. mark ∷ part) parts ++ rest
+        → length rest ≤ length text
     by [] e joined = absurd (omega (arith, e, some))
     by (part ∷ parts) e joined =
         let more = flat_map (λ (l : List ℕ). mark ∷ l) parts in

@@ -1,5 +1,6 @@
 -- Sixteen bytes tested at once: those that a record may hold, and those that are one byte.
-use Rattle.std.proofs.Common.{◌≡◌, ◌≤◌, ℕ, zero, suc, ◌+◌, ◌*◌, ◌-◌, ◌%◌, ◌^◌, ◌==◌, Bool, true, false, cond, leb, eqb, List, [], ◌∷◌}
+use Rattle.std.proofs.Common.{◌≡◌, ◌≤◌, ℕ, zero, suc, ◌+◌, ◌*◌, ◌-◌, ◌%◌, ◌^◌, ◌==◌, Bool, true, false, cond, leb}
+use Rattle.std.proofs.Common.{eqb, List, [], ◌∷◌}
 use Rattle.std.proofs.Common.{length, map, replicate, bit_and, bit_or, refl, ap, sym, ◌∙◌, arith, not, ◌&&◌, ◌||◌}
 use Rattle.std.proofs.Common.{take, drop}
 use Rattle.std.specs.Prelude.{count_by}
@@ -28,14 +29,16 @@ and_lane true false = refl
 and_lane false true = refl
 and_lane false false = refl
 
-or_lanes : (f g : ℕ → Bool) (xs ys zs : List ℕ) → ys ≡ lanes f xs → zs ≡ lanes g xs → zip2 bit_or ys zs ≡ lanes (λ b. f b || g b) xs
+or_lanes : (f g : ℕ → Bool) (xs ys zs : List ℕ) → ys ≡ lanes f xs → zs ≡ lanes g xs
+    → zip2 bit_or ys zs ≡ lanes (λ b. f b || g b) xs
 or_lanes f g xs ys zs is and_is = rw (is, and_is) (go xs)
   where
     go : (xs : List ℕ) → zip2 bit_or (lanes f xs) (lanes g xs) ≡ lanes (λ b. f b || g b) xs
     go [] = refl
     go (x ∷ xs) = rw (or_lane (f x) (g x), go xs) refl
 
-and_lanes : (f g : ℕ → Bool) (xs ys zs : List ℕ) → ys ≡ lanes f xs → zs ≡ lanes g xs → zip2 bit_and ys zs ≡ lanes (λ b. f b && g b) xs
+and_lanes : (f g : ℕ → Bool) (xs ys zs : List ℕ) → ys ≡ lanes f xs → zs ≡ lanes g xs
+    → zip2 bit_and ys zs ≡ lanes (λ b. f b && g b) xs
 and_lanes f g xs ys zs is and_is = rw (is, and_is) (go xs)
   where
     go : (xs : List ℕ) → zip2 bit_and (lanes f xs) (lanes g xs) ≡ lanes (λ b. f b && g b) xs
@@ -51,7 +54,8 @@ tops : (f : ℕ → Bool) (xs : List ℕ) → map (top 7) (lanes f xs) ≡ map f
 tops f [] = refl
 tops f (x ∷ xs) = rw (top_lane (f x), tops f xs) refl
 
-bits : (f : ℕ → Bool) (xs ls : List ℕ) → length xs ≡ 16 → ls ≡ lanes f xs → mask_l (map (top 7) ls) % 2 ^ 64 ≡ mask_l (map f xs)
+bits : (f : ℕ → Bool) (xs ls : List ℕ) → length xs ≡ 16 → ls ≡ lanes f xs
+    → mask_l (map (top 7) ls) % 2 ^ 64 ≡ mask_l (map f xs)
 bits f xs ls long is =
     ap (λ (l : List ℕ). mask_l (map (top 7) l) % 2 ^ 64) is ∙ ap (λ (l : List Bool). mask_l l % 2 ^ 64) (tops f xs)
     ∙ mask_l-mod (map f xs) 64 (omega (arith, length-map xs f))
@@ -87,13 +91,15 @@ allowed_is b = by (eqb b 7) (eqb b 9) (eqb b 11) (eqb b 12) (leb 32 b && leb b 1
     by false false false false false u = refl
 
 -- the bits of the bytes that fail a test are those of the vector that the others leave
-mask_l-not : (f g : ℕ → Bool) → ((b : ℕ) → f b ≡ g b) → (xs : List ℕ) → mask_l (map f xs) + mask_l (map (λ b. not (g b)) xs) + 1 ≡ 2 ^ length xs
+mask_l-not : (f g : ℕ → Bool) → ((b : ℕ) → f b ≡ g b) → (xs : List ℕ)
+    → mask_l (map f xs) + mask_l (map (λ b. not (g b)) xs) + 1 ≡ 2 ^ length xs
 mask_l-not f g same [] = refl
 mask_l-not f g same (x ∷ xs) = rw (pow-succ' 2 (length xs)) (by (f x) (g x) (same x) (mask_l-not f g same xs))
   where
     by :
         (s t : Bool) → s ≡ t → mask_l (map f xs) + mask_l (map (λ b. not (g b)) xs) + 1 ≡ 2 ^ length xs →
-        cond s 1 0 + 2 * mask_l (map f xs) + (cond (not t) 1 0 + 2 * mask_l (map (λ b. not (g b)) xs)) + 1 ≡ 2 * 2 ^ length xs
+        cond s 1 0 + 2 * mask_l (map f xs) + (cond (not t) 1 0 + 2 * mask_l (map (λ b. not (g b)) xs)) + 1
+        ≡ 2 * 2 ^ length xs
     by true true e more = omega (arith, more)
     by false false e more = omega (arith, more)
     by true false e more = cc
@@ -116,7 +122,8 @@ none_unusual (b ∷ xs) none = by (unusual b) refl none (none_unusual xs)
     by false t none later = rw (usual b t) (omega (arith, later (omega arith)))
 
 module _ (xs : List ℕ) (long : length xs ≡ 16) where
-  low : zip2 bit_or (zip2 {C = ℕ} (λ a b. cond (leb a b) 255 0) xs (replicate 16 31)) (zip2 {C = ℕ} (λ a b. cond (eqb a b) 255 0) xs (replicate 16 127))
+  low : zip2 bit_or (zip2 {C = ℕ} (λ a b. cond (leb a b) 255 0) xs (replicate 16 31))
+      (zip2 {C = ℕ} (λ a b. cond (eqb a b) 255 0) xs (replicate 16 127))
       ≡ lanes (λ b. leb b 31 || eqb b 127) xs
   low = or_lanes (λ b. leb b 31) (λ b. eqb b 127) xs _ _ (le xs long 31) (eq xs long 127)
 
@@ -128,7 +135,9 @@ module _ (xs : List ℕ) (long : length xs ≡ 16) where
       (zip2 {C = ℕ} (λ a b. cond (leb a b) 255 0) (replicate 16 255) xs))) % 2 ^ 64 ≡ 0
       → 0 ≡ mask_l (map (λ b. not (is_text_byte b)) xs)
   unusual-none none =
-      none_unusual xs (sym (bits unusual xs _ long (or_lanes (λ b. leb b 31 || eqb b 127) (λ b. leb 255 b) xs _ _ low (ge xs long 255))) ∙ none)
+      none_unusual xs
+      (sym (bits unusual xs _ long (or_lanes (λ b. leb b 31 || eqb b 127) (λ b. leb 255 b) xs _ _ low
+      (ge xs long 255))) ∙ none)
 
   -- the lanes of the bytes that are allowed
   abbrev allowed_lanes : List ℕ
@@ -136,10 +145,14 @@ module _ (xs : List ℕ) (long : length xs ≡ 16) where
       zip2 bit_or
       (zip2 bit_or
       (zip2 bit_or
-      (zip2 bit_or (zip2 {C = ℕ} (λ a b. cond (eqb a b) 255 0) xs (replicate 16 7)) (zip2 {C = ℕ} (λ a b. cond (eqb a b) 255 0) xs (replicate 16 9)))
-      (zip2 bit_or (zip2 {C = ℕ} (λ a b. cond (eqb a b) 255 0) xs (replicate 16 11)) (zip2 {C = ℕ} (λ a b. cond (eqb a b) 255 0) xs (replicate 16 12))))
-      (zip2 bit_and (zip2 {C = ℕ} (λ a b. cond (leb a b) 255 0) (replicate 16 32) xs) (zip2 {C = ℕ} (λ a b. cond (leb a b) 255 0) xs (replicate 16 126))))
-      (zip2 bit_and (zip2 {C = ℕ} (λ a b. cond (leb a b) 255 0) (replicate 16 128) xs) (zip2 {C = ℕ} (λ a b. cond (leb a b) 255 0) xs (replicate 16 254)))
+      (zip2 bit_or (zip2 {C = ℕ} (λ a b. cond (eqb a b) 255 0) xs (replicate 16 7))
+      (zip2 {C = ℕ} (λ a b. cond (eqb a b) 255 0) xs (replicate 16 9)))
+      (zip2 bit_or (zip2 {C = ℕ} (λ a b. cond (eqb a b) 255 0) xs (replicate 16 11))
+      (zip2 {C = ℕ} (λ a b. cond (eqb a b) 255 0) xs (replicate 16 12))))
+      (zip2 bit_and (zip2 {C = ℕ} (λ a b. cond (leb a b) 255 0) (replicate 16 32) xs)
+      (zip2 {C = ℕ} (λ a b. cond (leb a b) 255 0) xs (replicate 16 126))))
+      (zip2 bit_and (zip2 {C = ℕ} (λ a b. cond (leb a b) 255 0) (replicate 16 128) xs)
+      (zip2 {C = ℕ} (λ a b. cond (leb a b) 255 0) xs (replicate 16 254)))
 
   allowed_is_lanes : allowed_lanes ≡ lanes allowed xs
   allowed_is_lanes =
@@ -148,13 +161,16 @@ module _ (xs : List ℕ) (long : length xs ≡ 16) where
       let ascii = and_lanes (λ b. leb 32 b) (λ b. leb b 126) xs _ _ (ge xs long 32) (le xs long 126) in
       let high = and_lanes (λ b. leb 128 b) (λ b. leb b 254) xs _ _ (ge xs long 128) (le xs long 254) in
       let controls = or_lanes (λ b. eqb b 7 || eqb b 9) (λ b. eqb b 11 || eqb b 12) xs _ _ bells feeds in
-      or_lanes (λ b. ((eqb b 7 || eqb b 9) || (eqb b 11 || eqb b 12)) || (leb 32 b && leb b 126)) (λ b. leb 128 b && leb b 254) xs _ _
-      (or_lanes (λ b. (eqb b 7 || eqb b 9) || (eqb b 11 || eqb b 12)) (λ b. leb 32 b && leb b 126) xs _ _ controls ascii) high
+      or_lanes (λ b. ((eqb b 7 || eqb b 9) || (eqb b 11 || eqb b 12)) || (leb 32 b && leb b 126))
+      (λ b. leb 128 b && leb b 254) xs _ _
+      (or_lanes (λ b. (eqb b 7 || eqb b 9) || (eqb b 11 || eqb b 12)) (λ b. leb 32 b && leb b 126) xs _ _ controls
+      ascii) high
 
   both : mask_l (map (top 7) allowed_lanes) % 2 ^ 64 + mask_l (map (λ b. not (is_text_byte b)) xs) + 1 ≡ 2 ^ 16
   both =
       let all : 2 ^ length xs ≡ 2 ^ 16 = ap (λ (n : ℕ). 2 ^ n) long in
-      ap (λ (n : ℕ). n + mask_l (map (λ b. not (is_text_byte b)) xs) + 1) (bits allowed xs allowed_lanes long allowed_is_lanes)
+      ap (λ (n : ℕ). n + mask_l (map (λ b. not (is_text_byte b)) xs) + 1)
+      (bits allowed xs allowed_lanes long allowed_is_lanes)
       ∙ mask_l-not allowed is_text_byte allowed_is xs ∙ all
 
   pub allowed-within : mask_l (map (top 7) allowed_lanes) % 2 ^ 64 ≤ 65535
@@ -164,5 +180,6 @@ module _ (xs : List ℕ) (long : length xs ≡ 16) where
   allowed-others = omega (arith, both)
 
 -- how many pass among the first bytes, and among the others
-pub count_by-chunk : (f : ℕ → Bool) (n : ℕ) (xs : List ℕ) → count_by f (take n xs) + count_by f (drop n xs) ≡ count_by f xs
+pub count_by-chunk : (f : ℕ → Bool) (n : ℕ) (xs : List ℕ)
+    → count_by f (take n xs) + count_by f (drop n xs) ≡ count_by f xs
 count_by-chunk f n xs = sum_by-take-drop (λ x. cond (f x) 1 0) xs n

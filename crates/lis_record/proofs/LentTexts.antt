@@ -1,5 +1,7 @@
 -- Parts of a record that stand in a text, and their spelling.
-use Rattle.std.proofs.Common.{◌≡◌, ◌≢◌, ℕ, ◌-◌, ◌≤◌, ◌==◌, false, true, ltb, option_map, List, [], ◌∷◌, ◌++◌, map, length, Option, Some, None, slice_get, refl, sym, ap, ◌∙◌, subst, arith, append_assoc, inl, inr, get_or, eq-eqb}
+use Rattle.std.proofs.Common.{◌≡◌, ◌≢◌, ℕ, ◌-◌, ◌≤◌, ◌==◌, false, true, ltb, option_map, List, [], ◌∷◌, ◌++◌, map}
+use Rattle.std.proofs.Common.{length, Option, Some, None, slice_get, refl, sym, ap, ◌∙◌, subst, arith, append_assoc}
+use Rattle.std.proofs.Common.{inl, inr, get_or, eq-eqb}
 use Rattle.std.specs.Option.{is_some}
 use Rattle.std.specs.List.{All, join_with_byte, position}
 use Rattle.std.proofs.lemmas.Bool.Decides.{eqb_tells}
@@ -15,7 +17,8 @@ use Rattle.lis_field.specs.Shape.{Symbols, field_at, first_number}
 use Rattle.lis_field.specs.declared.kinds.Kind.{Kind}
 use Rattle.lis_field.proofs.FirstFaults.{ltb-past, test_false}
 use Rattle.lis_record.specs.Lent.{lent}
-use Rattle.lis_record.specs.inside.FrontReading.{components_of, fields_of, parts_behind, parts_of, repeats_of, symbols_after, symbols_of}
+use Rattle.lis_record.specs.inside.FrontReading.{components_of, fields_of, parts_behind, parts_of, repeats_of}
+use Rattle.lis_record.specs.inside.FrontReading.{symbols_after, symbols_of}
 use Rattle.lis_record.specs.Relation.{Lacks}
 use Rattle.lis_record.specs.inside.Remaining.{more_components, remaining_text}
 use Rattle.lis_record.specs.Spelling.{spelled_component, spelled_field, spelled_repeat, spelled_symbol}
@@ -41,52 +44,70 @@ at_place : {X : Type 0} (P : X → Type 0) (xs : List X) (k : ℕ) (x : X) → A
 at_place P xs k x all is = subst P (get_or_from_slice_get xs k x x is) (all k x (slice_get_within xs k x is))
 
 -- a part behind a delimiter doesn't hold it
-pub Lacks-part : (byte place : ℕ) (text part : List ℕ) → Some part ≡ slice_get (parts_behind byte text) place → Lacks byte part
+pub Lacks-part : (byte place : ℕ) (text part : List ℕ) → Some part ≡ slice_get (parts_behind byte text) place
+    → Lacks byte part
 Lacks-part byte place [] part is = let none : None ≡ Some part = sym is in cc none
-Lacks-part byte place (mark ∷ text) part is = at_place (Lacks byte) (parts_of byte text) place part (parts_of-apart byte text) (sym is)
+Lacks-part byte place (mark ∷ text) part is = at_place (Lacks byte) (parts_of byte text) place part
+    (parts_of-apart byte text) (sym is)
 
 -- the field of a number is that of the part at its place
-pub field_found : (d : DelimiterBytes) (kind : Kind) (fields part : List ℕ) (number place first : ℕ) → first ≡ first_number kind → first ≤ number → place ≡ number - first
-    → Some part ≡ slice_get (parts_behind d.field fields) place → Some (lent d (repeats_of d part)) ≡ option_map (lent d) (field_at (record { kind = kind; fields = fields_of d fields }) number)
+pub field_found : (d : DelimiterBytes) (kind : Kind) (fields part : List ℕ) (number place first : ℕ)
+    → first ≡ first_number kind → first ≤ number → place ≡ number - first
+    → Some part ≡ slice_get (parts_behind d.field fields) place
+    → Some (lent d (repeats_of d part)) ≡ option_map (lent d)
+    (field_at (record { kind = kind; fields = fields_of d fields }) number)
 field_found d kind fields part number place first is_first above is_place found =
     let past : ltb number (first_number kind) ≡ false = ltb-past number (first_number kind) (rw is_first at above) in
-    let at : Some part ≡ slice_get (parts_behind d.field fields) (number - first_number kind) = found ∙ ap (slice_get (parts_behind d.field fields)) (is_place ∙ ap (λ (f : ℕ). number - f) is_first) in
+    let at : Some part ≡ slice_get (parts_behind d.field fields) (number - first_number kind) =
+    found ∙ ap (slice_get (parts_behind d.field fields)) (is_place ∙ ap (λ (f : ℕ). number - f) is_first) in
     rw past (ap (λ (o : Option (List ℕ)). option_map (lent d) (option_map (repeats_of d) o)) at
-    ∙ ap (option_map (lent d)) (sym (slice_get-map (repeats_of d) (parts_behind d.field fields) (number - first_number kind))))
+    ∙ ap (option_map (lent d))
+    (sym (slice_get-map (repeats_of d) (parts_behind d.field fields) (number - first_number kind))))
 
 -- the items of the parts behind a delimiter
-pub behind_first : {A : Type 0} (f : List ℕ → A) (byte mark : ℕ) (all text part rest : List ℕ) → all ≡ mark ∷ text → parts_of byte text ≡ part ∷ parts_behind byte rest
+pub behind_first : {A : Type 0} (f : List ℕ → A) (byte mark : ℕ) (all text part rest : List ℕ) → all ≡ mark ∷ text
+    → parts_of byte text ≡ part ∷ parts_behind byte rest
     → map f (parts_behind byte all) ≡ f part ∷ map f (parts_behind byte rest)
-behind_first f byte mark all text part rest whole first = ap (λ (l : List ℕ). map f (parts_behind byte l)) whole ∙ ap (map f) first
+behind_first f byte mark all text part rest whole first =
+    ap (λ (l : List ℕ). map f (parts_behind byte l)) whole ∙ ap (map f) first
 
-pub behind_none : {A : Type 0} (f : List ℕ → A) (byte : ℕ) (all : List ℕ) → length all ≡ 0 → length (map f (parts_behind byte all)) ≡ 0
+pub behind_none : {A : Type 0} (f : List ℕ → A) (byte : ℕ) (all : List ℕ) → length all ≡ 0
+    → length (map f (parts_behind byte all)) ≡ 0
 behind_none f byte all none = ap (λ (l : List ℕ). length (map f (parts_behind byte l))) (nil_from_length all none)
 
 module _ (d : DelimiterBytes) where
   -- the first component of a repeat, and what follows it
-  pub text_repeat-first : (repeat component components : List ℕ) (symbols : Symbols) → parts_of d.component repeat ≡ component ∷ parts_behind d.component components → symbols ≡ symbols_of d component
-      → spelled_repeat d (components_of d repeat) ≡ spelled_component d symbols ++ more_components d (map (symbols_of d) (parts_behind d.component components))
+  pub text_repeat-first : (repeat component components : List ℕ) (symbols : Symbols)
+      → parts_of d.component repeat ≡ component ∷ parts_behind d.component components → symbols ≡ symbols_of d component
+      → spelled_repeat d (components_of d repeat) ≡ spelled_component d symbols
+      ++ more_components d (map (symbols_of d) (parts_behind d.component components))
   text_repeat-first repeat component components symbols first read =
       let others = map (symbols_of d) (parts_behind d.component components) in
-      spelled_repeat-first d (components_of d repeat) symbols others (ap (map (symbols_of d)) first ∙ ap (λ (s : Symbols). s ∷ others) (sym read))
+      spelled_repeat-first d (components_of d repeat) symbols others
+      (ap (map (symbols_of d)) first ∙ ap (λ (s : Symbols). s ∷ others) (sym read))
 
   -- what is left of a field is all of it at first
-  pub text_field-first : (text repeat repeats component components : List ℕ) (symbols : Symbols) → parts_of d.repeat text ≡ repeat ∷ parts_behind d.repeat repeats
+  pub text_field-first : (text repeat repeats component components : List ℕ) (symbols : Symbols)
+      → parts_of d.repeat text ≡ repeat ∷ parts_behind d.repeat repeats
       → parts_of d.component repeat ≡ component ∷ parts_behind d.component components → symbols ≡ symbols_of d component
       → remaining_text d symbols components repeats ≡ spelled_field d (repeats_of d text)
   text_field-first text repeat repeats component components symbols outer inner read =
       let cs = map (symbols_of d) (parts_behind d.component components) in
       let rs = map (components_of d) (parts_behind d.repeat repeats) in
       field_alone d (repeats_of d text) symbols cs rs
-      (spelled_field-first d (repeats_of d text) (components_of d repeat) rs symbols cs (ap (map (components_of d)) outer) (text_repeat-first repeat component components symbols inner read))
+      (spelled_field-first d (repeats_of d text) (components_of d repeat) rs symbols cs
+      (ap (map (components_of d)) outer) (text_repeat-first repeat component components symbols inner read))
 
-  pub symbol_taken : (old new : List ℕ) (symbols others : Symbols) (symbol : Sym) → symbols ≡ symbol ∷ others → new ≡ old ++ spelled_symbol d symbol
+  pub symbol_taken : (old new : List ℕ) (symbols others : Symbols) (symbol : Sym) → symbols ≡ symbol ∷ others
+      → new ≡ old ++ spelled_symbol d symbol
       → new ++ spelled_component d others ≡ old ++ spelled_component d symbols
-  symbol_taken old new symbols others symbol taken pushed = rw (pushed, taken) (append_assoc old (spelled_symbol d symbol) (spelled_component d others))
+  symbol_taken old new symbols others symbol taken pushed =
+      rw (pushed, taken) (append_assoc old (spelled_symbol d symbol) (spelled_component d others))
 
 -- ---- what holds no escape byte is spelled as it stands
 
-twice_as_is : {A : Type 0} (g : A → List ℕ) (f : List ℕ → A) (parts : List (List ℕ)) → All (λ p. g (f p) ≡ p) parts → map g (map f parts) ≡ parts
+twice_as_is : {A : Type 0} (g : A → List ℕ) (f : List ℕ → A) (parts : List (List ℕ)) → All (λ p. g (f p) ≡ p) parts
+    → map g (map f parts) ≡ parts
 twice_as_is g f [] h = refl
 twice_as_is g f (part ∷ parts) h =
     let P : List ℕ → Type 0 = λ p. g (f p) ≡ p in
@@ -104,11 +125,20 @@ Lacks-position mark text h = λ k e below same.
     cc (no, yes)
 
 module _ (d : DelimiterBytes) where
-  char_as_is : (b : ℕ) → b ≢ d.field → b ≢ d.repeat → b ≢ d.component → b ≢ d.escape → spelled_symbol d (Char b) ≡ b ∷ []
+  char_as_is : (b : ℕ) → b ≢ d.field → b ≢ d.repeat → b ≢ d.component → b ≢ d.escape
+      → spelled_symbol d (Char b) ≡ b ∷ []
   unfolding spelled_symbol
-  char_as_is b field repeat component escape = rw (test_false b d.field field, test_false b d.component component, test_false b d.repeat repeat, test_false b d.escape escape) refl
+  char_as_is b field repeat component escape =
+      rw (
+        test_false b d.field field,
+        test_false b d.component component,
+        test_false b d.repeat repeat,
+        test_false b
+            d.escape escape,
+      ) refl
 
-  component_as_is : (text : List ℕ) → Lacks d.field text → Lacks d.repeat text → Lacks d.component text → Lacks d.escape text → spelled_component d (symbols_of d text) ≡ text
+  component_as_is : (text : List ℕ) → Lacks d.field text → Lacks d.repeat text → Lacks d.component text
+      → Lacks d.escape text → spelled_component d (symbols_of d text) ≡ text
   unfolding symbols_after
   component_as_is [] field repeat component escape = refl
   component_as_is (b ∷ bs) field repeat component escape =
@@ -116,20 +146,25 @@ module _ (d : DelimiterBytes) where
       let R : ℕ → Type 0 = λ c. c ≢ d.repeat in
       let C : ℕ → Type 0 = λ c. c ≢ d.component in
       let E : ℕ → Type 0 = λ c. c ≢ d.escape in
-      let first = char_as_is b (All-head F b bs field) (All-head R b bs repeat) (All-head C b bs component) (All-head E b bs escape) in
-      let more = component_as_is bs (All-tail F b bs field) (All-tail R b bs repeat) (All-tail C b bs component) (All-tail E b bs escape) in
+      let first = char_as_is b (All-head F b bs field) (All-head R b bs repeat) (All-head C b bs component)
+      (All-head E b bs escape) in
+      let more = component_as_is bs (All-tail F b bs field) (All-tail R b bs repeat) (All-tail C b bs component)
+      (All-tail E b bs escape) in
       ap (spelled_component d) (symbols_of-plain d b bs (All-head E b bs escape))
       ∙ ap (λ (l : List ℕ). l ++ spelled_component d (symbols_of d bs)) first ∙ ap (λ (l : List ℕ). b ∷ l) more
 
-  repeat_as_is : (text : List ℕ) → Lacks d.field text → Lacks d.repeat text → Lacks d.escape text → spelled_repeat d (components_of d text) ≡ text
+  repeat_as_is : (text : List ℕ) → Lacks d.field text → Lacks d.repeat text → Lacks d.escape text
+      → spelled_repeat d (components_of d text) ≡ text
   repeat_as_is text field repeat escape =
       let parts = parts_of d.component text in
       ap (join_with_byte d.component) (twice_as_is (spelled_component d) (symbols_of d) parts (λ k e below.
-      component_as_is (get_or parts k e) (parts_of-Lacks d.component d.field text field k e below) (parts_of-Lacks d.component d.repeat text repeat k e below)
+      component_as_is (get_or parts k e) (parts_of-Lacks d.component d.field text field k e below)
+      (parts_of-Lacks d.component d.repeat text repeat k e below)
       (parts_of-apart d.component text k e below) (parts_of-Lacks d.component d.escape text escape k e below)))
       ∙ join_with_byte-slice_split d.component text
 
-  pub field_as_is : (text : List ℕ) → Lacks d.field text → Lacks d.escape text → spelled_field d (repeats_of d text) ≡ text
+  pub field_as_is : (text : List ℕ) → Lacks d.field text → Lacks d.escape text
+      → spelled_field d (repeats_of d text) ≡ text
   field_as_is text field escape =
       let parts = parts_of d.repeat text in
       ap (join_with_byte d.repeat) (twice_as_is (spelled_repeat d) (components_of d) parts (λ k e below.

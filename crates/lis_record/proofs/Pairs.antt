@@ -1,5 +1,6 @@
 -- Pairs of hexadecimal digits, read one by one.
-use Rattle.std.proofs.Common.{◌≡◌, ◌≢◌, ℕ, ◌+◌, ◌*◌, ◌%◌, Bool, true, false, List, [], ◌∷◌, length, Option, Some, None, Result, Ok, Err, unwrap_or, refl, sym, ap, ◌∙◌, arith}
+use Rattle.std.proofs.Common.{◌≡◌, ◌≢◌, ℕ, ◌+◌, ◌*◌, ◌%◌, Bool, true, false, List, [], ◌∷◌, length, Option, Some}
+use Rattle.std.proofs.Common.{None, Result, Ok, Err, unwrap_or, refl, sym, ap, ◌∙◌, arith}
 use Rattle.std.specs.Option.{is_some}
 use Rattle.std.specs.List.{AllPass, list_all}
 use Rattle.std.proofs.lemmas.List.Elements.{All-head, All-tail}
@@ -16,13 +17,15 @@ some_of : {X : Type 0} (o : Option X) → is_some o ≡ true → (x : X) × (o �
 some_of None h = cc h
 some_of (Some x) h = (x, refl)
 
-pair_shift : (i j high low h l : ℕ) (rest : List ℕ) → hex_digit_value high ≡ Some h → hex_digit_value low ≡ Some l → decode_pairs (i + 2) rest ≡ decode_pairs (j + 2) rest
+pair_shift : (i j high low h l : ℕ) (rest : List ℕ) → hex_digit_value high ≡ Some h → hex_digit_value low ≡ Some l
+    → decode_pairs (i + 2) rest ≡ decode_pairs (j + 2) rest
     → decode_pairs i (high ∷ low ∷ rest) ≡ decode_pairs j (high ∷ low ∷ rest)
 unfolding decode_pairs
 pair_shift i j high low h l rest is_high is_low later = rw (is_high, is_low, later) refl
 
 -- what pairs of digits are doesn't depend on where they stand
-decode_pairs-shift : (i j : ℕ) (s : List ℕ) → length s % 2 ≡ 0 → AllPass is_hex_digit s → decode_pairs i s ≡ decode_pairs j s
+decode_pairs-shift : (i j : ℕ) (s : List ℕ) → length s % 2 ≡ 0 → AllPass is_hex_digit s
+    → decode_pairs i s ≡ decode_pairs j s
 unfolding decode_pairs
 decode_pairs-shift i j [] even h = refl
 decode_pairs-shift i j (a ∷ []) even h = absurd (omega arith)
@@ -31,12 +34,14 @@ decode_pairs-shift i j (a ∷ b ∷ rest) even h =
     let tail = All-tail P a (b ∷ rest) h in
     let ha = some_of (hex_digit_value a) (All-head P a (b ∷ rest) h) in
     let hb = some_of (hex_digit_value b) (All-head P b rest tail) in
-    pair_shift i j a b ha.0 hb.0 rest ha.1 hb.1 (decode_pairs-shift (i + 2) (j + 2) rest (omega arith) (All-tail P b rest tail))
+    pair_shift i j a b ha.0 hb.0 rest ha.1 hb.1 (decode_pairs-shift (i + 2) (j + 2) rest (omega arith)
+    (All-tail P b rest tail))
 
 decoded : (s : List ℕ) → ArePairs s → (bytes : List ℕ) × (decode_of s ≡ Ok bytes)
 decoded s h = go (decode_of s) refl h
   where
-    go : (r : Result (List ℕ) FromHexError) → decode_of s ≡ r → is_some (raw_symbols r) ≡ true → (bytes : List ℕ) × (decode_of s ≡ Ok bytes)
+    go : (r : Result (List ℕ) FromHexError) → decode_of s ≡ r → is_some (raw_symbols r) ≡ true → (bytes : List ℕ)
+        × (decode_of s ≡ Ok bytes)
     go (Ok bytes) is some = (bytes, is)
     go (Err e) is some = cc some
 
@@ -54,23 +59,30 @@ pairs_odd s odd = let one : length s % 2 ≡ 1 = omega arith in rw (decode_of-od
 pub pairs_even : (s : List ℕ) → length s % 2 ≡ 0 → list_all is_hex_digit s ≡ is_some (raw_symbols (decode_of s))
 pairs_even s even = go (decode_of s) refl (list_all is_hex_digit s) refl
   where
-    go : (r : Result (List ℕ) FromHexError) → decode_of s ≡ r → (b : Bool) → list_all is_hex_digit s ≡ b → b ≡ is_some (raw_symbols r)
+    go : (r : Result (List ℕ) FromHexError) → decode_of s ≡ r → (b : Bool) → list_all is_hex_digit s ≡ b
+        → b ≡ is_some (raw_symbols r)
     go (Ok bytes) is true all = refl
-    go (Ok bytes) is false all = let yes = list_all-from_AllPass is_hex_digit s (decode_of-ok s bytes is).1 in cc (yes, all)
-    go (Err e) is true all = let found = decode_of-digits s even (AllPass-from_list_all is_hex_digit s all) in let wrong : Err e ≡ Ok found.0 = sym is ∙ found.1 in cc wrong
+    go (Ok bytes) is false all = let yes = list_all-from_AllPass is_hex_digit s (decode_of-ok s bytes is).1 in
+        cc (yes, all)
+    go (Err e) is true all = let found = decode_of-digits s even (AllPass-from_list_all is_hex_digit s all) in
+        let wrong : Err e ≡ Ok found.0 = sym is ∙ found.1 in cc wrong
     go (Err e) is false all = refl
 
-decode_first : (high low h l : ℕ) (rest others : List ℕ) → hex_digit_value high ≡ Some h → hex_digit_value low ≡ Some l → decode_pairs 2 rest ≡ Ok others
+decode_first : (high low h l : ℕ) (rest others : List ℕ) → hex_digit_value high ≡ Some h
+    → hex_digit_value low ≡ Some l → decode_pairs 2 rest ≡ Ok others
     → decode_pairs 0 (high ∷ low ∷ rest) ≡ Ok ((h * 16 + l) ∷ others)
 unfolding decode_pairs
 decode_first high low h l rest others is_high is_low later = rw (is_high, is_low, later) refl
 
-digits_first : (s rest others : List ℕ) (byte : ℕ) → decode_of s ≡ Ok (byte ∷ others) → decode_of rest ≡ Ok others → (digit_symbols s ≡ Raw byte ∷ digit_symbols rest) × ArePairs rest
+digits_first : (s rest others : List ℕ) (byte : ℕ) → decode_of s ≡ Ok (byte ∷ others) → decode_of rest ≡ Ok others
+    → (digit_symbols s ≡ Raw byte ∷ digit_symbols rest) × ArePairs rest
 digits_first s rest others byte is is_rest = (rw (is, is_rest) refl, rw is_rest refl)
 
-pair_values : (high low h l byte : ℕ) → hex_digit_value high ≡ Some h → hex_digit_value low ≡ Some l → byte ≡ unwrap_or (hex_digit_value high) 0 * 16 + unwrap_or (hex_digit_value low) 0 → h * 16 + l ≡ byte
+pair_values : (high low h l byte : ℕ) → hex_digit_value high ≡ Some h → hex_digit_value low ≡ Some l
+    → byte ≡ unwrap_or (hex_digit_value high) 0 * 16 + unwrap_or (hex_digit_value low) 0 → h * 16 + l ≡ byte
 pair_values high low h l byte is_high is_low is_byte =
-    sym (is_byte ∙ ap (λ (o : Option ℕ). unwrap_or o 0 * 16 + unwrap_or (hex_digit_value low) 0) is_high ∙ ap (λ (o : Option ℕ). h * 16 + unwrap_or o 0) is_low)
+    sym (is_byte ∙ ap (λ (o : Option ℕ). unwrap_or o 0 * 16 + unwrap_or (hex_digit_value low) 0) is_high
+    ∙ ap (λ (o : Option ℕ). h * 16 + unwrap_or o 0) is_low)
 
 -- the first pair, and those behind it
 pub pair_step : (s behind rest : List ℕ) (high low byte : ℕ) → s ≡ high ∷ behind → behind ≡ low ∷ rest → ArePairs s
@@ -88,7 +100,8 @@ pair_step s behind rest high low byte is is_behind pairs is_byte =
     let ha = some_of (hex_digit_value high) (All-head P high (low ∷ rest) all) in
     let hb = some_of (hex_digit_value low) (All-head P low rest tail) in
     let others = decode_of-digits rest even digits in
-    let later : decode_pairs 2 rest ≡ Ok others.0 = decode_pairs-shift 2 0 rest even digits ∙ sym (decode_of-even rest even) ∙ others.1 in
+    let later : decode_pairs 2 rest ≡ Ok others.0 =
+    decode_pairs-shift 2 0 rest even digits ∙ sym (decode_of-even rest even) ∙ others.1 in
     digits_first s rest others.0 byte
     (decode_of-even s ok.0 ∙ ap (decode_pairs 0) whole ∙ decode_first high low ha.0 hb.0 rest others.0 ha.1 hb.1 later
     ∙ ap (λ (b : ℕ). Ok (b ∷ others.0)) (pair_values high low ha.0 hb.0 byte ha.1 hb.1 is_byte))

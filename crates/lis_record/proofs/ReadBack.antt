@@ -1,5 +1,6 @@
 -- What is spelled is a text of the record that it was spelled from.
-use Rattle.std.proofs.Common.{◌≡◌, ◌≢◌, ℕ, zero, suc, ◌+◌, ◌<◌, ◌≤◌, true, false, not, ltb, List, [], ◌∷◌, ◌++◌, map, length, Some, None, option_map, refl, sym, ap, arith, get_or, inl, inr, append_assoc}
+use Rattle.std.proofs.Common.{◌≡◌, ◌≢◌, ℕ, zero, suc, ◌+◌, ◌<◌, ◌≤◌, true, false, not, ltb, List, [], ◌∷◌, ◌++◌, map}
+use Rattle.std.proofs.Common.{length, Some, None, option_map, refl, sym, ap, arith, get_or, inl, inr, append_assoc}
 use Rattle.std.proofs.lemmas.List.{length-map}
 use Rattle.std.specs.List.{All, AllPass, AllZip, flat_map, join_with_byte, position}
 use Rattle.std.proofs.lemmas.Bool.Decides.{eqb_tells, nat_tests}
@@ -13,11 +14,14 @@ use Rattle.lis_field.specs.declared.symbols.Sym.{Sym}
 use Rattle.lis_field.specs.declared.symbols.Sym.TheVariants.{Char, Raw, On, Off}
 use Rattle.lis_field.specs.Delimiters.{DelimiterBytes, IsDelimiters, is_punctuation}
 use Rattle.lis_record.specs.Escapes.{IsComponent, escape, escape_of, nothing, plain, raw_symbols}
-use Rattle.lis_record.specs.Faults.{check_fault, is_text_component, is_text_field, is_text_repeat, is_text_symbol, long_fault}
+use Rattle.lis_record.specs.Faults.{check_fault, is_text_component, is_text_field, is_text_repeat, is_text_symbol}
+use Rattle.lis_record.specs.Faults.{long_fault}
 use Rattle.lis_field.specs.Kinds.{kind_of, letter_of}
 use Rattle.lis_record.specs.Relation.{AreFieldTexts, IsField, IsRecord, IsRepeat, Lacks, declared_part}
-use Rattle.lis_field.specs.Shape.{first_number, AreSymbols, Components, Fields, IsFieldShape, IsRecordShape, IsRepeatShape, IsSymbol, RecordContent, Repeats, Symbols}
-use Rattle.lis_record.specs.Spelling.{letter_spelling, spelled, spelled_component, spelled_field, spelled_repeat, spelled_symbol}
+use Rattle.lis_field.specs.Shape.{first_number, AreSymbols, Components, Fields, IsFieldShape, IsRecordShape}
+use Rattle.lis_field.specs.Shape.{IsRepeatShape, IsSymbol, RecordContent, Repeats, Symbols}
+use Rattle.lis_record.specs.Spelling.{letter_spelling, spelled, spelled_component, spelled_field, spelled_repeat}
+use Rattle.lis_record.specs.Spelling.{spelled_symbol}
 use Rattle.lis_record.specs.Text.{IsText, is_text_byte, record_limit}
 use Rattle.lis_record.specs.declared.faults.WriteFault.TheVariants.{CharNotText, TooLong}
 use Rattle.lis_field.proofs.FirstFaults.{ltb_tells}
@@ -42,18 +46,23 @@ pub record IsWritableField (repeats : Repeats) : Type 0 where
   pub each : All IsWritableRepeat repeats
 
 AreWritable-text : (symbols : Symbols) → AreSymbols symbols → is_text_component symbols ≡ true → AreWritable symbols
-AreWritable-text symbols shape test = λ k e below. (shape k e below, AllPass-from_list_all is_text_symbol symbols test k e below)
+AreWritable-text symbols shape test = λ k e below.
+    (shape k e below, AllPass-from_list_all is_text_symbol symbols test k e below)
 
-IsWritableRepeat-text : (components : Components) → IsRepeatShape components → is_text_repeat components ≡ true → IsWritableRepeat components
+IsWritableRepeat-text : (components : Components) → IsRepeatShape components → is_text_repeat components ≡ true
+    → IsWritableRepeat components
 IsWritableRepeat-text components shape test = record {
   some = shape.some;
-  each = λ k e below. AreWritable-text (get_or components k e) (shape.each k e below) (AllPass-from_list_all is_text_component components test k e below);
+  each = λ k e below. AreWritable-text (get_or components k e) (shape.each k e below)
+      (AllPass-from_list_all is_text_component components test k e below);
 }
 
-pub IsWritableField-text : (repeats : Repeats) → IsFieldShape repeats → is_text_field repeats ≡ true → IsWritableField repeats
+pub IsWritableField-text : (repeats : Repeats) → IsFieldShape repeats → is_text_field repeats ≡ true
+    → IsWritableField repeats
 IsWritableField-text repeats shape test = record {
   some = shape.some;
-  each = λ k e below. IsWritableRepeat-text (get_or repeats k e) (shape.each k e below) (AllPass-from_list_all is_text_repeat repeats test k e below);
+  each = λ k e below. IsWritableRepeat-text (get_or repeats k e) (shape.each k e below)
+      (AllPass-from_list_all is_text_repeat repeats test k e below);
 }
 
 abbrev IsTextByte : ℕ → Type 0
@@ -109,7 +118,11 @@ module _ (d : DelimiterBytes) (good : IsDelimiters d) where
   escape_byte : IsComponentByte d d.escape
   escape_byte = record {
     inner = record {
-      inner = record { is_text = text-punctuation d.escape good.escape_is; no_field = λ same. good.field_escape (sym same) };
+      inner = record {
+        is_text = text-punctuation d.escape good.escape_is;
+        no_field =
+            λ same. good.field_escape (sym same);
+      };
       no_repeat = λ same. good.repeat_escape (sym same);
     };
     no_component = λ same. good.component_escape (sym same);
@@ -118,13 +131,16 @@ module _ (d : DelimiterBytes) (good : IsDelimiters d) where
   letter_bytes : (letter : ℕ) → IsComponentByte d letter → All (IsComponentByte d) (letter_spelling d letter)
   letter_bytes letter h =
       All-cons (IsComponentByte d) d.escape (letter ∷ d.escape ∷ []) escape_byte
-      (All-cons (IsComponentByte d) letter (d.escape ∷ []) h (All-cons (IsComponentByte d) d.escape [] escape_byte (All-nil (IsComponentByte d))))
+      (All-cons (IsComponentByte d) letter (d.escape ∷ []) h
+      (All-cons (IsComponentByte d) d.escape [] escape_byte (All-nil (IsComponentByte d))))
 
   digit_bytes : (digits : List ℕ) → AllPass is_hex_digit digits → All (IsComponentByte d) digits
-  digit_bytes digits h = All-weaker (λ c. is_hex_digit c ≡ true) (IsComponentByte d) (λ c digit. component_byte c (text-digit c digit) (punctuation-digit c digit)) digits h
+  digit_bytes digits h = All-weaker (λ c. is_hex_digit c ≡ true) (IsComponentByte d)
+      (λ c digit. component_byte c (text-digit c digit) (punctuation-digit c digit)) digits h
 
   raw_bytes : (byte : ℕ) → byte < 256 → AllPass is_hex_digit (encode_lower (byte ∷ []))
-  raw_bytes byte h = (decode_of-ok (encode_lower (byte ∷ [])) (byte ∷ []) (decode_of-encode_lower (byte ∷ []) (one_byte byte h))).1
+  raw_bytes byte h =
+      (decode_of-ok (encode_lower (byte ∷ [])) (byte ∷ []) (decode_of-encode_lower (byte ∷ []) (one_byte byte h))).1
 
   -- a symbol is spelled in bytes that a component may have
   symbol_bytes : (symbol : Sym) → IsWritableSymbol symbol → All (IsComponentByte d) (spelled_symbol d symbol)
@@ -134,7 +150,8 @@ module _ (d : DelimiterBytes) (good : IsDelimiters d) where
   symbol_bytes (Raw byte) h =
       All-cons (IsComponentByte d) d.escape (88 ∷ encode_lower (byte ∷ []) ++ d.escape ∷ []) escape_byte
       (All-cons (IsComponentByte d) 88 (encode_lower (byte ∷ []) ++ d.escape ∷ []) (component_byte 88 refl refl)
-      (All-append (IsComponentByte d) (encode_lower (byte ∷ [])) (d.escape ∷ []) (digit_bytes (encode_lower (byte ∷ [])) (raw_bytes byte h.0))
+      (All-append (IsComponentByte d) (encode_lower (byte ∷ [])) (d.escape ∷ [])
+      (digit_bytes (encode_lower (byte ∷ [])) (raw_bytes byte h.0))
       (All-cons (IsComponentByte d) d.escape [] escape_byte (All-nil (IsComponentByte d)))))
   symbol_bytes (Char byte) h =
       elim (eqb_tells byte d.field) [
@@ -147,11 +164,18 @@ module _ (d : DelimiterBytes) (good : IsDelimiters d) where
                     | inl same ↦ rw (no_field.0, no_component.0, same.0) (letter_bytes 82 (component_byte 82 refl refl))
                     | inr no_repeat ↦
                         elim (eqb_tells byte d.escape) [
-                          | inl same ↦ rw (no_field.0, no_component.0, no_repeat.0, same.0) (letter_bytes 69 (component_byte 69 refl refl))
+                          | inl same ↦ rw (no_field.0, no_component.0, no_repeat.0, same.0)
+                              (letter_bytes 69 (component_byte 69 refl refl))
                           | inr no_escape ↦
                               rw (no_field.0, no_component.0, no_repeat.0, no_escape.0)
                               (All-cons (IsComponentByte d) byte []
-                              (record { inner = record { inner = record { is_text = h.1; no_field = no_field.1 }; no_repeat = no_repeat.1 }; no_component = no_component.1 })
+                              (record {
+                                inner = record {
+                                  inner = record { is_text = h.1; no_field = no_field.1 };
+                                  no_repeat = no_repeat.1;
+                                };
+                                no_component = no_component.1;
+                              })
                               (All-nil (IsComponentByte d)))
                         ]
                   ]
@@ -162,40 +186,62 @@ module _ (d : DelimiterBytes) (good : IsDelimiters d) where
   component_bytes [] h = All-nil (IsComponentByte d)
   component_bytes (symbol ∷ symbols) h =
       All-append (IsComponentByte d) (spelled_symbol d symbol) (spelled_component d symbols)
-      (symbol_bytes symbol (All-head IsWritableSymbol symbol symbols h)) (component_bytes symbols (All-tail IsWritableSymbol symbol symbols h))
+      (symbol_bytes symbol (All-head IsWritableSymbol symbol symbols h))
+      (component_bytes symbols (All-tail IsWritableSymbol symbol symbols h))
 
   -- a delimiter that stands between parts is a byte of the level above
-  All-join : (P : ℕ → Type 0) (byte : ℕ) → P byte → (parts : List (List ℕ)) → All (All P) parts → All P (join_with_byte byte parts)
+  All-join : (P : ℕ → Type 0) (byte : ℕ) → P byte → (parts : List (List ℕ)) → All (All P) parts
+      → All P (join_with_byte byte parts)
   All-join P byte h [] parts_are = All-nil P
   All-join P byte h (x ∷ []) parts_are = All-head (All P) x [] parts_are
   All-join P byte h (x ∷ y ∷ xs) parts_are =
       All-append P x (byte ∷ join_with_byte byte (y ∷ xs)) (All-head (All P) x (y ∷ xs) parts_are)
-      (All-cons P byte (join_with_byte byte (y ∷ xs)) h (All-join P byte h (y ∷ xs) (All-tail (All P) x (y ∷ xs) parts_are)))
+      (All-cons P byte (join_with_byte byte (y ∷ xs)) h
+      (All-join P byte h (y ∷ xs) (All-tail (All P) x (y ∷ xs) parts_are)))
 
   component_delimiter : IsRepeatByte d d.component
   component_delimiter = record {
-    inner = record { is_text = text-punctuation d.component good.component_is; no_field = λ same. good.field_component (sym same) };
+    inner = record {
+      is_text = text-punctuation d.component good.component_is;
+      no_field =
+          λ same. good.field_component (sym same);
+    };
     no_repeat = λ same. good.repeat_component (sym same);
   }
 
   repeat_delimiter : IsFieldByte d d.repeat
-  repeat_delimiter = record { is_text = text-punctuation d.repeat good.repeat_is; no_field = λ same. good.field_repeat (sym same) }
+  repeat_delimiter = record {
+    is_text = text-punctuation d.repeat good.repeat_is;
+    no_field =
+        λ same. good.field_repeat (sym same);
+  }
 
-  repeat_parts : (components : Components) → IsWritableRepeat components → All (All (IsComponentByte d)) (map (spelled_component d) components)
-  repeat_parts components h = All-map (All (IsComponentByte d)) (spelled_component d) components (All-weaker AreWritable (λ symbols. All (IsComponentByte d) (spelled_component d symbols)) component_bytes components h.each)
+  repeat_parts : (components : Components) → IsWritableRepeat components
+      → All (All (IsComponentByte d)) (map (spelled_component d) components)
+  repeat_parts components h = All-map (All (IsComponentByte d)) (spelled_component d) components
+      (All-weaker AreWritable (λ symbols. All (IsComponentByte d) (spelled_component d symbols)) component_bytes
+      components h.each)
 
-  repeat_bytes : (components : Components) → IsWritableRepeat components → All (IsRepeatByte d) (spelled_repeat d components)
+  repeat_bytes : (components : Components) → IsWritableRepeat components
+      → All (IsRepeatByte d) (spelled_repeat d components)
   repeat_bytes components h =
       All-join (IsRepeatByte d) d.component component_delimiter (map (spelled_component d) components)
-      (All-weaker (All (IsComponentByte d)) (All (IsRepeatByte d)) (λ part. All-weaker (IsComponentByte d) (IsRepeatByte d) (λ byte fine. fine.inner) part) (map (spelled_component d) components) (repeat_parts components h))
+      (All-weaker (All (IsComponentByte d)) (All (IsRepeatByte d))
+      (λ part. All-weaker (IsComponentByte d) (IsRepeatByte d) (λ byte fine. fine.inner) part)
+      (map (spelled_component d) components) (repeat_parts components h))
 
-  field_parts : (repeats : Repeats) → IsWritableField repeats → All (All (IsRepeatByte d)) (map (spelled_repeat d) repeats)
-  field_parts repeats h = All-map (All (IsRepeatByte d)) (spelled_repeat d) repeats (All-weaker IsWritableRepeat (λ components. All (IsRepeatByte d) (spelled_repeat d components)) repeat_bytes repeats h.each)
+  field_parts : (repeats : Repeats) → IsWritableField repeats
+      → All (All (IsRepeatByte d)) (map (spelled_repeat d) repeats)
+  field_parts repeats h = All-map (All (IsRepeatByte d)) (spelled_repeat d) repeats
+      (All-weaker IsWritableRepeat (λ components. All (IsRepeatByte d) (spelled_repeat d components)) repeat_bytes
+      repeats h.each)
 
   pub field_bytes : (repeats : Repeats) → IsWritableField repeats → All (IsFieldByte d) (spelled_field d repeats)
   field_bytes repeats h =
       All-join (IsFieldByte d) d.repeat repeat_delimiter (map (spelled_repeat d) repeats)
-      (All-weaker (All (IsRepeatByte d)) (All (IsFieldByte d)) (λ part. All-weaker (IsRepeatByte d) (IsFieldByte d) (λ byte fine. fine.inner) part) (map (spelled_repeat d) repeats) (field_parts repeats h))
+      (All-weaker (All (IsRepeatByte d)) (All (IsFieldByte d))
+      (λ part. All-weaker (IsRepeatByte d) (IsFieldByte d) (λ byte fine. fine.inner) part)
+      (map (spelled_repeat d) repeats) (field_parts repeats h))
 
   -- ---- each level is a text of what it was spelled from
 
@@ -204,26 +250,33 @@ module _ (d : DelimiterBytes) (good : IsDelimiters d) where
   raw_means byte h = ap raw_symbols (decode_of-encode_lower (byte ∷ []) (one_byte byte h))
 
   -- ---- one symbol in front
-  symbol_back : (symbol : Sym) → IsWritableSymbol symbol → (rest : List ℕ) (others : Symbols) → IsComponent d rest others → IsComponent d (spelled_symbol d symbol ++ rest) (symbol ∷ others)
+  symbol_back : (symbol : Sym) → IsWritableSymbol symbol → (rest : List ℕ) (others : Symbols)
+      → IsComponent d rest others → IsComponent d (spelled_symbol d symbol ++ rest) (symbol ∷ others)
   unfolding spelled_symbol escape_of
   symbol_back On h rest others r = escape (72 ∷ []) rest (On ∷ []) others refl refl refl r
   symbol_back Off h rest others r = escape (78 ∷ []) rest (Off ∷ []) others refl refl refl r
   symbol_back (Raw byte) h rest others r =
       escape (88 ∷ encode_lower (byte ∷ [])) rest (Raw byte ∷ []) others
-      (ap (λ (l : List ℕ). d.escape ∷ 88 ∷ l) (append_assoc (encode_lower (byte ∷ [])) (d.escape ∷ []) rest)) refl (raw_means byte h.0) r
+      (ap (λ (l : List ℕ). d.escape ∷ 88 ∷ l) (append_assoc (encode_lower (byte ∷ [])) (d.escape ∷ []) rest)) refl
+      (raw_means byte h.0) r
   symbol_back (Char byte) h rest others r =
       elim (eqb_tells byte d.field) [
         | inl same ↦ rw (same.0, same.1) (escape (70 ∷ []) rest (Char d.field ∷ []) others refl refl refl r)
         | inr no_field ↦
             elim (eqb_tells byte d.component) [
-              | inl same ↦ rw (no_field.0, same.0, same.1) (escape (83 ∷ []) rest (Char d.component ∷ []) others refl refl refl r)
+              | inl same ↦
+                  rw (no_field.0, same.0, same.1) (escape (83 ∷ []) rest (Char d.component ∷ []) others refl refl refl
+                  r)
               | inr no_component ↦
                   elim (eqb_tells byte d.repeat) [
-                    | inl same ↦ rw (no_field.0, no_component.0, same.0, same.1) (escape (82 ∷ []) rest (Char d.repeat ∷ []) others refl refl refl r)
+                    | inl same ↦ rw (no_field.0, no_component.0, same.0, same.1)
+                        (escape (82 ∷ []) rest (Char d.repeat ∷ []) others refl refl refl r)
                     | inr no_repeat ↦
                         elim (eqb_tells byte d.escape) [
-                          | inl same ↦ rw (no_field.0, no_component.0, no_repeat.0, same.0, same.1) (escape (69 ∷ []) rest (Char d.escape ∷ []) others refl refl refl r)
-                          | inr no_escape ↦ rw (no_field.0, no_component.0, no_repeat.0, no_escape.0) (plain byte rest others refl refl no_escape.1 r)
+                          | inl same ↦ rw (no_field.0, no_component.0, no_repeat.0, same.0, same.1)
+                              (escape (69 ∷ []) rest (Char d.escape ∷ []) others refl refl refl r)
+                          | inr no_escape ↦ rw (no_field.0, no_component.0, no_repeat.0, no_escape.0)
+                              (plain byte rest others refl refl no_escape.1 r)
                         ]
                   ]
             ]
@@ -232,20 +285,26 @@ module _ (d : DelimiterBytes) (good : IsDelimiters d) where
   component_back : (symbols : Symbols) → AreWritable symbols → IsComponent d (spelled_component d symbols) symbols
   component_back [] h = nothing refl refl
   component_back (symbol ∷ symbols) h =
-      symbol_back symbol (All-head IsWritableSymbol symbol symbols h) (spelled_component d symbols) symbols (component_back symbols (All-tail IsWritableSymbol symbol symbols h))
+      symbol_back symbol (All-head IsWritableSymbol symbol symbols h) (spelled_component d symbols) symbols
+      (component_back symbols (All-tail IsWritableSymbol symbol symbols h))
 
   -- related one by one
-  AllZip-spelled : {A : Type 0} (IsItem : List ℕ → A → Type 0) (spell : A → List ℕ) (P : A → Type 0) → ((item : A) → P item → IsItem (spell item) item)
+  AllZip-spelled : {A : Type 0} (IsItem : List ℕ → A → Type 0) (spell : A → List ℕ) (P : A → Type 0)
+      → ((item : A) → P item → IsItem (spell item) item)
       → (items : List A) → All P items → AllZip IsItem (map spell items) items
   AllZip-spelled IsItem spell P back [] h = tt
-  AllZip-spelled IsItem spell P back (item ∷ items) h = (back item (All-head P item items h), AllZip-spelled IsItem spell P back items (All-tail P item items h))
+  AllZip-spelled IsItem spell P back (item ∷ items) h =
+      (back item (All-head P item items h), AllZip-spelled IsItem spell P back items (All-tail P item items h))
 
-  repeat_back : (components : Components) → IsWritableRepeat components → IsRepeat d (spelled_repeat d components) components
+  repeat_back : (components : Components) → IsWritableRepeat components
+      → IsRepeat d (spelled_repeat d components) components
   repeat_back components h = record {
     parts = map (spelled_component d) components;
     some = let some = h.some in simp length-map (omega arith);
     joined = refl;
-    apart = All-weaker (All (IsComponentByte d)) (Lacks d.component) (λ part. All-weaker (IsComponentByte d) (λ byte. byte ≢ d.component) (λ byte fine. fine.no_component) part) (map (spelled_component d) components) (repeat_parts components h);
+    apart = All-weaker (All (IsComponentByte d)) (Lacks d.component)
+        (λ part. All-weaker (IsComponentByte d) (λ byte. byte ≢ d.component) (λ byte fine. fine.no_component) part)
+        (map (spelled_component d) components) (repeat_parts components h);
     each = AllZip-spelled (IsComponent d) (spelled_component d) AreWritable component_back components h.each;
   }
 
@@ -254,30 +313,37 @@ module _ (d : DelimiterBytes) (good : IsDelimiters d) where
     parts = map (spelled_repeat d) repeats;
     some = let some = h.some in simp length-map (omega arith);
     joined = refl;
-    apart = All-weaker (All (IsRepeatByte d)) (Lacks d.repeat) (λ part. All-weaker (IsRepeatByte d) (λ byte. byte ≢ d.repeat) (λ byte fine. fine.no_repeat) part) (map (spelled_repeat d) repeats) (field_parts repeats h);
+    apart = All-weaker (All (IsRepeatByte d)) (Lacks d.repeat)
+        (λ part. All-weaker (IsRepeatByte d) (λ byte. byte ≢ d.repeat) (λ byte fine. fine.no_repeat) part)
+        (map (spelled_repeat d) repeats) (field_parts repeats h);
     each = AllZip-spelled (IsRepeat d) (spelled_repeat d) IsWritableRepeat repeat_back repeats h.each;
   }
 
-  fields_joined : (fields : Fields) → flat_map (λ field. d.field ∷ spelled_field d field) fields ≡ flat_map (λ part. d.field ∷ part) (map (spelled_field d) fields)
+  fields_joined : (fields : Fields) → flat_map (λ field. d.field ∷ spelled_field d field) fields
+      ≡ flat_map (λ part. d.field ∷ part) (map (spelled_field d) fields)
   fields_joined [] = refl
   fields_joined (field ∷ fields) = ap (λ (l : List ℕ). d.field ∷ spelled_field d field ++ l) (fields_joined fields)
 
-  fields_back : (fields : Fields) → All IsWritableField fields → AreFieldTexts d (flat_map (λ field. d.field ∷ spelled_field d field) fields) fields
+  fields_back : (fields : Fields) → All IsWritableField fields
+      → AreFieldTexts d (flat_map (λ field. d.field ∷ spelled_field d field) fields) fields
   fields_back fields h = record {
     parts = map (spelled_field d) fields;
     joined = fields_joined fields;
     apart = All-map (Lacks d.field) (spelled_field d) fields
         (All-weaker IsWritableField (λ field. Lacks d.field (spelled_field d field))
-        (λ field fine. All-weaker (IsFieldByte d) (λ byte. byte ≢ d.field) (λ byte is. is.no_field) (spelled_field d field) (field_bytes field fine)) fields h);
+        (λ field fine. All-weaker (IsFieldByte d) (λ byte. byte ≢ d.field) (λ byte is. is.no_field)
+        (spelled_field d field) (field_bytes field fine)) fields h);
     each = AllZip-spelled (IsField d) (spelled_field d) IsWritableField field_back fields h;
   }
 
-  fields_text : (fields : Fields) → All IsWritableField fields → IsText (flat_map (λ field. d.field ∷ spelled_field d field) fields)
+  fields_text : (fields : Fields) → All IsWritableField fields
+      → IsText (flat_map (λ field. d.field ∷ spelled_field d field) fields)
   fields_text [] h = All-nil IsTextByte
   fields_text (field ∷ fields) h =
       All-append IsTextByte (d.field ∷ spelled_field d field) (flat_map (λ next. d.field ∷ spelled_field d next) fields)
       (All-cons IsTextByte d.field (spelled_field d field) (text-punctuation d.field good.field_is)
-      (All-weaker (IsFieldByte d) IsTextByte (λ byte is. is.is_text) (spelled_field d field) (field_bytes field (All-head IsWritableField field fields h))))
+      (All-weaker (IsFieldByte d) IsTextByte (λ byte is. is.is_text) (spelled_field d field)
+      (field_bytes field (All-head IsWritableField field fields h))))
       (fields_text fields (All-tail IsWritableField field fields h))
 
   letter_text : (kind : Kind) → is_text_byte (letter_of kind) ≡ true
@@ -309,8 +375,11 @@ module _ (d : DelimiterBytes) (good : IsDelimiters d) where
 
   pub spelled_text : (content : RecordContent) → All IsWritableField content.fields → IsText (spelled d content)
   spelled_text content h =
-      All-cons IsTextByte (letter_of content.kind) (declared_part d content.kind ++ flat_map (λ field. d.field ∷ spelled_field d field) content.fields) (letter_text content.kind)
-      (All-append IsTextByte (declared_part d content.kind) (flat_map (λ field. d.field ∷ spelled_field d field) content.fields) (declared_text content.kind) (fields_text content.fields h))
+      All-cons IsTextByte (letter_of content.kind) (declared_part d content.kind
+      ++ flat_map (λ field. d.field ∷ spelled_field d field) content.fields) (letter_text content.kind)
+      (All-append IsTextByte (declared_part d content.kind)
+      (flat_map (λ field. d.field ∷ spelled_field d field) content.fields) (declared_text content.kind)
+      (fields_text content.fields h))
 
   kind_of-letter_of : (kind : Kind) → kind_of (letter_of kind) ≡ Some kind
   unfolding kind_of
@@ -324,7 +393,8 @@ module _ (d : DelimiterBytes) (good : IsDelimiters d) where
   kind_of-letter_of kinds.S = refl
   kind_of-letter_of kinds.L = refl
 
-  pub IsRecord-writable : (content : RecordContent) → All IsWritableField content.fields → length (spelled d content) ≤ record_limit → IsRecord d (spelled d content) content
+  pub IsRecord-writable : (content : RecordContent) → All IsWritableField content.fields
+      → length (spelled d content) ≤ record_limit → IsRecord d (spelled d content) content
   IsRecord-writable content h short = record {
     letter = letter_of content.kind;
     fields_text = flat_map (λ field. d.field ∷ spelled_field d field) content.fields;
@@ -336,13 +406,18 @@ module _ (d : DelimiterBytes) (good : IsDelimiters d) where
   }
 
 -- a record of which neither fault of writing stands
-pub IsRecord-spelled : (d : DelimiterBytes) → IsDelimiters d → (content : RecordContent) → IsRecordShape content → check_fault d content ≡ None → IsRecord d (spelled d content) content
+pub IsRecord-spelled : (d : DelimiterBytes) → IsDelimiters d → (content : RecordContent) → IsRecordShape content
+    → check_fault d content ≡ None → IsRecord d (spelled d content) content
 unfolding check_fault
 IsRecord-spelled d good content shape h =
     let number = λ (place : ℕ). place + first_number content.kind in
     let place = position (λ (field : Repeats). not (is_text_field field)) content.fields in
     let both = option_or-none (option_map CharNotText (option_map number place)) (long_fault (spelled d content)) h in
-    let texts = AllPass-position is_text_field content.fields (option_map-none number place (option_map-none CharNotText (option_map number place) both.0)) in
+    let texts = AllPass-position is_text_field content.fields
+    (option_map-none number place (option_map-none CharNotText (option_map number place) both.0)) in
     let not_long = none_cond (ltb record_limit (length (spelled d content))) TooLong both.1 in
-    let short : length (spelled d content) ≤ record_limit = elim (ltb_tells record_limit (length (spelled d content))) [ inl past ↦ cc (not_long, past.0) | inr within ↦ within.1 ] in
-    IsRecord-writable d good content (λ k e below. IsWritableField-text (get_or content.fields k e) (shape k e below) (texts k e below)) short
+    let short : length (spelled d content) ≤ record_limit =
+    elim (ltb_tells record_limit (length (spelled d content)))
+    [ inl past ↦ cc (not_long, past.0) | inr within ↦ within.1 ] in
+    IsRecord-writable d good content (λ k e below. IsWritableField-text (get_or content.fields k e) (shape k e below)
+    (texts k e below)) short

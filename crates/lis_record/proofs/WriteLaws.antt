@@ -1,5 +1,7 @@
 -- When a record or a field is refused, and what a call that writes answers.
-use Rattle.std.proofs.Common.{◌≡◌, ℕ, ◌+◌, ◌-◌, ◌<◌, ◌≤◌, Bool, true, false, cond, ltb, List, [], ◌∷◌, length, take, drop, Option, Some, None, option_map, Result, Ok, Err, refl, sym, ap, ◌∙◌, subst, length-append, arith, inl, inr, zero-add, zero-le}
+use Rattle.std.proofs.Common.{◌≡◌, ℕ, ◌+◌, ◌-◌, ◌<◌, ◌≤◌, Bool, true, false, cond, ltb, List, [], ◌∷◌, length, take}
+use Rattle.std.proofs.Common.{drop, Option, Some, None, option_map, Result, Ok, Err, refl, sym, ap, ◌∙◌, subst}
+use Rattle.std.proofs.Common.{length-append, arith, inl, inr, zero-add, zero-le}
 use Rattle.std.specs.Prelude.{◌↔◌}
 use Rattle.std.proofs.lemmas.Bool.{cases_lt, lt-ltb}
 use Rattle.std.proofs.lemmas.List.{drop-take, length-drop}
@@ -7,7 +9,8 @@ use Rattle.std.specs.Option.{option_or}
 use Rattle.lis_record.specs.declared.faults.WriteFault.{WriteFault}
 use Rattle.lis_record.specs.declared.faults.WriteFault.TheVariants as write_faults
 use Rattle.lis_field.specs.Delimiters.{DelimiterBytes}
-use Rattle.lis_record.specs.Faults.{bad_field_number, check_fault, field_char_fault, field_fault, is_text_field, long_fault}
+use Rattle.lis_record.specs.Faults.{bad_field_number, check_fault, field_char_fault, field_fault, is_text_field}
+use Rattle.lis_record.specs.Faults.{long_fault}
 use Rattle.lis_field.specs.Shape.{RecordContent, Repeats}
 use Rattle.lis_record.specs.Spelling.{spelled, spelled_field, written}
 use Rattle.lis_record.specs.Writing.{Sent, Wrote, WroteAny, is_io}
@@ -32,67 +35,87 @@ within-long_fault text h =
 
 -- ---- why a record is refused
 
-pub check_fault-char : (d : DelimiterBytes) (content : RecordContent) (number : ℕ) → bad_field_number content ≡ Some number → check_fault d content ≡ Some (write_faults.CharNotText number)
+pub check_fault-char : (d : DelimiterBytes) (content : RecordContent) (number : ℕ)
+    → bad_field_number content ≡ Some number → check_fault d content ≡ Some (write_faults.CharNotText number)
 unfolding check_fault
-check_fault-char d content number h = ap (λ (o : Option ℕ). option_or (option_map write_faults.CharNotText o) (long_fault (spelled d content))) h
+check_fault-char d content number h =
+    ap (λ (o : Option ℕ). option_or (option_map write_faults.CharNotText o) (long_fault (spelled d content))) h
 
-pub check_fault-long : (d : DelimiterBytes) (content : RecordContent) → bad_field_number content ≡ None → record_limit < length (spelled d content) → check_fault d content ≡ Some write_faults.TooLong
+pub check_fault-long : (d : DelimiterBytes) (content : RecordContent) → bad_field_number content ≡ None
+    → record_limit < length (spelled d content) → check_fault d content ≡ Some write_faults.TooLong
 unfolding check_fault
 check_fault-long d content h long =
-    ap (λ (o : Option ℕ). option_or (option_map write_faults.CharNotText o) (long_fault (spelled d content))) h ∙ long_fault-past (spelled d content) long
+    ap (λ (o : Option ℕ). option_or (option_map write_faults.CharNotText o) (long_fault (spelled d content))) h
+    ∙ long_fault-past (spelled d content) long
 
-pub check_fault-none : (d : DelimiterBytes) (content : RecordContent) → bad_field_number content ≡ None → length (spelled d content) ≤ record_limit → check_fault d content ≡ None
+pub check_fault-none : (d : DelimiterBytes) (content : RecordContent) → bad_field_number content ≡ None
+    → length (spelled d content) ≤ record_limit → check_fault d content ≡ None
 unfolding check_fault
 check_fault-none d content h short =
-    ap (λ (o : Option ℕ). option_or (option_map write_faults.CharNotText o) (long_fault (spelled d content))) h ∙ long_fault-within (spelled d content) short
+    ap (λ (o : Option ℕ). option_or (option_map write_faults.CharNotText o) (long_fault (spelled d content))) h
+    ∙ long_fault-within (spelled d content) short
 
-pub short-check_fault : (d : DelimiterBytes) (content : RecordContent) → check_fault d content ≡ None → length (spelled d content) ≤ record_limit
+pub short-check_fault : (d : DelimiterBytes) (content : RecordContent) → check_fault d content ≡ None
+    → length (spelled d content) ≤ record_limit
 unfolding check_fault
 short-check_fault d content h =
-    within-long_fault (spelled d content) (option_or-none (option_map write_faults.CharNotText (bad_field_number content)) (long_fault (spelled d content)) h).1
+    within-long_fault (spelled d content) (option_or-none
+    (option_map write_faults.CharNotText (bad_field_number content)) (long_fault (spelled d content)) h).1
 
 -- a refusal is never a failure of the sink
-no_io : (n : Option ℕ) (long : Bool) (count : ℕ) → option_or (option_map write_faults.CharNotText n) (cond long (Some write_faults.TooLong) None) ≡ Some (write_faults.Io count) → ⊥
+no_io : (n : Option ℕ) (long : Bool) (count : ℕ)
+    → option_or (option_map write_faults.CharNotText n) (cond long (Some write_faults.TooLong) None)
+    ≡ Some (write_faults.Io count) → ⊥
 no_io (Some number) long count h = cc
 no_io None true count h = cc
 no_io None false count h = cc
 
-check_fault-io : (d : DelimiterBytes) (content : RecordContent) (count : ℕ) → check_fault d content ≡ Some (write_faults.Io count) → ⊥
+check_fault-io : (d : DelimiterBytes) (content : RecordContent) (count : ℕ)
+    → check_fault d content ≡ Some (write_faults.Io count) → ⊥
 unfolding check_fault
-check_fault-io d content count h = no_io (bad_field_number content) (ltb record_limit (length (spelled d content))) count h
+check_fault-io d content count h = no_io (bad_field_number content) (ltb record_limit (length (spelled d content)))
+    count h
 
 -- ---- what is answered
 
 -- a record that is refused, and a sink that was left alone
-pub Wrote-refused : (d : DelimiterBytes) (content : RecordContent) (fault : WriteFault) (skip : ℕ) (bytes : List ℕ) (old : Option (List ℕ)) → check_fault d content ≡ Some fault
+pub Wrote-refused : (d : DelimiterBytes) (content : RecordContent) (fault : WriteFault) (skip : ℕ) (bytes : List ℕ)
+    (old : Option (List ℕ)) → check_fault d content ≡ Some fault
     → Wrote (check_fault d content) skip bytes old old (Err fault)
 Wrote-refused d content (write_faults.CharNotText number) skip bytes old h = (h, Keeps-same old)
 Wrote-refused d content write_faults.TooLong skip bytes old h = (h, Keeps-same old)
 Wrote-refused d content (write_faults.Io count) skip bytes old h = absurd (check_fault-io d content count h)
 
-pub is_io-refused : (d : DelimiterBytes) (content : RecordContent) (fault : WriteFault) → check_fault d content ≡ Some fault → false ≡ is_io (Err fault)
+pub is_io-refused : (d : DelimiterBytes) (content : RecordContent) (fault : WriteFault)
+    → check_fault d content ≡ Some fault → false ≡ is_io (Err fault)
 is_io-refused d content (write_faults.CharNotText number) h = refl
 is_io-refused d content write_faults.TooLong h = refl
 is_io-refused d content (write_faults.Io count) h = absurd (check_fault-io d content count h)
 
 -- what the engine sent of a text that is no longer than a record and its CR
-pub Wrote-sent : (refusal : Option WriteFault) (skip : ℕ) (bytes rest : List ℕ) (old new : Option (List ℕ)) (r : Result Unit WriteFault) → refusal ≡ None → skip ≤ length bytes → length bytes ≤ record_limit + 1
+pub Wrote-sent : (refusal : Option WriteFault) (skip : ℕ) (bytes rest : List ℕ) (old new : Option (List ℕ))
+    (r : Result Unit WriteFault) → refusal ≡ None → skip ≤ length bytes → length bytes ≤ record_limit + 1
     → rest ≡ drop skip bytes → Sent skip rest old new r → Wrote refusal skip bytes old new r
 Wrote-sent refusal skip bytes rest old new (Ok tt) none within short is sent = (none, rw is at sent)
-Wrote-sent refusal skip bytes rest old new (Err (write_faults.CharNotText number)) none within short is sent = absurd sent
+Wrote-sent refusal skip bytes rest old new (Err (write_faults.CharNotText number)) none within short is sent =
+    absurd sent
 Wrote-sent refusal skip bytes rest old new (Err write_faults.TooLong) none within short is sent = absurd sent
-Wrote-sent refusal skip bytes rest old new (Err (write_faults.Io told)) none within short is (count, is_told, less, taken) =
+Wrote-sent refusal skip bytes rest old new (Err (write_faults.Io told)) none within short is
+    (count, is_told, less, taken) =
     let size : length rest ≡ length bytes - skip = ap length is ∙ length-drop skip bytes in
     let exact : told ≡ skip + count = omega (arith, size) in
-    let part : drop skip (take told bytes) ≡ take count rest = ap (λ (k : ℕ). drop skip (take k bytes)) exact ∙ drop-take skip count bytes ∙ ap (take count) (sym is) in
+    let part : drop skip (take told bytes) ≡ take count rest =
+    ap (λ (k : ℕ). drop skip (take k bytes)) exact ∙ drop-take skip count bytes ∙ ap (take count) (sym is) in
     (none, omega arith, omega (arith, size), rw part taken)
 
 -- ---- the test of a length
 
-pub within_true : (b : Bool) (whole bytes : List ℕ) → (b ≡ true ↔ length whole ≤ record_limit) → whole ≡ bytes → b ≡ true → length bytes ≤ record_limit
+pub within_true : (b : Bool) (whole bytes : List ℕ) → (b ≡ true ↔ length whole ≤ record_limit) → whole ≡ bytes
+    → b ≡ true → length bytes ≤ record_limit
 within_true b whole bytes tells same h = rw same at (tells.0 h)
 
-pub within_false : (b : Bool) (whole bytes : List ℕ) → (b ≡ true ↔ length whole ≤ record_limit) → whole ≡ bytes → b ≡ false → record_limit < length bytes
+pub within_false : (b : Bool) (whole bytes : List ℕ) → (b ≡ true ↔ length whole ≤ record_limit) → whole ≡ bytes
+    → b ≡ false → record_limit < length bytes
 within_false b whole bytes tells same h =
     elim (cases_lt record_limit (length bytes)) [
       | inl past ↦ past
@@ -100,7 +123,8 @@ within_false b whole bytes tells same h =
     ]
 
 -- the spelling of a record that isn't refused, and CR
-pub short-written : (d : DelimiterBytes) (content : RecordContent) → check_fault d content ≡ None → length (written d content) ≤ record_limit + 1
+pub short-written : (d : DelimiterBytes) (content : RecordContent) → check_fault d content ≡ None
+    → length (written d content) ≤ record_limit + 1
 short-written d content h =
     let size = length-append (spelled d content) (13 ∷ []) in
     let short = short-check_fault d content h in
@@ -112,40 +136,54 @@ pub field_char_fault-text : (repeats : Repeats) → is_text_field repeats ≡ tr
 unfolding field_char_fault
 field_char_fault-text repeats h = rw h refl
 
-pub field_char_fault-other : (repeats : Repeats) → is_text_field repeats ≡ false → field_char_fault repeats ≡ Some (write_faults.CharNotText 0)
+pub field_char_fault-other : (repeats : Repeats) → is_text_field repeats ≡ false
+    → field_char_fault repeats ≡ Some (write_faults.CharNotText 0)
 unfolding field_char_fault
 field_char_fault-other repeats h = rw h refl
 
-pub field_fault-other : (d : DelimiterBytes) (repeats : Repeats) → is_text_field repeats ≡ false → field_fault d repeats ≡ Some (write_faults.CharNotText 0)
+pub field_fault-other : (d : DelimiterBytes) (repeats : Repeats) → is_text_field repeats ≡ false
+    → field_fault d repeats ≡ Some (write_faults.CharNotText 0)
 unfolding field_fault
-field_fault-other d repeats h = ap (λ o. option_or o (long_fault (spelled_field d repeats))) (field_char_fault-other repeats h)
+field_fault-other d repeats h = ap (λ o. option_or o (long_fault (spelled_field d repeats)))
+    (field_char_fault-other repeats h)
 
-pub field_fault-long : (d : DelimiterBytes) (repeats : Repeats) → is_text_field repeats ≡ true → record_limit < length (spelled_field d repeats) → field_fault d repeats ≡ Some write_faults.TooLong
+pub field_fault-long : (d : DelimiterBytes) (repeats : Repeats) → is_text_field repeats ≡ true
+    → record_limit < length (spelled_field d repeats) → field_fault d repeats ≡ Some write_faults.TooLong
 unfolding field_fault
-field_fault-long d repeats h long = ap (λ o. option_or o (long_fault (spelled_field d repeats))) (field_char_fault-text repeats h) ∙ long_fault-past (spelled_field d repeats) long
+field_fault-long d repeats h long = ap (λ o. option_or o (long_fault (spelled_field d repeats)))
+    (field_char_fault-text repeats h) ∙ long_fault-past (spelled_field d repeats) long
 
-pub field_fault-none : (d : DelimiterBytes) (repeats : Repeats) → is_text_field repeats ≡ true → length (spelled_field d repeats) ≤ record_limit → field_fault d repeats ≡ None
+pub field_fault-none : (d : DelimiterBytes) (repeats : Repeats) → is_text_field repeats ≡ true
+    → length (spelled_field d repeats) ≤ record_limit → field_fault d repeats ≡ None
 unfolding field_fault
-field_fault-none d repeats h short = ap (λ o. option_or o (long_fault (spelled_field d repeats))) (field_char_fault-text repeats h) ∙ long_fault-within (spelled_field d repeats) short
+field_fault-none d repeats h short = ap (λ o. option_or o (long_fault (spelled_field d repeats)))
+    (field_char_fault-text repeats h) ∙ long_fault-within (spelled_field d repeats) short
 
 -- what the engine sent of bytes of any number
-pub WroteAny-sent : (refusal : Option WriteFault) (bytes rest : List ℕ) (old new : Option (List ℕ)) (r : Result Unit WriteFault) → refusal ≡ None → rest ≡ bytes → Sent 0 rest old new r
+pub WroteAny-sent : (refusal : Option WriteFault) (bytes rest : List ℕ) (old new : Option (List ℕ))
+    (r : Result Unit WriteFault) → refusal ≡ None → rest ≡ bytes → Sent 0 rest old new r
     → WroteAny refusal bytes old new r
 WroteAny-sent refusal bytes rest old new (Ok tt) none is sent = (none, rw is at sent)
 WroteAny-sent refusal bytes rest old new (Err (write_faults.CharNotText number)) none is sent = absurd sent
 WroteAny-sent refusal bytes rest old new (Err write_faults.TooLong) none is sent = absurd sent
-WroteAny-sent refusal bytes rest old new (Err (write_faults.Io told)) none is (count, is_told, less, taken) = (none, count, rw zero-add at is_told, rw is at less, rw is at taken)
+WroteAny-sent refusal bytes rest old new (Err (write_faults.Io told)) none is (count, is_told, less, taken) =
+    (none, count, rw zero-add at is_told, rw is at less, rw is at taken)
 
 -- of bytes within the limit of a record the count is exact
-pub Wrote-any : (refusal : Option WriteFault) (bytes : List ℕ) (old new : Option (List ℕ)) (r : Result Unit WriteFault) (weaker : Option WriteFault) → refusal ≡ None → weaker ≡ None → length bytes ≤ record_limit
+pub Wrote-any : (refusal : Option WriteFault) (bytes : List ℕ) (old new : Option (List ℕ))
+    (r : Result Unit WriteFault) (weaker : Option WriteFault) → refusal ≡ None → weaker ≡ None
+    → length bytes ≤ record_limit
     → WroteAny weaker bytes old new r → Wrote refusal 0 bytes old new r
 Wrote-any refusal bytes old new (Ok tt) weaker none weak short h = (none, h.1)
 Wrote-any refusal bytes old new (Err (write_faults.Io told)) weaker none weak short (_, count, is_told, less, taken) =
     let exact : told ≡ count = omega arith in
     (none, zero-le, rw exact less, rw exact taken)
-Wrote-any refusal bytes old new (Err (write_faults.CharNotText number)) weaker none weak short h = let e : None ≡ Some (write_faults.CharNotText number) = sym weak ∙ h.0 in cc
-Wrote-any refusal bytes old new (Err write_faults.TooLong) weaker none weak short h = let e : None ≡ Some write_faults.TooLong = sym weak ∙ h.0 in cc
+Wrote-any refusal bytes old new (Err (write_faults.CharNotText number)) weaker none weak short h =
+    let e : None ≡ Some (write_faults.CharNotText number) = sym weak ∙ h.0 in cc
+Wrote-any refusal bytes old new (Err write_faults.TooLong) weaker none weak short h =
+    let e : None ≡ Some write_faults.TooLong = sym weak ∙ h.0 in cc
 
 -- bytes that are equal to those that were written
-pub WroteAny-same : (bytes text : List ℕ) (old new : Option (List ℕ)) (r : Result Unit WriteFault) → bytes ≡ text → WroteAny None text old new r → WroteAny None bytes old new r
+pub WroteAny-same : (bytes text : List ℕ) (old new : Option (List ℕ)) (r : Result Unit WriteFault) → bytes ≡ text
+    → WroteAny None text old new r → WroteAny None bytes old new r
 WroteAny-same bytes text old new r is wrote = subst (λ (l : List ℕ). WroteAny None l old new r) (sym is) wrote

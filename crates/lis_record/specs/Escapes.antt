@@ -1,6 +1,7 @@
 -- Escapes, and the relation between a text and the parts of a record (LIS02-A2, Delimiters).
 use Rattle.lis_field.specs.declared.symbols.Sym.{Sym}
-use Rattle.std.specs.Prelude.{◌≡◌, ◌≢◌, ℕ, ◌==◌, if◌then◌else◌, List, [], ◌∷◌, ◌++◌, map, Option, Some, None, option_map, Result, Ok, Err}
+use Rattle.std.specs.Prelude.{◌≡◌, ◌≢◌, ℕ, ◌==◌, if◌then◌else◌, List, [], ◌∷◌, ◌++◌, map, Option, Some, None}
+use Rattle.std.specs.Prelude.{option_map, Result, Ok, Err}
 use Rattle.hex.specs.Hex.{decode_of}
 use Rattle.hex.specs.declared.error.FromHexError.{FromHexError}
 use Rattle.lis_field.specs.declared.symbols.Sym.TheVariants.{Char, Raw, On, Off}
@@ -33,7 +34,8 @@ escape_of d (letter ∷ digit ∷ digits) = if letter == 88 then raw_symbols (de
 -- an escape begins behind an escape byte that this text follows
 abbrev pub BeginsEscape : DelimiterBytes → List ℕ → Type 0
 BeginsEscape d text =
-    (inside : List ℕ) × (rest : List ℕ) × (symbols : Symbols) × (text ≡ inside ++ d.escape ∷ rest) × (escape_of d inside ≡ Some symbols)
+    (inside : List ℕ) × (rest : List ℕ) × (symbols : Symbols) × (text ≡ inside ++ d.escape ∷ rest)
+    × (escape_of d inside ≡ Some symbols)
 
 -- A component's text, by cases from its front. What an escape byte begins that is no escape is that byte.
 pub data IsComponent (d : DelimiterBytes) : List ℕ → Symbols → Type 0 where

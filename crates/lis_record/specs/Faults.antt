@@ -1,5 +1,6 @@
 -- The first fault of a text that is no record, and of a record that is not written.
-use Rattle.std.specs.Prelude.{◌≡◌, ◌⊎◌, ℕ, ◌+◌, ◌==◌, nat_lt, Bool, true, false, not, if◌then◌else◌, List, [], ◌∷◌, length, Option, Some, None, option_map, position}
+use Rattle.std.specs.Prelude.{◌≡◌, ◌⊎◌, ℕ, ◌+◌, ◌==◌, nat_lt, Bool, true, false, not, if◌then◌else◌, List, [], ◌∷◌}
+use Rattle.std.specs.Prelude.{length, Option, Some, None, option_map, position}
 use Rattle.std.specs.List.{list_all}
 use Rattle.std.specs.Option.{option_or}
 use Rattle.lis_record.specs.declared.faults.DelimiterPartFault.{DelimiterPartFault}
@@ -88,7 +89,8 @@ is_text_field repeats = list_all is_text_repeat repeats
 -- the number of the first field with a character that is no text byte
 abbrev pub bad_field_number : RecordContent → Option ℕ
 bad_field_number content =
-    option_map (λ place. place + first_number content.kind) (position (λ field. not (is_text_field field)) content.fields)
+    option_map (λ place. place + first_number content.kind)
+    (position (λ field. not (is_text_field field)) content.fields)
 
 -- more bytes than a record may have
 abbrev pub long_fault : List ℕ → Option WriteFault
@@ -96,7 +98,8 @@ long_fault text = if nat_lt record_limit (length text) then Some write_faults.To
 
 -- why a record is not written: a character that is no text byte, else a spelling that is too long
 unfoldable pub check_fault : DelimiterBytes → RecordContent → Option WriteFault
-check_fault d content = option_or (option_map write_faults.CharNotText (bad_field_number content)) (long_fault (spelled d content))
+check_fault d content = option_or (option_map write_faults.CharNotText (bad_field_number content))
+    (long_fault (spelled d content))
 
 -- the first fault of a field's characters
 unfoldable pub field_char_fault : Repeats → Option WriteFault

@@ -14,12 +14,13 @@ abbrev pub Lacks : ℕ → List ℕ → Type 0
 Lacks byte text = All (λ b. b ≢ byte) text
 
 -- The text is one or more parts joined by the byte, which stands in none of them, a part for each item.
-pub record IsJoined {A : Type 0} (byte : ℕ) (IsItem : List ℕ → A → Type 0) (text : List ℕ) (items : List A) : Type 0 where
-  pub parts : List (List ℕ)
-  pub some : 0 < length parts
-  pub joined : text ≡ join_with_byte byte parts
-  pub apart : All (Lacks byte) parts
-  pub each : AllZip IsItem parts items
+pub record IsJoined {A : Type 0} (byte : ℕ) (IsItem : List ℕ → A → Type 0) (text : List ℕ) (items : List A) : Type 0
+  where
+    pub parts : List (List ℕ)
+    pub some : 0 < length parts
+    pub joined : text ≡ join_with_byte byte parts
+    pub apart : All (Lacks byte) parts
+    pub each : AllZip IsItem parts items
 
 -- a repeat's text: its components' texts, joined by the component delimiter
 abbrev pub IsRepeat : DelimiterBytes → List ℕ → Components → Type 0

@@ -47,7 +47,8 @@ spelled_field d repeats = join_with_byte d.repeat (map (spelled_repeat d) repeat
 -- a record without its CR
 abbrev pub spelled : DelimiterBytes → RecordContent → List ℕ
 spelled d content =
-    letter_of content.kind ∷ declared_part d content.kind ++ flat_map (λ field. d.field ∷ spelled_field d field) content.fields
+    letter_of content.kind ∷ declared_part d content.kind
+    ++ flat_map (λ field. d.field ∷ spelled_field d field) content.fields
 
 -- a record as it goes out, with its CR
 abbrev pub written : DelimiterBytes → RecordContent → List ℕ

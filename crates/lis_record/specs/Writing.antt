@@ -1,5 +1,6 @@
 -- What a call that writes answers, and what the sink has then taken.
-use Rattle.std.specs.Prelude.{◌≡◌, ℕ, ◌+◌, ◌-◌, ◌^◌, ◌<◌, ◌≤◌, min, Bool, true, false, List, length, take, drop, Option, Some, None, Result, Ok, Err}
+use Rattle.std.specs.Prelude.{◌≡◌, ℕ, ◌+◌, ◌-◌, ◌^◌, ◌<◌, ◌≤◌, min, Bool, true, false, List, length, take, drop}
+use Rattle.std.specs.Prelude.{Option, Some, None, Result, Ok, Err}
 use Rattle.std.specs.Io.KnownBytes.{Appends, Keeps}
 use Rattle.lis_record.specs.declared.faults.WriteFault.{WriteFault}
 use Rattle.lis_record.specs.declared.faults.WriteFault.TheVariants as write_faults
@@ -16,7 +17,8 @@ Wrote refusal skip bytes old new (Err fault) = (refusal ≡ Some fault) × Keeps
 abbrev pub WroteAny : Option WriteFault → List ℕ → Option (List ℕ) → Option (List ℕ) → Result Unit WriteFault → Type 0
 WroteAny refusal bytes old new (Ok done) = (refusal ≡ None) × Appends old new bytes
 WroteAny refusal bytes old new (Err (write_faults.Io told)) =
-    (refusal ≡ None) × (count : ℕ) × (told ≡ min count (2 ^ 64 - 1)) × (count < length bytes) × Appends old new (take count bytes)
+    (refusal ≡ None) × (count : ℕ) × (told ≡ min count (2 ^ 64 - 1)) × (count < length bytes)
+    × Appends old new (take count bytes)
 WroteAny refusal bytes old new (Err fault) = (refusal ≡ Some fault) × Keeps old new
 
 -- whether the sink failed
@@ -28,5 +30,6 @@ is_io _ = false
 abbrev pub Sent : ℕ → List ℕ → Option (List ℕ) → Option (List ℕ) → Result Unit WriteFault → Type 0
 Sent passed bytes old new (Ok done) = Appends old new bytes
 Sent passed bytes old new (Err (write_faults.Io told)) =
-    (count : ℕ) × (told ≡ min (passed + count) (2 ^ 64 - 1)) × (count < length bytes) × Appends old new (take count bytes)
+    (count : ℕ) × (told ≡ min (passed + count) (2 ^ 64 - 1)) × (count < length bytes)
+    × Appends old new (take count bytes)
 Sent passed bytes old new (Err fault) = ⊥

@@ -87,6 +87,7 @@ impl Chunk {
     }
 
     // Puts a byte at the end.
+    #[inline(always)]
     pub(crate) fn push(&mut self, byte: u8)
         requires { length self.old < 256 }
         ensures { self.new ≡ self.old ++ byte ∷ [] }

@@ -82,7 +82,8 @@ fn first_pair(digits: &[u8]) -> Option<(u8, &[u8])>
 // The first symbol of what an escape means, and the digits of those behind it; none where this is no escape.
 fn escape_meaning(delimiters: Delimiters, inside: &[u8]) -> Option<(Sym, &[u8])>
     ensures { MatchOption result (escape_of delimiters inside.now ≡ None)
-        (λ found. (escape_of delimiters inside.now ≡ Some (found.0 ∷ digit_symbols found.1.now)) × ArePairs found.1.now) }
+        (λ found. (escape_of delimiters inside.now ≡ Some (found.0 ∷ digit_symbols found.1.now))
+        × ArePairs found.1.now) }
 {
     let Some((letter, digits)) = inside.split_first() else {
         return None;
@@ -108,7 +109,8 @@ fn escape_meaning(delimiters: Delimiters, inside: &[u8]) -> Option<(Sym, &[u8])>
 // The first symbol behind an escape byte, the digits of an escape that are left and the text behind it. Where
 // the escape byte begins no escape, it is itself, and the text is left.
 fn escape_symbol(delimiters: Delimiters, text: &[u8]) -> (Sym, &[u8], &[u8])
-    ensures same { symbols_of delimiters (delimiters.escape ∷ text.now) ≡ result.0 ∷ symbols_left delimiters result.1.now result.2.now }
+    ensures same { symbols_of delimiters (delimiters.escape ∷ text.now) ≡ result.0
+        ∷ symbols_left delimiters result.1.now result.2.now }
     ensures pairs { ArePairs result.1.now }
 {
     let escape = delimiters.escape();
@@ -125,7 +127,8 @@ fn escape_symbol(delimiters: Delimiters, text: &[u8]) -> (Sym, &[u8], &[u8])
 // The first symbol of a text, the digits of an escape that are left and the text behind it.
 fn first_symbol(delimiters: Delimiters, text: &[u8]) -> Option<(Sym, &[u8], &[u8])>
     ensures { MatchOption result (symbols_of delimiters text.now ≡ [])
-        (λ found. (symbols_of delimiters text.now ≡ found.0 ∷ symbols_left delimiters found.1.now found.2.now) × ArePairs found.1.now) }
+        (λ found. (symbols_of delimiters text.now ≡ found.0 ∷ symbols_left delimiters found.1.now found.2.now)
+        × ArePairs found.1.now) }
 {
     let Some((byte, rest)) = text.split_first() else {
         return None;
@@ -168,6 +171,7 @@ impl<'a> LentSymbols<'a> {
     }
 
     /// Takes the first symbol; none where no symbol is left.
+    #[inline(always)]
     pub fn next(&mut self) -> Option<Sym>
         ensures { MatchOption result ((self.old ≡ []) × (self.new ≡ [])) (λ symbol. self.old ≡ symbol ∷ self.new) }
     {

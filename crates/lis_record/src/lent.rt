@@ -1,6 +1,7 @@
 //! Records and their parts where they stand in a text, without memory (LIS02-A2, Delimiters).
 
-ghost use Rattle.std.specs.Prelude.{◌≡◌, ◌<◌, ◌≤◌, ◌∷◌, [], IfOk, IfSome, MatchOption, drop, length, option_map, slice_get};
+ghost use Rattle.std.specs.Prelude.{◌≡◌, ◌<◌, ◌≤◌, ◌∷◌, [], IfOk, IfSome, MatchOption, drop, length, option_map};
+ghost use Rattle.std.specs.Prelude.{slice_get};
 ghost use Rattle.std.specs.Prelude.{false, take};
 ghost use Rattle.lis_field.specs.Shape.{field_at, plain_field};
 ghost use Rattle.lis_field.specs.declared.kinds.Kind.{Kind as KindOf};
@@ -226,7 +227,8 @@ impl<'a> LentFields<'a> {
         })
     }
 
-    /// Takes so many fields as they stand, with the delimiters between them, in one pass; none where there are fewer, or
+    /// Takes so many fields as they stand, with the delimiters between them, in one pass; none where there are fewer,
+    /// or
     /// where an escape byte is among them, and then all are left. At least one is asked for.
     #[inline(always)]
     pub fn take_plain(&mut self, count: usize) -> Option<&'a [u8]>

@@ -58,6 +58,7 @@ impl<'a> LentCursor<'a> {
     }
 
     // Moves what comes next into the chunk, at least one byte; false where nothing is left.
+    #[inline(always)]
     fn step(&mut self, chunk: &mut Chunk) -> bool
         requires { length chunk.old + 5 ≤ 256 }
         ensures same { chunk.new ++ self.new ≡ chunk.old ++ self.old }

@@ -1,8 +1,10 @@
 //! Reading a record from its text (LIS02-A2, Delimiters, and Data Record Usage Overview).
 
-ghost use Rattle.std.specs.Prelude.{◌≡◌, ◌≢◌, IfOk, IfErr, MatchOption, MatchResult, Ok, Option, Some, None, true, false};
+ghost use Rattle.std.specs.Prelude.{◌≡◌, ◌≢◌, IfOk, IfErr, MatchOption, MatchResult, Ok, Option, Some, None, true};
+ghost use Rattle.std.specs.Prelude.{false};
 ghost use Rattle.lis_field.specs.Delimiters.{DelimiterBytes, IsDelimiters};
-ghost use Rattle.lis_record.specs.Faults.{TellsFault, delimiter_part_fault, header_fault, is_header_kind, is_other_kind, record_fault, text_fault, trailing_byte};
+ghost use Rattle.lis_record.specs.Faults.{TellsFault, delimiter_part_fault, header_fault, is_header_kind};
+ghost use Rattle.lis_record.specs.Faults.{is_other_kind, record_fault, text_fault, trailing_byte};
 ghost use Rattle.lis_record.specs.inside.FrontReading.{DeclaresDelimiters, OpensHeader, OpensRecord};
 ghost use Rattle.lis_record.specs.Lent.{lent, record_in};
 ghost use Rattle.lis_record.specs.Relation.{IsRecord};
@@ -205,10 +207,12 @@ pub fn lend_searched_header(text: &[u8], bad: Option<usize>) -> Result<LentRecor
     // Its fields stand behind its delimiters.
     ensures place { IfOk result (λ entry. entry ≡ record_in entry.delimiters entry.content.kind text.now) }
     // A text that is a header is found to be it.
-    ensures only { (d : DelimiterBytes) (content : RecordContent) → IsDelimiters d → IsRecord d text.now content → content.kind ≡ kinds.H
+    ensures only { (d : DelimiterBytes) (content : RecordContent) → IsDelimiters d → IsRecord d text.now content
+        → content.kind ≡ kinds.H
         → result ≡ Ok (lent d content) }
     // Which fault it is.
-    ensures fault { MatchResult result (λ _. header_fault text.now ≡ None) (λ fault. header_fault text.now ≡ Some fault) }
+    ensures fault { MatchResult result (λ _. header_fault text.now ≡ None)
+        (λ fault. header_fault text.now ≡ Some fault) }
 {
     match open_header(text, bad) {
         Err(fault) => Err(fault),
@@ -227,10 +231,12 @@ pub fn lend_header(text: &[u8]) -> Result<LentRecord<'_>, RecordFault>
     // Its fields stand behind its delimiters.
     ensures place { IfOk result (λ entry. entry ≡ record_in entry.delimiters entry.content.kind text.now) }
     // A text that is a header is found to be it.
-    ensures only { (d : DelimiterBytes) (content : RecordContent) → IsDelimiters d → IsRecord d text.now content → content.kind ≡ kinds.H
+    ensures only { (d : DelimiterBytes) (content : RecordContent) → IsDelimiters d → IsRecord d text.now content
+        → content.kind ≡ kinds.H
         → result ≡ Ok (lent d content) }
     // Which fault it is.
-    ensures fault { MatchResult result (λ _. header_fault text.now ≡ None) (λ fault. header_fault text.now ≡ Some fault) }
+    ensures fault { MatchResult result (λ _. header_fault text.now ≡ None)
+        (λ fault. header_fault text.now ≡ Some fault) }
 {
     lend_searched_header(text, first_bad_byte(text))
 }
@@ -269,9 +275,11 @@ pub fn read_record(
 /// a growth was refused.
 pub fn read_header(alloc: Global, text: &[u8]) -> Result<(Delimiters, Record), RecordFault>
     // What is read is the header that the text is, under the delimiters that it declares.
-    ensures found { IfOk result (λ found. IsDelimiters found.0 × IsRecord found.0 text.now found.1 × (found.1.kind ≡ kinds.H)) }
+    ensures found { IfOk result (λ found. IsDelimiters found.0 × IsRecord found.0 text.now found.1
+        × (found.1.kind ≡ kinds.H)) }
     // A text that is a header is read, unless memory runs out.
-    ensures only { (d : DelimiterBytes) (content : RecordContent) → IsDelimiters d → IsRecord d text.now content → content.kind ≡ kinds.H
+    ensures only { (d : DelimiterBytes) (content : RecordContent) → IsDelimiters d → IsRecord d text.now content
+        → content.kind ≡ kinds.H
         → MatchResult result (λ found. (found.0 ≡ d) × (found.1 ≡ content)) (λ fault. fault ≡ OutOfMemory) }
     // Which fault it is.
     ensures fault { IfErr result (λ fault. TellsFault fault (header_fault text.now)) }

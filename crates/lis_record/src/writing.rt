@@ -1,7 +1,9 @@
 //! Writing records and fields to a sink, without memory (LIS02-A2, Delimiters).
 
-ghost use Rattle.std.specs.Prelude.{◌≡◌, ◌+◌, ◌-◌, ◌^◌, min, ◌<◌, ◌≤◌, ◌++◌, [], ◌↔◌, length, drop, false, not, IsTrue, OnOk, MatchResult, position, None, Some};
-ghost use Rattle.lis_record.specs.Faults.{bad_field_number, check_fault, field_char_fault, field_fault, is_text_component, is_text_field, is_text_repeat, is_text_symbol};
+ghost use Rattle.std.specs.Prelude.{◌≡◌, ◌+◌, ◌-◌, ◌^◌, min, ◌<◌, ◌≤◌, ◌++◌, [], ◌↔◌, length, drop, false, not};
+ghost use Rattle.std.specs.Prelude.{IsTrue, OnOk, MatchResult, position, None, Some};
+ghost use Rattle.lis_record.specs.Faults.{bad_field_number, check_fault, field_char_fault, field_fault};
+ghost use Rattle.lis_record.specs.Faults.{is_text_component, is_text_field, is_text_repeat, is_text_symbol};
 ghost use Rattle.lis_record.specs.Relation.{IsRecord, declared_part};
 ghost use Rattle.lis_field.specs.Shape.{IsRecordShape, first_number};
 ghost use Rattle.lis_record.specs.Spelling.{spelled, spelled_field, written};

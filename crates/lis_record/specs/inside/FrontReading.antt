@@ -1,6 +1,7 @@
 -- Reading a text from its front, once: the same symbols, components, repeats and fields as the relation has.
 use Rattle.lis_field.specs.declared.kinds.Kind.{Kind}
-use Rattle.std.specs.Prelude.{◌≡◌, ◌≢◌, ℕ, zero, suc, ◌+◌, ◌==◌, nat_lt, cond, if◌then◌else◌, List, [], ◌∷◌, ◌++◌, map, take, length, Option, Some, None, option_map, is_some, unwrap_or, IsTrue}
+use Rattle.std.specs.Prelude.{◌≡◌, ◌≢◌, ℕ, zero, suc, ◌+◌, ◌==◌, nat_lt, cond, if◌then◌else◌, List, [], ◌∷◌, ◌++◌}
+use Rattle.std.specs.Prelude.{map, take, length, Option, Some, None, option_map, is_some, unwrap_or, IsTrue}
 use Rattle.std.specs.List.{position_or_len, slice_split}
 use Rattle.lis_field.specs.declared.symbols.Sym.{Sym}
 use Rattle.lis_field.specs.declared.symbols.Sym.TheVariants.{Char}
@@ -33,7 +34,8 @@ unfoldable pub symbols_after : DelimiterBytes → ℕ → List ℕ → Symbols
 symbols_after d passed [] = []
 symbols_after d (suc passed) (byte ∷ bytes) = symbols_after d passed bytes
 symbols_after d zero (byte ∷ bytes) =
-    cond (byte == d.escape) (symbols_behind (escape_at d bytes) (λ n. symbols_after d n bytes) (Char byte)) (Char byte ∷ symbols_after d 0 bytes)
+    cond (byte == d.escape) (symbols_behind (escape_at d bytes) (λ n. symbols_after d n bytes) (Char byte))
+    (Char byte ∷ symbols_after d 0 bytes)
 
 abbrev pub symbols_of : DelimiterBytes → List ℕ → Symbols
 symbols_of d text = symbols_after d 0 text

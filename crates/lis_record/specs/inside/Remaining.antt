@@ -21,9 +21,12 @@ more_fields d fields = flat_map (λ field. d.field ∷ spelled_field d field) fi
 -- the rest of a component, of its repeat, of its field, of its record, and what ends it
 unfoldable pub remaining : DelimiterBytes → Symbols → Components → Repeats → Fields → List ℕ → List ℕ
 remaining d symbols components repeats fields end =
-    spelled_component d symbols ++ (more_components d components ++ (more_repeats d repeats ++ (more_fields d fields ++ end)))
+    spelled_component d symbols ++ (more_components d components
+    ++ (more_repeats d repeats ++ (more_fields d fields ++ end)))
 
--- the same of what stands in a text: the texts of the components and of the repeats that follow, each behind its delimiter
+-- the same of what stands in a text: the texts of the components and of the repeats that follow, each behind its
+-- delimiter
 abbrev pub remaining_text : DelimiterBytes → Symbols → List ℕ → List ℕ → List ℕ
 remaining_text d symbols components repeats =
-    remaining d symbols (map (symbols_of d) (parts_behind d.component components)) (map (components_of d) (parts_behind d.repeat repeats)) [] []
+    remaining d symbols (map (symbols_of d) (parts_behind d.component components))
+    (map (components_of d) (parts_behind d.repeat repeats)) [] []

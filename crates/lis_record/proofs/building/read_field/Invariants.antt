@@ -3,7 +3,8 @@ use Rattle.lis_record.specs.inside.FrontReading.{components_of, repeats_of, part
 use Rattle.lis_record.proofs.building.read_field.Given as goal
 
 abbrev pub invariant-loop-delimiter : goal.invariant-loop-delimiter
-invariant-loop-delimiter l = l.field ++ map (components_of l.delimiters) (parts_behind l.delimiters.repeat l.rest) ≡ repeats_of l.delimiters l.text
+invariant-loop-delimiter l = l.field ++ map (components_of l.delimiters) (parts_behind l.delimiters.repeat l.rest)
+    ≡ repeats_of l.delimiters l.text
 
 abbrev pub decreases-loop-delimiter : goal.decreases-loop-delimiter
 decreases-loop-delimiter l = length l.rest

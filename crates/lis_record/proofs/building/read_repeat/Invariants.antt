@@ -3,7 +3,8 @@ use Rattle.lis_record.specs.inside.FrontReading.{symbols_of, components_of, part
 use Rattle.lis_record.proofs.building.read_repeat.Given as goal
 
 abbrev pub invariant-loop-delimiter : goal.invariant-loop-delimiter
-invariant-loop-delimiter l = l.repeat ++ map (symbols_of l.delimiters) (parts_behind l.delimiters.component l.rest) ≡ components_of l.delimiters l.text
+invariant-loop-delimiter l = l.repeat ++ map (symbols_of l.delimiters) (parts_behind l.delimiters.component l.rest)
+    ≡ components_of l.delimiters l.text
 
 abbrev pub decreases-loop-delimiter : goal.decreases-loop-delimiter
 decreases-loop-delimiter l = length l.rest

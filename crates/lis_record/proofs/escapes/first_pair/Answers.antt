@@ -5,7 +5,8 @@ use Rattle.lis_record.proofs.escapes.first_pair.Goals as goal
 
 pub returns : goal.returns
 returns c =
-    pair_step c.args.digits.now c.in-Some.behind.now c.in-Some-split_first.rest.now c.in-Some.high.now c.in-Some-split_first.low.now _
+    pair_step c.args.digits.now c.in-Some.behind.now c.in-Some-split_first.rest.now c.in-Some.high.now
+    c.in-Some-split_first.low.now _
     c.in-Some.ensures.cases.0 c.in-Some-split_first.ensures.cases.0 c.requires
     (ap (λ (h : ℕ). h * 16 + c.digit_value-2.result) c.digit_value.ensures.value
     ∙ ap (λ (l : ℕ). unwrap_or (hex_digit_value c.in-Some.high.now) 0 * 16 + l) c.digit_value-2.ensures.value)

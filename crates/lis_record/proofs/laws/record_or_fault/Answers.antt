@@ -1,4 +1,5 @@
-use Rattle.lis_record.proofs.FaultlessTexts.{fault_of_header, fault_of_record, header_without_fault, record_without_fault}
+use Rattle.lis_record.proofs.FaultlessTexts.{fault_of_header, fault_of_record, header_without_fault}
+use Rattle.lis_record.proofs.FaultlessTexts.{record_without_fault}
 use Rattle.lis_record.proofs.laws.record_or_fault.Goals as goal
 
 pub returns-clause-found : goal.returns-clause-found

@@ -6,17 +6,22 @@ use Rattle.lis_record.proofs.reading.lend_searched_record.Goals as goal
 
 pub returns-in-Err-clause-only : goal.returns-in-Err-clause-only
 returns-in-Err-clause-only c = λ content r other.
-    absurd (some_none c.in-Err.fault (record_fault c.args.delimiters.now c.args.text.now) c.in-Err.ensures.opened (record_fault-IsRecord c.args.delimiters.now c.args.text.now content other r))
+    absurd (some_none c.in-Err.fault (record_fault c.args.delimiters.now c.args.text.now) c.in-Err.ensures.opened
+    (record_fault-IsRecord c.args.delimiters.now c.args.text.now content other r))
 
 pub returns-in-Ok-clause-found : goal.returns-in-Ok-clause-found
-returns-in-Ok-clause-found c = lent_found c.args.delimiters.now c.in-Ok.ensures.shape c.args.text.now _ _ c.in-Ok.ensures.opened c.of_parts.result c.of_parts.ensures
+returns-in-Ok-clause-found c = lent_found c.args.delimiters.now c.in-Ok.ensures.shape c.args.text.now _ _
+    c.in-Ok.ensures.opened c.of_parts.result c.of_parts.ensures
 
 pub returns-in-Ok-clause-only : goal.returns-in-Ok-clause-only
 returns-in-Ok-clause-only c = λ content r other.
-    lent_only c.args.delimiters.now c.in-Ok.ensures.shape c.args.text.now _ _ c.in-Ok.ensures.opened c.of_parts.result c.of_parts.ensures content r
+    lent_only c.args.delimiters.now c.in-Ok.ensures.shape c.args.text.now _ _ c.in-Ok.ensures.opened c.of_parts.result
+    c.of_parts.ensures content r
 
 pub returns-in-Ok-clause-fault : goal.returns-in-Ok-clause-fault
-returns-in-Ok-clause-fault c = record_fault-opened c.args.delimiters.now c.in-Ok.ensures.shape c.args.text.now _ _ c.in-Ok.ensures.opened
+returns-in-Ok-clause-fault c = record_fault-opened c.args.delimiters.now c.in-Ok.ensures.shape c.args.text.now _ _
+    c.in-Ok.ensures.opened
 
 pub returns-in-Ok-clause-place : goal.returns-in-Ok-clause-place
-returns-in-Ok-clause-place c = lent_placed c.args.delimiters.now c.in-Ok.ensures.shape c.args.text.now _ _ c.in-Ok.ensures.opened c.of_parts.result c.of_parts.ensures
+returns-in-Ok-clause-place c = lent_placed c.args.delimiters.now c.in-Ok.ensures.shape c.args.text.now _ _
+    c.in-Ok.ensures.opened c.of_parts.result c.of_parts.ensures

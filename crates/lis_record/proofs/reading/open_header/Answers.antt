@@ -8,13 +8,17 @@ returns-in_default c = header_fault-empty c.args.text.now c.in_default.ensures.c
 
 pub returns-then-not-is_header_letter : goal.returns-then-not-is_header_letter
 returns-then-not-is_header_letter c =
-    header_fault-kind c.args.text.now c.in-Some.letter.now c.in-Some.part.now c.in-Some.ensures.cases.0 (sym c.is_header_letter.ensures ∙ c.if-not-is_header_letter.true)
+    header_fault-kind c.args.text.now c.in-Some.letter.now c.in-Some.part.now c.in-Some.ensures.cases.0
+    (sym c.is_header_letter.ensures ∙ c.if-not-is_header_letter.true)
 
 pub returns-in-Err : goal.returns-in-Err
 returns-in-Err c =
-    header_fault-part c.args.text.now c.in-Some.letter.now c.in-Some.part.now c.in-Err.fault c.in-Some.ensures.cases.0 (sym c.is_header_letter.ensures ∙ c.if-not-is_header_letter.false) c.in-Err.ensures
+    header_fault-part c.args.text.now c.in-Some.letter.now c.in-Some.part.now c.in-Err.fault c.in-Some.ensures.cases.0
+    (sym c.is_header_letter.ensures ∙ c.if-not-is_header_letter.false) c.in-Err.ensures
 
 pub returns-in-Some-text_fault : goal.returns-in-Some-text_fault
 returns-in-Some-text_fault c =
-    header_fault-text c.args.text.now c.in-Some.letter.now c.in-Some.part.now c.in-Some-text_fault.fault c.in-Some.ensures.cases.0 (sym c.is_header_letter.ensures ∙ c.if-not-is_header_letter.false)
-    (delimiter_part_fault-declares c.in-Some.part.now _ _ c.in-Ok.ensures) (sym c.text_fault.ensures ∙ c.in-Some-text_fault.is)
+    header_fault-text c.args.text.now c.in-Some.letter.now c.in-Some.part.now c.in-Some-text_fault.fault
+    c.in-Some.ensures.cases.0 (sym c.is_header_letter.ensures ∙ c.if-not-is_header_letter.false)
+    (delimiter_part_fault-declares c.in-Some.part.now _ _ c.in-Ok.ensures)
+    (sym c.text_fault.ensures ∙ c.in-Some-text_fault.is)

@@ -7,15 +7,18 @@ returns-in_default-clause-opened c = record_fault-empty c.args.delimiters c.args
 
 pub returns-in_default-other_kind-clause-opened : goal.returns-in_default-other_kind-clause-opened
 returns-in_default-other_kind-clause-opened c =
-    record_fault-kind c.args.delimiters c.args.text.now c.in-Some.letter.now c.in-Some.rest.now c.in-Some.ensures.cases.0 c.in_default-other_kind.ensures
+    record_fault-kind c.args.delimiters c.args.text.now c.in-Some.letter.now c.in-Some.rest.now
+    c.in-Some.ensures.cases.0 c.in_default-other_kind.ensures
 
 pub returns-in-Some-trailing_byte-clause-opened : goal.returns-in-Some-trailing_byte-clause-opened
 returns-in-Some-trailing_byte-clause-opened c =
-    record_fault-trailing c.args.delimiters c.args.text.now c.in-Some.letter.now c.in-Some.rest.now c.in-Some-trailing_byte.byte c.in-Some.ensures.cases.0 c.in-Some-other_kind.ensures.1
+    record_fault-trailing c.args.delimiters c.args.text.now c.in-Some.letter.now c.in-Some.rest.now
+    c.in-Some-trailing_byte.byte c.in-Some.ensures.cases.0 c.in-Some-other_kind.ensures.1
     (rw c.field-field.ensures.byte at (sym c.trailing_byte.ensures ∙ c.in-Some-trailing_byte.is))
 
 pub returns-in-Some-text_fault-clause-opened : goal.returns-in-Some-text_fault-clause-opened
 returns-in-Some-text_fault-clause-opened c =
-    record_fault-text c.args.delimiters c.args.text.now c.in-Some.letter.now c.in-Some.rest.now c.in-Some-text_fault.fault c.in-Some.ensures.cases.0 c.in-Some-other_kind.ensures.1
+    record_fault-text c.args.delimiters c.args.text.now c.in-Some.letter.now c.in-Some.rest.now
+    c.in-Some-text_fault.fault c.in-Some.ensures.cases.0 c.in-Some-other_kind.ensures.1
     (rw c.field-field.ensures.byte at (sym c.trailing_byte.ensures ∙ c.in_default-trailing_byte.is))
     (sym c.text_fault.ensures ∙ c.in-Some-text_fault.is)

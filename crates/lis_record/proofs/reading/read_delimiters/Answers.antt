@@ -1,5 +1,6 @@
 use Rattle.std.proofs.Common.{◌∙◌, sym, Some, arith}
-use Rattle.lis_record.proofs.FaultLaws.{delimiter_part_fault-marks, delimiter_part_fault-short, delimiter_part_fault-trailing, four_bytes}
+use Rattle.lis_record.proofs.FaultLaws.{delimiter_part_fault-marks, delimiter_part_fault-short}
+use Rattle.lis_record.proofs.FaultLaws.{delimiter_part_fault-trailing, four_bytes}
 use Rattle.std.proofs.lemmas.List.{take_rest}
 use Rattle.lis_record.proofs.reading.read_delimiters.Goals as goal
 
@@ -15,4 +16,5 @@ pub returns-in-Some : goal.returns-in-Some
 returns-in-Some c =
     let text = c.args.text.now in
     let behind = take_rest text 4 in
-    delimiter_part_fault-trailing text _ _ _ _ _ (Some c.in-Some.byte) (four_bytes text (omega arith)) c.in-Ok.ensures.fault (rw behind at (sym c.trailing_byte.ensures ∙ c.in-Some.is))
+    delimiter_part_fault-trailing text _ _ _ _ _ (Some c.in-Some.byte) (four_bytes text (omega arith))
+    c.in-Ok.ensures.fault (rw behind at (sym c.trailing_byte.ensures ∙ c.in-Some.is))

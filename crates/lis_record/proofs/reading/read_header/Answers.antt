@@ -7,7 +7,8 @@ use Rattle.lis_record.proofs.reading.read_header.Goals as goal
 
 pub returns-in-Err-clause-only : goal.returns-in-Err-clause-only
 returns-in-Err-clause-only c = λ d content good r is_header.
-    absurd (some_none c.in-Err.fault (header_fault c.args.text.now) c.in-Err.ensures.fault (header_fault-IsRecord d good c.args.text.now content is_header r))
+    absurd (some_none c.in-Err.fault (header_fault c.args.text.now) c.in-Err.ensures.fault
+    (header_fault-IsRecord d good c.args.text.now content is_header r))
 
 pub returns-in-Ok-to_record-clause-found : goal.returns-in-Ok-to_record-clause-found
 returns-in-Ok-to_record-clause-found c = rw (c.delimiters.ensures, c.in-Ok-to_record.ensures) c.in-Ok.ensures.found

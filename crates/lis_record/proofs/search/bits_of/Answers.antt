@@ -5,4 +5,5 @@ use Rattle.lis_record.proofs.search.bits_of.Goals as goal
 
 pub returns : goal.returns
 returns c =
-    bitmask_splat w8 eqb (take 16 c.args.bytes.now) 16 c.args.mark (omega (arith, length-take 16 c.args.bytes.now)) (omega arith)
+    bitmask_splat w8 eqb (take 16 c.args.bytes.now) 16 c.args.mark (omega (arith, length-take 16 c.args.bytes.now))
+    (omega arith)

@@ -10,9 +10,18 @@ pub loop-rest-preserved : goal.loop-rest-preserved
 loop-rest-preserved c =
     let test = λ (b : ℕ). b == c.args.mark in
     let rest = c.loop-rest.rest.now in
-    let ones : count_ones c.bits_of.result ≡ count_by test (take 16 rest) = rw c.bits_of.ensures (ones-mask_l test (take 16 rest)) in
+    let ones : count_ones c.bits_of.result ≡ count_by test (take 16 rest) =
+    rw c.bits_of.ensures (ones-mask_l test (take 16 rest)) in
     let few = count_by-le-length test (take 16 rest) in
     record {
       sum = rw (c.split_at.ensures.back, ones) (omega (arith, count_by-chunk test 16 rest, c.loop-rest.invariant.sum));
-      within = rw ones (omega (arith, few, length-take 16 rest, c.split_at.ensures.back_len, c.loop-rest.invariant.within, c.loop-rest-test.true));
+      within = rw ones
+          (omega (
+            arith,
+            few,
+            length-take 16 rest,
+            c.split_at.ensures.back_len,
+            c.loop-rest.invariant.within,
+            c.loop-rest-test.true,
+          ));
     }

@@ -8,7 +8,8 @@ returns-then-bits-ne0 c =
     let test = λ (b : ℕ). b == c.args.mark in
     let bits = c.bits_of-bits.ensures in
     rw bits
-    (sym (found-chunk test c.loop-rest.place 16 c.loop-rest.rest.now (omega arith) c.loop-rest-test.true (rw bits at c.if-bits-ne0.true)))
+    (sym (found-chunk test c.loop-rest.place 16 c.loop-rest.rest.now (omega arith) c.loop-rest-test.true
+    (rw bits at c.if-bits-ne0.true)))
     ∙ sym c.loop-rest.invariant.same ∙ sym (position_from-zero test c.args.text.now)
 
 pub loop-rest-preserved : goal.loop-rest-preserved

@@ -7,10 +7,12 @@ pub returns-clause-parts : goal.returns-clause-parts
 returns-clause-parts c =
     let text = c.args.text.now in
     rw (c.split_at.ensures.front, c.split_at.ensures.back)
-    (parts_of-first c.args.delimiter text c.unwrap_or-end.result (c.unwrap_or-end.ensures ∙ ap (λ (o : Option ℕ). unwrap_or o (length text)) c.place_of.ensures))
+    (parts_of-first c.args.delimiter text c.unwrap_or-end.result
+    (c.unwrap_or-end.ensures ∙ ap (λ (o : Option ℕ). unwrap_or o (length text)) c.place_of.ensures))
 
 pub returns-clause-mark : goal.returns-clause-mark
 returns-clause-mark c =
     let text = c.args.text.now in
     rw c.split_at.ensures.back
-    (part_behind-mark c.args.delimiter text c.unwrap_or-end.result (c.unwrap_or-end.ensures ∙ ap (λ (o : Option ℕ). unwrap_or o (length text)) c.place_of.ensures))
+    (part_behind-mark c.args.delimiter text c.unwrap_or-end.result
+    (c.unwrap_or-end.ensures ∙ ap (λ (o : Option ℕ). unwrap_or o (length text)) c.place_of.ensures))

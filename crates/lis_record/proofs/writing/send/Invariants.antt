@@ -9,8 +9,10 @@ invariant-loop-chunk g l = record {
   open_sink : g.W.Sink.failed l.sink ≡ false;
   within : l.left ≤ length l.chunk;
   filled : length l.chunk ≡ 0 → g.S.Spelling.left l.cursor ≡ [];
-  goes_on : (new : Option (List ℕ)) (r : Result Unit WriteFault) → Sent l.passed (drop l.left l.chunk ++ g.S.Spelling.left l.cursor) (g.W.Sink.taken l.sink) new r
-      → Sent l.initial.passed (drop l.initial.left l.initial.chunk ++ g.S.Spelling.left l.initial.cursor) (g.W.Sink.taken l.initial.sink) new r;
+  goes_on : (new : Option (List ℕ)) (r : Result Unit WriteFault)
+      → Sent l.passed (drop l.left l.chunk ++ g.S.Spelling.left l.cursor) (g.W.Sink.taken l.sink) new r
+      → Sent l.initial.passed (drop l.initial.left l.initial.chunk ++ g.S.Spelling.left l.initial.cursor)
+      (g.W.Sink.taken l.initial.sink) new r;
 }
 
 abbrev pub decreases-loop-chunk : goal.decreases-loop-chunk

@@ -9,5 +9,6 @@ returns c =
     let none = eqb-true (length c.loop-chunk.chunk) 0 (sym c.is_empty.ensures ∙ c.loop-chunk-test.false) in
     let done = ap length (i.filled none) in
     let size = length-append c.loop-chunk.chunk c.loop-chunk.cursor in
-    let whole = ap length (c.begin_record-cursor.ensures.whole ∙ append-nil (spelled c.args.delimiters.now c.args.entry.now)) in
+    let whole = ap length (c.begin_record-cursor.ensures.whole
+    ∙ append-nil (spelled c.args.delimiters.now c.args.entry.now)) in
     omega (arith, i.same, i.bound, none, done, size, whole)

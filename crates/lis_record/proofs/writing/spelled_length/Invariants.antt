@@ -3,7 +3,8 @@ use Rattle.lis_record.proofs.writing.spelled_length.Given as goal
 
 abbrev pub invariant-loop-chunk : goal.invariant-loop-chunk
 invariant-loop-chunk l = record {
-  same : min (l.count + length (l.chunk ++ l.cursor)) (2 ^ 64 - 1) ≡ min (length (l.initial.chunk ++ l.initial.cursor)) (2 ^ 64 - 1);
+  same : min (l.count + length (l.chunk ++ l.cursor)) (2 ^ 64 - 1)
+      ≡ min (length (l.initial.chunk ++ l.initial.cursor)) (2 ^ 64 - 1);
   filled : length l.chunk ≡ 0 → l.cursor ≡ [];
   bound : l.count ≤ 2 ^ 64 - 1;
 }

@@ -14,6 +14,7 @@ returns c =
     let Free : ℕ → Type 0 = λ b. (b ≢ c.repeat.result) × ((b ≢ c.component.result) × (b ≢ c.escape.result)) in
     let free = rw (take_all c.loop-byte.byte-index text (omega arith)) at c.loop-byte.invariant in
     let repeat = rw c.repeat.ensures at (All-weaker Free (λ b. b ≢ c.repeat.result) (λ b all. all.0) text free) in
-    let component = rw c.component.ensures at (All-weaker Free (λ b. b ≢ c.component.result) (λ b all. all.1.0) text free) in
+    let component =
+    rw c.component.ensures at (All-weaker Free (λ b. b ≢ c.component.result) (λ b all. all.1.0) text free) in
     let escape = rw c.escape.ensures at (All-weaker Free (λ b. b ≢ c.escape.result) (λ b all. all.1.1) text free) in
     ap (λ (f : Lent Repeats). f.content) (sym c.self.view_is) ∙ plain_read d text repeat component escape

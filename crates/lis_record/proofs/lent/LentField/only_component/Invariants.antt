@@ -3,4 +3,5 @@ use Rattle.std.specs.List.{All}
 use Rattle.lis_record.proofs.lent.LentField.only_component.Given as goal
 
 abbrev pub invariant-loop-byte : goal.invariant-loop-byte
-invariant-loop-byte l = All (λ b. (b ≢ l.repeat) × ((b ≢ l.component) × (b ≢ l.escape))) (take l.byte-index l.self-inside.text.now)
+invariant-loop-byte l = All (λ b. (b ≢ l.repeat) × ((b ≢ l.component) × (b ≢ l.escape)))
+    (take l.byte-index l.self-inside.text.now)

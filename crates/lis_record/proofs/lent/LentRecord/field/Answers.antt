@@ -7,11 +7,14 @@ use Rattle.lis_record.proofs.lent.LentRecord.field.Goals as goal
 pub invariant_of-result : goal.invariant_of-result
 invariant_of-result c =
     let i = c.self.inside in
-    Lacks-part i.delimiters.field c.in-Some.place i.fields.now c.in-Some-part_behind.text.now (rw c.field.ensures.byte at c.in-Some-part_behind.ensures)
+    Lacks-part i.delimiters.field c.in-Some.place i.fields.now c.in-Some-part_behind.text.now
+    (rw c.field.ensures.byte at c.in-Some-part_behind.ensures)
 
 pub returns : goal.returns
 returns c =
     let i = c.self.inside in
-    field_found i.delimiters i.kind i.fields.now c.in-Some-part_behind.text.now c.args.number c.in-Some.place c.first_number.result
-    c.first_number.ensures.number c.in-Some.ensures.0 c.in-Some.ensures.1 (rw c.field.ensures.byte at c.in-Some-part_behind.ensures)
+    field_found i.delimiters i.kind i.fields.now c.in-Some-part_behind.text.now c.args.number c.in-Some.place
+    c.first_number.result
+    c.first_number.ensures.number c.in-Some.ensures.0 c.in-Some.ensures.1
+    (rw c.field.ensures.byte at c.in-Some-part_behind.ensures)
     ∙ ap (λ (r : Lent RecordContent). option_map (lent r.delimiters) (field_at r.content c.args.number)) c.self.view_is
