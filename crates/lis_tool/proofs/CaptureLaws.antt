@@ -1,5 +1,6 @@
 -- A run over a capture, told by its lines.
-use Rattle.std.proofs.Common.{◌≡◌, ℕ, ◌+◌, Bool, true, false, List, [], Option, None, Some, Ok, Err, length, refl, ◌∙◌, ap, subst, IfOk}
+use Rattle.std.proofs.Common.{◌≡◌, ℕ, ◌+◌, Bool, true, false, List, [], Option, None, Some, Ok, Err, length, refl}
+use Rattle.std.proofs.Common.{◌∙◌, ap, subst, IfOk}
 use Rattle.std.specs.declared.result.Result.{Result}
 use Rattle.lis_frame.specs.Stream.{stream_with}
 use Rattle.lis_capture.specs.declared.line.Line.{Line}
@@ -18,11 +19,13 @@ module _ (memory : Bool) (w : Writes) (old new : Option (List ℕ)) where
       → LineAnswer memory w (record { lines = lines; refused = refused }) ended result old new
   answer true ended lines (Ok report) wrote = absurd (no_report wrote.0)
     where
-      no_report : ◌≡◌ {A = Option (Result Report ToolFault)} (Some (Err (CaptureLine (length lines + 1)))) (Some (Ok report)) → ⊥
+      no_report : ◌≡◌ {A = Option (Result Report ToolFault)} (Some (Err (CaptureLine (length lines + 1))))
+          (Some (Ok report)) → ⊥
       no_report is = cc
   answer false true lines (Ok report) wrote = (refl, refl, same wrote.0, wrote.1)
     where
-      same : ◌≡◌ {A = Option (Result Report ToolFault)} (Some (Ok (w.report lines))) (Some (Ok report)) → report ≡ w.report lines
+      same : ◌≡◌ {A = Option (Result Report ToolFault)} (Some (Ok (w.report lines))) (Some (Ok report))
+          → report ≡ w.report lines
       same is = cc
   answer false false lines (Ok report) wrote = absurd (no_halt wrote.0)
     where
@@ -30,11 +33,13 @@ module _ (memory : Bool) (w : Writes) (old new : Option (List ℕ)) where
       no_halt is = cc
   answer true ended lines (Err (CaptureLine line)) wrote = (refl, same wrote.0, wrote.1)
     where
-      same : ◌≡◌ {A = Option (Result Report ToolFault)} (Some (Err (CaptureLine (length lines + 1)))) (Some (Err (CaptureLine line))) → line ≡ length lines + 1
+      same : ◌≡◌ {A = Option (Result Report ToolFault)} (Some (Err (CaptureLine (length lines + 1))))
+          (Some (Err (CaptureLine line))) → line ≡ length lines + 1
       same is = cc
   answer false true lines (Err (CaptureLine line)) wrote = absurd (no_line wrote.0)
     where
-      no_line : ◌≡◌ {A = Option (Result Report ToolFault)} (Some (Ok (w.report lines))) (Some (Err (CaptureLine line))) → ⊥
+      no_line : ◌≡◌ {A = Option (Result Report ToolFault)} (Some (Ok (w.report lines)))
+          (Some (Err (CaptureLine line))) → ⊥
       no_line is = cc
   answer false false lines (Err (CaptureLine line)) wrote = absurd (no_halt wrote.0)
     where
@@ -60,7 +65,8 @@ module _ (memory : Bool) (w : Writes) (old new : Option (List ℕ)) where
 -- a run whose outcome is that of a capture
 pub capture_ran :
     (memory : Bool) (w : Writes) (means : List ℕ → Bool → Outcome → Type 0)
-    → ((bytes : List ℕ) (ended : Bool) (o : Outcome) → means bytes ended o → o ≡ capture_outcome w (stream_with [] bytes) ended)
+    → ((bytes : List ℕ) (ended : Bool) (o : Outcome) → means bytes ended o
+    → o ≡ capture_outcome w (stream_with [] bytes) ended)
     → (left_old left_new taken_old taken_new : Option (List ℕ)) (ended : Bool) (result : Result Report ToolFault)
     → Ran memory means left_old left_new taken_old taken_new ended result
     → CaptureRan memory w left_old left_new taken_old taken_new ended result
@@ -71,13 +77,16 @@ capture_ran memory w means is left_old left_new taken_old taken_new ended result
       read = ran.read;
       answer =
           answer memory w taken_old taken_new read.refused ended read.lines result
-          (subst (λ (o : Outcome). Wrote memory result o taken_old taken_new) (is ran.given ended ran.outcome ran.meant) ran.wrote);
+          (subst (λ (o : Outcome). Wrote memory result o taken_old taken_new)
+          (is ran.given ended ran.outcome ran.meant) ran.wrote);
     }
 
 -- the status of a command that never tells of anything to look at
 pub report_status :
-    {memory : Bool} (w : Writes) (left_old left_new taken_old taken_new : Option (List ℕ)) (ended : Bool) (result : Result Report ToolFault)
-    → ((lines : List Line) → (w.report lines).status ≡ 0) → CaptureRan memory w left_old left_new taken_old taken_new ended result
+    {memory : Bool} (w : Writes) (left_old left_new taken_old taken_new : Option (List ℕ)) (ended : Bool)
+    (result : Result Report ToolFault)
+    → ((lines : List Line) → (w.report lines).status ≡ 0)
+    → CaptureRan memory w left_old left_new taken_old taken_new ended result
     → IfOk result (λ report. report.status ≡ 0)
 report_status w left_old left_new taken_old taken_new ended (Ok report) clean ran =
     ap (λ (r : Report). r.status) ran.answer.2 ∙ clean (capture (stream_with [] ran.given) ended).lines

@@ -1,5 +1,6 @@
 -- What a session that is done handed out, where it was started with the texts of messages.
-use Rattle.std.proofs.Common.{◌≡◌, ℕ, List, [], ◌∷◌, ◌++◌, Option, None, Some, Err, inl, inr, map, refl, ◌∙◌, ap, MatchOption}
+use Rattle.std.proofs.Common.{◌≡◌, ℕ, List, [], ◌∷◌, ◌++◌, Option, None, Some, Err, inl, inr, map, refl, ◌∙◌, ap}
+use Rattle.std.proofs.Common.{MatchOption}
 use Rattle.std.proofs.lemmas.Grind.{flat_map-append}
 use Rattle.std.proofs.lemmas.List.Elements.{All-contains}
 use Rattle.std.specs.List.{AllByRecursion, flat_map}
@@ -24,7 +25,8 @@ joined_map f [] = refl
 joined_map f (x ∷ xs) = ap (λ (l : List ℕ). f x ++ l) (joined_map f xs)
 
 -- the texts of messages, put together, are their bytes
-texts_joined : (ms : List MessageTree) → flat_map (λ (text : List ℕ). text) (flat_map message_texts_of ms) ≡ flat_map message_bytes ms
+texts_joined : (ms : List MessageTree) → flat_map (λ (text : List ℕ). text) (flat_map message_texts_of ms)
+    ≡ flat_map message_bytes ms
 texts_joined [] = refl
 texts_joined (m ∷ ms) =
     flat_map-append (λ (text : List ℕ). text) (message_texts_of m) (flat_map message_texts_of ms)
@@ -37,28 +39,31 @@ writable [] fit = tt
 writable (m ∷ ms) fit = (all_writable m.delimiters 1 (flatten m) fit.0.0, writable ms fit.1)
 
 pub carried_bytes :
-    (limit : ℕ) → AlwaysSafe limit → (events : List Event) (x : Session) (ms : List MessageTree) → HasCarried limit events x ms
+    (limit : ℕ) → AlwaysSafe limit → (events : List Event) (x : Session) (ms : List MessageTree)
+    → HasCarried limit events x ms
     → handed_bytes x ≡ flat_map message_bytes ms
 carried_bytes limit safe events x ms has =
-    let handed : x.handed ≡ x.texts = All-contains HandsOutAll (world limit events).sessions x (safe events).1 has.session has.done in
+    let handed : x.handed ≡ x.texts = All-contains HandsOutAll (world limit events).sessions x (safe events).1
+    has.session has.done in
     ap (flat_map (λ (text : List ℕ). text)) (handed ∙ has.texts) ∙ texts_joined ms
 
 -- a stream that is cut into these messages alone is read as them
 module _ (stream : List ℕ) (ms : List MessageTree) (cut : IsCut stream ms None [])
     (alone : (others : List MessageTree) (left : Option Begun) (held : List ℕ) → IsCut stream others left held
     → (others ≡ ms) × (left ≡ None) × (held ≡ []))
-    (none : (n : List MessageTree) (fault : MessageFault) → IsRefused stream n fault → IsCut stream ms None [] → ⊥) where
-  pub read_alone :
-      (read : List MessageTree) (fault : Option MessageFault) → ReadsWhole stream read fault
-      → MatchOption fault (read ≡ ms) (λ f. f.reason ≡ reasons.OutOfMemory)
-  read_alone read None is = (alone read None [] is).0
-  read_alone read (Some fault) (inl (inl starved)) = starved.why
-  read_alone read (Some fault) (inl (inr refused)) = absurd (none read fault refused cut)
-  read_alone read (Some fault) (inr short) =
-      let left = alone read short.left short.held short.cut in
-      absurd (ended short.left short.held left.1 left.2 short.why)
-    where
-      ended : (l : Option Begun) (h : List ℕ) → l ≡ None → h ≡ [] → at_end l h ≡ Err fault → ⊥
-      ended None [] e f why = cc
-      ended None (b ∷ h) e f why = cc
-      ended (Some b) h e f why = cc
+    (none : (n : List MessageTree) (fault : MessageFault) → IsRefused stream n fault → IsCut stream ms None [] → ⊥)
+  where
+    pub read_alone :
+        (read : List MessageTree) (fault : Option MessageFault) → ReadsWhole stream read fault
+        → MatchOption fault (read ≡ ms) (λ f. f.reason ≡ reasons.OutOfMemory)
+    read_alone read None is = (alone read None [] is).0
+    read_alone read (Some fault) (inl (inl starved)) = starved.why
+    read_alone read (Some fault) (inl (inr refused)) = absurd (none read fault refused cut)
+    read_alone read (Some fault) (inr short) =
+        let left = alone read short.left short.held short.cut in
+        absurd (ended short.left short.held left.1 left.2 short.why)
+      where
+        ended : (l : Option Begun) (h : List ℕ) → l ≡ None → h ≡ [] → at_end l h ≡ Err fault → ⊥
+        ended None [] e f why = cc
+        ended None (b ∷ h) e f why = cc
+        ended (Some b) h e f why = cc

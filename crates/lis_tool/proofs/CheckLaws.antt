@@ -1,5 +1,7 @@
 -- Findings and records, and how many there are.
-use Rattle.std.proofs.Common.{◌≡◌, ℕ, ◌+◌, ◌<◌, ◌≤◌, ◌^◌, Bool, true, false, List, [], ◌∷◌, ◌++◌, Option, length, codes, decimal, sym, ◌∙◌, ap, arith, append-nil, append_assoc, length-append, nat_lt, not, ◌&&◌, if◌then◌else◌}
+use Rattle.std.proofs.Common.{◌≡◌, ℕ, ◌+◌, ◌<◌, ◌≤◌, ◌^◌, Bool, true, false, List, [], ◌∷◌, ◌++◌, Option, length}
+use Rattle.std.proofs.Common.{codes, decimal, sym, ◌∙◌, ap, arith, append-nil, append_assoc, length-append, nat_lt}
+use Rattle.std.proofs.Common.{not, ◌&&◌, if◌then◌else◌}
 use Rattle.std.proofs.lemmas.Grind.{flat_map-append}
 use Rattle.std.specs.List.{flat_map}
 use Rattle.std.specs.Option.{option_to_list}
@@ -14,7 +16,8 @@ use Rattle.lis_tree.specs.Findings.{HasNumbered, finding_on, findings_from, find
 use Rattle.lis_tree.specs.Numbers.{expected_number, field_number, is_number, is_numbered}
 use Rattle.lis_tree.specs.Places.{capped}
 use Rattle.lis_tree.specs.Tree.{MessageTree, flatten}
-use Rattle.lis_tool.specs.Check.{IsChecking, check_writes, finding_count, finding_line, message_line, record_line, record_lines}
+use Rattle.lis_tool.specs.Check.{IsChecking, check_writes, finding_count, finding_line, message_line, record_line}
+use Rattle.lis_tool.specs.Check.{record_lines}
 use Rattle.lis_tool.specs.Messages.{record_count, whole_begun, with_record}
 use Rattle.lis_tool.proofs.MessageLaws.{record_count-append}
 
@@ -22,13 +25,15 @@ one_at_most : (b : Bool) (f : Finding) → length (let fs : List Finding = if b 
 one_at_most true f = omega arith
 one_at_most false f = omega arith
 
-findings_few_from : (earlier : List Kind) (place : ℕ) (rs : List RecordContent) → length (findings_from earlier place rs) ≤ length rs
+findings_few_from : (earlier : List Kind) (place : ℕ) (rs : List RecordContent)
+    → length (findings_from earlier place rs) ≤ length rs
 findings_few_from earlier place [] = omega arith
 findings_few_from earlier place (r ∷ rs) =
     omega (
       arith,
       length-append (finding_on earlier place r) (findings_from (r.kind ∷ earlier) (place + 1) rs),
-      one_at_most (is_numbered r.kind && not (is_number (field_number (field_at r 2)) (capped (expected_number r.kind earlier))))
+      one_at_most (is_numbered r.kind && not (is_number (field_number (field_at r 2))
+          (capped (expected_number r.kind earlier))))
           (record { place = capped place; kind = r.kind; expected = capped (expected_number r.kind earlier) }),
       findings_few_from (r.kind ∷ earlier) (place + 1) rs,
     )
@@ -40,25 +45,30 @@ pub finding_count-few : (ms : List MessageTree) → finding_count ms ≤ record_
 finding_count-few [] = omega arith
 finding_count-few (m ∷ ms) = omega (arith, findings_few m, finding_count-few ms)
 
-pub finding_count-one_more : (ms : List MessageTree) (m : MessageTree) → finding_count (ms ++ m ∷ []) ≡ finding_count ms + length (findings_of m)
+pub finding_count-one_more : (ms : List MessageTree) (m : MessageTree)
+    → finding_count (ms ++ m ∷ []) ≡ finding_count ms + length (findings_of m)
 finding_count-one_more [] m = omega arith
 finding_count-one_more (x ∷ ms) m = omega (arith, finding_count-one_more ms m)
 
 -- ---- while the records come
 
 record_lines-more : (place : ℕ) (records : List RecordContent) (r : RecordContent)
-    → record_lines place (records ++ r ∷ []) ≡ record_lines place records ++ record_line (place + length records) r.kind (length r.fields)
+    → record_lines place (records ++ r ∷ []) ≡ record_lines place records
+    ++ record_line (place + length records) r.kind (length r.fields)
 record_lines-more place [] r =
-    append-nil (record_line place r.kind (length r.fields)) ∙ ap (λ (k : ℕ). record_line k r.kind (length r.fields)) (omega arith)
+    append-nil (record_line place r.kind (length r.fields))
+    ∙ ap (λ (k : ℕ). record_line k r.kind (length r.fields)) (omega arith)
 record_lines-more place (x ∷ records) r =
     ap (λ (l : List ℕ). record_line place x.kind (length x.fields) ++ l) (record_lines-more (place + 1) records r)
     ∙ sym (append_assoc (record_line place x.kind (length x.fields)) (record_lines (place + 1) records)
     (record_line (place + 1 + length records) r.kind (length r.fields)))
-    ∙ ap (λ (k : ℕ). (record_line place x.kind (length x.fields) ++ record_lines (place + 1) records) ++ record_line k r.kind (length r.fields)) (omega arith)
+    ∙ ap (λ (k : ℕ). (record_line place x.kind (length x.fields) ++ record_lines (place + 1) records)
+    ++ record_line k r.kind (length r.fields)) (omega arith)
 
 -- one record more, with the finding on it
 pub checking_on :
-    (records findings : List ℕ) (numbering next : Numbering) (found told : ℕ) (messages : List MessageTree) (left : Option Begun)
+    (records findings : List ℕ) (numbering next : Numbering) (found told : ℕ) (messages : List MessageTree)
+    (left : Option Begun)
     (entry : Lent RecordContent) (place : ℕ) (finding : Option Finding) (records' findings' : List ℕ) (found' : ℕ)
     → IsChecking records findings numbering found told messages left
     → record_count messages + length (records_of left) < 2 ^ 44
@@ -70,7 +80,8 @@ pub checking_on :
     → findings' ≡ findings ++ flat_map finding_line (option_to_list finding)
     → (found < 2 ^ 44 → found' ≡ found + length (option_to_list finding))
     → IsChecking records' findings' next found' told messages (with_record left entry)
-checking_on records findings numbering next found told messages left entry place finding records' findings' found' is few placed on numbered lines told_lines counts =
+checking_on records findings numbering next found told messages left entry place finding records' findings' found' is
+    few placed on numbered lines told_lines counts =
     let rs = records_of left in
     let r = entry.content in
     let more = on rs is.numbered in
@@ -79,10 +90,12 @@ checking_on records findings numbering next found told messages left entry place
     record {
       record_lines_are =
           lines ∙ ap (λ (l : List ℕ). l ++ record_line place r.kind (length r.fields)) is.record_lines_are
-          ∙ ap (λ (k : ℕ). record_lines 1 rs ++ record_line k r.kind (length r.fields)) here ∙ sym (record_lines-more 1 rs r);
+          ∙ ap (λ (k : ℕ). record_lines 1 rs ++ record_line k r.kind (length r.fields)) here
+          ∙ sym (record_lines-more 1 rs r);
       finding_lines_are =
           told_lines ∙ ap (λ (l : List ℕ). l ++ flat_map finding_line (option_to_list finding)) is.finding_lines_are
-          ∙ sym (flat_map-append finding_line (findings_from [] 1 rs) (option_to_list finding)) ∙ ap (flat_map finding_line) (sym more);
+          ∙ sym (flat_map-append finding_line (findings_from [] 1 rs) (option_to_list finding))
+          ∙ ap (flat_map finding_line) (sym more);
       numbered = numbered rs is.numbered;
       found_is =
           counts short ∙ ap (λ (k : ℕ). k + length (option_to_list finding)) is.found_is
@@ -92,27 +105,42 @@ checking_on records findings numbering next found told messages left entry place
 
 -- what waits of a whole message is its text
 pub check_text :
-    (records findings : List ℕ) (numbering : Numbering) (found told before : ℕ) (messages : List MessageTree) (m : MessageTree)
+    (records findings : List ℕ) (numbering : Numbering) (found told before : ℕ) (messages : List MessageTree)
+    (m : MessageTree)
     → IsChecking records findings numbering found told messages (whole_begun m)
     → codes "message " ++ (decimal before ++ (codes "\n" ++ (records ++ (findings ++ []))))
     ≡ message_line before ++ record_lines 1 (flatten m) ++ flat_map finding_line (findings_of m)
 check_text records findings numbering found told before messages m is =
-    ap (λ (l : List ℕ). codes "message " ++ (decimal before ++ (codes "\n" ++ (l ++ (findings ++ []))))) is.record_lines_are
-    ∙ ap (λ (l : List ℕ). codes "message " ++ (decimal before ++ (codes "\n" ++ (record_lines 1 (flatten m) ++ (l ++ []))))) is.finding_lines_are
-    ∙ sym (regroup (codes "message ") (decimal before) (codes "\n") (record_lines 1 (flatten m)) (flat_map finding_line (findings_of m)))
+    ap (λ (l : List ℕ). codes "message " ++ (decimal before ++ (codes "\n" ++ (l ++ (findings ++ [])))))
+    is.record_lines_are
+    ∙ ap (λ (l : List ℕ). codes "message " ++ (decimal before
+    ++ (codes "\n" ++ (record_lines 1 (flatten m) ++ (l ++ []))))) is.finding_lines_are
+    ∙ sym (regroup (codes "message ") (decimal before) (codes "\n") (record_lines 1 (flatten m))
+    (flat_map finding_line (findings_of m)))
   where
     regroup : (a b c d e : List ℕ) → ((a ++ (b ++ (c ++ []))) ++ d) ++ e ≡ a ++ (b ++ (c ++ (d ++ (e ++ []))))
     regroup a b c d e = simp (append_assoc, append-nil)
 
 -- the findings of one more message are told
 pub told_more :
-    (records findings : List ℕ) (numbering : Numbering) (found told sum : ℕ) (messages : List MessageTree) (m : MessageTree)
-    → IsChecking records findings numbering found told messages (whole_begun m) → record_count (messages ++ m ∷ []) < 2 ^ 44
+    (records findings : List ℕ) (numbering : Numbering) (found told sum : ℕ) (messages : List MessageTree)
+    (m : MessageTree)
+    → IsChecking records findings numbering found told messages (whole_begun m)
+    → record_count (messages ++ m ∷ []) < 2 ^ 44
     → (told + found < 2 ^ 63 → sum ≡ told + found) → sum ≡ finding_count (messages ++ m ∷ [])
 told_more records findings numbering found told sum messages m is few sum_is =
     let found_is : found ≡ length (findings_of m) = is.found_is in
     let short : told + found < 2 ^ 63 =
-    omega (arith, few, is.told_is, found_is, findings_few m, finding_count-few messages, record_count-append messages (m ∷ [])) in
+    omega (
+      arith,
+      few,
+      is.told_is,
+      found_is,
+      findings_few m,
+      finding_count-few messages,
+      record_count-append messages
+          (m ∷ []),
+    ) in
     omega (arith, sum_is short, is.told_is, found_is, finding_count-one_more messages m)
 
 pub check_status-few : (messages : List MessageTree) → check_writes.status messages ≤ 1

@@ -66,7 +66,8 @@ order_with_number_two :
 unfolding panel with_order entry usual digits symbols_after escape_at escape_of decode_pairs
 order_with_number_two = refl
 
-status_of_a_finding : report_after check_writes (panel (codes "|2|S7") ∷ []) None ≡ record { status = 1; refused = None }
+status_of_a_finding : report_after check_writes (panel (codes "|2|S7") ∷ []) None
+    ≡ record { status = 1; refused = None }
 unfolding panel with_order entry usual symbols_after escape_at escape_of decode_pairs
 status_of_a_finding = refl
 
@@ -74,7 +75,8 @@ order_with_a_leading_zero : findings_of (panel (codes "|01|S7")) ≡ []
 unfolding panel with_order entry usual symbols_after escape_at escape_of decode_pairs
 order_with_a_leading_zero = refl
 
-result_of_the_panel : messages_text results_writes 0 (panel (codes "|1|S7") ∷ []) ≡ codes "S7|^^^GLU|5.4|mmol/L|3.9 to 6.1|N|F\n"
+result_of_the_panel : messages_text results_writes 0 (panel (codes "|1|S7") ∷ [])
+    ≡ codes "S7|^^^GLU|5.4|mmol/L|3.9 to 6.1|N|F\n"
 unfolding panel with_order entry usual symbols_after escape_at escape_of decode_pairs spelled_symbol
 result_of_the_panel = refl
 
@@ -88,14 +90,16 @@ short_result = refl
 -- each result stands behind the sample of its own order
 two_orders :
     result_lines usual None
-    (entry kinds.O (codes "|1|A") ∷ entry kinds.R (codes "|1|x|1") ∷ entry kinds.O (codes "|2|B") ∷ entry kinds.C (codes "|1") ∷ entry kinds.R (codes "|1|y|2") ∷ [])
+    (entry kinds.O (codes "|1|A") ∷ entry kinds.R (codes "|1|x|1") ∷ entry kinds.O (codes "|2|B")
+    ∷ entry kinds.C (codes "|1") ∷ entry kinds.R (codes "|1|y|2") ∷ [])
     ≡ codes "A|x|1||||\nB|y|2||||\n"
 unfolding entry usual symbols_after escape_at escape_of decode_pairs spelled_symbol
 two_orders = refl
 
 -- escapes are written as such, and a lone escape byte as one
 escapes :
-    result_lines usual None (entry kinds.O (codes "|1|A&F&1") ∷ entry kinds.R (codes "|1|n|S & S|&X0D0a&|&H&hi&N&|a\\b^c||F") ∷ [])
+    result_lines usual None (entry kinds.O (codes "|1|A&F&1")
+    ∷ entry kinds.R (codes "|1|n|S & S|&X0D0a&|&H&hi&N&|a\\b^c||F") ∷ [])
     ≡ codes "A&F&1|n|S &E& S|&X0d&&X0a&|&H&hi&N&|a\\b^c|F\n"
 unfolding entry usual symbols_after escape_at escape_of decode_pairs encode_with spelled_symbol
 escapes = refl
@@ -120,20 +124,27 @@ unfolding query entry usual
 query_has_no_result = refl
 
 -- a result without an order, behind no message and behind one
-result_without_order : refused_part 0 (Some (record { place = 3; reason = reasons.NoParent kinds.R })) ++ sums_line 0 0 ≡ codes "refused 1 3 G3\nmessages 0 findings 0\n"
+result_without_order : refused_part 0 (Some (record { place = 3; reason = reasons.NoParent kinds.R }))
+    ++ sums_line 0 0 ≡ codes "refused 1 3 G3\nmessages 0 findings 0\n"
 unfolding digits
 result_without_order = refl
 
 record_outside_a_message :
-    check_writes.last (panel (codes "|1|S7") ∷ []) (Some (record { place = 1; reason = reasons.NotHeader })) ≡ codes "refused 2 1 G2\nmessages 1 findings 0\n"
+    check_writes.last (panel (codes "|1|S7") ∷ []) (Some (record { place = 1; reason = reasons.NotHeader }))
+    ≡ codes "refused 2 1 G2\nmessages 1 findings 0\n"
 unfolding panel with_order entry usual digits symbols_after escape_at escape_of decode_pairs
 record_outside_a_message = refl
 
-empty_record : refused_part 0 (Some (record { place = 2; reason = reasons.BadRecord record_faults.Empty })) ≡ codes "refused 1 2 G1 C1\n"
+empty_record : refused_part 0 (Some (record { place = 2; reason = reasons.BadRecord record_faults.Empty }))
+    ≡ codes "refused 1 2 G1 C1\n"
 unfolding digits
 empty_record = refl
 
 report_of_a_refusal :
     (report_after results_writes (query ∷ []) (Some (record { place = 1; reason = reasons.NotHeader })))
-    ≡ record { status = 1; refused = Some (record { message = 2; fault = record { place = 1; reason = reasons.NotHeader } }) }
+    ≡ record {
+      status = 1;
+      refused =
+          Some (record { message = 2; fault = record { place = 1; reason = reasons.NotHeader } });
+    }
 report_of_a_refusal = refl

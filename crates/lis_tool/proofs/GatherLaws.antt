@@ -1,5 +1,6 @@
 -- Texts that are gathered one behind the other, and go out together.
-use Rattle.std.proofs.Common.{◌≡◌, ℕ, ◌≤◌, List, [], ◌∷◌, ◌++◌, length, Option, Ok, Err, sym, ◌∙◌, ap, subst, append-nil, append_assoc, refl}
+use Rattle.std.proofs.Common.{◌≡◌, ℕ, ◌≤◌, List, [], ◌∷◌, ◌++◌, length, Option, Ok, Err, sym, ◌∙◌, ap, subst}
+use Rattle.std.proofs.Common.{append-nil, append_assoc, refl}
 use Rattle.std.specs.declared.result.Result.{Result}
 use Rattle.lis_tool.specs.declared.fault.ToolFault.{ToolFault}
 use Rattle.lis_tool.specs.Output.{Gathered, Out, Put, most_counted, out}
@@ -26,11 +27,13 @@ pub gathered_out :
     (a b : Option (List ℕ)) (waits : List ℕ) (before : ℕ) (r : Result ℕ ToolFault) → Put a b before r waits
     → Gathered (out a waits) (out b []) before r []
 gathered_out a b waits before (Ok after) put = (waits, refl, put)
-gathered_out a b waits before (Err fault) put = subst (λ (t : List ℕ). Put a b before (Err fault) t) (sym (append-nil waits)) put
+gathered_out a b waits before (Err fault) put =
+    subst (λ (t : List ℕ). Put a b before (Err fault) t) (sym (append-nil waits)) put
 
 -- a text, and then another
 pub gathered_then :
-    (a b c : Out) (before middle : ℕ) (r : Result ℕ ToolFault) (xs ys : List ℕ) → Gathered a b before (Ok middle) xs → Gathered b c middle r ys
+    (a b c : Out) (before middle : ℕ) (r : Result ℕ ToolFault) (xs ys : List ℕ) → Gathered a b before (Ok middle) xs
+    → Gathered b c middle r ys
     → Gathered a c before r (xs ++ ys)
 gathered_then a b c before middle (Ok after) xs ys (first, first_is, put) (second, second_is, put_behind) = (
   first ++ second,
@@ -45,7 +48,8 @@ gathered_then a b c before middle (Err fault) xs ys (first, first_is, put) put_b
 
 -- where the sink failed in a text, it failed in any longer one
 pub gathered_stops :
-    (a b : Out) (before : ℕ) (fault : ToolFault) (xs ys : List ℕ) → Gathered a b before (Err fault) xs → Gathered a b before (Err fault) (xs ++ ys)
+    (a b : Out) (before : ℕ) (fault : ToolFault) (xs ys : List ℕ) → Gathered a b before (Err fault) xs
+    → Gathered a b before (Err fault) (xs ++ ys)
 gathered_stops a b before fault xs ys put =
     subst (λ (t : List ℕ). Put a.taken b.taken before (Err fault) t) (append_assoc a.waits xs ys)
     (put_stops a.taken b.taken before fault (a.waits ++ xs) ys put)
@@ -60,10 +64,12 @@ gathered_sent a b c waits before middle r text gathered sent =
 
 -- where none waits, the text is out
 pub gathered_settled :
-    (a b : Option (List ℕ)) (before after : ℕ) (text : List ℕ) → Gathered (out a []) (out b []) before (Ok after) text → Put a b before (Ok after) text
+    (a b : Option (List ℕ)) (before after : ℕ) (text : List ℕ) → Gathered (out a []) (out b []) before (Ok after) text
+    → Put a b before (Ok after) text
 gathered_settled a b before after text (more, is, put) =
     subst (λ (t : List ℕ). Put a b before (Ok after) t) (sym (append-nil more) ∙ sym is) put
 
-pub gathered_none : (a : Out) (before : ℕ) (text : List ℕ) → before ≤ most_counted → length text ≡ 0 → Gathered a a before (Ok before) text
+pub gathered_none : (a : Out) (before : ℕ) (text : List ℕ) → before ≤ most_counted → length text ≡ 0
+    → Gathered a a before (Ok before) text
 gathered_none a before [] fits none = gathered_nothing a before fits
 gathered_none a before (b ∷ text) fits none = cc

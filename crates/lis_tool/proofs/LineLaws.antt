@@ -1,5 +1,7 @@
 -- A capture that is taken line by line.
-use Rattle.std.proofs.Common.{◌≡◌, ℕ, ◌+◌, ◌≤◌, ◌<◌, ◌^◌, ◌==◌, min, Bool, true, false, List, [], ◌∷◌, ◌++◌, Option, None, Some, Ok, Err, is_err, length, take, drop, refl, sym, ◌∙◌, ap, subst, arith, append-nil, append_assoc, length-append, take_all, if◌then◌else◌}
+use Rattle.std.proofs.Common.{◌≡◌, ℕ, ◌+◌, ◌≤◌, ◌<◌, ◌^◌, ◌==◌, min, Bool, true, false, List, [], ◌∷◌, ◌++◌, Option}
+use Rattle.std.proofs.Common.{None, Some, Ok, Err, is_err, length, take, drop, refl, sym, ◌∙◌, ap, subst, arith}
+use Rattle.std.proofs.Common.{append-nil, append_assoc, length-append, take_all, if◌then◌else◌}
 use Rattle.std.proofs.lemmas.Bool.{eqb-true, ltb-true}
 use Rattle.std.specs.declared.result.Result.{Result}
 use Rattle.lis_text.specs.Control.{LF}
@@ -8,7 +10,8 @@ use Rattle.lis_capture.specs.declared.line.Line.{Line}
 use Rattle.lis_capture.specs.declared.reader.Found.{Found}
 use Rattle.lis_capture.specs.declared.reader.Found.TheVariants as found
 use Rattle.lis_capture.specs.Line.{longest_line, line_of}
-use Rattle.lis_capture.specs.Capture.{Lines, begun, capture, counts, ended_lines, lines_of, next_by, read_lines, version_of, with_said}
+use Rattle.lis_capture.specs.Capture.{Lines, begun, capture, counts, ended_lines, lines_of, next_by, read_lines}
+use Rattle.lis_capture.specs.Capture.{version_of, with_said}
 use Rattle.lis_capture.specs.Reader.{HasRead, Known, Reading, found_lines, is_long, known_of}
 use Rattle.lis_capture.proofs.CaptureLemmas.{capture-ended, capture-long, capture-refused, capture-within, has_end}
 use Rattle.lis_tool.specs.declared.fault.ToolFault.{ToolFault}
@@ -30,7 +33,8 @@ ended-few (b ∷ past) = by_end (b == LF) b past (ended-few past)
   where
     by_end :
         (t : Bool) (b : ℕ) (past : List ℕ) → length (ended_lines past) + length (begun past) ≤ length past
-        → length (if t then begun past ∷ ended_lines past else ended_lines past) + length (if t then [] else begun past ++ b ∷ []) ≤ length (b ∷ past)
+        → length (if t then begun past ∷ ended_lines past else ended_lines past)
+        + length (if t then [] else begun past ++ b ∷ []) ≤ length (b ∷ past)
     by_end true b past few = omega (arith, few)
     by_end false b past few = omega (arith, few, length-append (begun past) (b ∷ []))
 
@@ -39,14 +43,17 @@ abbrev one_refused : Bool → ℕ
 one_refused true = 1
 one_refused false = 0
 
-read-few : (texts : List (List ℕ)) → length (read_lines texts).lines + one_refused (read_lines texts).refused ≤ length texts
+read-few : (texts : List (List ℕ)) → length (read_lines texts).lines + one_refused (read_lines texts).refused
+    ≤ length texts
 read-few [] = omega arith
 read-few (text ∷ texts) =
     let one_more = next (read_lines texts).refused (read_lines texts).lines text (length texts) (read-few texts) in
-    let joined : length (read_lines (text ∷ texts)).lines + one_refused (read_lines (text ∷ texts)).refused ≤ length texts + 1 = one_more in
+    let joined : length (read_lines (text ∷ texts)).lines + one_refused (read_lines (text ∷ texts)).refused
+    ≤ length texts + 1 = one_more in
     omega (arith, joined)
   where
-    said : (lines : List Line) (line : Option Line) (n : ℕ) → length lines ≤ n → length (with_said lines line).lines + one_refused (with_said lines line).refused ≤ n + 1
+    said : (lines : List Line) (line : Option Line) (n : ℕ) → length lines ≤ n
+        → length (with_said lines line).lines + one_refused (with_said lines line).refused ≤ n + 1
     said lines None n few = omega (arith, few)
     said lines (Some line) n few = omega (arith, few)
 
@@ -64,11 +71,13 @@ counts-some false text is = omega (arith, ltb-true longest_line (length text) is
 lines_of-few : (past : List ℕ) (ended : Bool) → length (lines_of past ended) ≤ length past
 lines_of-few past ended = by_counts (counts ended (begun past)) refl
   where
-    by_counts : (t : Bool) → counts ended (begun past) ≡ t → length (if t then begun past ∷ ended_lines past else ended_lines past) ≤ length past
+    by_counts : (t : Bool) → counts ended (begun past) ≡ t
+        → length (if t then begun past ∷ ended_lines past else ended_lines past) ≤ length past
     by_counts true is = omega (arith, ended-few past, counts-some ended (begun past) is)
     by_counts false is = omega (arith, ended-few past)
 
-pub lines-few : (past : List ℕ) (ended : Bool) → length (capture past ended).lines + one_refused (capture past ended).refused ≤ length past
+pub lines-few : (past : List ℕ) (ended : Bool)
+    → length (capture past ended).lines + one_refused (capture past ended).refused ≤ length past
 lines-few past ended = omega (arith, read-few (lines_of past ended), lines_of-few past ended)
 
 pub stream-length : (past xs : List ℕ) → length (stream_with past xs) ≡ length past + length xs
@@ -82,32 +91,45 @@ pub record Longer (w : Writes) (before after : List Line) : Type 0 where
   pub joined : lines_text w after ≡ lines_text w before ++ tail
 
 same_text : (w : Writes) (before after : List Line) → after ≡ before → Longer w before after
-same_text w before after is = record { tail = []; joined = ap (lines_text w) is ∙ sym (append-nil (lines_text w before)) }
+same_text w before after is = record {
+  tail = [];
+  joined =
+      ap (lines_text w) is ∙ sym (append-nil (lines_text w before));
+}
 
 said_longer : (w : Writes) (lines : List Line) (line : Option Line) → Longer w lines (with_said lines line).lines
 said_longer w lines None = same_text w lines lines refl
 said_longer w lines (Some line) = record { tail = w.line lines line; joined = refl }
 
-byte_longer : (w : Writes) (b : ℕ) (past : List ℕ) → Longer w (capture past false).lines (capture (b ∷ past) false).lines
+byte_longer : (w : Writes) (b : ℕ) (past : List ℕ)
+    → Longer w (capture past false).lines (capture (b ∷ past) false).lines
 byte_longer w b past = by_refused (capture past false).refused refl
   where
     by_long :
-        (long : Bool) → is_long (begun past ++ b ∷ []) ≡ long → (capture past false).refused ≡ false → has_end (b ∷ []) ≡ false
+        (long : Bool) → is_long (begun past ++ b ∷ []) ≡ long → (capture past false).refused ≡ false
+        → has_end (b ∷ []) ≡ false
         → Longer w (capture past false).lines (capture (b ∷ past) false).lines
-    by_long true long fine none = same_text w _ _ (ap (λ (r : Lines). r.lines) (capture-long past (b ∷ []) fine none long))
-    by_long false long fine none = same_text w _ _ (ap (λ (r : Lines). r.lines) (capture-within past (b ∷ []) fine none long))
+    by_long true long fine none =
+        same_text w _ _ (ap (λ (r : Lines). r.lines) (capture-long past (b ∷ []) fine none long))
+    by_long false long fine none = same_text w _ _
+        (ap (λ (r : Lines). r.lines) (capture-within past (b ∷ []) fine none long))
 
-    by_end : (t : Bool) → (b == LF) ≡ t → (capture past false).refused ≡ false → Longer w (capture past false).lines (capture (b ∷ past) false).lines
+    by_end : (t : Bool) → (b == LF) ≡ t → (capture past false).refused ≡ false
+        → Longer w (capture past false).lines (capture (b ∷ past) false).lines
     by_end true is fine =
         let line = line_of (version_of (capture past false).lines) (begun past ++ []) in
-        let ended : capture (LF ∷ past) false ≡ with_said (capture past false).lines line = capture-ended past [] fine refl in
+        let ended : capture (LF ∷ past) false ≡ with_said (capture past false).lines line =
+        capture-ended past [] fine refl in
         subst (λ (x : ℕ). Longer w (capture past false).lines (capture (x ∷ past) false).lines) (sym (eqb-true b LF is))
-        (subst (λ (r : Lines). Longer w (capture past false).lines r.lines) (sym ended) (said_longer w (capture past false).lines line))
+        (subst (λ (r : Lines). Longer w (capture past false).lines r.lines) (sym ended)
+        (said_longer w (capture past false).lines line))
     by_end false is fine =
         by_long (is_long (begun past ++ b ∷ [])) refl fine (ap (λ (t : Bool). if t then true else false) is)
 
-    by_refused : (refused : Bool) → (capture past false).refused ≡ refused → Longer w (capture past false).lines (capture (b ∷ past) false).lines
-    by_refused true refused = same_text w _ _ (ap (λ (r : Lines). r.lines) (capture-refused past (b ∷ []) false refused))
+    by_refused : (refused : Bool) → (capture past false).refused ≡ refused
+        → Longer w (capture past false).lines (capture (b ∷ past) false).lines
+    by_refused true refused =
+        same_text w _ _ (ap (λ (r : Lines). r.lines) (capture-refused past (b ∷ []) false refused))
     by_refused false fine = by_end (b == LF) refl fine
 
 longer_then : (w : Writes) (a b c : List Line) → Longer w a b → Longer w b c → Longer w a c
@@ -119,17 +141,21 @@ longer_then w a b c first second =
           ∙ append_assoc (lines_text w a) first.tail second.tail;
     }
 
-pub lines_longer : (w : Writes) (past bytes : List ℕ) → Longer w (capture past false).lines (capture (stream_with past bytes) false).lines
+pub lines_longer : (w : Writes) (past bytes : List ℕ)
+    → Longer w (capture past false).lines (capture (stream_with past bytes) false).lines
 lines_longer w past [] = same_text w _ _ refl
 lines_longer w past (b ∷ bytes) =
-    longer_then w (capture past false).lines (capture (b ∷ past) false).lines _ (byte_longer w b past) (lines_longer w (b ∷ past) bytes)
+    longer_then w (capture past false).lines (capture (b ∷ past) false).lines _ (byte_longer w b past)
+    (lines_longer w (b ∷ past) bytes)
 
 -- before its end an input has no closing lines
-unclosed : (w : Writes) (refused : Bool) (lines : List Line) → whole (lines_outcome w refused false lines) ≡ lines_text w lines
+unclosed : (w : Writes) (refused : Bool) (lines : List Line)
+    → whole (lines_outcome w refused false lines) ≡ lines_text w lines
 unclosed w true lines = append-nil (lines_text w lines)
 unclosed w false lines = append-nil (lines_text w lines)
 
-text_is-lines : (w : Writes) (refused ended : Bool) (lines : List Line) → (lines_outcome w refused ended lines).text ≡ lines_text w lines
+text_is-lines : (w : Writes) (refused ended : Bool) (lines : List Line)
+    → (lines_outcome w refused ended lines).text ≡ lines_text w lines
 text_is-lines w true ended lines = refl
 text_is-lines w false true lines = refl
 text_is-lines w false false lines = refl
@@ -169,7 +195,8 @@ at_start w stands reader old before past text bytes fits lined few =
 
 -- all was read
 pub at_end_of :
-    (w : Writes) (stands : List Line → Type 0) (reader : Reading) (old here : Out) (before after : ℕ) (past text rest bytes : List ℕ)
+    (w : Writes) (stands : List Line → Type 0) (reader : Reading) (old here : Out) (before after : ℕ)
+    (past text rest bytes : List ℕ)
     → IsAt w stands reader old here before after past text rest bytes → length rest ≡ 0
     → Puts (IsLined w stands reader (past ++ bytes)) old here before after text
 at_end_of w stands reader old here before after past text [] bytes at none =
@@ -186,9 +213,11 @@ at_end_of w stands reader old here before after past text [] bytes at none =
 at_end_of w stands reader old here before after past text (b ∷ rest) bytes at none = cc
 
 module _
-    (w : Writes) (stands : List Line → Type 0) (reader next : Reading) (old here : Out) (before after : ℕ) (past text rest bytes : List ℕ)
+    (w : Writes) (stands : List Line → Type 0) (reader next : Reading) (old here : Out) (before after : ℕ)
+    (past text rest bytes : List ℕ)
     (at : IsAt w stands reader old here before after past text rest bytes) (count : ℕ) (result : Found)
-    (found_is : capture (stream_with at.read (take count rest)) false ≡ found_lines (capture at.read false) result next.known.line)
+    (found_is : capture (stream_with at.read (take count rest)) false
+    ≡ found_lines (capture at.read false) result next.known.line)
     (has_read : HasRead next (stream_with at.read (take count rest))) where
   all_is : stream_with (stream_with at.read (take count rest)) (drop count rest) ≡ stream_with [] (past ++ bytes)
   all_is = front_stream count at.read rest ∙ at.joined
@@ -196,12 +225,21 @@ module _
   pub few_there : length (stream_with at.read (take count rest)) + length (drop count rest) < 2 ^ 44
   few_there =
       let same = ap length (front_stream count at.read rest) in
-      omega (arith, same, at.few, stream-length at.read rest, stream-length (stream_with at.read (take count rest)) (drop count rest))
+      omega (
+        arith,
+        same,
+        at.few,
+        stream-length at.read rest,
+        stream-length (stream_with at.read (take count rest))
+            (drop count rest),
+      )
 
   -- the text of all bytes begins with that of the lines
   begins :
-      (lines : List Line) → capture (stream_with at.read (take count rest)) false ≡ record { lines = lines; refused = false }
-      → (tail : List ℕ) × (lines_text w (capture (stream_with [] (past ++ bytes)) false).lines ≡ lines_text w lines ++ tail)
+      (lines : List Line) → capture (stream_with at.read (take count rest)) false
+      ≡ record { lines = lines; refused = false }
+      → (tail : List ℕ) × (lines_text w (capture (stream_with [] (past ++ bytes)) false).lines ≡ lines_text w lines
+      ++ tail)
   begins lines is =
       let longer = lines_longer w (stream_with at.read (take count rest)) (drop count rest) in (
         longer.tail,
@@ -211,7 +249,8 @@ module _
 
   -- nothing was found: all was read
   pub nothing_found :
-      result ≡ found.Nothing → count ≡ length rest → Puts (IsLined w stands next (past ++ bytes)) old here before after text
+      result ≡ found.Nothing → count ≡ length rest → Puts (IsLined w stands next (past ++ bytes)) old here before
+      after text
   nothing_found nothing all =
       let same : capture (stream_with at.read (take count rest)) false ≡ capture at.read false =
       found_is ∙ ap (λ (f : Found). found_lines (capture at.read false) f next.known.line) nothing in
@@ -222,7 +261,8 @@ module _
         put = at.put;
         behind = record {
           has_read = subst (HasRead next) whole_is has_read;
-          fine = subst (λ (s : List ℕ). (capture s false).refused ≡ false) whole_is (ap (λ (r : Lines). r.refused) same ∙ at.fine);
+          fine = subst (λ (s : List ℕ). (capture s false).refused ≡ false) whole_is
+              (ap (λ (r : Lines). r.refused) same ∙ at.fine);
           stood =
               subst (λ (s : List ℕ). stands (capture s false).lines) whole_is
               (subst (λ (r : Lines). stands r.lines) (sym same) at.stood);
@@ -234,8 +274,10 @@ module _
 
   -- a line was refused
   pub refused_found :
-      (memory : Bool) (halt : Halt) → result ≡ found.Refused → halt.written ≡ after → halt.result ≡ Err (CaptureLine next.known.number)
-      → Puts (λ all. Halts memory (λ o. o ≡ capture_outcome w (stream_with [] (past ++ bytes)) false) all halt.result × (is_err halt.result ≡ true))
+      (memory : Bool) (halt : Halt) → result ≡ found.Refused → halt.written ≡ after
+      → halt.result ≡ Err (CaptureLine next.known.number)
+      → Puts (λ all. Halts memory (λ o. o ≡ capture_outcome w (stream_with [] (past ++ bytes)) false) all halt.result
+      × (is_err halt.result ≡ true))
       old here before halt.written text
   refused_found memory halt refused written_is result_is =
       let lines = (capture at.read false).lines in
@@ -243,14 +285,16 @@ module _
       found_is ∙ ap (λ (f : Found). found_lines (capture at.read false) f next.known.line) refused in
       let all : capture (stream_with [] (past ++ bytes)) false ≡ record { lines = lines; refused = true } =
       ap (λ (s : List ℕ). capture s false) (sym all_is)
-      ∙ capture-refused (stream_with at.read (take count rest)) (drop count rest) false (ap (λ (r : Lines). r.refused) here_is) ∙ here_is in
+      ∙ capture-refused (stream_with at.read (take count rest)) (drop count rest) false
+      (ap (λ (r : Lines). r.refused) here_is) ∙ here_is in
       let outcome_is : capture_outcome w (stream_with [] (past ++ bytes)) false ≡ lines_outcome w true false lines =
       ap (λ (r : Lines). lines_outcome w r.refused false r.lines) all in
       let few : length lines + 1 < 2 ^ 44 =
       omega (
         arith,
         few_there,
-        subst (λ (r : Lines). length r.lines + one_refused r.refused ≤ length (stream_with at.read (take count rest))) here_is
+        subst (λ (r : Lines). length r.lines + one_refused r.refused ≤ length (stream_with at.read (take count rest)))
+            here_is
             (lines-few (stream_with at.read (take count rest)) false),
       ) in
       let known : next.known.number ≡ min (length lines + 1) 18446744073709551615 =
@@ -264,12 +308,21 @@ module _
         behind =
             subst
             (λ (r : Result Report ToolFault).
-            Halts memory (λ o. o ≡ capture_outcome w (stream_with [] (past ++ bytes)) false) (text ++ at.more) r × (is_err r ≡ true)) (sym e)
-            ((capture_outcome w (stream_with [] (past ++ bytes)) false, refl, ap (λ (o : Outcome). o.halt) outcome_is, ap (λ (o : Outcome). o.text) outcome_is ∙ sym at.text_is), refl);
+            Halts memory (λ o. o ≡ capture_outcome w (stream_with [] (past ++ bytes)) false) (text ++ at.more) r
+            × (is_err r ≡ true)) (sym e) (
+              (
+                capture_outcome w (stream_with [] (past ++ bytes)) false,
+                refl,
+                ap (λ (o : Outcome). o.halt) outcome_is,
+                ap (λ (o : Outcome). o.text) outcome_is ∙ sym at.text_is,
+              ),
+              refl,
+            );
       }
 
   module _ (line_found : result ≡ found.Line) where
-    said_there : capture (stream_with at.read (take count rest)) false ≡ record { lines = next.known.line ∷ (capture at.read false).lines; refused = false }
+    said_there : capture (stream_with at.read (take count rest)) false
+        ≡ record { lines = next.known.line ∷ (capture at.read false).lines; refused = false }
     said_there = found_is ∙ ap (λ (f : Found). found_lines (capture at.read false) f next.known.line) line_found
 
     pub line_number : (next.known.number ≡ length (capture at.read false).lines + 1) × (next.known.number < 2 ^ 44)
@@ -278,17 +331,20 @@ module _
         omega (
           arith,
           few_there,
-          subst (λ (r : Lines). length r.lines + one_refused r.refused ≤ length (stream_with at.read (take count rest))) said_there
+          subst (λ (r : Lines). length r.lines + one_refused r.refused
+              ≤ length (stream_with at.read (take count rest))) said_there
               (lines-few (stream_with at.read (take count rest)) false),
         ) in
-        let known : next.known.number ≡ min (length (next.known.line ∷ (capture at.read false).lines)) 18446744073709551615 =
+        let known : next.known.number ≡ min (length (next.known.line ∷ (capture at.read false).lines))
+        18446744073709551615 =
         ap (λ (k : Known). k.number) has_read.known_is ∙ ap (λ (r : Lines). (known_of r).number) said_there in
         (omega (arith, known, few), omega (arith, known, few))
 
     module _ (c : Out) where
       -- the line was taken
       pub line_taken :
-          (now : List Line → Type 0) (last : ℕ) → Gathered here c after (Ok last) (w.line (capture at.read false).lines next.known.line)
+          (now : List Line → Type 0) (last : ℕ) → Gathered here c after (Ok last)
+          (w.line (capture at.read false).lines next.known.line)
           → now (next.known.line ∷ (capture at.read false).lines)
           → IsAt w now next old c before last past text (drop count rest) bytes
       line_taken now last put stood =
@@ -310,8 +366,10 @@ module _
       -- memory was refused in the line
       pub line_starved :
           (memory : Bool) (halt : Halt) (more left : List ℕ) → halt.result ≡ Err OutOfMemory → memory ≡ true
-          → w.line (capture at.read false).lines next.known.line ≡ more ++ left → Gathered here c after (Ok halt.written) more
-          → Puts (λ all. Halts memory (λ o. o ≡ capture_outcome w (stream_with [] (past ++ bytes)) false) all halt.result × (is_err halt.result ≡ true))
+          → w.line (capture at.read false).lines next.known.line ≡ more ++ left
+          → Gathered here c after (Ok halt.written) more
+          → Puts (λ all. Halts memory (λ o. o ≡ capture_outcome w (stream_with [] (past ++ bytes)) false) all
+          halt.result × (is_err halt.result ≡ true))
           old c before halt.written text
       line_starved memory halt more left result_is wants joined put =
           let tail = begins (next.known.line ∷ (capture at.read false).lines) said_there in
@@ -322,14 +380,16 @@ module _
             behind =
                 subst
                 (λ (r : Result Report ToolFault).
-                Halts memory (λ o. o ≡ capture_outcome w (stream_with [] (past ++ bytes)) false) (text ++ (at.more ++ more)) r × (is_err r ≡ true)) (sym result_is) (
+                Halts memory (λ o. o ≡ capture_outcome w (stream_with [] (past ++ bytes)) false)
+                (text ++ (at.more ++ more)) r × (is_err r ≡ true)) (sym result_is) (
                   (
                     capture_outcome w (stream_with [] (past ++ bytes)) false,
                     refl,
                     left ++ tail.0,
                     text_is-lines w r.refused false r.lines ∙ tail.1
                         ∙ ap (λ (t : List ℕ). lines_text w (capture at.read false).lines ++ t ++ tail.0) joined
-                        ∙ ap (λ (t : List ℕ). t ++ (more ++ left) ++ tail.0) (sym at.text_is) ∙ regroup text at.more more left tail.0,
+                        ∙ ap (λ (t : List ℕ). t ++ (more ++ left) ++ tail.0) (sym at.text_is)
+                        ∙ regroup text at.more more left tail.0,
                     wants,
                   ),
                   refl,
@@ -354,7 +414,8 @@ module _
             rest = tail.0;
             joined =
                 unclosed w r.refused r.lines ∙ tail.1
-                ∙ ap (λ (t : List ℕ). t ++ text_of_line ++ tail.0) (sym at.text_is) ∙ regroup text at.more text_of_line tail.0;
+                ∙ ap (λ (t : List ℕ). t ++ text_of_line ++ tail.0) (sym at.text_is)
+                ∙ regroup text at.more text_of_line tail.0;
             put = gathered_then old here c before after (Err fault) at.more text_of_line at.put put;
           }
         where
@@ -364,23 +425,29 @@ module _
 -- ---- at the end of the input
 
 module _
-    (w : Writes) (stands : List Line → Type 0) (reader next : Reading) (past text : List ℕ) (lined : IsLined w stands reader past text)
+    (w : Writes) (stands : List Line → Type 0) (reader next : Reading) (past text : List ℕ)
+    (lined : IsLined w stands reader past text)
     (few : length past < 2 ^ 44) (result : Found)
-    (found_is : capture (stream_with [] past) true ≡ found_lines (capture (stream_with [] past) false) result next.known.line)
+    (found_is : capture (stream_with [] past) true
+    ≡ found_lines (capture (stream_with [] past) false) result next.known.line)
     (known_is : next.known ≡ known_of (capture (stream_with [] past) true)) where
-  few_lines : length (capture (stream_with [] past) true).lines + one_refused (capture (stream_with [] past) true).refused < 2 ^ 44
+  few_lines : length (capture (stream_with [] past) true).lines
+      + one_refused (capture (stream_with [] past) true).refused < 2 ^ 44
   few_lines = omega (arith, few, lines-few (stream_with [] past) true, stream-length [] past)
 
   pub few_before : length (capture (stream_with [] past) false).lines < 2 ^ 44
   few_before = omega (arith, few, lines-few (stream_with [] past) false, stream-length [] past)
 
-  outcome_here : (read : Lines) → capture (stream_with [] past) true ≡ read → capture_outcome w (stream_with [] past) true ≡ lines_outcome w read.refused true read.lines
+  outcome_here : (read : Lines) → capture (stream_with [] past) true ≡ read
+      → capture_outcome w (stream_with [] past) true ≡ lines_outcome w read.refused true read.lines
   outcome_here read is = ap (λ (r : Lines). lines_outcome w r.refused true r.lines) is
 
   -- the closing lines behind lines whose text is out
   closes_behind :
-      (memory : Bool) (lines : List Line) → capture (stream_with [] past) true ≡ record { lines = lines; refused = false }
-      → (old here c : Out) (before after : ℕ) (more : List ℕ) → Gathered old here before (Ok after) more → text ++ more ≡ lines_text w lines
+      (memory : Bool) (lines : List Line) → capture (stream_with [] past) true
+      ≡ record { lines = lines; refused = false }
+      → (old here c : Out) (before after : ℕ) (more : List ℕ) → Gathered old here before (Ok after) more
+      → text ++ more ≡ lines_text w lines
       → (ended : Result Halt ToolFault) → LineEnds (w.report lines) here c after (w.last lines) ended
       → Ends memory (λ o. o ≡ capture_outcome w (stream_with [] past) true) old c before text ended
   closes_behind memory lines is old here c before after more put text_is (Ok halt) ends =
@@ -389,11 +456,14 @@ module _
         more = more ++ w.last lines;
         put = gathered_then old here c before after (Ok halt.written) more (w.last lines) put ends.1;
         behind =
-            subst (λ (r : Result Report ToolFault). Halts memory (λ o. o ≡ capture_outcome w (stream_with [] past) true) (text ++ (more ++ w.last lines)) r) (sym ends.0) (
+            subst (λ (r : Result Report ToolFault). Halts memory
+            (λ o. o ≡ capture_outcome w (stream_with [] past) true) (text ++ (more ++ w.last lines)) r)
+            (sym ends.0) (
               capture_outcome w (stream_with [] past) true,
               refl,
               ap (λ (o : Outcome). o.halt) outcome_is,
-              ap whole outcome_is ∙ ap (λ (t : List ℕ). t ++ w.last lines) (sym text_is) ∙ append_assoc text more (w.last lines),
+              ap whole outcome_is ∙ ap (λ (t : List ℕ). t ++ w.last lines) (sym text_is)
+                  ∙ append_assoc text more (w.last lines),
             );
       }
   closes_behind memory lines is old here c before after more put text_is (Err fault) ends =
@@ -404,34 +474,41 @@ module _
         more = more ++ w.last lines;
         rest = [];
         joined =
-            ap whole outcome_is ∙ ap (λ (t : List ℕ). t ++ w.last lines) (sym text_is) ∙ append_assoc text more (w.last lines)
+            ap whole outcome_is ∙ ap (λ (t : List ℕ). t ++ w.last lines) (sym text_is)
+            ∙ append_assoc text more (w.last lines)
             ∙ sym (append-nil (text ++ (more ++ w.last lines)));
         put = gathered_then old here c before after (Err fault) more (w.last lines) put ends;
       }
 
   -- no line was begun
   pub nothing_ended :
-      (memory : Bool) (old c : Out) (before : ℕ) (ended : Result Halt ToolFault) → result ≡ found.Nothing → before ≤ most_counted
-      → LineEnds (w.report (capture (stream_with [] past) false).lines) old c before (w.last (capture (stream_with [] past) false).lines) ended
+      (memory : Bool) (old c : Out) (before : ℕ) (ended : Result Halt ToolFault) → result ≡ found.Nothing
+      → before ≤ most_counted
+      → LineEnds (w.report (capture (stream_with [] past) false).lines) old c before
+      (w.last (capture (stream_with [] past) false).lines) ended
       → Ends memory (λ o. o ≡ capture_outcome w (stream_with [] past) true) old c before text ended
   nothing_ended memory old c before ended nothing fits ends =
       let read = capture (stream_with [] past) false in
       let same : capture (stream_with [] past) true ≡ record { lines = read.lines; refused = false } =
       found_is ∙ ap (λ (f : Found). found_lines read f next.known.line) nothing
       ∙ ap (λ (b : Bool). let r : Lines = record { lines = read.lines; refused = b } in r) lined.fine in
-      closes_behind memory read.lines same old old c before before [] (gathered_nothing old before fits) (append-nil text ∙ lined.text_is) ended ends
+      closes_behind memory read.lines same old old c before before [] (gathered_nothing old before fits)
+      (append-nil text ∙ lined.text_is) ended ends
 
   -- the last line is refused
   pub refused_ended :
-      (memory : Bool) (old : Out) (before : ℕ) (halt : Halt) → result ≡ found.Refused → before ≤ most_counted → halt.written ≡ before
+      (memory : Bool) (old : Out) (before : ℕ) (halt : Halt) → result ≡ found.Refused → before ≤ most_counted
+      → halt.written ≡ before
       → halt.result ≡ Err (CaptureLine next.known.number)
-      → Puts (λ all. Halts memory (λ o. o ≡ capture_outcome w (stream_with [] past) true) all halt.result) old old before halt.written text
+      → Puts (λ all. Halts memory (λ o. o ≡ capture_outcome w (stream_with [] past) true) all halt.result) old old
+      before halt.written text
   refused_ended memory old before halt refused fits written_is result_is =
       let lines = (capture (stream_with [] past) false).lines in
       let is : capture (stream_with [] past) true ≡ record { lines = lines; refused = true } =
       found_is ∙ ap (λ (f : Found). found_lines (capture (stream_with [] past) false) f next.known.line) refused in
       let outcome_is = outcome_here (record { lines = lines; refused = true }) is in
-      let small : length lines + 1 < 2 ^ 44 = subst (λ (r : Lines). length r.lines + one_refused r.refused < 2 ^ 44) is few_lines in
+      let small : length lines + 1 < 2 ^ 44 = subst (λ (r : Lines). length r.lines + one_refused r.refused < 2 ^ 44)
+      is few_lines in
       let known : next.known.number ≡ min (length lines + 1) 18446744073709551615 =
       ap (λ (k : Known). k.number) known_is ∙ ap (λ (r : Lines). (known_of r).number) is in
       let number : next.known.number ≡ length lines + 1 = omega (arith, known, small) in
@@ -441,7 +518,8 @@ module _
         more = [];
         put = subst (λ (n : ℕ). Gathered old old before (Ok n) []) (sym written_is) (gathered_nothing old before fits);
         behind =
-            subst (λ (r : Result Report ToolFault). Halts memory (λ o. o ≡ capture_outcome w (stream_with [] past) true) (text ++ []) r) (sym e) (
+            subst (λ (r : Result Report ToolFault). Halts memory
+            (λ o. o ≡ capture_outcome w (stream_with [] past) true) (text ++ []) r) (sym e) (
               capture_outcome w (stream_with [] past) true,
               refl,
               ap (λ (o : Outcome). o.halt) outcome_is,
@@ -450,19 +528,25 @@ module _
       }
 
   module _ (line_found : result ≡ found.Line) where
-    said_last : capture (stream_with [] past) true ≡ record { lines = next.known.line ∷ (capture (stream_with [] past) false).lines; refused = false }
-    said_last = found_is ∙ ap (λ (f : Found). found_lines (capture (stream_with [] past) false) f next.known.line) line_found
+    said_last : capture (stream_with [] past) true
+        ≡ record { lines = next.known.line ∷ (capture (stream_with [] past) false).lines; refused = false }
+    said_last = found_is ∙ ap (λ (f : Found). found_lines (capture (stream_with [] past) false) f next.known.line)
+        line_found
 
-    pub last_number : (next.known.number ≡ length (capture (stream_with [] past) false).lines + 1) × (next.known.number < 2 ^ 44)
+    pub last_number : (next.known.number ≡ length (capture (stream_with [] past) false).lines + 1)
+        × (next.known.number < 2 ^ 44)
     last_number =
         let small : length (next.known.line ∷ (capture (stream_with [] past) false).lines) + 0 < 2 ^ 44 =
         subst (λ (r : Lines). length r.lines + one_refused r.refused < 2 ^ 44) said_last few_lines in
-        let known : next.known.number ≡ min (length (next.known.line ∷ (capture (stream_with [] past) false).lines)) 18446744073709551615 =
+        let known : next.known.number ≡ min (length (next.known.line ∷ (capture (stream_with [] past) false).lines))
+        18446744073709551615 =
         ap (λ (k : Known). k.number) known_is ∙ ap (λ (r : Lines). (known_of r).number) said_last in
         (omega (arith, known, small), omega (arith, known, small))
 
-    text_with : text ++ w.line (capture (stream_with [] past) false).lines next.known.line ≡ lines_text w (next.known.line ∷ (capture (stream_with [] past) false).lines)
-    text_with = ap (λ (t : List ℕ). t ++ w.line (capture (stream_with [] past) false).lines next.known.line) lined.text_is
+    text_with : text ++ w.line (capture (stream_with [] past) false).lines next.known.line
+        ≡ lines_text w (next.known.line ∷ (capture (stream_with [] past) false).lines)
+    text_with = ap (λ (t : List ℕ). t ++ w.line (capture (stream_with [] past) false).lines next.known.line)
+        lined.text_is
 
     -- it was taken
     pub last_taken :
@@ -472,27 +556,35 @@ module _
         (w.last (next.known.line ∷ (capture (stream_with [] past) false).lines)) ended
         → Ends memory (λ o. o ≡ capture_outcome w (stream_with [] past) true) old c before text ended
     last_taken memory old here c before after ended put ends =
-        closes_behind memory (next.known.line ∷ (capture (stream_with [] past) false).lines) said_last old here c before after
+        closes_behind memory (next.known.line ∷ (capture (stream_with [] past) false).lines) said_last old here c
+        before after
         (w.line (capture (stream_with [] past) false).lines next.known.line) put text_with ended ends
 
     whole_with :
         (capture_outcome w (stream_with [] past) true).text
         ≡ text ++ w.line (capture (stream_with [] past) false).lines next.known.line
     whole_with =
-        ap (λ (o : Outcome). o.text) (outcome_here (record { lines = next.known.line ∷ (capture (stream_with [] past) false).lines; refused = false }) said_last)
+        ap (λ (o : Outcome). o.text)
+        (outcome_here
+        (record { lines = next.known.line ∷ (capture (stream_with [] past) false).lines; refused = false })
+        said_last)
         ∙ sym text_with
 
     -- memory was refused in it
     pub last_starved :
-        (memory : Bool) (old here : Out) (before : ℕ) (halt : Halt) (more left : List ℕ) → halt.result ≡ Err OutOfMemory → memory ≡ true
-        → w.line (capture (stream_with [] past) false).lines next.known.line ≡ more ++ left → Gathered old here before (Ok halt.written) more
-        → Puts (λ all. Halts memory (λ o. o ≡ capture_outcome w (stream_with [] past) true) all halt.result) old here before halt.written text
+        (memory : Bool) (old here : Out) (before : ℕ) (halt : Halt) (more left : List ℕ)
+        → halt.result ≡ Err OutOfMemory → memory ≡ true
+        → w.line (capture (stream_with [] past) false).lines next.known.line ≡ more ++ left
+        → Gathered old here before (Ok halt.written) more
+        → Puts (λ all. Halts memory (λ o. o ≡ capture_outcome w (stream_with [] past) true) all halt.result) old here
+        before halt.written text
     last_starved memory old here before halt more left result_is wants joined put =
         record {
           more = more;
           put = put;
           behind =
-              subst (λ (r : Result Report ToolFault). Halts memory (λ o. o ≡ capture_outcome w (stream_with [] past) true) (text ++ more) r) (sym result_is) (
+              subst (λ (r : Result Report ToolFault). Halts memory
+              (λ o. o ≡ capture_outcome w (stream_with [] past) true) (text ++ more) r) (sym result_is) (
                 capture_outcome w (stream_with [] past) true,
                 refl,
                 left,

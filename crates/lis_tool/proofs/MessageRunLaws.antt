@@ -1,5 +1,7 @@
 -- A run over record text, told by its messages.
-use Rattle.std.proofs.Common.{◌≡◌, ℕ, ◌≤◌, Bool, true, false, List, ◌++◌, Option, None, Some, Ok, Err, inl, inr, length, take, refl, sym, ◌∙◌, ap, subst, arith, append_assoc, append-nil, length-append, IfOk}
+use Rattle.std.proofs.Common.{◌≡◌, ℕ, ◌≤◌, Bool, true, false, List, ◌++◌, Option, None, Some, Ok, Err, inl, inr}
+use Rattle.std.proofs.Common.{length, take, refl, sym, ◌∙◌, ap, subst, arith, append_assoc, append-nil, length-append}
+use Rattle.std.proofs.Common.{IfOk}
 use Rattle.std.proofs.lemmas.List.{take-append-le}
 use Rattle.std.specs.declared.result.Result.{Result}
 use Rattle.std.specs.Io.KnownBytes.{Appends}
@@ -13,7 +15,8 @@ use Rattle.lis_tool.specs.declared.fault.ToolFault.{ToolFault}
 use Rattle.lis_tool.specs.declared.fault.ToolFault.TheVariants.{CaptureLine, Read, Write, OutOfMemory, TooManyReads}
 use Rattle.lis_tool.specs.declared.report.Report.{Report}
 use Rattle.lis_tool.specs.MessageRuns.{MessageAnswer, MessagesRan}
-use Rattle.lis_tool.specs.Messages.{Comes, IsStarved, MessageWrites, Reads, complete, cut_short, goes_on, messages_text, over, refused, report_after}
+use Rattle.lis_tool.specs.Messages.{Comes, IsStarved, MessageWrites, Reads, complete, cut_short, goes_on}
+use Rattle.lis_tool.specs.Messages.{messages_text, over, refused, report_after}
 use Rattle.lis_tool.specs.Outcome.{Outcome, going, whole}
 use Rattle.lis_tool.specs.Output.{WentOut}
 use Rattle.lis_tool.specs.Runs.{Ran, Wrote}
@@ -30,16 +33,19 @@ pub record ReadsBehind (w : MessageWrites) (bytes : List ℕ) (ended : Bool) (te
 
 module _ (w : MessageWrites) (bytes : List ℕ) (messages more : List MessageTree) where
   longer : messages_text w 0 (messages ++ more) ≡ messages_text w 0 messages ++ messages_text w (length messages) more
-  longer = messages_text-append w 0 messages more ∙ ap (λ (k : ℕ). messages_text w 0 messages ++ messages_text w k more) (omega arith)
+  longer = messages_text-append w 0 messages more
+      ∙ ap (λ (k : ℕ). messages_text w 0 messages ++ messages_text w k more) (omega arith)
 
   at_the_end :
-      (left : Option Begun) (held : List ℕ) → IsCut bytes (messages ++ more) left held → (r : Result (Unit {0}) MessageFault) → at_end left held ≡ r
+      (left : Option Begun) (held : List ℕ) → IsCut bytes (messages ++ more) left held
+      → (r : Result (Unit {0}) MessageFault) → at_end left held ≡ r
       → ReadsBehind w bytes true (messages_text w 0 messages)
   at_the_end left held cut (Ok done) is =
       let nothing = nothing_left left held is in
       record {
         outcome = over w (messages ++ more) None;
-        reads = complete (messages ++ more) (cut_whole bytes (messages ++ more) left held cut nothing.0 nothing.1) refl refl;
+        reads = complete (messages ++ more) (cut_whole bytes (messages ++ more) left held cut nothing.0 nothing.1)
+            refl refl;
         rest = messages_text w (length messages) more;
         text_is = longer;
       }
@@ -51,7 +57,8 @@ module _ (w : MessageWrites) (bytes : List ℕ) (messages more : List MessageTre
         text_is = longer;
       }
 
-  cut_behind : (ended : Bool) (left : Option Begun) (held : List ℕ) → IsCut bytes (messages ++ more) left held → ReadsBehind w bytes ended (messages_text w 0 messages)
+  cut_behind : (ended : Bool) (left : Option Begun) (held : List ℕ) → IsCut bytes (messages ++ more) left held
+      → ReadsBehind w bytes ended (messages_text w 0 messages)
   cut_behind true left held cut = at_the_end left held cut (at_end left held) refl
   cut_behind false left held cut =
       record {
@@ -61,7 +68,8 @@ module _ (w : MessageWrites) (bytes : List ℕ) (messages more : List MessageTre
         text_is = longer;
       }
 
-pub read_behind : (w : MessageWrites) (bytes : List ℕ) (ended : Bool) (messages : List MessageTree) → IsReadFrom bytes messages → ReadsBehind w bytes ended (messages_text w 0 messages)
+pub read_behind : (w : MessageWrites) (bytes : List ℕ) (ended : Bool) (messages : List MessageTree)
+    → IsReadFrom bytes messages → ReadsBehind w bytes ended (messages_text w 0 messages)
 read_behind w bytes ended messages (more, inl cut) = cut_behind w bytes messages more ended cut.0 cut.1 cut.2
 read_behind w bytes ended messages (more, inr stop) =
     record {
@@ -71,14 +79,17 @@ read_behind w bytes ended messages (more, inr stop) =
       text_is = longer w bytes messages more;
     }
 
-starved_behind : (w : MessageWrites) (bytes : List ℕ) (ended : Bool) (o : Outcome) (s : IsStarved w bytes o) → ReadsBehind w bytes ended (messages_text w 0 s.messages)
+starved_behind : (w : MessageWrites) (bytes : List ℕ) (ended : Bool) (o : Outcome) (s : IsStarved w bytes o)
+    → ReadsBehind w bytes ended (messages_text w 0 s.messages)
 starved_behind w bytes ended o s =
     read_behind w bytes ended s.messages
-    (subst (λ (b : List ℕ). IsReadFrom b s.messages) (sym s.joined) (reads_more s.more s.front s.messages s.left s.held s.cut))
+    (subst (λ (b : List ℕ). IsReadFrom b s.messages) (sym s.joined)
+    (reads_more s.more s.front s.messages s.left s.held s.cut))
 
 -- what went out of a text went out of a longer one
 went_out_longer :
-    (old new : Option (List ℕ)) (before after count : ℕ) (xs ys : List ℕ) → WentOut old new before after xs count → WentOut old new before after (xs ++ ys) count
+    (old new : Option (List ℕ)) (before after count : ℕ) (xs ys : List ℕ) → WentOut old new before after xs count
+    → WentOut old new before after (xs ++ ys) count
 went_out_longer old new before after count xs ys went =
     record {
       within = omega (arith, went.within, length-append xs ys);
@@ -89,33 +100,43 @@ went_out_longer old new before after count xs ys went =
 -- ---- the answer
 
 module _ (w : MessageWrites) (given : List ℕ) (ended : Bool) (old new : Option (List ℕ)) where
-  of_reads : (o : Outcome) → Reads w given ended o → (result : Result Report ToolFault) → Wrote true result o old new → MessageAnswer w given ended result old new
+  of_reads : (o : Outcome) → Reads w given ended o → (result : Result Report ToolFault) → Wrote true result o old new
+      → MessageAnswer w given ended result old new
   of_reads o reads (Ok report) wrote = (o, reads, wrote.0, wrote.1)
   of_reads o reads (Err Read) wrote = (o, reads, wrote.0, wrote.1)
   of_reads o reads (Err TooManyReads) wrote = (o, reads, wrote.0, wrote.1)
   of_reads o reads (Err (Write written)) wrote = (o, reads, wrote.0, wrote.1)
   of_reads o reads (Err OutOfMemory) wrote = (o, reads, wrote.1, wrote.2, wrote.3)
-  of_reads o (refused messages fault is same) (Err (CaptureLine line)) wrote = no_line (subst (λ (x : Outcome). x.halt ≡ Some (Err (CaptureLine line))) same wrote.0)
+  of_reads o (refused messages fault is same) (Err (CaptureLine line)) wrote =
+      no_line (subst (λ (x : Outcome). x.halt ≡ Some (Err (CaptureLine line))) same wrote.0)
     where
-      no_line : ◌≡◌ {A = Option (Result Report ToolFault)} (Some (Ok (report_after w messages (Some fault)))) (Some (Err (CaptureLine line))) → ⊥
+      no_line : ◌≡◌ {A = Option (Result Report ToolFault)} (Some (Ok (report_after w messages (Some fault))))
+          (Some (Err (CaptureLine line))) → ⊥
       no_line e = cc
-  of_reads o (goes_on messages left held cut on same) (Err (CaptureLine line)) wrote = no_line (subst (λ (x : Outcome). x.halt ≡ Some (Err (CaptureLine line))) same wrote.0)
+  of_reads o (goes_on messages left held cut on same) (Err (CaptureLine line)) wrote =
+      no_line (subst (λ (x : Outcome). x.halt ≡ Some (Err (CaptureLine line))) same wrote.0)
     where
       no_line : ◌≡◌ {A = Option (Result Report ToolFault)} None (Some (Err (CaptureLine line))) → ⊥
       no_line e = cc
-  of_reads o (cut_short messages fault is on same) (Err (CaptureLine line)) wrote = no_line (subst (λ (x : Outcome). x.halt ≡ Some (Err (CaptureLine line))) same wrote.0)
+  of_reads o (cut_short messages fault is on same) (Err (CaptureLine line)) wrote =
+      no_line (subst (λ (x : Outcome). x.halt ≡ Some (Err (CaptureLine line))) same wrote.0)
     where
-      no_line : ◌≡◌ {A = Option (Result Report ToolFault)} (Some (Ok (report_after w messages (Some fault)))) (Some (Err (CaptureLine line))) → ⊥
+      no_line : ◌≡◌ {A = Option (Result Report ToolFault)} (Some (Ok (report_after w messages (Some fault))))
+          (Some (Err (CaptureLine line))) → ⊥
       no_line e = cc
-  of_reads o (complete messages is on same) (Err (CaptureLine line)) wrote = no_line (subst (λ (x : Outcome). x.halt ≡ Some (Err (CaptureLine line))) same wrote.0)
+  of_reads o (complete messages is on same) (Err (CaptureLine line)) wrote =
+      no_line (subst (λ (x : Outcome). x.halt ≡ Some (Err (CaptureLine line))) same wrote.0)
     where
-      no_line : ◌≡◌ {A = Option (Result Report ToolFault)} (Some (Ok (report_after w messages None))) (Some (Err (CaptureLine line))) → ⊥
+      no_line : ◌≡◌ {A = Option (Result Report ToolFault)} (Some (Ok (report_after w messages None)))
+          (Some (Err (CaptureLine line))) → ⊥
       no_line e = cc
 
-  halt_starved : (o : Outcome) (s : IsStarved w given o) (r : Option (Result Report ToolFault)) → o.halt ≡ r → Some (Err OutOfMemory) ≡ r
+  halt_starved : (o : Outcome) (s : IsStarved w given o) (r : Option (Result Report ToolFault)) → o.halt ≡ r
+      → Some (Err OutOfMemory) ≡ r
   halt_starved o s r is = sym (ap (λ (x : Outcome). x.halt) s.outcome_is) ∙ is
 
-  of_starved : (o : Outcome) → IsStarved w given o → (result : Result Report ToolFault) → Wrote true result o old new → MessageAnswer w given ended result old new
+  of_starved : (o : Outcome) → IsStarved w given o → (result : Result Report ToolFault) → Wrote true result o old new
+      → MessageAnswer w given ended result old new
   of_starved o s (Ok report) wrote = absurd (no (halt_starved o s (Some (Ok report)) wrote.0))
     where
       no : ◌≡◌ {A = Option (Result Report ToolFault)} (Some (Err OutOfMemory)) (Some (Ok report)) → ⊥
@@ -134,21 +155,26 @@ module _ (w : MessageWrites) (given : List ℕ) (ended : Bool) (old new : Option
       no e = cc
   of_starved o s (Err (Write written)) wrote =
       let behind = starved_behind w given ended o s in
-      let text_is : whole o ≡ messages_text w 0 s.messages = ap whole s.outcome_is ∙ append-nil (messages_text w 0 s.messages) in
+      let text_is : whole o ≡ messages_text w 0 s.messages =
+      ap whole s.outcome_is ∙ append-nil (messages_text w 0 s.messages) in
       let whole_is : whole behind.outcome ≡ messages_text w 0 s.messages ++ (behind.rest ++ behind.outcome.closing) =
-      ap (λ (t : List ℕ). t ++ behind.outcome.closing) behind.text_is ∙ append_assoc (messages_text w 0 s.messages) behind.rest behind.outcome.closing in (
+      ap (λ (t : List ℕ). t ++ behind.outcome.closing) behind.text_is
+      ∙ append_assoc (messages_text w 0 s.messages) behind.rest behind.outcome.closing in (
         behind.outcome,
         behind.reads,
         wrote.0,
         subst (λ (t : List ℕ). WentOut old new 0 written t wrote.0) (sym whole_is)
-            (went_out_longer old new 0 written wrote.0 (messages_text w 0 s.messages) (behind.rest ++ behind.outcome.closing)
+            (went_out_longer old new 0 written wrote.0 (messages_text w 0 s.messages)
+            (behind.rest ++ behind.outcome.closing)
             (subst (λ (t : List ℕ). WentOut old new 0 written t wrote.0) text_is wrote.1)),
       )
   of_starved o s (Err OutOfMemory) wrote =
       let behind = starved_behind w given ended o s in
       let text_is : o.text ≡ messages_text w 0 s.messages = ap (λ (x : Outcome). x.text) s.outcome_is in
-      let few : wrote.1 ≤ length (messages_text w 0 s.messages) = subst (λ (t : List ℕ). wrote.1 ≤ length t) text_is wrote.2 in
-      let taken : Appends old new (take wrote.1 (messages_text w 0 s.messages)) = subst (λ (t : List ℕ). Appends old new (take wrote.1 t)) text_is wrote.3 in (
+      let few : wrote.1 ≤ length (messages_text w 0 s.messages) =
+      subst (λ (t : List ℕ). wrote.1 ≤ length t) text_is wrote.2 in
+      let taken : Appends old new (take wrote.1 (messages_text w 0 s.messages)) =
+      subst (λ (t : List ℕ). Appends old new (take wrote.1 t)) text_is wrote.3 in (
         behind.outcome,
         behind.reads,
         wrote.1,
@@ -158,8 +184,10 @@ module _ (w : MessageWrites) (given : List ℕ) (ended : Bool) (old new : Option
 
 -- a run whose outcome is that of messages
 pub messages_ran :
-    (w : MessageWrites) (left_old left_new taken_old taken_new : Option (List ℕ)) (ended : Bool) (result : Result Report ToolFault)
-    → Ran true (Comes w) left_old left_new taken_old taken_new ended result → MessagesRan w left_old left_new taken_old taken_new ended result
+    (w : MessageWrites) (left_old left_new taken_old taken_new : Option (List ℕ)) (ended : Bool)
+    (result : Result Report ToolFault)
+    → Ran true (Comes w) left_old left_new taken_old taken_new ended result
+    → MessagesRan w left_old left_new taken_old taken_new ended result
 messages_ran w left_old left_new taken_old taken_new ended result ran =
     record {
       given = ran.given;
@@ -184,17 +212,23 @@ module _ (w : MessageWrites) (few : (messages : List MessageTree) → w.status m
   after_few messages None = few messages
   after_few messages (Some fault) = omega arith
 
-  reads_few : (given : List ℕ) (ended : Bool) (o : Outcome) (report : Report) → Reads w given ended o → o.halt ≡ Some (Ok report) → report.status ≤ 1
+  reads_few : (given : List ℕ) (ended : Bool) (o : Outcome) (report : Report) → Reads w given ended o
+      → o.halt ≡ Some (Ok report) → report.status ≤ 1
   reads_few given ended o report (refused messages fault is same) halt =
-      subst (λ (r : Report). r.status ≤ 1) (same_report _ report (subst (λ (x : Outcome). x.halt ≡ Some (Ok report)) same halt)) (after_few messages (Some fault))
-  reads_few given ended o report (goes_on messages left held cut on same) halt = absurd (no_report report (subst (λ (x : Outcome). x.halt ≡ Some (Ok report)) same halt))
+      subst (λ (r : Report). r.status ≤ 1) (same_report _ report
+      (subst (λ (x : Outcome). x.halt ≡ Some (Ok report)) same halt)) (after_few messages (Some fault))
+  reads_few given ended o report (goes_on messages left held cut on same) halt =
+      absurd (no_report report (subst (λ (x : Outcome). x.halt ≡ Some (Ok report)) same halt))
   reads_few given ended o report (cut_short messages fault is on same) halt =
-      subst (λ (r : Report). r.status ≤ 1) (same_report _ report (subst (λ (x : Outcome). x.halt ≡ Some (Ok report)) same halt)) (after_few messages (Some fault))
+      subst (λ (r : Report). r.status ≤ 1) (same_report _ report
+      (subst (λ (x : Outcome). x.halt ≡ Some (Ok report)) same halt)) (after_few messages (Some fault))
   reads_few given ended o report (complete messages is on same) halt =
-      subst (λ (r : Report). r.status ≤ 1) (same_report _ report (subst (λ (x : Outcome). x.halt ≡ Some (Ok report)) same halt)) (after_few messages None)
+      subst (λ (r : Report). r.status ≤ 1) (same_report _ report
+      (subst (λ (x : Outcome). x.halt ≡ Some (Ok report)) same halt)) (after_few messages None)
 
   pub messages_status :
       (left_old left_new taken_old taken_new : Option (List ℕ)) (ended : Bool) (result : Result Report ToolFault)
       → MessagesRan w left_old left_new taken_old taken_new ended result → IfOk result (λ report. report.status ≤ 1)
-  messages_status left_old left_new taken_old taken_new ended (Ok report) ran = reads_few ran.given ended ran.answer.0 report ran.answer.1 ran.answer.2
+  messages_status left_old left_new taken_old taken_new ended (Ok report) ran =
+      reads_few ran.given ended ran.answer.0 report ran.answer.1 ran.answer.2
   messages_status left_old left_new taken_old taken_new ended (Err fault) ran = tt

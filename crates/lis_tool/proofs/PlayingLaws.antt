@@ -1,5 +1,6 @@
 -- A capture that is played line by line.
-use Rattle.std.proofs.Common.{◌≡◌, ◌≢◌, ℕ, ◌+◌, ◌≤◌, ◌==◌, Bool, true, false, not, List, [], ◌∷◌, ◌++◌, Option, None, Some, Ok, Err, length, refl, sym, ◌∙◌, ap, subst, arith, nat_lt, IfOk, if◌then◌else◌}
+use Rattle.std.proofs.Common.{◌≡◌, ◌≢◌, ℕ, ◌+◌, ◌≤◌, ◌==◌, Bool, true, false, not, List, [], ◌∷◌, ◌++◌, Option, None}
+use Rattle.std.proofs.Common.{Some, Ok, Err, length, refl, sym, ◌∙◌, ap, subst, arith, nat_lt, IfOk, if◌then◌else◌}
 use Rattle.std.proofs.lemmas.Bool.Decides.{nat_tests}
 use Rattle.std.specs.Option.{option_to_list}
 use Rattle.std.specs.Str.{bytes_eq}
@@ -24,7 +25,9 @@ use Rattle.std.specs.List.{flat_map}
 use Rattle.lis_tool.specs.Output.{Gathered, Out, most_counted}
 use Rattle.lis_tool.proofs.GatherLaws.{gathered_nothing}
 use Rattle.lis_tool.specs.inside.Playing.{IsHearing, IsPlaying, playing_writes, text_parts}
-use Rattle.lis_tool.specs.Replay.{Played, all_differences, compared_line, count_with, difference_count, differs_at, handed, heard, played, played_line, replay_line, replay_writes, replies, status_of, text_count, texts_at}
+use Rattle.lis_tool.specs.Replay.{Played, all_differences, compared_line, count_with, difference_count, differs_at}
+use Rattle.lis_tool.specs.Replay.{handed, heard, played, played_line, replay_line, replay_writes, replies, status_of}
+use Rattle.lis_tool.specs.Replay.{text_count, texts_at}
 
 by_differs : (t : Bool) (n k : ℕ) → n ≤ k → (if t then n + 1 else n) ≤ k + 1
 by_differs true n k few = omega (arith, few)
@@ -33,7 +36,11 @@ by_differs false n k few = omega (arith, few)
 pub difference_count-few : (limit : ℕ) (lines : List Line) → difference_count limit lines ≤ length lines
 difference_count-few limit [] = omega arith
 difference_count-few limit (line ∷ lines) =
-    omega (arith, by_differs (differs_at line (played limit lines)) (difference_count limit lines) (length lines) (difference_count-few limit lines))
+    omega (
+      arith,
+      by_differs (differs_at line (played limit lines)) (difference_count limit lines) (length lines)
+          (difference_count-few limit lines),
+    )
 
 one_text : {A : Type 0} (o : Option A) (xs : List A) (n : ℕ) → length xs ≤ n → length (option_to_list o ++ xs) ≤ n + 1
 one_text None xs n few = omega (arith, few)
@@ -42,12 +49,17 @@ one_text (Some x) xs n few = omega (arith, few)
 pub handed-few : (limit : ℕ) (r : ReceiverState) (bytes : List ℕ) → length (handed limit r bytes) ≤ length bytes
 handed-few limit r [] = omega arith
 handed-few limit r (b ∷ bytes) =
-    omega (arith, one_text (on_byte limit b r).message (handed limit (on_byte limit b r).after bytes) (length bytes) (handed-few limit (on_byte limit b r).after bytes))
+    omega (
+      arith,
+      one_text (on_byte limit b r).message (handed limit (on_byte limit b r).after bytes) (length bytes)
+          (handed-few limit (on_byte limit b r).after bytes),
+    )
 
 -- what is written for a line from the analyzer
 pub handed_text :
     (account : Account) (limit : ℕ) (lines : List Line) (bytes : List ℕ)
-    → text_parts account (length lines + 1) (handed limit (played limit lines).receiver bytes) ≡ (playing_writes account limit).line lines (FromAnalyzer bytes)
+    → text_parts account (length lines + 1) (handed limit (played limit lines).receiver bytes)
+    ≡ (playing_writes account limit).line lines (FromAnalyzer bytes)
 handed_text Lines limit lines bytes = refl
 handed_text Texts limit lines bytes = refl
 
@@ -57,12 +69,15 @@ not_differs false n = refl
 
 -- a line from the analyzer was heard
 pub played_analyzer :
-    (account : Account) (limit : ℕ) (old kept : Kept) (old_collected collected : List ℕ) (old_count count differences now : ℕ) (lines : List Line) (bytes : List ℕ)
+    (account : Account) (limit : ℕ) (old kept : Kept) (old_collected collected : List ℕ)
+    (old_count count differences now : ℕ) (lines : List Line) (bytes : List ℕ)
     → IsPlaying account limit old old_collected old_count differences lines → now ≡ differences → length bytes ≤ 2047
-    → IsHearing account limit kept collected count (heard limit (played limit lines).receiver bytes) ((played limit lines).replies ++ replies limit (played limit lines).receiver bytes)
+    → IsHearing account limit kept collected count (heard limit (played limit lines).receiver bytes)
+    ((played limit lines).replies ++ replies limit (played limit lines).receiver bytes)
     (text_count limit lines + length (handed limit (played limit lines).receiver bytes))
     → IsPlaying account limit kept collected count now (FromAnalyzer bytes ∷ lines)
-played_analyzer account limit old kept old_collected collected old_count count differences now lines bytes playing same short hearing =
+played_analyzer account limit old kept old_collected collected old_count count differences now lines bytes playing
+    same short hearing =
     record {
       hearing = hearing;
       differences_are = λ compared. same ∙ playing.differences_are compared;
@@ -71,9 +86,11 @@ played_analyzer account limit old kept old_collected collected old_count count d
 
 -- a line from the computer was compared
 pub played_computer :
-    (account : Account) (limit : ℕ) (kept : Kept) (collected left : List ℕ) (count differences now : ℕ) (lines : List Line) (bytes : List ℕ)
+    (account : Account) (limit : ℕ) (kept : Kept) (collected left : List ℕ) (count differences now : ℕ)
+    (lines : List Line) (bytes : List ℕ)
     → IsPlaying account limit kept collected count differences lines → (account ≡ Lines → left ≡ [])
-    → (account ≡ Lines → now ≡ (if bytes_eq bytes collected then difference_count limit lines else difference_count limit lines + 1))
+    → (account ≡ Lines → now ≡ (if bytes_eq bytes collected then difference_count limit lines
+    else difference_count limit lines + 1))
     → IsPlaying account limit kept left count now (FromComputer bytes ∷ lines)
 played_computer account limit kept collected left count differences now lines bytes playing left_is now_is =
     record {
@@ -84,7 +101,8 @@ played_computer account limit kept collected left count differences now lines by
       };
       differences_are = λ compared.
           now_is compared ∙ not_differs (bytes_eq bytes collected) (difference_count limit lines)
-          ∙ ap (λ (l : List ℕ). if not (bytes_eq bytes l) then difference_count limit lines + 1 else difference_count limit lines) (playing.hearing.replies_are compared);
+          ∙ ap (λ (l : List ℕ). if not (bytes_eq bytes l) then difference_count limit lines + 1
+          else difference_count limit lines) (playing.hearing.replies_are compared);
       few = omega (arith, playing.few);
     }
 
@@ -95,20 +113,26 @@ pub record IsSilent (limit : ℕ) (line : Line) : Type 0 where
   pub keeps : (p : Played) → (played_line limit line p).replies ≡ p.replies
   pub writes_none : (number : ℕ) (p : Played) → replay_line limit number line p ≡ []
 
-silent_text : (account : Account) (limit : ℕ) (lines : List Line) (line : Line) → IsSilent limit line → (playing_writes account limit).line lines line ≡ []
+silent_text : (account : Account) (limit : ℕ) (lines : List Line) (line : Line) → IsSilent limit line
+    → (playing_writes account limit).line lines line ≡ []
 silent_text Lines limit lines line silent = silent.writes_none (length lines + 1) (played limit lines)
-silent_text Texts limit lines line silent = ap (λ (texts : List (List ℕ)). flat_map (λ text. text) texts) (silent.no_texts (played limit lines))
+silent_text Texts limit lines line silent = ap (λ (texts : List (List ℕ)). flat_map (λ text. text) texts)
+    (silent.no_texts (played limit lines))
 
 -- it was taken
 pub played_silent :
-    (account : Account) (limit : ℕ) (kept new : Kept) (collected : List ℕ) (count differences : ℕ) (lines : List Line) (line : Line)
+    (account : Account) (limit : ℕ) (kept new : Kept) (collected : List ℕ) (count differences : ℕ) (lines : List Line)
+    (line : Line)
     (a : Out) (before : ℕ) → IsSilent limit line → before ≤ most_counted
-    → IsPlaying account limit kept collected count differences lines → IsIn limit new (played limit (line ∷ lines)).receiver
-    → Gathered a a before (Ok before) ((playing_writes account limit).line lines line) × IsPlaying account limit new collected count differences (line ∷ lines)
+    → IsPlaying account limit kept collected count differences lines
+    → IsIn limit new (played limit (line ∷ lines)).receiver
+    → Gathered a a before (Ok before) ((playing_writes account limit).line lines line)
+    × IsPlaying account limit new collected count differences (line ∷ lines)
 played_silent account limit kept new collected count differences lines line a before silent fits playing is_in =
     let p = played limit lines in
     let none = ap (λ (texts : List (List ℕ)). length texts) (silent.no_texts p) in (
-      subst (λ (t : List ℕ). Gathered a a before (Ok before) t) (sym (silent_text account limit lines line silent)) (gathered_nothing a before fits),
+      subst (λ (t : List ℕ). Gathered a a before (Ok before) t) (sym (silent_text account limit lines line silent))
+          (gathered_nothing a before fits),
       record {
         hearing = record {
           receiver_is = is_in;
@@ -117,7 +141,8 @@ played_silent account limit kept new collected count differences lines line a be
         };
         differences_are = λ compared.
             playing.differences_are compared
-            ∙ ap (λ (differs : Bool). if differs then difference_count limit lines + 1 else difference_count limit lines) (sym (silent.no_difference p));
+            ∙ ap (λ (differs : Bool). if differs then difference_count limit lines + 1
+            else difference_count limit lines) (sym (silent.no_difference p));
         few = omega (arith, playing.few, none);
       },
     )
@@ -136,14 +161,17 @@ is_lines Texts other = absurd (other refl)
 -- what is written for a line from the computer
 pub compared_text :
     (account : Account) (limit : ℕ) (lines : List Line) (bytes : List ℕ) → account ≡ Lines
-    → compared_line (length lines + 1) bytes (played limit lines).replies ≡ (playing_writes account limit).line lines (FromComputer bytes)
+    → compared_line (length lines + 1) bytes (played limit lines).replies
+    ≡ (playing_writes account limit).line lines (FromComputer bytes)
 compared_text Lines limit lines bytes is = refl
 compared_text Texts limit lines bytes is = cc
 
 -- where the texts alone are told, a line from the computer writes nothing
 pub passed_computer :
-    (account : Account) (limit : ℕ) (kept : Kept) (collected : List ℕ) (count differences : ℕ) (lines : List Line) (bytes : List ℕ)
-    (a : Out) (before : ℕ) → account ≡ Texts → before ≤ most_counted → IsPlaying account limit kept collected count differences lines
+    (account : Account) (limit : ℕ) (kept : Kept) (collected : List ℕ) (count differences : ℕ) (lines : List Line)
+    (bytes : List ℕ)
+    (a : Out) (before : ℕ) → account ≡ Texts → before ≤ most_counted
+    → IsPlaying account limit kept collected count differences lines
     → Gathered a a before (Ok before) ((playing_writes account limit).line lines (FromComputer bytes))
     × IsPlaying account limit kept collected count differences (FromComputer bytes ∷ lines)
 passed_computer Lines limit kept collected count differences lines bytes a before is fits playing = cc
@@ -163,15 +191,18 @@ passed_computer Texts limit kept collected count differences lines bytes a befor
 -- nor does the end
 pub texts_end :
     (account : Account) (limit : ℕ) (lines : List Line) (a : Out) (before : ℕ) → account ≡ Texts → before ≤ most_counted
-    → (let r : Result Report ToolFault = Ok (record { status = 0; refused = None }) in r ≡ Ok ((playing_writes account limit).report lines))
+    → (let r : Result Report ToolFault = Ok (record { status = 0; refused = None }) in
+    r ≡ Ok ((playing_writes account limit).report lines))
     × Gathered a a before (Ok before) ((playing_writes account limit).last lines)
 texts_end Lines limit lines a before is fits = cc
 texts_end Texts limit lines a before is fits = (refl, gathered_nothing a before fits)
 
 pub lines_end :
-    (account : Account) (limit : ℕ) (lines : List Line) (a b : Out) (before : ℕ) (result : Result Halt ToolFault) → account ≡ Lines
+    (account : Account) (limit : ℕ) (lines : List Line) (a b : Out) (before : ℕ) (result : Result Halt ToolFault)
+    → account ≡ Lines
     → LineEnds ((replay_writes limit).report lines) a b before ((replay_writes limit).last lines) result
-    → LineEnds ((playing_writes account limit).report lines) a b before ((playing_writes account limit).last lines) result
+    → LineEnds ((playing_writes account limit).report lines) a b before ((playing_writes account limit).last lines)
+    result
 lines_end Lines limit lines a b before result is ends = ends
 lines_end Texts limit lines a b before result is ends = cc
 
@@ -179,8 +210,10 @@ lines_end Texts limit lines a b before result is ends = cc
 pub line_steps_as :
     (P Q : Type 0) → (P → Q) → (a b : Out) (before : ℕ) (t u : List ℕ) (result : Result Turn ToolFault) → t ≡ u
     → LineSteps true P a b before t result → LineSteps true Q a b before u result
-line_steps_as P Q f a b before t u (Ok (On after)) e (put, p) = (subst (λ (x : List ℕ). Gathered a b before (Ok after) x) e put, f p)
-line_steps_as P Q f a b before t u (Ok (Off halt)) e (fault, wants, more, rest, joined, put) = (fault, wants, more, rest, sym e ∙ joined, put)
+line_steps_as P Q f a b before t u (Ok (On after)) e (put, p) =
+    (subst (λ (x : List ℕ). Gathered a b before (Ok after) x) e put, f p)
+line_steps_as P Q f a b before t u (Ok (Off halt)) e (fault, wants, more, rest, joined, put) =
+    (fault, wants, more, rest, sym e ∙ joined, put)
 line_steps_as P Q f a b before t u (Err fault) e put = subst (λ (x : List ℕ). Gathered a b before (Err fault) x) e put
 
 -- ---- a run
@@ -193,8 +226,11 @@ status-few differences = by (nat_lt 0 differences)
     by false = omega arith
 
 pub replay_status :
-    (limit : ℕ) (left_old left_new taken_old taken_new : Option (List ℕ)) (ended : Bool) (result : Result Report ToolFault)
-    → CaptureRan true (replay_writes limit) left_old left_new taken_old taken_new ended result → IfOk result (λ report. report.status ≤ 1)
+    (limit : ℕ) (left_old left_new taken_old taken_new : Option (List ℕ)) (ended : Bool)
+    (result : Result Report ToolFault)
+    → CaptureRan true (replay_writes limit) left_old left_new taken_old taken_new ended result
+    → IfOk result (λ report. report.status ≤ 1)
 replay_status limit left_old left_new taken_old taken_new ended (Ok report) ran =
-    subst (λ (r : Report). r.status ≤ 1) (sym ran.answer.2) (status-few (all_differences limit (capture (stream_with [] ran.given) ended).lines))
+    subst (λ (r : Report). r.status ≤ 1) (sym ran.answer.2)
+    (status-few (all_differences limit (capture (stream_with [] ran.given) ended).lines))
 replay_status limit left_old left_new taken_old taken_new ended (Err fault) ran = tt

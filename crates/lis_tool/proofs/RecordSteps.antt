@@ -1,5 +1,7 @@
 -- Record text, record by record: what a step gathers, and steps one behind the other.
-use Rattle.std.proofs.Common.{◌≡◌, ℕ, ◌+◌, ◌<◌, ◌≤◌, ◌^◌, true, false, List, [], ◌∷◌, ◌++◌, Option, None, Some, Ok, Err, length, refl, sym, ◌∙◌, ap, subst, inl, inr, arith, append-nil, append_assoc, length-append}
+use Rattle.std.proofs.Common.{◌≡◌, ℕ, ◌+◌, ◌<◌, ◌≤◌, ◌^◌, true, false, List, [], ◌∷◌, ◌++◌, Option, None, Some, Ok}
+use Rattle.std.proofs.Common.{Err, length, refl, sym, ◌∙◌, ap, subst, inl, inr, arith, append-nil, append_assoc}
+use Rattle.std.proofs.Common.{length-append}
 use Rattle.std.specs.declared.result.Result.{Result}
 use Rattle.std.specs.Option.{option_to_list}
 use Rattle.lis_field.specs.declared.kinds.Kind.TheVariants as kinds
@@ -24,12 +26,14 @@ use Rattle.lis_tool.specs.declared.machine.Halt.{Halt}
 use Rattle.lis_tool.specs.declared.machine.Turn.{Turn}
 use Rattle.lis_tool.specs.declared.machine.Turn.TheVariants.{On, Off}
 use Rattle.lis_tool.specs.LineOutcome.{LineEnds, LineSteps}
-use Rattle.lis_tool.specs.Messages.{Comes, IsReadingMessages, MessageWrites, RefusesBy, StepsOver, messages_text, over, record_count, refused, report_after, whole_begun, with_record}
+use Rattle.lis_tool.specs.Messages.{Comes, IsReadingMessages, MessageWrites, RefusesBy, StepsOver, messages_text}
+use Rattle.lis_tool.specs.Messages.{over, record_count, refused, report_after, whole_begun, with_record}
 use Rattle.lis_tool.specs.Outcome.{Outcome}
 use Rattle.lis_tool.specs.Output.{Gathered, Out, most_counted}
 use Rattle.lis_tool.specs.inside.Steps.{Halts, IsEarly, Puts, Steps}
 use Rattle.lis_tool.proofs.GatherLaws.{gathered_nothing, gathered_then}
-use Rattle.lis_tool.proofs.MessageLaws.{cut_few, ends_over, is_refused, messages_few, messages_text-append, refuses_over}
+use Rattle.lis_tool.proofs.MessageLaws.{cut_few, ends_over, is_refused, messages_few, messages_text-append}
+use Rattle.lis_tool.proofs.MessageLaws.{refuses_over}
 use Rattle.lis_tool.proofs.MessageRunLaws.{read_behind}
 
 -- ---- what a record completes
@@ -37,12 +41,15 @@ use Rattle.lis_tool.proofs.MessageRunLaws.{read_behind}
 closed_is : (left : Option Begun) (entry : Lent RecordContent) (m : MessageTree) → Completes left entry (Some m)
     → with_record left entry ≡ whole_begun m
 closed_is left entry m whole =
-    sym (ap (λ (d : DelimiterBytes). begun_with d (flatten m)) whole.2 ∙ ap (λ (rs : List RecordContent). begun_with entry.delimiters rs) whole.3)
+    sym (ap (λ (d : DelimiterBytes). begun_with d (flatten m)) whole.2
+    ∙ ap (λ (rs : List RecordContent). begun_with entry.delimiters rs) whole.3)
 
-module _ (w : MessageWrites) (stands : List MessageTree → Option Begun → Type 0) (messages : List MessageTree) (left : Option Begun)
+module _ (w : MessageWrites) (stands : List MessageTree → Option Begun → Type 0) (messages : List MessageTree)
+    (left : Option Begun)
     (entry : Lent RecordContent) where
   pub closing_text :
-      (message : Option MessageTree) (a b : Out) (written : ℕ) (result : Result ℕ ToolFault) → entry.content.kind ≡ kinds.L
+      (message : Option MessageTree) (a b : Out) (written : ℕ) (result : Result ℕ ToolFault)
+      → entry.content.kind ≡ kinds.L
       → Completes left entry message → stands messages (with_record left entry)
       → ((m : MessageTree) → stands messages (whole_begun m) → record_count (messages ++ m ∷ []) < 2 ^ 44
       → Gathered a b written result (w.message (length messages) m))
@@ -56,7 +63,8 @@ module _ (w : MessageWrites) (stands : List MessageTree → Option Begun → Typ
   pub closing_stood :
       (after : List MessageTree → Option Begun → Type 0) (message : Option MessageTree) → entry.content.kind ≡ kinds.L
       → Completes left entry message → stands messages (with_record left entry)
-      → ((m : MessageTree) → stands messages (whole_begun m) → record_count (messages ++ m ∷ []) < 2 ^ 44 → after (messages ++ m ∷ []) None)
+      → ((m : MessageTree) → stands messages (whole_begun m) → record_count (messages ++ m ∷ []) < 2 ^ 44
+      → after (messages ++ m ∷ []) None)
       → record_count (messages ++ option_to_list message) < 2 ^ 44
       → after (messages ++ option_to_list message) (left_after left entry entry.content.kind)
   closing_stood after None kind completes stood next few = absurd (completes kind)
@@ -67,16 +75,19 @@ module _ (w : MessageWrites) (stands : List MessageTree → Option Begun → Typ
   -- one more message is counted
   pub closing_counted :
       (message : Option MessageTree) (count next : ℕ) → entry.content.kind ≡ kinds.L → Completes left entry message
-      → record_count (messages ++ option_to_list message) < 2 ^ 44 → count ≡ length messages → (count < 2 ^ 44 → next ≡ count + 1)
+      → record_count (messages ++ option_to_list message) < 2 ^ 44 → count ≡ length messages
+      → (count < 2 ^ 44 → next ≡ count + 1)
       → next ≡ length (messages ++ option_to_list message)
   closing_counted None count next kind completes few is counts = absurd (completes kind)
   closing_counted (Some m) count next kind completes few is counts =
-      let short : count < 2 ^ 44 = omega (arith, few, is, messages_few (messages ++ m ∷ []), length-append messages (m ∷ [])) in
+      let short : count < 2 ^ 44 =
+      omega (arith, few, is, messages_few (messages ++ m ∷ []), length-append messages (m ∷ [])) in
       omega (arith, counts short, is, length-append messages (m ∷ []))
 
   -- a record that completes none
   pub open_steps :
-      (message : Option MessageTree) (a : Out) (written count : ℕ) → (entry.content.kind ≡ kinds.L → ⊥) → Completes left entry message
+      (message : Option MessageTree) (a : Out) (written count : ℕ) → (entry.content.kind ≡ kinds.L → ⊥)
+      → Completes left entry message
       → stands messages (with_record left entry) → written ≤ most_counted → count ≡ length messages
       → Gathered a a written (Ok written) (messages_text w (length messages) (option_to_list message))
       × (stands (messages ++ option_to_list message) (left_after left entry entry.content.kind)
@@ -84,7 +95,8 @@ module _ (w : MessageWrites) (stands : List MessageTree → Option Begun → Typ
   open_steps None a written count other completes stood fits is = (
     gathered_nothing a written fits,
     (
-      subst (λ (ms : List MessageTree). stands ms (left_after left entry entry.content.kind)) (sym (append-nil messages))
+      subst (λ (ms : List MessageTree). stands ms (left_after left entry entry.content.kind))
+          (sym (append-nil messages))
           (subst (stands messages) (sym (left_after-more left entry entry.content.kind other)) stood),
       is ∙ ap length (sym (append-nil messages)),
     ),
@@ -115,12 +127,22 @@ module _ (w : MessageWrites) (after : List MessageTree → Option Begun → Type
 
   taken_step :
       (result : Result Turn ToolFault) → LineSteps true (after all left × (count ≡ length all)) a b written more result
-      → Steps true true (IsReadingMessages w after now count (past ++ front)) (Comes w (past ++ bytes) false) a b written text result
+      → Steps true true (IsReadingMessages w after now count (past ++ front)) (Comes w (past ++ bytes) false) a b
+      written text result
   taken_step (Ok (On next)) (put, (stood, counted)) =
       record {
         more = more;
         put = put;
-        behind = record { messages = all; left = left; has = has; cut = cut; stood = stood; count_is = counted; text_is = text_with };
+        behind = record {
+          messages = all;
+          left = left;
+          has = has;
+          cut = cut;
+          stood = stood;
+          count_is =
+              counted;
+          text_is = text_with;
+        };
       }
   taken_step (Ok (Off halt)) (is, memory, some, rest, parts, put) =
       record {
@@ -148,27 +170,34 @@ module _ (w : MessageWrites) (after : List MessageTree → Option Begun → Type
       }
   taken_step (Err fault) put =
       let later = read_behind w (past ++ bytes) false all
-      (subst (λ (l : List ℕ). IsReadFrom l all) (sym bytes_are) (reads_more behind (past ++ front) all left now.held cut)) in
+      (subst (λ (l : List ℕ). IsReadFrom l all) (sym bytes_are)
+      (reads_more behind (past ++ front) all left now.held cut)) in
       record {
         outcome = later.outcome;
         meant = inl later.reads;
         more = more;
         rest = later.rest ++ later.outcome.closing;
         joined =
-            ap (λ (t : List ℕ). t ++ later.outcome.closing) (later.text_is ∙ ap (λ (t : List ℕ). t ++ later.rest) (sym text_with))
+            ap (λ (t : List ℕ). t ++ later.outcome.closing)
+            (later.text_is ∙ ap (λ (t : List ℕ). t ++ later.rest) (sym text_with))
             ∙ append_assoc (text ++ more) later.rest later.outcome.closing;
         put = put;
       }
 
 pub record_steps :
-    (w : MessageWrites) (stands after : List MessageTree → Option Begun → Type 0) (before now : RecordsState) (count more : ℕ)
-    (past bytes behind text : List ℕ) (entry : Lent RecordContent) (a b : Out) (written : ℕ) (result : Result Turn ToolFault)
+    (w : MessageWrites) (stands after : List MessageTree → Option Begun → Type 0) (before now : RecordsState)
+    (count more : ℕ)
+    (past bytes behind text : List ℕ) (entry : Lent RecordContent) (a b : Out) (written : ℕ)
+    (result : Result Turn ToolFault)
     → length past + length bytes < 2 ^ 44 → (reading : IsReadingMessages w stands before count past text)
     → ReadsRecord before now reading.left bytes behind entry
-    → ((messages : List MessageTree) (left : Option Begun) (message : Option MessageTree) (line : List ℕ) → stands messages left
+    → ((messages : List MessageTree) (left : Option Begun) (message : Option MessageTree) (line : List ℕ)
+    → stands messages left
     → count ≡ length messages → ComesNext left line entry → Completes left entry message
-    → record_count messages + length (records_of left) < 2 ^ 44 → record_count (messages ++ option_to_list message) < 2 ^ 44
-    → LineSteps true (after (messages ++ option_to_list message) (left_after left entry entry.content.kind) × (more ≡ length (messages ++ option_to_list message)))
+    → record_count messages + length (records_of left) < 2 ^ 44
+    → record_count (messages ++ option_to_list message) < 2 ^ 44
+    → LineSteps true (after (messages ++ option_to_list message) (left_after left entry entry.content.kind)
+    × (more ≡ length (messages ++ option_to_list message)))
     a b written (messages_text w (length messages) (option_to_list message)) result)
     → StepsOver w (IsReadingMessages w after now more) past bytes behind a b written text result
 record_steps w stands after before now count more past bytes behind text entry a b written result few reading r takes =
@@ -178,12 +207,21 @@ record_steps w stands after before now count more past bytes behind text entry a
     let short : record_count reading.messages + length (records_of reading.left) < 2 ^ 44 =
     omega (arith, few, cut_few past reading.messages reading.left before.held reading.cut) in
     let short' : record_count all < 2 ^ 44 =
-    omega (arith, few, cut_few (past ++ front) all _ now.held found.2.2, length-append past front, ap length found.2.1, length-append front behind) in (
+    omega (
+      arith,
+      few,
+      cut_few (past ++ front) all _ now.held found.2.2,
+      length-append past front,
+      ap length
+          found.2.1,
+      length-append front behind,
+    ) in (
       front,
       found.2.1,
       taken_step w after now more past bytes front behind text a b written reading.messages found.0
           (left_after reading.left entry entry.content.kind) found.2.1 found.2.2 r.left_then reading.text_is result
-          (takes reading.messages reading.left found.0 (before.held ++ r.text) reading.stood reading.count_is r.comes found.1 short short'),
+          (takes reading.messages reading.left found.0 (before.held ++ r.text) reading.stood reading.count_is r.comes
+          found.1 short short'),
     )
 
 -- ---- no record ends in the bytes
@@ -223,7 +261,8 @@ refused_why w stands before now count past bytes behind text fault reading r =
     cut_stops past reading.messages reading.left before.held bytes fault reading.cut r.place r.why
 
 pub stops_part :
-    (w : MessageWrites) (stream : List ℕ) (messages : List MessageTree) (fault : MessageFault) → Stops stream messages fault
+    (w : MessageWrites) (stream : List ℕ) (messages : List MessageTree) (fault : MessageFault)
+    → Stops stream messages fault
     → (o : Outcome) × Comes w stream false o × (o.text ≡ messages_text w 0 messages)
 stops_part w stream messages fault (inl starved) = (
   record { text = messages_text w 0 messages; closing = []; halt = Some (Err OutOfMemory) },
@@ -243,7 +282,8 @@ stops_part w stream messages fault (inr is) = (over w messages (Some fault), inl
 
 -- memory was refused
 pub starved_by :
-    (w : MessageWrites) (stream : List ℕ) (a : Out) (written : ℕ) (text : List ℕ) (messages : List MessageTree) (fault : MessageFault)
+    (w : MessageWrites) (stream : List ℕ) (a : Out) (written : ℕ) (text : List ℕ) (messages : List MessageTree)
+    (fault : MessageFault)
     → written ≤ most_counted → text ≡ messages_text w 0 messages → Stops stream messages fault
     → RefusesBy w stream a a written text (Ok (record { written = written; result = Err OutOfMemory }))
 starved_by w stream a written text messages fault fits text_is stops =
@@ -259,8 +299,10 @@ starved_by w stream a written text messages fault fits text_is stops =
 
 -- a record was
 pub refused_by :
-    (w : MessageWrites) (stream : List ℕ) (a b : Out) (written : ℕ) (text : List ℕ) (messages : List MessageTree) (fault : MessageFault)
-    (result : Result Halt ToolFault) → written ≤ most_counted → text ≡ messages_text w 0 messages → Stops stream messages fault
+    (w : MessageWrites) (stream : List ℕ) (a b : Out) (written : ℕ) (text : List ℕ) (messages : List MessageTree)
+    (fault : MessageFault)
+    (result : Result Halt ToolFault) → written ≤ most_counted → text ≡ messages_text w 0 messages
+    → Stops stream messages fault
     → (fault.reason ≡ reasons.OutOfMemory → ⊥)
     → LineEnds (report_after w messages (Some fault)) a b written (w.last messages (Some fault)) result
     → RefusesBy w stream a b written text result
@@ -274,15 +316,24 @@ refused_by w stream a b written text messages fault (Err stop) fits text_is stop
     (gathered_nothing a written fits) last
 
 pub read_few :
-    (w : MessageWrites) (stands : List MessageTree → Option Begun → Type 0) (reader : RecordsState) (count : ℕ) (past text : List ℕ)
-    → (reading : IsReadingMessages w stands reader count past text) → length past < 2 ^ 44 → length reading.messages < 2 ^ 44
+    (w : MessageWrites) (stands : List MessageTree → Option Begun → Type 0) (reader : RecordsState) (count : ℕ)
+    (past text : List ℕ)
+    → (reading : IsReadingMessages w stands reader count past text) → length past < 2 ^ 44
+    → length reading.messages < 2 ^ 44
 read_few w stands reader count past text reading few =
-    omega (arith, few, cut_few past reading.messages reading.left reader.held reading.cut, messages_few reading.messages)
+    omega (
+      arith,
+      few,
+      cut_few past reading.messages reading.left reader.held reading.cut,
+      messages_few
+          reading.messages,
+    )
 
 -- ---- one step behind another
 
 puts_behind :
-    (here holds : List ℕ → Type 0) (a b c : Out) (before middle after : ℕ) (text : List ℕ) (so_far : Puts here a b before middle text)
+    (here holds : List ℕ → Type 0) (a b c : Out) (before middle after : ℕ) (text : List ℕ)
+    (so_far : Puts here a b before middle text)
     → Puts holds b c middle after (text ++ so_far.more) → Puts holds a c before after text
 puts_behind here holds a b c before middle after text so_far next =
     record {
@@ -294,11 +345,13 @@ puts_behind here holds a b c before middle after text so_far next =
 steps_behind :
     (here stands : List ℕ → Type 0) (means : Outcome → Type 0) (a b c : Out) (before middle : ℕ) (text : List ℕ)
     (result : Result Turn ToolFault) (so_far : Puts here a b before middle text)
-    → Steps true true stands means b c middle (text ++ so_far.more) result → Steps true true stands means a c before text result
+    → Steps true true stands means b c middle (text ++ so_far.more) result
+    → Steps true true stands means a c before text result
 steps_behind here stands means a b c before middle text (Ok (On after)) so_far next =
     puts_behind here stands a b c before middle after text so_far next
 steps_behind here stands means a b c before middle text (Ok (Off halt)) so_far next =
-    puts_behind here (λ all. Halts true means all halt.result × IsEarly true halt.result) a b c before middle halt.written text so_far next
+    puts_behind here (λ all. Halts true means all halt.result × IsEarly true halt.result) a b c before middle
+    halt.written text so_far next
 steps_behind here stands means a b c before middle text (Err fault) so_far next =
     record {
       outcome = next.outcome;
@@ -311,19 +364,25 @@ steps_behind here stands means a b c before middle text (Err fault) so_far next 
 
 -- a step over the bytes that are left
 pub steps_then :
-    (w : MessageWrites) (here stands : List ℕ → List ℕ → Type 0) (past bytes done rest behind text : List ℕ) (a b c : Out)
+    (w : MessageWrites) (here stands : List ℕ → List ℕ → Type 0) (past bytes done rest behind text : List ℕ)
+    (a b c : Out)
     (before middle : ℕ) (result : Result Turn ToolFault) → bytes ≡ done ++ rest
     → (so_far : Puts (here (past ++ done)) a b before middle text)
     → StepsOver w stands (past ++ done) rest behind b c middle (text ++ so_far.more) result
     → StepsOver w stands past bytes behind a c before text result
-steps_then w here stands past bytes done rest behind text a b c before middle result whole so_far (front, front_is, steps) =
-    let bytes_are : (past ++ done) ++ rest ≡ past ++ bytes = append_assoc past done rest ∙ ap (λ (l : List ℕ). past ++ l) (sym whole) in (
+steps_then w here stands past bytes done rest behind text a b c before middle result whole so_far
+    (front, front_is, steps) =
+    let bytes_are : (past ++ done) ++ rest ≡ past ++ bytes =
+    append_assoc past done rest ∙ ap (λ (l : List ℕ). past ++ l) (sym whole) in (
       done ++ front,
       whole ∙ ap (λ (l : List ℕ). done ++ l) front_is ∙ sym (append_assoc done front behind),
-      steps_behind (here (past ++ done)) (stands (past ++ (done ++ front))) (Comes w (past ++ bytes) false) a b c before middle text result so_far
-          (subst (λ (l : List ℕ). Steps true true (stands l) (Comes w (past ++ bytes) false) b c middle (text ++ so_far.more) result)
+      steps_behind (here (past ++ done)) (stands (past ++ (done ++ front))) (Comes w (past ++ bytes) false) a b c
+          before middle text result so_far
+          (subst (λ (l : List ℕ). Steps true true (stands l) (Comes w (past ++ bytes) false) b c middle
+          (text ++ so_far.more) result)
           (append_assoc past done front)
-          (subst (λ (l : List ℕ). Steps true true (stands ((past ++ done) ++ front)) (Comes w l false) b c middle (text ++ so_far.more) result)
+          (subst (λ (l : List ℕ). Steps true true (stands ((past ++ done) ++ front)) (Comes w l false) b c middle
+          (text ++ so_far.more) result)
           bytes_are steps)),
     )
 

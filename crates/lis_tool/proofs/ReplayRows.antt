@@ -22,12 +22,14 @@ unfolding session decode_pairs encode_with digits signal_after open_stretch stre
 its_text = refl
 
 refused_where_it_was_taken :
-    replay 240 (codes "> 05\n< 06\n> 0231487c5c5e260d0345350d0a\n< 15\n> 04\n") ≡ codes "text 3 6\ndifference 4 15 06\ntexts 1 differences 1\n"
+    replay 240 (codes "> 05\n< 06\n> 0231487c5c5e260d0345350d0a\n< 15\n> 04\n")
+    ≡ codes "text 3 6\ndifference 4 15 06\ntexts 1 differences 1\n"
 unfolding decode_pairs encode_with digits signal_after open_stretch stretch_fault
 refused_where_it_was_taken = refl
 
 a_reply_is_missing :
-    replay 240 (codes "> 05\n< 06\n> 0231487c5c5e260d0345350d0a\n> 04\n") ≡ codes "text 3 6\ndifference end - 06\ntexts 1 differences 1\n"
+    replay 240 (codes "> 05\n< 06\n> 0231487c5c5e260d0345350d0a\n> 04\n")
+    ≡ codes "text 3 6\ndifference end - 06\ntexts 1 differences 1\n"
 unfolding decode_pairs encode_with digits signal_after open_stretch stretch_fault
 a_reply_is_missing = refl
 
@@ -35,7 +37,8 @@ nothing : replay 240 [] ≡ codes "texts 0 differences 0\n"
 unfolding digits
 nothing = refl
 
-half_a_byte : (capture_outcome (replay_writes 240) (stream_with [] (codes "> 0\n")) false).halt ≡ Some (Err (CaptureLine 1))
+half_a_byte : (capture_outcome (replay_writes 240) (stream_with [] (codes "> 0\n")) false).halt
+    ≡ Some (Err (CaptureLine 1))
 unfolding decode_pairs
 half_a_byte = refl
 
@@ -45,17 +48,20 @@ unfolding decode_pairs encode_with digits signal_after open_stretch stretch_faul
 the_timer_ends_the_session = refl
 
 restarted :
-    replay 240 (codes "capture 2\nS busy\n> 05\n< 15\nS ready\n> 05\n< 06\nR\n> 0231410337350d0a\n") ≡ codes "texts 0 differences 0\n"
+    replay 240 (codes "capture 2\nS busy\n> 05\n< 15\nS ready\n> 05\n< 06\nR\n> 0231410337350d0a\n")
+    ≡ codes "texts 0 differences 0\n"
 unfolding decode_pairs encode_with digits signal_after open_stretch stretch_fault
 restarted = refl
 
 contended :
-    replay 240 (codes "capture 2\nS contending\n> 05\n< 05\n> 05\n< 06\n> 0231410337350D0A\n< 06\n") ≡ codes "text 7 1\ntexts 1 differences 0\n"
+    replay 240 (codes "capture 2\nS contending\n> 05\n< 05\n> 05\n< 06\n> 0231410337350D0A\n< 06\n")
+    ≡ codes "text 7 1\ntexts 1 differences 0\n"
 unfolding decode_pairs encode_with digits signal_after open_stretch stretch_fault
 contended = refl
 
 upgraded_and_played :
-    replay 240 (whole (capture_outcome upgrade_writes (stream_with [] session) true)) ≡ codes "text 4 6\ntexts 1 differences 0\n"
+    replay 240 (whole (capture_outcome upgrade_writes (stream_with [] session) true))
+    ≡ codes "text 4 6\ntexts 1 differences 0\n"
 unfolding session decode_pairs encode_with digits signal_after open_stretch stretch_fault
 upgraded_and_played = refl
 

@@ -1,5 +1,6 @@
 -- The lines of results, record by record.
-use Rattle.std.proofs.Common.{◌≡◌, ℕ, List, [], ◌∷◌, ◌++◌, Option, None, Some, refl, sym, ◌∙◌, ap, subst, append-nil, append_assoc, ◌≤◌, length, take, drop, arith}
+use Rattle.std.proofs.Common.{◌≡◌, ℕ, List, [], ◌∷◌, ◌++◌, Option, None, Some, refl, sym, ◌∙◌, ap, subst, append-nil}
+use Rattle.std.proofs.Common.{append_assoc, ◌≤◌, length, take, drop, arith}
 use Rattle.lis_field.specs.declared.kinds.Kind.{Kind}
 use Rattle.lis_field.specs.declared.kinds.Kind.TheVariants as kinds
 use Rattle.lis_field.specs.Delimiters.{DelimiterBytes}
@@ -9,15 +10,18 @@ use Rattle.lis_message.specs.inside.Taking.{ComesNext, header, inner}
 use Rattle.lis_record.specs.Lent.{Lent}
 use Rattle.lis_tree.specs.inside.Begun.{Begun}
 use Rattle.lis_tool.specs.Messages.{with_record}
-use Rattle.lis_tool.specs.Results.{IsTelling, field_text, fields_behind, told_fields, line_of, result_lines, sample_after, sample_behind}
+use Rattle.lis_tool.specs.Results.{IsTelling, field_text, fields_behind, told_fields, line_of, result_lines}
+use Rattle.lis_tool.specs.Results.{sample_after, sample_behind}
 
 result_lines-more : (d : DelimiterBytes) (sample : Option Repeats) (records : List RecordContent) (r : RecordContent)
-    → result_lines d sample (records ++ r ∷ []) ≡ result_lines d sample records ++ line_of d (sample_behind sample records) r r.kind
+    → result_lines d sample (records ++ r ∷ []) ≡ result_lines d sample records
+    ++ line_of d (sample_behind sample records) r r.kind
 result_lines-more d sample [] r = append-nil (line_of d sample r r.kind)
 result_lines-more d sample (x ∷ records) r =
     let next = sample_after sample x x.kind in
     ap (λ (l : List ℕ). line_of d sample x x.kind ++ l) (result_lines-more d next records r)
-    ∙ sym (append_assoc (line_of d sample x x.kind) (result_lines d next records) (line_of d (sample_behind next records) r r.kind))
+    ∙ sym (append_assoc (line_of d sample x x.kind) (result_lines d next records)
+    (line_of d (sample_behind next records) r r.kind))
 
 sample_behind-more : (sample : Option Repeats) (records : List RecordContent) (r : RecordContent)
     → sample_behind sample (records ++ r ∷ []) ≡ sample_after (sample_behind sample records) r r.kind
@@ -25,7 +29,8 @@ sample_behind-more sample [] r = refl
 sample_behind-more sample (x ∷ records) r = sample_behind-more (sample_after sample x x.kind) records r
 
 -- what one record adds, where its delimiters are these
-record Adds (d : DelimiterBytes) (r : RecordContent) (lines sample lines' sample' : List ℕ) (named : Option Repeats) : Type 0 where
+record Adds (d : DelimiterBytes) (r : RecordContent) (lines sample lines' sample' : List ℕ)
+    (named : Option Repeats) : Type 0 where
   line : lines' ≡ lines ++ line_of d named r r.kind
   sample_is : sample' ≡ field_text d (sample_after named r r.kind)
 
@@ -34,7 +39,8 @@ telling_by :
     → lines ≡ result_lines d None records → Adds d r lines sample lines' sample' (sample_behind None records)
     → IsTelling lines' sample' (Some (record { delimiters = d; records = records ++ r ∷ [] }))
 telling_by d records r lines sample lines' sample' lines_are adds = (
-  adds.line ∙ ap (λ (l : List ℕ). l ++ line_of d (sample_behind None records) r r.kind) lines_are ∙ sym (result_lines-more d None records r),
+  adds.line ∙ ap (λ (l : List ℕ). l ++ line_of d (sample_behind None records) r r.kind) lines_are
+      ∙ sym (result_lines-more d None records r),
   adds.sample_is ∙ ap (field_text d) (sym (sample_behind-more None records r)),
 )
 
@@ -47,14 +53,17 @@ pub telling_on :
     → IsTelling lines' sample' (with_record left entry)
 telling_on None text entry lines sample lines' sample' is comes adds =
     let step = adds None is.1 in
-    telling_by entry.delimiters [] entry.content lines sample lines' sample' is.0 (record { line = step.0; sample_is = step.1 })
+    telling_by entry.delimiters [] entry.content lines sample lines' sample' is.0
+    (record { line = step.0; sample_is = step.1 })
 telling_on (Some begun) text entry lines sample lines' sample' is (header l good rec kind) adds = absurd cc
 telling_on (Some begun) text entry lines sample lines' sample' is (inner b l d rec placed) adds =
     let one : b ≡ begun = same b begun l in
     let marks : begun.delimiters ≡ entry.delimiters = ap (λ (x : Begun). x.delimiters) (sym one) ∙ sym d in
-    let step = adds (sample_behind None begun.records) (is.1 ∙ ap (λ (x : DelimiterBytes). field_text x (sample_behind None begun.records)) marks) in
+    let step = adds (sample_behind None begun.records)
+    (is.1 ∙ ap (λ (x : DelimiterBytes). field_text x (sample_behind None begun.records)) marks) in
     telling_by entry.delimiters begun.records entry.content lines sample lines' sample'
-    (is.0 ∙ ap (λ (x : DelimiterBytes). result_lines x None begun.records) marks) (record { line = step.0; sample_is = step.1 })
+    (is.0 ∙ ap (λ (x : DelimiterBytes). result_lines x None begun.records) marks)
+    (record { line = step.0; sample_is = step.1 })
   where
     same : (x y : Begun) → Some y ≡ Some x → x ≡ y
     same x y e = cc
@@ -78,21 +87,26 @@ pub order_line : (d : DelimiterBytes) (named : Option Repeats) (r : RecordConten
     → kind ≡ kinds.O → sample ≡ field_text d (sample_after named r kinds.O)
     → (lines ≡ lines ++ line_of d named r kind) × (sample ≡ field_text d (sample_after named r kind))
 order_line d named r kind lines sample is told =
-    subst (λ (k : Kind). (lines ≡ lines ++ line_of d named r k) × (sample ≡ field_text d (sample_after named r k))) (sym is)
+    subst (λ (k : Kind). (lines ≡ lines ++ line_of d named r k) × (sample ≡ field_text d (sample_after named r k)))
+    (sym is)
     (sym (append-nil lines), told)
 
 -- a result
-pub result_added : (d : DelimiterBytes) (named : Option Repeats) (r : RecordContent) (kind : Kind) (lines lines' sample : List ℕ)
+pub result_added : (d : DelimiterBytes) (named : Option Repeats) (r : RecordContent) (kind : Kind)
+    (lines lines' sample : List ℕ)
     → kind ≡ kinds.R → lines' ≡ lines ++ line_of d named r kinds.R → sample ≡ field_text d named
     → (lines' ≡ lines ++ line_of d named r kind) × (sample ≡ field_text d (sample_after named r kind))
 result_added d named r kind lines lines' sample is line told =
-    subst (λ (k : Kind). (lines' ≡ lines ++ line_of d named r k) × (sample ≡ field_text d (sample_after named r k))) (sym is)
+    subst (λ (k : Kind). (lines' ≡ lines ++ line_of d named r k) × (sample ≡ field_text d (sample_after named r k)))
+    (sym is)
     (line, told)
 
 -- fields 3 to 7 as they stand, and field 9
 pub told_plain :
-    (d : DelimiterBytes) (r : RecordContent) → r.kind ≡ kinds.R → (number flag : Repeats) (from_3 from_8 from_9 : Fields) (front last : List ℕ)
-    → r.fields ≡ number ∷ from_3 → 5 ≤ length from_3 → d.field ∷ front ≡ more_fields d (take 5 from_3) → from_8 ≡ drop 5 from_3
+    (d : DelimiterBytes) (r : RecordContent) → r.kind ≡ kinds.R
+    → (number flag : Repeats) (from_3 from_8 from_9 : Fields) (front last : List ℕ)
+    → r.fields ≡ number ∷ from_3 → 5 ≤ length from_3 → d.field ∷ front ≡ more_fields d (take 5 from_3)
+    → from_8 ≡ drop 5 from_3
     → from_8 ≡ flag ∷ from_9 → 1 ≤ length from_9 → d.field ∷ last ≡ more_fields d (take 1 from_9)
     → (d.field ∷ front) ++ d.field ∷ last ≡ fields_behind d r told_fields
 told_plain d r kind number flag from_3 from_8 from_9 front last fields five fronts behind eight one lasts =
@@ -103,7 +117,8 @@ told_plain d r kind number flag from_3 from_8 from_9 front last fields five fron
     by : (from_3 from_9 : Fields) → 5 ≤ length from_3 → 1 ≤ length from_9 → drop 5 from_3 ≡ flag ∷ from_9
         → more_fields d (take 5 from_3) ++ more_fields d (take 1 from_9)
         ≡ fields_behind d (record { kind = kinds.R; fields = number ∷ from_3 }) told_fields
-    by (a ∷ b ∷ c ∷ e ∷ f ∷ flag' ∷ g ∷ more) (g' ∷ more') five one behind = let same : g ≡ g' = cc in rw same (simp append_assoc)
+    by (a ∷ b ∷ c ∷ e ∷ f ∷ flag' ∷ g ∷ more) (g' ∷ more') five one behind = let same : g ≡ g' = cc in
+        rw same (simp append_assoc)
     by (a ∷ b ∷ c ∷ e ∷ f ∷ flag' ∷ []) (g' ∷ more') five one behind = cc
     by (a ∷ b ∷ c ∷ e ∷ f ∷ []) from_9 five one behind = cc
     by (a ∷ b ∷ c ∷ e ∷ []) from_9 five one behind = absurd (omega arith)

@@ -1,5 +1,7 @@
 -- A run by its steps: what was read and what went out.
-use Rattle.std.proofs.Common.{◌≡◌, ℕ, ◌+◌, ◌*◌, ◌≤◌, ◌<◌, Bool, true, false, List, [], ◌++◌, Option, None, Some, Ok, Err, length, take, refl, sym, ◌∙◌, ap, subst, arith, append_assoc, append-nil, length-append, take_all, rules, is_some}
+use Rattle.std.proofs.Common.{◌≡◌, ℕ, ◌+◌, ◌*◌, ◌≤◌, ◌<◌, Bool, true, false, List, [], ◌++◌, Option, None, Some, Ok}
+use Rattle.std.proofs.Common.{Err, length, take, refl, sym, ◌∙◌, ap, subst, arith, append_assoc, append-nil}
+use Rattle.std.proofs.Common.{length-append, take_all, rules, is_some}
 use Rattle.std.proofs.lemmas.List.{take-append-le}
 use Rattle.std.specs.declared.result.Result.{Result}
 use Rattle.std.specs.Prelude.{IsTrue, ◌↔◌, ⊤}
@@ -27,7 +29,8 @@ consumes_kept (Some ws) None c xs read kept = absurd read
 consumes_kept (Some ws) (Some vs) None xs read kept = kept
 consumes_kept (Some ws) (Some vs) (Some us) xs read kept = read ∙ ap (λ (l : List ℕ). xs ++ l) (sym kept)
 
-pub consumes_then : (a b c : Option (List ℕ)) (xs ys : List ℕ) → Consumes a b xs → Consumes b c ys → Consumes a c (xs ++ ys)
+pub consumes_then : (a b c : Option (List ℕ)) (xs ys : List ℕ) → Consumes a b xs → Consumes b c ys
+    → Consumes a c (xs ++ ys)
 consumes_then None b c xs ys first second = tt
 consumes_then (Some ws) None c xs ys first second = absurd first
 consumes_then (Some ws) (Some vs) None xs ys first second = second
@@ -41,27 +44,34 @@ appends_kept (Some xs) (Some ys) None text taken kept = kept
 appends_kept (Some xs) (Some ys) (Some zs) text taken kept = kept ∙ taken
 
 -- what was read so far, and the text for it: it went out, with its count, but for what waits on the page
-pub record IsSoFar (stands : List ℕ → List ℕ → Type 0) (left_old left taken_old taken : Option (List ℕ)) (waits : List ℕ) (written turn : ℕ) : Type 0 where
+pub record IsSoFar (stands : List ℕ → List ℕ → Type 0) (left_old left taken_old taken : Option (List ℕ))
+    (waits : List ℕ) (written turn : ℕ) : Type 0 where
   pub bytes : List ℕ
   pub text : List ℕ
   pub stood : stands bytes text
   pub read : Consumes left_old left bytes
   pub wrote : Gathered (out taken_old []) (out taken waits) 0 (Ok written) text
   pub short : length bytes ≤ 4096 * turn
+  pub each_gave : turn ≤ length bytes
 
 -- what a run with this answer may have put out
-pub record Told (memory : Bool) (means : List ℕ → Bool → Outcome → Type 0) (given : List ℕ) (ended : Bool) (a b : Option (List ℕ)) (result : Result Report ToolFault) : Type 0 where
+pub record Told (memory : Bool) (means : List ℕ → Bool → Outcome → Type 0) (given : List ℕ) (ended : Bool)
+    (a b : Option (List ℕ)) (result : Result Report ToolFault) : Type 0 where
   pub outcome : Outcome
   pub meant : means given ended outcome
   pub wrote : Wrote memory result outcome a b
 
-module _ (memory : Bool) (means : List ℕ → Bool → Outcome → Type 0) (given : List ℕ) (ended : Bool) (a : Option (List ℕ)) where
+module _ (memory : Bool) (means : List ℕ → Bool → Outcome → Type 0) (given : List ℕ) (ended : Bool)
+    (a : Option (List ℕ)) where
   -- the text is a part of the outcome's
   part_of_whole :
-      (b : Option (List ℕ)) (fault : ToolFault) (text rest : List ℕ) (o : Outcome) → means given ended o → whole o ≡ text ++ rest
+      (b : Option (List ℕ)) (fault : ToolFault) (text rest : List ℕ) (o : Outcome) → means given ended o
+      → whole o ≡ text ++ rest
       → Put a b 0 (Err fault) text → Told memory means given ended a b (Err fault)
   part_of_whole b (Write written) text rest o begun joined put =
-      let p : Put a b 0 (Err (Write written)) (whole o) = subst (λ (t : List ℕ). Put a b 0 (Err (Write written)) t) (sym joined) (put_stops a b 0 (Write written) text rest put) in
+      let p : Put a b 0 (Err (Write written)) (whole o) =
+      subst (λ (t : List ℕ). Put a b 0 (Err (Write written)) t) (sym joined)
+      (put_stops a b 0 (Write written) text rest put) in
       record { outcome = o; meant = begun; wrote = (p.0, p.2) }
   part_of_whole b (CaptureLine line) text rest o begun joined put = absurd put
   part_of_whole b Read text rest o begun joined put = absurd put
@@ -71,7 +81,8 @@ module _ (memory : Bool) (means : List ℕ → Bool → Outcome → Type 0) (giv
   -- the sink failed in a step
   pub fails_told :
       (b : Option (List ℕ)) (waits : List ℕ) (c : Out) (before : ℕ) (text : List ℕ) (fault : ToolFault)
-      → Gathered (out a []) (out b waits) 0 (Ok before) text → Fails (means given ended) (out b waits) c before text fault
+      → Gathered (out a []) (out b waits) 0 (Ok before) text
+      → Fails (means given ended) (out b waits) c before text fault
       → Told memory means given ended a c.taken (Err fault)
   fails_told b waits c before text fault wrote fails =
       part_of_whole c.taken fault (text ++ fails.more) fails.rest fails.outcome fails.meant fails.joined
@@ -79,7 +90,8 @@ module _ (memory : Bool) (means : List ℕ → Bool → Outcome → Type 0) (giv
 
   -- all of a text went out, and then it could not be sent on
   pub unsent_told :
-      (b c : Option (List ℕ)) (written : ℕ) (text rest : List ℕ) (o : Outcome) → means given ended o → whole o ≡ text ++ rest
+      (b c : Option (List ℕ)) (written : ℕ) (text rest : List ℕ) (o : Outcome) → means given ended o
+      → whole o ≡ text ++ rest
       → Put a b 0 (Ok written) text → Keeps b c → Told memory means given ended a c (Err (Write written))
   unsent_told b c written text rest o begun joined put kept =
       let taken : Appends a c (take (length text) text) = appends_kept a b c _ put.taken kept in
@@ -99,7 +111,8 @@ module _ (memory : Bool) (means : List ℕ → Bool → Outcome → Type 0) (giv
 
   -- the run halted, all of its text is out
   sent_told :
-      (c : Option (List ℕ)) (text : List ℕ) (result : Result Report ToolFault) → Halts memory (means given ended) text result
+      (c : Option (List ℕ)) (text : List ℕ) (result : Result Report ToolFault)
+      → Halts memory (means given ended) text result
       → Appends a c text → Told memory means given ended a c result
   sent_told c text (Ok report) (o, meant, halt, joined) taken =
       record { outcome = o; meant = meant; wrote = (halt, subst (λ (t : List ℕ). Appends a c t) (sym joined) taken) }
@@ -113,7 +126,8 @@ module _ (memory : Bool) (means : List ℕ → Bool → Outcome → Type 0) (giv
           wants,
           length text,
           rw joined (omega (arith, length-append text rest)),
-          rw joined (rw (take-append-le (length text) text rest (omega arith)) (rw (take_all (length text) text (omega arith)) taken)),
+          rw joined (rw (take-append-le (length text) text rest (omega arith))
+              (rw (take_all (length text) text (omega arith)) taken)),
         );
       }
   sent_told c text (Err Read) halts taken = absurd halts
@@ -127,13 +141,20 @@ module _ (memory : Bool) (means : List ℕ → Bool → Outcome → Type 0) (giv
     pub rest : List ℕ
     pub joined : whole outcome ≡ text ++ rest
 
-  halts_part : (text : List ℕ) (result : Result Report ToolFault) → Halts memory (means given ended) text result → Part text
+  halts_part : (text : List ℕ) (result : Result Report ToolFault) → Halts memory (means given ended) text result
+      → Part text
   halts_part text (Ok report) (o, meant, halt, joined) =
       record { outcome = o; begun = meant; rest = []; joined = joined ∙ sym (append-nil text) }
   halts_part text (Err (CaptureLine line)) (o, meant, halt, joined) =
       record { outcome = o; begun = meant; rest = o.closing; joined = ap (λ (t : List ℕ). t ++ o.closing) joined }
   halts_part text (Err OutOfMemory) (o, begun, rest, joined, wants) =
-      record { outcome = o; begun = begun; rest = rest ++ o.closing; joined = ap (λ (t : List ℕ). t ++ o.closing) joined ∙ append_assoc text rest o.closing }
+      record {
+        outcome = o;
+        begun = begun;
+        rest = rest ++ o.closing;
+        joined =
+            ap (λ (t : List ℕ). t ++ o.closing) joined ∙ append_assoc text rest o.closing;
+      }
   halts_part text (Err Read) halts = absurd halts
   halts_part text (Err (Write written)) halts = absurd halts
   halts_part text (Err TooManyReads) halts = absurd halts
@@ -141,11 +162,13 @@ module _ (memory : Bool) (means : List ℕ → Bool → Outcome → Type 0) (giv
   -- the run halted, and its text was sent on, or could not be
   halted_told :
       (failed : Bool) (b c : Option (List ℕ)) (text : List ℕ) (halt : Halt) (result : Result Report ToolFault)
-      → Halts memory (means given ended) text halt.result → Put a b 0 (Ok halt.written) text → Keeps b c → IsTold halt result failed
+      → Halts memory (means given ended) text halt.result → Put a b 0 (Ok halt.written) text → Keeps b c
+      → IsTold halt result failed
       → Told memory means given ended a c result
   halted_told false b c text halt result halts put kept told =
       subst (λ (r : Result Report ToolFault). Told memory means given ended a c r) (sym told)
-      (sent_told c text halt.result halts (appends_kept a b c text (rw (take_all (length text) text (omega arith)) at put.taken) kept))
+      (sent_told c text halt.result halts (appends_kept a b c text
+      (rw (take_all (length text) text (omega arith)) at put.taken) kept))
   halted_told true b c text halt result halts put kept told =
       let part = halts_part text halt.result halts in
       subst (λ (r : Result Report ToolFault). Told memory means given ended a c r) (sym told)
@@ -153,19 +176,24 @@ module _ (memory : Bool) (means : List ℕ → Bool → Outcome → Type 0) (giv
 
   -- a step halted the run
   pub step_halts :
-      (failed : Bool) (b : Option (List ℕ)) (waits : List ℕ) (c d : Option (List ℕ)) (before : ℕ) (text : List ℕ) (halt : Halt)
+      (failed : Bool) (b : Option (List ℕ)) (waits : List ℕ) (c d : Option (List ℕ)) (before : ℕ) (text : List ℕ)
+      (halt : Halt)
       (result : Result Report ToolFault) → Gathered (out a []) (out b waits) 0 (Ok before) text
-      → (holds : List ℕ → Type 0) → (puts : Puts holds (out b waits) (out c []) before halt.written text) → Halts memory (means given ended) (text ++ puts.more) halt.result
+      → (holds : List ℕ → Type 0) → (puts : Puts holds (out b waits) (out c []) before halt.written text)
+      → Halts memory (means given ended) (text ++ puts.more) halt.result
       → Keeps c d → IsTold halt result failed → Told memory means given ended a d result
   step_halts failed b waits c d before text halt result wrote holds puts halts kept told =
       halted_told failed c d (text ++ puts.more) halt result halts
       (gathered_settled a c 0 halt.written (text ++ puts.more)
-      (gathered_then (out a []) (out b waits) (out c []) 0 before (Ok halt.written) text puts.more wrote puts.put)) kept told
+      (gathered_then (out a []) (out b waits) (out c []) 0 before (Ok halt.written) text puts.more wrote puts.put))
+      kept told
 
   -- of the text so far a part went out, or all of it, which could not be sent on
   pub so_far_unsent :
-      (b : Option (List ℕ)) (waits : List ℕ) (c : Option (List ℕ)) (before : ℕ) (fault : ToolFault) (text : List ℕ) → means given ended (going text)
-      → Gathered (out a []) (out b waits) 0 (Ok before) text → PartWentOut b c before fault waits → Told memory means given ended a c (Err fault)
+      (b : Option (List ℕ)) (waits : List ℕ) (c : Option (List ℕ)) (before : ℕ) (fault : ToolFault) (text : List ℕ)
+      → means given ended (going text)
+      → Gathered (out a []) (out b waits) 0 (Ok before) text → PartWentOut b c before fault waits
+      → Told memory means given ended a c (Err fault)
   so_far_unsent b waits c before (Write written) text meant (more, is, put) (count, part) =
       record {
         outcome = going text;
@@ -191,20 +219,25 @@ so_far_settled a b c before after text wrote settled =
 
 -- all of the text so far went out
 pub so_far_out :
-    (a b : Option (List ℕ)) (waits : List ℕ) (written : ℕ) (text : List ℕ) → Gathered (out a []) (out b waits) 0 (Ok written) text → waits ≡ []
+    (a b : Option (List ℕ)) (waits : List ℕ) (written : ℕ) (text : List ℕ)
+    → Gathered (out a []) (out b waits) 0 (Ok written) text → waits ≡ []
     → Appends a b text
 so_far_out a b waits written text wrote none =
-    let put : Put a b 0 (Ok written) text = gathered_settled a b 0 written text (rw none at wrote) in rw (take_all (length text) text (omega arith)) at put.taken
+    let put : Put a b 0 (Ok written) text = gathered_settled a b 0 written text (rw none at wrote) in
+    rw (take_all (length text) text (omega arith)) at put.taken
 
 -- what a run told, with what it read
 pub told_ran :
-    (memory : Bool) (means : List ℕ → Bool → Outcome → Type 0) (given : List ℕ) (ended : Bool) (left_old left_new a b : Option (List ℕ)) (result : Result Report ToolFault)
-    → Consumes left_old left_new given → Told memory means given ended a b result → Ran memory means left_old left_new a b ended result
+    (memory : Bool) (means : List ℕ → Bool → Outcome → Type 0) (given : List ℕ) (ended : Bool)
+    (left_old left_new a b : Option (List ℕ)) (result : Result Report ToolFault)
+    → Consumes left_old left_new given → Told memory means given ended a b result
+    → Ran memory means left_old left_new a b ended result
 told_ran memory means given ended left_old left_new a b result read told =
     record { given = given; read = read; outcome = told.outcome; meant = told.meant; wrote = told.wrote }
 
 -- a read that gave bytes told no end
-pub no_end : (ended : Bool) (count : ℕ) → (count ≡ 0 → ⊥) → IsTrue ended ↔ (◌≡◌ {A = Result ℕ Failed} (Ok count) (Ok 0)) → ended ≡ false
+pub no_end : (ended : Bool) (count : ℕ) → (count ≡ 0 → ⊥)
+    → IsTrue ended ↔ (◌≡◌ {A = Result ℕ Failed} (Ok count) (Ok 0)) → ended ≡ false
 no_end false count some end = refl
 no_end true count some end = absurd (some (count_of (end.0 refl)))
   where
@@ -212,7 +245,8 @@ no_end true count some end = absurd (some (count_of (end.0 refl)))
     count_of e = cc
 
 -- a read that gave none told the end
-pub is_end : (ended : Bool) (count : ℕ) → count ≡ 0 → IsTrue ended ↔ (◌≡◌ {A = Result ℕ Failed} (Ok count) (Ok 0)) → ended ≡ true
+pub is_end : (ended : Bool) (count : ℕ) → count ≡ 0 → IsTrue ended ↔ (◌≡◌ {A = Result ℕ Failed} (Ok count) (Ok 0))
+    → ended ≡ true
 is_end true count none end = refl
 is_end false count none end = absurd (no (end.1 (ap (λ (n : ℕ). let r : Result ℕ Failed = Ok n in r) none)))
   where
@@ -220,13 +254,15 @@ is_end false count none end = absurd (no (end.1 (ap (λ (n : ℕ). let r : Resul
     no h = search rules
 
 pub consumes_end :
-    (a b c : Option (List ℕ)) (xs ys : List ℕ) (count : ℕ) → Consumes a b xs → Consumes b c (take count ys) → count ≡ 0 → Consumes a c xs
+    (a b c : Option (List ℕ)) (xs ys : List ℕ) (count : ℕ) → Consumes a b xs → Consumes b c (take count ys)
+    → count ≡ 0 → Consumes a c xs
 consumes_end a b c xs ys count first second none =
     let last : Consumes b c [] = subst (λ (n : ℕ). Consumes b c (take n ys)) none second in
     subst (λ (l : List ℕ). Consumes a c l) (append-nil xs) (consumes_then a b c xs [] first last)
 
 -- a read that failed told no end
-pub failed_not_ended : {f : Failed} (ended : Bool) → IsTrue ended ↔ (◌≡◌ {A = Result ℕ Failed} (Err f) (Ok 0)) → ended ≡ false
+pub failed_not_ended : {f : Failed} (ended : Bool) → IsTrue ended ↔ (◌≡◌ {A = Result ℕ Failed} (Err f) (Ok 0))
+    → ended ≡ false
 failed_not_ended false end = refl
 failed_not_ended true end = absurd (not_ok (end.0 refl))
   where
@@ -243,7 +279,8 @@ over_at_end false refused ended is = is
 over_at_end true None ended is = is
 over_at_end true (Some refused) ended is = tt
 
-pub well_at_end : (refuses : Bool) (result : Result Report ToolFault) (ended : Bool) → ended ≡ true → EndsWell refuses result ended
+pub well_at_end : (refuses : Bool) (result : Result Report ToolFault) (ended : Bool) → ended ≡ true
+    → EndsWell refuses result ended
 well_at_end refuses (Ok report) ended is = over_at_end refuses report.refused ended is
 well_at_end refuses (Err fault) ended is = tt
 
@@ -251,7 +288,8 @@ over_early : (refused : Option Refused) (ended : Bool) → is_some refused ≡ t
 over_early (Some refused) ended is = tt
 over_early None ended is = cc
 
-pub well_early : (refuses : Bool) (result : Result Report ToolFault) (ended : Bool) → IsEarly refuses result → EndsWell refuses result ended
+pub well_early : (refuses : Bool) (result : Result Report ToolFault) (ended : Bool) → IsEarly refuses result
+    → EndsWell refuses result ended
 well_early false (Ok report) ended early = cc
 well_early true (Ok report) ended early = over_early report.refused ended early
 well_early false (Err fault) ended early = tt
@@ -259,31 +297,45 @@ well_early true (Err fault) ended early = tt
 
 -- how a run that halted so stops
 fine_stops :
-    (refuses closes memory : Bool) (means : Outcome → Type 0) (text : List ℕ) (halted : Result Report ToolFault) (left : Option (List ℕ)) (ended source_failed : Bool)
+    (refuses closes memory : Bool) (means : Outcome → Type 0) (text : List ℕ) (halted : Result Report ToolFault)
+    (left : Option (List ℕ)) (ended source_failed : Bool)
     (made reads : ℕ) (taken sent : Option (List ℕ)) → Halts memory means text halted → EndsWell refuses halted ended
     → source_failed ≡ false → sent ≡ taken → (ended ≡ true → IsAtEnd left) → made ≤ reads
     → StopsBy refuses closes halted left ended source_failed made taken sent false reads
-fine_stops refuses closes memory means text (Ok report) left ended source_failed made reads taken sent halts ok fine all_sent all_read bound =
+fine_stops refuses closes memory means text (Ok report) left ended source_failed made reads taken sent halts ok fine
+    all_sent all_read bound =
     record { stopped = (ok, fine, refl); sent_on = all_sent; all_read = all_read; bounded = bound }
-fine_stops refuses closes memory means text (Err (CaptureLine line)) left ended source_failed made reads taken sent halts ok fine all_sent all_read bound =
+fine_stops refuses closes memory means text (Err (CaptureLine line)) left ended source_failed made reads taken sent
+    halts ok fine all_sent all_read bound =
     record { stopped = (fine, refl); sent_on = all_sent; all_read = all_read; bounded = bound }
-fine_stops refuses closes memory means text (Err OutOfMemory) left ended source_failed made reads taken sent halts ok fine all_sent all_read bound =
+fine_stops refuses closes memory means text (Err OutOfMemory) left ended source_failed made reads taken sent halts ok
+    fine all_sent all_read bound =
     record { stopped = (fine, refl); sent_on = all_sent; all_read = all_read; bounded = bound }
-fine_stops refuses closes memory means text (Err Read) left ended source_failed made reads taken sent halts ok fine all_sent all_read bound = absurd halts
-fine_stops refuses closes memory means text (Err (Write written)) left ended source_failed made reads taken sent halts ok fine all_sent all_read bound = absurd halts
-fine_stops refuses closes memory means text (Err TooManyReads) left ended source_failed made reads taken sent halts ok fine all_sent all_read bound = absurd halts
+fine_stops refuses closes memory means text (Err Read) left ended source_failed made reads taken sent halts ok fine
+    all_sent all_read bound = absurd halts
+fine_stops refuses closes memory means text (Err (Write written)) left ended source_failed made reads taken sent halts
+    ok fine all_sent all_read bound = absurd halts
+fine_stops refuses closes memory means text (Err TooManyReads) left ended source_failed made reads taken sent halts ok
+    fine all_sent all_read bound = absurd halts
 
 pub halted_stops :
-    (refuses closes memory : Bool) (means : Outcome → Type 0) (text : List ℕ) (halt : Halt) (result : Result Report ToolFault) (left : Option (List ℕ))
-    (ended source_failed : Bool) (made reads : ℕ) (taken sent : Option (List ℕ)) (failed : Bool) → Halts memory means text halt.result
+    (refuses closes memory : Bool) (means : Outcome → Type 0) (text : List ℕ) (halt : Halt)
+    (result : Result Report ToolFault) (left : Option (List ℕ))
+    (ended source_failed : Bool) (made reads : ℕ) (taken sent : Option (List ℕ)) (failed : Bool)
+    → Halts memory means text halt.result
     → IsTold halt result failed → EndsWell refuses halt.result ended → (closes ≡ false → failed ≡ true → ended ≡ false)
     → source_failed ≡ false → (failed ≡ false → sent ≡ taken) → (ended ≡ true → IsAtEnd left) → made ≤ reads
     → StopsBy refuses closes result left ended source_failed made taken sent failed reads
-halted_stops refuses closes memory means text halt result left ended source_failed made reads taken sent false halts told ok early fine all_sent all_read bound =
-    subst (λ (r : Result Report ToolFault). StopsBy refuses closes r left ended source_failed made taken sent false reads) (sym told)
-    (fine_stops refuses closes memory means text halt.result left ended source_failed made reads taken sent halts ok fine (all_sent refl) all_read bound)
-halted_stops refuses closes memory means text halt result left ended source_failed made reads taken sent true halts told ok early fine all_sent all_read bound =
-    subst (λ (r : Result Report ToolFault). StopsBy refuses closes r left ended source_failed made taken sent true reads) (sym told)
+halted_stops refuses closes memory means text halt result left ended source_failed made reads taken sent false halts
+    told ok early fine all_sent all_read bound =
+    subst (λ (r : Result Report ToolFault). StopsBy refuses closes r left ended source_failed made taken sent false
+    reads) (sym told)
+    (fine_stops refuses closes memory means text halt.result left ended source_failed made reads taken sent halts ok
+    fine (all_sent refl) all_read bound)
+halted_stops refuses closes memory means text halt result left ended source_failed made reads taken sent true halts
+    told ok early fine all_sent all_read bound =
+    subst (λ (r : Result Report ToolFault). StopsBy refuses closes r left ended source_failed made taken sent true
+    reads) (sym told)
     (record { stopped = ((λ c. early c refl), fine, refl); sent_on = tt; all_read = all_read; bounded = bound })
 
 -- a read that told the end waited
@@ -303,7 +355,8 @@ failed_waited false ready = absurd (ready refl)
 
 -- what was gathered went out
 pub page_puts :
-    (holds : List ℕ → Type 0) (a : Out) (b c : Option (List ℕ)) (waits : List ℕ) (before middle after : ℕ) (text : List ℕ)
+    (holds : List ℕ → Type 0) (a : Out) (b c : Option (List ℕ)) (waits : List ℕ) (before middle after : ℕ)
+    (text : List ℕ)
     → Puts holds a (out b waits) before middle text → Put b c middle (Ok after) waits
     → Puts holds a (out c []) before after text
 page_puts holds a b c waits before middle after text puts sent =
@@ -316,7 +369,8 @@ page_puts holds a b c waits before middle after text puts sent =
 -- the sink failed in it where a step had halted the run
 pub page_halt_fails :
     (memory : Bool) (means : List ℕ → Bool → Outcome → Type 0) (given : List ℕ) (ended : Bool) (holds : List ℕ → Type 0)
-    (a : Out) (b c : Option (List ℕ)) (waits : List ℕ) (before middle : ℕ) (fault : ToolFault) (text : List ℕ) (result : Result Report ToolFault)
+    (a : Out) (b c : Option (List ℕ)) (waits : List ℕ) (before middle : ℕ) (fault : ToolFault) (text : List ℕ)
+    (result : Result Report ToolFault)
     (puts : Puts holds a (out b waits) before middle text)
     → Halts memory (means given ended) (text ++ puts.more) result → Put b c middle (Err fault) waits
     → Fails (means given ended) a (out c []) before text fault

@@ -1,5 +1,6 @@
 -- The lines of signals, one after the other.
-use Rattle.std.proofs.Common.{◌≡◌, ℕ, Bool, true, false, List, [], ◌∷◌, ◌++◌, Option, None, Some, Ok, Err, IfOk, refl, ap, sym, subst, ◌∙◌, append-nil, append_assoc, length, take, drop, take-append-drop}
+use Rattle.std.proofs.Common.{◌≡◌, ℕ, Bool, true, false, List, [], ◌∷◌, ◌++◌, Option, None, Some, Ok, Err, IfOk, refl}
+use Rattle.std.proofs.Common.{ap, sym, subst, ◌∙◌, append-nil, append_assoc, length, take, drop, take-append-drop}
 use Rattle.lis_frame.specs.declared.scanner.SignalOf.{SignalOf}
 use Rattle.lis_frame.specs.Stream.{with_signal, signals_after, stream_with}
 use Rattle.lis_frame.proofs.StreamLaws.{signals_after-append}
@@ -20,26 +21,30 @@ pub signal_lines-with :
     {limit : ℕ} (o : Option (SignalOf limit)) (rest : List (SignalOf limit)) →
     signal_lines (with_signal o rest) ≡ signal_lines (with_signal o []) ++ signal_lines rest
 signal_lines-with None rest = refl
-signal_lines-with (Some signal) rest = ap (λ (l : List ℕ). l ++ signal_lines rest) (sym (append-nil (signal_line signal)))
+signal_lines-with (Some signal) rest = ap (λ (l : List ℕ). l ++ signal_lines rest)
+    (sym (append-nil (signal_line signal)))
 
 pub signal_lines-append :
     {limit : ℕ} (xs ys : List (SignalOf limit)) → signal_lines (xs ++ ys) ≡ signal_lines xs ++ signal_lines ys
 signal_lines-append [] ys = refl
 signal_lines-append (signal ∷ xs) ys =
-    ap (λ (l : List ℕ). signal_line signal ++ l) (signal_lines-append xs ys) ∙ sym (append_assoc (signal_line signal) (signal_lines xs) (signal_lines ys))
+    ap (λ (l : List ℕ). signal_line signal ++ l) (signal_lines-append xs ys)
+    ∙ sym (append_assoc (signal_line signal) (signal_lines xs) (signal_lines ys))
 
 -- the lines of a stream read in two parts
 pub lines-append :
     (limit : ℕ) (past xs ys : List ℕ) →
     signal_lines (signals_after limit past (xs ++ ys))
     ≡ signal_lines (signals_after limit past xs) ++ signal_lines (signals_after limit (stream_with past xs) ys)
-lines-append limit past xs ys = ap signal_lines (signals_after-append limit xs ys past) ∙ signal_lines-append (signals_after limit past xs) _
+lines-append limit past xs ys = ap signal_lines (signals_after-append limit xs ys past)
+    ∙ signal_lines-append (signals_after limit past xs) _
 
 pub stream_with-append : (past xs ys : List ℕ) → stream_with past (xs ++ ys) ≡ stream_with (stream_with past xs) ys
 stream_with-append past [] ys = refl
 stream_with-append past (b ∷ xs) ys = stream_with-append (b ∷ past) xs ys
 
-pub no_lines : (limit : ℕ) (past bytes : List ℕ) → length bytes ≡ 0 → length (signal_lines (signals_after limit past bytes)) ≡ 0
+pub no_lines : (limit : ℕ) (past bytes : List ℕ) → length bytes ≡ 0
+    → length (signal_lines (signals_after limit past bytes)) ≡ 0
 no_lines limit past [] none = refl
 no_lines limit past (b ∷ bytes) none = cc
 
@@ -49,14 +54,19 @@ lent-lines limit (Some frame) = append-nil (frame_line frame)
 
 -- the line of a frame that was read at the front, and then the lines of what follows
 pub front_lines :
-    (limit n : ℕ) (past bytes : List ℕ) (o : Option FrameContent) → signals_after limit past (take n bytes) ≡ lent_signals o →
-    signal_lines (signals_after limit past bytes) ≡ lent_line o ++ signal_lines (signals_after limit (stream_with past (take n bytes)) (drop n bytes))
+    (limit n : ℕ) (past bytes : List ℕ) (o : Option FrameContent)
+    → signals_after limit past (take n bytes) ≡ lent_signals o →
+    signal_lines (signals_after limit past bytes) ≡ lent_line o
+    ++ signal_lines (signals_after limit (stream_with past (take n bytes)) (drop n bytes))
 front_lines limit n past bytes o is =
     let both = rw (take-append-drop n bytes) at (lines-append limit past (take n bytes) (drop n bytes)) in
-    both ∙ ap (λ (l : List ℕ). l ++ signal_lines (signals_after limit (stream_with past (take n bytes)) (drop n bytes))) (ap signal_lines is ∙ lent-lines limit o)
+    both ∙ ap (λ (l : List ℕ). l ++ signal_lines (signals_after limit (stream_with past (take n bytes))
+    (drop n bytes))) (ap signal_lines is ∙ lent-lines limit o)
 
-pub front_stream : (n : ℕ) (past bytes : List ℕ) → stream_with (stream_with past (take n bytes)) (drop n bytes) ≡ stream_with past bytes
-front_stream n past bytes = sym (stream_with-append past (take n bytes) (drop n bytes)) ∙ ap (stream_with past) (take-append-drop n bytes)
+pub front_stream : (n : ℕ) (past bytes : List ℕ)
+    → stream_with (stream_with past (take n bytes)) (drop n bytes) ≡ stream_with past bytes
+front_stream n past bytes = sym (stream_with-append past (take n bytes) (drop n bytes))
+    ∙ ap (stream_with past) (take-append-drop n bytes)
 
 -- ---- a run
 
@@ -65,12 +75,15 @@ pub shown_more :
     (limit : ℕ) (past more text : List ℕ) → text ≡ show limit past
     → text ++ signal_lines (signals_after limit (stream_with [] past) more) ≡ show limit (past ++ more)
 shown_more limit past more text is =
-    ap (λ (t : List ℕ). t ++ signal_lines (signals_after limit (stream_with [] past) more)) is ∙ sym (lines-append limit [] past more)
+    ap (λ (t : List ℕ). t ++ signal_lines (signals_after limit (stream_with [] past) more)) is
+    ∙ sym (lines-append limit [] past more)
 
 -- what a run that shows tells of the text of the bytes
 pub shown_ran :
-    (limit : ℕ) (left_old left_new taken_old taken_new : Option (List ℕ)) (ended : Bool) (result : Result Report ToolFault)
-    → Ran false (Shows limit) left_old left_new taken_old taken_new ended result → Shown (show limit) left_old left_new taken_old taken_new result
+    (limit : ℕ) (left_old left_new taken_old taken_new : Option (List ℕ)) (ended : Bool)
+    (result : Result Report ToolFault)
+    → Ran false (Shows limit) left_old left_new taken_old taken_new ended result
+    → Shown (show limit) left_old left_new taken_old taken_new result
 shown_ran limit left_old left_new taken_old taken_new ended result ran =
     record { given = ran.given; read = ran.read; wrote = text_of result ran.wrote }
   where
@@ -80,12 +93,15 @@ shown_ran limit left_old left_new taken_old taken_new ended result ran =
     whole_is : whole ran.outcome ≡ show limit ran.given
     whole_is = ap whole ran.meant ∙ append-nil (show limit ran.given)
 
-    text_of : (r : Result Report ToolFault) → Wrote false r ran.outcome taken_old taken_new → WroteText taken_old taken_new r (show limit ran.given)
+    text_of : (r : Result Report ToolFault) → Wrote false r ran.outcome taken_old taken_new
+        → WroteText taken_old taken_new r (show limit ran.given)
     text_of (Ok report) wrote = subst (λ (t : List ℕ). Appends taken_old taken_new t) whole_is wrote.1
     text_of (Err Read) wrote = subst (λ (t : List ℕ). Appends taken_old taken_new t) text_is wrote.1
     text_of (Err TooManyReads) wrote = subst (λ (t : List ℕ). Appends taken_old taken_new t) text_is wrote.1
-    text_of (Err (Write written)) wrote = (wrote.0, subst (λ (t : List ℕ). WentOut taken_old taken_new 0 written t wrote.0) whole_is wrote.1)
-    text_of (Err (CaptureLine line)) wrote = absurd (no_line ended (sym (ap (λ (o : Outcome). o.halt) ran.meant) ∙ wrote.0))
+    text_of (Err (Write written)) wrote =
+        (wrote.0, subst (λ (t : List ℕ). WentOut taken_old taken_new 0 written t wrote.0) whole_is wrote.1)
+    text_of (Err (CaptureLine line)) wrote = absurd
+        (no_line ended (sym (ap (λ (o : Outcome). o.halt) ran.meant) ∙ wrote.0))
       where
         no_line : (e : Bool) → at_end e clean ≡ Some (Err (CaptureLine line)) → ⊥
         no_line true is = cc
@@ -97,8 +113,10 @@ shown_ran limit left_old left_new taken_old taken_new ended result ran =
 
 -- and of its status
 pub shown_status :
-    (limit : ℕ) (left_old left_new taken_old taken_new : Option (List ℕ)) (ended : Bool) (result : Result Report ToolFault)
-    → Ran false (Shows limit) left_old left_new taken_old taken_new ended result → IfOk result (λ report. report.status ≡ 0)
+    (limit : ℕ) (left_old left_new taken_old taken_new : Option (List ℕ)) (ended : Bool)
+    (result : Result Report ToolFault)
+    → Ran false (Shows limit) left_old left_new taken_old taken_new ended result
+    → IfOk result (λ report. report.status ≡ 0)
 shown_status limit left_old left_new taken_old taken_new ended (Ok report) ran =
     status_of ended (sym (ap (λ (o : Outcome). o.halt) ran.meant) ∙ ran.wrote.0)
   where

@@ -16,15 +16,20 @@ use Rattle.lis_tool.specs.Upgrade.{upgrade_writes}
 use Rattle.lis_tool.specs.Words.{limit_by}
 
 -- how it ran, by what the source gave and the sink took
-abbrev pub CommandRan : Command → (left_old left_new taken_old taken_new : Option (List ℕ)) → (ended : Bool) → Result Report ToolFault → Type 0
-CommandRan (Show long) left_old left_new taken_old taken_new ended result = Shown (show (limit_by long)) left_old left_new taken_old taken_new result
-CommandRan Check left_old left_new taken_old taken_new ended result = MessagesRan check_writes left_old left_new taken_old taken_new ended result
-CommandRan Results left_old left_new taken_old taken_new ended result = MessagesRan results_writes left_old left_new taken_old taken_new ended result
+abbrev pub CommandRan : Command → (left_old left_new taken_old taken_new : Option (List ℕ)) → (ended : Bool)
+    → Result Report ToolFault → Type 0
+CommandRan (Show long) left_old left_new taken_old taken_new ended result =
+    Shown (show (limit_by long)) left_old left_new taken_old taken_new result
+CommandRan Check left_old left_new taken_old taken_new ended result =
+    MessagesRan check_writes left_old left_new taken_old taken_new ended result
+CommandRan Results left_old left_new taken_old taken_new ended result =
+    MessagesRan results_writes left_old left_new taken_old taken_new ended result
 CommandRan (Replay long) left_old left_new taken_old taken_new ended result =
     CaptureRan true (replay_writes (limit_by long)) left_old left_new taken_old taken_new ended result
 CommandRan (Texts long) left_old left_new taken_old taken_new ended result =
     CaptureRan true (texts_writes (limit_by long)) left_old left_new taken_old taken_new ended result
-CommandRan Upgrade left_old left_new taken_old taken_new ended result = CaptureRan false upgrade_writes left_old left_new taken_old taken_new ended result
+CommandRan Upgrade left_old left_new taken_old taken_new ended result =
+    CaptureRan false upgrade_writes left_old left_new taken_old taken_new ended result
 
 -- whether it may write at the end of the input
 abbrev pub closes : Command → Bool

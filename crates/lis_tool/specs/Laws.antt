@@ -64,7 +64,8 @@ pub record HasCarried (limit : ℕ) (events : List Event) (x : Session) (message
   pub trees : AllByRecursion IsTree messages
   pub fit : AllByRecursion FitsInTexts messages
 
--- Whatever happened on the link, what it handed out is the bytes of the messages, which are cut into them with nothing left.
+-- Whatever happened on the link, what it handed out is the bytes of the messages, which are cut into them with
+-- nothing left.
 abbrev pub CarriesMessages : ℕ → Type 0
 CarriesMessages limit =
     (events : List Event) (x : Session) (messages : List MessageTree) → HasCarried limit events x messages

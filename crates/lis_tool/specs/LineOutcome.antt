@@ -25,12 +25,18 @@ abbrev pub lines_text : Writes → List Line → List ℕ
 lines_text w [] = []
 lines_text w (line ∷ lines) = lines_text w lines ++ w.line lines line
 
--- what the lines come to, by whether the next one is refused and whether the input is ended: a refused line stops the run
+-- what the lines come to, by whether the next one is refused and whether the input is ended: a refused line stops the
+-- run
 -- with its number, and else the end of the input does
 abbrev pub lines_outcome : Writes → (refused ended : Bool) → List Line → Outcome
 lines_outcome w true ended lines =
     record { text = lines_text w lines; closing = []; halt = Some (Err (CaptureLine (length lines + 1))) }
-lines_outcome w false true lines = record { text = lines_text w lines; closing = w.last lines; halt = Some (Ok (w.report lines)) }
+lines_outcome w false true lines = record {
+  text = lines_text w lines;
+  closing = w.last lines;
+  halt =
+      Some (Ok (w.report lines));
+}
 lines_outcome w false false lines = going (lines_text w lines)
 
 -- what bytes come to, newest first
@@ -49,7 +55,8 @@ LineSteps takes_memory stands old new before text (Err fault) = Gathered old new
 
 -- and behind the last line
 abbrev pub LineEnds : Report → Out → Out → ℕ → List ℕ → Result Halt ToolFault → Type 0
-LineEnds report old new before text (Ok halt) = (halt.result ≡ Ok report) × Gathered old new before (Ok halt.written) text
+LineEnds report old new before text (Ok halt) =
+    (halt.result ≡ Ok report) × Gathered old new before (Ok halt.written) text
 LineEnds report old new before text (Err fault) = Gathered old new before (Err fault) text
 
 -- these bytes were read, no line of them is refused, and the command stands for the lines; their text is this

@@ -9,14 +9,18 @@ use Rattle.lis_tool.specs.Messages.{MessageWrites, Reads}
 use Rattle.lis_tool.specs.Outcome.{Outcome, whole}
 use Rattle.lis_tool.specs.Output.{WentOut}
 
--- A report is that of the bytes, and all of their text went out, with the closing lines. Where the source failed or was read
+-- A report is that of the bytes, and all of their text went out, with the closing lines. Where the source failed or
+-- was read
 -- too often no record is refused, and the text of the whole messages went out. Where the sink failed as much went out
 -- as is told, and where memory was refused a part without the closing lines.
-abbrev pub MessageAnswer : MessageWrites → List ℕ → (ended : Bool) → Result Report ToolFault → (old new : Option (List ℕ)) → Type 0
+abbrev pub MessageAnswer : MessageWrites → List ℕ → (ended : Bool) → Result Report ToolFault
+    → (old new : Option (List ℕ)) → Type 0
 MessageAnswer w given ended (Ok report) old new =
     (o : Outcome) × Reads w given ended o × (o.halt ≡ Some (Ok report)) × Appends old new (whole o)
-MessageAnswer w given ended (Err Read) old new = (o : Outcome) × Reads w given ended o × (o.halt ≡ None) × Appends old new o.text
-MessageAnswer w given ended (Err TooManyReads) old new = (o : Outcome) × Reads w given ended o × (o.halt ≡ None) × Appends old new o.text
+MessageAnswer w given ended (Err Read) old new =
+    (o : Outcome) × Reads w given ended o × (o.halt ≡ None) × Appends old new o.text
+MessageAnswer w given ended (Err TooManyReads) old new =
+    (o : Outcome) × Reads w given ended o × (o.halt ≡ None) × Appends old new o.text
 MessageAnswer w given ended (Err (Write written)) old new =
     (o : Outcome) × Reads w given ended o × (count : ℕ) × WentOut old new 0 written (whole o) count
 MessageAnswer w given ended (Err OutOfMemory) old new =
@@ -25,7 +29,8 @@ MessageAnswer w given ended (Err (CaptureLine line)) old new = ⊥
 
 -- all the bytes that were read, and the answer by their messages
 pub record MessagesRan
-    (w : MessageWrites) (left_old left_new taken_old taken_new : Option (List ℕ)) (ended : Bool) (result : Result Report ToolFault) : Type 0 where
+    (w : MessageWrites) (left_old left_new taken_old taken_new : Option (List ℕ)) (ended : Bool)
+    (result : Result Report ToolFault) : Type 0 where
   pub given : List ℕ
   pub read : Consumes left_old left_new given
   pub answer : MessageAnswer w given ended result taken_old taken_new

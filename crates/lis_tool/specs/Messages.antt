@@ -1,5 +1,6 @@
 -- What a stream of record text comes to, for a command that writes something for each of its messages (LIS02-A2).
-use Rattle.std.specs.Prelude.{◌≡◌, ℕ, ◌+◌, ◌<◌, Bool, true, false, List, [], ◌∷◌, ◌++◌, ◌⊎◌, length, Option, None, Some, Ok, Err, refl, ⊤}
+use Rattle.std.specs.Prelude.{◌≡◌, ℕ, ◌+◌, ◌<◌, Bool, true, false, List, [], ◌∷◌, ◌++◌, ◌⊎◌, length, Option, None}
+use Rattle.std.specs.Prelude.{Some, Ok, Err, refl, ⊤}
 use Rattle.std.proofs.Common.{ap, inl}
 use Rattle.std.specs.declared.result.Result.{Result}
 use Rattle.lis_field.specs.Shape.{RecordContent}
@@ -43,14 +44,21 @@ report_after w messages None = record { status = w.status messages; refused = No
 -- these messages are all that is read
 abbrev pub over : MessageWrites → List MessageTree → Option MessageFault → Outcome
 over w messages fault =
-    record { text = messages_text w 0 messages; closing = w.last messages fault; halt = Some (Ok (report_after w messages fault)) }
+    record {
+      text = messages_text w 0 messages;
+      closing = w.last messages fault;
+      halt =
+          Some (Ok (report_after w messages fault));
+    }
 
--- What bytes come to. A record of them is refused, behind whole messages. Or they are whole messages and a part of one: that
+-- What bytes come to. A record of them is refused, behind whole messages. Or they are whole messages and a part of
+-- one: that
 -- goes on, and is refused where the input ends. Or they are whole messages, and the input ends.
 pub data Reads (w : MessageWrites) (bytes : List ℕ) (ended : Bool) (outcome : Outcome) : Type 0 where
   refused : (messages : List MessageTree) (fault : MessageFault) → IsRefused bytes messages fault
       → outcome ≡ over w messages (Some fault) → Reads w bytes ended outcome
-  goes_on : (messages : List MessageTree) (left : Option Begun) (held : List ℕ) → IsCut bytes messages left held → ended ≡ false
+  goes_on : (messages : List MessageTree) (left : Option Begun) (held : List ℕ) → IsCut bytes messages left held
+      → ended ≡ false
       → outcome ≡ going (messages_text w 0 messages) → Reads w bytes ended outcome
   cut_short : (messages : List MessageTree) (fault : MessageFault) → IsCutShort bytes messages fault → ended ≡ true
       → outcome ≡ over w messages (Some fault) → Reads w bytes ended outcome
@@ -81,7 +89,8 @@ Comes w bytes ended outcome = Reads w bytes ended outcome ⊎ IsStarved w bytes 
 
 -- it has read these bytes, no record of them is refused, and this is the text for their messages
 pub record IsReadingMessages
-    (w : MessageWrites) (stands : List MessageTree → Option Begun → Type 0) (reader : RecordsState) (count : ℕ) (bytes text : List ℕ) : Type 0 where
+    (w : MessageWrites) (stands : List MessageTree → Option Begun → Type 0) (reader : RecordsState) (count : ℕ)
+    (bytes text : List ℕ) : Type 0 where
   pub messages : List MessageTree
   pub left : Option Begun
   pub has : HasLeft reader left
@@ -92,7 +101,8 @@ pub record IsReadingMessages
 
 -- so far the bytes are whole messages and a part of one
 abbrev pub reads_on :
-    {w : MessageWrites} {stands : List MessageTree → Option Begun → Type 0} {reader : RecordsState} {count : ℕ} {bytes text : List ℕ}
+    {w : MessageWrites} {stands : List MessageTree → Option Begun → Type 0} {reader : RecordsState} {count : ℕ}
+    {bytes text : List ℕ}
     → IsReadingMessages w stands reader count bytes text → Comes w bytes false (going text)
 reads_on {reader = reader} reading =
     inl (goes_on reading.messages reading.left reader.held reading.cut refl (ap going reading.text_is))
@@ -110,7 +120,8 @@ whole_begun m = begun_with m.delimiters (flatten m)
 -- The run halts at a refused record, behind the text for these bytes.
 abbrev pub RefusesBy : MessageWrites → List ℕ → Out → Out → ℕ → List ℕ → Result Halt ToolFault → Type 0
 RefusesBy w bytes old new before text (Ok halt) =
-    Puts (λ all. Halts true (Comes w bytes false) all halt.result × IsEarly true halt.result) old new before halt.written text
+    Puts (λ all. Halts true (Comes w bytes false) all halt.result × IsEarly true halt.result) old new before
+    halt.written text
 RefusesBy w bytes old new before text (Err fault) = Fails (Comes w bytes false) old new before text fault
 
 -- what becomes of the run where a record was taken: it goes on, or memory was refused, or the sink failed

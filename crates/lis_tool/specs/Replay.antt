@@ -1,14 +1,18 @@
--- What `replay` and `texts` write of a capture: a new receiver hears what the analyzer sent, what it replies is compared with
+-- What `replay` and `texts` write of a capture: a new receiver hears what the analyzer sent, what it replies is
+-- compared with
 -- what the computer sent, and the texts that it hands out are told.
-use Rattle.std.specs.Prelude.{ℕ, ◌+◌, nat_lt, not, Bool, true, false, List, [], ◌∷◌, ◌++◌, length, codes, decimal, None, if◌then◌else◌}
+use Rattle.std.specs.Prelude.{ℕ, ◌+◌, nat_lt, not, Bool, true, false, List, [], ◌∷◌, ◌++◌, length, codes, decimal}
+use Rattle.std.specs.Prelude.{None, if◌then◌else◌}
 use Rattle.std.specs.List.{flat_map}
 use Rattle.std.specs.Option.{option_to_list}
 use Rattle.std.specs.Str.{bytes_eq}
 use Rattle.hex.specs.Hex.{encode_lower}
 use Rattle.lis_frame.specs.Stream.{stream_with}
-use Rattle.lis_link.specs.Receiver.{ReceiverState, new_receiver, on_byte, on_receiver_timer, receiver_restarted, with_readiness}
+use Rattle.lis_link.specs.Receiver.{ReceiverState, new_receiver, on_byte, on_receiver_timer, receiver_restarted}
+use Rattle.lis_link.specs.Receiver.{with_readiness}
 use Rattle.lis_capture.specs.declared.line.Line.{Line}
-use Rattle.lis_capture.specs.declared.line.Line.TheVariants.{Empty, FromAnalyzer, FromComputer, Timer, Restart, SetReady, Version}
+use Rattle.lis_capture.specs.declared.line.Line.TheVariants.{Empty, FromAnalyzer, FromComputer, Timer, Restart}
+use Rattle.lis_capture.specs.declared.line.Line.TheVariants.{SetReady, Version}
 use Rattle.lis_tool.specs.declared.report.Report.{Report}
 use Rattle.lis_tool.specs.LineOutcome.{Writes, capture_outcome}
 use Rattle.lis_tool.specs.Outcome.{whole}
@@ -75,7 +79,8 @@ digits_or_dash (b ∷ bytes) = encode_lower (b ∷ bytes)
 -- `difference PLACE WANT GOT`
 abbrev pub difference_line : List ℕ → List ℕ → List ℕ → List ℕ
 difference_line place want got =
-    joined (codes "difference " ∷ place ∷ codes " " ∷ digits_or_dash want ∷ codes " " ∷ digits_or_dash got ∷ codes "\n" ∷ [])
+    joined (codes "difference " ∷ place ∷ codes " " ∷ digits_or_dash want ∷ codes " " ∷ digits_or_dash got
+    ∷ codes "\n" ∷ [])
 
 -- the computer's bytes beside the replies
 abbrev pub compared_line : ℕ → List ℕ → List ℕ → List ℕ
@@ -110,7 +115,8 @@ count_with (b ∷ left) count = count + 1
 
 -- `texts N differences D`
 abbrev pub counts_line : ℕ → ℕ → List ℕ
-counts_line texts differences = joined (codes "texts " ∷ decimal texts ∷ codes " differences " ∷ decimal differences ∷ codes "\n" ∷ [])
+counts_line texts differences = joined (codes "texts " ∷ decimal texts ∷ codes " differences " ∷ decimal differences
+    ∷ codes "\n" ∷ [])
 
 -- how many differences there are, with that at the end
 abbrev pub all_differences : ℕ → List Line → ℕ
@@ -125,7 +131,8 @@ abbrev pub replay_writes_from : (first : ℕ) → ℕ → Writes
 replay_writes_from first limit =
     record {
       line = λ lines line. replay_line limit (length lines + first) line (played limit lines);
-      last = λ lines. left_line (played limit lines).replies ++ counts_line (text_count limit lines) (all_differences limit lines);
+      last = λ lines. left_line (played limit lines).replies
+          ++ counts_line (text_count limit lines) (all_differences limit lines);
       report = λ lines. status_of (all_differences limit lines);
     }
 

@@ -1,5 +1,5 @@
 -- How a run over a source and a sink ends.
-use Rattle.std.specs.Prelude.{◌≡◌, ℕ, ◌≤◌, Bool, true, false, List, length, take, Option, None, Some, Ok, Err, ⊤}
+use Rattle.std.specs.Prelude.{◌≡◌, ℕ, ◌+◌, ◌≤◌, Bool, true, false, List, length, take, Option, None, Some, Ok, Err, ⊤}
 use Rattle.std.specs.declared.result.Result.{Result}
 use Rattle.std.specs.Io.KnownBytes.{Appends, Consumes, IsAtEnd}
 use Rattle.lis_tool.specs.declared.fault.ToolFault.{ToolFault}
@@ -19,9 +19,11 @@ pub record IsFresh (made : ℕ) (ended source_failed sink_failed : Bool) : Type 
 -- what went out of an outcome's text: with a report all of it; where a line is refused, or the source failed or was
 -- read too often, all but the closing lines; where the sink failed as much as is told; and where memory was refused a
 -- part without the closing lines
-abbrev pub Wrote : (takes_memory : Bool) → Result Report ToolFault → Outcome → Option (List ℕ) → Option (List ℕ) → Type 0
+abbrev pub Wrote : (takes_memory : Bool) → Result Report ToolFault → Outcome → Option (List ℕ) → Option (List ℕ)
+    → Type 0
 Wrote takes_memory (Ok report) o old new = (o.halt ≡ Some (Ok report)) × Appends old new (whole o)
-Wrote takes_memory (Err (CaptureLine line)) o old new = (o.halt ≡ Some (Err (CaptureLine line))) × Appends old new o.text
+Wrote takes_memory (Err (CaptureLine line)) o old new =
+    (o.halt ≡ Some (Err (CaptureLine line))) × Appends old new o.text
 Wrote takes_memory (Err Read) o old new = (o.halt ≡ None) × Appends old new o.text
 Wrote takes_memory (Err TooManyReads) o old new = (o.halt ≡ None) × Appends old new o.text
 Wrote takes_memory (Err (Write written)) o old new = (count : ℕ) × WentOut old new 0 written (whole o) count
@@ -30,7 +32,8 @@ Wrote takes_memory (Err OutOfMemory) o old new =
 
 -- all the bytes that were read, what they come to, and what went out
 pub record Ran
-    (takes_memory : Bool) (means : List ℕ → Bool → Outcome → Type 0) (left_old left_new taken_old taken_new : Option (List ℕ))
+    (takes_memory : Bool) (means : List ℕ → Bool → Outcome → Type 0)
+    (left_old left_new taken_old taken_new : Option (List ℕ))
     (ended : Bool) (result : Result Report ToolFault) : Type 0 where
   pub given : List ℕ
   pub read : Consumes left_old left_new given
@@ -45,19 +48,23 @@ IsOver false refused ended = ended ≡ true
 IsOver true None ended = ended ≡ true
 IsOver true (Some refused) ended = ⊤
 
--- each ending stands where the last read or write says so: a report where the source told the end or a record is refused,
+-- each ending stands where the last read or write says so: a report where the source told the end or a record is
+-- refused,
 -- a fault of the source or the sink where that failed, and too many reads where as many were made and none of these
 -- stands. A command that writes nothing at the end has no fault of the sink there.
 abbrev pub Stopped : (refuses closes : Bool) → Result Report ToolFault → Bool → Bool → Bool → ℕ → ℕ → Type 0
 Stopped refuses closes (Ok report) ended source_failed sink_failed made reads =
     IsOver refuses report.refused ended × (source_failed ≡ false) × (sink_failed ≡ false)
-Stopped refuses closes (Err Read) ended source_failed sink_failed made reads = (ended ≡ false) × (source_failed ≡ true) × (sink_failed ≡ false)
+Stopped refuses closes (Err Read) ended source_failed sink_failed made reads =
+    (ended ≡ false) × (source_failed ≡ true) × (sink_failed ≡ false)
 Stopped refuses closes (Err (Write written)) ended source_failed sink_failed made reads =
     (closes ≡ false → ended ≡ false) × (source_failed ≡ false) × (sink_failed ≡ true)
 Stopped refuses closes (Err TooManyReads) ended source_failed sink_failed made reads =
     (ended ≡ false) × (source_failed ≡ false) × (sink_failed ≡ false) × (made ≡ reads)
-Stopped refuses closes (Err (CaptureLine line)) ended source_failed sink_failed made reads = (source_failed ≡ false) × (sink_failed ≡ false)
-Stopped refuses closes (Err OutOfMemory) ended source_failed sink_failed made reads = (source_failed ≡ false) × (sink_failed ≡ false)
+Stopped refuses closes (Err (CaptureLine line)) ended source_failed sink_failed made reads =
+    (source_failed ≡ false) × (sink_failed ≡ false)
+Stopped refuses closes (Err OutOfMemory) ended source_failed sink_failed made reads =
+    (source_failed ≡ false) × (sink_failed ≡ false)
 
 -- nothing that the sink took is held back, but where it failed
 abbrev pub Sent : Result Report ToolFault → Option (List ℕ) → Option (List ℕ) → Type 0
@@ -68,10 +75,12 @@ Sent (Err (Write written)) sent taken = ⊤
 Sent (Err (CaptureLine line)) sent taken = sent ≡ taken
 Sent (Err OutOfMemory) sent taken = sent ≡ taken
 
--- how a run stops, by what is known of the source and the sink: what the source has left, whether it told the end or failed, and the
+-- how a run stops, by what is known of the source and the sink: what the source has left, whether it told the end or
+-- failed, and the
 -- reads made; what the sink took and sent on, and whether it failed; and the most reads
 pub record StopsBy
-    (refuses closes : Bool) (result : Result Report ToolFault) (left : Option (List ℕ)) (ended source_failed : Bool) (made : ℕ)
+    (refuses closes : Bool) (result : Result Report ToolFault) (left : Option (List ℕ)) (ended source_failed : Bool)
+    (made : ℕ)
     (taken sent : Option (List ℕ)) (sink_failed : Bool) (reads : ℕ) : Type 0 where
   pub stopped : Stopped refuses closes result ended source_failed sink_failed made reads
   pub sent_on : Sent result sent taken
@@ -85,6 +94,10 @@ abbrev pub Stops :
 Stops closes result left ended source_failed made taken sent sink_failed reads =
     StopsBy false closes result left ended source_failed made taken sent sink_failed reads
 
+-- each read but the last gave a byte at least: so more reads than were allowed come of a long input alone
+abbrev pub EachGave : Option (List ℕ) → Option (List ℕ) → (made : ℕ) → Type 0
+EachGave left_old left_new made = (given : List ℕ) × Consumes left_old left_new given × (made ≤ length given + 1)
+
 -- what went out for the bytes that were read, by a command that never refuses a line nor wants memory: all of their
 -- text, or as much as is told where the sink failed
 abbrev pub WroteText : Option (List ℕ) → Option (List ℕ) → Result Report ToolFault → List ℕ → Type 0
@@ -96,7 +109,8 @@ WroteText old new (Err (CaptureLine line)) text = ⊥
 WroteText old new (Err OutOfMemory) text = ⊥
 
 -- the bytes that were read, and what went out for them
-pub record Shown (text_of : List ℕ → List ℕ) (left_old left_new taken_old taken_new : Option (List ℕ)) (result : Result Report ToolFault) : Type 0 where
+pub record Shown (text_of : List ℕ → List ℕ) (left_old left_new taken_old taken_new : Option (List ℕ))
+    (result : Result Report ToolFault) : Type 0 where
   pub given : List ℕ
   pub read : Consumes left_old left_new given
   pub wrote : WroteText taken_old taken_new result (text_of given)

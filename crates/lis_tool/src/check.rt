@@ -1,11 +1,12 @@
 //! The command `check`: messages, their records and what is to be looked at in them (LIS02-A2).
 
 ghost use Rattle.std.specs.Prelude.{◌≡◌, ◌^◌, ◌<◌, ◌≤◌, ◌++◌, [], List, None, OnOk, true, false, is_err, length, IfOk};
-ghost use Rattle.lis_tool.specs.Check.{IsChecking, check_writes, finding_count, finding_line, record_line, refused_part, sums_line};
+ghost use Rattle.lis_tool.specs.Check.{IsChecking, check_writes, finding_count, finding_line, record_line};
+ghost use Rattle.lis_tool.specs.Check.{refused_part, sums_line};
 ghost use Rattle.lis_tool.specs.MessageRuns.{MessagesRan};
 ghost use Rattle.lis_tool.specs.Messages.{report_after};
 ghost use Rattle.lis_tool.specs.Output.{Gathered, out};
-ghost use Rattle.lis_tool.specs.Runs.{IsFresh, StopsBy};
+ghost use Rattle.lis_tool.specs.Runs.{EachGave, IsFresh, StopsBy};
 ghost use Rattle.lis_tree.specs.Tree.{MessageTree};
 
 use crate::fault::ToolFault;
@@ -33,8 +34,11 @@ pub fn run_check<R: Source, W: Sink>(
     reads: u32,
 ) -> Result<Report, ToolFault>
     requires { IsFresh (R.made source.old) (R.ended source.old) (R.failed source.old) (W.failed sink.old) }
-    ensures ran { MessagesRan check_writes (R.left source.old) (R.left source.new) (W.taken sink.old) (W.taken sink.new) (R.ended source.new) result }
-    ensures stops { StopsBy true true result (R.left source.new) (R.ended source.new) (R.failed source.new) (R.made source.new) (W.taken sink.new) (W.sent sink.new) (W.failed sink.new) reads }
+    ensures ran { MessagesRan check_writes (R.left source.old) (R.left source.new) (W.taken sink.old)
+        (W.taken sink.new) (R.ended source.new) result }
+    ensures stops { StopsBy true true result (R.left source.new) (R.ended source.new) (R.failed source.new)
+        (R.made source.new) (W.taken sink.new) (W.sent sink.new) (W.failed sink.new) reads }
+    ensures each_gave { EachGave (R.left source.old) (R.left source.new) (R.made source.new) }
     ensures status { IfOk result (λ report. report.status ≤ 1) }
 {
     run(Messages::new(alloc, Check::new(alloc)), source, sink, reads)
@@ -55,7 +59,8 @@ struct Check {
 impl Check {
     /// No message was read.
     fn new(alloc: Global) -> Self
-        ensures { IsChecking result.records.bytes.items result.findings.bytes.items result.numbering result.found result.told [] None }
+        ensures { IsChecking result.records.bytes.items result.findings.bytes.items result.numbering result.found
+            result.told [] None }
     {
         Check {
             records: HeldText::new(alloc),
@@ -70,7 +75,8 @@ impl Check {
 impl MessageMachine for Check {
     ghost writes = { check_writes };
 
-    ghost stands = { λ m messages left. IsChecking m.records.bytes.items m.findings.bytes.items m.numbering m.found m.told messages left };
+    ghost stands = { λ m messages left. IsChecking m.records.bytes.items m.findings.bytes.items m.numbering m.found m.told
+        messages left };
 
     #[inline(always)]
     fn record(&mut self, entry: &LentRecord<'_>) -> Result<(), AllocError> {
@@ -128,7 +134,8 @@ impl MessageMachine for Check {
 
 /// The report behind so many messages with so many findings.
 fn report_of(before: u64, fault: Option<MessageFault>, findings: u64) -> Report
-    ensures { (messages : List MessageTree) → before ≡ length messages → length messages < 2 ^ 44 → findings ≡ finding_count messages →
+    ensures { (messages : List MessageTree) → before ≡ length messages → length messages < 2 ^ 44
+        → findings ≡ finding_count messages →
         result ≡ report_after check_writes messages fault }
 {
     match fault {
@@ -171,7 +178,8 @@ fn gather_last<W: Sink>(
 ) -> Result<u64, ToolFault>
     requires { W.failed sink.old ≡ false }
     ensures gathered { before < 2 ^ 44 →
-        Gathered (out (W.taken sink.old) page.old) (out (W.taken sink.new) page.new) written result (refused_part before fault ++ sums_line before findings) }
+        Gathered (out (W.taken sink.old) page.old) (out (W.taken sink.new) page.new) written result
+        (refused_part before fault ++ sums_line before findings) }
     ensures failed { W.failed sink.new ≡ is_err result }
 {
     let after = match gather_refusal(sink, page, written, before, fault) {
@@ -198,7 +206,8 @@ fn gather_refusal<W: Sink>(
 ) -> Result<u64, ToolFault>
     requires { W.failed sink.old ≡ false }
     ensures gathered { before < 2 ^ 44 →
-        Gathered (out (W.taken sink.old) page.old) (out (W.taken sink.new) page.new) written result (refused_part before fault) }
+        Gathered (out (W.taken sink.old) page.old) (out (W.taken sink.new) page.new) written result
+        (refused_part before fault) }
     ensures failed { W.failed sink.new ≡ is_err result }
 {
     let Some(fault) = fault else {

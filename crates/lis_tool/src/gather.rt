@@ -1,6 +1,7 @@
 //! Gathering text on a page, which goes out in one piece where it is full.
 
-ghost use Rattle.std.specs.Prelude.{◌≡◌, ◌+◌, ◌<◌, ◌≤◌, ◌↔◌, ◌++◌, [], decimal, true, false, is_err, length, IfErr, IfOk, IsTrue, MatchResult, Ok, OnOk};
+ghost use Rattle.std.specs.Prelude.{◌≡◌, ◌+◌, ◌<◌, ◌≤◌, ◌↔◌, ◌++◌, [], decimal, true, false, is_err, length, IfErr};
+ghost use Rattle.std.specs.Prelude.{IfOk, IsTrue, MatchResult, Ok, OnOk};
 ghost use Rattle.std.specs.Io.KnownBytes.{ReadConsumes};
 ghost use Rattle.hex.specs.Hex.{encode_lower};
 ghost use Rattle.lis_capture.specs.declared.page.TheConstants.{PAGE_ROOM};
@@ -67,7 +68,8 @@ pub(crate) fn send_page_before_a_wait<R: Source, W: Sink>(
     written: u64,
 ) -> Result<u64, ToolFault>
     requires { W.failed sink.old ≡ false }
-    ensures gathered { IfOk result (λ after. Gathered (out (W.taken sink.old) page.old) (out (W.taken sink.new) page.new) written (Ok after) []) }
+    ensures gathered { IfOk result (λ after. Gathered (out (W.taken sink.old) page.old) (out (W.taken sink.new) page.new) written
+        (Ok after) []) }
     ensures sent { OnOk result (R.may_wait source.now ≡ true → W.sent sink.new ≡ W.taken sink.new) }
     ensures empty { OnOk result (R.may_wait source.now ≡ true → page.new ≡ []) }
     ensures err { IfErr result (λ fault. PartWentOut (W.taken sink.old) (W.taken sink.new) written fault page.old) }
@@ -79,7 +81,8 @@ pub(crate) fn send_page_before_a_wait<R: Source, W: Sink>(
     Ok(written)
 }
 
-/// Reads from a source that has not failed: where the read may wait, nothing waits on the page or is held back by the sink.
+/// Reads from a source that has not failed: where the read may wait, nothing waits on the page or is held back by the
+/// sink.
 #[inline(always)]
 pub(crate) fn read_settled<R: Source, W: Sink>(
     source: &mut R,
@@ -131,7 +134,8 @@ pub(crate) fn gather<W: Sink>(
     text: &[u8],
 ) -> Result<u64, ToolFault>
     requires { W.failed sink.old ≡ false }
-    ensures gathered { Gathered (out (W.taken sink.old) page.old) (out (W.taken sink.new) page.new) written result text.now }
+    ensures gathered { Gathered (out (W.taken sink.old) page.old) (out (W.taken sink.new) page.new) written result
+        text.now }
     ensures failed { W.failed sink.new ≡ is_err result }
 {
     if text.len() <= page.room() {
@@ -153,7 +157,8 @@ pub(crate) fn gather_number<W: Sink>(
     number: u64,
 ) -> Result<u64, ToolFault>
     requires { W.failed sink.old ≡ false }
-    ensures gathered { Gathered (out (W.taken sink.old) page.old) (out (W.taken sink.new) page.new) written result (decimal number) }
+    ensures gathered { Gathered (out (W.taken sink.old) page.old) (out (W.taken sink.new) page.new) written result
+        (decimal number) }
     ensures failed { W.failed sink.new ≡ is_err result }
 {
     match make_room(sink, page, written, NUMBER_ROOM) {
@@ -185,7 +190,8 @@ pub(crate) fn gather_digits<W: Sink>(
     bytes: &[u8],
 ) -> Result<u64, ToolFault>
     requires { W.failed sink.old ≡ false }
-    ensures gathered { Gathered (out (W.taken sink.old) page.old) (out (W.taken sink.new) page.new) written result (encode_lower bytes.now) }
+    ensures gathered { Gathered (out (W.taken sink.old) page.old) (out (W.taken sink.new) page.new) written result
+        (encode_lower bytes.now) }
     ensures failed { W.failed sink.new ≡ is_err result }
 {
     let mut rest = bytes;
@@ -211,7 +217,8 @@ fn gather_chunk<W: Sink>(
 ) -> Result<u64, ToolFault>
     requires working { W.failed sink.old ≡ false }
     requires short { length bytes.now ≤ CHUNK }
-    ensures gathered { Gathered (out (W.taken sink.old) page.old) (out (W.taken sink.new) page.new) written result (encode_lower bytes.now) }
+    ensures gathered { Gathered (out (W.taken sink.old) page.old) (out (W.taken sink.new) page.new) written result
+        (encode_lower bytes.now) }
     ensures failed { W.failed sink.new ≡ is_err result }
 {
     match make_room(sink, page, written, 2 * bytes.len()) {

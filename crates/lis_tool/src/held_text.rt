@@ -1,12 +1,15 @@
 //! Text that is held in memory until a message is whole.
 
-ghost use Rattle.std.specs.Prelude.{◌≡◌, ◌++◌, ◌∷◌, [], Some, decimal, OnOk};
+ghost use Rattle.std.specs.Prelude.{◌≡◌, ◌++◌, ◌∷◌, [], Some, decimal, drop, OnOk, slice_get};
 ghost use Rattle.lis_field.specs.Shape.{field_at};
+ghost use Rattle.lis_record.specs.Lent.{lent};
+ghost use Rattle.lis_record.specs.Spelling.{spelled_field};
 ghost use Rattle.lis_tool.specs.Results.{field_text};
 
 use itoa::Buffer;
 use lis_message::LentRecord;
 use lis_port::{Failed, Sink};
+use lis_record::{LentField, LentFields};
 use std::alloc::{AllocError, Global};
 
 /// Text in memory. As a sink it fails where memory is refused.
@@ -79,9 +82,38 @@ impl HeldText {
         ensures { OnOk result (self.new.bytes.items ≡ self.old.bytes.items
             ++ field_text entry.now.delimiters (field_at entry.now.content number)) }
     {
-        let Some(field) = entry.field(number) else {
-            return Ok(());
-        };
+        match entry.field(number) {
+            Some(field) => self.add_spelled(&field),
+            None => Ok(()),
+        }
+    }
+
+    /// Adds a mark and the next of these fields by its spelling; the mark alone where none is left.
+    #[inline(always)]
+    pub(crate) fn add_next(
+        &mut self,
+        mark: u8,
+        fields: &mut LentFields<'_>,
+    ) -> Result<(), AllocError>
+        ensures added { OnOk result (self.new.bytes.items ≡ self.old.bytes.items
+            ++ mark ∷ field_text fields.old.delimiters (slice_get fields.old.content 0)) }
+        ensures left { OnOk result (fields.new ≡ lent fields.old.delimiters (drop 1 fields.old.content)) }
+    {
+        self.add_byte(mark)?;
+        if let Some(text) = fields.take_plain(1) {
+            return self.add(text);
+        }
+        match fields.next() {
+            Some(next) => self.add_spelled(&next),
+            None => Ok(()),
+        }
+    }
+
+    /// Adds a field by its spelling.
+    fn add_spelled(&mut self, field: &LentField<'_>) -> Result<(), AllocError>
+        ensures { OnOk result (self.new.bytes.items ≡ self.old.bytes.items
+            ++ spelled_field field.now.delimiters field.now.content) }
+    {
         if self.failed {
             return Err(AllocError);
         }

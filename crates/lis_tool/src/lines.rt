@@ -42,8 +42,10 @@ pub trait LineMachine: Drop {
         room: &'a mut [u8; MOST_BYTES],
     ) -> Result<Turn, ToolFault>
         requires { W.failed sink.old ≡ false }
-        ensures steps { (lines : List LineContent) → stands self.old lines → number ≡ length lines + 1 → number < 2 ^ 44 →
-            LineSteps takes_memory (stands self.new (line.now ∷ lines)) (out (W.taken sink.old) page.old) (out (W.taken sink.new) page.new) written
+        ensures steps { (lines : List LineContent) → stands self.old lines → number ≡ length lines + 1
+            → number < 2 ^ 44 →
+            LineSteps takes_memory (stands self.new (line.now ∷ lines)) (out (W.taken sink.old) page.old)
+            (out (W.taken sink.new) page.new) written
             (writes.line lines line.now) result }
         ensures failed { W.failed sink.new ≡ is_err result };
 
@@ -51,7 +53,8 @@ pub trait LineMachine: Drop {
     fn end<W: Sink>(self, sink: &mut W, page: &mut Page, written: u64) -> Result<Halt, ToolFault>
         requires { W.failed sink.old ≡ false }
         ensures ends { (lines : List LineContent) → stands self lines → length lines < 2 ^ 44 →
-            LineEnds (writes.report lines) (out (W.taken sink.old) page.old) (out (W.taken sink.new) page.new) written (writes.last lines) result }
+            LineEnds (writes.report lines) (out (W.taken sink.old) page.old) (out (W.taken sink.new) page.new) written
+            (writes.last lines) result }
         ensures failed { W.failed sink.new ≡ is_err result };
 }
 
@@ -85,9 +88,11 @@ impl<C: LineMachine> Lines<C> {
         written: u64,
     ) -> Result<Turn, ToolFault>
         requires { W.failed sink.old ≡ false }
-        ensures steps { (lines : List LineContent) → C.stands self.old.command lines → self.old.reader.known.number ≡ length lines + 1 →
+        ensures steps { (lines : List LineContent) → C.stands self.old.command lines
+            → self.old.reader.known.number ≡ length lines + 1 →
             self.old.reader.known.number < 2 ^ 44 →
-            LineSteps C.takes_memory (C.stands self.new.command (self.old.reader.known.line ∷ lines)) (out (W.taken sink.old) page.old) (out (W.taken sink.new) page.new) written
+            LineSteps C.takes_memory (C.stands self.new.command (self.old.reader.known.line ∷ lines))
+            (out (W.taken sink.old) page.old) (out (W.taken sink.new) page.new) written
             (C.writes.line lines self.old.reader.known.line) result }
         ensures reader { self.new.reader ≡ self.old.reader }
         ensures failed { W.failed sink.new ≡ is_err result }
@@ -125,7 +130,8 @@ impl<C: LineMachine> Machine for Lines<C> {
 
     ghost goes_on = { λ m bytes text lined.
         ap going lined.text_is
-        ∙ sym (ap (λ (refused : Bool). lines_outcome C.writes refused false (capture (stream_with [] bytes) false).lines) lined.fine) };
+        ∙ sym (ap (λ (refused : Bool). lines_outcome C.writes refused false
+        (capture (stream_with [] bytes) false).lines) lined.fine) };
 
     fn feed<W: Sink>(
         &mut self,

@@ -1,10 +1,11 @@
 //! The form of all commands: a machine is fed with what a source gives, and writes to a sink.
 
-ghost use Rattle.std.specs.Prelude.{◌≡◌, ◌+◌, ◌^◌, ◌<◌, ◌≤◌, ◌++◌, ℕ, Bool, true, false, List, [], length, is_err, IfOk};
+ghost use Rattle.std.specs.Prelude.{◌≡◌, ◌+◌, ◌^◌, ◌<◌, ◌≤◌, ◌++◌, ℕ, Bool, true, false, List, [], length, is_err};
+ghost use Rattle.std.specs.Prelude.{IfOk};
 ghost use Rattle.std.specs.Io.KnownBytes.{Keeps};
 ghost use Rattle.lis_tool.specs.Outcome.{Outcome, going};
 ghost use Rattle.lis_tool.specs.Output.{out};
-ghost use Rattle.lis_tool.specs.Runs.{IsFresh, Ran, StopsBy};
+ghost use Rattle.lis_tool.specs.Runs.{EachGave, IsFresh, Ran, StopsBy};
 ghost use Rattle.lis_tool.specs.inside.Steps.{Ends, IsTold, Steps};
 ghost use Rattle.lis_tool.specs.declared.machine.Halt.{Halt};
 ghost use Rattle.lis_tool.specs.declared.machine.Turn.TheVariants.{Off};
@@ -69,9 +70,11 @@ pub trait Machine: Drop {
     fn end<W: Sink>(self, sink: &mut W, page: &mut Page, written: u64) -> Result<Halt, ToolFault>
         requires { W.failed sink.old ≡ false }
         ensures ends { (past text : List ℕ) → stands self past text → length past < 2 ^ 44 →
-            Ends takes_memory (means past true) (out (W.taken sink.old) page.old) (out (W.taken sink.new) page.new) written text result }
+            Ends takes_memory (means past true) (out (W.taken sink.old) page.old) (out (W.taken sink.new) page.new)
+            written text result }
         ensures failed { W.failed sink.new ≡ is_err result }
-        ensures silent { closes ≡ false → (is_err result ≡ false) × (W.sent sink.new ≡ W.sent sink.old) × (W.taken sink.new ≡ W.taken sink.old) × (page.new ≡ page.old) };
+        ensures silent { closes ≡ false → (is_err result ≡ false) × (W.sent sink.new ≡ W.sent sink.old)
+            × (W.taken sink.new ≡ W.taken sink.old) × (page.new ≡ page.old) };
 
     /// Whether it may write at the end of the input.
     fn closes(&self) -> bool
@@ -81,7 +84,8 @@ pub trait Machine: Drop {
     ghost goes_on: { (machine : Self) (past text : List ℕ) → stands machine past text → means past false (going text) };
 }
 
-// Each command has a frame of its own on the stack: that of the longest link frames has 200 KB, which others need not touch.
+// Each command has a frame of its own on the stack: that of the longest link frames has 200 KB, which others need not
+// touch.
 /// Feeds a machine with what a source gives, to its end, by at most `reads` calls of read. All text goes
 /// out before each that may wait for bytes, so that no line waits with it, and where the run ends.
 #[inline(never)]
@@ -93,8 +97,11 @@ pub fn run<M: Machine, R: Source, W: Sink>(
 ) -> Result<Report, ToolFault>
     requires new { M.stands machine [] [] }
     requires fresh { IsFresh (R.made source.old) (R.ended source.old) (R.failed source.old) (W.failed sink.old) }
-    ensures ran { Ran M.takes_memory M.means (R.left source.old) (R.left source.new) (W.taken sink.old) (W.taken sink.new) (R.ended source.new) result }
-    ensures stops { StopsBy M.refuses M.closes result (R.left source.new) (R.ended source.new) (R.failed source.new) (R.made source.new) (W.taken sink.new) (W.sent sink.new) (W.failed sink.new) reads }
+    ensures ran { Ran M.takes_memory M.means (R.left source.old) (R.left source.new) (W.taken sink.old)
+        (W.taken sink.new) (R.ended source.new) result }
+    ensures stops { StopsBy M.refuses M.closes result (R.left source.new) (R.ended source.new) (R.failed source.new)
+        (R.made source.new) (W.taken sink.new) (W.sent sink.new) (W.failed sink.new) reads }
+    ensures each_gave { EachGave (R.left source.old) (R.left source.new) (R.made source.new) }
 {
     let mut machine = machine;
     let mut buffer = [0; ROOM];
@@ -167,9 +174,11 @@ fn end_page<M: Machine, W: Sink>(
     requires working { W.failed sink.old ≡ false }
     requires empty { page.old ≡ [] }
     ensures ends { (past text : List ℕ) → M.stands machine past text → length past < 2 ^ 44 →
-        Ends M.takes_memory (M.means past true) (out (W.taken sink.old) []) (out (W.taken sink.new) []) written text result }
+        Ends M.takes_memory (M.means past true) (out (W.taken sink.old) []) (out (W.taken sink.new) []) written text
+        result }
     ensures failed { W.failed sink.new ≡ is_err result }
-    ensures silent { M.closes ≡ false → (is_err result ≡ false) × (W.sent sink.new ≡ W.sent sink.old) × (W.taken sink.new ≡ W.taken sink.old) }
+    ensures silent { M.closes ≡ false → (is_err result ≡ false) × (W.sent sink.new ≡ W.sent sink.old)
+        × (W.taken sink.new ≡ W.taken sink.old) }
 {
     let closes = machine.closes();
     match machine.end(sink, page, written) {
@@ -191,7 +200,8 @@ fn halted<W: Sink>(sink: &mut W, halt: Halt, wrote: bool) -> Result<Report, Tool
     ensures taken { Keeps (W.taken sink.old) (W.taken sink.new) }
     ensures told { IsTold halt result (W.failed sink.new) }
     ensures sent { wrote ≡ true → W.failed sink.new ≡ false → W.sent sink.new ≡ W.taken sink.new }
-    ensures silent { wrote ≡ false → (W.failed sink.new ≡ false) × (W.sent sink.new ≡ W.sent sink.old) × (W.taken sink.new ≡ W.taken sink.old) }
+    ensures silent { wrote ≡ false → (W.failed sink.new ≡ false) × (W.sent sink.new ≡ W.sent sink.old)
+        × (W.taken sink.new ≡ W.taken sink.old) }
 {
     if !wrote {
         return halt.result;

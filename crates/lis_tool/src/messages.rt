@@ -1,11 +1,14 @@
 //! Commands that take record text message by message, each record where it stands.
 
-ghost use Rattle.std.specs.Prelude.{◌≡◌, ◌+◌, ◌^◌, ◌<◌, ◌++◌, ◌∷◌, [], ℕ, List, None, Some, Option, IfNone, IfSome, OnOk, false, true, is_err, length, Ok};
+ghost use Rattle.std.specs.Prelude.{◌≡◌, ◌+◌, ◌^◌, ◌<◌, ◌++◌, ◌∷◌, [], ℕ, List, None, Some, Option, IfNone, IfSome};
+ghost use Rattle.std.specs.Prelude.{OnOk, false, true, is_err, length, Ok};
 ghost use Rattle.std.specs.Option.{option_to_list};
 ghost use Rattle.lis_message.specs.Feeding.{Stops};
 ghost use Rattle.lis_message.specs.inside.Taking.{ComesNext, Completes, left_after, records_of};
 ghost use Rattle.lis_tool.specs.LineOutcome.{LineEnds, LineSteps};
-ghost use Rattle.lis_tool.specs.Messages.{Comes, IsReadingMessages, IsShorter, MessageWrites, RefusesBy, StepsOver, messages_text, reads_on, record_count, report_after, turn_after, whole_begun, with_record};
+ghost use Rattle.lis_tool.specs.Messages.{Comes, IsReadingMessages, IsShorter, MessageWrites, RefusesBy, StepsOver};
+ghost use Rattle.lis_tool.specs.Messages.{messages_text, reads_on, record_count, report_after, turn_after};
+ghost use Rattle.lis_tool.specs.Messages.{whole_begun, with_record};
 ghost use Rattle.lis_tool.specs.Output.{Gathered, out};
 ghost use Rattle.lis_tree.specs.inside.Begun.{Begun};
 ghost use Rattle.lis_tree.specs.Tree.{MessageTree};
@@ -29,7 +32,8 @@ pub trait MessageMachine: Drop {
 
     /// Takes the next record of a message. What it comes to waits until the message is whole.
     fn record(&mut self, entry: &LentRecord<'_>) -> Result<(), AllocError>
-        ensures { OnOk result ((messages : List MessageTree) (left : Option Begun) (text : List ℕ) → stands self.old messages left →
+        ensures { OnOk result ((messages : List MessageTree) (left : Option Begun) (text : List ℕ)
+            → stands self.old messages left →
             ComesNext left text entry.now → record_count messages + length (records_of left) < 2 ^ 44 →
             stands self.new messages (with_record left entry.now)) };
 
@@ -42,10 +46,13 @@ pub trait MessageMachine: Drop {
         before: u64,
     ) -> Result<u64, ToolFault>
         requires { W.failed sink.old ≡ false }
-        ensures gathered { (messages : List MessageTree) (message : MessageTree) → stands self.old messages (whole_begun message) →
+        ensures gathered { (messages : List MessageTree) (message : MessageTree)
+            → stands self.old messages (whole_begun message) →
             before ≡ length messages → record_count (messages ++ message ∷ []) < 2 ^ 44 →
-            Gathered (out (W.taken sink.old) page.old) (out (W.taken sink.new) page.new) written result (writes.message (length messages) message) }
-        ensures stood { (messages : List MessageTree) (message : MessageTree) → stands self.old messages (whole_begun message) →
+            Gathered (out (W.taken sink.old) page.old) (out (W.taken sink.new) page.new) written result
+            (writes.message (length messages) message) }
+        ensures stood { (messages : List MessageTree) (message : MessageTree)
+            → stands self.old messages (whole_begun message) →
             record_count (messages ++ message ∷ []) < 2 ^ 44 → stands self.new (messages ++ message ∷ []) None }
         ensures failed { W.failed sink.new ≡ is_err result };
 
@@ -59,9 +66,11 @@ pub trait MessageMachine: Drop {
         fault: Option<MessageFault>,
     ) -> Result<Halt, ToolFault>
         requires { W.failed sink.old ≡ false }
-        ensures ends { (messages : List MessageTree) (left : Option Begun) → stands self.now messages left → before ≡ length messages →
+        ensures ends { (messages : List MessageTree) (left : Option Begun) → stands self.now messages left
+            → before ≡ length messages →
             length messages < 2 ^ 44 →
-            LineEnds (report_after writes messages fault) (out (W.taken sink.old) page.old) (out (W.taken sink.new) page.new) written
+            LineEnds (report_after writes messages fault) (out (W.taken sink.old) page.old)
+            (out (W.taken sink.new) page.new) written
             (writes.last messages fault) result }
         ensures failed { W.failed sink.new ≡ is_err result };
 }
@@ -85,11 +94,13 @@ impl<C: MessageMachine> Counted<C> {
         entry: &LentRecord<'_>,
     ) -> Result<Option<u64>, ToolFault>
         requires { W.failed sink.old ≡ false }
-        ensures steps { (messages : List MessageTree) (left : Option Begun) (message : Option MessageTree) (text : List ℕ) →
+        ensures steps { (messages : List MessageTree) (left : Option Begun) (message : Option MessageTree)
+            (text : List ℕ) →
             C.stands self.old.command messages left → self.old.count ≡ length messages → ComesNext left text entry.now →
             Completes left entry.now message → record_count messages + length (records_of left) < 2 ^ 44 →
             record_count (messages ++ option_to_list message) < 2 ^ 44 →
-            LineSteps true (C.stands self.new.command (messages ++ option_to_list message) (left_after left entry.now entry.now.content.kind)
+            LineSteps true (C.stands self.new.command (messages ++ option_to_list message)
+            (left_after left entry.now entry.now.content.kind)
             × (self.new.count ≡ length (messages ++ option_to_list message)))
             (out (W.taken sink.old) page.old) (out (W.taken sink.new) page.new) written
             (messages_text C.writes (length messages) (option_to_list message)) (turn_after written result) }
@@ -120,9 +131,12 @@ impl<C: MessageMachine> Counted<C> {
         fault: MessageFault,
     ) -> Result<Halt, ToolFault>
         requires { W.failed sink.old ≡ false }
-        ensures refuses { (messages : List MessageTree) (left : Option Begun) (bytes text : List ℕ) → C.stands self.now.command messages left →
-            self.now.count ≡ length messages → length messages < 2 ^ 44 → text ≡ messages_text C.writes 0 messages → Stops bytes messages fault →
-            RefusesBy C.writes bytes (out (W.taken sink.old) page.old) (out (W.taken sink.new) page.new) written text result }
+        ensures refuses { (messages : List MessageTree) (left : Option Begun) (bytes text : List ℕ)
+            → C.stands self.now.command messages left →
+            self.now.count ≡ length messages → length messages < 2 ^ 44 → text ≡ messages_text C.writes 0 messages
+            → Stops bytes messages fault →
+            RefusesBy C.writes bytes (out (W.taken sink.old) page.old) (out (W.taken sink.new) page.new) written text
+            result }
         ensures failed { W.failed sink.new ≡ is_err result }
     {
         if let Reason::OutOfMemory = fault.reason {
@@ -178,7 +192,8 @@ impl<C: MessageMachine> Messages<C> {
         }
     }
 
-    /// The command takes the next record of these bytes where it stands whole in them, as most do, and answers the bytes
+    /// The command takes the next record of these bytes where it stands whole in them, as most do, and answers the
+    /// bytes
     /// behind it, and the count of the bytes that then went out, none where memory is refused. Else nothing is taken.
     #[inline(always)]
     fn take_whole<'a, W: Sink>(
@@ -192,8 +207,10 @@ impl<C: MessageMachine> Messages<C> {
         ensures steps { IfSome result (λ found. (past text : List ℕ) →
             IsReadingMessages C.writes (C.stands self.old.told.command) self.old.reader self.old.told.count past text →
             length past + length bytes.now < 2 ^ 44 →
-            StepsOver C.writes (IsReadingMessages C.writes (C.stands self.new.told.command) self.new.reader self.new.told.count) past bytes.now found.0.now
-            (out (W.taken sink.old) page.old) (out (W.taken sink.new) page.new) written text (turn_after written found.1)) }
+            StepsOver C.writes (IsReadingMessages C.writes (C.stands self.new.told.command) self.new.reader
+            self.new.told.count) past bytes.now found.0.now
+            (out (W.taken sink.old) page.old) (out (W.taken sink.new) page.new) written text
+            (turn_after written found.1)) }
         ensures shorter { IfSome result (λ found. length found.0.now < length bytes.now) }
         ensures failed { IfSome result (λ found. W.failed sink.new ≡ is_err found.1) }
         ensures none { IfNone result ((self.new ≡ self.old) × (sink.new ≡ sink.old) × (page.new ≡ page.old)) }
@@ -216,9 +233,11 @@ impl<C: MessageMachine> Messages<C> {
     ) -> (&'a [u8], Result<Turn, ToolFault>)
         requires working { W.failed sink.old ≡ false }
         requires some { 0 < length bytes.now }
-        ensures steps { (past text : List ℕ) → IsReadingMessages C.writes (C.stands self.old.told.command) self.old.reader self.old.told.count past text →
+        ensures steps { (past text : List ℕ) → IsReadingMessages C.writes (C.stands self.old.told.command)
+            self.old.reader self.old.told.count past text →
             length past + length bytes.now < 2 ^ 44 →
-            StepsOver C.writes (IsReadingMessages C.writes (C.stands self.new.told.command) self.new.reader self.new.told.count) past bytes.now result.0.now
+            StepsOver C.writes (IsReadingMessages C.writes (C.stands self.new.told.command) self.new.reader
+            self.new.told.count) past bytes.now result.0.now
             (out (W.taken sink.old) page.old) (out (W.taken sink.new) page.new) written text result.1 }
         ensures shorter { IsShorter result.1 result.0.now bytes.now }
         ensures failed { W.failed sink.new ≡ is_err result.1 }

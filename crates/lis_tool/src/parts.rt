@@ -28,7 +28,8 @@ pub(crate) fn gather_parts<W: Sink>(
     parts: &[Part<'_>],
 ) -> Result<u64, ToolFault>
     requires { W.failed sink.old ≡ false }
-    ensures gathered { Gathered (out (W.taken sink.old) page.old) (out (W.taken sink.new) page.new) written result (parts_text parts.now) }
+    ensures gathered { Gathered (out (W.taken sink.old) page.old) (out (W.taken sink.new) page.new) written result
+        (parts_text parts.now) }
     ensures failed { W.failed sink.new ≡ is_err result }
 {
     let mut after = written;
@@ -49,7 +50,8 @@ fn gather_part<W: Sink>(
     part: &Part<'_>,
 ) -> Result<u64, ToolFault>
     requires { W.failed sink.old ≡ false }
-    ensures gathered { Gathered (out (W.taken sink.old) page.old) (out (W.taken sink.new) page.new) written result (part_text part.now) }
+    ensures gathered { Gathered (out (W.taken sink.old) page.old) (out (W.taken sink.new) page.new) written result
+        (part_text part.now) }
     ensures failed { W.failed sink.new ≡ is_err result }
 {
     match part {

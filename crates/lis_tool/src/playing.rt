@@ -1,6 +1,7 @@
 //! A receiver that plays a capture, for the commands `replay` and `texts`.
 
-ghost use Rattle.std.specs.Prelude.{◌≡◌, ◌+◌, ◌^◌, ◌≤◌, ◌<◌, ◌++◌, ℕ, ◌∷◌, [], List, true, false, is_err, length, Err, if◌then◌else◌, vec_capacity, vec_len};
+ghost use Rattle.std.specs.Prelude.{◌≡◌, ◌+◌, ◌^◌, ◌≤◌, ◌<◌, ◌++◌, ℕ, ◌∷◌, [], List, true, false, is_err, length};
+ghost use Rattle.std.specs.Prelude.{Err, if◌then◌else◌, vec_capacity, vec_len};
 ghost use Rattle.std.specs.Option.{option_to_list};
 ghost use Rattle.lis_frame.specs.Limit.{IsLimit};
 ghost use Rattle.lis_capture.specs.declared.line.Line.{Line as LineContent};
@@ -107,11 +108,13 @@ impl<const N: usize, T: Teller> Playing<N, T> {
     ) -> Result<Turn, ToolFault>
         requires { W.failed sink.old ≡ false }
         ensures steps { (r : ReceiverState) (collected : List ℕ) (count : ℕ) →
-            IsHearing T.account N self.old.receiver self.old.replies.items self.old.texts r collected count → count + length bytes.now ≤ 2 ^ 63 →
+            IsHearing T.account N self.old.receiver self.old.replies.items self.old.texts r collected count
+            → count + length bytes.now ≤ 2 ^ 63 →
             LineSteps true
             (IsHearing T.account N self.new.receiver self.new.replies.items self.new.texts
             (heard N r bytes.now) (collected ++ replies N r bytes.now) (count + length (handed N r bytes.now)))
-            (out (W.taken sink.old) page.old) (out (W.taken sink.new) page.new) written (text_parts T.account number (handed N r bytes.now)) result }
+            (out (W.taken sink.old) page.old) (out (W.taken sink.new) page.new) written
+            (text_parts T.account number (handed N r bytes.now)) result }
         ensures differences { self.new.differences ≡ self.old.differences }
         ensures failed { W.failed sink.new ≡ is_err result }
     {
@@ -171,7 +174,8 @@ impl<const N: usize, T: Teller> Playing<N, T> {
 
     /// Keeps a reply where they are compared, and answers whether memory was there for it.
     fn collect(&mut self, reply: Option<u8>) -> bool
-        ensures kept { result ≡ true → T.account ≡ accounts.Lines → self.new.replies.items ≡ self.old.replies.items ++ option_to_list reply }
+        ensures kept { result ≡ true → T.account ≡ accounts.Lines
+            → self.new.replies.items ≡ self.old.replies.items ++ option_to_list reply }
         ensures full { result ≡ false → vec_capacity self.old.replies ≤ vec_len self.old.replies }
         ensures receiver { self.new.receiver ≡ self.old.receiver }
         ensures texts { self.new.texts ≡ self.old.texts }
@@ -241,7 +245,8 @@ impl<const N: usize, T: Teller> Playing<N, T> {
         ensures ends { (lines : List LineContent) →
             IsPlaying T.account N self.receiver self.replies.items self.texts self.differences lines →
             length lines < 2 ^ 44 →
-            LineEnds ((replay_writes N).report lines) (out (W.taken sink.old) page.old) (out (W.taken sink.new) page.new) written ((replay_writes N).last lines) result }
+            LineEnds ((replay_writes N).report lines) (out (W.taken sink.old) page.old)
+            (out (W.taken sink.new) page.new) written ((replay_writes N).last lines) result }
         ensures failed { W.failed sink.new ≡ is_err result }
     {
         let left = self.replies.as_slice();
@@ -353,7 +358,8 @@ fn gather_message<W: Sink>(
     message: &Option<LinkText>,
 ) -> Result<u64, ToolFault>
     requires { W.failed sink.old ≡ false }
-    ensures gathered { Gathered (out (W.taken sink.old) page.old) (out (W.taken sink.new) page.new) written result (text_parts account number (option_to_list message.now)) }
+    ensures gathered { Gathered (out (W.taken sink.old) page.old) (out (W.taken sink.new) page.new) written result
+        (text_parts account number (option_to_list message.now)) }
     ensures failed { W.failed sink.new ≡ is_err result }
 {
     match message {

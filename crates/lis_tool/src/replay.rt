@@ -7,8 +7,9 @@ ghost use Rattle.lis_capture.specs.declared.page.TheConstants.{PAGE_ROOM};
 ghost use Rattle.lis_tool.specs.CaptureRuns.{CaptureRan};
 ghost use Rattle.lis_tool.specs.Output.{Gathered, out};
 ghost use Rattle.lis_tool.specs.inside.Parts.{part_text};
-ghost use Rattle.lis_tool.specs.Replay.{compared_line, counts_line, difference_line, digits_or_dash, left_line, replay_writes, text_line};
-ghost use Rattle.lis_tool.specs.Runs.{IsFresh, Stops};
+ghost use Rattle.lis_tool.specs.Replay.{compared_line, counts_line, difference_line, digits_or_dash, left_line};
+ghost use Rattle.lis_tool.specs.Replay.{replay_writes, text_line};
+ghost use Rattle.lis_tool.specs.Runs.{EachGave, IsFresh, Stops};
 
 use crate::fault::ToolFault;
 use crate::gather::{append_number, make_room};
@@ -37,8 +38,11 @@ pub fn run_replay_of<const N: usize, R: Source, W: Sink>(
 ) -> Result<Report, ToolFault>
     requires limit { IsLimit N }
     requires fresh { IsFresh (R.made source.old) (R.ended source.old) (R.failed source.old) (W.failed sink.old) }
-    ensures ran { CaptureRan true (replay_writes N) (R.left source.old) (R.left source.new) (W.taken sink.old) (W.taken sink.new) (R.ended source.new) result }
-    ensures stops { Stops true result (R.left source.new) (R.ended source.new) (R.failed source.new) (R.made source.new) (W.taken sink.new) (W.sent sink.new) (W.failed sink.new) reads }
+    ensures ran { CaptureRan true (replay_writes N) (R.left source.old) (R.left source.new) (W.taken sink.old)
+        (W.taken sink.new) (R.ended source.new) result }
+    ensures stops { Stops true result (R.left source.new) (R.ended source.new) (R.failed source.new)
+        (R.made source.new) (W.taken sink.new) (W.sent sink.new) (W.failed sink.new) reads }
+    ensures each_gave { EachGave (R.left source.old) (R.left source.new) (R.made source.new) }
     ensures status { IfOk result (λ report. report.status ≤ 1) }
 {
     run(
@@ -59,8 +63,11 @@ pub fn run_replay<R: Source, W: Sink>(
     reads: u32,
 ) -> Result<Report, ToolFault>
     requires { IsFresh (R.made source.old) (R.ended source.old) (R.failed source.old) (W.failed sink.old) }
-    ensures ran { CaptureRan true (replay_writes 240) (R.left source.old) (R.left source.new) (W.taken sink.old) (W.taken sink.new) (R.ended source.new) result }
-    ensures stops { Stops true result (R.left source.new) (R.ended source.new) (R.failed source.new) (R.made source.new) (W.taken sink.new) (W.sent sink.new) (W.failed sink.new) reads }
+    ensures ran { CaptureRan true (replay_writes 240) (R.left source.old) (R.left source.new) (W.taken sink.old)
+        (W.taken sink.new) (R.ended source.new) result }
+    ensures stops { Stops true result (R.left source.new) (R.ended source.new) (R.failed source.new)
+        (R.made source.new) (W.taken sink.new) (W.sent sink.new) (W.failed sink.new) reads }
+    ensures each_gave { EachGave (R.left source.old) (R.left source.new) (R.made source.new) }
     ensures status { IfOk result (λ report. report.status ≤ 1) }
 {
     run_replay_of::<240, R, W>(alloc, source, sink, reads)
@@ -75,7 +82,8 @@ pub(crate) fn gather_text_line<W: Sink>(
     text: &[u8],
 ) -> Result<u64, ToolFault>
     requires { W.failed sink.old ≡ false }
-    ensures gathered { Gathered (out (W.taken sink.old) page.old) (out (W.taken sink.new) page.new) written result (text_line number text.now) }
+    ensures gathered { Gathered (out (W.taken sink.old) page.old) (out (W.taken sink.new) page.new) written result
+        (text_line number text.now) }
     ensures failed { W.failed sink.new ≡ is_err result }
 {
     match make_room(sink, page, written, TEXT_LINE_ROOM) {
@@ -113,7 +121,8 @@ pub(crate) fn gather_compared<'x, W: Sink>(
 ) -> Result<u64, ToolFault>
     requires working { W.failed sink.old ≡ false }
     requires same { same ≡ bytes_eq want.now got.now }
-    ensures gathered { Gathered (out (W.taken sink.old) page.old) (out (W.taken sink.new) page.new) written result (compared_line number want.now got.now) }
+    ensures gathered { Gathered (out (W.taken sink.old) page.old) (out (W.taken sink.new) page.new) written result
+        (compared_line number want.now got.now) }
     ensures failed { W.failed sink.new ≡ is_err result }
 {
     if same {
@@ -130,7 +139,8 @@ pub(crate) fn gather_left<W: Sink>(
     left: &[u8],
 ) -> Result<u64, ToolFault>
     requires { W.failed sink.old ≡ false }
-    ensures gathered { Gathered (out (W.taken sink.old) page.old) (out (W.taken sink.new) page.new) written result (left_line left.now) }
+    ensures gathered { Gathered (out (W.taken sink.old) page.old) (out (W.taken sink.new) page.new) written result
+        (left_line left.now) }
     ensures failed { W.failed sink.new ≡ is_err result }
 {
     if left.is_empty() {
@@ -148,7 +158,8 @@ pub(crate) fn gather_counts<W: Sink>(
     differences: u64,
 ) -> Result<u64, ToolFault>
     requires { W.failed sink.old ≡ false }
-    ensures gathered { Gathered (out (W.taken sink.old) page.old) (out (W.taken sink.new) page.new) written result (counts_line texts differences) }
+    ensures gathered { Gathered (out (W.taken sink.old) page.old) (out (W.taken sink.new) page.new) written result
+        (counts_line texts differences) }
     ensures failed { W.failed sink.new ≡ is_err result }
 {
     let parts = [
@@ -171,7 +182,8 @@ fn gather_difference<'x, W: Sink>(
     got: &'x [u8],
 ) -> Result<u64, ToolFault>
     requires { W.failed sink.old ≡ false }
-    ensures gathered { Gathered (out (W.taken sink.old) page.old) (out (W.taken sink.new) page.new) written result (difference_line (part_text place.entry) want.now got.now) }
+    ensures gathered { Gathered (out (W.taken sink.old) page.old) (out (W.taken sink.new) page.new) written result
+        (difference_line (part_text place.entry) want.now got.now) }
     ensures failed { W.failed sink.new ≡ is_err result }
 {
     let parts = [

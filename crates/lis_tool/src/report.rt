@@ -34,7 +34,11 @@ pub struct Report {
 impl Report {
     /// The report of a record that is refused behind so many messages.
     pub(crate) fn of_refusal(before: u64, fault: MessageFault) -> Report
-        ensures { before < 2 ^ 44 → result ≡ record { status = 1; refused = Some (record { message = before + 1; fault = fault }) } }
+        ensures { before < 2 ^ 44 → result ≡ record {
+          status = 1;
+          refused = Some
+              (record { message = before + 1; fault = fault });
+        } }
     {
         let message = before.saturating_add(1);
         Report {

@@ -1,12 +1,14 @@
 //! The command `results`: the result records of messages, with the samples that their orders name (LIS02-A2).
 
-ghost use Rattle.std.specs.Prelude.{◌≡◌, ◌^◌, ◌<◌, ◌≤◌, ◌++◌, ◌∷◌, List, Option, None, OnOk, true, length, IfOk, IfSome};
+ghost use Rattle.std.specs.Prelude.{◌≡◌, ◌^◌, ◌<◌, ◌≤◌, ◌++◌, ◌∷◌, List, Option, None, OnOk, true, length, IfOk};
+ghost use Rattle.std.specs.Prelude.{IfSome};
 ghost use Rattle.lis_field.specs.declared.kinds.Kind.TheVariants as kinds;
 ghost use Rattle.lis_field.specs.Shape.{Repeats};
 ghost use Rattle.lis_tool.specs.MessageRuns.{MessagesRan};
 ghost use Rattle.lis_tool.specs.Messages.{report_after};
-ghost use Rattle.lis_tool.specs.Results.{IsTelling, field_text, fields_behind, result_line, results_writes, told_fields};
-ghost use Rattle.lis_tool.specs.Runs.{IsFresh, StopsBy};
+ghost use Rattle.lis_tool.specs.Results.{IsTelling, field_text, fields_behind, result_line, results_writes};
+ghost use Rattle.lis_tool.specs.Results.{told_fields};
+ghost use Rattle.lis_tool.specs.Runs.{EachGave, IsFresh, StopsBy};
 ghost use Rattle.lis_tree.specs.Tree.{MessageTree};
 
 use crate::fault::ToolFault;
@@ -21,11 +23,10 @@ use lis_message::{LentRecord, MessageFault};
 use lis_port::{Sink, Source};
 use std::alloc::{AllocError, Global};
 
-/// The numbers of the fields of a result record that are told, behind the sample.
-const TOLD_FIELDS: [usize; 6] = [3, 4, 5, 6, 7, 9];
-
-/// Reads record text and writes a line for each result record: field 3 of its order, and its own fields 3 to 7 and 9, each
-/// by its spelling. The status is 1 where a record is refused, or the end of the input comes before that of a message; the
+/// Reads record text and writes a line for each result record: field 3 of its order, and its own fields 3 to 7 and 9,
+/// each
+/// by its spelling. The status is 1 where a record is refused, or the end of the input comes before that of a
+/// message; the
 /// lines of the whole messages before it are written.
 ///
 /// The source was never read, and neither it nor the sink has failed.
@@ -36,8 +37,11 @@ pub fn run_results<R: Source, W: Sink>(
     reads: u32,
 ) -> Result<Report, ToolFault>
     requires { IsFresh (R.made source.old) (R.ended source.old) (R.failed source.old) (W.failed sink.old) }
-    ensures ran { MessagesRan results_writes (R.left source.old) (R.left source.new) (W.taken sink.old) (W.taken sink.new) (R.ended source.new) result }
-    ensures stops { StopsBy true true result (R.left source.new) (R.ended source.new) (R.failed source.new) (R.made source.new) (W.taken sink.new) (W.sent sink.new) (W.failed sink.new) reads }
+    ensures ran { MessagesRan results_writes (R.left source.old) (R.left source.new) (W.taken sink.old)
+        (W.taken sink.new) (R.ended source.new) result }
+    ensures stops { StopsBy true true result (R.left source.new) (R.ended source.new) (R.failed source.new)
+        (R.made source.new) (W.taken sink.new) (W.sent sink.new) (W.failed sink.new) reads }
+    ensures each_gave { EachGave (R.left source.old) (R.left source.new) (R.made source.new) }
     ensures status { IfOk result (λ report. report.status ≤ 1) }
 {
     run(
@@ -115,7 +119,8 @@ impl MessageMachine for Results {
 
 /// The report behind so many messages.
 fn report_of(before: u64, fault: Option<MessageFault>) -> Report
-    ensures { (messages : List MessageTree) → before ≡ length messages → length messages < 2 ^ 44 → result ≡ report_after results_writes messages fault }
+    ensures { (messages : List MessageTree) → before ≡ length messages → length messages < 2 ^ 44
+        → result ≡ report_after results_writes messages fault }
 {
     match fault {
         None => Report {
@@ -146,7 +151,7 @@ fn add_told(lines: &mut HeldText, entry: &LentRecord<'_>) -> Result<(), AllocErr
         ++ fields_behind entry.now.delimiters entry.now.content told_fields) }
 {
     let Some((front, last)) = plain_fields(entry) else {
-        return add_fields(lines, entry, &TOLD_FIELDS);
+        return add_each(lines, entry);
     };
     let mark = entry.delimiters().field();
     lines.add_byte(mark)?;
@@ -160,7 +165,8 @@ fn add_told(lines: &mut HeldText, entry: &LentRecord<'_>) -> Result<(), AllocErr
 #[inline(always)]
 fn plain_fields<'a>(entry: &LentRecord<'a>) -> Option<(&'a [u8], &'a [u8])>
     requires { entry.now.content.kind ≡ kinds.R }
-    ensures { IfSome result (λ parts. (entry.now.delimiters.field ∷ parts.0.now) ++ entry.now.delimiters.field ∷ parts.1.now
+    ensures { IfSome result (λ parts. (entry.now.delimiters.field ∷ parts.0.now) ++ entry.now.delimiters.field
+        ∷ parts.1.now
         ≡ fields_behind entry.now.delimiters entry.now.content told_fields) }
 {
     let mut fields = entry.fields();
@@ -179,20 +185,21 @@ fn plain_fields<'a>(entry: &LentRecord<'a>) -> Option<(&'a [u8], &'a [u8])>
     }
 }
 
-/// Adds the fields of these numbers, each behind a field delimiter.
+/// Adds fields 3 to 7 of a result and field 9 one by one by their spelling, each behind a field delimiter.
 #[inline(never)]
-fn add_fields(
-    lines: &mut HeldText,
-    entry: &LentRecord<'_>,
-    numbers: &[usize],
-) -> Result<(), AllocError>
+fn add_each(lines: &mut HeldText, entry: &LentRecord<'_>) -> Result<(), AllocError>
+    requires { entry.now.content.kind ≡ kinds.R }
     ensures { OnOk result (lines.new.bytes.items ≡ lines.old.bytes.items
-        ++ fields_behind entry.now.delimiters entry.now.content numbers.now) }
+        ++ fields_behind entry.now.delimiters entry.now.content told_fields) }
 {
-    let mark = [entry.delimiters().field()];
-    for number in numbers {
-        lines.add(&mark)?;
-        lines.add_field(entry, *number)?;
-    }
-    Ok(())
+    let mark = entry.delimiters().field();
+    let mut fields = entry.fields();
+    let _number = fields.next();
+    lines.add_next(mark, &mut fields)?;
+    lines.add_next(mark, &mut fields)?;
+    lines.add_next(mark, &mut fields)?;
+    lines.add_next(mark, &mut fields)?;
+    lines.add_next(mark, &mut fields)?;
+    let _nature = fields.next();
+    lines.add_next(mark, &mut fields)
 }

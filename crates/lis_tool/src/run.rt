@@ -2,7 +2,7 @@
 
 ghost use Rattle.std.specs.Prelude.{◌≡◌, ◌≤◌, false, IfOk};
 ghost use Rattle.lis_tool.specs.Commands.{CommandRan, closes, refuses};
-ghost use Rattle.lis_tool.specs.Runs.{IsFresh, StopsBy};
+ghost use Rattle.lis_tool.specs.Runs.{EachGave, IsFresh, StopsBy};
 
 use crate::check::run_check;
 use crate::commands::Command;
@@ -29,8 +29,11 @@ pub fn run_command<R: Source, W: Sink>(
     reads: u32,
 ) -> Result<Report, ToolFault>
     requires { IsFresh (R.made source.old) (R.ended source.old) (R.failed source.old) (W.failed sink.old) }
-    ensures ran { CommandRan command (R.left source.old) (R.left source.new) (W.taken sink.old) (W.taken sink.new) (R.ended source.new) result }
-    ensures stops { StopsBy (refuses command) (closes command) result (R.left source.new) (R.ended source.new) (R.failed source.new) (R.made source.new) (W.taken sink.new) (W.sent sink.new) (W.failed sink.new) reads }
+    ensures ran { CommandRan command (R.left source.old) (R.left source.new) (W.taken sink.old) (W.taken sink.new)
+        (R.ended source.new) result }
+    ensures stops { StopsBy (refuses command) (closes command) result (R.left source.new) (R.ended source.new)
+        (R.failed source.new) (R.made source.new) (W.taken sink.new) (W.sent sink.new) (W.failed sink.new) reads }
+    ensures each_gave { EachGave (R.left source.old) (R.left source.new) (R.made source.new) }
     ensures status { IfOk result (λ report. report.status ≤ 1) }
 {
     match command {

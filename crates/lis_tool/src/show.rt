@@ -1,13 +1,15 @@
 //! The command `show`: a line for each signal of a stream of link bytes.
 
-ghost use Rattle.std.specs.Prelude.{◌≡◌, ◌+◌, ◌<◌, ◌≤◌, ◌++◌, ◌∷◌, [], ℕ, List, decimal, false, is_err, length, IfOk, OnOk};
+ghost use Rattle.std.specs.Prelude.{◌≡◌, ◌+◌, ◌<◌, ◌≤◌, ◌++◌, ◌∷◌, [], ℕ, List, decimal, false, is_err, length, IfOk};
+ghost use Rattle.std.specs.Prelude.{OnOk};
 ghost use Rattle.lis_frame.specs.Limit.{IsLimit};
 ghost use Rattle.lis_frame.specs.Scanner.{StandsFor};
 ghost use Rattle.lis_frame.specs.Stream.{signal_after, signals_after, stream_with, with_signal};
 ghost use Rattle.lis_capture.specs.declared.page.TheConstants.{PAGE_ROOM};
 ghost use Rattle.lis_tool.specs.Output.{Gathered, most_counted, out};
-ghost use Rattle.lis_tool.specs.Runs.{IsFresh, Ran, Shown, Stops};
-ghost use Rattle.lis_tool.specs.Show.{bad_line, digits_part, frame_line, frame_start, heard_line, lent_line, Shows, show, signal_lines};
+ghost use Rattle.lis_tool.specs.Runs.{EachGave, IsFresh, Ran, Shown, Stops};
+ghost use Rattle.lis_tool.specs.Show.{bad_line, digits_part, frame_line, frame_start, heard_line, lent_line, Shows};
+ghost use Rattle.lis_tool.specs.Show.{show, signal_lines};
 ghost use Rattle.lis_tool.specs.Outcome.{going};
 ghost use Rattle.std.proofs.Common.{ap};
 
@@ -36,9 +38,13 @@ pub fn run_show_of<const N: usize, R: Source, W: Sink>(
 ) -> Result<Report, ToolFault>
     requires limit { IsLimit N }
     requires fresh { IsFresh (R.made source.old) (R.ended source.old) (R.failed source.old) (W.failed sink.old) }
-    ensures ran { Ran false (Shows N) (R.left source.old) (R.left source.new) (W.taken sink.old) (W.taken sink.new) (R.ended source.new) result }
-    ensures stops { Stops false result (R.left source.new) (R.ended source.new) (R.failed source.new) (R.made source.new) (W.taken sink.new) (W.sent sink.new) (W.failed sink.new) reads }
-    ensures shown { Shown (show N) (R.left source.old) (R.left source.new) (W.taken sink.old) (W.taken sink.new) result }
+    ensures ran { Ran false (Shows N) (R.left source.old) (R.left source.new) (W.taken sink.old) (W.taken sink.new)
+        (R.ended source.new) result }
+    ensures stops { Stops false result (R.left source.new) (R.ended source.new) (R.failed source.new)
+        (R.made source.new) (W.taken sink.new) (W.sent sink.new) (W.failed sink.new) reads }
+    ensures each_gave { EachGave (R.left source.old) (R.left source.new) (R.made source.new) }
+    ensures shown { Shown (show N) (R.left source.old) (R.left source.new) (W.taken sink.old) (W.taken sink.new)
+        result }
     ensures status { IfOk result (λ report. report.status ≡ 0) }
 {
     run(Show::<N>::new(), source, sink, reads)
@@ -53,9 +59,13 @@ pub fn run_show<R: Source, W: Sink>(
     reads: u32,
 ) -> Result<Report, ToolFault>
     requires { IsFresh (R.made source.old) (R.ended source.old) (R.failed source.old) (W.failed sink.old) }
-    ensures ran { Ran false (Shows 240) (R.left source.old) (R.left source.new) (W.taken sink.old) (W.taken sink.new) (R.ended source.new) result }
-    ensures stops { Stops false result (R.left source.new) (R.ended source.new) (R.failed source.new) (R.made source.new) (W.taken sink.new) (W.sent sink.new) (W.failed sink.new) reads }
-    ensures shown { Shown (show 240) (R.left source.old) (R.left source.new) (W.taken sink.old) (W.taken sink.new) result }
+    ensures ran { Ran false (Shows 240) (R.left source.old) (R.left source.new) (W.taken sink.old) (W.taken sink.new)
+        (R.ended source.new) result }
+    ensures stops { Stops false result (R.left source.new) (R.ended source.new) (R.failed source.new)
+        (R.made source.new) (W.taken sink.new) (W.sent sink.new) (W.failed sink.new) reads }
+    ensures each_gave { EachGave (R.left source.old) (R.left source.new) (R.made source.new) }
+    ensures shown { Shown (show 240) (R.left source.old) (R.left source.new) (W.taken sink.old) (W.taken sink.new)
+        result }
     ensures status { IfOk result (λ report. report.status ≡ 0) }
 {
     run_show_of::<240, R, W>(source, sink, reads)
@@ -189,7 +199,8 @@ fn gather_heard<W: Sink>(
     heard: &Heard<'_>,
 ) -> Result<u64, ToolFault>
     requires { W.failed sink.old ≡ false }
-    ensures gathered { Gathered (out (W.taken sink.old) page.old) (out (W.taken sink.new) page.new) written result (heard_line heard.now) }
+    ensures gathered { Gathered (out (W.taken sink.old) page.old) (out (W.taken sink.new) page.new) written result
+        (heard_line heard.now) }
     ensures failed { W.failed sink.new ≡ is_err result }
 {
     match heard {
@@ -209,7 +220,8 @@ fn gather_lent<W: Sink>(
     frame: Option<LentFrame<'_>>,
 ) -> Result<u64, ToolFault>
     requires { W.failed sink.old ≡ false }
-    ensures gathered { Gathered (out (W.taken sink.old) page.old) (out (W.taken sink.new) page.new) written result (lent_line frame.entry) }
+    ensures gathered { Gathered (out (W.taken sink.old) page.old) (out (W.taken sink.new) page.new) written result
+        (lent_line frame.entry) }
     ensures failed { W.failed sink.new ≡ is_err result }
 {
     match frame {
@@ -226,7 +238,8 @@ fn gather_frame<W: Sink>(
     frame: &LentFrame<'_>,
 ) -> Result<u64, ToolFault>
     requires { W.failed sink.old ≡ false }
-    ensures gathered { Gathered (out (W.taken sink.old) page.old) (out (W.taken sink.new) page.new) written result (frame_line frame.now) }
+    ensures gathered { Gathered (out (W.taken sink.old) page.old) (out (W.taken sink.new) page.new) written result
+        (frame_line frame.now) }
     ensures failed { W.failed sink.new ≡ is_err result }
 {
     let text = frame.text();
@@ -271,7 +284,8 @@ fn gather_bytes<W: Sink>(
     bytes: &[u8],
 ) -> Result<u64, ToolFault>
     requires { W.failed sink.old ≡ false }
-    ensures gathered { Gathered (out (W.taken sink.old) page.old) (out (W.taken sink.new) page.new) written result (digits_part bytes.now) }
+    ensures gathered { Gathered (out (W.taken sink.old) page.old) (out (W.taken sink.new) page.new) written result
+        (digits_part bytes.now) }
     ensures failed { W.failed sink.new ≡ is_err result }
 {
     if bytes.is_empty() {
@@ -308,7 +322,8 @@ fn gather_bad<W: Sink>(
     fault: FrameFault,
 ) -> Result<u64, ToolFault>
     requires { W.failed sink.old ≡ false }
-    ensures gathered { Gathered (out (W.taken sink.old) page.old) (out (W.taken sink.new) page.new) written result (bad_line fault) }
+    ensures gathered { Gathered (out (W.taken sink.old) page.old) (out (W.taken sink.new) page.new) written result
+        (bad_line fault) }
     ensures failed { W.failed sink.new ≡ is_err result }
 {
     match fault {
@@ -328,7 +343,8 @@ fn gather_bad_text<W: Sink>(
     place: usize,
 ) -> Result<u64, ToolFault>
     requires { W.failed sink.old ≡ false }
-    ensures gathered { Gathered (out (W.taken sink.old) page.old) (out (W.taken sink.new) page.new) written result (bad_line (FrameFault.Text place)) }
+    ensures gathered { Gathered (out (W.taken sink.old) page.old) (out (W.taken sink.new) page.new) written result
+        (bad_line (FrameFault.Text place)) }
     ensures failed { W.failed sink.new ≡ is_err result }
 {
     match make_room(sink, page, written, FRAME_ROOM) {

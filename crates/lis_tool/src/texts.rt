@@ -4,7 +4,7 @@ ghost use Rattle.std.specs.Prelude.{◌≡◌, true, IfOk};
 ghost use Rattle.lis_frame.specs.Limit.{IsLimit};
 ghost use Rattle.lis_tool.specs.CaptureRuns.{CaptureRan};
 ghost use Rattle.lis_tool.specs.Replay.{texts_writes};
-ghost use Rattle.lis_tool.specs.Runs.{IsFresh, Stops};
+ghost use Rattle.lis_tool.specs.Runs.{EachGave, IsFresh, Stops};
 
 use crate::fault::ToolFault;
 use crate::lines::Lines;
@@ -26,8 +26,11 @@ pub fn run_texts_of<const N: usize, R: Source, W: Sink>(
 ) -> Result<Report, ToolFault>
     requires limit { IsLimit N }
     requires fresh { IsFresh (R.made source.old) (R.ended source.old) (R.failed source.old) (W.failed sink.old) }
-    ensures ran { CaptureRan true (texts_writes N) (R.left source.old) (R.left source.new) (W.taken sink.old) (W.taken sink.new) (R.ended source.new) result }
-    ensures stops { Stops true result (R.left source.new) (R.ended source.new) (R.failed source.new) (R.made source.new) (W.taken sink.new) (W.sent sink.new) (W.failed sink.new) reads }
+    ensures ran { CaptureRan true (texts_writes N) (R.left source.old) (R.left source.new) (W.taken sink.old)
+        (W.taken sink.new) (R.ended source.new) result }
+    ensures stops { Stops true result (R.left source.new) (R.ended source.new) (R.failed source.new)
+        (R.made source.new) (W.taken sink.new) (W.sent sink.new) (W.failed sink.new) reads }
+    ensures each_gave { EachGave (R.left source.old) (R.left source.new) (R.made source.new) }
     ensures status { IfOk result (λ report. report.status ≡ 0) }
 {
     run(
@@ -48,8 +51,11 @@ pub fn run_texts<R: Source, W: Sink>(
     reads: u32,
 ) -> Result<Report, ToolFault>
     requires { IsFresh (R.made source.old) (R.ended source.old) (R.failed source.old) (W.failed sink.old) }
-    ensures ran { CaptureRan true (texts_writes 240) (R.left source.old) (R.left source.new) (W.taken sink.old) (W.taken sink.new) (R.ended source.new) result }
-    ensures stops { Stops true result (R.left source.new) (R.ended source.new) (R.failed source.new) (R.made source.new) (W.taken sink.new) (W.sent sink.new) (W.failed sink.new) reads }
+    ensures ran { CaptureRan true (texts_writes 240) (R.left source.old) (R.left source.new) (W.taken sink.old)
+        (W.taken sink.new) (R.ended source.new) result }
+    ensures stops { Stops true result (R.left source.new) (R.ended source.new) (R.failed source.new)
+        (R.made source.new) (W.taken sink.new) (W.sent sink.new) (W.failed sink.new) reads }
+    ensures each_gave { EachGave (R.left source.old) (R.left source.new) (R.made source.new) }
     ensures status { IfOk result (λ report. report.status ≡ 0) }
 {
     run_texts_of::<240, R, W>(alloc, source, sink, reads)

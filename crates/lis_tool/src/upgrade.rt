@@ -5,7 +5,7 @@ ghost use Rattle.lis_capture.specs.declared.line.Line.{Line as LineContent};
 ghost use Rattle.lis_capture.specs.Spelling.{line_spelling};
 ghost use Rattle.lis_tool.specs.CaptureRuns.{CaptureRan};
 ghost use Rattle.lis_tool.specs.Output.{Gathered, out};
-ghost use Rattle.lis_tool.specs.Runs.{IsFresh, Stops};
+ghost use Rattle.lis_tool.specs.Runs.{EachGave, IsFresh, Stops};
 ghost use Rattle.lis_tool.specs.Upgrade.{is_begun, opening, upgrade_writes, written_line};
 
 use crate::fault::ToolFault;
@@ -26,8 +26,11 @@ pub fn run_upgrade<R: Source, W: Sink>(
     reads: u32,
 ) -> Result<Report, ToolFault>
     requires { IsFresh (R.made source.old) (R.ended source.old) (R.failed source.old) (W.failed sink.old) }
-    ensures ran { CaptureRan false upgrade_writes (R.left source.old) (R.left source.new) (W.taken sink.old) (W.taken sink.new) (R.ended source.new) result }
-    ensures stops { Stops true result (R.left source.new) (R.ended source.new) (R.failed source.new) (R.made source.new) (W.taken sink.new) (W.sent sink.new) (W.failed sink.new) reads }
+    ensures ran { CaptureRan false upgrade_writes (R.left source.old) (R.left source.new) (W.taken sink.old)
+        (W.taken sink.new) (R.ended source.new) result }
+    ensures stops { Stops true result (R.left source.new) (R.ended source.new) (R.failed source.new)
+        (R.made source.new) (W.taken sink.new) (W.sent sink.new) (W.failed sink.new) reads }
+    ensures each_gave { EachGave (R.left source.old) (R.left source.new) (R.made source.new) }
     ensures status { IfOk result (λ report. report.status ≡ 0) }
 {
     run(Lines::new(Upgrade::new()), source, sink, reads)
@@ -122,7 +125,8 @@ fn gather_line<W: Sink>(
     line: &Line<'_>,
 ) -> Result<u64, ToolFault>
     requires { W.failed sink.old ≡ false }
-    ensures gathered { Gathered (out (W.taken sink.old) page.old) (out (W.taken sink.new) page.new) written result (written_line line.now) }
+    ensures gathered { Gathered (out (W.taken sink.old) page.old) (out (W.taken sink.new) page.new) written result
+        (written_line line.now) }
     ensures failed { W.failed sink.new ≡ is_err result }
 {
     match line {
@@ -140,7 +144,8 @@ fn gather_spelling<W: Sink>(
     line: &Line<'_>,
 ) -> Result<u64, ToolFault>
     requires { W.failed sink.old ≡ false }
-    ensures gathered { Gathered (out (W.taken sink.old) page.old) (out (W.taken sink.new) page.new) written result (line_spelling line.now) }
+    ensures gathered { Gathered (out (W.taken sink.old) page.old) (out (W.taken sink.new) page.new) written result
+        (line_spelling line.now) }
     ensures failed { W.failed sink.new ≡ is_err result }
 {
     match make_room(sink, page, written, LONGEST_SPELLING) {

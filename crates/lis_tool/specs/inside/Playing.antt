@@ -39,27 +39,34 @@ pub record IsHearing
   pub replies_are : account ≡ Lines → collected ≡ replies
   pub texts_are : count ≡ texts
 
--- the same of one that has played these lines, with the count of differences; no line has more than 2,047 bytes, so that
+-- the same of one that has played these lines, with the count of differences; no line has more than 2,047 bytes, so
+-- that
 -- the texts can be counted
 pub record IsPlaying
-    (account : Account) (limit : ℕ) (kept : Kept) (collected : List ℕ) (count differences : ℕ) (lines : List Line) : Type 0 where
+    (account : Account) (limit : ℕ) (kept : Kept) (collected : List ℕ) (count differences : ℕ)
+    (lines : List Line) : Type 0 where
   pub hearing :
       IsHearing account limit kept collected count
       (played limit lines).receiver (played limit lines).replies (text_count limit lines)
   pub differences_are : account ≡ Lines → differences ≡ difference_count limit lines
   pub few : text_count limit lines ≤ 2047 * length lines
 
--- What taking a step of the receiver adds: its reply where replies are compared, one to the count for its text, and what
--- is written for that. Memory is wanted only where it was refused: to the receiver, or to the list of replies, which then
+-- What taking a step of the receiver adds: its reply where replies are compared, one to the count for its text, and
+-- what
+-- is written for that. Memory is wanted only where it was refused: to the receiver, or to the list of replies, which
+-- then
 -- was full (its length had reached its capacity).
 abbrev pub Took :
-    (account : Account) (number : ℕ) (step : Step) (old_replies new_replies : List ℕ) (len capacity : ℕ) (old_texts new_texts : ℕ)
+    (account : Account) (number : ℕ) (step : Step) (old_replies new_replies : List ℕ) (len capacity : ℕ)
+    (old_texts new_texts : ℕ)
     → (old new : Out) (before : ℕ) → Result Turn ToolFault → Type 0
 Took account number step old_replies new_replies len capacity old_texts new_texts old new before (Ok (On after)) =
     (step.note ≢ OutOfMemory) × (account ≡ Lines → new_replies ≡ old_replies ++ option_to_list step.reply)
     × (new_texts ≡ min (old_texts + length (option_to_list step.message)) most_counted)
     × Gathered old new before (Ok after) (text_parts account number (option_to_list step.message))
 Took account number step old_replies new_replies len capacity old_texts new_texts old new before (Ok (Off halt)) =
-    (halt.result ≡ Err faults.OutOfMemory) × (step.note ≢ OutOfMemory → capacity ≤ len) × Gathered old new before (Ok halt.written) []
+    (halt.result ≡ Err faults.OutOfMemory) × (step.note ≢ OutOfMemory → capacity ≤ len)
+    × Gathered old new before (Ok halt.written) []
 Took account number step old_replies new_replies len capacity old_texts new_texts old new before (Err fault) =
-    (step.note ≢ OutOfMemory) × Gathered old new before (Err fault) (text_parts account number (option_to_list step.message))
+    (step.note ≢ OutOfMemory) × Gathered old new before (Err fault)
+    (text_parts account number (option_to_list step.message))

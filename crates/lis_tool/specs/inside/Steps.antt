@@ -22,13 +22,14 @@ Halts takes_memory means text (Err (Write written)) = ⊥
 Halts takes_memory means text (Err TooManyReads) = ⊥
 
 -- the sink failed in a part of the text
-pub record Fails (means : Outcome → Type 0) (old new : Out) (before : ℕ) (text : List ℕ) (fault : ToolFault) : Type 0 where
-  pub outcome : Outcome
-  pub meant : means outcome
-  pub more : List ℕ
-  pub rest : List ℕ
-  pub joined : whole outcome ≡ text ++ more ++ rest
-  pub put : Gathered old new before (Err fault) more
+pub record Fails (means : Outcome → Type 0) (old new : Out) (before : ℕ) (text : List ℕ) (fault : ToolFault) : Type 0
+  where
+    pub outcome : Outcome
+    pub meant : means outcome
+    pub more : List ℕ
+    pub rest : List ℕ
+    pub joined : whole outcome ≡ text ++ more ++ rest
+    pub put : Gathered old new before (Err fault) more
 
 -- so much more text was gathered, and this holds of all of it
 pub record Puts (holds : List ℕ → Type 0) (old new : Out) (before after : ℕ) (text : List ℕ) : Type 0 where
@@ -37,7 +38,8 @@ pub record Puts (holds : List ℕ → Type 0) (old new : Out) (before after : �
   pub behind : holds (text ++ more)
 
 -- a last step
-abbrev pub Ends : (takes_memory : Bool) (means : Outcome → Type 0) → Out → Out → ℕ → List ℕ → Result Halt ToolFault → Type 0
+abbrev pub Ends : (takes_memory : Bool) (means : Outcome → Type 0) → Out → Out → ℕ → List ℕ → Result Halt ToolFault
+    → Type 0
 Ends takes_memory means old new before text (Ok halt) =
     Puts (λ all. Halts takes_memory means all halt.result) old new before halt.written text
 Ends takes_memory means old new before text (Err fault) = Fails means old new before text fault
@@ -54,7 +56,8 @@ abbrev pub Steps :
     → Result Turn ToolFault → Type 0
 Steps refuses takes_memory stands means old new before text (Ok (On after)) = Puts stands old new before after text
 Steps refuses takes_memory stands means old new before text (Ok (Off halt)) =
-    Puts (λ all. Halts takes_memory means all halt.result × IsEarly refuses halt.result) old new before halt.written text
+    Puts (λ all. Halts takes_memory means all halt.result × IsEarly refuses halt.result) old new before halt.written
+    text
 Steps refuses takes_memory stands means old new before text (Err fault) = Fails means old new before text fault
 
 -- the answer of a run that halted so, by whether what went out could not be sent on

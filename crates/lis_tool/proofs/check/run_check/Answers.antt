@@ -8,4 +8,5 @@ returns-clause-ran g c = messages_ran check_writes _ _ _ _ _ c.run.result c.run.
 
 pub returns-clause-status : goal.returns-clause-status
 returns-clause-status g c =
-    messages_status check_writes check_status-few _ _ _ _ _ c.run.result (messages_ran check_writes _ _ _ _ _ c.run.result c.run.ensures.ran)
+    messages_status check_writes check_status-few _ _ _ _ _ c.run.result
+    (messages_ran check_writes _ _ _ _ _ c.run.result c.run.ensures.ran)

@@ -9,6 +9,7 @@ returns-in-Ok-clause-gathered g c =
     let middle = g.W.Sink.taken c.put_page.new.sink in
     let new = g.W.Sink.taken c.put.new.sink in
     rw c.put_page.ensures.empty
-    (gathered_then (out old c.args.page.now) (out middle []) (out new []) c.args.written c.in-Ok.after c.put.result [] c.args.text.now
+    (gathered_then (out old c.args.page.now) (out middle []) (out new []) c.args.written c.in-Ok.after c.put.result []
+    c.args.text.now
     (gathered_out old middle c.args.page.now c.args.written (Ok c.in-Ok.after) c.in-Ok.ensures.put)
     (gathered_put middle new c.in-Ok.after c.put.result c.args.text.now c.put.ensures.put))

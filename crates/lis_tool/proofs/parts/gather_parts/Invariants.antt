@@ -12,5 +12,6 @@ invariant-loop-part g l = record {
   working : g.W.Sink.failed l.sink ≡ false;
   goes_on :
       (new : Out) (r : Result ℕ ToolFault) →
-      Gathered (out (g.W.Sink.taken l.sink) l.page) new l.after r (parts_text (drop l.part-index l.parts)) → Gathered (out (g.W.Sink.taken l.fn.sink) l.fn.page) new l.written r (parts_text l.parts);
+      Gathered (out (g.W.Sink.taken l.sink) l.page) new l.after r (parts_text (drop l.part-index l.parts))
+      → Gathered (out (g.W.Sink.taken l.fn.sink) l.fn.page) new l.written r (parts_text l.parts);
 }

@@ -7,4 +7,5 @@ some_left [] e = cc
 some_left (b ∷ left) e = refl
 
 pub returns-clause-gathered : goal.returns-clause-gathered
-returns-clause-gathered g c = rw (some_left c.args.left.now c.if-is_empty.ensures) at c.gather_difference.ensures.gathered
+returns-clause-gathered g c = rw (some_left c.args.left.now c.if-is_empty.ensures)
+    at c.gather_difference.ensures.gathered

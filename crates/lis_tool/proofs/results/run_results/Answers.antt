@@ -8,4 +8,5 @@ returns-clause-ran g c = messages_ran results_writes _ _ _ _ _ c.run.result c.ru
 
 pub returns-clause-status : goal.returns-clause-status
 returns-clause-status g c =
-    messages_status results_writes (λ messages. omega arith) _ _ _ _ _ c.run.result (messages_ran results_writes _ _ _ _ _ c.run.result c.run.ensures.ran)
+    messages_status results_writes (λ messages. omega arith) _ _ _ _ _ c.run.result
+    (messages_ran results_writes _ _ _ _ _ c.run.result c.run.ensures.ran)

@@ -24,13 +24,16 @@ pub returns-in-Ok-clause-gathered : goal.returns-in-Ok-clause-gathered
 returns-in-Ok-clause-gathered g c =
     let some : length c.args.bytes.now ≡ 0 → ⊥ = grind (arith, nat_tests, c.if-is_empty.false, c.is_empty.ensures) in
     rw (some_digits c.args.bytes.now some)
-    (gathered_then (out (g.W.Sink.taken c.args.sink.now) c.args.page.now) (out (g.W.Sink.taken c.gather.new.sink) c.gather.new.page)
-    (out (g.W.Sink.taken c.gather_digits.new.sink) c.gather_digits.new.page) c.args.written c.in-Ok.after c.gather_digits.result (codes " ")
+    (gathered_then (out (g.W.Sink.taken c.args.sink.now) c.args.page.now)
+    (out (g.W.Sink.taken c.gather.new.sink) c.gather.new.page)
+    (out (g.W.Sink.taken c.gather_digits.new.sink) c.gather_digits.new.page) c.args.written c.in-Ok.after
+    c.gather_digits.result (codes " ")
     (encode_lower c.args.bytes.now) c.in-Ok.ensures.gathered c.gather_digits.ensures.gathered)
 
 pub returns-in-Err-clause-gathered : goal.returns-in-Err-clause-gathered
 returns-in-Err-clause-gathered g c =
     let some : length c.args.bytes.now ≡ 0 → ⊥ = grind (arith, nat_tests, c.if-is_empty.false, c.is_empty.ensures) in
     rw (some_digits c.args.bytes.now some)
-    (gathered_stops (out (g.W.Sink.taken c.args.sink.now) c.args.page.now) (out (g.W.Sink.taken c.gather.new.sink) c.gather.new.page)
+    (gathered_stops (out (g.W.Sink.taken c.args.sink.now) c.args.page.now)
+    (out (g.W.Sink.taken c.gather.new.sink) c.gather.new.page)
     c.args.written c.in-Err.fault (codes " ") (encode_lower c.args.bytes.now) c.in-Err.ensures.gathered)

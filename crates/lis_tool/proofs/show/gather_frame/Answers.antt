@@ -21,7 +21,8 @@ returns-in-Err-gather_bytes-clause-gathered g c =
     let started = out (g.W.Sink.taken c.gather_start.new.sink) c.gather_start.new.page in
     let there = out (g.W.Sink.taken c.gather_bytes.new.sink) c.gather_bytes.new.page in
     gathered_stops here there c.args.written c.in-Err-gather_bytes.fault (start ++ digits_part frame.text) (codes "\n")
-    (gathered_then here started there c.args.written c.in-Ok.after (Err c.in-Err-gather_bytes.fault) start (digits_part frame.text)
+    (gathered_then here started there c.args.written c.in-Ok.after (Err c.in-Err-gather_bytes.fault) start
+    (digits_part frame.text)
     c.in-Ok.ensures.gathered (rw c.text-text.ensures at c.in-Err-gather_bytes.ensures.gathered))
 
 pub returns-in-Ok-gather_bytes-clause-gathered : goal.returns-in-Ok-gather_bytes-clause-gathered
@@ -32,7 +33,9 @@ returns-in-Ok-gather_bytes-clause-gathered g c =
     let started = out (g.W.Sink.taken c.gather_start.new.sink) c.gather_start.new.page in
     let told = out (g.W.Sink.taken c.gather_bytes.new.sink) c.gather_bytes.new.page in
     let there = out (g.W.Sink.taken c.gather.new.sink) c.gather.new.page in
-    gathered_then here told there c.args.written c.in-Ok-gather_bytes.after c.gather.result (start ++ digits_part frame.text) (codes "\n")
-    (gathered_then here started told c.args.written c.in-Ok.after (Ok c.in-Ok-gather_bytes.after) start (digits_part frame.text) c.in-Ok.ensures.gathered
+    gathered_then here told there c.args.written c.in-Ok-gather_bytes.after c.gather.result
+    (start ++ digits_part frame.text) (codes "\n")
+    (gathered_then here started told c.args.written c.in-Ok.after (Ok c.in-Ok-gather_bytes.after) start
+    (digits_part frame.text) c.in-Ok.ensures.gathered
     (rw c.text-text.ensures at c.in-Ok-gather_bytes.ensures.gathered))
     c.gather.ensures.gathered

@@ -18,15 +18,19 @@ loop-byte-preserved-then-taken-eq0 g c =
           let point = c.loop-byte.invariant.goes_on past stands in
           let byte = c.in-Some.byte.now in
           let left = c.in-Some.left.now in
-          let same : StandsFor g.row.N c.scan-taken.new.self point.0 = rw c.if-taken-eq0.true at (c.scan-taken.ensures.after point.0 point.1) in (
+          let same : StandsFor g.row.N c.scan-taken.new.self point.0 =
+          rw c.if-taken-eq0.true at (c.scan-taken.ensures.after point.0 point.1) in (
             byte ∷ point.0,
             c.in_ok-after.ensures.stands point.0 same,
             rw split at point.2,
             λ new r p.
                 (rw split at point.3) new r
-                (rw (signal_lines-with (signal_after g.row.N point.0 byte) (signals_after g.row.N (byte ∷ point.0) left))
-                (gathered_then _ _ _ _ c.in_ok-after.after r (signal_lines (with_signal (signal_after g.row.N point.0 byte) []))
-                (signal_lines (signals_after g.row.N (byte ∷ point.0) left)) (c.in_ok-after.ensures.gathered point.0 same) p)),
+                (rw (signal_lines-with (signal_after g.row.N point.0 byte)
+                (signals_after g.row.N (byte ∷ point.0) left))
+                (gathered_then _ _ _ _ c.in_ok-after.after r (signal_lines
+                (with_signal (signal_after g.row.N point.0 byte) []))
+                (signal_lines (signals_after g.row.N (byte ∷ point.0) left))
+                (c.in_ok-after.ensures.gathered point.0 same) p)),
           );
     }
 
@@ -47,7 +51,8 @@ loop-byte-preserved g c =
             λ new r p.
                 point.3 new r
                 (rw (front_lines g.row.N n point.0 rest frame (c.scan-taken.ensures.signal point.0 point.1))
-                (gathered_then _ _ _ _ c.in_ok-after-2.after r (lent_line frame) (signal_lines (signals_after g.row.N there (drop n rest)))
+                (gathered_then _ _ _ _ c.in_ok-after-2.after r (lent_line frame)
+                (signal_lines (signals_after g.row.N there (drop n rest)))
                 c.in_ok-after-2.ensures.gathered (rw c.split_at.ensures.back at p))),
           );
     }
@@ -59,13 +64,16 @@ returns-in_err-after-clause-gathered g c = λ past stands.
     let split = c.in-Some.ensures.cases.0 in
     let byte = c.in-Some.byte.now in
     let left = c.in-Some.left.now in
-    let same : StandsFor g.row.N c.scan-taken.new.self point.0 = rw c.if-taken-eq0.true at (c.scan-taken.ensures.after point.0 point.1) in
+    let same : StandsFor g.row.N c.scan-taken.new.self point.0 =
+    rw c.if-taken-eq0.true at (c.scan-taken.ensures.after point.0 point.1) in
     let there = out (g.W.Sink.taken c.show_byte.new.sink) c.show_byte.new.page in
     rw (p.1, p.2)
     ((rw split at point.3) there (Err c.in_err-after.field-0.0)
     (rw (signal_lines-with (signal_after g.row.N point.0 byte) (signals_after g.row.N (byte ∷ point.0) left))
-    (gathered_stops (out (g.W.Sink.taken c.loop-byte.sink) c.loop-byte.page) there c.loop-byte.after c.in_err-after.field-0.0
-    (signal_lines (with_signal (signal_after g.row.N point.0 byte) [])) (signal_lines (signals_after g.row.N (byte ∷ point.0) left))
+    (gathered_stops (out (g.W.Sink.taken c.loop-byte.sink) c.loop-byte.page) there c.loop-byte.after
+    c.in_err-after.field-0.0
+    (signal_lines (with_signal (signal_after g.row.N point.0 byte) []))
+    (signal_lines (signals_after g.row.N (byte ∷ point.0) left))
     (c.in_err-after.ensures.gathered point.0 same))))
 
 pub returns-in_err-after-2-clause-gathered : goal.returns-in_err-after-2-clause-gathered
@@ -78,11 +86,13 @@ returns-in_err-after-2-clause-gathered g c = λ past stands.
     rw (p.1, p.2)
     (point.3 (out (g.W.Sink.taken c.gather_lent.new.sink) c.gather_lent.new.page) (Err c.in_err-after-2.field-0.0)
     (rw (front_lines g.row.N n point.0 rest frame (c.scan-taken.ensures.signal point.0 point.1))
-    (gathered_stops (out (g.W.Sink.taken c.loop-byte.sink) c.loop-byte.page) (out (g.W.Sink.taken c.gather_lent.new.sink) c.gather_lent.new.page)
+    (gathered_stops (out (g.W.Sink.taken c.loop-byte.sink) c.loop-byte.page)
+    (out (g.W.Sink.taken c.gather_lent.new.sink) c.gather_lent.new.page)
     c.loop-byte.after c.in_err-after-2.field-0.0 (lent_line frame) _ c.in_err-after-2.ensures.gathered)))
 
 pub returns-clause-gathered : goal.returns-clause-gathered
 returns-clause-gathered g c = λ past stands.
     let point = c.loop-byte.invariant.goes_on past stands in
     point.3 (out (g.W.Sink.taken c.loop-byte.sink) c.loop-byte.page) (Ok c.loop-byte.after)
-    (gathered_none _ c.loop-byte.after _ c.loop-byte.invariant.fits (no_lines g.row.N point.0 c.loop-byte.rest.now c.in_default.ensures.cases))
+    (gathered_none _ c.loop-byte.after _ c.loop-byte.invariant.fits
+    (no_lines g.row.N point.0 c.loop-byte.rest.now c.in_default.ensures.cases))

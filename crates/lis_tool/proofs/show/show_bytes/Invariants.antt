@@ -17,7 +17,8 @@ invariant-loop-byte g l = record {
       (here : List ℕ) × StandsFor g.row.N l.scanner here × (stream_with here l.rest ≡ stream_with past l.bytes)
       × ((new : Out) (r : Result ℕ ToolFault) →
       Gathered (out (g.W.Sink.taken l.sink) l.page) new l.after r (signal_lines (signals_after g.row.N here l.rest)) →
-      Gathered (out (g.W.Sink.taken l.fn.sink) l.fn.page) new l.written r (signal_lines (signals_after g.row.N past l.bytes)));
+      Gathered (out (g.W.Sink.taken l.fn.sink) l.fn.page) new l.written r
+      (signal_lines (signals_after g.row.N past l.bytes)));
 }
 
 abbrev pub decreases-loop-byte : goal.decreases-loop-byte

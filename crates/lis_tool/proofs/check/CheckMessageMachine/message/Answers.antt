@@ -8,10 +8,20 @@ pub returns-clause-gathered : goal.returns-clause-gathered
 returns-clause-gathered g c = λ messages message is counted few.
     let self = c.args.self.now in
     let number : c.saturating_add.result ≡ length messages + 1 =
-    omega (arith, c.saturating_add.ensures, counted, few, messages_few (messages ++ message ∷ []), length-append messages (message ∷ [])) in
-    subst (λ (t : List ℕ). Gathered (out (g.W.Sink.taken c.args.sink.now) c.args.page.now) (out (g.W.Sink.taken c.gather_parts-result.new.sink) c.gather_parts-result.new.page)
+    omega (
+      arith,
+      c.saturating_add.ensures,
+      counted,
+      few,
+      messages_few (messages ++ message ∷ []),
+      length-append
+          messages (message ∷ []),
+    ) in
+    subst (λ (t : List ℕ). Gathered (out (g.W.Sink.taken c.args.sink.now) c.args.page.now)
+    (out (g.W.Sink.taken c.gather_parts-result.new.sink) c.gather_parts-result.new.page)
     c.args.written c.gather_parts-result.result t)
-    (check_text self.records.bytes.items self.findings.bytes.items self.numbering self.found self.told (length messages + 1) messages message is)
+    (check_text self.records.bytes.items self.findings.bytes.items self.numbering self.found self.told
+    (length messages + 1) messages message is)
     (rw (c.as_slice.ensures, c.as_slice-2.ensures, number) at c.gather_parts-result.ensures.gathered)
 
 pub returns-clause-stood : goal.returns-clause-stood
@@ -22,6 +32,7 @@ returns-clause-stood g c = λ messages message is few.
       finding_lines_are = c.clear-2.ensures;
       numbered = c.new-self.ensures;
       found_is = refl;
-      told_is = told_more self.records.bytes.items self.findings.bytes.items self.numbering self.found self.told c.saturating_add-self.result messages message is few
+      told_is = told_more self.records.bytes.items self.findings.bytes.items self.numbering self.found self.told
+          c.saturating_add-self.result messages message is few
           (λ short. omega (arith, short, c.saturating_add-self.ensures));
     }

@@ -9,7 +9,8 @@ returns-in-OutOfMemory-clause-refuses g c = λ messages left bytes text stood co
 pub returns : goal.returns
 returns g c = record {
   refuses = λ messages left bytes text stood counted few text_is stops.
-      refused_by g.C.MessageMachine.writes bytes _ _ c.args.written text messages c.args.fault c.end.result (omega arith) text_is stops
+      refused_by g.C.MessageMachine.writes bytes _ _ c.args.written text messages c.args.fault c.end.result
+      (omega arith) text_is stops
       c.in_default.not-OutOfMemory (c.end.ensures.ends messages left stood counted few);
   failed = c.end.ensures.failed;
 }

@@ -10,10 +10,12 @@ invariant-loop-rest g l = record {
   working : g.W.Sink.failed l.sink ≡ false;
   goes_on :
       (past text : List ℕ)
-      → IsReadingMessages g.C.MessageMachine.writes (g.C.MessageMachine.stands l.fn.self.told.command) l.fn.self.reader l.fn.self.told.count past text
+      → IsReadingMessages g.C.MessageMachine.writes (g.C.MessageMachine.stands l.fn.self.told.command)
+      l.fn.self.reader l.fn.self.told.count past text
       → length past + length l.bytes < 2 ^ 44
       → (done : List ℕ) × (l.bytes ≡ done ++ l.rest)
-      × Puts (IsReadingMessages g.C.MessageMachine.writes (g.C.MessageMachine.stands l.self.told.command) l.self.reader l.self.told.count (past ++ done))
+      × Puts (IsReadingMessages g.C.MessageMachine.writes (g.C.MessageMachine.stands l.self.told.command)
+      l.self.reader l.self.told.count (past ++ done))
       (out (g.W.Sink.taken l.fn.sink) l.fn.page) (out (g.W.Sink.taken l.sink) l.page) l.written l.after text;
 }
 

@@ -31,12 +31,16 @@ loop-rest-preserved g c = record {
   goes_on = λ r collected count hearing few.
       let at = c.loop-rest.invariant.goes_on r collected count hearing few in
       let took = rw c.in-Ok-On.field-0-is at c.in-Ok-On.ensures.took in
-      let some : 0 < length c.loop-rest.rest.now = grind (arith, nat_tests, c.loop-rest-test.true, c.is_empty.ensures) in
+      let some : 0 < length c.loop-rest.rest.now = grind
+      (arith, nat_tests, c.loop-rest-test.true, c.is_empty.ensures) in
       let made = c.bytes-count.ensures.step at.here at.hearing.receiver_is took.0 in
       rw c.split_at.ensures.back
-      (hears_on g.T.Teller.account g.row.N c.args.number _ _ _ _ _ c.args.written c.loop-rest.after r collected count c.loop-rest.rest.now c.args.bytes.now at
-      c.bytes-count.new.self c.bytes-count.result.count c.bytes-count.result.step (c.bytes-count.ensures.count at.here at.hearing.receiver_is) made
-      _ c.in-Ok-On.next c.take.new.self.receiver c.take.new.self.replies.items c.take.new.self.texts c.in-Ok-On.ensures.receiver
+      (hears_on g.T.Teller.account g.row.N c.args.number _ _ _ _ _ c.args.written c.loop-rest.after r collected count
+      c.loop-rest.rest.now c.args.bytes.now at
+      c.bytes-count.new.self c.bytes-count.result.count c.bytes-count.result.step
+      (c.bytes-count.ensures.count at.here at.hearing.receiver_is) made
+      _ c.in-Ok-On.next c.take.new.self.receiver c.take.new.self.replies.items c.take.new.self.texts
+      c.in-Ok-On.ensures.receiver
       (c.bytes-count.ensures.some some) c.bytes-count.ensures.bound few took.1 took.2 took.3);
 }
 
@@ -45,7 +49,8 @@ returns-in-Ok-Off-clause-steps g c = λ r collected count hearing few.
     let at = c.loop-rest.invariant.goes_on r collected count hearing few in
     let took = rw c.in-Ok-Off.field-0-is at c.in-Ok-Off.ensures.took in
     let out =
-    hears_starved g.T.Teller.account g.row.N c.args.number _ _ _ _ _ c.args.written c.loop-rest.after r collected count c.loop-rest.rest.now c.args.bytes.now at
+    hears_starved g.T.Teller.account g.row.N c.args.number _ _ _ _ _ c.args.written c.loop-rest.after r collected
+    count c.loop-rest.rest.now c.args.bytes.now at
     _ c.in-Ok-Off.halt.written took.2 in
     (took.0, refl, out.0, out.1, out.2, out.3)
 
@@ -54,14 +59,17 @@ returns-in-Err-clause-steps g c = λ r collected count hearing few.
     let at = c.loop-rest.invariant.goes_on r collected count hearing few in
     let took = c.in-Err.ensures.took in
     let made = c.bytes-count.ensures.step at.here at.hearing.receiver_is took.0 in
-    hears_failing g.T.Teller.account g.row.N c.args.number _ _ _ _ _ c.args.written c.loop-rest.after r collected count c.loop-rest.rest.now c.args.bytes.now at
-    c.bytes-count.new.self c.bytes-count.result.count c.bytes-count.result.step (c.bytes-count.ensures.count at.here at.hearing.receiver_is) made
+    hears_failing g.T.Teller.account g.row.N c.args.number _ _ _ _ _ c.args.written c.loop-rest.after r collected
+    count c.loop-rest.rest.now c.args.bytes.now at
+    c.bytes-count.new.self c.bytes-count.result.count c.bytes-count.result.step
+    (c.bytes-count.ensures.count at.here at.hearing.receiver_is) made
     (out (g.W.Sink.taken c.take.new.sink) c.take.new.page) c.in-Err.fault took.1
 
 pub returns-clause-steps : goal.returns-clause-steps
 returns-clause-steps g c = λ r collected count hearing few.
     let at = c.loop-rest.invariant.goes_on r collected count hearing few in
-    all_heard g.T.Teller.account g.row.N c.args.number _ _ _ _ _ c.args.written c.loop-rest.after r collected count c.loop-rest.rest.now c.args.bytes.now at
+    all_heard g.T.Teller.account g.row.N c.args.number _ _ _ _ _ c.args.written c.loop-rest.after r collected count
+    c.loop-rest.rest.now c.args.bytes.now at
     (grind (arith, nat_tests, c.loop-rest-test.false, c.is_empty.ensures))
 
 pub loop-rest-smaller : goal.loop-rest-smaller

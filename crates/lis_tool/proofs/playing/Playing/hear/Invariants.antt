@@ -11,8 +11,10 @@ invariant-loop-rest g l = record {
   differences : l.self.differences ≡ l.fn.self.differences;
   goes_on :
       (r : ReceiverState) (collected : List ℕ) (count : ℕ) →
-      IsHearing g.T.Teller.account g.row.N l.fn.self.receiver l.fn.self.replies.items l.fn.self.texts r collected count → count + length l.bytes ≤ 2 ^ 63 →
-      IsHearingOn g.T.Teller.account g.row.N l.number l.self.receiver l.self.replies.items l.self.texts (out (g.W.Sink.taken l.fn.sink) l.fn.page) (out (g.W.Sink.taken l.sink) l.page)
+      IsHearing g.T.Teller.account g.row.N l.fn.self.receiver l.fn.self.replies.items l.fn.self.texts r collected
+      count → count + length l.bytes ≤ 2 ^ 63 →
+      IsHearingOn g.T.Teller.account g.row.N l.number l.self.receiver l.self.replies.items l.self.texts
+      (out (g.W.Sink.taken l.fn.sink) l.fn.page) (out (g.W.Sink.taken l.sink) l.page)
       l.written l.after r collected count l.rest l.bytes;
 }
 

@@ -10,5 +10,11 @@ returns-clause-ends g c = λ past text stood few.
     record {
       more = [];
       put = gathered_nothing _ c.args.written fits;
-      behind = (record { text = show g.row.N past; closing = []; halt = Some (Ok clean) }, refl, refl, ap (λ l. l ++ []) (sym stood.0));
+      behind = (
+        record { text = show g.row.N past; closing = []; halt = Some (Ok clean) },
+        refl,
+        refl,
+        ap
+            (λ l. l ++ []) (sym stood.0),
+      );
     }
