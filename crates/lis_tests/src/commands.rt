@@ -1,4 +1,5 @@
-//! What no contract, no conformance row and no test of the program says: reads and flushes in their order, words, and the
+//! What no contract, no conformance row and no test of the program says: reads and flushes in their order, words, and
+//! the
 //! texts of faults.
 
 use lis_port::{Buffered, Cut, Faltering, Reading, Slow, Source, Then, Writing};

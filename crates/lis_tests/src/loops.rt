@@ -5,6 +5,7 @@ ghost use Rattle.std.specs.Prelude.{None};
 use lis_link::{Outcome, Receiver};
 use lis_port::Slow;
 use lis_text::{ACK, ENQ, EOT, LinkText, NAK, Texts};
+use lis_tool::ToolFault;
 use std::alloc::Global;
 use std::test::Fail;
 use uses::analyzer::send_texts;
@@ -36,7 +37,8 @@ impl<'a> Scripted<'a> {
     }
 }
 
-// Its deeds are not known, so the contracts say nothing of it: the tests look at what it sent and which timers it started.
+// Its deeds are not known, so the contracts say nothing of it: the tests look at what it sent and which timers it
+// started.
 impl Line for Scripted<'_> {
     ghost deeds = { λ _. None };
 
@@ -138,4 +140,9 @@ fn a_capture_is_checked(rt: HostRuntime) {
     assert_eq!(rt; is_as_played(rt.alloc(), session), Ok(true));
     let refused = b"> 05\n< 06\n> 0231410337350d0a\n< 15\n> 04\n";
     assert_eq!(rt; is_as_played(rt.alloc(), refused), Ok(false));
+    let unread = b"> 05\n< 06\n> 0\n< 06\n";
+    assert_eq!(rt;
+        is_as_played(rt.alloc(), unread),
+        Err(ToolFault::CaptureLine { line: 3 })
+    );
 }

@@ -1,6 +1,7 @@
 mod BuildingLaws
 mod DefinitionRows
 mod LoopLaws
+mod PlayedLaws
 mod ReadingLaws
 mod ReceptionLaws
 mod SessionLaws
