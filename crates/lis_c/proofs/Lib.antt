@@ -1,4 +1,5 @@
 pub mod FeedLaws
+pub mod HandleLaws
+pub mod Handles
 pub mod RecordLaws
-pub mod Steps
 pub mod StepLaws

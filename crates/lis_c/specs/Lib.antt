@@ -2,7 +2,6 @@
 pub mod Codes
 pub mod Emitted
 pub mod Feeding
-pub mod Lending
 pub mod New
 pub mod Reading
 pub mod Records

@@ -11,47 +11,37 @@ use Rattle.lis_link.specs.Receiver.{new_receiver}
 use Rattle.lis_link.specs.Sender.{new_sender}
 use Rattle.lis_link.specs.inside.Stands.{IsIn}
 use Rattle.lis_message.specs.Records.{HasLeft}
-use Rattle.lis_c.specs.declared.desk.ReaderDesk.{ReaderDesk}
 use Rattle.lis_field.specs.Delimiters.{usual}
-use Rattle.lis_c.specs.declared.draft.WriterDesk.{WriterDesk}
 use Rattle.lis_c.specs.contracts.draft.WriterDesk as writer_desk
-use Rattle.lis_c.specs.declared.desk.ScannerDesk.{ScannerDesk}
-use Rattle.lis_c.specs.declared.desk.SenderDesk.{SenderDesk}
-use Rattle.lis_c.specs.declared.desk.ReceiverDesk.{ReceiverDesk}
 use Rattle.lis_c.specs.contracts.desk.ReaderDesk as reader_desk
 use Rattle.lis_c.specs.contracts.desk.ScannerDesk as scanner_desk
 use Rattle.lis_c.specs.contracts.desk.SenderDesk as sender_desk
 use Rattle.lis_c.specs.contracts.desk.ReceiverDesk as receiver_desk
 
+-- a value in a block, of which this holds
+abbrev pub IsNew : (T : RattleType) → (T.Denot → Type 0) → Ptr → Fml
+IsNew T P p = fex ((d : T.Denot) × P d) (λ d. lies_at T full_share p d.0)
+
 -- a desk with a scanner that has read no byte
 abbrev pub IsNewScanner : Ptr → Fml
-IsNewScanner p =
-    fex ((d : ScannerDesk) × StandsFor 240 d.scanner [])
-    (λ d. lies_at scanner_desk.the_row full_share p d.0)
+IsNewScanner = IsNew scanner_desk.the_row (λ d. StandsFor 240 d.scanner [])
 
 -- a desk with a sender that was never started, and no text
 abbrev pub IsNewSender : Ptr → Fml
-IsNewSender p =
-    fex ((d : SenderDesk) × (d.sender ≡ new_sender) × (d.texts ≡ []))
-    (λ d. lies_at sender_desk.the_row full_share p d.0)
+IsNewSender = IsNew sender_desk.the_row (λ d. (d.sender ≡ new_sender) × (d.texts ≡ []))
 
 -- a desk with a new receiver, and no text
 abbrev pub IsNewReceiver : Ptr → Fml
-IsNewReceiver p =
-    fex ((d : ReceiverDesk) × IsIn 240 d.receiver new_receiver × (d.text ≡ []))
-    (λ d. lies_at receiver_desk.the_row full_share p d.0)
+IsNewReceiver = IsNew receiver_desk.the_row (λ d. IsIn 240 d.receiver new_receiver × (d.text ≡ []))
 
 -- a desk with a reader at the start of a stream
 abbrev pub IsNewReader : Ptr → Fml
-IsNewReader p =
-    fex ((d : ReaderDesk) × HasLeft d.reader None)
-    (λ d. lies_at reader_desk.the_row full_share p d.0)
+IsNewReader = IsNew reader_desk.the_row (λ d. HasLeft d.reader None)
 
 -- a desk outside a message with the usual delimiters, and no text
 abbrev pub IsNewWriter : Ptr → Fml
-IsNewWriter p =
-    fex ((d : WriterDesk) × (d.delimiters ≡ usual) × (d.standing ≡ None) × (d.draft ≡ None) × (d.texts ≡ []))
-    (λ d. lies_at writer_desk.the_row full_share p d.0)
+IsNewWriter = IsNew writer_desk.the_row (λ d. (d.delimiters ≡ usual) × (d.standing ≡ None) × (d.draft ≡ None)
+    × (d.texts ≡ []))
 
 abbrev pub type_align : RattleType → ℕ
 type_align R = align (lone R.mir)

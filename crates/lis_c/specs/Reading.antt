@@ -1,5 +1,6 @@
 -- What C is told of the records of a stream.
-use Rattle.std.specs.Prelude.{◌≡◌, ℕ, ◌-◌, ◌==◌, List, Option, None, Some, Result, Ok, Err, if◌then◌else◌, length, position, take}
+use Rattle.std.specs.Prelude.{◌≡◌, ℕ, ◌-◌, ◌==◌, List, Option, None, Some, Result, Ok, Err, if◌then◌else◌, length}
+use Rattle.std.specs.Prelude.{position, take}
 use Rattle.lis_text.specs.Control.{CR}
 use Rattle.lis_field.specs.Kinds.{letter_of}
 use Rattle.lis_field.specs.Shape.{RecordContent}

@@ -23,7 +23,8 @@ use std::alloc::Global;
 use std::marker::Model;
 use std::mem::{align_of, size_of};
 
-/// What reading on found: 0 nothing, 1 a record, 2 a record that can't be read. A record has its letter in upper case and
+/// What reading on found: 0 nothing, 1 a record, 2 a record that can't be read. A record has its letter in upper case
+/// and
 /// the number of its fields; `lis_reader_part` has its parts until the next read. One that can't be read has its number
 /// in its message, from 1 for a header, the reason, and its detail: the status of a text that is no record with the
 /// place of a byte, or the letter of a record without a parent. All else is 0.
@@ -55,39 +56,23 @@ impl Model for LisReader {
 }
 
 impl LisReader {
-    ghost use Rattle.lis_c.specs.Lending.{LendsReader};
-    ghost use Rattle.lis_c.specs.Reading.{detail_of, nothing, piece_length, place_of, reason_code, told_fault, told_record};
+    ghost use Rattle.lis_c.specs.Reading.{detail_of, nothing, piece_length, place_of, reason_code, told_fault};
+    ghost use Rattle.lis_c.specs.Reading.{told_record};
     ghost use Rattle.lis_c.specs.contracts.desk.ReaderDesk.{the_row as desk_row};
-    ghost use Rattle.std.specs.Borrow.{full_share, sem};
-    ghost use Rattle.std.specs.Ptr.{lies_at, room_at};
-
-    /// Puts a desk into a block, which is then this handle's.
-    unsafe fn place(at: *mut u8, desk: ReaderDesk)
-        requires* { sem 𝓛 (room_at desk_row at) }
-        ensures* { sem 𝓛 (lies_at desk_row full_share at desk) }
-    {
-        (at as *mut ReaderDesk).write(desk);
-    }
-
-    /// Takes what lies behind the pointer; the block is room again.
-    fn take(self) -> ReaderDesk
-        ensures* room { sem 𝓛 (room_at desk_row self.at) }
-        ensures value { result ≡ self.state }
-    {
-        let LisReader { at } = self;
-        unsafe { (at as *mut ReaderDesk).read() }
-    }
+    ghost use Rattle.lis_c.specs.contracts.reader.LisReader.{the_row};
+    ghost use Rattle.std.specs.Borrow.{Lends, sem};
 
     /// What lies behind the pointer.
     fn lend(&mut self) -> &mut ReaderDesk
-        ensures* writes_back { sem 𝓛 (LendsReader self.entry result) }
+        ensures* writes_back { sem 𝓛 (Lends the_row desk_row self.entry result (λ w. record self.old { state = w })) }
         ensures value { result.now ≡ self.old.state }
     {
         unsafe { &mut *(self.at as *mut ReaderDesk) }
     }
 }
 
-/// Reads on: the bytes before the first CR, or a CR that stands first, which ends a record; answers how many it read. Of
+/// Reads on: the bytes before the first CR, or a CR that stands first, which ends a record; answers how many it read.
+/// Of
 /// bytes in which a record is refused none count as read, and the reader then gives that fault for good. Memory may be
 /// refused for bytes that are held, which is told as a fault too.
 #[unsafe(no_mangle)]
@@ -163,7 +148,8 @@ impl ReaderDesk {
 pub extern "C" fn lis_reader_end(s: LisReader)
     ensures* { sem 𝓛 (room_at desk_row s.at) }
 {
-    let_go_reader(s.take());
+    let LisReader { at } = s;
+    let_go_reader(unsafe { (at as *mut ReaderDesk).read() });
 }
 
 /// Makes a reader at the start of a stream in a block of the caller's.
@@ -172,7 +158,7 @@ pub unsafe extern "C" fn lis_reader_init(alloc: Global, at: *mut u8)
     requires* { sem 𝓛 (room_at desk_row at) }
     ensures* { sem 𝓛 (IsNewReader at) }
 {
-    LisReader::place(at, ReaderDesk::new(alloc));
+    (at as *mut ReaderDesk).write(ReaderDesk::new(alloc));
 }
 
 const READER_SIZE: usize = size_of::<ReaderDesk>();

@@ -40,31 +40,13 @@ impl Model for LisReceiver {
 }
 
 impl LisReceiver {
-    ghost use Rattle.lis_c.specs.Lending.{LendsReceiver};
     ghost use Rattle.lis_c.specs.contracts.desk.ReceiverDesk.{the_row as desk_row};
-    ghost use Rattle.std.specs.Borrow.{full_share, sem};
-    ghost use Rattle.std.specs.Ptr.{lies_at, room_at};
-
-    /// Puts a desk into a block, which is then this handle's.
-    unsafe fn place(at: *mut u8, desk: ReceiverDesk)
-        requires* { sem 𝓛 (room_at desk_row at) }
-        ensures* { sem 𝓛 (lies_at desk_row full_share at desk) }
-    {
-        (at as *mut ReceiverDesk).write(desk);
-    }
-
-    /// Takes what lies behind the pointer; the block is room again.
-    fn take(self) -> ReceiverDesk
-        ensures* room { sem 𝓛 (room_at desk_row self.at) }
-        ensures value { result ≡ self.state }
-    {
-        let LisReceiver { at } = self;
-        unsafe { (at as *mut ReceiverDesk).read() }
-    }
+    ghost use Rattle.lis_c.specs.contracts.receiver.LisReceiver.{the_row};
+    ghost use Rattle.std.specs.Borrow.{Lends, sem};
 
     /// What lies behind the pointer.
     fn lend(&mut self) -> &mut ReceiverDesk
-        ensures* writes_back { sem 𝓛 (LendsReceiver self.entry result) }
+        ensures* writes_back { sem 𝓛 (Lends the_row desk_row self.entry result (λ w. record self.old { state = w })) }
         ensures value { result.now ≡ self.old.state }
     {
         unsafe { &mut *(self.at as *mut ReceiverDesk) }
@@ -258,7 +240,8 @@ impl ReceiverDesk {
 pub extern "C" fn lis_receiver_end(s: LisReceiver)
     ensures* { sem 𝓛 (room_at desk_row s.at) }
 {
-    let_go_receiver(s.take());
+    let LisReceiver { at } = s;
+    let_go_receiver(unsafe { (at as *mut ReceiverDesk).read() });
 }
 
 /// Makes a receiver, neutral and ready, in a block of the caller's.
@@ -267,7 +250,7 @@ pub unsafe extern "C" fn lis_receiver_init(alloc: Global, at: *mut u8)
     requires* { sem 𝓛 (room_at desk_row at) }
     ensures* { sem 𝓛 (IsNewReceiver at) }
 {
-    LisReceiver::place(at, ReceiverDesk::new(alloc));
+    (at as *mut ReceiverDesk).write(ReceiverDesk::new(alloc));
 }
 
 const RECEIVER_SIZE: usize = size_of::<ReceiverDesk>();

@@ -246,7 +246,8 @@ fn part<'a>(
 /// Copies the bytes of symbols to the front of a buffer, and answers how many they are; none where it is too short.
 fn copy_symbols(symbols: LentSymbols<'_>, out: &mut [u8]) -> Option<usize>
     ensures length { length out.new ≡ length out.old }
-    ensures some { IfSome result (λ count. (take count out.new ≡ plain symbols.entry) × (count ≡ length (plain symbols.entry))) }
+    ensures some { IfSome result (λ count. (take count out.new ≡ plain symbols.entry)
+        × (count ≡ length (plain symbols.entry))) }
     ensures none { IfNone result (length out.new < length (plain symbols.entry)) }
 {
     let mut rest = symbols;

@@ -34,31 +34,13 @@ impl Model for LisScanner {
 }
 
 impl LisScanner {
-    ghost use Rattle.lis_c.specs.Lending.{LendsScanner};
     ghost use Rattle.lis_c.specs.contracts.desk.ScannerDesk.{the_row as desk_row};
-    ghost use Rattle.std.specs.Borrow.{full_share, sem};
-    ghost use Rattle.std.specs.Ptr.{lies_at, room_at};
-
-    /// Puts a desk into a block, which is then this handle's.
-    unsafe fn place(at: *mut u8, desk: ScannerDesk)
-        requires* { sem 𝓛 (room_at desk_row at) }
-        ensures* { sem 𝓛 (lies_at desk_row full_share at desk) }
-    {
-        (at as *mut ScannerDesk).write(desk);
-    }
-
-    /// Takes what lies behind the pointer; the block is room again.
-    fn take(self) -> ScannerDesk
-        ensures* room { sem 𝓛 (room_at desk_row self.at) }
-        ensures value { result ≡ self.state }
-    {
-        let LisScanner { at } = self;
-        unsafe { (at as *mut ScannerDesk).read() }
-    }
+    ghost use Rattle.lis_c.specs.contracts.scanner.LisScanner.{the_row};
+    ghost use Rattle.std.specs.Borrow.{Lends, sem};
 
     /// What lies behind the pointer.
     fn lend(&mut self) -> &mut ScannerDesk
-        ensures* writes_back { sem 𝓛 (LendsScanner self.entry result) }
+        ensures* writes_back { sem 𝓛 (Lends the_row desk_row self.entry result (λ w. record self.old { state = w })) }
         ensures value { result.now ≡ self.old.state }
     {
         unsafe { &mut *(self.at as *mut ScannerDesk) }
@@ -96,7 +78,8 @@ pub extern "C" fn lis_scanner_feed(s: &mut LisScanner, bytes: &[u8], out: &mut L
 pub extern "C" fn lis_scanner_end(s: LisScanner)
     ensures* { sem 𝓛 (room_at desk_row s.at) }
 {
-    let_go_scanner(s.take());
+    let LisScanner { at } = s;
+    let_go_scanner(unsafe { (at as *mut ScannerDesk).read() });
 }
 
 /// Makes a scanner that has read no byte in a block of the caller's.
@@ -105,7 +88,7 @@ pub unsafe extern "C" fn lis_scanner_init(alloc: Global, at: *mut u8)
     requires* { sem 𝓛 (room_at desk_row at) }
     ensures* { sem 𝓛 (IsNewScanner at) }
 {
-    LisScanner::place(at, ScannerDesk::new(alloc));
+    (at as *mut ScannerDesk).write(ScannerDesk::new(alloc));
 }
 
 const SCANNER_SIZE: usize = size_of::<ScannerDesk>();

@@ -37,31 +37,13 @@ impl Model for LisSender {
 }
 
 impl LisSender {
-    ghost use Rattle.lis_c.specs.Lending.{LendsSender};
     ghost use Rattle.lis_c.specs.contracts.desk.SenderDesk.{the_row as desk_row};
-    ghost use Rattle.std.specs.Borrow.{full_share, sem};
-    ghost use Rattle.std.specs.Ptr.{lies_at, room_at};
-
-    /// Puts a desk into a block, which is then this handle's.
-    unsafe fn place(at: *mut u8, desk: SenderDesk)
-        requires* { sem 𝓛 (room_at desk_row at) }
-        ensures* { sem 𝓛 (lies_at desk_row full_share at desk) }
-    {
-        (at as *mut SenderDesk).write(desk);
-    }
-
-    /// Takes what lies behind the pointer; the block is room again.
-    fn take(self) -> SenderDesk
-        ensures* room { sem 𝓛 (room_at desk_row self.at) }
-        ensures value { result ≡ self.state }
-    {
-        let LisSender { at } = self;
-        unsafe { (at as *mut SenderDesk).read() }
-    }
+    ghost use Rattle.lis_c.specs.contracts.sender.LisSender.{the_row};
+    ghost use Rattle.std.specs.Borrow.{Lends, sem};
 
     /// What lies behind the pointer.
     fn lend(&mut self) -> &mut SenderDesk
-        ensures* writes_back { sem 𝓛 (LendsSender self.entry result) }
+        ensures* writes_back { sem 𝓛 (Lends the_row desk_row self.entry result (λ w. record self.old { state = w })) }
         ensures value { result.now ≡ self.old.state }
     {
         unsafe { &mut *(self.at as *mut SenderDesk) }
@@ -195,7 +177,8 @@ pub extern "C" fn lis_sender_acknowledged(s: &mut LisSender) -> u64
 pub extern "C" fn lis_sender_end(s: LisSender)
     ensures* { sem 𝓛 (room_at desk_row s.at) }
 {
-    let_go_sender(s.take());
+    let LisSender { at } = s;
+    let_go_sender(unsafe { (at as *mut SenderDesk).read() });
 }
 
 /// Makes a sender that was never started in a block of the caller's.
@@ -204,7 +187,7 @@ pub unsafe extern "C" fn lis_sender_init(alloc: Global, at: *mut u8)
     requires* { sem 𝓛 (room_at desk_row at) }
     ensures* { sem 𝓛 (IsNewSender at) }
 {
-    LisSender::place(at, SenderDesk::new(alloc));
+    (at as *mut SenderDesk).write(SenderDesk::new(alloc));
 }
 
 const SENDER_SIZE: usize = size_of::<SenderDesk>();

@@ -37,31 +37,13 @@ impl Model for LisWriter {
 }
 
 impl LisWriter {
-    ghost use Rattle.lis_c.specs.Lending.{LendsWriter};
     ghost use Rattle.lis_c.specs.contracts.draft.WriterDesk.{the_row as desk_row};
-    ghost use Rattle.std.specs.Borrow.{full_share, sem};
-    ghost use Rattle.std.specs.Ptr.{lies_at, room_at};
-
-    /// Puts a desk into a block, which is then this handle's.
-    unsafe fn place(at: *mut u8, desk: WriterDesk)
-        requires* { sem 𝓛 (room_at desk_row at) }
-        ensures* { sem 𝓛 (lies_at desk_row full_share at desk) }
-    {
-        (at as *mut WriterDesk).write(desk);
-    }
-
-    /// Takes what lies behind the pointer; the block is room again.
-    fn take(self) -> WriterDesk
-        ensures* room { sem 𝓛 (room_at desk_row self.at) }
-        ensures value { result ≡ self.state }
-    {
-        let LisWriter { at } = self;
-        unsafe { (at as *mut WriterDesk).read() }
-    }
+    ghost use Rattle.lis_c.specs.contracts.writer.LisWriter.{the_row};
+    ghost use Rattle.std.specs.Borrow.{Lends, sem};
 
     /// What lies behind the pointer.
     fn lend(&mut self) -> &mut WriterDesk
-        ensures* writes_back { sem 𝓛 (LendsWriter self.entry result) }
+        ensures* writes_back { sem 𝓛 (Lends the_row desk_row self.entry result (λ w. record self.old { state = w })) }
         ensures value { result.now ≡ self.old.state }
     {
         unsafe { &mut *(self.at as *mut WriterDesk) }
@@ -178,7 +160,8 @@ pub extern "C" fn lis_writer_text(
 pub extern "C" fn lis_writer_end(s: LisWriter)
     ensures* { sem 𝓛 (room_at desk_row s.at) }
 {
-    let_go_writer(s.take());
+    let LisWriter { at } = s;
+    let_go_writer(unsafe { (at as *mut WriterDesk).read() });
 }
 
 /// Makes a writer outside a message, with the usual delimiters, in a block of the caller's.
@@ -187,7 +170,7 @@ pub unsafe extern "C" fn lis_writer_init(alloc: Global, at: *mut u8)
     requires* { sem 𝓛 (room_at desk_row at) }
     ensures* { sem 𝓛 (IsNewWriter at) }
 {
-    LisWriter::place(at, WriterDesk::new(alloc));
+    (at as *mut WriterDesk).write(WriterDesk::new(alloc));
 }
 
 const WRITER_SIZE: usize = size_of::<WriterDesk>();

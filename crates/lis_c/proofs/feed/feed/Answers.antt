@@ -38,6 +38,7 @@ loop-count-preserved c =
 
 pub returns-clause-fed : goal.returns-clause-fed
 returns-clause-fed c past stands = record {
-  first = silent_run past c.args.bytes.now c.loop-count.count c.loop-count.invariant.0 (c.loop-count.invariant.1 past stands).0;
+  first = silent_run past c.args.bytes.now c.loop-count.count c.loop-count.invariant.0
+      (c.loop-count.invariant.1 past stands).0;
   all = λ e. omega (arith, c.loop-count.invariant.0, c.loop-count-test.false);
 }

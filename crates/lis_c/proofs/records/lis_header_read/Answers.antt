@@ -7,12 +7,19 @@ use Rattle.lis_c.proofs.records.lis_header_read.Goals as goal
 pub returns-in-Ok-clause-found : goal.returns-in-Ok-clause-found
 returns-in-Ok-clause-found c d content is_d is_record is_h =
     let same =
-    found_is c.lend_header.result c.in-Ok.entry (lent d content) c.in-Ok.is (c.lend_header.ensures.only d content is_d is_record is_h) in (
+    found_is c.lend_header.result c.in-Ok.entry (lent d content) c.in-Ok.is
+    (c.lend_header.ensures.only d content is_d is_record is_h) in (
       subst (λ e. IsTold e.content c.tell.result c.tell.new.out) same c.tell.ensures,
-      rw (c.field-delimiters.ensures.byte, c.repeat-delimiters.ensures, c.component-delimiters.ensures, c.escape-delimiters.ensures)
+      rw (
+        c.field-delimiters.ensures.byte,
+        c.repeat-delimiters.ensures,
+        c.component-delimiters.ensures,
+        c.escape-delimiters.ensures,
+      )
           (c.delimiters-declared.ensures ∙ ap (λ e. e.delimiters) same),
     )
 
 pub returns-in-Err-clause-found : goal.returns-in-Err-clause-found
 returns-in-Err-clause-found c d content is_d is_record is_h =
-    absurd (no_fault c.lend_header.result c.in-Err.fault (lent d content) c.in-Err.is (c.lend_header.ensures.only d content is_d is_record is_h))
+    absurd (no_fault c.lend_header.result c.in-Err.fault (lent d content) c.in-Err.is
+    (c.lend_header.ensures.only d content is_d is_record is_h))

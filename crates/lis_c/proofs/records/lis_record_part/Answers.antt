@@ -10,13 +10,16 @@ returns-in-Ok-clause-part c content is_d is_record not_h =
     let known = c.in-Some.ensures.some in
     let under = subst (λ d. IsRecord d c.args.text.now content) (sym known.0) is_record in
     let same =
-    found_is c.lend_record.result c.in-Ok.entry (lent c.in-Some.known content) c.in-Ok.is (c.lend_record.ensures.only content under not_h) in
+    found_is c.lend_record.result c.in-Ok.entry (lent c.in-Some.known content) c.in-Ok.is
+    (c.lend_record.ensures.only content under not_h) in
     subst
-    (λ e. IsPart (part_at e.content c.args.field c.args.repeat c.args.component) c.copy_part.result c.copy_part.new.out c.copy_part.new.size)
+    (λ e. IsPart (part_at e.content c.args.field c.args.repeat c.args.component) c.copy_part.result
+    c.copy_part.new.out c.copy_part.new.size)
     same c.copy_part.ensures
 
 pub returns-in-Err-clause-part : goal.returns-in-Err-clause-part
 returns-in-Err-clause-part c content is_d is_record not_h =
     let known = c.in-Some.ensures.some in
     let under = subst (λ d. IsRecord d c.args.text.now content) (sym known.0) is_record in
-    absurd (no_fault c.lend_record.result c.in-Err.fault (lent c.in-Some.known content) c.in-Err.is (c.lend_record.ensures.only content under not_h))
+    absurd (no_fault c.lend_record.result c.in-Err.fault (lent c.in-Some.known content) c.in-Err.is
+    (c.lend_record.ensures.only content under not_h))

@@ -10,7 +10,8 @@ returns-in-Ok-clause-found c content is_d is_record not_h =
     let known = c.in-Some.ensures.some in
     let under = subst (λ d. IsRecord d c.args.text.now content) (sym known.0) is_record in
     let same =
-    found_is c.lend_record.result c.in-Ok.entry (lent c.in-Some.known content) c.in-Ok.is (c.lend_record.ensures.only content under not_h) in
+    found_is c.lend_record.result c.in-Ok.entry (lent c.in-Some.known content) c.in-Ok.is
+    (c.lend_record.ensures.only content under not_h) in
     subst
     (λ e. IsTold e.content c.tell.result c.tell.new.out)
     same c.tell.ensures
@@ -19,4 +20,5 @@ pub returns-in-Err-clause-found : goal.returns-in-Err-clause-found
 returns-in-Err-clause-found c content is_d is_record not_h =
     let known = c.in-Some.ensures.some in
     let under = subst (λ d. IsRecord d c.args.text.now content) (sym known.0) is_record in
-    absurd (no_fault c.lend_record.result c.in-Err.fault (lent c.in-Some.known content) c.in-Err.is (c.lend_record.ensures.only content under not_h))
+    absurd (no_fault c.lend_record.result c.in-Err.fault (lent c.in-Some.known content) c.in-Err.is
+    (c.lend_record.ensures.only content under not_h))

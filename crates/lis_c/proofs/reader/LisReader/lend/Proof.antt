@@ -1,62 +1,9 @@
 -- `lend` lends what lies behind the handle's pointer, and the handle follows it.
-use Rattle.lis_c.proofs.Steps.{◌≡◌, ℕ, List, [], ◌∷◌, refl, sym, ap, ◌∙◌, proved, after, Ura, full_share, id⊢, ent, sep, Fml, GName, ftrue, fsep, flft, named, Val, vptr, tables, Logic, sem, ‵, ◌⊛◌, some, later, at_ret, ◌$◌, ◌∵◌, !, qed, done, move, keep, use1, split, split3, join, fsplit, fsplit3, fjoin, fpack, pick, await, rewrite, suffices, frame, group, whole, sub, look_in, enter, of_opd, addr, load, stop, fld, first, blocks, exec, returns, alloc_all, pass_all, free_all, look_at, get, through, sets, sets_last, env, no, shows, part_at, mem, cell_at, Ptr, block_ptr, lies_at, in_a_block, MutRef, mut_vals, mut_Tells, plain, mut_ref_to, nothing, opens, peeks, Struct, shape, to, follows, lends_Part, Stays, walk_of, says, stay_dropped, Goes-spent_ref, ends_at}
-use denote.Memory.{part_of}
-use Rattle.lis_c.specs.declared.reader.LisReader.{LisReader}
-use Rattle.lis_c.specs.contracts.reader.LisReader.lend as f
-use Rattle.lis_c.specs.contracts.reader.LisReader.{the_row as R, the_type}
-use Rattle.lis_c.specs.contracts.desk.ReaderDesk.{the_row as T}
-use Rattle.lis_c.specs.Lending.{with_reader as with_state}
-use Rattle.lis_c.proofs.reader.LisReader.TheLaws.{lowers}
-use Rattle.lis_c.proofs.reader.LisReader.lend.Statement.{statement}
+use Rattle.lis_c.proofs.HandleLaws.{lends}
+use Rattle.lis_c.proofs.Handles.{reader}
 use Rattle.lis_c.proofs.reader.LisReader.lend.Code as code
-
-abbrev stayed : Stays f.ended.signature.params f.ended.kept
-stayed = (stay_dropped (mut_ref_to (0 ∷ []) tt (plain (λ _. R))) no, tt)
-
-module _ {M : Type 1} {𝓤 : Ura M} (𝓛 : Logic 𝓤) (h : LisReader) (b o b' o' : ℕ) (us : List Val) where
-  -- what the handle's fields own, and the handle's own memory
-  abbrev Fields : List Val → Fml
-  Fields vs = (Struct (shape the_type)).own_val (to the_type h) vs
-
-  abbrev Rest : Fml
-  Rest = fsep (Fields us) (cell_at full_share R.mir us b o)
-
-  back : h.at ≡ block_ptr b' o' → (w : T.Denot) → ent 𝓤 (sep 𝓤 (sem 𝓛 ((mem T).own_at w b' o')) (sem 𝓛 Rest)) (sem 𝓛 ((mem R).own_at (with_state h w) b o))
-  unfolding part_of
-  back e w =
-      qed 𝓛 (‵ (part_at T full_share w b' o') ∷ ‵ Rest ∷ []) ∵
-      rewrite ! 0 (λ (p : Ptr). ‵ (lies_at T full_share p w)) (sym e) refl $
-      move ! (1 ∷ []) $ fsplit ! $ move ! (0 ∷ 2 ∷ []) $ fjoin ! $ move ! (1 ∷ 0 ∷ []) $ fjoin ! $
-      fpack ! (List Val) (λ vs. fsep (cell_at full_share R.mir vs b o) (R.own_val (with_state h w) vs)) us $ done !
+use Rattle.lis_c.proofs.reader.LisReader.lend.Statement.{statement}
+use Rattle.lis_c.specs.contracts.reader.LisReader.lend as f
 
 pub lend_spec : {M : Type 1} → statement M
-lend_spec 𝓤 𝓛 𝓜 𝓡 wired =
-    let c = f.clauses 𝓛 𝓜.mem 𝓡.returns in let W = walk_of 𝓛 f.ended stayed c in let 𝓣 = tables 𝓤 𝓛.H 𝓜 𝓡 𝓡.env in
-    proved 𝓛 f.ended stayed c 𝓜 𝓡 (Goes-spent_ref 𝓛 1 (0 ∷ []) tt (plain (λ _. R)), tt)
-    f.Key.name code.function (code.unfolded 𝓤 𝓛.H 𝓜 𝓡 wired)
-    (λ κs. (mut_vals, tt)) (λ κs. (mut_Tells (named 0) κs.0 R, tt)) (λ κs qs bounds a _ are.
-    let κ = κs.0 in let q = qs.0 in let b = a.0.ref_ptr.0 in let o = a.0.ref_ptr.1 in let γ = a.0.ghost_name in let h = a.0.now in let vs = mut_vals a.0 in
-    let y : W.Ghost = ((κs, qs, bounds, a, (vs, tt)), tt) in
-    qed 𝓛 (((‵ (flft κ q) ⊛ ‵ ftrue) ⊛ ‵ ((MutRef (named 0) κ R).own_val a.0 vs) ⊛ ‵ ftrue) ∷ ‵ ftrue ∷ []) ∵
-    split ! $ split ! $ move ! (2 ∷ []) $ split ! $ keep ! (0 ∷ 2 ∷ []) $
-    enter ! _ _ _ _ _ $ alloc_all ! (λ l. pass_all ! refl ((tt, tt), tt) $
-    fsplit3 ! $ move ! (1 ∷ 2 ∷ 3 ∷ []) $ opens ! tt R {h = h} b o (λ us.
-    move ! (1 ∷ []) $ peeks ! R _ (shows 𝓛 R) h us (λ is. fsplit ! $ move ! (1 ∷ []) $
-    in_a_block ! h.at (λ p. lies_at T full_share p h.state) (id⊢ 𝓤 _) (λ b' o' e.
-    let ws = lowers.lowered (record h { at = block_ptr b' o' }) ∷ [] in
-    let word = lowers.val_is h us is ∙ ap (λ (p : Ptr). lowers.lowered (record h { at = p }) ∷ []) e in
-    rewrite ! 2 (λ (vs' : List Val). ‵ (cell_at full_share R.mir vs' b o)) word refl $
-    rewrite ! 1 (λ (vs' : List Val). ‵ (Fields 𝓛 h b o b' o' ws vs')) word refl $
-    -- [the reader; what the fields own; the handle's cell; the open borrow; obs; auth]
-    first ! $ blocks ! $
-    sets ! (of_opd ! (load ! (through ! refl (fld ! refl (stop !))) (look_in ! 2 (sub ! 0 refl (whole !))))) refl (tt, tt) $
-    sets ! (of_opd ! (get ! refl)) refl (tt, tt) $
-    sets_last ! (addr ! (through ! refl (stop !))) refl (tt, tt) $
-    exec ! 𝓣.C 𝓣.Λ (env code.Mir.locals l) (after 1 (code.function).body) (at_ret _ (W.post y)) $
-    sets ! (of_opd ! (get ! refl)) refl (tt, tt) $
-    move ! (1 ∷ 2 ∷ []) $ fjoin ! $ move ! (2 ∷ 3 ∷ 4 ∷ 1 ∷ 0 ∷ []) $ group ! 5 $
-    use1 𝓛 (later (some (λ (δ : GName). ‵ ((MutRef (named 0) κ T).own_val (record { ref_ptr = (b', o'); ghost_name = δ; now = h.state }) (vptr b' o' ∷ [])) ⊛ ‵ (flft κ q) ⊛ ‵ (follows R T γ δ (with_state h)))))
-    (lends_Part 𝓛 R T (with_state h) (named 0) κ q b o b' o' γ (sem 𝓛 (Rest 𝓛 h b o b' o' ws)) (back 𝓛 h b o b' o' ws e) (R.coded.code h) (R.coded.code h) h.state) $ await ! tt $ pick ! (λ δ. split3 ! $
-    returns ! (look_at ! 0 refl) $ free_all ! refl $ keep ! (0 ∷ 1 ∷ 2 ∷ []) $
-    suffices ! _ (ends_at 𝓛 f.ended stayed c y (vptr b' o') (record { ref_ptr = (b', o'); ghost_name = δ; now = h.state }) (tt, tt) (tt, tt)) $
-    nothing ! $ nothing ! $ fjoin ! $ join ! $ nothing ! $ move ! (2 ∷ 0 ∷ []) $ join ! $ join ! $ frame ! $ says ! refl $ done !))))))
+lend_spec 𝓤 𝓛 𝓜 𝓡 wired = lends reader 𝓤 𝓛 𝓜 𝓡 f.Key.name (code.unfolded 𝓤 𝓛.H 𝓜 𝓡 wired)
