@@ -4,7 +4,7 @@ import sys
 
 sys.path.insert(0, os.path.join(os.path.dirname(os.path.dirname(os.path.abspath(__file__))), "examples/python"))
 from lislink import (FrameFault, Kind, LinkError, MessageError, Note, Outcome, Phase, Readiness, Reason,  # noqa: E402
-                     Receiver, Record, Scanner, Sender, Status, Writer, frame_bytes, messages, records)
+                     Reader, Receiver, Record, Scanner, Sender, Status, Writer, frame_bytes, messages, records)
 
 FIRST = bytes.fromhex("0231487c5c5e260d0345350d0a")
 calls = 0
@@ -81,6 +81,16 @@ def of_writer():
         same(writer.texts(), [b"H|\\^&|||analyzer\r", b"P|1\r", b"O|1|S7||^^^GLU\r", b"R|1|^^^GLU|5.4|a&F&b&E&c\r",
                               b"L|1|N\r"])
         same([row.letter for row in records(writer.texts())], ["H", "P", "O", "R", "L"])
+        refused(lambda: writer.start(b"||^&"), Status.BAD_DELIMITERS)
+        refused(lambda: writer.start(b"|"), Status.BAD_DELIMITERS)
+        same(len(writer.texts()), 5)
+        writer.start(b"*!+-")
+        same(writer.texts(), [])
+        writer.record("H", [b"a*b", [b"", b"c-"]])
+        same(writer.texts(), [b"H*!+-*a-F-b*+c-E-\r"])
+        writer.start()
+        writer.record("H", [])
+        same(writer.texts(), [b"H|\\^&\r"])
 
 
 def of_receiver():
@@ -108,10 +118,12 @@ def of_records():
     header = Record(b"H|\\^&|||Analyzer&F&7")
     same((header.letter, header.fields, header.part(5)), ("H", 3, b"Analyzer|7"))
     same((header.part(2), header.part(9)), (None, None))
+    same((header.delimiters, Record(b"H*!+-").delimiters), (b"|\\^&", b"*!+-"))
     result = Record(b"r|1|^^^GLU\\^^^NA|5.4&X0d&&H&x&N&", header)
     same((result.letter, result.fields), ("R", 3))
     same((result.part(3, 0, 3), result.part(3, 1, 3), result.part(3, 2, 0)), (b"GLU", b"NA", None))
     same((result.part(4), result.part(2), result.part(1)), (b"5.4\rx", b"1", None))
+    same(result.delimiters, header.delimiters)
     refused(lambda: Record(b""), Status.NO_RECORD, None, 0)
     refused(lambda: Record(b"P|1"), Status.BAD_LETTER, None, 0)
     refused(lambda: Record(b"H|\\^^"), Status.BAD_DELIMITERS, None, 0)
@@ -123,13 +135,27 @@ def of_records():
          [("H", None), ("P", b"1"), ("O", b"1"), ("H", None), ("P", b"2")])
 
 
-def read_error(pieces):
-    """What a stream is refused for."""
+def error_of(call):
+    """What a call is refused for."""
     try:
-        list(messages(pieces))
+        call()
     except MessageError as error:
         return error.number, error.reason, error.detail, error.place
     return None
+
+
+def read_error(pieces):
+    """What a stream is refused for."""
+    return error_of(lambda: list(messages(pieces)))
+
+
+def of_reader():
+    fault = (2, Reason.NO_PARENT, ord("R"), 0)
+    with Reader() as reader:
+        same([list(reader.feed(piece)) for piece in (b"", b"H|", b"", b"\\^&\r")], [[], [], [], [("H", [])]])
+        for piece in (b"R|1\r", b"", b"L|1\r"):
+            same(error_of(lambda: list(reader.feed(piece))), fault)
+        same(error_of(reader.finish), fault)
 
 
 def of_messages():
@@ -152,6 +178,7 @@ def of_messages():
 
 of_frames()
 of_messages()
+of_reader()
 of_records()
 of_scanner()
 of_sender()

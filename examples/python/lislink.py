@@ -204,6 +204,11 @@ class Record:
             raise LinkError(status, None, told.place)
         self.letter, self.fields = chr(told.letter), told.fields
 
+    @property
+    def delimiters(self) -> bytes:
+        """Those that a header declares, or that the record was read under: field, repeat, component, escape."""
+        return bytes(self._delimiters)
+
     def _whole(self):
         return self._text, len(self._text)
 
@@ -419,17 +424,19 @@ class Reader(_Owner):
         self._room = (ctypes.c_uint8 * self._LONGEST)()
 
     def feed(self, data) -> Iterator[Row]:
-        """The records that further bytes end, in order; MessageError at the first that can't be read."""
-        data, out, place = bytes(data), _Found(), 0
-        while place < len(data):
-            rest = data[place:]
-            place += self._call("read", rest, len(rest), ctypes.byref(out))
+        """The records that further bytes end, in order; MessageError at the first that can't be read, and then at every
+        call, also of no bytes."""
+        rest, out = bytes(data), _Found()
+        while True:
+            rest = rest[self._call("read", rest, len(rest), ctypes.byref(out)):]
             if out.kind == 2:
                 raise MessageError(out.number, out.reason, out.detail, out.place)
             if out.kind == 1:
                 letter = chr(out.letter)
                 first = 3 if letter == "H" else 2
                 yield Row(letter, [self._field(first + number) for number in range(out.fields)])
+            if not rest:
+                return
 
     def finish(self):
         """The end of the stream: MessageError where a message isn't closed, or a record isn't ended."""
@@ -456,6 +463,10 @@ class Writer(_Owner):
     """Writes records by their fields, each bytes or a list of components, as link texts."""
     _kind = "writer"
     _LONGEST = 65537
+
+    def start(self, delimiters=b"|\\^&"):
+        """Lets go of all that was written, and begins with these delimiters: field, repeat, component, escape."""
+        self._check(self._call("start", ctypes.byref(_Delimiters(*delimiters))))
 
     def record(self, letter, fields):
         """Puts a record behind the others; LinkError with the status, and the number of a field at fault as place."""
