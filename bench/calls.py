@@ -1,8 +1,8 @@
 """Times the calls of the crates that lislink doesn't make by themselves, through crates/timed_calls.
 
-The receiver hears a session's bytes at once, 65,536 from each read; MB/s of link bytes, reading them included. A session
-of 1,000 full frames is played event by event; milliseconds of one. Both are medians, and each answer is compared with
-what the input holds.
+The receiver hears a session's bytes at once, 65,536 from each read; MB/s of link bytes, reading them included. Record
+text is read whole, and its messages are made trees; MB/s of it, reading it included. A session of 1,000 full frames is
+played event by event; milliseconds of one. All are medians, and each answer is compared with what the input holds.
 """
 import os
 import statistics
@@ -31,9 +31,9 @@ def seconds(program, words, path, answer):
     return ended
 
 
-def hear(program, path, texts, size, rounds):
-    """MB/s of link bytes."""
-    times = [seconds(program, ["bytes"], path, texts) for _ in range(rounds)]
+def speed(program, word, path, answer, size, rounds):
+    """MB/s of link bytes or of record text."""
+    times = [seconds(program, [word], path, answer) for _ in range(rounds)]
     return size / 1e6 / statistics.median(times)
 
 

@@ -1,11 +1,13 @@
-//! Calls that `lislink` doesn't make by themselves, for the benchmark to time: the receiver's hearing of bytes, and
-//! the playing of events.
+//! Calls that `lislink` doesn't make by themselves, for the benchmark to time: the receiver's hearing of bytes, the
+//! reading of messages as trees, and the playing of events.
 //!
 //!     timed_calls bytes       hears the link bytes of standard input, and tells how many texts were handed out
+//!     timed_calls messages    reads the record text of standard input, and tells how many messages it holds
 //!     timed_calls play 40     plays a session of 1,000 full frames so many times, and tells how many were accepted
 #![tactic(auto)]
 
 use lis_link::{Outcome, Receiver};
+use lis_message::read_messages;
 use lis_text::{LinkText, Texts};
 use lis_world::{Event, Events, play};
 use std::alloc::Global;
@@ -29,9 +31,12 @@ fn main(rt: HostRuntime) -> ExitCode {
     let mut words = words.iter().skip(1).map(String::as_str);
     let told = match (words.next(), words.next()) {
         (Some("bytes"), None) => heard(rt.alloc(), &mut rt.reader()),
+        (Some("messages"), None) => in_messages(rt.alloc(), &mut rt.reader()),
         (Some("play"), Some(rounds)) => played(rt.alloc(), rounds),
         _ => {
-            let _ = eprintln!(rt; "usage: timed_calls bytes | timed_calls play ROUNDS");
+            let _ = eprintln!(rt;
+                "usage: timed_calls bytes | timed_calls messages | timed_calls play ROUNDS"
+            );
             return ExitCode::from(2);
         }
     };
@@ -67,6 +72,17 @@ fn handed_out(receiver: &mut Receiver, bytes: &[u8], texts: u64) -> u64 {
         }
     }
     texts
+}
+
+/// The number of messages in all that is read, each made a tree; none where a read fails or a record is refused.
+fn in_messages<R: Read>(alloc: Global, reader: &mut R) -> Option<u64> {
+    let mut bytes = Vec::new(alloc);
+    reader.read_to_end(&mut bytes).ok()?;
+    let read = read_messages(alloc, bytes.as_slice());
+    if read.fault.is_some() {
+        return None;
+    }
+    Some(read.messages.len() as u64)
 }
 
 /// The number of frames that were accepted in all rounds; none where memory was refused or the number isn't one.
