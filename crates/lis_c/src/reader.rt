@@ -24,10 +24,9 @@ use std::marker::Model;
 use std::mem::{align_of, size_of};
 
 /// What reading on found: 0 nothing, 1 a record, 2 a record that can't be read. A record has its letter in upper case
-/// and
-/// the number of its fields; `lis_reader_part` has its parts until the next read. One that can't be read has its number
-/// in its message, from 1 for a header, the reason, and its detail: the status of a text that is no record with the
-/// place of a byte, or the letter of a record without a parent. All else is 0.
+/// and the number of its fields; `lis_reader_part` has its parts until the next read. One that can't be read has its
+/// number in its message, from 1 for a header, the reason, and its detail: the status of a text that is no record
+/// with the place of a byte, or the letter of a record without a parent. All else is 0.
 #[repr(C)]
 #[derive(Drop)]
 pub struct LisFound {
@@ -72,9 +71,8 @@ impl LisReader {
 }
 
 /// Reads on: the bytes before the first CR, or a CR that stands first, which ends a record; answers how many it read.
-/// Of
-/// bytes in which a record is refused none count as read, and the reader then gives that fault for good. Memory may be
-/// refused for bytes that are held, which is told as a fault too.
+/// Of bytes in which a record is refused none count as read, and the reader then gives that fault for good. Memory
+/// may be refused for bytes that are held, which is told as a fault too.
 #[unsafe(no_mangle)]
 pub extern "C" fn lis_reader_read(s: &mut LisReader, bytes: &[u8], out: &mut LisFound) -> usize
     ensures { (left : Option Begun) → HasLeft s.old.state.reader left →

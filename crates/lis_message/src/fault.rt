@@ -15,8 +15,7 @@ pub struct MessageWriteFault {
 
 impl MessageWriteFault {
     /// Where `write_message_from` writes on behind a sink that failed: the place of the record, and how many bytes of
-    /// it
-    /// are out. None where no sink failed, or the place is the greatest number.
+    /// it are out. None where no sink failed, or the place is the greatest number.
     pub fn resume(&self) -> Option<(u64, u64)>
         ensures { MatchOption result
             (self.now.place < 18446744073709551615 → (count : ℕ) → self.now.fault ≢ write_faults.Io count)

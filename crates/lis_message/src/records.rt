@@ -373,10 +373,8 @@ impl RecordReader {
     }
 
     /// Reads the next record where it stands whole in the bytes and nothing is held, and answers it and the bytes
-    /// behind;
-    /// none where that isn't so, or it is refused, and then the reader is as it was: `read` tells what there is. What
-    /// it
-    /// reads is what `read` does, in less time.
+    /// behind; none where that isn't so, or it is refused, and then the reader is as it was: `read` tells what there
+    /// is. What it reads is what `read` does, in less time.
     #[inline(always)]
     pub fn read_whole<'a>(&mut self, bytes: &'a [u8]) -> Option<(LentRecord<'a>, &'a [u8])>
         ensures read { IfSome result (λ found. (left : Option Begun) → HasLeft self.old left

@@ -228,8 +228,7 @@ impl<'a> LentFields<'a> {
     }
 
     /// Takes so many fields as they stand, with the delimiters between them, in one pass; none where there are fewer,
-    /// or
-    /// where an escape byte is among them, and then all are left. At least one is asked for.
+    /// or where an escape byte is among them, and then all are left. At least one is asked for.
     #[inline(always)]
     pub fn take_plain(&mut self, count: usize) -> Option<&'a [u8]>
         requires { 0 < count }

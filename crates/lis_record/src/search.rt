@@ -47,8 +47,7 @@ impl ByteSet for BadBytes {
 }
 
 /// The place of the first byte that no record may hold, from 0. A CR is such a byte, so that one search finds the end
-/// of
-/// a record and tests its text.
+/// of a record and tests its text.
 #[inline(always)]
 pub fn first_bad_byte(bytes: &[u8]) -> Option<usize>
     ensures place { result ≡ bad_byte_place bytes.now }

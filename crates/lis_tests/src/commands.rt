@@ -1,6 +1,5 @@
 //! What no contract, no conformance row and no test of the program says: reads and flushes in their order, words, and
-//! the
-//! texts of faults.
+//! the texts of faults.
 
 use lis_port::{Buffered, Cut, Faltering, Reading, Slow, Source, Then, Writing};
 use lis_tool::{Command, Report, ToolFault, command, run_show};

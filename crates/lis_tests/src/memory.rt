@@ -1,6 +1,6 @@
-//! Lists to which memory is refused. Each test passes with memory, and where any one growth is refused: what is refused
-//! comes back, the list is as before, and the same call again is answered in full. `tests/refusals` refuses each
-//! growth.
+//! Lists to which memory is refused. Each test passes with memory, and where any one growth is refused: what is
+//! refused comes back, the list is as before, and the same call again is answered in full. `tests/refusals` refuses
+//! each growth.
 
 use lis_field::*;
 use lis_text::*;

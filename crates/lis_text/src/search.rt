@@ -52,8 +52,7 @@ fn first_by_one<S: ByteSet>(bytes: &[u8]) -> Option<usize>
 }
 
 /// The place of the first byte that is in the set, from 0, and the sum modulo 256 of the bytes before it; where none
-/// is,
-/// that of all. Both come of one pass over the bytes.
+/// is, that of all. Both come of one pass over the bytes.
 pub fn first_and_sum<S: ByteSet>(bytes: &[u8]) -> (Option<usize>, u8)
     ensures first { result.0 ≡ position_from S.member 0 bytes.now }
     ensures sum { result.1 ≡ sum (take (unwrap_or result.0 (length bytes.now)) bytes.now) % 256 }

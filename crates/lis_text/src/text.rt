@@ -52,8 +52,7 @@ pub fn first_forbidden(bytes: &[u8]) -> Option<usize>
 }
 
 /// The place of the first byte that no text may hold, from 0, and the sum modulo 256 of the bytes before it; where
-/// there
-/// is none, that of all (LIS01-A2, 6.3.1 and 6.5).
+/// there is none, that of all (LIS01-A2, 6.3.1 and 6.5).
 pub fn text_and_sum(bytes: &[u8]) -> (Option<usize>, u8)
     ensures first { result.0 ≡ first_forbidden bytes.now }
     ensures sum { result.1 ≡ sum (take (unwrap_or result.0 (length bytes.now)) bytes.now) % 256 }

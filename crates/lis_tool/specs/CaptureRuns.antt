@@ -12,13 +12,10 @@ use Rattle.lis_tool.specs.Outcome.{whole}
 use Rattle.lis_tool.specs.Output.{WentOut}
 
 -- A report is answered only where the input was read to its end and no line is refused; then the text of all lines
--- and the closing
--- lines went out. The number of a line is answered only where it is the first that is refused; then the text of the
--- lines
--- before it went out, as it did where the source failed or was read too often, and no line is refused. Where the sink
--- failed as
--- much went out as is told. Memory is wanted only by a command that takes some; then a part of the lines' text went
--- out.
+-- and the closing lines went out. The number of a line is answered only where it is the first that is refused; then
+-- the text of the lines before it went out, as it did where the source failed or was read too often, and no line is
+-- refused. Where the sink failed as much went out as is told. Memory is wanted only by a command that takes some;
+-- then a part of the lines' text went out.
 abbrev pub LineAnswer :
     (takes_memory : Bool) → Writes → Lines → (ended : Bool) → Result Report ToolFault → (old new : Option (List ℕ))
     → Type 0

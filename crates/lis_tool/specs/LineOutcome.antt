@@ -26,8 +26,7 @@ lines_text w [] = []
 lines_text w (line ∷ lines) = lines_text w lines ++ w.line lines line
 
 -- what the lines come to, by whether the next one is refused and whether the input is ended: a refused line stops the
--- run
--- with its number, and else the end of the input does
+-- run with its number, and else the end of the input does
 abbrev pub lines_outcome : Writes → (refused ended : Bool) → List Line → Outcome
 lines_outcome w true ended lines =
     record { text = lines_text w lines; closing = []; halt = Some (Err (CaptureLine (length lines + 1))) }

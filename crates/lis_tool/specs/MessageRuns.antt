@@ -10,9 +10,8 @@ use Rattle.lis_tool.specs.Outcome.{Outcome, whole}
 use Rattle.lis_tool.specs.Output.{WentOut}
 
 -- A report is that of the bytes, and all of their text went out, with the closing lines. Where the source failed or
--- was read
--- too often no record is refused, and the text of the whole messages went out. Where the sink failed as much went out
--- as is told, and where memory was refused a part without the closing lines.
+-- was read too often no record is refused, and the text of the whole messages went out. Where the sink failed as much
+-- went out as is told, and where memory was refused a part without the closing lines.
 abbrev pub MessageAnswer : MessageWrites → List ℕ → (ended : Bool) → Result Report ToolFault
     → (old new : Option (List ℕ)) → Type 0
 MessageAnswer w given ended (Ok report) old new =

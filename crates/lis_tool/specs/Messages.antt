@@ -52,8 +52,7 @@ over w messages fault =
     }
 
 -- What bytes come to. A record of them is refused, behind whole messages. Or they are whole messages and a part of
--- one: that
--- goes on, and is refused where the input ends. Or they are whole messages, and the input ends.
+-- one: that goes on, and is refused where the input ends. Or they are whole messages, and the input ends.
 pub data Reads (w : MessageWrites) (bytes : List ℕ) (ended : Bool) (outcome : Outcome) : Type 0 where
   refused : (messages : List MessageTree) (fault : MessageFault) → IsRefused bytes messages fault
       → outcome ≡ over w messages (Some fault) → Reads w bytes ended outcome

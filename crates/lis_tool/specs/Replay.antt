@@ -1,6 +1,5 @@
 -- What `replay` and `texts` write of a capture: a new receiver hears what the analyzer sent, what it replies is
--- compared with
--- what the computer sent, and the texts that it hands out are told.
+-- compared with what the computer sent, and the texts that it hands out are told.
 use Rattle.std.specs.Prelude.{ℕ, ◌+◌, nat_lt, not, Bool, true, false, List, [], ◌∷◌, ◌++◌, length, codes, decimal}
 use Rattle.std.specs.Prelude.{None, if◌then◌else◌}
 use Rattle.std.specs.List.{flat_map}

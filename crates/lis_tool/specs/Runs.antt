@@ -49,9 +49,8 @@ IsOver true None ended = ended ≡ true
 IsOver true (Some refused) ended = ⊤
 
 -- each ending stands where the last read or write says so: a report where the source told the end or a record is
--- refused,
--- a fault of the source or the sink where that failed, and too many reads where as many were made and none of these
--- stands. A command that writes nothing at the end has no fault of the sink there.
+-- refused, a fault of the source or the sink where that failed, and too many reads where as many were made and none
+-- of these stands. A command that writes nothing at the end has no fault of the sink there.
 abbrev pub Stopped : (refuses closes : Bool) → Result Report ToolFault → Bool → Bool → Bool → ℕ → ℕ → Type 0
 Stopped refuses closes (Ok report) ended source_failed sink_failed made reads =
     IsOver refuses report.refused ended × (source_failed ≡ false) × (sink_failed ≡ false)
@@ -76,8 +75,7 @@ Sent (Err (CaptureLine line)) sent taken = sent ≡ taken
 Sent (Err OutOfMemory) sent taken = sent ≡ taken
 
 -- how a run stops, by what is known of the source and the sink: what the source has left, whether it told the end or
--- failed, and the
--- reads made; what the sink took and sent on, and whether it failed; and the most reads
+-- failed, and the reads made; what the sink took and sent on, and whether it failed; and the most reads
 pub record StopsBy
     (refuses closes : Bool) (result : Result Report ToolFault) (left : Option (List ℕ)) (ended source_failed : Bool)
     (made : ℕ)

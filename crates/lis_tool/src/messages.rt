@@ -193,8 +193,8 @@ impl<C: MessageMachine> Messages<C> {
     }
 
     /// The command takes the next record of these bytes where it stands whole in them, as most do, and answers the
-    /// bytes
-    /// behind it, and the count of the bytes that then went out, none where memory is refused. Else nothing is taken.
+    /// bytes behind it, and the count of the bytes that then went out, none where memory is refused. Else nothing is
+    /// taken.
     #[inline(always)]
     fn take_whole<'a, W: Sink>(
         &mut self,

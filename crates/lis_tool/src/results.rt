@@ -24,10 +24,8 @@ use lis_port::{Sink, Source};
 use std::alloc::{AllocError, Global};
 
 /// Reads record text and writes a line for each result record: field 3 of its order, and its own fields 3 to 7 and 9,
-/// each
-/// by its spelling. The status is 1 where a record is refused, or the end of the input comes before that of a
-/// message; the
-/// lines of the whole messages before it are written.
+/// each by its spelling. The status is 1 where a record is refused, or the end of the input comes before that of a
+/// message; the lines of the whole messages before it are written.
 ///
 /// The source was never read, and neither it nor the sink has failed.
 pub fn run_results<R: Source, W: Sink>(

@@ -40,8 +40,7 @@ pub record IsHearing
   pub texts_are : count ≡ texts
 
 -- the same of one that has played these lines, with the count of differences; no line has more than 2,047 bytes, so
--- that
--- the texts can be counted
+-- that the texts can be counted
 pub record IsPlaying
     (account : Account) (limit : ℕ) (kept : Kept) (collected : List ℕ) (count differences : ℕ)
     (lines : List Line) : Type 0 where
@@ -52,10 +51,8 @@ pub record IsPlaying
   pub few : text_count limit lines ≤ 2047 * length lines
 
 -- What taking a step of the receiver adds: its reply where replies are compared, one to the count for its text, and
--- what
--- is written for that. Memory is wanted only where it was refused: to the receiver, or to the list of replies, which
--- then
--- was full (its length had reached its capacity).
+-- what is written for that. Memory is wanted only where it was refused: to the receiver, or to the list of replies,
+-- which then was full (its length had reached its capacity).
 abbrev pub Took :
     (account : Account) (number : ℕ) (step : Step) (old_replies new_replies : List ℕ) (len capacity : ℕ)
     (old_texts new_texts : ℕ)
