@@ -75,8 +75,8 @@ impl Check {
 impl MessageMachine for Check {
     ghost writes = { check_writes };
 
-    ghost stands = { λ m messages left. IsChecking m.records.bytes.items m.findings.bytes.items m.numbering m.found m.told
-        messages left };
+    ghost stands = { λ m messages left.
+        IsChecking m.records.bytes.items m.findings.bytes.items m.numbering m.found m.told messages left };
 
     #[inline(always)]
     fn record(&mut self, entry: &LentRecord<'_>) -> Result<(), AllocError> {

@@ -68,8 +68,8 @@ pub(crate) fn send_page_before_a_wait<R: Source, W: Sink>(
     written: u64,
 ) -> Result<u64, ToolFault>
     requires { W.failed sink.old ≡ false }
-    ensures gathered { IfOk result (λ after. Gathered (out (W.taken sink.old) page.old) (out (W.taken sink.new) page.new) written
-        (Ok after) []) }
+    ensures gathered { IfOk result (λ after. Gathered (out (W.taken sink.old) page.old)
+        (out (W.taken sink.new) page.new) written (Ok after) []) }
     ensures sent { OnOk result (R.may_wait source.now ≡ true → W.sent sink.new ≡ W.taken sink.new) }
     ensures empty { OnOk result (R.may_wait source.now ≡ true → page.new ≡ []) }
     ensures err { IfErr result (λ fault. PartWentOut (W.taken sink.old) (W.taken sink.new) written fault page.old) }

@@ -269,7 +269,8 @@ impl<C: MessageMachine> Messages<C> {
 impl<C: MessageMachine> Machine for Messages<C> {
     ghost means = { Comes C.writes };
 
-    ghost stands = { λ m bytes text. IsReadingMessages C.writes (C.stands m.told.command) m.reader m.told.count bytes text };
+    ghost stands = { λ m bytes text.
+        IsReadingMessages C.writes (C.stands m.told.command) m.reader m.told.count bytes text };
 
     ghost takes_memory = { true };
 

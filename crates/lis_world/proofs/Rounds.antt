@@ -18,8 +18,8 @@ use Rattle.lis_link.specs.declared.receiver.Note.{Note}
 use Rattle.lis_link.specs.declared.receiver.Note.TheVariants.{Accepted, Duplicate, NoRoom}
 use Rattle.lis_text.specs.LinkText.{longest_text}
 use Rattle.lis_link.specs.Joining.{rest}
-use Rattle.lis_link.specs.Sender.{SenderState, over, gives, ends, sends_first, sends_again, on_accepted, reply_in, on_reply}
-use Rattle.lis_link.specs.Sender.{most_tries}
+use Rattle.lis_link.specs.Sender.{SenderState, over, gives, ends, sends_first, sends_again, on_accepted, reply_in}
+use Rattle.lis_link.specs.Sender.{on_reply, most_tries}
 use Rattle.lis_link.specs.Receiver.{judged, on_judged, heard_by, held_text, most_frames}
 use Rattle.lis_world.specs.declared.event.Event.TheVariants.{Deliver, DeliverNoRoom, Damage, Reply, DamageReply}
 use Rattle.lis_frame.specs.Frame.{frame_bytes}
