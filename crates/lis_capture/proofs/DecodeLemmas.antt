@@ -6,7 +6,7 @@ use Rattle.std.proofs.Common.{Some, Ok}
 use Rattle.std.proofs.Common.{refl, sym, ap, ◌∙◌, arith, length-take, length-drop, take_all, append-nil, slice_set}
 use Rattle.std.specs.Prelude.{if◌then◌else◌, nat_lt}
 use Rattle.std.specs.List.{list_all}
-use Rattle.std.specs.Simd.Lanes.{mask_l, pick_l, put_chunk, sel_l, top, zip2}
+use Rattle.std.specs.Simd.Lanes.{pick_l, put_chunk, top, zip2}
 use Rattle.std.proofs.lemmas.Bool.{and_parts}
 use Rattle.std.proofs.Math.Bool.{and-false, and-true}
 use Rattle.std.proofs.lemmas.List.{drop_all, length-map, take-append-drop, take-take}
@@ -14,11 +14,13 @@ use Rattle.std.proofs.lemmas.List.Folds.{list_all-append}
 use Rattle.std.proofs.lemmas.Slice.{drop-put_mid, take-put_mid}
 use borrow.Rule.Slice.PartMut.{put_mid}
 use Rattle.std.proofs.lemmas.Bool.Decides.{nat_tests}
-use Rattle.std.proofs.lemmas.Simd.{mask_l-mod, pick_l_whole, put_chunk_whole}
+use Rattle.std.proofs.lemmas.Simd.{pick_l_whole, put_chunk_whole}
 use Rattle.std.proofs.Math.Seq.{take-add}
 use Rattle.hex.specs.Hex.{decode_pairs, hex_digit_value, is_hex_digit}
 use Rattle.hex.proofs.HexLemmas.{decode_of-even}
 use Rattle.lis_capture.specs.Digits.{bytes_of, is_value, told_digit}
+use Rattle.lis_capture.proofs.BelowLemmas.{all-greater, all_below, bit_clear, bit_set, bits_fit, bits_over, greater}
+use Rattle.lis_capture.proofs.BelowLemmas.{greater_below, length-greater}
 use Rattle.lis_capture.proofs.DigitsLemmas.{by_value, bytes_of-decoded, bytes_of-other, pair_of_digits, pairs_from_some}
 
 -- ---- the bytes of digits, two by two
@@ -63,12 +65,9 @@ woven_places : (digits : List ℕ) → length digits ≡ 32
     → woven (pick_l 0 digits first_places) (pick_l 0 digits second_places) ≡ digits
 woven_places digits long = pick_l_whole 0 digits 32 long
 
-abbrev pub greater : List ℕ → List ℕ → List ℕ
-greater xs ys = sel_l (map (top 7) (zip2 (λ a b. cond (ltb a b) 255 0) xs ys)) ys xs
-
 -- whether a value is one of no digit, as bits
 abbrev others : ℕ → List ℕ → List ℕ → ℕ
-others n xs ys = mask_l (map (top 7) (zip2 (λ a b. cond (leb a b) 255 0) (replicate n 16) (greater xs ys)))
+others n xs ys = bits_over 16 n (greater xs ys)
 
 abbrev joined : ℕ → List ℕ → List ℕ → List ℕ
 joined n xs ys = zip2 (λ a b. (a + b) % 256) (zip2 (λ a b. a * 2 ^ b % 256) xs (replicate n 4)) ys
@@ -76,20 +75,12 @@ joined n xs ys = zip2 (λ a b. (a + b) % 256) (zip2 (λ a b. a * 2 ^ b % 256) xs
 -- the greater of two is such a value where one of them is
 flag : (v w : ℕ) (a b m : Bool) → nat_lt v 16 ≡ a → nat_lt w 16 ≡ b → ltb v w ≡ m
     → leb 16 (cond (top 7 (cond m 255 0)) w v) ≡ not (a && b)
-flag v w true true true first second more = grind (arith, nat_tests, first, second, more)
-flag v w true true false first second more = grind (arith, nat_tests, first, second, more)
-flag v w true false true first second more = grind (arith, nat_tests, first, second, more)
-flag v w true false false first second more = grind (arith, nat_tests, first, second, more)
-flag v w false true true first second more = grind (arith, nat_tests, first, second, more)
-flag v w false true false first second more = grind (arith, nat_tests, first, second, more)
-flag v w false false true first second more = grind (arith, nat_tests, first, second, more)
-flag v w false false false first second more = grind (arith, nat_tests, first, second, more)
-
-pub bit_clear : (bits : ℕ) → eqb (0 + 2 * bits) 0 ≡ eqb bits 0
-bit_clear bits = grind (arith, nat_tests)
-
-pub bit_set : (bits : ℕ) → eqb (1 + 2 * bits) 0 ≡ false
-bit_set bits = grind (arith, nat_tests)
+flag v w a b m first second more =
+    over (cond (top 7 (cond m 255 0)) w v) (a && b) (greater_below 16 v w a b m first second more)
+  where
+    over : (z : ℕ) (t : Bool) → nat_lt z 16 ≡ t → leb 16 z ≡ not t
+    over z true is = grind (arith, nat_tests, is)
+    over z false is = grind (arith, nat_tests, is)
 
 is_told : (v : ℕ) (a : Bool) → nat_lt v 16 ≡ a → is_some (told_digit v) ≡ a
 is_told v true less = rw less refl
@@ -175,11 +166,6 @@ length-paired n (digit ∷ []) long = absurd (omega arith)
 length-paired zero (high ∷ low ∷ digits) long = absurd (omega arith)
 length-paired (suc n) (high ∷ low ∷ digits) long = ap suc (length-paired n digits (omega arith))
 
-pub zip2_short : {X Y Z : Type 0} (f : X → Y → Z) (xs : List X) (ys : List Y) → length (zip2 f xs ys) ≤ length xs
-zip2_short f [] ys = omega arith
-zip2_short f (x ∷ xs) [] = omega arith
-zip2_short f (x ∷ xs) (y ∷ ys) = omega (arith, zip2_short f xs ys)
-
 -- sixteen bytes are read, or something that is no digit is seen
 read_sixteen :
     (digits bytes vs ws : List ℕ) → length digits ≡ 32 → length bytes ≡ 16
@@ -187,25 +173,15 @@ read_sixteen :
     → map told_digit ws ≡ map hex_digit_value (pick_l 0 digits second_places)
     → bytes_of digits ≡ (if eqb (others 16 vs ws % 2 ^ 64) 0 then Some (put_chunk 0 bytes (joined 16 vs ws)) else None)
 read_sixteen digits bytes vs ws long room first second =
-    let few : others 16 vs ws % 2 ^ 64 ≡ others 16 vs ws =
-    mask_l-mod (map (top 7) tests) 64 (omega (
-      arith,
-      length-map tests (top 7),
-      zip2_short {Z = ℕ}
-          (λ a b. cond (leb a b) 255 0) (replicate 16 16) (greater vs ws),
-    )) in
     let is : list_all is_hex_digit digits ≡ eqb (others 16 vs ws) 0 =
     ap (list_all is_hex_digit) (sym woven_is) ∙ read_all 16 highs lows vs ws refl refl first second in
-    rw few (by (eqb (others 16 vs ws) 0) is)
+    rw (bits_fit 16 (greater vs ws)) (by (eqb (others 16 vs ws) 0) is)
   where
     highs : List ℕ
     highs = pick_l 0 digits first_places
 
     lows : List ℕ
     lows = pick_l 0 digits second_places
-
-    tests : List ℕ
-    tests = zip2 (λ a b. cond (leb a b) 255 0) (replicate 16 16) (greater vs ws)
 
     woven_is : woven highs lows ≡ digits
     woven_is = woven_places digits long
@@ -233,74 +209,16 @@ sixteen_read digits bytes vs ws many room first second =
     read_sixteen (take 32 digits) bytes vs ws (omega (arith, length-take 32 digits)) room (rw all at first)
     (rw all at second)
 
--- a value in a lane, as a bit that is clear
-one_value : (v bits : ℕ) (a rest : Bool) → nat_lt v 16 ≡ a → rest ≡ eqb bits 0
-    → (a && rest) ≡ eqb (cond (top 7 (cond (leb 16 v) 255 0)) 1 0 + 2 * bits) 0
-one_value v bits true rest less is =
-    let low : leb 16 v ≡ false = grind (arith, nat_tests, less) in
-    rw low (is ∙ sym (bit_clear bits))
-one_value v bits false rest less is =
-    let high : leb 16 v ≡ true = grind (arith, nat_tests, less) in
-    rw high (sym (bit_set bits))
-
 -- whether a lane has no value, as bits
 abbrev pub value_bits : ℕ → List ℕ → ℕ
-value_bits n xs = mask_l (map (top 7) (zip2 (λ a b. cond (leb a b) 255 0) (replicate n 16) xs))
-
-all_values : (n : ℕ) (xs : List ℕ) → length xs ≡ n → list_all is_value xs ≡ eqb (value_bits n xs) 0
-all_values zero [] long = refl
-all_values zero (x ∷ xs) long = absurd (omega arith)
-all_values (suc n) [] long = absurd (omega arith)
-all_values (suc n) (x ∷ xs) long =
-    one_value x (value_bits n xs) (nat_lt x 16) (list_all is_value xs) refl (all_values n xs (omega arith))
+value_bits n xs = bits_over 16 n xs
 
 pub all_values_seen : (xs : List ℕ) → length xs ≡ 16 → list_all is_value xs ≡ eqb (value_bits 16 xs % 2 ^ 64) 0
-all_values_seen xs long =
-    let lanes : List ℕ = zip2 (λ a b. cond (leb a b) 255 0) (replicate 16 16) xs in
-    let few : value_bits 16 xs % 2 ^ 64 ≡ value_bits 16 xs =
-    mask_l-mod (map (top 7) lanes) 64 (omega (
-      arith,
-      length-map lanes (top 7),
-      zip2_short {Z = ℕ}
-          (λ a b. cond (leb a b) 255 0) (replicate 16 16) xs,
-    )) in
-    rw few (all_values 16 xs long)
-
-length-greater : (n : ℕ) (xs ys : List ℕ) → length xs ≡ n → length ys ≡ n → length (greater xs ys) ≡ n
-length-greater n [] [] one two = one
-length-greater n [] (y ∷ ys) one two = absurd (omega arith)
-length-greater n (x ∷ xs) [] one two = absurd (omega arith)
-length-greater zero (x ∷ xs) (y ∷ ys) one two = absurd (omega arith)
-length-greater (suc n) (x ∷ xs) (y ∷ ys) one two = ap suc (length-greater n xs ys (omega arith) (omega arith))
-
--- the greater of two is a value where both are
-two_values : (v w : ℕ) (a b m : Bool) → nat_lt v 16 ≡ a → nat_lt w 16 ≡ b → ltb v w ≡ m
-    → nat_lt (cond (top 7 (cond m 255 0)) w v) 16 ≡ (a && b)
-two_values v w true true true first second more = grind (arith, nat_tests, first, second, more)
-two_values v w true true false first second more = grind (arith, nat_tests, first, second, more)
-two_values v w true false true first second more = grind (arith, nat_tests, first, second, more)
-two_values v w true false false first second more = grind (arith, nat_tests, first, second, more)
-two_values v w false true true first second more = grind (arith, nat_tests, first, second, more)
-two_values v w false true false first second more = grind (arith, nat_tests, first, second, more)
-two_values v w false false true first second more = grind (arith, nat_tests, first, second, more)
-two_values v w false false false first second more = grind (arith, nat_tests, first, second, more)
-
-four_and : (a b c d : Bool) → ((a && b) && (c && d)) ≡ ((a && c) && (b && d))
-four_and true true c d = refl
-four_and true false true d = refl
-four_and true false false d = refl
-four_and false b c d = refl
+all_values_seen xs long = rw (bits_fit 16 xs) (all_below is_value 16 (λ x. refl) 16 xs long)
 
 values-greater : (n : ℕ) (xs ys : List ℕ) → length xs ≡ n → length ys ≡ n
     → list_all is_value (greater xs ys) ≡ (list_all is_value xs && list_all is_value ys)
-values-greater n [] [] one two = refl
-values-greater n [] (y ∷ ys) one two = absurd (omega arith)
-values-greater n (x ∷ xs) [] one two = absurd (omega arith)
-values-greater zero (x ∷ xs) (y ∷ ys) one two = absurd (omega arith)
-values-greater (suc n) (x ∷ xs) (y ∷ ys) one two =
-    (λ i. two_values x y (nat_lt x 16) (nat_lt y 16) (ltb x y) refl refl refl i
-    && values-greater n xs ys (omega arith) (omega arith) i)
-    ∙ four_and (nat_lt x 16) (nat_lt y 16) (list_all is_value xs) (list_all is_value ys)
+values-greater = all-greater is_value 16 (λ x. refl)
 
 -- sixteen bytes are read where each of the greater values is one
 pub sixteen_values :

@@ -1,5 +1,5 @@
 -- The values of digits, lane by lane.
-use Rattle.std.proofs.Common.{◌≡◌, ℕ, zero, suc, ◌+◌, ◌-◌, ◌%◌, ◌<◌, ◌==◌, Bool, true, false, cond, ltb, List, [], ◌∷◌}
+use Rattle.std.proofs.Common.{◌≡◌, ℕ, zero, suc, ◌+◌, ◌%◌, ◌<◌, ◌==◌, Bool, true, false, cond, List, [], ◌∷◌}
 use Rattle.std.proofs.Common.{length, map}
 use Rattle.std.proofs.Common.{replicate, bit_and, Option, None, Some, refl, ap, arith}
 use Rattle.std.specs.Simd.Lanes.{Each1, sel_l, top, zip2}
@@ -8,18 +8,13 @@ use mir.Syntax.{w8}
 use mir.Val.{Fits}
 use Rattle.hex.specs.Hex.{hex_digit_value}
 use Rattle.lis_capture.specs.Digits.{told_digit}
+use Rattle.lis_capture.proofs.BelowLemmas.{below, less}
 use Rattle.lis_capture.proofs.DigitsLemmas.{passes, passes_at}
 
 -- ---- the value of a digit, tried at every byte
 
 abbrev plus : ℕ → ℕ → ℕ
 plus a b = (a + b) % 256
-
-abbrev less : ℕ → ℕ → ℕ
-less a b = (a + (256 - b)) % 256
-
-abbrev below : ℕ → ℕ → ℕ
-below a b = cond (ltb a b) 255 0
 
 -- the numbers that the lanes of a vector have: by way of the decimal digits, and of the letters
 abbrev decimals : ℕ → ℕ

@@ -8,6 +8,7 @@ pub mod ReaderLemmas
 pub mod SpellingLemmas
 pub mod VersionLemmas
 mod DefinitionRows
+mod BelowLemmas
 mod DecodeLemmas
 mod FirstByteLemmas
 mod LaneLemmas

@@ -1,12 +1,12 @@
 -- Digits in lower case.
 use Rattle.std.proofs.Common.{◌≡◌, ℕ, zero, suc, ◌+◌, ◌-◌, ◌*◌, ◌/◌, ◌%◌, ◌<◌, ◌≤◌, ◌==◌, ◌&&◌, ◌^◌, Bool, true, false}
-use Rattle.std.proofs.Common.{cond, eqb, leb, ltb, List, [], ◌∷◌, ◌++◌, length, map, take, drop}
+use Rattle.std.proofs.Common.{cond, eqb, ltb, List, [], ◌∷◌, ◌++◌, length, map, take, drop}
 use Rattle.std.proofs.Common.{replicate, bit_or, slice_set, None, Some, unwrap_or, refl, ap, sym, ◌∙◌, arith}
 use Rattle.std.proofs.Common.{length-take, length-drop, take_all, append-nil}
-use Rattle.std.specs.Prelude.{if◌then◌else◌, slice_index}
+use Rattle.std.specs.Prelude.{if◌then◌else◌, nat_lt, slice_index}
 use Rattle.std.specs.List.{list_all}
 use Rattle.std.specs.Option.{option_map}
-use Rattle.std.specs.Simd.Lanes.{Each1, mask_l, sel_l, top, zip2}
+use Rattle.std.specs.Simd.Lanes.{Each1, sel_l, top, zip2}
 use Rattle.std.proofs.lemmas.Bool.{and_parts, eqb-true}
 use Rattle.std.proofs.lemmas.Bool.Decides.{nat_tests}
 use Rattle.std.proofs.lemmas.List.{drop_all, length-map, take-append-drop, take-take}
@@ -20,16 +20,11 @@ use mir.Val.{Fits}
 use Rattle.hex.specs.Hex.{encode_lower, encode_with, hex_digit_value, is_hex_digit, lower_digits}
 use Rattle.lis_capture.specs.Digits.{bytes_of, is_none_far, lower_case}
 use Rattle.lis_capture.proofs.DigitsLemmas.{by_value, bytes_of-other, digit_passes, passes, passes_at}
-use Rattle.std.proofs.lemmas.Simd.{mask_l-mod}
-use Rattle.lis_capture.proofs.DecodeLemmas.{bit_clear, bit_set, bytes_of-paired, paired, zip2_short}
+use Rattle.lis_capture.proofs.BelowLemmas.{all-greater, all_below, below, bits_fit, bits_over, greater, length-greater}
+use Rattle.lis_capture.proofs.BelowLemmas.{less}
+use Rattle.lis_capture.proofs.DecodeLemmas.{bytes_of-paired, paired}
 
 -- ---- how far a byte is from a digit, tried at every byte
-
-abbrev less : ℕ → ℕ → ℕ
-less a b = (a + (256 - b)) % 256
-
-abbrev below : ℕ → ℕ → ℕ
-below a b = cond (ltb a b) 255 0
 
 abbrev over : ℕ → ℕ → ℕ
 over limit a = less (cond (top 7 (below a limit)) limit a) limit
@@ -80,45 +75,14 @@ all_far_told zero (b ∷ bytes) long fits = absurd (omega arith)
 all_far_told (suc n) (b ∷ bytes) long fits =
     λ i. far_told b fits.0.fits i ∷ all_far_told n bytes (omega arith) fits.1 i
 
--- ---- the greater of two vectors
-
-abbrev pub greater : List ℕ → List ℕ → List ℕ
-greater xs ys = sel_l (map (top 7) (zip2 below xs ys)) ys xs
-
-none_of_two : (x y : ℕ) (a b m : Bool) → (x == 0) ≡ a → (y == 0) ≡ b → ltb x y ≡ m
-    → (cond (top 7 (cond m 255 0)) y x == 0) ≡ (a && b)
-none_of_two x y true true true first second more = grind (arith, nat_tests, first, second, more)
-none_of_two x y true true false first second more = grind (arith, nat_tests, first, second, more)
-none_of_two x y true false true first second more = grind (arith, nat_tests, first, second, more)
-none_of_two x y true false false first second more = grind (arith, nat_tests, first, second, more)
-none_of_two x y false true true first second more = grind (arith, nat_tests, first, second, more)
-none_of_two x y false true false first second more = grind (arith, nat_tests, first, second, more)
-none_of_two x y false false true first second more = grind (arith, nat_tests, first, second, more)
-none_of_two x y false false false first second more = grind (arith, nat_tests, first, second, more)
-
-both_and : (a b c d : Bool) → ((a && b) && (c && d)) ≡ ((a && c) && (b && d))
-both_and true true c d = refl
-both_and true false true d = refl
-both_and true false false d = refl
-both_and false b c d = refl
+-- no step is a number below one
+no_step : (x : ℕ) → nat_lt x 1 ≡ is_none_far x
+no_step zero = refl
+no_step (suc x) = grind (arith, nat_tests)
 
 none_far-greater : (n : ℕ) (xs ys : List ℕ) → length xs ≡ n → length ys ≡ n
     → list_all is_none_far (greater xs ys) ≡ (list_all is_none_far xs && list_all is_none_far ys)
-none_far-greater n [] [] one two = refl
-none_far-greater n [] (y ∷ ys) one two = absurd (omega arith)
-none_far-greater n (x ∷ xs) [] one two = absurd (omega arith)
-none_far-greater zero (x ∷ xs) (y ∷ ys) one two = absurd (omega arith)
-none_far-greater (suc n) (x ∷ xs) (y ∷ ys) one two =
-    (λ i. none_of_two x y (x == 0) (y == 0) (ltb x y) refl refl refl i
-    && none_far-greater n xs ys (omega arith) (omega arith) i)
-    ∙ both_and (x == 0) (y == 0) (list_all is_none_far xs) (list_all is_none_far ys)
-
-length-greater : (n : ℕ) (xs ys : List ℕ) → length xs ≡ n → length ys ≡ n → length (greater xs ys) ≡ n
-length-greater n [] [] one two = one
-length-greater n [] (y ∷ ys) one two = absurd (omega arith)
-length-greater n (x ∷ xs) [] one two = absurd (omega arith)
-length-greater zero (x ∷ xs) (y ∷ ys) one two = absurd (omega arith)
-length-greater (suc n) (x ∷ xs) (y ∷ ys) one two = ap suc (length-greater n xs ys (omega arith) (omega arith))
+none_far-greater = all-greater is_none_far 1 no_step
 
 all_by_map : (p q : ℕ → Bool) (xs ys : List ℕ) → map p xs ≡ map q ys → list_all p xs ≡ list_all q ys
 all_by_map p q [] [] is = refl
@@ -304,26 +268,6 @@ last_written digits out chunk place last k room ends less width written is =
     ∙ rw (none, all, append-nil (take (last + 16) spelled))
     (take_all (last + 16) spelled (omega (arith, length-map digits lower_case)))
 
--- whether a lane tells of a step, as bits
-abbrev seen_bits : ℕ → List ℕ → ℕ
-seen_bits n xs = mask_l (map (top 7) (zip2 (λ a b. cond (leb a b) 255 0) (replicate n 1) xs))
-
-one_seen : (x bits : ℕ) (a rest : Bool) → (x == 0) ≡ a → rest ≡ eqb bits 0
-    → (a && rest) ≡ eqb (cond (top 7 (cond (leb 1 x) 255 0)) 1 0 + 2 * bits) 0
-one_seen x bits true rest first is =
-    let low : leb 1 x ≡ false = grind (arith, nat_tests, first) in
-    rw low (is ∙ sym (bit_clear bits))
-one_seen x bits false rest first is =
-    let low : leb 1 x ≡ true = grind (arith, nat_tests, first) in
-    rw low (sym (bit_set bits))
-
-none_seen : (n : ℕ) (xs : List ℕ) → length xs ≡ n → list_all is_none_far xs ≡ eqb (seen_bits n xs) 0
-none_seen zero [] long = refl
-none_seen zero (x ∷ xs) long = absurd (omega arith)
-none_seen (suc n) [] long = absurd (omega arith)
-none_seen (suc n) (x ∷ xs) long =
-    one_seen x (seen_bits n xs) (x == 0) (list_all is_none_far xs) refl (none_seen n xs (omega arith))
-
 -- what is answered in the end
 pub last_lowered :
     (digits out chunk seen steps : List ℕ) (place last k : ℕ) → length out ≡ length digits
@@ -332,30 +276,21 @@ pub last_lowered :
     → IsLowered digits out seen place → map is_none_far steps ≡ map is_hex_digit (take 16 (behind digits last))
     → chunk ≡ map lower_case (take 16 (behind digits last))
     → option_map encode_lower (bytes_of digits)
-    ≡ (if eqb (seen_bits 16 (greater seen steps) % 2 ^ 64) 0 then Some (put_mid last k out chunk) else None)
+    ≡ (if eqb (bits_over 1 16 (greater seen steps) % 2 ^ 64) 0 then Some (put_mid last k out chunk) else None)
 last_lowered digits out chunk seen steps place last k room ends less width even so_far told is =
     let part : take 16 (behind digits last) ≡ drop last digits =
     part_of digits last (omega arith) ∙ take_all 16 (drop last digits) (omega (arith, length-drop last digits)) in
     let sixteen : length steps ≡ 16 =
     sym (length-map steps is_none_far) ∙ ap length told ∙ length-map (take 16 (behind digits last)) is_hex_digit
     ∙ ap length part ∙ omega (arith, length-drop last digits) in
-    let lanes : List ℕ = zip2 (λ a b. cond (leb a b) 255 0) (replicate 16 1) (greater seen steps) in
-    let few : seen_bits 16 (greater seen steps) % 2 ^ 64 ≡ seen_bits 16 (greater seen steps) =
-    mask_l-mod (map (top 7) lanes) 64
-    (omega (
-      arith,
-      length-map lanes (top 7),
-      zip2_short {Z = ℕ} (λ a b. cond (leb a b) 255 0) (replicate 16 1)
-          (greater seen steps),
-    )) in
-    let all : eqb (seen_bits 16 (greater seen steps)) 0 ≡ list_all is_hex_digit digits =
-    sym (none_seen 16 (greater seen steps) (length-greater 16 seen steps so_far.lanes sixteen))
+    let all : eqb (bits_over 1 16 (greater seen steps)) 0 ≡ list_all is_hex_digit digits =
+    sym (all_below is_none_far 1 no_step 16 (greater seen steps) (length-greater 16 seen steps so_far.lanes sixteen))
     ∙ none_far-greater 16 seen steps so_far.lanes sixteen
     ∙ (λ i. so_far.all i && (all_by_map is_none_far is_hex_digit steps (take 16 (behind digits last)) told
     ∙ ap (list_all is_hex_digit) part) i)
     ∙ all_from digits place last less in
-    rw few
-    (spelled digits (put_mid last k out chunk) (eqb (seen_bits 16 (greater seen steps)) 0) even (omega arith) all
+    rw (bits_fit 1 (greater seen steps))
+    (spelled digits (put_mid last k out chunk) (eqb (bits_over 1 16 (greater seen steps)) 0) even (omega arith) all
     (last_written digits out chunk place last k room ends less width so_far.written is))
 
 -- ---- one pair
