@@ -15,11 +15,14 @@ use Rattle.lis_world.specs.Recovery.{unit_is_lost, unit_is_unheard, reply_is_los
 use Rattle.lis_world.specs.Session.{Session}
 use Rattle.lis_world.specs.Steps.{world}
 
-one_letter : ℕ → FrameContent
+abbrev one_letter : ℕ → FrameContent
 one_letter letter = record { number = 1; last = true; text = letter ∷ [] }
 
--- the session of this text: done, or given up after the frame was accepted
-done_letter : ℕ → Session
+abbrev start : ℕ → Event
+start letter = Start ((letter ∷ []) ∷ [])
+
+-- the session of this text: done, given up after the frame was accepted, or just begun
+abbrev done_letter : ℕ → Session
 done_letter letter =
     record {
       texts = (letter ∷ []) ∷ [];
@@ -30,8 +33,16 @@ done_letter letter =
       outcome = Some Done;
     }
 
-unheard_letter : ℕ → Session
+abbrev unheard_letter : ℕ → Session
 unheard_letter letter = record (done_letter letter) { acknowledged = 0; outcome = Some TimedOut }
+
+abbrev begun_letter : ℕ → Session
+begun_letter letter =
+    record (done_letter letter) { sent = []; accepted = []; acknowledged = 0; handed = []; outcome = None }
+
+-- the sessions that these events come to
+abbrev ComesTo : List Event → List Session → Type 0
+ComesTo events sessions = (world 240 events).sessions ≡ sessions
 
 no_session : (world 240 []).sessions ≡ []
 no_session = refl
@@ -40,198 +51,61 @@ nothing_to_deliver : (world 240 (Deliver ∷ Deliver ∷ [])).sessions ≡ []
 nothing_to_deliver = refl
 
 -- the reply to the frame is damaged: the frame is sent again, found to be a duplicate, and acknowledged
-sent_again_and_taken_once_events : List Event
-sent_again_and_taken_once_events =
-    Start ((0x41 ∷ []) ∷ [])
-    ∷ Deliver
-    ∷ Reply
-    ∷ Deliver
-    ∷ DamageReply 0x7f
-    ∷ Deliver
-    ∷ Reply
-    ∷ Deliver
-    ∷ []
-
-sent_again_and_taken_once :
-    (world 240 sent_again_and_taken_once_events).sessions
-    ≡ done_letter 0x41
-    ∷ []
-unfolding signal_after open_stretch stretch_fault session_frames pieces frame_bytes one_letter done_letter
-    unheard_letter sent_again_and_taken_once_events
+sent_again_and_taken_once : ComesTo
+    (start 0x41 ∷ Deliver ∷ Reply ∷ Deliver ∷ DamageReply 0x7f ∷ Deliver ∷ Reply ∷ Deliver ∷ [])
+    (done_letter 0x41 ∷ [])
+unfolding signal_after open_stretch stretch_fault session_frames pieces frame_bytes
 sent_again_and_taken_once = refl
 
 -- the sender gives up before its frame has come: the frame counts for its own session, and its ACK comes too late
-late_frame_is_of_its_session_events : List Event
-late_frame_is_of_its_session_events =
-    Start ((0x41 ∷ []) ∷ [])
-    ∷ Deliver
-    ∷ Reply
-    ∷ SenderTimer
-    ∷ Start ((0x42 ∷ []) ∷ [])
-    ∷ Deliver
-    ∷ Deliver
-    ∷ Deliver
-    ∷ Reply
-    ∷ Deliver
-    ∷ Reply
-    ∷ Deliver
-    ∷ []
-
-late_frame_is_of_its_session :
-    (world 240 late_frame_is_of_its_session_events).sessions
-    ≡ unheard_letter 0x41
-    ∷ done_letter 0x42
-    ∷ []
-unfolding signal_after open_stretch stretch_fault session_frames pieces frame_bytes one_letter done_letter
-    unheard_letter late_frame_is_of_its_session_events
+late_frame_is_of_its_session : ComesTo
+    (start 0x41 ∷ Deliver ∷ Reply ∷ SenderTimer ∷ start 0x42 ∷ Deliver ∷ Deliver ∷ Deliver ∷ Reply ∷ Deliver
+    ∷ Reply ∷ Deliver ∷ [])
+    (unheard_letter 0x41 ∷ done_letter 0x42 ∷ [])
+unfolding signal_after open_stretch stretch_fault session_frames pieces frame_bytes
 late_frame_is_of_its_session = refl
 
 -- an ENQ can't be damaged to a bad frame, a frame can: it is refused and sent again
-damaged_frame_is_sent_again_events : List Event
-damaged_frame_is_sent_again_events =
-    Start ((0x41 ∷ []) ∷ [])
-    ∷ Damage (0x05 ∷ [])
-    ∷ Deliver
-    ∷ Reply
-    ∷ Damage (0x02 ∷ 0x31 ∷ 0x0a ∷ [])
-    ∷ Reply
-    ∷ Deliver
-    ∷ Reply
-    ∷ Deliver
-    ∷ []
-
-damaged_frame_is_sent_again :
-    (world 240 damaged_frame_is_sent_again_events).sessions
-    ≡ done_letter 0x41
-    ∷ []
-unfolding signal_after open_stretch stretch_fault session_frames pieces frame_bytes one_letter done_letter
-    unheard_letter damaged_frame_is_sent_again_events
+damaged_frame_is_sent_again : ComesTo
+    (start 0x41 ∷ Damage (0x05 ∷ []) ∷ Deliver ∷ Reply ∷ Damage (0x02 ∷ 0x31 ∷ 0x0a ∷ []) ∷ Reply ∷ Deliver
+    ∷ Reply ∷ Deliver ∷ [])
+    (done_letter 0x41 ∷ [])
+unfolding signal_after open_stretch stretch_fault session_frames pieces frame_bytes
 damaged_frame_is_sent_again = refl
 
 -- so the ENQ is delivered; the session goes on
-damage_of_an_enquiry_is_not_allowed_events : List Event
-damage_of_an_enquiry_is_not_allowed_events =
-    Start ((0x41 ∷ []) ∷ [])
-    ∷ Damage (0x02 ∷ 0x31 ∷ 0x0a ∷ [])
-    ∷ Deliver
-    ∷ []
-
-damage_of_an_enquiry_is_not_allowed :
-    (world 240 damage_of_an_enquiry_is_not_allowed_events).sessions
-    ≡ record {
-      texts = (0x41 ∷ []) ∷ [];
-      sent = [];
-      accepted = [];
-      acknowledged = 0;
-      handed = [];
-      outcome = None;
-    }
-    ∷ []
-unfolding signal_after open_stretch stretch_fault session_frames pieces frame_bytes one_letter done_letter
-    unheard_letter damage_of_an_enquiry_is_not_allowed_events
+damage_of_an_enquiry_is_not_allowed : ComesTo
+    (start 0x41 ∷ Damage (0x02 ∷ 0x31 ∷ 0x0a ∷ []) ∷ Deliver ∷ [])
+    (begun_letter 0x41 ∷ [])
+unfolding signal_after open_stretch stretch_fault session_frames pieces frame_bytes
 damage_of_an_enquiry_is_not_allowed = refl
 
 -- there is no room for the frame, and then there is
-no_room_is_answered_by_sending_again_events : List Event
-no_room_is_answered_by_sending_again_events =
-    Start ((0x41 ∷ []) ∷ [])
-    ∷ Deliver
-    ∷ Reply
-    ∷ DeliverNoRoom
-    ∷ Reply
-    ∷ Deliver
-    ∷ Reply
-    ∷ Deliver
-    ∷ []
-
-no_room_is_answered_by_sending_again :
-    (world 240 no_room_is_answered_by_sending_again_events).sessions
-    ≡ done_letter 0x41
-    ∷ []
-unfolding signal_after open_stretch stretch_fault session_frames pieces frame_bytes one_letter done_letter
-    unheard_letter no_room_is_answered_by_sending_again_events
+no_room_is_answered_by_sending_again : ComesTo
+    (start 0x41 ∷ Deliver ∷ Reply ∷ DeliverNoRoom ∷ Reply ∷ Deliver ∷ Reply ∷ Deliver ∷ [])
+    (done_letter 0x41 ∷ [])
+unfolding signal_after open_stretch stretch_fault session_frames pieces frame_bytes
 no_room_is_answered_by_sending_again = refl
 
 -- the receiver answers ENQ with ENQ; the sender waits, and asks again
-contention_ends_with_the_timer_events : List Event
-contention_ends_with_the_timer_events =
-    Contending
-    ∷ Start ((0x41 ∷ []) ∷ [])
-    ∷ Deliver
-    ∷ Reply
-    ∷ SenderTimer
-    ∷ Deliver
-    ∷ Reply
-    ∷ Deliver
-    ∷ Reply
-    ∷ Deliver
-    ∷ []
-
-contention_ends_with_the_timer :
-    (world 240 contention_ends_with_the_timer_events).sessions
-    ≡ done_letter 0x41
-    ∷ []
-unfolding signal_after open_stretch stretch_fault session_frames pieces frame_bytes one_letter done_letter
-    unheard_letter contention_ends_with_the_timer_events
+contention_ends_with_the_timer : ComesTo
+    (Contending ∷ start 0x41 ∷ Deliver ∷ Reply ∷ SenderTimer ∷ Deliver ∷ Reply ∷ Deliver ∷ Reply ∷ Deliver ∷ [])
+    (done_letter 0x41 ∷ [])
+unfolding signal_after open_stretch stretch_fault session_frames pieces frame_bytes
 contention_ends_with_the_timer = refl
 
 -- the sender is restarted before the line is open: no late reply reaches it, and its next session is whole
-a_restarted_session_ends_events : List Event
-a_restarted_session_ends_events =
-    Start ((0x41 ∷ []) ∷ [])
-    ∷ Deliver
-    ∷ RestartSender
-    ∷ Reply
-    ∷ Start ((0x42 ∷ []) ∷ [])
-    ∷ Deliver
-    ∷ Reply
-    ∷ Deliver
-    ∷ Reply
-    ∷ Deliver
-    ∷ []
-
-a_restarted_session_ends :
-    (world 240 a_restarted_session_ends_events).sessions
-    ≡ record {
-      texts = (0x41 ∷ []) ∷ [];
-      sent = [];
-      accepted = [];
-      acknowledged = 0;
-      handed = [];
-      outcome = Some Restarted;
-    }
-    ∷ done_letter 0x42
-    ∷ []
-unfolding signal_after open_stretch stretch_fault session_frames pieces frame_bytes one_letter done_letter
-    unheard_letter a_restarted_session_ends_events
+a_restarted_session_ends : ComesTo
+    (start 0x41 ∷ Deliver ∷ RestartSender ∷ Reply ∷ start 0x42 ∷ Deliver ∷ Reply ∷ Deliver ∷ Reply ∷ Deliver ∷ [])
+    (record (begun_letter 0x41) { outcome = Some Restarted } ∷ done_letter 0x42 ∷ [])
+unfolding signal_after open_stretch stretch_fault session_frames pieces frame_bytes
 a_restarted_session_ends = refl
 
 -- the frame of a session that was given up is taken, and the reply to it is dropped, in the next session too
-late_reply_never_comes_events : List Event
-late_reply_never_comes_events =
-    Start ((0x41 ∷ []) ∷ [])
-    ∷ Deliver
-    ∷ Reply
-    ∷ SenderTimer
-    ∷ Start ((0x42 ∷ []) ∷ [])
-    ∷ Deliver
-    ∷ Reply
-    ∷ []
-
-late_reply_never_comes :
-    (world 240 late_reply_never_comes_events).sessions
-    ≡ unheard_letter 0x41
-    ∷ record {
-      texts = (0x42 ∷ []) ∷ [];
-      sent = [];
-      accepted = [];
-      acknowledged = 0;
-      handed = [];
-      outcome = None;
-    }
-    ∷ []
-unfolding signal_after open_stretch stretch_fault session_frames pieces frame_bytes one_letter done_letter
-    unheard_letter late_reply_never_comes_events
+late_reply_never_comes : ComesTo
+    (start 0x41 ∷ Deliver ∷ Reply ∷ SenderTimer ∷ start 0x42 ∷ Deliver ∷ Reply ∷ [])
+    (unheard_letter 0x41 ∷ begun_letter 0x42 ∷ [])
+unfolding signal_after open_stretch stretch_fault session_frames pieces frame_bytes
 late_reply_never_comes = refl
 
 -- the number of a frame that is sent again comes round to 0
@@ -279,15 +153,7 @@ numbers_come_round = refl
 restarted_receiver_events : List Event
 restarted_receiver_events =
     Start (replicate 500 0x41 ∷ [])
-    ∷ Deliver
-    ∷ Reply
-    ∷ Deliver
-    ∷ Reply
-    ∷ RestartReceiver
-    ∷ Deliver
-    ∷ SenderTimer
-    ∷ Deliver
-    ∷ []
+    ∷ (round_trips 2 ++ RestartReceiver ∷ Deliver ∷ SenderTimer ∷ Deliver ∷ [])
 
 restarted_receiver_hands_out_nothing :
     (world 240 restarted_receiver_events).sessions
@@ -303,7 +169,7 @@ restarted_receiver_hands_out_nothing :
       outcome = Some TimedOut;
     }
     ∷ []
-unfolding signal_after open_stretch stretch_fault session_frames pieces frame_bytes restarted_receiver_events
+unfolding signal_after open_stretch stretch_fault session_frames pieces frame_bytes round_trips restarted_receiver_events
 restarted_receiver_hands_out_nothing = refl
 
 -- with the long limit the same text is one frame, and the session is done before
@@ -318,81 +184,44 @@ long_frame_hands_out :
       outcome = Some Done;
     }
     ∷ []
-unfolding signal_after open_stretch stretch_fault session_frames pieces frame_bytes restarted_receiver_events
+unfolding signal_after open_stretch stretch_fault session_frames pieces frame_bytes round_trips restarted_receiver_events
 long_frame_hands_out = refl
 
 -- a frame is lost, and the sender's timer ends its session; EOT is lost too, and the next session is carried through
-untaken_letter : ℕ → Session
+abbrev untaken_letter : ℕ → Session
 untaken_letter letter = record (unheard_letter letter) { accepted = []; handed = [] }
 
-next_letter_events : List Event
+abbrev next_letter_events : List Event
 next_letter_events = session_events ((0x42 ∷ []) ∷ []) (undisturbed ∷ [])
 
-lost_frame_is_overcome_events : List Event
-lost_frame_is_overcome_events =
-    Start ((0x41 ∷ []) ∷ [])
-    ∷ Deliver
-    ∷ Reply
-    ∷ (lost_events unit_is_lost (ReceiverTimer ∷ Deliver ∷ []) ++ emptying_events (is_lost ∷ []) ++ next_letter_events)
-
-lost_frame_is_overcome :
-    (world 240 lost_frame_is_overcome_events).sessions
-    ≡ untaken_letter 0x41
-    ∷ done_letter 0x42
-    ∷ []
-unfolding signal_after open_stretch stretch_fault session_frames pieces frame_bytes one_letter done_letter
-    unheard_letter untaken_letter next_letter_events lost_frame_is_overcome_events
+lost_frame_is_overcome : ComesTo
+    (start 0x41 ∷ Deliver ∷ Reply ∷ (lost_events unit_is_lost (ReceiverTimer ∷ Deliver ∷ [])
+    ++ emptying_events (is_lost ∷ []) ++ next_letter_events))
+    (untaken_letter 0x41 ∷ done_letter 0x42 ∷ [])
+unfolding signal_after open_stretch stretch_fault session_frames pieces frame_bytes
 lost_frame_is_overcome = refl
 
 -- its bytes give no signal, as their LF is gone
-unheard_frame_is_overcome_events : List Event
-unheard_frame_is_overcome_events =
-    Start ((0x41 ∷ []) ∷ [])
-    ∷ Deliver
-    ∷ Reply
-    ∷ (lost_events (unit_is_unheard (0x02 ∷ 0x31 ∷ 0x41 ∷ [])) [] ++ emptying_events (comes ∷ []) ++ next_letter_events)
-
-unheard_frame_is_overcome :
-    (world 240 unheard_frame_is_overcome_events).sessions
-    ≡ untaken_letter 0x41
-    ∷ done_letter 0x42
-    ∷ []
-unfolding signal_after open_stretch stretch_fault session_frames pieces frame_bytes one_letter done_letter
-    unheard_letter untaken_letter next_letter_events unheard_frame_is_overcome_events
+unheard_frame_is_overcome : ComesTo
+    (start 0x41 ∷ Deliver ∷ Reply ∷ (lost_events (unit_is_unheard (0x02 ∷ 0x31 ∷ 0x41 ∷ [])) []
+    ++ emptying_events (comes ∷ []) ++ next_letter_events))
+    (untaken_letter 0x41 ∷ done_letter 0x42 ∷ [])
+unfolding signal_after open_stretch stretch_fault session_frames pieces frame_bytes
 unheard_frame_is_overcome = refl
 
 -- the reply to it is lost: it was taken, and is not acknowledged
-lost_reply_is_overcome_events : List Event
-lost_reply_is_overcome_events =
-    Start ((0x41 ∷ []) ∷ [])
-    ∷ Deliver
-    ∷ Reply
-    ∷ (lost_events reply_is_lost [] ++ emptying_events (comes_without_room ∷ []) ++ next_letter_events)
-
-lost_reply_is_overcome :
-    (world 240 lost_reply_is_overcome_events).sessions
-    ≡ unheard_letter 0x41
-    ∷ done_letter 0x42
-    ∷ []
-unfolding signal_after open_stretch stretch_fault session_frames pieces frame_bytes one_letter done_letter
-    unheard_letter next_letter_events lost_reply_is_overcome_events
+lost_reply_is_overcome : ComesTo
+    (start 0x41 ∷ Deliver ∷ Reply ∷ (lost_events reply_is_lost []
+    ++ emptying_events (comes_without_room ∷ []) ++ next_letter_events))
+    (unheard_letter 0x41 ∷ done_letter 0x42 ∷ [])
+unfolding signal_after open_stretch stretch_fault session_frames pieces frame_bytes
 lost_reply_is_overcome = refl
 
 -- a busy receiver: the first timer asks for the line once more, the second ends the session; ENQ and EOT are on the
 -- link
-busy_receiver_is_overcome_events : List Event
-busy_receiver_is_overcome_events =
-    Busy
-    ∷ Start ((0x41 ∷ []) ∷ [])
-    ∷ Deliver
-    ∷ Reply
-    ∷ (rest_events two_timers ++ emptying_events (comes ∷ comes ∷ []) ++ next_letter_events)
-
-busy_receiver_is_overcome :
-    (world 240 busy_receiver_is_overcome_events).sessions
-    ≡ record (untaken_letter 0x41) { sent = [] }
-    ∷ done_letter 0x42
-    ∷ []
-unfolding signal_after open_stretch stretch_fault session_frames pieces frame_bytes one_letter done_letter
-    unheard_letter untaken_letter next_letter_events busy_receiver_is_overcome_events
+busy_receiver_is_overcome : ComesTo
+    (Busy ∷ start 0x41 ∷ Deliver ∷ Reply ∷ (rest_events two_timers
+    ++ emptying_events (comes ∷ comes ∷ []) ++ next_letter_events))
+    (record (untaken_letter 0x41) { sent = [] } ∷ done_letter 0x42 ∷ [])
+unfolding signal_after open_stretch stretch_fault session_frames pieces frame_bytes
 busy_receiver_is_overcome = refl
