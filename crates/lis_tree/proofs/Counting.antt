@@ -97,12 +97,7 @@ pub numbered_other : (k : Kind) → is_numbered k ≡ true → (k ≢ kinds.H) �
 numbered_other kinds.H e = absurd cc
 numbered_other kinds.M e = absurd cc
 numbered_other kinds.S e = absurd cc
-numbered_other kinds.P e = ((λ x. cc), (λ x. cc), (λ x. cc))
-numbered_other kinds.O e = ((λ x. cc), (λ x. cc), (λ x. cc))
-numbered_other kinds.R e = ((λ x. cc), (λ x. cc), (λ x. cc))
-numbered_other kinds.C e = ((λ x. cc), (λ x. cc), (λ x. cc))
-numbered_other kinds.Q e = ((λ x. cc), (λ x. cc), (λ x. cc))
-numbered_other kinds.L e = ((λ x. cc), (λ x. cc), (λ x. cc))
+numbered_other k e = ((λ x. cc), (λ x. cc), (λ x. cc))
 
 pub same_finding : (p q : ℕ) (k j : Kind) (m n : ℕ) → p ≡ q → k ≡ j → m ≡ n
     → ◌≡◌ {A = List Finding} (record { place = p; kind = k; expected = m } ∷ [])

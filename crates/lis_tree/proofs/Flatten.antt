@@ -97,12 +97,7 @@ note_passes : (k : Kind) → IsNote k → (in_noted k ≡ true) × (below_order 
 note_passes kinds.C n = (refl, refl, refl)
 note_passes kinds.M n = (refl, refl, refl)
 note_passes kinds.S n = (refl, refl, refl)
-note_passes kinds.H n = absurd n
-note_passes kinds.P n = absurd n
-note_passes kinds.O n = absurd n
-note_passes kinds.R n = absurd n
-note_passes kinds.Q n = absurd n
-note_passes kinds.L n = absurd n
+note_passes k n = absurd n
 
 notes_noted : (rs : List RecordContent) → AreNotes rs → Pass in_noted rs
 notes_noted [] a = tt

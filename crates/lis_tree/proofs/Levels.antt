@@ -1,9 +1,10 @@
 -- Where the next record stands after the records of a tree's parts, and that each of these stands where it may.
-use Rattle.std.proofs.Common.{◌≡◌, ◌≢◌, List, [], ◌∷◌, ◌++◌, None, refl, sym, ◌∙◌, ap, subst}
+use Rattle.std.proofs.Common.{◌≡◌, ◌≢◌, List, [], ◌∷◌, ◌++◌, None, Some, refl, sym, ◌∙◌, ap, subst}
 use Rattle.std.specs.List.{AllByRecursion, flat_map}
 use Rattle.lis_field.specs.declared.kinds.Kind.{Kind}
 use Rattle.lis_field.specs.declared.kinds.Kind.TheVariants as kinds
 use Rattle.lis_field.specs.Shape.{RecordContent}
+use Rattle.lis_tree.specs.declared.fault.Reason.TheVariants as reasons
 use Rattle.lis_tree.specs.Nodes.{Noted, OrderTree, PatientTree}
 use Rattle.lis_tree.specs.inside.Front.{FrontTree}
 use Rattle.lis_tree.specs.declared.tree.Group.{Group}
@@ -77,30 +78,7 @@ note_stands in_query kinds.M i n = (refl, refl)
 note_stands in_query kinds.S i n = (refl, refl)
 note_stands outside k i n = elim i [ ]
 note_stands closed k i n = elim i [ ]
-note_stands in_header kinds.H i n = absurd n
-note_stands in_header kinds.P i n = absurd n
-note_stands in_header kinds.O i n = absurd n
-note_stands in_header kinds.R i n = absurd n
-note_stands in_header kinds.Q i n = absurd n
-note_stands in_header kinds.L i n = absurd n
-note_stands in_patient kinds.H i n = absurd n
-note_stands in_patient kinds.P i n = absurd n
-note_stands in_patient kinds.O i n = absurd n
-note_stands in_patient kinds.R i n = absurd n
-note_stands in_patient kinds.Q i n = absurd n
-note_stands in_patient kinds.L i n = absurd n
-note_stands in_order kinds.H i n = absurd n
-note_stands in_order kinds.P i n = absurd n
-note_stands in_order kinds.O i n = absurd n
-note_stands in_order kinds.R i n = absurd n
-note_stands in_order kinds.Q i n = absurd n
-note_stands in_order kinds.L i n = absurd n
-note_stands in_query kinds.H i n = absurd n
-note_stands in_query kinds.P i n = absurd n
-note_stands in_query kinds.O i n = absurd n
-note_stands in_query kinds.R i n = absurd n
-note_stands in_query kinds.Q i n = absurd n
-note_stands in_query kinds.L i n = absurd n
+note_stands l k i n = absurd n
 
 pub notes_lead : (l : Level) (notes : List RecordContent) → IsInside l → AreNotes notes → LeadsBy l notes l
 notes_lead l [] i n = record { stands = tt; arrives = refl }
@@ -148,10 +126,7 @@ pub data IsUnderPatient : Level → Type 0 where
 takes_order : (l : Level) → IsUnderPatient l → misplaced l kinds.O ≡ None
 takes_order in_patient u = refl
 takes_order in_order u = refl
-takes_order in_header u = elim u [ ]
-takes_order in_query u = elim u [ ]
-takes_order outside u = elim u [ ]
-takes_order closed u = elim u [ ]
+takes_order l u = elim u [ ]
 
 orders_lead : (l : Level) (os : List OrderTree) → IsUnderPatient l → AllByRecursion IsOrder os → (to : Level)
     × IsUnderPatient to × LeadsBy l (flat_map order_records os) to
@@ -177,20 +152,14 @@ patient_leads l p is placed =
 inside_under : (l : Level) → IsUnderPatient l → IsInside l
 inside_under in_patient u = patient
 inside_under in_order u = order
-inside_under in_header u = elim u [ ]
-inside_under in_query u = elim u [ ]
-inside_under outside u = elim u [ ]
-inside_under closed u = elim u [ ]
+inside_under l u = elim u [ ]
 
 -- inside a message a patient, a query and the closing record stand anywhere
 pub inside_takes : (l : Level) → IsInside l → (misplaced l kinds.P ≡ None) × (misplaced l kinds.Q ≡ None)
     × (misplaced l kinds.L ≡ None)
-inside_takes in_header i = (refl, refl, refl)
-inside_takes in_patient i = (refl, refl, refl)
-inside_takes in_order i = (refl, refl, refl)
-inside_takes in_query i = (refl, refl, refl)
 inside_takes outside i = elim i [ ]
 inside_takes closed i = elim i [ ]
+inside_takes l i = (refl, refl, refl)
 
 group_leads : (l : Level) (g : Group) → IsInside l → IsGroup g → (to : Level) × IsInside to
     × LeadsBy l (group_records g) to
@@ -257,15 +226,12 @@ tree_leads m is =
 
 -- a record that doesn't close a message leaves it open
 pub next_unclosed : (l : Level) (k : Kind) → l ≢ closed → k ≢ kinds.L → next_level l k ≢ closed
-next_unclosed l kinds.H u o e = cc
-next_unclosed l kinds.P u o e = cc
-next_unclosed l kinds.O u o e = cc
 next_unclosed l kinds.R u o e = u e
 next_unclosed l kinds.C u o e = u e
-next_unclosed l kinds.Q u o e = cc
 next_unclosed l kinds.M u o e = u e
 next_unclosed l kinds.S u o e = u e
 next_unclosed l kinds.L u o e = o refl
+next_unclosed l k u o e = cc
 
 pub level_more : (rs : List RecordContent) (r : RecordContent)
     → level_after outside (kinds_of (rs ++ r ∷ [])) ≡ next_level (level_after outside (kinds_of rs)) r.kind
@@ -281,25 +247,15 @@ stands_more rs r p q = subst (StandsFrom outside) (sym (map_append rs (r ∷ [])
 -- after its end a message takes nothing but a header, which is one too many
 pub nothing_closed : (k : Kind) → misplaced closed k ≡ None → ⊥
 nothing_closed kinds.H e = cc
-nothing_closed kinds.P e = cc
-nothing_closed kinds.O e = cc
-nothing_closed kinds.R e = cc
-nothing_closed kinds.C e = cc
-nothing_closed kinds.Q e = cc
-nothing_closed kinds.M e = cc
-nothing_closed kinds.S e = cc
-nothing_closed kinds.L e = cc
+nothing_closed k e = cc
+
+pub outside_refused : (k : Kind) → k ≢ kinds.H → misplaced outside k ≡ Some reasons.NotHeader
+outside_refused kinds.H h = absurd (h refl)
+outside_refused k h = refl
 
 pub header_first : (k : Kind) → misplaced outside k ≡ None → k ≡ kinds.H
 header_first kinds.H e = refl
-header_first kinds.P e = absurd cc
-header_first kinds.O e = absurd cc
-header_first kinds.R e = absurd cc
-header_first kinds.C e = absurd cc
-header_first kinds.Q e = absurd cc
-header_first kinds.M e = absurd cc
-header_first kinds.S e = absurd cc
-header_first kinds.L e = absurd cc
+header_first k e = absurd cc
 
 -- the first record of a run that doesn't end a message doesn't end it
 pub unclosed_first : (l : Level) (k : Kind) (ks : List Kind) → StandsFrom l (k ∷ ks) → level_after l (k ∷ ks) ≢ closed
@@ -319,12 +275,8 @@ other_kind in_query k o p e = let h : misplaced in_query kinds.H ≡ None = ap (
 other_kind closed k o p e = nothing_closed k p
 
 pub next_begun : (l : Level) (k : Kind) → l ≢ outside → next_level l k ≢ outside
-next_begun l kinds.H o e = cc
-next_begun l kinds.P o e = cc
-next_begun l kinds.O o e = cc
 next_begun l kinds.R o e = o e
 next_begun l kinds.C o e = o e
-next_begun l kinds.Q o e = cc
 next_begun l kinds.M o e = o e
 next_begun l kinds.S o e = o e
-next_begun l kinds.L o e = cc
+next_begun l k o e = cc

@@ -16,7 +16,7 @@ use Rattle.lis_tree.specs.Level.{Level, outside, closed, next_level, level_after
 use Rattle.lis_tree.specs.Places.{capped}
 use Rattle.lis_tree.specs.ListFaults.{IsListFault, IsMisplacedAt, IsUnclosed}
 use Rattle.lis_tree.specs.Tree.{MessageTree, IsTree, flatten, group_records}
-use Rattle.lis_tree.proofs.Levels.{map_append, stands_back, tree_leads, inside_takes, next_unclosed, level_more}
+use Rattle.lis_tree.proofs.Levels.{outside_refused, map_append, stands_back, tree_leads, inside_takes, next_unclosed, level_more}
 use Rattle.lis_tree.proofs.Levels.{stands_more}
 
 -- the open message has the first records of the list, and these are left
@@ -153,17 +153,6 @@ only_memory records fault why m is e =
     (λ (w : IsListFault (kinds_of records) fault). absurd
     (faultless m is fault (subst (λ rs. IsListFault (kinds_of rs) fault) (sym e) w))) why
 
-not_other : (k : Kind) → k ≢ kinds.H → misplaced outside k ≡ Some reasons.NotHeader
-not_other kinds.H o = absurd (o refl)
-not_other kinds.P o = refl
-not_other kinds.O o = refl
-not_other kinds.R o = refl
-not_other kinds.C o = refl
-not_other kinds.Q o = refl
-not_other kinds.M o = refl
-not_other kinds.S o = refl
-not_other kinds.L o = refl
-
 -- a first record that is no header
 pub first_fault : (records : List RecordContent) (r : RecordContent) (rest : List RecordContent) → records ≡ r ∷ rest
     → r.kind ≢ kinds.H → IsListFault (kinds_of records) (record { place = 1; reason = reasons.NotHeader })
@@ -175,7 +164,7 @@ first_fault records r rest e other =
       whole = ap kinds_of e;
       placed = tt;
       why =
-          not_other r.kind other;
+          outside_refused r.kind other;
       place = refl;
     })
 

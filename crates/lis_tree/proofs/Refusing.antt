@@ -10,20 +10,18 @@ use Rattle.lis_tree.specs.Level.{Level, outside, in_header, in_patient, in_order
 use Rattle.lis_tree.specs.Level.{level_after, misplaced, StandsFrom}
 use Rattle.lis_tree.specs.Refusing.{IsClosed, IsRefusedFor}
 use Rattle.lis_tree.proofs.Levels.{level_append, stands_append, stands_back, header_first, nothing_closed}
+use Rattle.lis_tree.proofs.Levels.{outside_refused}
 use Rattle.lis_tree.proofs.Viable.{from_viable, viable_from, parent_from, place_from, begun_after, in_header_at}
 
 -- ---- a message is closed exactly behind its closing record
 
 closes : (l : Level) (k : Kind) → l ≢ closed → next_level l k ≡ closed → k ≡ kinds.L
+closes l kinds.L u e = refl
 closes l kinds.H u e = absurd cc
 closes l kinds.P u e = absurd cc
 closes l kinds.O u e = absurd cc
-closes l kinds.R u e = absurd (u e)
-closes l kinds.C u e = absurd (u e)
 closes l kinds.Q u e = absurd cc
-closes l kinds.M u e = absurd (u e)
-closes l kinds.S u e = absurd (u e)
-closes l kinds.L u e = refl
+closes l k u e = absurd (u e)
 
 closed_last : (l : Level) (ks : List Kind) → StandsFrom l ks → l ≢ closed → level_after l ks ≡ closed → IsClosed ks
 closed_last l [] s u e = absurd (u e)
@@ -42,25 +40,7 @@ outside_refuses :
     (k : Kind) (reason : Reason) → misplaced outside k ≡ Some reason
     → (reason ≡ reasons.NotHeader) × (k ≢ kinds.H)
 outside_refuses kinds.H reason e = absurd cc
-outside_refuses kinds.P reason e = (cc, λ h. cc)
-outside_refuses kinds.O reason e = (cc, λ h. cc)
-outside_refuses kinds.R reason e = (cc, λ h. cc)
-outside_refuses kinds.C reason e = (cc, λ h. cc)
-outside_refuses kinds.Q reason e = (cc, λ h. cc)
-outside_refuses kinds.M reason e = (cc, λ h. cc)
-outside_refuses kinds.S reason e = (cc, λ h. cc)
-outside_refuses kinds.L reason e = (cc, λ h. cc)
-
-outside_refused : (k : Kind) → k ≢ kinds.H → misplaced outside k ≡ Some reasons.NotHeader
-outside_refused kinds.H h = absurd (h refl)
-outside_refused kinds.P h = refl
-outside_refused kinds.O h = refl
-outside_refused kinds.R h = refl
-outside_refused kinds.C h = refl
-outside_refused kinds.Q h = refl
-outside_refused kinds.M h = refl
-outside_refused kinds.S h = refl
-outside_refused kinds.L h = refl
+outside_refuses k reason e = (cc, λ h. cc)
 
 -- ---- behind a header
 
@@ -75,70 +55,22 @@ inside_refuses :
     (l : Level) (k : Kind) (reason : Reason) → l ≢ outside → misplaced l k ≡ Some reason
     → IsInsideReason l k reason
 inside_refuses outside k reason o e = absurd (o refl)
-inside_refuses in_header kinds.H reason o e = inl (refl, cc)
-inside_refuses in_header kinds.P reason o e = absurd cc
+inside_refuses l kinds.H reason o e = inl (refl, cc)
+inside_refuses closed k reason o e = inr (inl (λ h. cc, refl, cc))
 inside_refuses in_header kinds.O reason o e = inr (inr (λ h. cc, λ c. cc, cc))
 inside_refuses in_header kinds.R reason o e = inr (inr (λ h. cc, λ c. cc, cc))
-inside_refuses in_header kinds.C reason o e = absurd cc
-inside_refuses in_header kinds.Q reason o e = absurd cc
-inside_refuses in_header kinds.M reason o e = absurd cc
-inside_refuses in_header kinds.S reason o e = absurd cc
-inside_refuses in_header kinds.L reason o e = absurd cc
-inside_refuses in_patient kinds.H reason o e = inl (refl, cc)
-inside_refuses in_patient kinds.P reason o e = absurd cc
-inside_refuses in_patient kinds.O reason o e = absurd cc
 inside_refuses in_patient kinds.R reason o e = inr (inr (λ h. cc, λ c. cc, cc))
-inside_refuses in_patient kinds.C reason o e = absurd cc
-inside_refuses in_patient kinds.Q reason o e = absurd cc
-inside_refuses in_patient kinds.M reason o e = absurd cc
-inside_refuses in_patient kinds.S reason o e = absurd cc
-inside_refuses in_patient kinds.L reason o e = absurd cc
-inside_refuses in_order kinds.H reason o e = inl (refl, cc)
-inside_refuses in_order kinds.P reason o e = absurd cc
-inside_refuses in_order kinds.O reason o e = absurd cc
-inside_refuses in_order kinds.R reason o e = absurd cc
-inside_refuses in_order kinds.C reason o e = absurd cc
-inside_refuses in_order kinds.Q reason o e = absurd cc
-inside_refuses in_order kinds.M reason o e = absurd cc
-inside_refuses in_order kinds.S reason o e = absurd cc
-inside_refuses in_order kinds.L reason o e = absurd cc
-inside_refuses in_query kinds.H reason o e = inl (refl, cc)
-inside_refuses in_query kinds.P reason o e = absurd cc
 inside_refuses in_query kinds.O reason o e = inr (inr (λ h. cc, λ c. cc, cc))
 inside_refuses in_query kinds.R reason o e = inr (inr (λ h. cc, λ c. cc, cc))
-inside_refuses in_query kinds.C reason o e = absurd cc
-inside_refuses in_query kinds.Q reason o e = absurd cc
-inside_refuses in_query kinds.M reason o e = absurd cc
-inside_refuses in_query kinds.S reason o e = absurd cc
-inside_refuses in_query kinds.L reason o e = absurd cc
-inside_refuses closed kinds.H reason o e = inl (refl, cc)
-inside_refuses closed kinds.P reason o e = inr (inl (λ h. cc, refl, cc))
-inside_refuses closed kinds.O reason o e = inr (inl (λ h. cc, refl, cc))
-inside_refuses closed kinds.R reason o e = inr (inl (λ h. cc, refl, cc))
-inside_refuses closed kinds.C reason o e = inr (inl (λ h. cc, refl, cc))
-inside_refuses closed kinds.Q reason o e = inr (inl (λ h. cc, refl, cc))
-inside_refuses closed kinds.M reason o e = inr (inl (λ h. cc, refl, cc))
-inside_refuses closed kinds.S reason o e = inr (inl (λ h. cc, refl, cc))
-inside_refuses closed kinds.L reason o e = inr (inl (λ h. cc, refl, cc))
+inside_refuses l k reason o e = absurd cc
 
 header_refused : (l : Level) → l ≢ outside → misplaced l kinds.H ≡ Some reasons.SecondHeader
 header_refused outside o = absurd (o refl)
-header_refused in_header o = refl
-header_refused in_patient o = refl
-header_refused in_order o = refl
-header_refused in_query o = refl
-header_refused closed o = refl
+header_refused l o = refl
 
 closed_refused : (k : Kind) → k ≢ kinds.H → misplaced closed k ≡ Some reasons.NotHeader
 closed_refused kinds.H h = absurd (h refl)
-closed_refused kinds.P h = refl
-closed_refused kinds.O h = refl
-closed_refused kinds.R h = refl
-closed_refused kinds.C h = refl
-closed_refused kinds.Q h = refl
-closed_refused kinds.M h = refl
-closed_refused kinds.S h = refl
-closed_refused kinds.L h = refl
+closed_refused k h = refl
 
 some_not_none : {A : Type 0} (x : A) (o : Option A) → o ≡ Some x → o ≡ None → ⊥
 some_not_none x o some none = cc
@@ -222,10 +154,7 @@ refused :
 refused [] k reasons.NotHeader s why = outside_refused k why.0
 refused [] k reasons.SecondHeader s why = absurd (why.1 refl)
 refused [] k (reasons.NoParent kind) s why = absurd (why.1 refl)
-refused [] k (reasons.BadRecord fault) s why = absurd why
-refused [] k reasons.Unfinished s why = absurd why
-refused [] k reasons.RecordTooLong s why = absurd why
-refused [] k reasons.OutOfMemory s why = absurd why
+refused [] k reason s why = absurd why
 refused (b ∷ ks) k reasons.NotHeader s why = go why.1
   where
     go : ((b ∷ ks) ≡ []) ⊎ IsClosed (b ∷ ks) → misplaced (level_after outside (b ∷ ks)) k ≡ Some reasons.NotHeader
@@ -237,10 +166,7 @@ refused (b ∷ ks) k reasons.SecondHeader s why =
 refused (b ∷ ks) k (reasons.NoParent kind) s why =
     no_parent_refused b ks k (misplaced (level_after outside (b ∷ ks)) k) s why.2 why.3 refl
     ∙ ap (λ j. Some (reasons.NoParent j)) (sym why.0)
-refused (b ∷ ks) k (reasons.BadRecord fault) s why = absurd why
-refused (b ∷ ks) k reasons.Unfinished s why = absurd why
-refused (b ∷ ks) k reasons.RecordTooLong s why = absurd why
-refused (b ∷ ks) k reasons.OutOfMemory s why = absurd why
+refused (b ∷ ks) k reason s why = absurd why
 
 -- ---- over what is viable
 

@@ -18,12 +18,7 @@ skip_note : (p o : Option RecordContent) (r : RecordContent) (k : Kind) → IsNo
 skip_note p o r kinds.C h = (refl, refl, refl)
 skip_note p o r kinds.M h = (refl, refl, refl)
 skip_note p o r kinds.S h = (refl, refl, refl)
-skip_note p o r kinds.H h = absurd h
-skip_note p o r kinds.P h = absurd h
-skip_note p o r kinds.O h = absurd h
-skip_note p o r kinds.R h = absurd h
-skip_note p o r kinds.Q h = absurd h
-skip_note p o r kinds.L h = absurd h
+skip_note p o r k h = absurd h
 
 -- a record of this kind
 behind_one : (p o : Option RecordContent) (r : RecordContent) (rest : List RecordContent) (k : Kind) → r.kind ≡ k

@@ -31,20 +31,13 @@ LacksOrders in_patient orders = ⊤
 LacksOrders level orders = orders ≡ []
 
 no_results : (level : Level) → LacksResults level []
-no_results outside = refl
-no_results in_header = refl
-no_results in_patient = refl
 no_results in_order = tt
-no_results in_query = refl
-no_results closed = refl
+no_results level = refl
 
 no_orders : (level : Level) → LacksOrders level []
-no_orders outside = refl
-no_orders in_header = refl
 no_orders in_patient = tt
 no_orders in_order = tt
-no_orders in_query = refl
-no_orders closed = refl
+no_orders level = refl
 
 -- The records from this place on: notes, results of the open order, orders of the open patient, and groups.
 record IsParsed (level : Level) (rs : List RecordContent) : Type 0 where
@@ -165,18 +158,13 @@ order_placed in_order inside may orders = tt
 result_placed : (level : Level) → IsInside level → misplaced level kinds.R ≡ None → level ≡ in_order
 result_placed outside inside may = absurd inside
 result_placed closed inside may = absurd inside
-result_placed in_header inside may = cc
-result_placed in_query inside may = cc
-result_placed in_patient inside may = cc
 result_placed in_order inside may = refl
+result_placed level inside may = cc
 
 header_placed : (level : Level) → IsInside level → misplaced level kinds.H ≡ None → ⊥
 header_placed outside inside may = inside
 header_placed closed inside may = inside
-header_placed in_header inside may = cc
-header_placed in_query inside may = cc
-header_placed in_patient inside may = cc
-header_placed in_order inside may = cc
+header_placed level inside may = cc
 
 one_more : (level : Level) (k : Kind) (r : RecordContent) (rs : List RecordContent) → r.kind ≡ k → IsInside level
     → misplaced level k ≡ None → IsInside (next_level level k)
@@ -188,36 +176,24 @@ one_more level kinds.R r rs is inside may next p =
     let at = result_placed level inside may in
     subst (λ (l : Level). IsParsed l (r ∷ rs)) (sym at)
     (result_parsed r rs is (subst (λ (l : Level). IsParsed l rs) at p))
-one_more level kinds.C r rs is inside may next p = note_parsed level r rs (subst IsNote (sym is) tt) p
 one_more level kinds.Q r rs is inside may next p = query_parsed level r rs is p
-one_more level kinds.M r rs is inside may next p = note_parsed level r rs (subst IsNote (sym is) tt) p
-one_more level kinds.S r rs is inside may next p = note_parsed level r rs (subst IsNote (sym is) tt) p
 one_more level kinds.L r rs is inside may next p = absurd next
+one_more level k r rs is inside may next p = note_parsed level r rs (subst IsNote (sym is) tt) p
 
 -- nothing stands behind the record that closes a message
 closed_over : (ks : List Kind) → StandsFrom closed ks → level_after closed ks ≢ closed → ⊥
 closed_over [] stands open' = open' refl
 closed_over (kinds.H ∷ ks) stands open' = let e = stands.0 in cc
-closed_over (kinds.P ∷ ks) stands open' = let e = stands.0 in cc
-closed_over (kinds.O ∷ ks) stands open' = let e = stands.0 in cc
-closed_over (kinds.R ∷ ks) stands open' = let e = stands.0 in cc
-closed_over (kinds.C ∷ ks) stands open' = let e = stands.0 in cc
-closed_over (kinds.Q ∷ ks) stands open' = let e = stands.0 in cc
-closed_over (kinds.M ∷ ks) stands open' = let e = stands.0 in cc
-closed_over (kinds.S ∷ ks) stands open' = let e = stands.0 in cc
-closed_over (kinds.L ∷ ks) stands open' = let e = stands.0 in cc
+closed_over ks stands open' = let e = stands.0 in cc
 
 stays_inside : (level : Level) (k : Kind) (ks : List Kind) → IsInside level → StandsFrom (next_level level k) ks
     → level_after (next_level level k) ks ≢ closed → IsInside (next_level level k)
-stays_inside level kinds.H ks inside stands open' = tt
-stays_inside level kinds.P ks inside stands open' = tt
-stays_inside level kinds.O ks inside stands open' = tt
 stays_inside level kinds.R ks inside stands open' = inside
 stays_inside level kinds.C ks inside stands open' = inside
-stays_inside level kinds.Q ks inside stands open' = tt
 stays_inside level kinds.M ks inside stands open' = inside
 stays_inside level kinds.S ks inside stands open' = inside
 stays_inside level kinds.L ks inside stands open' = closed_over ks stands open'
+stays_inside level k ks inside stands open' = tt
 
 parsed : (level : Level) (rs : List RecordContent) → IsInside level → StandsFrom level (kinds_of rs)
     → level_after level (kinds_of rs) ≢ closed → IsParsed level rs
@@ -240,14 +216,7 @@ parsed level (r ∷ rs) inside stands open' =
 
 first_header : (k : Kind) → misplaced outside k ≡ None → k ≡ kinds.H
 first_header kinds.H e = refl
-first_header kinds.P e = cc
-first_header kinds.O e = cc
-first_header kinds.R e = cc
-first_header kinds.C e = cc
-first_header kinds.Q e = cc
-first_header kinds.M e = cc
-first_header kinds.S e = cc
-first_header kinds.L e = cc
+first_header k e = cc
 
 all_shapes : (xs : List RecordContent) (r : RecordContent) → AllByRecursion IsRecordShape xs → IsRecordShape r
     → AllByRecursion IsRecordShape (xs ++ r ∷ [])

@@ -36,55 +36,28 @@ order_or (Some k) b = false
 order_step : (l : Level) (k : Kind) → misplaced l k ≡ None → k ≢ kinds.L → k ≢ kinds.H
     → takes_order (next_level l k) ≡ patient_or (if is_group k then Some k else None) (takes_order l)
 order_step l kinds.H p o h = absurd (h refl)
-order_step l kinds.P p o h = refl
-order_step in_patient kinds.O p o h = refl
-order_step in_order kinds.O p o h = refl
 order_step in_header kinds.O p o h = absurd cc
 order_step in_query kinds.O p o h = absurd cc
 order_step outside kinds.O p o h = absurd cc
 order_step closed kinds.O p o h = absurd cc
-order_step l kinds.R p o h = refl
-order_step l kinds.C p o h = refl
-order_step l kinds.Q p o h = refl
-order_step l kinds.M p o h = refl
-order_step l kinds.S p o h = refl
 order_step l kinds.L p o h = absurd (o refl)
+order_step l k p o h = refl
 
 result_step : (l : Level) (k : Kind) → misplaced l k ≡ None → k ≢ kinds.L → k ≢ kinds.H
     → takes_result (next_level l k) ≡ order_or (if is_group_or_order k then Some k else None) (takes_result l)
 result_step l kinds.H p o h = absurd (h refl)
-result_step l kinds.P p o h = refl
-result_step l kinds.O p o h = refl
-result_step l kinds.R p o h = refl
-result_step l kinds.C p o h = refl
-result_step l kinds.Q p o h = refl
-result_step l kinds.M p o h = refl
-result_step l kinds.S p o h = refl
 result_step l kinds.L p o h = absurd (o refl)
+result_step l k p o h = refl
 
 patient_then : (a b : Option Kind) (c : Bool) → patient_or (option_or a b) c ≡ patient_or a (patient_or b c)
 patient_then None b c = refl
 patient_then (Some kinds.H) b c = refl
-patient_then (Some kinds.P) b c = refl
-patient_then (Some kinds.O) b c = refl
-patient_then (Some kinds.R) b c = refl
-patient_then (Some kinds.C) b c = refl
-patient_then (Some kinds.Q) b c = refl
-patient_then (Some kinds.M) b c = refl
-patient_then (Some kinds.S) b c = refl
-patient_then (Some kinds.L) b c = refl
+patient_then (Some k) b c = refl
 
 order_then : (a b : Option Kind) (c : Bool) → order_or (option_or a b) c ≡ order_or a (order_or b c)
 order_then None b c = refl
 order_then (Some kinds.H) b c = refl
-order_then (Some kinds.P) b c = refl
-order_then (Some kinds.O) b c = refl
-order_then (Some kinds.R) b c = refl
-order_then (Some kinds.C) b c = refl
-order_then (Some kinds.Q) b c = refl
-order_then (Some kinds.M) b c = refl
-order_then (Some kinds.S) b c = refl
-order_then (Some kinds.L) b c = refl
+order_then (Some k) b c = refl
 
 -- the place tells the last patient or query, and whether an order stands since
 order_told : (l : Level) (ks : List Kind) → StandsFrom l ks → l ≢ outside → level_after l ks ≢ closed
@@ -107,60 +80,30 @@ result_told l (k ∷ ks) s o u =
 -- ---- each way
 
 patient_is : (o : Option Kind) → patient_or o false ≡ true → o ≡ Some kinds.P
-patient_is None e = absurd cc
 patient_is (Some kinds.P) e = refl
-patient_is (Some kinds.H) e = absurd cc
-patient_is (Some kinds.O) e = absurd cc
-patient_is (Some kinds.R) e = absurd cc
-patient_is (Some kinds.C) e = absurd cc
-patient_is (Some kinds.Q) e = absurd cc
-patient_is (Some kinds.M) e = absurd cc
-patient_is (Some kinds.S) e = absurd cc
-patient_is (Some kinds.L) e = absurd cc
+patient_is o e = absurd cc
 
 order_is : (o : Option Kind) → order_or o false ≡ true → o ≡ Some kinds.O
-order_is None e = absurd cc
 order_is (Some kinds.O) e = refl
-order_is (Some kinds.H) e = absurd cc
-order_is (Some kinds.P) e = absurd cc
-order_is (Some kinds.R) e = absurd cc
-order_is (Some kinds.C) e = absurd cc
-order_is (Some kinds.Q) e = absurd cc
-order_is (Some kinds.M) e = absurd cc
-order_is (Some kinds.S) e = absurd cc
-order_is (Some kinds.L) e = absurd cc
+order_is o e = absurd cc
 
 order_stands : (l : Level) → misplaced l kinds.O ≡ None → (takes_order l ≡ true) × (l ≢ closed)
 order_stands in_patient e = (refl, λ x. cc)
 order_stands in_order e = (refl, λ x. cc)
-order_stands in_header e = absurd cc
-order_stands in_query e = absurd cc
-order_stands outside e = absurd cc
-order_stands closed e = absurd cc
+order_stands l e = absurd cc
 
 result_stands : (l : Level) → misplaced l kinds.R ≡ None → (takes_result l ≡ true) × (l ≢ closed)
 result_stands in_order e = (refl, λ x. cc)
-result_stands in_patient e = absurd cc
-result_stands in_header e = absurd cc
-result_stands in_query e = absurd cc
-result_stands outside e = absurd cc
-result_stands closed e = absurd cc
+result_stands l e = absurd cc
 
 takes_then_order : (l : Level) → takes_order l ≡ true → misplaced l kinds.O ≡ None
 takes_then_order in_patient e = refl
 takes_then_order in_order e = refl
-takes_then_order in_header e = absurd cc
-takes_then_order in_query e = absurd cc
-takes_then_order outside e = absurd cc
-takes_then_order closed e = absurd cc
+takes_then_order l e = absurd cc
 
 takes_then_result : (l : Level) → takes_result l ≡ true → misplaced l kinds.R ≡ None
 takes_then_result in_order e = refl
-takes_then_result in_patient e = absurd cc
-takes_then_result in_header e = absurd cc
-takes_then_result in_query e = absurd cc
-takes_then_result outside e = absurd cc
-takes_then_result closed e = absurd cc
+takes_then_result l e = absurd cc
 
 -- behind a header: a record that stands has its parent, and the other way round
 pub parent_from : (ks : List Kind) (k : Kind) → StandsFrom in_header ks
@@ -174,12 +117,7 @@ parent_from ks kinds.R s p =
     let none = order_is (last_of is_group_or_order ks) (sym (result_told in_header ks s (λ e. cc) at.1) ∙ at.0) in
     ap (λ o. option_or o None) none
 parent_from ks kinds.H s p = tt
-parent_from ks kinds.P s p = tt
-parent_from ks kinds.C s p = tt
-parent_from ks kinds.Q s p = tt
-parent_from ks kinds.M s p = tt
-parent_from ks kinds.S s p = tt
-parent_from ks kinds.L s p = tt
+parent_from ks k s p = tt
 
 option_or_none : (o : Option Kind) → option_or o None ≡ o
 option_or_none None = refl
@@ -192,30 +130,7 @@ inside_free closed k o c h x r = absurd (c refl)
 inside_free l kinds.H o c h x r = absurd (h refl)
 inside_free l kinds.O o c h x r = absurd (x refl)
 inside_free l kinds.R o c h x r = absurd (r refl)
-inside_free in_header kinds.P o c h x r = refl
-inside_free in_header kinds.C o c h x r = refl
-inside_free in_header kinds.Q o c h x r = refl
-inside_free in_header kinds.M o c h x r = refl
-inside_free in_header kinds.S o c h x r = refl
-inside_free in_header kinds.L o c h x r = refl
-inside_free in_patient kinds.P o c h x r = refl
-inside_free in_patient kinds.C o c h x r = refl
-inside_free in_patient kinds.Q o c h x r = refl
-inside_free in_patient kinds.M o c h x r = refl
-inside_free in_patient kinds.S o c h x r = refl
-inside_free in_patient kinds.L o c h x r = refl
-inside_free in_order kinds.P o c h x r = refl
-inside_free in_order kinds.C o c h x r = refl
-inside_free in_order kinds.Q o c h x r = refl
-inside_free in_order kinds.M o c h x r = refl
-inside_free in_order kinds.S o c h x r = refl
-inside_free in_order kinds.L o c h x r = refl
-inside_free in_query kinds.P o c h x r = refl
-inside_free in_query kinds.C o c h x r = refl
-inside_free in_query kinds.Q o c h x r = refl
-inside_free in_query kinds.M o c h x r = refl
-inside_free in_query kinds.S o c h x r = refl
-inside_free in_query kinds.L o c h x r = refl
+inside_free l k o c h x r = refl
 
 pub begun_after : (l : Level) (ks : List Kind) → l ≢ outside → level_after l ks ≢ outside
 begun_after l [] o = o
@@ -283,15 +198,12 @@ viable_from ks s = record {
 }
 
 stays_open : (l : Level) (k : Kind) → l ≢ closed → k ≢ kinds.L → next_level l k ≢ closed
-stays_open l kinds.H u o e = cc
-stays_open l kinds.P u o e = cc
-stays_open l kinds.O u o e = cc
 stays_open l kinds.R u o e = u e
 stays_open l kinds.C u o e = u e
-stays_open l kinds.Q u o e = cc
 stays_open l kinds.M u o e = u e
 stays_open l kinds.S u o e = u e
 stays_open l kinds.L u o e = o refl
+stays_open l k u o e = cc
 
 module _ (whole : List Kind) (viable : IsViable whole) where
   not_last : (before : List Kind) (k i : Kind) (rest : List Kind) → whole ≡ before ++ k ∷ i ∷ rest → k ≢ kinds.L
