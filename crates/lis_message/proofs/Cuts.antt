@@ -128,14 +128,7 @@ cut_closing stream messages held b c r m is tree marks records =
 pub left_after-more : (left : Option Begun) (entry : Lent RecordContent) (k : Kind) → k ≢ kinds.L
     → left_after left entry k ≡ begun_with entry.delimiters (records_of left ++ entry.content ∷ [])
 left_after-more left entry kinds.L other = absurd (other refl)
-left_after-more left entry kinds.H other = refl
-left_after-more left entry kinds.P other = refl
-left_after-more left entry kinds.O other = refl
-left_after-more left entry kinds.R other = refl
-left_after-more left entry kinds.C other = refl
-left_after-more left entry kinds.Q other = refl
-left_after-more left entry kinds.M other = refl
-left_after-more left entry kinds.S other = refl
+left_after-more left entry k other = refl
 
 -- the cut with the text that was held and its CR
 pub cut_taken : (stream : List ℕ) (messages : List MessageTree) (left : Option Begun) (held : List ℕ)

@@ -88,13 +88,7 @@ outside_kind letter None text e = cc
 outside_kind letter (Some kinds.H) text e = record
     { is = refl; none = option_map-none reasons.BadRecord (header_fault text) e }
 outside_kind letter (Some kinds.P) text e = cc
-outside_kind letter (Some kinds.O) text e = cc
-outside_kind letter (Some kinds.R) text e = cc
-outside_kind letter (Some kinds.C) text e = cc
-outside_kind letter (Some kinds.Q) text e = cc
-outside_kind letter (Some kinds.M) text e = cc
-outside_kind letter (Some kinds.S) text e = cc
-outside_kind letter (Some kinds.L) text e = cc
+outside_kind letter kind text e = cc
 
 -- inside one it is another record
 record InsideKind (b : Begun) (k : Option Kind) (text : List ℕ) : Type 0 where
@@ -155,15 +149,8 @@ shapes d good (text ∷ texts) [] each = tt
 shapes d good (text ∷ texts) (r ∷ rs) each = (IsRecord-shape d good text r each.0, shapes d good texts rs each.1)
 
 pub is_closing : (k : Kind) → (k ≡ kinds.L) ⊎ (k ≢ kinds.L)
-is_closing kinds.H = inr (λ e. cc)
-is_closing kinds.P = inr (λ e. cc)
-is_closing kinds.O = inr (λ e. cc)
-is_closing kinds.R = inr (λ e. cc)
-is_closing kinds.C = inr (λ e. cc)
-is_closing kinds.Q = inr (λ e. cc)
-is_closing kinds.M = inr (λ e. cc)
-is_closing kinds.S = inr (λ e. cc)
 is_closing kinds.L = inl refl
+is_closing k = inr (λ e. cc)
 
 -- what a record completes
 pub completed : (left : Option Begun) (texts : List (List ℕ)) → AreLeft texts left

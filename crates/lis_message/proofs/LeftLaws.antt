@@ -9,15 +9,8 @@ use Rattle.lis_message.specs.inside.Taking.{ComesNext, header, inner, begun_with
 
 stays_open : (left : Option Begun) (entry : Lent RecordContent) (k : Kind) → k ≢ kinds.L
     → left_after left entry k ≡ begun_with entry.delimiters (records_of left ++ entry.content ∷ [])
-stays_open left entry kinds.H h = refl
-stays_open left entry kinds.P h = refl
-stays_open left entry kinds.O h = refl
-stays_open left entry kinds.R h = refl
-stays_open left entry kinds.C h = refl
-stays_open left entry kinds.Q h = refl
-stays_open left entry kinds.M h = refl
-stays_open left entry kinds.S h = refl
 stays_open left entry kinds.L h = absurd (h refl)
+stays_open left entry k h = refl
 
 one_header : (begun : Begun) (entry : Lent RecordContent) (text : List ℕ) → ComesNext (Some begun) text entry
     → entry.delimiters ≡ begun.delimiters

@@ -80,9 +80,7 @@ open_comes (Err reason) now o text is comes = tt
 
 standing_open : (s : Standing) → standing_level s ≢ closed
 standing_open standings.InHeader e = cc
-standing_open standings.InPatient e = cc
-standing_open standings.InOrder e = cc
-standing_open standings.InQuery e = cc
+standing_open standing e = cc
 
 capped_more : (n : ℕ) → min (capped n + 1) 18446744073709551615 ≡ capped (n + 1)
 capped_more n = omega arith

@@ -234,20 +234,14 @@ ends_zip d (t ∷ ts) (x ∷ rs) r z =
     }
 
 inside_open : (l : Level) → IsInside l → l ≢ closed
-inside_open in_header i e = cc
-inside_open in_patient i e = cc
-inside_open in_order i e = cc
-inside_open in_query i e = cc
 inside_open outside i e = elim i [ ]
 inside_open closed i e = elim i [ ]
+inside_open level i e = cc
 
 inside_closes : (l : Level) → IsInside l → misplaced l kinds.L ≡ None
-inside_closes in_header i = refl
-inside_closes in_patient i = refl
-inside_closes in_order i = refl
-inside_closes in_query i = refl
 inside_closes outside i = elim i [ ]
 inside_closes closed i = elim i [ ]
+inside_closes level i = refl
 
 message_runs : (ms : List MessageTree) (texts : List (List ℕ)) (m : MessageTree) → AreMessage texts m
     → Run (record { messages = ms; left = None }) texts (record { messages = ms ++ m ∷ []; left = None })

@@ -42,14 +42,7 @@ pub refusal-other : (b : Begun) (k : Kind) (text : List ℕ) → k ≢ kinds.H
     (misplaced (level_of (Some b)) k)
 unfolding kind_refusal
 refusal-other b kinds.H text o = absurd (o refl)
-refusal-other b kinds.P text o = refl
-refusal-other b kinds.O text o = refl
-refusal-other b kinds.R text o = refl
-refusal-other b kinds.C text o = refl
-refusal-other b kinds.Q text o = refl
-refusal-other b kinds.M text o = refl
-refusal-other b kinds.S text o = refl
-refusal-other b kinds.L text o = refl
+refusal-other b k text o = refl
 
 -- a text that is read is not refused
 pub read_unrefused : (ms : List MessageTree) (left : Option Begun) (t : List ℕ) (n : State) → StepFrom ms left t n

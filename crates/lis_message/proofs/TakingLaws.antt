@@ -23,30 +23,15 @@ use Rattle.lis_message.proofs.Refusals.{refusal_at, refusal-header, refusal-othe
 outside_letter : (letter : ℕ) (k : Option Kind) (text : List ℕ) (e : Reason) → letter_front false letter k ≡ Some e
     → letter_refusal None letter k text ≡ Some e
 unfolding kind_refusal
-outside_letter letter None text e h = h
 outside_letter letter (Some kinds.H) text e h = absurd cc
-outside_letter letter (Some kinds.P) text e h = h
-outside_letter letter (Some kinds.O) text e h = h
-outside_letter letter (Some kinds.R) text e h = h
-outside_letter letter (Some kinds.C) text e h = h
-outside_letter letter (Some kinds.Q) text e h = h
-outside_letter letter (Some kinds.M) text e h = h
-outside_letter letter (Some kinds.S) text e h = h
-outside_letter letter (Some kinds.L) text e h = h
+outside_letter letter kind text e h = h
 
 inside_letter : (b : Begun) (letter : ℕ) (k : Option Kind) (text : List ℕ) (e : Reason)
     → letter_front true letter k ≡ Some e → letter_refusal (Some b) letter k text ≡ Some e
 unfolding kind_refusal
 inside_letter b letter None text e h = h
 inside_letter b letter (Some kinds.H) text e h = h
-inside_letter b letter (Some kinds.P) text e h = absurd cc
-inside_letter b letter (Some kinds.O) text e h = absurd cc
-inside_letter b letter (Some kinds.R) text e h = absurd cc
-inside_letter b letter (Some kinds.C) text e h = absurd cc
-inside_letter b letter (Some kinds.Q) text e h = absurd cc
-inside_letter b letter (Some kinds.M) text e h = absurd cc
-inside_letter b letter (Some kinds.S) text e h = absurd cc
-inside_letter b letter (Some kinds.L) text e h = absurd cc
+inside_letter b letter kind text e h = absurd cc
 
 -- what the letter tells is the first reason
 pub front_refused : (left : Option Begun) (text : List ℕ) (e : Reason) → front_refusal (is_some left) text ≡ Some e
@@ -59,16 +44,8 @@ front_refused (Some b) (letter ∷ bytes) e h = inside_letter b letter (kind_of 
 
 outside_header : (letter : ℕ) (k : Option Kind) (text : List ℕ) → letter_front false letter k ≡ None
     → letter_refusal None letter k text ≡ kind_refusal None kinds.H text
-outside_header letter None text h = absurd cc
 outside_header letter (Some kinds.H) text h = refl
-outside_header letter (Some kinds.P) text h = absurd cc
-outside_header letter (Some kinds.O) text h = absurd cc
-outside_header letter (Some kinds.R) text h = absurd cc
-outside_header letter (Some kinds.C) text h = absurd cc
-outside_header letter (Some kinds.Q) text h = absurd cc
-outside_header letter (Some kinds.M) text h = absurd cc
-outside_header letter (Some kinds.S) text h = absurd cc
-outside_header letter (Some kinds.L) text h = absurd cc
+outside_header letter kind text h = absurd cc
 
 -- outside a message a text that may go on is told by a header's faults
 header_told : (text : List ℕ) → front_refusal false text ≡ None

@@ -113,10 +113,7 @@ emptied_carries_next limit events leavings is_limit neutral few =
 
 sender-emitted : {limit : ℕ} (emit : EmitOf limit) (w : World) → (emitted emit w).sender ≡ w.sender
 sender-emitted Emits.Nothing w = refl
-sender-emitted Emits.Enq w = refl
-sender-emitted Emits.Eot w = refl
-sender-emitted Emits.Nak w = refl
-sender-emitted (Emits.Frame frame) w = refl
+sender-emitted emit w = refl
 
 pub sender-timer :
     (limit : ℕ) (w : World)

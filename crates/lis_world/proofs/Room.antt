@@ -97,10 +97,7 @@ room-lost (u ∷ us) w has = has
 
 room-emitted : {limit : ℕ} (emit : EmitOf limit) (w : World) → HasRoom w → HasRoom (emitted emit w)
 room-emitted Emits.Nothing w has = has
-room-emitted Emits.Enq w has = has
-room-emitted Emits.Eot w has = has
-room-emitted Emits.Nak w has = has
-room-emitted (Emits.Frame frame) w has = has
+room-emitted emit w has = has
 
 room-replied : (limit : ℕ) (replies : List ℕ) (w : World) → HasRoom w → HasRoom (replied limit replies w)
 room-replied limit [] w has = has
@@ -123,10 +120,7 @@ room-reply_lost (b ∷ replies) w has = has
 
 room-given_up : (phase : Phase) (w : World) → HasRoom w → HasRoom (given_up phase w)
 room-given_up Phases.Neutral w has = has
-room-given_up Phases.AwaitLine w has = has
-room-given_up Phases.Busy w has = has
-room-given_up Phases.Contention w has = has
-room-given_up Phases.AwaitReply w has = has
+room-given_up phase w has = has
 
 room-begins :
     (limit : ℕ) (fault : Option StartFault) (texts : List (List ℕ)) (w : World) → HasRoom w
