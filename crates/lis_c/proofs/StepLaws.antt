@@ -13,19 +13,8 @@ use Rattle.lis_c.specs.declared.desk.ReceiverDesk.{ReceiverDesk}
 use Rattle.lis_c.specs.declared.out.LisStep.{LisStep}
 
 pub out_of_memory : (note : Note) → note_code note ≡ 11 → note ≡ Notes.OutOfMemory
-out_of_memory Notes.Quiet e = absurd (omega (e, arith))
-out_of_memory Notes.Opened e = absurd (omega (e, arith))
-out_of_memory Notes.NotReady e = absurd (omega (e, arith))
-out_of_memory Notes.Ended e = absurd (omega (e, arith))
-out_of_memory (Notes.Accepted number) e = absurd (omega (e, arith))
-out_of_memory (Notes.Duplicate number) e = absurd (omega (e, arith))
-out_of_memory (Notes.OutOfTurn number) e = absurd (omega (e, arith))
-out_of_memory (Notes.Refused fault) e = absurd (omega (e, arith))
-out_of_memory Notes.NoRoom e = absurd (omega (e, arith))
-out_of_memory Notes.TooLong e = absurd (omega (e, arith))
-out_of_memory Notes.TooMany e = absurd (omega (e, arith))
 out_of_memory Notes.OutOfMemory e = refl
-out_of_memory Notes.TimedOut e = absurd (omega (e, arith))
+out_of_memory note e = absurd (omega (e, arith))
 
 -- the answer means that memory was refused exactly where its note does
 pub not_out : (answer : Step) (before text : List ℕ) (out : LisStep) → IsTold answer before out text → out.note ≢ 11 →

@@ -74,13 +74,7 @@ pub other_line : (d : DelimiterBytes) (named : Option Repeats) (r : RecordConten
     → (lines ≡ lines ++ line_of d named r kind) × (sample ≡ field_text d (sample_after named r kind))
 other_line d named r kinds.O lines sample order result is = absurd (order refl)
 other_line d named r kinds.R lines sample order result is = absurd (result refl)
-other_line d named r kinds.H lines sample order result is = (sym (append-nil lines), is)
-other_line d named r kinds.P lines sample order result is = (sym (append-nil lines), is)
-other_line d named r kinds.C lines sample order result is = (sym (append-nil lines), is)
-other_line d named r kinds.Q lines sample order result is = (sym (append-nil lines), is)
-other_line d named r kinds.M lines sample order result is = (sym (append-nil lines), is)
-other_line d named r kinds.S lines sample order result is = (sym (append-nil lines), is)
-other_line d named r kinds.L lines sample order result is = (sym (append-nil lines), is)
+other_line d named r k lines sample order result is = (sym (append-nil lines), is)
 
 -- an order
 pub order_line : (d : DelimiterBytes) (named : Option Repeats) (r : RecordContent) (kind : Kind) (lines sample : List ℕ)

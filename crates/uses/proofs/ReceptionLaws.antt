@@ -18,19 +18,8 @@ use Rattle.uses.proofs.LoopLaws.{goes_on_none, goes_on_then, none_yet}
 
 -- memory was refused or wasn't
 wants_memory : (note : Note) → (note ≡ Notes.OutOfMemory) ⊎ (note ≢ Notes.OutOfMemory)
-wants_memory Notes.Quiet = inr (λ e. cc)
-wants_memory Notes.Opened = inr (λ e. cc)
-wants_memory Notes.NotReady = inr (λ e. cc)
-wants_memory Notes.Ended = inr (λ e. cc)
-wants_memory (Notes.Accepted number) = inr (λ e. cc)
-wants_memory (Notes.Duplicate number) = inr (λ e. cc)
-wants_memory (Notes.OutOfTurn number) = inr (λ e. cc)
-wants_memory (Notes.Refused fault) = inr (λ e. cc)
-wants_memory Notes.NoRoom = inr (λ e. cc)
-wants_memory Notes.TooLong = inr (λ e. cc)
-wants_memory Notes.TooMany = inr (λ e. cc)
 wants_memory Notes.OutOfMemory = inl refl
-wants_memory Notes.TimedOut = inr (λ e. cc)
+wants_memory note = inr (λ e. cc)
 
 -- the answer to a byte, and to the timer
 pub answers_byte : (byte spare : ℕ) (r : ReceiverState) (answer : Step) (new : Kept)
