@@ -386,6 +386,19 @@ steps_then w here stands past bytes done rest behind text a b c before middle re
           bytes_are steps)),
     )
 
+-- the same, where a step is known over what is left, whatever was read before
+pub steps_on :
+    (w : MessageWrites) (here stands : List ℕ → List ℕ → Type 0) (past bytes rest behind text : List ℕ) (a b c : Out)
+    (before middle : ℕ) (result : Result Turn ToolFault)
+    → ((read told : List ℕ) → here read told → length read + length rest < 2 ^ 44
+    → StepsOver w stands read rest behind b c middle told result)
+    → (done : List ℕ) × (bytes ≡ done ++ rest) × Puts (here (past ++ done)) a b before middle text
+    → length past + length bytes < 2 ^ 44 → StepsOver w stands past bytes behind a c before text result
+steps_on w here stands past bytes rest behind text a b c before middle result step (done, whole, so_far) few =
+    steps_then w here stands past bytes done rest behind text a b c before middle result whole so_far
+    (step (past ++ done) (text ++ so_far.more) so_far.behind
+    (omega (arith, few, ap length whole, length-append past done, length-append done rest)))
+
 -- all of the bytes
 pub all_read : (bytes done rest : List ℕ) → bytes ≡ done ++ rest → length rest ≡ 0 → done ≡ bytes
 all_read bytes done [] whole none = sym (append-nil done) ∙ sym whole
