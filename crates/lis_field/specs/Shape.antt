@@ -3,6 +3,8 @@ use Rattle.std.specs.Prelude.{◌<◌, List, [], ◌∷◌, length, map, ℕ, �
 use Rattle.std.specs.List.{All}
 use Rattle.lis_field.specs.declared.one_or_more.Items.{Items}
 use Rattle.lis_field.specs.declared.one_or_more.Items.TheVariants.{One, Many}
+use Rattle.lis_field.specs.declared.symbol_list.Kept.{Kept}
+use Rattle.lis_field.specs.declared.symbol_list.Kept.TheVariants.{Few, Many as ManySymbols}
 use Rattle.lis_field.specs.declared.symbols.Sym.{Sym}
 use Rattle.lis_field.specs.declared.symbols.Sym.TheVariants.{Char, Raw, On, Off}
 use Rattle.lis_field.specs.declared.kinds.Kind.{Kind}
@@ -24,6 +26,11 @@ Components = List Symbols
 -- a field: its repeats
 abbrev pub Repeats : Type 0
 Repeats = List Components
+
+-- the symbols of a list that keeps few of them in place
+abbrev pub symbols_of : Kept → Symbols
+symbols_of (Few few) = few
+symbols_of (ManySymbols many) = many.items
 
 -- these bytes, each a character
 abbrev pub plain_component : List ℕ → Symbols

@@ -3,10 +3,12 @@
 #![tactic(auto)]
 
 mod delimiting;
+mod few;
 mod kinds;
 mod one_or_more;
 mod parts;
 mod records;
+mod symbol_list;
 mod symbols;
 
 pub use delimiting::{DelimiterFault, Delimiters};

@@ -1,9 +1,9 @@
 //! Lists that are never empty and keep an only item in place.
 
-ghost use Rattle.std.specs.Prelude.{◌≡◌, ◌<◌, ◌++◌, ◌∷◌, [], length, IfErr, OnOk};
+ghost use Rattle.std.specs.Prelude.{◌≡◌, ◌<◌, ◌++◌, ◌∷◌, [], length, IfErr, IfOk, OnOk};
 ghost use Rattle.std.specs.Mem.{FitsInMemory};
 
-use std::alloc::{AllocFailed, Global};
+use std::alloc::{AllocError, AllocFailed, Global};
 use std::marker::Model;
 use std::{mem, slice};
 
@@ -33,6 +33,7 @@ impl<T> Model for OneOrMore<T> {
 
 impl<T: Drop> OneOrMore<T> {
     // A list of one item.
+    #[inline(always)]
     pub(crate) fn new(alloc: Global, first: T) -> Self
         ensures { result ≡ first ∷ [] }
     {
@@ -42,27 +43,41 @@ impl<T: Drop> OneOrMore<T> {
         }
     }
 
+    // A list of one item, with memory for so many.
+    #[inline(always)]
+    pub(crate) fn with_capacity(alloc: Global, first: T, count: usize) -> Result<Self, AllocError>
+        ensures { IfOk result (λ list. list ≡ first ∷ []) }
+    {
+        if count <= 1 {
+            return Ok(OneOrMore::new(alloc, first));
+        }
+        let mut items = Vec::with_capacity(alloc, count)?;
+        items.push_reserved(first);
+        Ok(OneOrMore {
+            alloc,
+            items: Items::Many(items),
+        })
+    }
+
     // Puts an item at the end. Where memory is refused it comes back, and the list is as before.
     pub(crate) fn push(&mut self, item: T) -> Result<(), AllocFailed<T>>
         ensures ok { OnOk result (self.new ≡ self.old ++ item ∷ []) }
         ensures err { IfErr result (λ refused. (refused.value ≡ item) × (self.new ≡ self.old)) }
     {
+        if let Items::Many(items) = &mut self.items {
+            return items.push(item);
+        }
+        let Ok(mut items) = Vec::with_capacity(self.alloc, 2) else {
+            return Err(AllocFailed { value: item });
+        };
         match mem::replace(&mut self.items, Items::Many(Vec::new(self.alloc))) {
-            Items::Many(mut items) => {
-                let pushed = items.push(item);
-                self.items = Items::Many(items);
-                pushed
-            }
             Items::One(first) => {
-                let Ok(mut items) = Vec::with_capacity(self.alloc, 2) else {
-                    self.items = Items::One(first);
-                    return Err(AllocFailed { value: item });
-                };
                 items.push_reserved(first);
                 items.push_reserved(item);
                 self.items = Items::Many(items);
                 Ok(())
             }
+            Items::Many(_) => unreachable!(),
         }
     }
 

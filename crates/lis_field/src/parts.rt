@@ -10,6 +10,7 @@ ghost use Rattle.lis_field.specs.contracts.symbols.SymEq.TheImpl.Laws as symbol_
 ghost use Rattle.lis_field.specs.Shape.{AreSymbols, IsFieldShape, IsRepeatShape, plain_component, plain_field};
 
 use crate::one_or_more::OneOrMore;
+use crate::symbol_list::SymbolList;
 use crate::symbols::Sym;
 use std::alloc::{AllocError, AllocFailed, Global};
 use std::marker::Model;
@@ -17,7 +18,7 @@ use std::marker::Model;
 /// A list of symbols.
 #[derive(Debug, Drop)]
 pub struct Component {
-    symbols: Vec<Sym>,
+    symbols: SymbolList,
 }
 
 impl Model for Component {
@@ -25,9 +26,9 @@ impl Model for Component {
 
     ghost Value = { Symbols };
 
-    ghost view = { λ c. c.symbols.items };
+    ghost view = { λ c. c.symbols };
 
-    ghost invariant = { λ c. AreSymbols c.symbols.items };
+    ghost invariant = { λ c. AreSymbols c.symbols };
 }
 
 impl Component {
@@ -36,7 +37,7 @@ impl Component {
         ensures { result ≡ [] }
     {
         Component {
-            symbols: Vec::new(alloc),
+            symbols: SymbolList::new(alloc),
         }
     }
 
@@ -45,19 +46,18 @@ impl Component {
         ensures { IfOk result (λ component. component ≡ []) }
     {
         Ok(Component {
-            symbols: Vec::with_capacity(alloc, symbols)?,
+            symbols: SymbolList::with_capacity(alloc, symbols)?,
         })
     }
 
     /// The component of these bytes, each a character: a delimiter among them is written as an escape.
+    #[inline(always)]
     pub fn from_text(alloc: Global, text: &[u8]) -> Result<Self, AllocError>
         ensures { IfOk result (λ component. component ≡ plain_component text.now) }
     {
-        let mut component = Component::with_capacity(alloc, text.len())?;
-        for byte in text {
-            component.push(Sym::Char(*byte))?;
-        }
-        Ok(component)
+        Ok(Component {
+            symbols: SymbolList::from_text(alloc, text)?,
+        })
     }
 
     /// The bytes of a component that holds characters alone; none where it holds a byte in hexadecimal digits, or
@@ -82,7 +82,7 @@ impl Component {
         ensures { IfOk result (λ component. component ≡ self.now) }
     {
         Ok(Component {
-            symbols: Vec::from_slice(alloc, self.symbols())?,
+            symbols: self.symbols.copy(alloc)?,
         })
     }
 
@@ -106,10 +106,11 @@ impl Component {
     pub fn get(&self, place: usize) -> Option<&Sym>
         ensures { option_copied result ≡ slice_get self.now place }
     {
-        self.symbols.get(place)
+        self.symbols().get(place)
     }
 
     /// The symbols, in order.
+    #[inline(always)]
     pub fn symbols(&self) -> &[Sym]
         ensures value { result.now ≡ self.now }
         ensures shape { AreSymbols self.now }
@@ -151,6 +152,7 @@ impl Model for Repeat {
 
 impl Repeat {
     /// A repeat of one component. Where memory is refused it comes back.
+    #[inline(always)]
     pub fn new(alloc: Global, component: Component) -> Result<Self, AllocFailed<Component>>
         ensures ok { IfOk result (λ repeat. repeat ≡ component ∷ []) }
         ensures err { IfErr result (λ refused. refused.value ≡ component) }
@@ -158,6 +160,21 @@ impl Repeat {
         let _ = component.symbols();
         Ok(Repeat {
             components: OneOrMore::new(alloc, component),
+        })
+    }
+
+    /// A repeat of one component, with memory for so many.
+    #[inline(always)]
+    pub fn with_capacity(
+        alloc: Global,
+        component: Component,
+        components: usize,
+    ) -> Result<Self, AllocError>
+        ensures { IfOk result (λ repeat. repeat ≡ component ∷ []) }
+    {
+        let _ = component.symbols();
+        Ok(Repeat {
+            components: OneOrMore::with_capacity(alloc, component, components)?,
         })
     }
 
@@ -174,6 +191,7 @@ impl Repeat {
     }
 
     /// Puts a component at the end. Where memory is refused it comes back, and the repeat is as before.
+    #[inline(always)]
     pub fn push(&mut self, component: Component) -> Result<(), AllocFailed<Component>>
         ensures ok { OnOk result (self.new ≡ self.old ++ component ∷ []) }
         ensures err { IfErr result (λ refused. (refused.value ≡ component) × (self.new ≡ self.old)) }
@@ -197,6 +215,7 @@ impl Repeat {
     }
 
     /// The components, in order.
+    #[inline(always)]
     pub fn components(&self) -> &[Component]
         ensures value { result.now ≡ self.now }
         ensures shape { IsRepeatShape self.now }
@@ -238,6 +257,7 @@ impl Model for Field {
 
 impl Field {
     /// A field of one repeat. Where memory is refused it comes back.
+    #[inline(always)]
     pub fn new(alloc: Global, repeat: Repeat) -> Result<Self, AllocFailed<Repeat>>
         ensures ok { IfOk result (λ field. field ≡ repeat ∷ []) }
         ensures err { IfErr result (λ refused. refused.value ≡ repeat) }
@@ -250,6 +270,7 @@ impl Field {
 
     /// The field of one component that holds these bytes, each a character: a delimiter among them is written as an
     /// escape.
+    #[inline(always)]
     pub fn from_text(alloc: Global, text: &[u8]) -> Result<Self, AllocError>
         ensures { IfOk result (λ field. field ≡ plain_field text.now) }
     {
@@ -308,6 +329,7 @@ impl Field {
     }
 
     /// The repeats, in order.
+    #[inline(always)]
     pub fn repeats(&self) -> &[Repeat]
         ensures value { result.now ≡ self.now }
         ensures shape { IsFieldShape self.now }

@@ -80,6 +80,7 @@ impl Record {
     }
 
     /// Puts a field at the end. Where memory is refused it comes back, and the record is as before.
+    #[inline(always)]
     pub fn push(&mut self, field: Field) -> Result<(), AllocFailed<Field>>
         ensures ok { OnOk result (self.new ≡ record self.old { fields = self.old.fields ++ field ∷ [] }) }
         ensures err { IfErr result (λ refused. (refused.value ≡ field) × (self.new ≡ self.old)) }

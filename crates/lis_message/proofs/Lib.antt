@@ -1,7 +1,6 @@
 mod DefinitionRows
 pub mod Cuts
 pub mod EveryStream
-pub mod LeftLaws
 pub mod Lines
 pub mod NextRecord
 pub mod OneRefusal

@@ -30,18 +30,20 @@ fn take_record(
     ensures left { OnOk result (begun.new ≡ left_after begun.old entry.now entry.now.content.kind) }
 {
     let record = entry.to_record(alloc)?;
-    let Some(message) = begun.take() else {
-        *begun = Some(OpenMessage::new(alloc, entry.delimiters(), record));
-        return Ok(None);
-    };
-    match entry.kind() {
-        Kind::L => {
-            let whole = message.closed(alloc, record)?;
-            Ok(Some(whole))
+    if let Kind::L = entry.kind() {
+        let Some(message) = begun.take() else {
+            unreachable!()
+        };
+        let whole = message.closed(alloc, record)?;
+        return Ok(Some(whole));
+    }
+    match begun {
+        Some(message) => {
+            message.push(alloc, record)?;
+            Ok(None)
         }
-        _ => {
-            let longer = message.with_record(alloc, record)?;
-            *begun = Some(longer);
+        None => {
+            *begun = Some(OpenMessage::new(alloc, entry.delimiters(), record));
             Ok(None)
         }
     }

@@ -67,7 +67,7 @@ part_behind-mark mark text end is = go (position (λ b. b == mark) text) refl
 
 -- ---- a field that is one component without an escape byte
 module _ (d : DelimiterBytes) where
-  plain_symbols : (text : List ℕ) → Lacks d.escape text → symbols_of d text ≡ plain_component text
+  pub plain_symbols : (text : List ℕ) → Lacks d.escape text → symbols_of d text ≡ plain_component text
   plain_symbols [] free = symbols_of-nil d [] refl
   plain_symbols (b ∷ bs) free =
       let P : ℕ → Type 0 = λ c. c ≢ d.escape in

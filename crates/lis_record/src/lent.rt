@@ -12,7 +12,7 @@ ghost use Rattle.lis_record.specs.Relation.{Lacks};
 ghost use Rattle.lis_record.specs.Spelling.{spelled_field};
 ghost use Rattle.lis_record.specs.Writing.{WroteAny, is_io};
 
-use crate::building::{read_field, read_fields};
+use crate::building::{is_plain, read_field, read_fields};
 use crate::chunk::Chunk;
 use crate::cursor::Spelling;
 use crate::escapes::LentSymbols;
@@ -137,17 +137,11 @@ impl<'a> LentField<'a> {
     pub fn only_component(&self) -> Option<&'a [u8]>
         ensures { IfSome result (λ bytes. self.now.content ≡ plain_field bytes.now) }
     {
-        let [repeat, component, escape] = [
-            self.delimiters.repeat(),
-            self.delimiters.component(),
-            self.delimiters.escape(),
-        ];
-        for byte in self.text {
-            if *byte == repeat || *byte == component || *byte == escape {
-                return None;
-            }
+        if is_plain(self.delimiters, self.text) {
+            Some(self.text)
+        } else {
+            None
         }
-        Some(self.text)
     }
 
     /// The field with memory of its own.

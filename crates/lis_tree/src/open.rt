@@ -1,5 +1,5 @@
 //! A message whose closing record hasn't come yet.
-ghost use Rattle.std.specs.Prelude.{◌≡◌, ◌≢◌, ◌+◌, ◌∷◌, [], ◌++◌, IfOk, None, Some, length};
+ghost use Rattle.std.specs.Prelude.{◌≡◌, ◌≢◌, ◌+◌, ◌∷◌, [], ◌++◌, IfOk, None, OnOk, Some, length};
 ghost use Rattle.lis_field.specs.declared.kinds.Kind.TheVariants as kinds;
 ghost use Rattle.lis_field.specs.Delimiters.{IsDelimiters};
 ghost use Rattle.lis_tree.specs.Level.{misplaced};
@@ -9,7 +9,7 @@ ghost use Rattle.lis_tree.specs.Tree.{flatten, IsTree};
 
 use crate::fault::Reason;
 use crate::message::Message;
-use crate::spine::{Spine, headed, standing, whole_front, with_record};
+use crate::spine::{Spine, headed, push_record, standing, whole_front, with_record};
 use lis_record::{Delimiters, Kind, Record};
 use std::alloc::{AllocError, Global};
 use std::marker::Model;
@@ -92,6 +92,28 @@ impl OpenMessage {
             spine,
             count: count.saturating_add(1),
         })
+    }
+
+    /// Adds one more record, which may stand there and doesn't close the message. Where memory is refused, what is
+    /// left is a message of a header without fields.
+    pub fn push(&mut self, alloc: Global, entry: Record) -> Result<(), AllocError>
+        requires placed { misplaced (level_of (Some self.old)) entry.kind ≡ None }
+        requires open { entry.kind ≢ kinds.L }
+        ensures { OnOk result (self.new
+            ≡ record { delimiters = self.old.delimiters; records = self.old.records ++ entry ∷ [] }) }
+    {
+        let kind = entry.kind();
+        match push_record(alloc, &mut self.spine, kind, entry) {
+            Ok(()) => {
+                self.count = self.count.saturating_add(1);
+                Ok(())
+            }
+            Err(AllocError) => {
+                self.spine = headed(alloc, Record::new(alloc, Kind::H));
+                self.count = 1;
+                Err(AllocError)
+            }
+        }
     }
 
     /// The message that this record, an L record, closes.

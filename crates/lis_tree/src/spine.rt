@@ -1,6 +1,6 @@
 //! The tree of a message while its records come: what is whole stands in lists, and the node that still grows stands
 //! by itself.
-ghost use Rattle.std.specs.Prelude.{◌≡◌, ◌∷◌, [], ◌++◌, ◌≢◌, IfOk, None};
+ghost use Rattle.std.specs.Prelude.{◌≡◌, ◌∷◌, [], ◌++◌, ◌≢◌, IfOk, None, OnOk};
 ghost use Rattle.lis_field.specs.declared.kinds.Kind.TheVariants as kinds;
 ghost use Rattle.lis_tree.specs.Level.{misplaced};
 ghost use Rattle.lis_tree.specs.Tree.{noted_records, order_records, patient_records, group_records, IsNote, IsNoted};
@@ -16,6 +16,7 @@ use lis_record::{Delimiters, Kind, Record};
 use lis_text::List;
 use std::alloc::{AllocError, Global};
 use std::marker::Model;
+use std::mem;
 
 /// A node that has no children yet.
 #[derive(Drop)]
@@ -48,6 +49,15 @@ impl Item {
         let Item { head, mut notes } = self;
         match notes.push(note) {
             Ok(()) => Ok(Item { head, notes }),
+            Err(_) => Err(AllocError),
+        }
+    }
+
+    fn push_note(&mut self, note: Record) -> Result<(), AllocError>
+        ensures { OnOk result (self.new ≡ record { head = self.old.head; notes = self.old.notes ++ note ∷ [] }) }
+    {
+        match self.notes.push(note) {
+            Ok(()) => Ok(()),
             Err(_) => Err(AllocError),
         }
     }
@@ -368,6 +378,80 @@ pub(crate) fn with_record(
         Kind::R => with_result(alloc, spine, entry),
         Kind::Q => with_query(alloc, spine, entry),
         Kind::C | Kind::M | Kind::S => with_note(spine, entry),
+    }
+}
+
+/// Adds a note to the last item where it stands.
+fn push_note(spine: &mut Spine, note: Record) -> Result<(), AllocError>
+    ensures records { OnOk result (spine_records spine.new ≡ spine_records spine.old ++ note ∷ []) }
+    ensures shape { OnOk result (IsSpine spine.old → IsNote note.kind → IsSpine spine.new) }
+{
+    match spine {
+        Spine::Header(item) => item.push_note(note),
+        Spine::Query(_front, item) => item.push_note(note),
+        Spine::Patient(_front, item) => item.push_note(note),
+        Spine::Order(_front, _patient, item) => item.push_note(note),
+        Spine::Entry(_front, _patient, _order, item) => item.push_note(note),
+    }
+}
+
+/// Moves the last result into its order, and puts the next in its place.
+#[tactic(auto, using(crate::proofs::Appends::appends))]
+fn push_result(
+    alloc: Global,
+    order: &mut Order,
+    item: &mut Item,
+    head: Record,
+) -> Result<(), AllocError>
+    ensures records { OnOk result (order_records order.new ++ noted_records item.new
+        ≡ order_records order.old ++ noted_records item.old ++ head ∷ []) }
+    ensures shape { OnOk result (IsOrder order.old → IsNoted kinds.R item.old → head.kind ≡ kinds.R
+        → IsOrder order.new × IsNoted kinds.R item.new) }
+{
+    let whole = mem::replace(item, Item::new(alloc, head));
+    match order.push(whole.into_entry()) {
+        Ok(()) => Ok(()),
+        Err(_) => Err(AllocError),
+    }
+}
+
+/// Adds a record, and moves all that stands before it.
+#[inline(never)]
+fn push_moved(alloc: Global, spine: &mut Spine, kind: Kind, entry: Record) -> Result<(), AllocError>
+    requires kind { entry.kind ≡ kind }
+    requires placed { misplaced (spine_level spine.old) kind ≡ None }
+    requires open { kind ≢ kinds.L }
+    ensures records { OnOk result (spine_records spine.new ≡ spine_records spine.old ++ entry ∷ []) }
+    ensures shape { OnOk result (IsSpine spine.old → IsSpine spine.new) }
+{
+    let before = mem::replace(spine, headed(alloc, Record::new(alloc, Kind::H)));
+    *spine = with_record(alloc, before, kind, entry)?;
+    Ok(())
+}
+
+/// Adds a record, which may stand there, to the message so far: a result behind another and a note where they stand,
+/// since most records are these.
+pub(crate) fn push_record(
+    alloc: Global,
+    spine: &mut Spine,
+    kind: Kind,
+    entry: Record,
+) -> Result<(), AllocError>
+    requires kind { entry.kind ≡ kind }
+    requires placed { misplaced (spine_level spine.old) kind ≡ None }
+    requires open { kind ≢ kinds.L }
+    ensures records { OnOk result (spine_records spine.new ≡ spine_records spine.old ++ entry ∷ []) }
+    ensures shape { OnOk result (IsSpine spine.old → IsSpine spine.new) }
+{
+    match kind {
+        Kind::R => {
+            if let Spine::Entry(_front, _patient, order, item) = spine {
+                return push_result(alloc, order, item, entry);
+            }
+            push_moved(alloc, spine, kind, entry)
+        }
+        Kind::C | Kind::M | Kind::S => push_note(spine, entry),
+        _ => push_moved(alloc, spine, kind, entry),
     }
 }
 

@@ -7,7 +7,7 @@ pub returns-in_default : goal.returns-in_default
 returns-in_default c = λ bytes same.
     let i = c.loop-symbol.symbol-index in
     let items : c.as_slice-symbol-items.result.now ≡ map Char bytes =
-    c.as_slice-symbol-items.ensures.value ∙ c.self.view_is ∙ same in
+    c.as_slice-symbol-items.ensures ∙ c.self.view_is ∙ same in
     let within : i < length bytes = omega (
       arith,
       c.loop-symbol-test.true,

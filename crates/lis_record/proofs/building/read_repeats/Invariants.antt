@@ -1,6 +1,6 @@
 use Rattle.std.proofs.Common.{◌≡◌, ◌++◌, length, map}
 use Rattle.lis_record.specs.inside.FrontReading.{components_of, repeats_of, parts_behind}
-use Rattle.lis_record.proofs.building.read_field.Given as goal
+use Rattle.lis_record.proofs.building.read_repeats.Given as goal
 
 abbrev pub invariant-loop-delimiter : goal.invariant-loop-delimiter
 invariant-loop-delimiter l = l.field ++ map (components_of l.delimiters) (parts_behind l.delimiters.repeat l.rest)

@@ -1,0 +1,90 @@
+//! A few symbols that stand in place.
+
+ghost use Rattle.std.specs.Prelude.{◌≡◌, ◌<◌, ◌≤◌, ◌↔◌, ◌++◌, ◌∷◌, [], IsTrue, length, map};
+ghost use Rattle.lis_field.specs.declared.symbols.Sym.TheVariants.{Char};
+
+use crate::symbols::Sym;
+use std::marker::Model;
+
+// How many symbols stand in place: as many as take no more room than what keeps more.
+pub(crate) const FEW: usize = 15;
+
+// The first symbols of a fixed array.
+#[derive(Drop)]
+pub(crate) struct Few {
+    count: u8,
+    symbols: [Sym; FEW],
+}
+
+impl Model for Few {
+    ghost use Rattle.std.specs.Prelude.{◌≤◌, List, take};
+    ghost use Rattle.lis_field.specs.declared.symbols.Sym.{Sym as Symbol};
+
+    ghost Value = { List Symbol };
+
+    ghost view = { λ f. take f.count f.symbols };
+
+    ghost invariant = { λ f. f.count ≤ 15 };
+}
+
+impl Few {
+    // No symbol.
+    #[inline(always)]
+    pub(crate) fn new() -> Self
+        ensures { result ≡ [] }
+    {
+        Few {
+            count: 0,
+            symbols: [Sym::Off; FEW],
+        }
+    }
+
+    // These bytes, each a character.
+    #[inline(always)]
+    pub(crate) fn from_text(text: &[u8]) -> Self
+        requires { length text.now ≤ 15 }
+        ensures { result ≡ map Char text.now }
+    {
+        let mut few = Few::new();
+        for byte in text {
+            few.push(Sym::Char(*byte));
+        }
+        few
+    }
+
+    // The same symbols once more.
+    pub(crate) fn copy(&self) -> Self
+        ensures { result ≡ self.now }
+    {
+        Few {
+            count: self.count,
+            symbols: self.symbols,
+        }
+    }
+
+    // Whether there is room for one more.
+    #[inline(always)]
+    pub(crate) fn has_room(&self) -> bool
+        ensures { IsTrue result ↔ (length self.now < 15) }
+    {
+        self.as_slice().len() < FEW
+    }
+
+    // Puts a symbol at the end.
+    #[inline(always)]
+    pub(crate) fn push(&mut self, symbol: Sym)
+        requires { length self.old < 15 }
+        ensures { self.new ≡ self.old ++ symbol ∷ [] }
+    {
+        self.symbols[self.count as usize] = symbol;
+        self.count += 1;
+    }
+
+    // The symbols, in order.
+    #[inline(always)]
+    pub(crate) fn as_slice(&self) -> &[Sym]
+        ensures { result.now ≡ self.now }
+    {
+        &self.symbols[..self.count as usize]
+    }
+}
