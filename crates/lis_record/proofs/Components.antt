@@ -20,7 +20,7 @@ use Rattle.lis_record.specs.inside.FrontReading.{escape_at, symbols_after, symbo
 use Rattle.lis_record.specs.Relation.{Lacks}
 use Rattle.lis_field.specs.Shape.{Symbols}
 
--- ---- no escape holds an escape byte
+-- ---- no escape holds a delimiter
 
 -- a punctuation byte is no letter of an escape
 letter_symbol-punctuation : (d : DelimiterBytes) (byte : ℕ) → is_punctuation byte ≡ true → letter_symbol d byte ≡ None
@@ -37,11 +37,11 @@ pub option_map-some : {X Y : Type 0} (f : X → Y) (o : Option X) (y : Y) → op
 option_map-some f None y h = cc
 option_map-some f (Some x) y h = (x, refl, cc)
 
-Lacks-letter : (d : DelimiterBytes) → IsDelimiters d → (letter : ℕ) (symbol : Sym)
-    → letter_symbol d letter ≡ Some symbol → letter ≢ d.escape
-Lacks-letter d good letter symbol h e =
+Lacks-letter : (d : DelimiterBytes) (mark : ℕ) → is_punctuation mark ≡ true → (letter : ℕ) (symbol : Sym)
+    → letter_symbol d letter ≡ Some symbol → letter ≢ mark
+Lacks-letter d mark punctuation letter symbol h e =
     some_none symbol (letter_symbol d letter) h
-    (letter_symbol-punctuation d letter (rw e good.escape_is))
+    (letter_symbol-punctuation d letter (rw e punctuation))
 
 -- digits hold no punctuation byte
 Lacks-digits : (byte : ℕ) → is_punctuation byte ≡ true → (digits : List ℕ) → AllPass is_hex_digit digits
@@ -61,24 +61,24 @@ X_is_no_delimiter : (letter mark : ℕ) → letter ≡ 88 → is_punctuation mar
 unfolding is_punctuation
 X_is_no_delimiter letter mark e h same = grind (arith, nat_tests)
 
--- what an escape has inside holds no escape byte
-pub Lacks-inside : (d : DelimiterBytes) → IsDelimiters d → (inside : List ℕ) (symbols : Symbols)
-    → escape_of d inside ≡ Some symbols → Lacks d.escape inside
+-- what an escape has inside holds no punctuation byte
+pub Lacks-inside : (d : DelimiterBytes) (mark : ℕ) → is_punctuation mark ≡ true → (inside : List ℕ) (symbols : Symbols)
+    → escape_of d inside ≡ Some symbols → Lacks mark inside
 unfolding escape_of
-Lacks-inside d good [] symbols h = cc
-Lacks-inside d good (letter ∷ []) symbols h =
+Lacks-inside d mark punctuation [] symbols h = cc
+Lacks-inside d mark punctuation (letter ∷ []) symbols h =
     let one = option_map-some (λ (symbol : Sym). symbol ∷ []) (letter_symbol d letter) symbols h in
-    All-cons (λ c. c ≢ d.escape) letter [] (Lacks-letter d good letter one.0 one.1) (All-nil (λ c. c ≢ d.escape))
-Lacks-inside d good (letter ∷ digit ∷ digits) symbols h =
+    All-cons (λ c. c ≢ mark) letter [] (Lacks-letter d mark punctuation letter one.0 one.1) (All-nil (λ c. c ≢ mark))
+Lacks-inside d mark punctuation (letter ∷ digit ∷ digits) symbols h =
     elim (cases_eq letter 88) [
       | inl e ↦
           let read : raw_symbols (decode_of (digit ∷ digits)) ≡ Some symbols =
           rw (eq-eqb letter 88 e) at h in
           let bytes = raw_symbols-ok (decode_of (digit ∷ digits)) symbols read in
           let pairs = decode_of-ok (digit ∷ digits) bytes.0 bytes.1 in
-          let apart : letter ≢ d.escape = X_is_no_delimiter letter d.escape e good.escape_is in
-          All-cons (λ c. c ≢ d.escape) letter (digit ∷ digits) apart
-          (Lacks-digits d.escape good.escape_is (digit ∷ digits) pairs.1)
+          let apart : letter ≢ mark = X_is_no_delimiter letter mark e punctuation in
+          All-cons (λ c. c ≢ mark) letter (digit ∷ digits) apart
+          (Lacks-digits mark punctuation (digit ∷ digits) pairs.1)
       | inr other ↦
           let none : None ≡ Some symbols = rw (test_false letter 88 other) at h in
           cc none
@@ -106,7 +106,7 @@ pub escape_at-begun : (d : DelimiterBytes) → IsDelimiters d → (inside rest :
     → escape_at d (inside ++ d.escape ∷ rest) ≡ Some (symbols, length inside + 1)
 unfolding escape_at
 escape_at-begun d good inside rest symbols h =
-    let n = position-closing d.escape inside rest (Lacks-inside d good inside symbols h) in
+    let n = position-closing d.escape inside rest (Lacks-inside d d.escape good.escape_is inside symbols h) in
     let short : ltb (length inside) (length (inside ++ d.escape ∷ rest)) ≡ true =
     lt-ltb (length inside) (length (inside ++ d.escape ∷ rest)) (simp length-append (omega arith)) in
     rw (n, short, take_at inside (d.escape ∷ rest) (length inside) refl, h) refl

@@ -1,29 +1,31 @@
 -- Fields that are taken one after another, and fields that are taken as they stand.
-use Rattle.std.proofs.Common.{◌≡◌, ◌≢◌, ℕ, zero, suc, ◌+◌, ◌-◌, ◌<◌, ◌≤◌, List, [], ◌∷◌, ◌++◌, length, map, take}
+use Rattle.std.proofs.Common.{◌≡◌, ◌≢◌, ℕ, suc, ◌+◌, ◌-◌, ◌<◌, ◌≤◌, List, [], ◌∷◌, ◌++◌, length, map, take}
 use Rattle.std.proofs.Common.{drop, None, Some, refl, sym, ap, ◌∙◌, arith, append_assoc, append-nil, length-append}
 use Rattle.std.proofs.Common.{eqb, true, false, Bool, cond, not, ◌==◌, Option, unwrap_or}
 use Rattle.std.specs.List.{All, flat_map}
 use Rattle.std.proofs.lemmas.Bool.{eqb-true}
 use Rattle.std.proofs.lemmas.Grind.{flat_map-append}
-use Rattle.std.proofs.lemmas.List.{drop_all, length-map}
+use Rattle.std.proofs.lemmas.List.{drop_all}
 use Rattle.std.proofs.lemmas.List.Splits.{slice_split_none}
-use Rattle.std.proofs.lemmas.List.{map-append}
 use Rattle.std.specs.List.{position, position_or_len}
-use Rattle.std.proofs.lemmas.List.Elements.{All-head, All-tail, All-cons, All-nil}
-use Rattle.std.proofs.Math.Seq.{drop-append_seam, take-append_seam, take-append-add}
+use Rattle.std.proofs.lemmas.List.Elements.{All-head, All-tail, All-nil}
+use Rattle.std.proofs.Math.Seq.{drop-append_seam, take-append_seam}
 use Rattle.lis_field.specs.Delimiters.{DelimiterBytes}
 use Rattle.lis_record.specs.Faults.{trailing_byte}
-use Rattle.lis_field.specs.Shape.{Components, Fields, Symbols, plain_component, plain_field}
+use Rattle.lis_field.specs.Shape.{Components, Symbols, plain_component, plain_field}
 use Rattle.lis_field.specs.declared.symbols.Sym.TheVariants.{Char}
 use Rattle.lis_record.specs.inside.FrontReading.{components_of, fields_of, parts_behind, parts_of, repeats_of}
 use Rattle.lis_record.specs.inside.FrontReading.{symbols_of}
 use Rattle.lis_record.specs.inside.Remaining.{more_fields}
 use Rattle.lis_record.specs.Relation.{Lacks}
-use Rattle.lis_record.specs.Spelling.{spelled_field}
 use Rattle.lis_record.proofs.Components.{symbols_of-plain}
 use Rattle.lis_record.proofs.Joins.{Lacks-tests, parts_of-apart}
 use Rattle.lis_record.proofs.Places.{IsFound-position, symbols_of-nil}
-use Rattle.lis_record.proofs.LentTexts.{field_as_is}
+use Rattle.lis_record.specs.inside.Respelling.{respelled}
+use Rattle.lis_record.proofs.Respelled.{fields_respelled, respelled-mark}
+use Rattle.lis_field.specs.Delimiters.{IsDelimiters}
+use Rattle.std.proofs.lemmas.List.{nil_from_length, take-map}
+use Rattle.std.proofs.lemmas.List.Elements.{All-take}
 
 -- the first part of a text doesn't hold the delimiter
 pub Lacks-first : (mark : ℕ) (text part rest : List ℕ) → parts_of mark text ≡ part ∷ parts_behind mark rest
@@ -141,63 +143,51 @@ taken_text mark text rest (byte ∷ front) whole some =
     let at : length text - length rest ≡ length front = omega (arith, length-append front rest, ap length tail) in
     rw (at, tail, same) (ap (λ (l : List ℕ). mark ∷ l) (take-append_seam front rest))
 
-All-split : {A : Type 0} (P : A → Type 0) (xs ys : List A) → All P (xs ++ ys) → All P xs × All P ys
-All-split P [] ys h = (All-nil P, h)
-All-split P (x ∷ xs) ys h =
-    let more = All-split P xs ys (All-tail P x (xs ++ ys) h) in
-    (All-cons P x xs (All-head P x (xs ++ ys) h) more.0, more.1)
+-- so many parts, and those behind them
+pub taken_parts :
+    (mark byte count : ℕ) (all text rest taken : List ℕ) → all ≡ byte ∷ text → Passed mark text rest count → 0 < count
+    → taken ≡ take (length text - length rest) text
+    → (count ≤ length (parts_behind mark all))
+    × (mark ∷ taken ≡ flat_map (λ part. mark ∷ part) (take count (parts_behind mark all)))
+    × (parts_behind mark rest ≡ drop count (parts_behind mark all))
+taken_parts mark byte count all text rest taken whole p some is =
+    let f = λ (part : List ℕ). mark ∷ part in
+    let others = parts_behind mark rest in
+    let parts : parts_behind mark all ≡ p.parts ++ others = ap (parts_behind mark) whole ∙ p.behind in
+    rw (parts, ← p.count) (
+      omega (arith, length-append p.parts others),
+      ap (λ (l : List ℕ). mark ∷ l) is ∙ taken_text mark text rest (flat_map f p.parts) p.joined (filled p.parts p.count)
+          ∙ ap (flat_map f) (sym (take-append_seam p.parts others)),
+      sym (drop-append_seam p.parts others),
+    )
+  where
+    filled : (parts : List (List ℕ)) → length parts ≡ count → 0 ≢ length (flat_map (λ part. mark ∷ part) parts)
+    filled [] e none = absurd (omega (arith, e, some))
+    filled (part ∷ parts) e none = absurd (omega arith)
 
-Lacks-behind : (mark : ℕ) (text : List ℕ) → Lacks mark text → Lacks mark (drop 1 text)
-Lacks-behind mark [] h = h
-Lacks-behind mark (b ∷ bs) h = All-tail (λ c. c ≢ mark) b bs h
+-- no part is left
+pub fewer_parts : (mark byte passed left count : ℕ) (all text rest : List ℕ) → all ≡ byte ∷ text
+    → Passed mark text rest passed → length rest ≡ 0 → passed + left ≡ count → 0 < left
+    → length (parts_behind mark all) < count
+fewer_parts mark byte passed left count all text rest whole p none sum some =
+    let parts : parts_behind mark all ≡ p.parts ++ [] =
+    ap (parts_behind mark) whole ∙ p.behind
+    ∙ ap (λ (l : List ℕ). p.parts ++ parts_behind mark l) (nil_from_length rest none) in
+    rw parts (omega (arith, ap length (append-nil p.parts), p.count, sum, some))
 
-module _ (d : DelimiterBytes) where
-  -- fields without an escape byte are spelled as they stand
-  plain_texts : (parts : List (List ℕ)) → All (Lacks d.field) parts
-      → Lacks d.escape (drop 1 (flat_map (λ part. d.field ∷ part) parts))
-      → more_fields d (map (repeats_of d) parts) ≡ flat_map (λ part. d.field ∷ part) parts
-  plain_texts [] apart free = refl
-  plain_texts (part ∷ parts) apart free =
-      let more = flat_map (λ (p : List ℕ). d.field ∷ p) parts in
-      let both = All-split (λ b. b ≢ d.escape) part more free in
-      let first = field_as_is d part (All-head (Lacks d.field) part parts apart) both.0 in
-      let others = plain_texts parts (All-tail (Lacks d.field) part parts apart) (Lacks-behind d.escape more both.1) in
-      rw (first, others) refl
-
-  -- so many fields, and those behind them
-  pub record Taken (count : ℕ) (fields : Fields) (taken rest : List ℕ) : Type 0 where
-    pub enough : count ≤ length fields
-    pub spelled : d.field ∷ taken ≡ more_fields d (take count fields)
-    pub left : fields_of d rest ≡ drop count fields
-
-  pub taken_plain :
-      (all text rest taken : List ℕ) (byte count : ℕ) → all ≡ byte ∷ text → Passed d.field text rest count → 0 < count
-      → taken ≡ take (length text - length rest) text → Lacks d.escape taken → Taken count (fields_of d all) taken rest
-  taken_plain all text rest taken byte count whole p some is free =
-      let R = repeats_of d in
-      let others = parts_behind d.field rest in
-      let fields : fields_of d all ≡ map R p.parts ++ map R others =
-      ap (fields_of d) whole ∙ ap (map R) p.behind ∙ map-append R p.parts others in
-      let long : length (map R p.parts) ≡ count = length-map p.parts R ∙ p.count in
-      let f = λ (part : List ℕ). d.field ∷ part in
-      let shown : d.field ∷ taken ≡ flat_map f p.parts =
-      ap (λ (l : List ℕ). d.field ∷ l) is ∙ taken_text d.field text rest (flat_map f p.parts) p.joined
-      (filled p.parts p.count) in
-      let apart = (All-split (Lacks d.field) p.parts others (rw p.behind at (parts_of-apart d.field text))).0 in
-      let front : take count (fields_of d all) ≡ map R p.parts =
-      rw (fields, ← long) (take-append_seam (map R p.parts) (map R others)) in
-      let back : drop count (fields_of d all) ≡ map R others =
-      rw (fields, ← long) (drop-append_seam (map R p.parts) (map R others)) in
-      record {
-        enough = rw fields (omega (arith, long, length-append (map R p.parts) (map R others)));
-        spelled =
-            shown ∙ sym (plain_texts p.parts apart (rw (ap (drop 1) shown) at free)) ∙ ap (more_fields d) (sym front);
-        left = sym back;
-      }
-    where
-      filled : (parts : List (List ℕ)) → length parts ≡ count → 0 ≢ length (flat_map (λ part. d.field ∷ part) parts)
-      filled [] e none = absurd (omega (arith, e, some))
-      filled (part ∷ parts) e none = absurd (omega arith)
+-- the spelling of so many fields
+pub fields_added : (d : DelimiterBytes) → IsDelimiters d → (all taken : List ℕ) (count : ℕ)
+    → d.field ∷ taken ≡ flat_map (λ part. d.field ∷ part) (take count (parts_behind d.field all))
+    → d.field ∷ respelled d taken ≡ more_fields d (take count (fields_of d all))
+fields_added d good all taken count whole =
+    let parts = parts_behind d.field all in
+    sym (respelled-mark d good d.field good.field_is good.field_escape taken) ∙ ap (respelled d) whole
+    ∙ sym (fields_respelled d good (take count parts) (All-take (Lacks d.field) count parts (apart all)))
+    ∙ ap (more_fields d) (sym (take-map (repeats_of d) count parts))
+  where
+    apart : (text : List ℕ) → All (Lacks d.field) (parts_behind d.field text)
+    apart [] = All-nil (Lacks d.field)
+    apart (byte ∷ bytes) = parts_of-apart d.field bytes
 
 -- fewer bytes are left
 pub passed_within : (mark : ℕ) (text rest : List ℕ) (passed : ℕ) → Passed mark text rest passed → 0 < passed

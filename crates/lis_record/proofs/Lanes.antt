@@ -1,12 +1,11 @@
 -- Sixteen bytes tested at once: those that a record may hold, and those that are one byte.
-use Rattle.std.proofs.Common.{◌≡◌, ◌≤◌, ℕ, zero, suc, ◌+◌, ◌*◌, ◌-◌, ◌%◌, ◌^◌, ◌==◌, Bool, true, false, cond, leb}
+use Rattle.std.proofs.Common.{◌≡◌, ◌≤◌, ℕ, ◌+◌, ◌*◌, ◌-◌, ◌%◌, ◌^◌, Bool, true, false, cond, leb}
 use Rattle.std.proofs.Common.{eqb, List, [], ◌∷◌}
 use Rattle.std.proofs.Common.{length, map, replicate, bit_and, bit_or, refl, ap, sym, ◌∙◌, arith, not, ◌&&◌, ◌||◌}
 use Rattle.std.proofs.Common.{take, drop}
 use Rattle.std.specs.Prelude.{count_by}
 use Rattle.std.specs.Simd.Lanes.{zip2, mask_l, top}
-use mir.Syntax.{w8}
-use Rattle.std.proofs.lemmas.Simd.{bitmask_splat, zip2_splat, zip2_splat_left, mask_l-mod, mask_l-lt}
+use Rattle.std.proofs.lemmas.Simd.{zip2_splat, zip2_splat_left, mask_l-mod}
 use Rattle.std.proofs.Math.Nat.{pow-succ'}
 use Rattle.std.proofs.lemmas.List.{length-map}
 use Rattle.std.proofs.lemmas.List.Sums.{sum_by-take-drop}

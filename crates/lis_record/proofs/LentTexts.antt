@@ -3,11 +3,10 @@ use Rattle.std.proofs.Common.{◌≡◌, ◌≢◌, ℕ, ◌-◌, ◌≤◌, ◌
 use Rattle.std.proofs.Common.{length, Option, Some, None, slice_get, refl, sym, ap, ◌∙◌, subst, arith, append_assoc}
 use Rattle.std.proofs.Common.{inl, inr, get_or, eq-eqb}
 use Rattle.std.specs.Option.{is_some}
-use Rattle.std.specs.List.{All, join_with_byte, position}
+use Rattle.std.specs.List.{All, position}
 use Rattle.std.proofs.lemmas.Bool.Decides.{eqb_tells}
 use Rattle.std.proofs.lemmas.List.{nil_from_length}
 use Rattle.std.proofs.lemmas.List.Elements.{All-head, All-tail, All-cons, All-nil}
-use Rattle.std.proofs.lemmas.List.Splits.{join_with_byte-slice_split}
 use Rattle.std.proofs.lemmas.List.Sums.{fails_before_first}
 use Rattle.std.proofs.lemmas.Option.{get_or_from_slice_get, slice_get-map, slice_get_within}
 use Rattle.lis_field.specs.declared.symbols.Sym.{Sym}
@@ -18,11 +17,10 @@ use Rattle.lis_field.specs.declared.kinds.Kind.{Kind}
 use Rattle.lis_field.proofs.FirstFaults.{ltb-past, test_false}
 use Rattle.lis_record.specs.Lent.{lent}
 use Rattle.lis_record.specs.inside.FrontReading.{components_of, fields_of, parts_behind, parts_of, repeats_of}
-use Rattle.lis_record.specs.inside.FrontReading.{symbols_after, symbols_of}
+use Rattle.lis_record.specs.inside.FrontReading.{symbols_of}
 use Rattle.lis_record.specs.Relation.{Lacks}
 use Rattle.lis_record.specs.inside.Remaining.{more_components, remaining_text}
 use Rattle.lis_record.specs.Spelling.{spelled_component, spelled_field, spelled_repeat, spelled_symbol}
-use Rattle.lis_record.proofs.Components.{symbols_of-plain}
 use Rattle.lis_record.proofs.Joins.{onto_first-apart, parts_of-apart}
 use Rattle.lis_record.proofs.Places.{past-position}
 use Rattle.lis_record.proofs.Steps.{field_alone, spelled_field-first, spelled_repeat-first}
@@ -106,13 +104,6 @@ module _ (d : DelimiterBytes) where
 
 -- ---- what holds no escape byte is spelled as it stands
 
-twice_as_is : {A : Type 0} (g : A → List ℕ) (f : List ℕ → A) (parts : List (List ℕ)) → All (λ p. g (f p) ≡ p) parts
-    → map g (map f parts) ≡ parts
-twice_as_is g f [] h = refl
-twice_as_is g f (part ∷ parts) h =
-    let P : List ℕ → Type 0 = λ p. g (f p) ≡ p in
-    rw (All-head P part parts h, twice_as_is g f parts (All-tail P part parts h)) refl
-
 pub is_some_none : {X : Type 0} (o : Option X) → is_some o ≡ false → o ≡ None
 is_some_none None h = refl
 is_some_none (Some x) h = cc h
@@ -125,7 +116,7 @@ Lacks-position mark text h = λ k e below same.
     cc (no, yes)
 
 module _ (d : DelimiterBytes) where
-  char_as_is : (b : ℕ) → b ≢ d.field → b ≢ d.repeat → b ≢ d.component → b ≢ d.escape
+  pub char_as_is : (b : ℕ) → b ≢ d.field → b ≢ d.repeat → b ≢ d.component → b ≢ d.escape
       → spelled_symbol d (Char b) ≡ b ∷ []
   unfolding spelled_symbol
   char_as_is b field repeat component escape =
@@ -136,38 +127,3 @@ module _ (d : DelimiterBytes) where
         test_false b
             d.escape escape,
       ) refl
-
-  component_as_is : (text : List ℕ) → Lacks d.field text → Lacks d.repeat text → Lacks d.component text
-      → Lacks d.escape text → spelled_component d (symbols_of d text) ≡ text
-  unfolding symbols_after
-  component_as_is [] field repeat component escape = refl
-  component_as_is (b ∷ bs) field repeat component escape =
-      let F : ℕ → Type 0 = λ c. c ≢ d.field in
-      let R : ℕ → Type 0 = λ c. c ≢ d.repeat in
-      let C : ℕ → Type 0 = λ c. c ≢ d.component in
-      let E : ℕ → Type 0 = λ c. c ≢ d.escape in
-      let first = char_as_is b (All-head F b bs field) (All-head R b bs repeat) (All-head C b bs component)
-      (All-head E b bs escape) in
-      let more = component_as_is bs (All-tail F b bs field) (All-tail R b bs repeat) (All-tail C b bs component)
-      (All-tail E b bs escape) in
-      ap (spelled_component d) (symbols_of-plain d b bs (All-head E b bs escape))
-      ∙ ap (λ (l : List ℕ). l ++ spelled_component d (symbols_of d bs)) first ∙ ap (λ (l : List ℕ). b ∷ l) more
-
-  repeat_as_is : (text : List ℕ) → Lacks d.field text → Lacks d.repeat text → Lacks d.escape text
-      → spelled_repeat d (components_of d text) ≡ text
-  repeat_as_is text field repeat escape =
-      let parts = parts_of d.component text in
-      ap (join_with_byte d.component) (twice_as_is (spelled_component d) (symbols_of d) parts (λ k e below.
-      component_as_is (get_or parts k e) (parts_of-Lacks d.component d.field text field k e below)
-      (parts_of-Lacks d.component d.repeat text repeat k e below)
-      (parts_of-apart d.component text k e below) (parts_of-Lacks d.component d.escape text escape k e below)))
-      ∙ join_with_byte-slice_split d.component text
-
-  pub field_as_is : (text : List ℕ) → Lacks d.field text → Lacks d.escape text
-      → spelled_field d (repeats_of d text) ≡ text
-  field_as_is text field escape =
-      let parts = parts_of d.repeat text in
-      ap (join_with_byte d.repeat) (twice_as_is (spelled_repeat d) (components_of d) parts (λ k e below.
-      repeat_as_is (get_or parts k e) (parts_of-Lacks d.repeat d.field text field k e below)
-      (parts_of-apart d.repeat text k e below) (parts_of-Lacks d.repeat d.escape text escape k e below)))
-      ∙ join_with_byte-slice_split d.repeat text

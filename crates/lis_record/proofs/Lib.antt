@@ -12,6 +12,8 @@ pub mod Pairs
 pub mod Places
 pub mod ReadBack
 pub mod RecordTexts
+pub mod Respelled
+pub mod Runs
 pub mod Shapes
 pub mod Sinks
 pub mod Steps

@@ -3,21 +3,20 @@ use Rattle.std.specs.Option.{is_some}
 use Rattle.lis_field.specs.declared.symbols.Sym.{Sym}
 use Rattle.hex.specs.Hex.{decode_of}
 use Rattle.std.proofs.lemmas.Bool.{lt-ltb}
-use Rattle.std.proofs.Common.{◌≡◌, ◌≢◌, ℕ, zero, suc, ◌+◌, ◌-◌, ◌<◌, ◌≤◌, ◌==◌, ◌||◌, Bool, not, slice_get}
-use Rattle.std.proofs.Common.{slice_index, sub-one, true, false, ltb, List, [], ◌∷◌, ◌++◌, length, take, drop, Option}
+use Rattle.std.proofs.Common.{◌≡◌, ◌≢◌, ℕ, zero, suc, ◌+◌, ◌-◌, ◌<◌, ◌≤◌, ◌==◌, slice_get}
+use Rattle.std.proofs.Common.{sub-one, true, false, ltb, List, [], ◌∷◌, ◌++◌, length, take, drop, Option}
 use Rattle.std.proofs.Common.{Some, None, option_map, unwrap_or, refl, sym, ap, ◌∙◌, arith, inl, inr}
-use Rattle.std.specs.List.{AllPass, list_any, position, position_or_len}
-use Rattle.std.proofs.lemmas.List.Elements.{All-cons, All-nil}
+use Rattle.std.specs.List.{position, position_or_len}
 use Rattle.std.proofs.lemmas.List.{drop-drop, drop_all, drop_more, nil_from_length, take_all, take_rest}
 use Rattle.std.proofs.lemmas.List.Splits.{slice_split_first, slice_split_none}
-use Rattle.std.proofs.lemmas.List.Sums.{fails_before_first, position_or_len_is}
+use Rattle.std.proofs.lemmas.List.Sums.{fails_before_first}
 use Rattle.lis_field.specs.declared.symbols.Sym.TheVariants.{Char}
 use Rattle.lis_field.specs.Delimiters.{DelimiterBytes}
 use Rattle.lis_record.specs.Escapes.{escape_of, letter_symbol, raw_symbols}
 use Rattle.lis_record.specs.inside.FrontReading.{ArePairs, digit_symbols, escape_at, parts_behind, parts_of}
 use Rattle.lis_record.specs.inside.FrontReading.{symbols_after, symbols_left, symbols_of}
 use Rattle.lis_field.specs.Shape.{Symbols}
-use Rattle.lis_field.proofs.FirstFaults.{ltb-past, ltb_tells, position-AllPass, test_false}
+use Rattle.lis_field.proofs.FirstFaults.{ltb_tells, test_false}
 use Rattle.lis_record.proofs.Components.{symbols_of-escape, symbols_of-lone, symbols_of-plain}
 use Rattle.lis_record.proofs.Pairs.{ArePairs-none, digit_symbols-none, raw_of_others, raw_of_pairs}
 
@@ -126,7 +125,7 @@ escape_of-other d inside (digit ∷ digits) letter e h x = rw (e, test_false let
 
 -- ---- what an escape byte begins
 
-escape_at-none : (d : DelimiterBytes) (text : List ℕ) → position (λ b. b == d.escape) text ≡ None
+pub escape_at-none : (d : DelimiterBytes) (text : List ℕ) → position (λ b. b == d.escape) text ≡ None
     → escape_at d text ≡ None
 unfolding escape_at
 escape_at-none d text h =
@@ -135,7 +134,7 @@ escape_at-none d text h =
       | inr past ↦ rw past.0 refl
     ]
 
-escape_at-found : (d : DelimiterBytes) (text : List ℕ) (end : ℕ) → position (λ b. b == d.escape) text ≡ Some end
+pub escape_at-found : (d : DelimiterBytes) (text : List ℕ) (end : ℕ) → position (λ b. b == d.escape) text ≡ Some end
     → escape_at d text ≡ option_map (λ (symbols : Symbols). (symbols, end + 1)) (escape_of d (take end text))
 unfolding escape_at
 escape_at-found d text end h =

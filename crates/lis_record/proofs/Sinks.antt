@@ -1,9 +1,9 @@
 -- What a sink takes, one write after another.
 use Rattle.std.proofs.Math.Seq.{drop-append-add}
-use Rattle.std.proofs.Common.{◌≡◌, ℕ, zero, suc, ◌+◌, ◌-◌, ◌^◌, ◌<◌, ◌≤◌, min, List, [], ◌∷◌, ◌++◌, length, take}
-use Rattle.std.proofs.Common.{drop, Option, Some, None, Result, Ok, Err, refl, sym, ap, ◌∙◌, append-nil, append_assoc}
-use Rattle.std.proofs.Common.{length-append, zero-add, arith}
-use Rattle.std.proofs.lemmas.List.{drop_at, take_at, drop-drop, drop_all, take-append-le}
+use Rattle.std.proofs.Common.{◌≡◌, ℕ, ◌+◌, ◌-◌, ◌^◌, ◌<◌, ◌≤◌, min, List, [], ◌++◌, length, take}
+use Rattle.std.proofs.Common.{drop, Option, Some, None, Result, Ok, Err, refl, sym, ap, ◌∙◌}
+use Rattle.std.proofs.Common.{length-append, arith}
+use Rattle.std.proofs.lemmas.List.{drop_at, take_at, drop_all, take-append-le}
 use Rattle.std.specs.Io.KnownBytes.{Appends, Keeps}
 use Rattle.lis_record.specs.declared.faults.WriteFault.{WriteFault}
 use Rattle.lis_record.specs.declared.faults.WriteFault.TheVariants as write_faults

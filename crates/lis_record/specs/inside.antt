@@ -2,3 +2,4 @@
 pub mod FrontReading
 pub mod Pieces
 pub mod Remaining
+pub mod Respelling

@@ -65,7 +65,7 @@ fn are_pairs(text: &[u8]) -> bool
 }
 
 // The byte of the first pair of digits, and the digits behind it.
-fn first_pair(digits: &[u8]) -> Option<(u8, &[u8])>
+pub(crate) fn first_pair(digits: &[u8]) -> Option<(u8, &[u8])>
     requires { ArePairs digits.now }
     ensures { MatchOption result (digits.now ≡ [])
         (λ pair. (digit_symbols digits.now ≡ Raw pair.0 ∷ digit_symbols pair.1.now) × ArePairs pair.1.now) }
@@ -80,7 +80,7 @@ fn first_pair(digits: &[u8]) -> Option<(u8, &[u8])>
 }
 
 // The first symbol of what an escape means, and the digits of those behind it; none where this is no escape.
-fn escape_meaning(delimiters: Delimiters, inside: &[u8]) -> Option<(Sym, &[u8])>
+pub(crate) fn escape_meaning(delimiters: Delimiters, inside: &[u8]) -> Option<(Sym, &[u8])>
     ensures { MatchOption result (escape_of delimiters inside.now ≡ None)
         (λ found. (escape_of delimiters inside.now ≡ Some (found.0 ∷ digit_symbols found.1.now))
         × ArePairs found.1.now) }

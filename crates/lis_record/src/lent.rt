@@ -1,7 +1,7 @@
 //! Records and their parts where they stand in a text, without memory (LIS02-A2, Delimiters).
 
-ghost use Rattle.std.specs.Prelude.{◌≡◌, ◌<◌, ◌≤◌, ◌∷◌, [], IfOk, IfSome, MatchOption, drop, length, option_map};
-ghost use Rattle.std.specs.Prelude.{slice_get};
+ghost use Rattle.std.specs.Prelude.{◌≡◌, ◌<◌, ◌≤◌, ◌++◌, ◌∷◌, ◌↔◌, [], IfOk, IfSome, IsFalse, IsTrue, MatchOption, OnOk};
+ghost use Rattle.std.specs.Prelude.{drop, length, option_map, slice_get};
 ghost use Rattle.std.specs.Prelude.{false, take};
 ghost use Rattle.lis_field.specs.Shape.{field_at, plain_field};
 ghost use Rattle.lis_field.specs.declared.kinds.Kind.{Kind as KindOf};
@@ -18,8 +18,9 @@ use crate::cursor::Spelling;
 use crate::escapes::LentSymbols;
 use crate::faults::WriteFault;
 use crate::lent_cursor::LentCursor;
+use crate::respelling::add_respelled;
 use crate::search::place_of;
-use crate::texts::{count_parts, first_part, part_at, part_behind};
+use crate::texts::{count_parts, first_part, part_at, part_behind, split_parts};
 use crate::writing::send;
 use lis_field::{Delimiters, Field, Kind, Record};
 use lis_port::{Sink, write_all};
@@ -151,6 +152,16 @@ impl<'a> LentField<'a> {
         read_field(alloc, self.delimiters, self.text)
     }
 
+    /// Adds the field's spelling to a text.
+    pub fn add_to(&self, text: &mut Vec<u8>) -> Result<(), AllocError>
+        ensures { OnOk result (text.new.items ≡ text.old.items
+            ++ spelled_field self.now.delimiters self.now.content) }
+    {
+        let _ = self.delimiters.field();
+        add_respelled(text, self.delimiters, self.text)?;
+        Ok(())
+    }
+
     /// Writes the field's spelling, of any length and without memory, to a sink that has not failed.
     ///
     /// On `Io(count)` the sink failed, and the first `count` bytes are out; the count stops at
@@ -164,7 +175,8 @@ impl<'a> LentField<'a> {
         if place_of(self.text, self.delimiters.escape()).is_some() {
             return put_symbols(sink, self.delimiters, self.text);
         }
-        // Without an escape byte the field is spelled as it stands.
+        // Without an escape byte the field is spelled as it stands, since delimiters are apart.
+        let _ = self.delimiters.field();
         match write_all(sink, self.text) {
             Ok(()) => Ok(()),
             Err(count) => Err(WriteFault::Io(count as u64)),
@@ -221,35 +233,24 @@ impl<'a> LentFields<'a> {
         })
     }
 
-    /// Takes so many fields as they stand, with the delimiters between them, in one pass; none where there are fewer,
-    /// or where an escape byte is among them, and then all are left. At least one is asked for.
+    /// Takes so many fields and adds them to a text by their spelling, each behind a field delimiter; false where there
+    /// are fewer, and then all are left and nothing is added. At least one is asked for.
     #[inline(always)]
-    pub fn take_plain(&mut self, count: usize) -> Option<&'a [u8]>
+    pub fn add_next(&mut self, count: usize, text: &mut Vec<u8>) -> Result<bool, AllocError>
         requires { 0 < count }
-        ensures { MatchOption result (self.new ≡ self.old) (λ text. (count ≤ length self.old.content)
-            × (self.old.delimiters.field ∷ text.now ≡ more_fields self.old.delimiters (take count self.old.content))
+        ensures enough { IfOk result (λ added. IsTrue added ↔ (count ≤ length self.old.content)) }
+        ensures added { IfOk result (λ added. IsTrue added
+            → (text.new.items ≡ text.old.items ++ more_fields self.old.delimiters (take count self.old.content))
             × (self.new ≡ lent self.old.delimiters (drop count self.old.content))) }
+        ensures left { IfOk result (λ added. IsFalse added → (text.new ≡ text.old) × (self.new ≡ self.old)) }
     {
-        let field = self.delimiters.field();
-        let Some((_delimiter, text)) = self.text.split_first() else {
-            return None;
+        let Some((fields, rest)) = split_parts(self.text, self.delimiters.field(), count) else {
+            return Ok(false);
         };
-        let (_first, mut rest) = first_part(text, field);
-        let mut left = count - 1;
-        while left > 0 {
-            let Some((_mark, behind)) = rest.split_first() else {
-                return None;
-            };
-            let (_part, others) = first_part(behind, field);
-            rest = others;
-            left -= 1;
-        }
-        let (taken, _behind) = text.split_at(text.len() - rest.len());
-        if place_of(taken, self.delimiters.escape()).is_some() {
-            return None;
-        }
+        text.extend_from_slice(&[self.delimiters.field()])?;
+        add_respelled(text, self.delimiters, fields)?;
         self.text = rest;
-        Some(taken)
+        Ok(true)
     }
 }
 

@@ -11,6 +11,7 @@ mod lent;
 mod lent_cursor;
 mod pieces;
 mod reading;
+mod respelling;
 mod search;
 mod texts;
 mod writing;

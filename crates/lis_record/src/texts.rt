@@ -1,6 +1,7 @@
 //! The parts of a text round a delimiter (LIS02-A2, Delimiters).
 
-ghost use Rattle.std.specs.Prelude.{◌≡◌, ◌≤◌, ◌∷◌, ◌++◌, None, length, slice_get};
+ghost use Rattle.std.specs.Prelude.{◌≡◌, ◌<◌, ◌≤◌, ◌∷◌, ◌++◌, MatchOption, None, drop, length, slice_get, take};
+ghost use Rattle.std.specs.List.{flat_map};
 ghost use Rattle.std.specs.Option.{option_copied};
 ghost use Rattle.lis_record.specs.Faults.{trailing_byte};
 ghost use Rattle.lis_record.specs.inside.FrontReading.{parts_behind, parts_of};
@@ -50,6 +51,34 @@ pub(crate) fn part_behind(text: &[u8], delimiter: u8, place: usize) -> Option<&[
         Some((_mark, parts)) => part_at(parts, delimiter, place),
         None => None,
     }
+}
+
+// So many parts behind a first delimiter, with the delimiters between them, and what follows; none where there are
+// fewer. At least one is asked for.
+#[inline(always)]
+pub(crate) fn split_parts(text: &[u8], delimiter: u8, count: usize) -> Option<(&[u8], &[u8])>
+    requires { 0 < count }
+    ensures { MatchOption result (length (parts_behind delimiter text.now) < count) (λ split.
+        (count ≤ length (parts_behind delimiter text.now))
+        × (delimiter ∷ split.0.now ≡ flat_map (λ part. delimiter ∷ part)
+        (take count (parts_behind delimiter text.now)))
+        × (parts_behind delimiter split.1.now ≡ drop count (parts_behind delimiter text.now))) }
+{
+    let Some((_delimiter, parts)) = text.split_first() else {
+        return None;
+    };
+    let (_first, mut rest) = first_part(parts, delimiter);
+    let mut left = count - 1;
+    while left > 0 {
+        let Some((_mark, behind)) = rest.split_first() else {
+            return None;
+        };
+        let (_part, others) = first_part(behind, delimiter);
+        rest = others;
+        left -= 1;
+    }
+    let (taken, _behind) = parts.split_at(parts.len() - rest.len());
+    Some((taken, rest))
 }
 
 // The number of parts round a delimiter.

@@ -1,22 +1,21 @@
 //! Text that is held in memory until a message is whole.
 
-ghost use Rattle.std.specs.Prelude.{◌≡◌, ◌++◌, ◌∷◌, [], Some, decimal, drop, OnOk, slice_get};
+ghost use Rattle.std.specs.Prelude.{◌≡◌, ◌<◌, ◌≤◌, ◌++◌, ◌∷◌, ◌↔◌, [], IfOk, IsFalse, IsTrue, OnOk, decimal, drop};
+ghost use Rattle.std.specs.Prelude.{length, slice_get, take};
 ghost use Rattle.lis_field.specs.Shape.{field_at};
 ghost use Rattle.lis_record.specs.Lent.{lent};
-ghost use Rattle.lis_record.specs.Spelling.{spelled_field};
+ghost use Rattle.lis_record.specs.inside.Remaining.{more_fields};
 ghost use Rattle.lis_tool.specs.Results.{field_text};
 
 use itoa::Buffer;
 use lis_message::LentRecord;
-use lis_port::{Failed, Sink};
-use lis_record::{LentField, LentFields};
+use lis_record::LentFields;
 use std::alloc::{AllocError, Global};
 
-/// Text in memory. As a sink it fails where memory is refused.
+/// Text in memory.
 #[derive(Drop)]
 pub(crate) struct HeldText {
     bytes: Vec<u8>,
-    failed: bool,
 }
 
 impl HeldText {
@@ -26,7 +25,6 @@ impl HeldText {
     {
         HeldText {
             bytes: Vec::new(alloc),
-            failed: false,
         }
     }
 
@@ -83,9 +81,28 @@ impl HeldText {
             ++ field_text entry.now.delimiters (field_at entry.now.content number)) }
     {
         match entry.field(number) {
-            Some(field) => self.add_spelled(&field),
+            Some(field) => field.add_to(&mut self.bytes),
             None => Ok(()),
         }
+    }
+
+    /// Adds so many of the next fields by their spelling, each behind a field delimiter; false where there are fewer,
+    /// and then nothing is added or taken. At least one is asked for.
+    #[inline(always)]
+    pub(crate) fn add_fields(
+        &mut self,
+        fields: &mut LentFields<'_>,
+        count: usize,
+    ) -> Result<bool, AllocError>
+        requires { 0 < count }
+        ensures enough { IfOk result (λ added. IsTrue added ↔ (count ≤ length fields.old.content)) }
+        ensures added { IfOk result (λ added. IsTrue added → (self.new.bytes.items ≡ self.old.bytes.items
+            ++ more_fields fields.old.delimiters (take count fields.old.content))
+            × (fields.new ≡ lent fields.old.delimiters (drop count fields.old.content))) }
+        ensures left { IfOk result (λ added. IsFalse added → (self.new.bytes.items ≡ self.old.bytes.items)
+            × (fields.new ≡ fields.old)) }
+    {
+        fields.add_next(count, &mut self.bytes)
     }
 
     /// Adds a mark and the next of these fields by its spelling; the mark alone where none is left.
@@ -95,57 +112,14 @@ impl HeldText {
         mark: u8,
         fields: &mut LentFields<'_>,
     ) -> Result<(), AllocError>
+        requires { mark ≡ fields.old.delimiters.field }
         ensures added { OnOk result (self.new.bytes.items ≡ self.old.bytes.items
             ++ mark ∷ field_text fields.old.delimiters (slice_get fields.old.content 0)) }
         ensures left { OnOk result (fields.new ≡ lent fields.old.delimiters (drop 1 fields.old.content)) }
     {
-        self.add_byte(mark)?;
-        if let Some(text) = fields.take_plain(1) {
-            return self.add(text);
+        if self.add_fields(fields, 1)? {
+            return Ok(());
         }
-        match fields.next() {
-            Some(next) => self.add_spelled(&next),
-            None => Ok(()),
-        }
-    }
-
-    /// Adds a field by its spelling.
-    fn add_spelled(&mut self, field: &LentField<'_>) -> Result<(), AllocError>
-        ensures { OnOk result (self.new.bytes.items ≡ self.old.bytes.items
-            ++ spelled_field field.now.delimiters field.now.content) }
-    {
-        if self.failed {
-            return Err(AllocError);
-        }
-        match field.put(self) {
-            Ok(()) => Ok(()),
-            Err(_) => Err(AllocError),
-        }
-    }
-}
-
-impl Sink for HeldText {
-    ghost taken = { λ s. Some s.bytes.items };
-
-    ghost sent = { λ s. Some s.bytes.items };
-
-    ghost failed = { λ s. s.failed };
-
-    fn write(&mut self, bytes: &[u8]) -> Result<usize, Failed> {
-        match self.bytes.extend_from_slice(bytes) {
-            Ok(()) => Ok(bytes.len()),
-            Err(_) => {
-                self.failed = true;
-                Err(Failed)
-            }
-        }
-    }
-
-    fn flush(&mut self) -> Result<(), Failed> {
-        Ok(())
-    }
-
-    fn failed(&self) -> bool {
-        self.failed
+        self.add_byte(mark)
     }
 }

@@ -1,7 +1,6 @@
 //! The command `results`: the result records of messages, with the samples that their orders name (LIS02-A2).
 
 ghost use Rattle.std.specs.Prelude.{◌≡◌, ◌^◌, ◌<◌, ◌≤◌, ◌++◌, ◌∷◌, List, Option, None, OnOk, true, length, IfOk};
-ghost use Rattle.std.specs.Prelude.{IfSome};
 ghost use Rattle.lis_field.specs.declared.kinds.Kind.TheVariants as kinds;
 ghost use Rattle.lis_field.specs.Shape.{Repeats};
 ghost use Rattle.lis_tool.specs.MessageRuns.{MessagesRan};
@@ -148,42 +147,16 @@ fn add_told(lines: &mut HeldText, entry: &LentRecord<'_>) -> Result<(), AllocErr
     ensures { OnOk result (lines.new.bytes.items ≡ lines.old.bytes.items
         ++ fields_behind entry.now.delimiters entry.now.content told_fields) }
 {
-    let Some((front, last)) = plain_fields(entry) else {
-        return add_each(lines, entry);
-    };
-    let mark = entry.delimiters().field();
-    lines.add_byte(mark)?;
-    lines.add(front)?;
-    lines.add_byte(mark)?;
-    lines.add(last)
-}
-
-/// Fields 3 to 7 of a result as they stand, with the delimiters between them, and field 9; none where one is absent or
-/// an escape byte is among them.
-#[inline(always)]
-fn plain_fields<'a>(entry: &LentRecord<'a>) -> Option<(&'a [u8], &'a [u8])>
-    requires { entry.now.content.kind ≡ kinds.R }
-    ensures { IfSome result (λ parts. (entry.now.delimiters.field ∷ parts.0.now) ++ entry.now.delimiters.field
-        ∷ parts.1.now
-        ≡ fields_behind entry.now.delimiters entry.now.content told_fields) }
-{
     let mut fields = entry.fields();
-    let Some(_number) = fields.next() else {
-        return None;
-    };
-    let Some(front) = fields.take_plain(5) else {
-        return None;
-    };
-    let Some(_flag) = fields.next() else {
-        return None;
-    };
-    match fields.take_plain(1) {
-        Some(last) => Some((front, last)),
-        None => None,
+    let _number = fields.next();
+    if !lines.add_fields(&mut fields, 5)? {
+        return add_each(lines, entry);
     }
+    let _nature = fields.next();
+    lines.add_next(entry.delimiters().field(), &mut fields)
 }
 
-/// Adds fields 3 to 7 of a result and field 9 one by one by their spelling, each behind a field delimiter.
+/// The same, of fields of which some may be absent: one by one.
 #[inline(never)]
 fn add_each(lines: &mut HeldText, entry: &LentRecord<'_>) -> Result<(), AllocError>
     requires { entry.now.content.kind ≡ kinds.R }

@@ -3,7 +3,8 @@ use Rattle.lis_field.specs.Shape.{Repeats}
 use Rattle.lis_record.specs.declared.faults.WriteFault.TheVariants as write_faults
 use Rattle.lis_record.specs.Lent.{Lent}
 use Rattle.lis_record.specs.Spelling.{spelled_field}
-use Rattle.lis_record.proofs.LentTexts.{Lacks-position, field_as_is, is_some_none}
+use Rattle.lis_record.proofs.LentTexts.{Lacks-position, is_some_none}
+use Rattle.lis_record.proofs.Respelled.{field_as_is}
 use Rattle.lis_record.proofs.WriteLaws.{WroteAny-same}
 use Rattle.lis_record.proofs.lent.LentField.put.Goals as goal
 
@@ -15,7 +16,7 @@ returns-in-Ok-clause-wrote g c =
     WroteAny-same (spelled_field c.args.self.now.delimiters c.args.self.now.content) i.text.now
     (g.W.Sink.taken c.args.sink.now) (g.W.Sink.taken c.write_all.new.sink) (Ok tt)
     (ap (λ (f : Lent Repeats). spelled_field f.delimiters f.content) (sym c.self.view_is)
-    ∙ field_as_is i.delimiters i.text.now c.self.invariant free)
+    ∙ field_as_is i.delimiters c.field.ensures.shape i.text.now c.self.invariant free)
     (refl, c.in-Ok.ensures.ok)
 
 pub returns-in-Err-clause-wrote : goal.returns-in-Err-clause-wrote
@@ -27,5 +28,5 @@ returns-in-Err-clause-wrote g c =
     WroteAny-same (spelled_field c.args.self.now.delimiters c.args.self.now.content) i.text.now
     (g.W.Sink.taken c.args.sink.now) (g.W.Sink.taken c.write_all.new.sink) (Err (write_faults.Io c.in-Err.count))
     (ap (λ (f : Lent Repeats). spelled_field f.delimiters f.content) (sym c.self.view_is)
-    ∙ field_as_is i.delimiters i.text.now c.self.invariant free)
+    ∙ field_as_is i.delimiters c.field.ensures.shape i.text.now c.self.invariant free)
     (refl, c.in-Err.count, exact, c.in-Err.ensures.err.0, c.in-Err.ensures.err.1)

@@ -1,8 +1,8 @@
 use Rattle.std.proofs.Common.{◌≡◌, ◌+◌, ◌<◌, ℕ, List}
 use Rattle.lis_record.proofs.FieldTexts.{Passed}
-use Rattle.lis_record.proofs.lent.LentFields.take_plain.Given as goal
+use Rattle.lis_record.proofs.texts.split_parts.Given as goal
 
--- some fields were passed over, and so many are left
+-- some parts were passed over, and so many are left
 pub record Passing (mark : ℕ) (text rest : List ℕ) (left count : ℕ) : Type 0 where
   pub passed : ℕ
   pub some : 0 < passed
@@ -10,7 +10,7 @@ pub record Passing (mark : ℕ) (text rest : List ℕ) (left count : ℕ) : Type
   pub parts : Passed mark text rest passed
 
 abbrev pub invariant-loop-left : goal.invariant-loop-left
-invariant-loop-left l = Passing l.field l.text l.rest l.left l.count
+invariant-loop-left l = Passing l.delimiter l.parts l.rest l.left l.count
 
 abbrev pub decreases-loop-left : goal.decreases-loop-left
 decreases-loop-left l = l.left

@@ -1,0 +1,13 @@
+use Rattle.std.proofs.Common.{◌≡◌, ◌++◌, length}
+use Rattle.lis_record.specs.Spelling.{spelled_component}
+use Rattle.lis_record.specs.inside.FrontReading.{ArePairs, digit_symbols}
+use Rattle.lis_record.proofs.respelling.add_raw.Given as goal
+
+-- pairs are left, and what was added and what they spell is the whole
+abbrev pub invariant-loop-byte : goal.invariant-loop-byte
+invariant-loop-byte l = ArePairs l.rest
+    × (l.out.items ++ spelled_component l.fn.delimiters (digit_symbols l.rest)
+    ≡ l.initial.out.items ++ spelled_component l.fn.delimiters (digit_symbols l.fn.digits))
+
+abbrev pub decreases-loop-byte : goal.decreases-loop-byte
+decreases-loop-byte l = length (digit_symbols l.rest)

@@ -1,0 +1,12 @@
+use Rattle.std.proofs.Common.{◌++◌, List, ℕ, ap, sym, ◌∙◌}
+use Rattle.lis_record.proofs.LentTexts.{Lacks-position, is_some_none}
+use Rattle.lis_record.proofs.Respelled.{respelled_as_is}
+use Rattle.lis_record.proofs.respelling.add_respelled.Goals as goal
+
+pub returns : goal.returns
+returns c =
+    let none = is_some_none c.place_of.result (sym c.is_some.ensures ∙ c.if-is_some.false) in
+    let free = rw c.escape.ensures at (Lacks-position c.escape.result c.args.text.now
+    (sym c.place_of.ensures ∙ none)) in
+    c.in_ok-extend_from_slice.ensures.items
+    ∙ ap (λ (l : List ℕ). c.args.out.now.items ++ l) (sym (respelled_as_is c.args.delimiters c.args.text.now free))
