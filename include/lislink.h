@@ -11,15 +11,18 @@
  *   - A handle's `at` is a block of at least lis_X_size() bytes at a multiple of lis_X_align(), which was given to
  *     lis_X_init. From then to lis_X_end nothing else reads, writes or moves the block, and it has one handle. After
  *     lis_X_end the block is the caller's again, for anything, or for another lis_X_init.
+ *   - The array that lis_sender_start_lent was given, and the texts that it names, stay where they are, unchanged,
+ *     up to the end of their session: the sender is LIS_NEUTRAL again, restarted or ended.
  *   - A handle stays on the thread that made it.
  *   - No call is made from a signal handler, or in a forked child of a process with threads.
  *
  * That is all: no call asks for a length, a number or an order of calls. No call keeps a pointer of the caller's but
- * a handle its block; none blocks, prints, aborts or has a variable of its own. Nothing checks a C caller.
+ * a handle its block, and a sender those of the texts that are lent to it; none blocks, prints, aborts or has a
+ * variable of its own. Nothing checks a C caller.
  *
- * Memory. A scanner, lis_frame_write and the calls of records take none. A sender takes it in lis_sender_add_text, a
- * receiver for the text that it holds, a reader for the bytes of one record, and a writer for the record that is begun
- * and the texts of those that are put; lis_X_end gives it back. Where memory is refused, the call says so. */
+ * Memory. A scanner, lis_frame_write and the calls of records take none. A sender takes it in lis_sender_add_text
+ * alone, a receiver for the text that it holds, a reader for the bytes of one record, and a writer for the record that
+ * is begun and the texts of those that are put; lis_X_end gives it back. Where memory is refused, the call says so. */
 #ifndef LISLINK_H
 #define LISLINK_H
 
@@ -137,6 +140,12 @@ enum lis_outcome {
     LIS_RESTARTED = 4
 };
 
+/* A text that stays where it is. */
+typedef struct lis_text {
+    const uint8_t *bytes;
+    size_t bytes_len;
+} lis_text;
+
 typedef struct lis_sender {
     void *at;
 } lis_sender;
@@ -152,6 +161,10 @@ void lis_sender_clear(lis_sender *s);
 /* Starts a session with the texts that were put: LIS_OK, and `out` has ENQ; else LIS_IN_SESSION, LIS_NO_TEXT, or
  * LIS_TOO_LONG or LIS_FORBIDDEN with the text and the place. Where it isn't LIS_OK, the texts stay. */
 uint8_t lis_sender_start(lis_sender *s, lis_bytes *out, lis_place *fault);
+/* Starts a session with texts that stay where they are, and takes no memory: LIS_OK, and `out` has ENQ; LIS_FULL where
+ * there are more than LIS_TEXTS; else as lis_sender_start. The texts that were put stay for the next session. */
+uint8_t lis_sender_start_lent(lis_sender *s, const lis_text *texts, size_t texts_len, lis_bytes *out,
+                              lis_place *fault);
 /* A reply byte came, the timer ran out: what is to be sent. */
 void lis_sender_reply(lis_sender *s, uint8_t byte, lis_bytes *out);
 void lis_sender_timer(lis_sender *s, lis_bytes *out);

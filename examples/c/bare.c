@@ -1,5 +1,6 @@
-/* Without a C library: a scanner hears a frame that lis_frame_write wrote, and a sender and a receiver talk over a
- * pool of 8 KiB. On x86-64 Linux its exit status is 0 where all went well, else the number of what did not. */
+/* Without a C library: a scanner hears a frame that lis_frame_write wrote, a sender and a receiver talk over a
+ * pool of 8 KiB, and a sender sends texts from read-only memory. On x86-64 Linux its exit status is 0 where all went
+ * well, else the number of what did not. */
 #include "lislink.h"
 
 /* The three copies that a compiler expects of every program. */
@@ -36,11 +37,12 @@ static bool same(const uint8_t *a, const uint8_t *b, size_t n) {
 
 /* A pool: blocks are taken from the front, and all of them come back once none is in use. */
 static _Alignas(16) uint8_t pool[8192];
-static size_t top, in_use;
+static size_t top, in_use, asked;
 
 rattle_tried rattle_alloc(size_t size, size_t align) {
     rattle_tried answer = {false, pool};
     (void)align;
+    asked++;
     if (size > sizeof pool || ((size + 15) & ~(size_t)15) > sizeof pool - top)
         return answer;
     answer.ok = true;
@@ -112,9 +114,35 @@ static int carry_a_text(void) {
     return in_use == 0 ? 0 : 9;
 }
 
+/* Texts in read-only memory are sent from where they are: no call asks for memory. */
+static int send_lent_texts(void) {
+    static const uint8_t header[] = "H|\\^&\r", end[] = "L|1|N\r";
+    static const uint8_t first[] = "\0021H|\\^&\r\003E5\r\n", second[] = "\0022L|1|N\r\00305\r\n";
+    static const lis_text texts[] = {{header, 6}, {end, 6}};
+    lis_sender sender = {sender_block};
+    lis_place fault;
+    size_t before = asked;
+    lis_sender_init(sender.at);
+    if (lis_sender_start_lent(&sender, texts, 2, &out, &fault) != LIS_OK || out.len != 1 || out.bytes[0] != 5)
+        return 10;
+    lis_sender_reply(&sender, 6, &out);
+    if (out.len != sizeof first - 1 || !same(out.bytes, first, out.len))
+        return 11;
+    lis_sender_reply(&sender, 6, &out);
+    if (out.len != sizeof second - 1 || !same(out.bytes, second, out.len))
+        return 12;
+    lis_sender_reply(&sender, 6, &out);
+    if (out.len != 1 || out.bytes[0] != 4 || lis_sender_outcome(&sender) != LIS_DONE)
+        return 13;
+    lis_sender_end(sender);
+    return asked == before ? 0 : 14;
+}
+
 static int run(void) {
     int failed = hear_a_frame();
-    return failed != 0 ? failed : carry_a_text();
+    if (failed == 0)
+        failed = carry_a_text();
+    return failed != 0 ? failed : send_lent_texts();
 }
 
 __attribute__((force_align_arg_pointer, noreturn)) void _start(void) {

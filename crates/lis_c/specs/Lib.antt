@@ -2,6 +2,7 @@
 pub mod Codes
 pub mod Emitted
 pub mod Feeding
+pub mod Lent
 pub mod New
 pub mod Reading
 pub mod Records

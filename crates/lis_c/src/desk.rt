@@ -11,10 +11,11 @@ ghost use Rattle.lis_link.specs.inside.Stands.{IsIn};
 ghost use Rattle.lis_link.specs.declared.sender.EmitOf.TheVariants as Emits;
 ghost use Rattle.lis_message.specs.Records.{HasLeft};
 
+use crate::lent::{DeskTexts, LentTexts};
 use crate::out::{LisStep, fault_code, fault_place};
 use crate::status;
 use lis_frame::Scanner;
-use lis_link::{Emit, Note, Receiver, Sender, StartFault, StartRefused, Step};
+use lis_link::{Emit, Note, Receiver, SenderOver, StartFault, StartRefusedOf, Step};
 use lis_message::RecordReader;
 use lis_text::{LinkText, List, MOST_TEXTS, Texts};
 use std::alloc::Global;
@@ -30,7 +31,7 @@ pub struct ScannerDesk {
 #[derive(Drop)]
 pub struct SenderDesk {
     pub alloc: Global,
-    pub sender: Sender,
+    pub sender: SenderOver<240, DeskTexts>,
     pub texts: Texts,
 }
 
@@ -85,7 +86,7 @@ impl SenderDesk {
     {
         SenderDesk {
             alloc,
-            sender: Sender::new(),
+            sender: SenderOver::new(),
             texts: Texts::new(alloc),
         }
     }
@@ -125,13 +126,28 @@ impl SenderDesk {
             (λ fault. (start_fault self.old.sender self.old.texts ≡ Some fault) × (self.new ≡ self.old)) }
     {
         let texts = mem::replace(&mut self.texts, Texts::new(self.alloc));
-        match self.sender.start(texts) {
+        match self.sender.start(DeskTexts::Copied(texts)) {
             Ok(emit) => Ok(emit),
             Err(refused) => {
-                let StartRefused { texts, fault } = refused;
-                self.texts = texts;
+                let StartRefusedOf { texts, fault } = refused;
+                if let DeskTexts::Copied(texts) = texts {
+                    self.texts = texts;
+                }
                 Err(fault)
             }
+        }
+    }
+
+    /// Starts a session with texts that stay with the caller. Where it is refused the desk is as before.
+    pub(crate) fn start_lent(&mut self, texts: LentTexts) -> Result<Emit, StartFault>
+        ensures { MatchResult result
+            (λ emit. (start_fault self.old.sender texts ≡ None) × (emit ≡ Emits.Enq)
+            × (self.new ≡ record self.old { sender = started 240 texts }))
+            (λ fault. (start_fault self.old.sender texts ≡ Some fault) × (self.new ≡ self.old)) }
+    {
+        match self.sender.start(DeskTexts::Lent(texts)) {
+            Ok(emit) => Ok(emit),
+            Err(refused) => Err(refused.fault),
         }
     }
 }

@@ -7,6 +7,7 @@ mod desk;
 mod draft;
 mod feed;
 mod frames;
+mod lent;
 mod out;
 mod reader;
 mod receiver;

@@ -1,11 +1,12 @@
 //! The sender for programs in C.
 
-ghost use Rattle.std.specs.Prelude.{◌≡◌, ◌≢◌, ◌++◌, ◌∷◌, [], length, take};
+ghost use Rattle.std.specs.Prelude.{◌≡◌, ◌≢◌, ◌++◌, ◌∷◌, [], MatchResult, Some, length, take};
 ghost use Rattle.lis_c.specs.declared.desk.SenderDesk.{SenderDesk};
 ghost use Rattle.lis_c.specs.Codes.{outcome_code, phase_code};
 ghost use Rattle.lis_c.specs.Emitted.{emitted};
+ghost use Rattle.lis_c.specs.Lent.{bytes_of, lent_status};
 ghost use Rattle.lis_c.specs.New.{IsNewSender, type_align};
-ghost use Rattle.lis_c.specs.Status.{AddStatus, OK, start_index, start_place, start_status};
+ghost use Rattle.lis_c.specs.Status.{AddStatus, FULL, OK, start_index, start_place, start_status};
 ghost use Rattle.lis_c.specs.contracts.desk.SenderDesk.{the_row as desk_row};
 ghost use Rattle.lis_link.specs.Sender.{on_reply, on_sender_timer, sender_restarted, start_fault, started};
 ghost use Rattle.lis_text.specs.Control.{ENQ};
@@ -14,9 +15,11 @@ ghost use Rattle.std.specs.Mem.{type_size};
 ghost use Rattle.std.specs.Ptr.{room_at};
 
 use crate::desk::{SenderDesk, let_go_sender};
+use crate::lent::{LentTexts, LisText};
 use crate::out::{LisBytes, LisPlace, put_emit};
 use crate::status::{self, start_index, start_place, start_status};
-use lis_link::{Outcome, Phase};
+use lis_link::{Emit, Outcome, Phase, StartFault};
+use lis_text::MOST_TEXTS;
 use std::alloc::Global;
 use std::marker::Model;
 use std::mem::{align_of, size_of};
@@ -87,17 +90,60 @@ pub extern "C" fn lis_sender_start(
         s.new.state ≡ record s.old.state { sender = started 240 s.old.state.texts; texts = [] } }
     ensures refused { result ≢ OK → (out.new ≡ out.old) × (s.new.state ≡ s.old.state) }
 {
-    fault.index = 0;
-    fault.place = 0;
-    match s.lend().start() {
+    tell_start(s.lend().start(), out, fault)
+}
+
+/// Starts a session with texts that stay with the caller (LIS01-A2, 6.3), and takes no memory: `OK`, and ENQ goes on
+/// the link; else `FULL` where there are more than 65,536, or as `lis_sender_start`. Where it isn't `OK` nothing has
+/// changed, and nothing is put to `out`. The texts that were put to the next session stay.
+///
+/// The array and the texts stay as they are: the contract asks for good, and no call reads them once the session is
+/// over.
+#[unsafe(no_mangle)]
+pub extern "C" fn lis_sender_start_lent(
+    s: &mut LisSender,
+    texts: &'static [LisText],
+    out: &mut LisBytes,
+    fault: &mut LisPlace,
+) -> u8
+    ensures status { result ≡ lent_status texts.now (start_fault s.old.state.sender (bytes_of texts.now)) }
+    ensures index { result ≢ FULL →
+        fault.new.index ≡ start_index (start_fault s.old.state.sender (bytes_of texts.now)) }
+    ensures place { result ≢ FULL →
+        fault.new.place ≡ start_place (start_fault s.old.state.sender (bytes_of texts.now)) }
+    ensures full { result ≡ FULL → (fault.new.index ≡ 0) × (fault.new.place ≡ 0) }
+    ensures emit { result ≡ OK → take out.new.len out.new.bytes ≡ ENQ ∷ [] }
+    ensures started { result ≡ OK →
+        s.new.state ≡ record s.old.state { sender = started 240 (bytes_of texts.now) } }
+    ensures refused { result ≢ OK → (out.new ≡ out.old) × (s.new.state ≡ s.old.state) }
+{
+    if texts.len() > MOST_TEXTS {
+        fault.index = 0;
+        fault.place = 0;
+        return status::FULL;
+    }
+    tell_start(s.lend().start_lent(LentTexts::new(texts)), out, fault)
+}
+
+/// Tells how a start went, and puts what goes on the link.
+fn tell_start(start: Result<Emit, StartFault>, out: &mut LisBytes, place: &mut LisPlace) -> u8
+    ensures { MatchResult start
+        (λ emit. (result ≡ OK) × (take out.new.len out.new.bytes ≡ emitted emit)
+        × (place.new.index ≡ 0) × (place.new.place ≡ 0))
+        (λ fault. (result ≡ start_status (Some fault)) × (out.new ≡ out.old)
+        × (place.new.index ≡ start_index (Some fault)) × (place.new.place ≡ start_place (Some fault))) }
+{
+    place.index = 0;
+    place.place = 0;
+    match start {
         Ok(emit) => {
             put_emit(out, &emit);
             status::OK
         }
-        Err(refused) => {
-            fault.index = start_index(refused);
-            fault.place = start_place(refused);
-            start_status(refused)
+        Err(fault) => {
+            place.index = start_index(fault);
+            place.place = start_place(fault);
+            start_status(fault)
         }
     }
 }

@@ -9,7 +9,7 @@ ghost use Rattle.lis_frame.specs.Pieces.{pieces, text_frames};
 
 use crate::frame::{Frame, FrameOf};
 use crate::text::TextOf;
-use lis_text::{LinkText, List};
+use lis_text::List;
 use std::alloc::{AllocError, Global};
 
 /// The frames of a text, or of several.
@@ -32,7 +32,7 @@ pub fn next_number(number: u8) -> u8
 ///
 /// The text is a link text (`lis_text::check_text`), the number 7 at most, and the offset a multiple of `N` that is 0
 /// or within the text. `N` is a limit, from 240 to 63,993.
-pub fn split_at_of<const N: usize>(text: &LinkText, offset: usize, number: u8) -> FrameOf<N>
+pub fn split_at_of<const N: usize>(text: &[u8], offset: usize, number: u8) -> FrameOf<N>
     requires limit { IsLimit N }
     requires text { text_fault longest_text text.now ≡ None }
     requires number { number ≤ 7 }
@@ -46,7 +46,7 @@ pub fn split_at_of<const N: usize>(text: &LinkText, offset: usize, number: u8) -
     ensures piece { slice_get (pieces N text.now) (offset / N)
         ≡ Some (record { bytes = result.text; last = result.last }) }
 {
-    let (_, rest) = text.as_slice().split_at(offset);
+    let (_, rest) = text.split_at(offset);
     if rest.len() <= N {
         return FrameOf::of_parts(number, true, TextOf::copied(rest));
     }
@@ -55,7 +55,7 @@ pub fn split_at_of<const N: usize>(text: &LinkText, offset: usize, number: u8) -
 }
 
 /// The same with the usual limit.
-pub fn split_at(text: &LinkText, offset: usize, number: u8) -> Frame
+pub fn split_at(text: &[u8], offset: usize, number: u8) -> Frame
     requires text { text_fault longest_text text.now ≡ None }
     requires number { number ≤ 7 }
     requires whole { offset % 240 ≡ 0 }
@@ -76,7 +76,7 @@ pub fn split_at(text: &LinkText, offset: usize, number: u8) -> Frame
 /// The text is a link text (`lis_text::check_text`), and the number 7 at most. `N` is a limit, from 240 to 63,993.
 pub fn split_all_of<const N: usize>(
     alloc: Global,
-    text: &LinkText,
+    text: &[u8],
     first_number: u8,
 ) -> Result<FramesOf<N>, AllocError>
     requires limit { IsLimit N }
@@ -100,7 +100,7 @@ pub fn split_all_of<const N: usize>(
 }
 
 /// The same with the usual limit.
-pub fn split_all(alloc: Global, text: &LinkText, first_number: u8) -> Result<Frames, AllocError>
+pub fn split_all(alloc: Global, text: &[u8], first_number: u8) -> Result<Frames, AllocError>
     requires text { text_fault longest_text text.now ≡ None }
     requires number { first_number ≤ 7 }
     ensures { IfOk result (λ frames. frames ≡ text_frames 240 text.now first_number) }

@@ -1,6 +1,6 @@
 -- What a start that is not refused tells of the texts.
-use Rattle.std.proofs.Common.{◌≡◌, ℕ, ◌+◌, List, [], ◌∷◌, Option, None, Some, refl}
-use Rattle.std.specs.Prelude.{All}
+use Rattle.std.proofs.Common.{◌≡◌, ℕ, ◌+◌, List, [], ◌∷◌, Option, None, Some, refl, drop, add-one}
+use Rattle.std.specs.Prelude.{All, slice_get}
 use Rattle.std.proofs.lemmas.List.Elements.{All-nil, All-cons, All-weaker}
 use Rattle.lis_text.specs.declared.text.TextFault.{TextFault}
 use Rattle.lis_text.specs.LinkText.{longest_text}
@@ -8,7 +8,9 @@ use Rattle.lis_text.specs.Text.{IsText, text_fault}
 use Rattle.lis_text.proofs.TextLemmas.{text_fault-none}
 use Rattle.lis_link.specs.declared.sender.Phase.{Phase}
 use Rattle.lis_link.specs.declared.sender.Phase.TheVariants.{Neutral, AwaitLine, Busy, Contention, AwaitReply}
+use Rattle.lis_link.specs.declared.sender.StartFault.TheVariants.{BadText}
 use Rattle.lis_link.specs.Sender.{bad_text_or, bad_text, start_fault_in}
+use Rattle.lis_link.proofs.QueueLaws.{drop-at}
 
 abbrev pub Faultless : List ℕ → Type 0
 Faultless text = text_fault longest_text text ≡ None
@@ -29,6 +31,21 @@ faultless-bad_text index (text ∷ texts) e = go (text_fault longest_text text) 
         → All Faultless (text ∷ texts)
     go None is none later = All-cons Faultless text texts is (later none)
     go (Some fault) is none later = absurd (cc)
+
+-- the text at a place is the first bad one from there on, or the search goes on behind it
+pub bad_text-here :
+    (texts : List (List ℕ)) (index : ℕ) (text : List ℕ) (fault : TextFault)
+    → slice_get texts index ≡ Some text
+    → text_fault longest_text text ≡ Some fault
+    → bad_text index (drop index texts) ≡ Some (BadText index fault)
+bad_text-here texts index text fault at is = rw (drop-at texts index text at, is) refl
+
+pub bad_text-behind :
+    (texts : List (List ℕ)) (index : ℕ) (text : List ℕ)
+    → slice_get texts index ≡ Some text
+    → text_fault longest_text text ≡ None
+    → bad_text (index + 1) (drop (index + 1) texts) ≡ bad_text index (drop index texts)
+bad_text-behind texts index text at none = rw (drop-at texts index text at, none, add-one index) refl
 
 pub faultless-start : (p : Phase) (texts : List (List ℕ)) → start_fault_in p texts ≡ None → All Faultless texts
 faultless-start Neutral [] none = absurd (cc)

@@ -5,8 +5,13 @@ pub mod laws;
 mod queue;
 mod receiver;
 mod sender;
+mod texts;
 
 pub use lis_frame::{FrameFault, FrameOf, ScannerOf};
 pub use lis_text::{LinkText, TextFault, Texts};
 pub use receiver::{Hearing, MOST_FRAMES, Note, Readiness, Receiver, ReceiverOf, Step};
-pub use sender::{Emit, EmitOf, Outcome, Phase, Sender, SenderOf, StartFault, StartRefused};
+pub use sender::{
+    BorrowingSender, BorrowingSenderOf, Emit, EmitOf, Outcome, Phase, Sender, SenderOf, SenderOver,
+    StartFault, StartRefused, StartRefusedOf,
+};
+pub use texts::{BorrowedTexts, SessionTexts};

@@ -9,8 +9,9 @@ ghost use Rattle.lis_link.specs.Sender.{SenderState, reply_in, new_sender, over,
 ghost use Rattle.lis_link.specs.Sender.{on_accepted, sends_again, on_reply, on_sender_timer, sender_restarted};
 
 use crate::queue::QueueOf;
+use crate::texts::{BorrowedTexts, SessionTexts};
 use lis_frame::FrameOf;
-use lis_text::{ACK, ENQ, EOT, LinkText, TextFault, Texts, check_text};
+use lis_text::{ACK, ENQ, EOT, TextFault, Texts, check_text};
 use std::marker::Model;
 use thiserror::Error;
 
@@ -79,26 +80,29 @@ pub type Emit = EmitOf<240>;
 /// A start that was refused: why, and the texts.
 #[derive(Debug, PartialEq, Eq, Drop, Error)]
 #[error("{fault}")]
-pub struct StartRefused {
-    pub texts: Texts,
+pub struct StartRefusedOf<T: SessionTexts> {
+    pub texts: T,
     pub fault: StartFault,
 }
+
+/// A refused start of a sender that owns its texts.
+pub type StartRefused = StartRefusedOf<Texts>;
 
 /// How often a frame is sent before its session is given up.
 const MOST_TRIES: u8 = 6;
 
-/// The sending end. It keeps the texts of its session until that is over and makes each frame when it is due; it
-/// takes no memory.
+/// The sending end over what holds the texts of its session. It keeps that until the session is over and makes each
+/// frame when it is due; it takes no memory.
 #[derive(Drop)]
-pub struct SenderOf<const N: usize> {
-    queue: Option<QueueOf<N>>,
+pub struct SenderOver<const N: usize, T: SessionTexts> {
+    queue: Option<QueueOf<N, T>>,
     acknowledged: u64,
     phase: Phase,
     tries: u8,
     outcome: Option<Outcome>,
 }
 
-impl<const N: usize> Model for SenderOf<N> {
+impl<const N: usize, T: SessionTexts> Model for SenderOver<N, T> {
     ghost use Rattle.lis_link.specs.Sender.{SenderState};
     ghost use Rattle.lis_link.specs.inside.Queue.{frames_of, IsSender};
 
@@ -115,16 +119,25 @@ impl<const N: usize> Model for SenderOf<N> {
     ghost invariant = { λ s. IsSender N s.queue s.acknowledged s.phase s.tries };
 }
 
+/// A sender that owns the texts of its session.
+pub type SenderOf<const N: usize> = SenderOver<N, Texts>;
+
 /// A sender with the usual limit on a frame's text.
 pub type Sender = SenderOf<240>;
 
-impl<const N: usize> SenderOf<N> {
+/// A sender whose texts stay where its caller has them: with it a session takes no heap at all.
+pub type BorrowingSenderOf<'a, const N: usize> = SenderOver<N, BorrowedTexts<'a>>;
+
+/// A borrowing sender with the usual limit on a frame's text.
+pub type BorrowingSender<'a> = BorrowingSenderOf<'a, 240>;
+
+impl<const N: usize, T: SessionTexts> SenderOver<N, T> {
     /// A sender that was never started. `N` is a limit on a frame's text, from 240 to 63,993 bytes.
     pub fn new() -> Self
         requires { IsLimit N }
         ensures { result ≡ new_sender }
     {
-        SenderOf {
+        SenderOver {
             queue: None,
             acknowledged: 0,
             phase: Phase::Neutral,
@@ -135,14 +148,15 @@ impl<const N: usize> SenderOf<N> {
 
     /// Starts a session with these texts: ENQ is emitted. A refused start gives the texts back, and the
     /// sender is as before.
-    pub fn start(&mut self, texts: Texts) -> Result<EmitOf<N>, StartRefused>
+    pub fn start(&mut self, texts: T) -> Result<EmitOf<N>, StartRefusedOf<T>>
         ensures { MatchResult result
-            (λ emit. (start_fault self.old texts ≡ None) × (emit ≡ Emits.Enq) × (self.new ≡ started N texts))
-            (λ refused. (start_fault self.old texts ≡ Some refused.fault) × (refused.texts ≡ texts)
+            (λ emit. (start_fault self.old (T.texts texts) ≡ None) × (emit ≡ Emits.Enq)
+            × (self.new ≡ started N (T.texts texts)))
+            (λ refused. (start_fault self.old (T.texts texts) ≡ Some refused.fault) × (refused.texts ≡ texts)
             × (self.new ≡ self.old)) }
     {
         if let Some(fault) = self.start_fault(&texts) {
-            return Err(StartRefused { texts, fault });
+            return Err(StartRefusedOf { texts, fault });
         }
         self.queue = Some(QueueOf::new(texts));
         self.acknowledged = 0;
@@ -154,17 +168,17 @@ impl<const N: usize> SenderOf<N> {
 
     /// Why a start with these texts would be refused, if it would: a session goes on, there is no text, or one of them
     /// is no link text (LIS01-A2, 6.3).
-    pub fn start_fault(&self, texts: &Texts) -> Option<StartFault>
-        ensures { result ≡ start_fault self.now texts.now }
+    pub fn start_fault(&self, texts: &T) -> Option<StartFault>
+        ensures { result ≡ start_fault self.now (T.texts texts.now) }
     {
         match self.phase {
             Phase::Neutral => {}
             _ => return Some(StartFault::InSession),
         }
-        if texts.is_empty() {
+        if texts.count() == 0 {
             return Some(StartFault::NoText);
         }
-        bad_text(texts.as_slice())
+        bad_text(texts)
     }
 
     /// A reply byte comes.
@@ -335,11 +349,14 @@ impl<const N: usize> SenderOf<N> {
 }
 
 /// The first text that is no link text.
-fn bad_text(texts: &[LinkText]) -> Option<StartFault>
-    ensures { result ≡ bad_text 0 texts.now }
+fn bad_text<T: SessionTexts>(texts: &T) -> Option<StartFault>
+    ensures { result ≡ bad_text 0 (T.texts texts.now) }
 {
-    for (index, text) in texts.iter().enumerate() {
-        if let Err(fault) = check_text(text.as_slice()) {
+    for index in 0..texts.count() {
+        let Some(text) = texts.text(index) else {
+            unreachable!();
+        };
+        if let Err(fault) = check_text(text) {
             return Some(StartFault::BadText { index, fault });
         }
     }

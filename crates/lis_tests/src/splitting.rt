@@ -19,7 +19,7 @@ fn frames_of<const N: usize>(alloc: Global, count: usize) -> Result<FramesOf<N>,
 {
     let text = letters(alloc, count)?;
     check_text(text.as_slice())?;
-    Ok(split_all_of(alloc, &text, 1)?)
+    Ok(split_all_of(alloc, text.as_slice(), 1)?)
 }
 
 #[test]
@@ -52,7 +52,7 @@ fn a_piece_is_taken_at_its_offset(rt: HostRuntime) -> Result<(), Fail> {
     let text = letters(rt.alloc(), 241)?;
     check_text(text.as_slice())?;
     assert_eq!(rt; text.len(), 241);
-    let second = split_at(&text, 240, 2);
+    let second = split_at(text.as_slice(), 240, 2);
     assert_eq!(rt;
         frame_bytes(&second).as_slice(),
         b"\x022A\x0376\r\n".as_slice()
@@ -80,7 +80,7 @@ fn a_failed_sink_has_the_counted_bytes_of_a_frame(rt: HostRuntime) -> Result<(),
     let text = letters(rt.alloc(), 241)?;
     check_text(text.as_slice())?;
     assert_eq!(rt; text.len(), 241);
-    let frame = split_at(&text, 240, 2);
+    let frame = split_at(text.as_slice(), 240, 2);
     let want = b"\x022A\x0376\r\n".as_slice();
     for room in 0..8usize {
         let mut sink = Slow::new(room, 131_072);

@@ -69,7 +69,7 @@ pub(crate) fn text_call<const N: usize>(
                 put_text_fault(fault, answer)?;
                 return Ok(());
             }
-            let frames = split_all_of::<N>(alloc, &text, first as u8)?;
+            let frames = split_all_of::<N>(alloc, text.as_slice(), first as u8)?;
             for frame in frames.as_slice() {
                 answer.part()?;
                 put_frame(frame, answer)?;

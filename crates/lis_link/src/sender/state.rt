@@ -2,9 +2,10 @@
 
 ghost use Rattle.std.specs.Prelude.{◌≡◌};
 
-use crate::sender::{Outcome, Phase, SenderOf};
+use crate::sender::{Outcome, Phase, SenderOver};
+use crate::texts::SessionTexts;
 
-impl<const N: usize> SenderOf<N> {
+impl<const N: usize, T: SessionTexts> SenderOver<N, T> {
     /// Where the sender stands.
     pub fn phase(&self) -> Phase
         ensures { result ≡ self.now.phase }

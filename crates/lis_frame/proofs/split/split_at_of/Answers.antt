@@ -8,20 +8,20 @@ copied-requires g c = (
   search rules,
   (
     c.requires.limit,
-    rw (c.split_at.ensures.back, c.as_slice.ensures)
+    rw c.split_at.ensures.back
         (IsText-rest g.row.N longest_text c.args.offset c.args.text.now c.requires.text
-        (rw (c.split_at.ensures.back, c.as_slice.ensures) at c.if-rest.true)),
+        (rw c.split_at.ensures.back at c.if-rest.true)),
   ),
 )
 
 pub returns-then-rest-clause-piece : goal.returns-then-rest-clause-piece
 returns-then-rest-clause-piece g c =
-    rw (c.of_parts.ensures, c.copied.ensures, c.split_at.ensures.back, c.as_slice.ensures)
+    rw (c.of_parts.ensures, c.copied.ensures, c.split_at.ensures.back)
     (last_piece_at g.row.N c.args.offset c.args.text.now (omega arith) c.requires.whole c.requires.within
     (omega (
       arith,
       length-drop c.args.offset c.args.text.now,
-      rw (c.split_at.ensures.back, c.as_slice.ensures) at
+      rw c.split_at.ensures.back at
           c.if-rest.true,
     )))
 
@@ -30,7 +30,7 @@ copied-requires-2 g c = (
   search rules,
   (
     c.requires.limit,
-    rw (c.split_at-2.ensures.front, c.split_at.ensures.back, c.as_slice.ensures)
+    rw (c.split_at-2.ensures.front, c.split_at.ensures.back)
         (IsText-piece g.row.N longest_text c.args.offset g.row.N c.args.text.now c.requires.text (omega arith)),
   ),
 )
@@ -42,12 +42,11 @@ returns-clause-piece g c =
       c.copied-2.ensures,
       c.split_at-2.ensures.front,
       c.split_at.ensures.back,
-      c.as_slice.ensures,
     )
     (piece_at g.row.N c.args.offset c.args.text.now (omega arith) c.requires.whole c.requires.within
     (omega (
       arith,
       length-drop c.args.offset c.args.text.now,
-      rw (c.split_at.ensures.back, c.as_slice.ensures) at
+      rw c.split_at.ensures.back at
           c.if-rest.false,
     )))

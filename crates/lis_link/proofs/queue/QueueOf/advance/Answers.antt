@@ -7,14 +7,15 @@ use Rattle.lis_link.proofs.queue.QueueOf.advance.Goals as goal
 
 pub unreachable-requires : goal.unreachable-requires
 unreachable-requires g c =
-    some-left g.row.N c.self.inside.texts c.self.inside.index c.self.inside.offset c.self.inside.number
+    let texts = g.T.SessionTexts.texts c.self.inside.texts in
+    some-left g.row.N texts c.self.inside.index c.self.inside.offset c.self.inside.number
     c.args.self.now.left
-    (ap (λ q. q.left) c.self.view_is) c.requires (sym c.get.ensures ∙ ap (λ o. option_copied o) c.in_default.is)
+    (ap (λ q. q.left) c.self.view_is) c.requires (sym c.text.ensures ∙ ap (λ o. option_copied o) c.in_default.is)
 
-pub overflow_sub-len : goal.overflow_sub-len
-overflow_sub-len g c =
-    let inside = within-at c.self.inside.texts c.self.inside.index c.in-Some.text.now (sym c.in-Some.ensures) in
-    let long = c.len.ensures in
+pub overflow_sub-text : goal.overflow_sub-text
+overflow_sub-text g c =
+    let texts = g.T.SessionTexts.texts c.self.inside.texts in
+    let inside = within-at texts c.self.inside.index c.in-Some.text.now (sym c.in-Some.ensures) in
     let within : (c.self.inside.offset ≡ 0) ⊎ (c.self.inside.offset < length c.in-Some.text.now) =
     subst (λ t. (c.self.inside.offset ≡ 0) ⊎ (c.self.inside.offset < length t)) inside.1
     c.self.invariant.offset_within in
@@ -22,10 +23,10 @@ overflow_sub-len g c =
 
 pub invariant_of-self : goal.invariant_of-self
 invariant_of-self g c =
+    let texts = g.T.SessionTexts.texts c.self.inside.texts in
     let place = c.self.invariant in
-    let inside = within-at c.self.inside.texts c.self.inside.index c.in-Some.text.now (sym c.in-Some.ensures) in
-    let long = c.len.ensures in
-    let more = c.if-len-self.true in
+    let inside = within-at texts c.self.inside.index c.in-Some.text.now (sym c.in-Some.ensures) in
+    let more = c.if-text-self.true in
     let below = inside.0 in
     record {
       is_limit = place.is_limit;
@@ -38,23 +39,24 @@ invariant_of-self g c =
       at_end = λ e. omega arith;
     }
 
-pub returns-then-len-self-clause-left : goal.returns-then-len-self-clause-left
-returns-then-len-self-clause-left g c =
+pub returns-then-text-self-clause-left : goal.returns-then-text-self-clause-left
+returns-then-text-self-clause-left g c =
+    let texts = g.T.SessionTexts.texts c.self.inside.texts in
     let place = c.self.invariant in
     let some : 0 < g.row.N = omega (arith, place.is_limit.at_least) in
-    let long = c.len.ensures in
-    let more : g.row.N < length c.in-Some.text.now - c.self.inside.offset = omega (arith, c.if-len-self.true) in
-    let first = left-more g.row.N c.self.inside.texts c.self.inside.index c.self.inside.offset c.self.inside.number
+    let more : g.row.N < length c.in-Some.text.now - c.self.inside.offset = omega (arith, c.if-text-self.true) in
+    let first = left-more g.row.N texts c.self.inside.index c.self.inside.offset c.self.inside.number
     c.in-Some.text.now some
     (sym c.in-Some.ensures) more in
-    ap (frames_left g.row.N c.self.inside.texts c.self.inside.index (c.self.inside.offset + g.row.N))
+    ap (frames_left g.row.N texts c.self.inside.index (c.self.inside.offset + g.row.N))
     c.next_number-self-inside.ensures.value
     ∙ ap (drop 1) (sym first) ∙ ap (λ q. drop 1 q.left) c.self.view_is
 
 pub invariant_of-self-2 : goal.invariant_of-self-2
 invariant_of-self-2 g c =
+    let texts = g.T.SessionTexts.texts c.self.inside.texts in
     let place = c.self.invariant in
-    let inside = within-at c.self.inside.texts c.self.inside.index c.in-Some.text.now (sym c.in-Some.ensures) in
+    let inside = within-at texts c.self.inside.index c.in-Some.text.now (sym c.in-Some.ensures) in
     let below = inside.0 in
     record {
       is_limit = place.is_limit;
@@ -69,14 +71,14 @@ invariant_of-self-2 g c =
 
 pub returns-clause-left : goal.returns-clause-left
 returns-clause-left g c =
+    let texts = g.T.SessionTexts.texts c.self.inside.texts in
     let place = c.self.invariant in
     let some : 0 < g.row.N = omega (arith, place.is_limit.at_least) in
-    let long = c.len.ensures in
-    let inside = within-at c.self.inside.texts c.self.inside.index c.in-Some.text.now (sym c.in-Some.ensures) in
-    let short : length c.in-Some.text.now - c.self.inside.offset ≤ g.row.N = omega (arith, c.if-len-self.false) in
-    let first = left-last g.row.N c.self.inside.texts c.self.inside.index c.self.inside.offset c.self.inside.number
+    let inside = within-at texts c.self.inside.index c.in-Some.text.now (sym c.in-Some.ensures) in
+    let short : length c.in-Some.text.now - c.self.inside.offset ≤ g.row.N = omega (arith, c.if-text-self.false) in
+    let first = left-last g.row.N texts c.self.inside.index c.self.inside.offset c.self.inside.number
     c.in-Some.text.now some
     (sym c.in-Some.ensures) (subst (λ t. (c.self.inside.offset ≡ 0) ⊎ (c.self.inside.offset < length t)) inside.1
     place.offset_within) short in
-    ap (frames_left g.row.N c.self.inside.texts (c.self.inside.index + 1) 0) c.next_number-self-inside.ensures.value
+    ap (frames_left g.row.N texts (c.self.inside.index + 1) 0) c.next_number-self-inside.ensures.value
     ∙ ap (drop 1) (sym first) ∙ ap (λ q. drop 1 q.left) c.self.view_is

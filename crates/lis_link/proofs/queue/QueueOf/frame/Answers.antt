@@ -8,17 +8,19 @@ use Rattle.lis_link.proofs.queue.QueueOf.frame.Goals as goal
 
 pub unreachable-requires : goal.unreachable-requires
 unreachable-requires g c =
-    some-left g.row.N c.self.inside.texts c.self.inside.index c.self.inside.offset c.self.inside.number
+    let texts = g.T.SessionTexts.texts c.self.inside.texts in
+    some-left g.row.N texts c.self.inside.index c.self.inside.offset c.self.inside.number
     c.args.self.now.left
-    (ap (λ q. q.left) c.self.view_is) c.requires (sym c.get.ensures ∙ ap (λ o. option_copied o) c.in_default.is)
+    (ap (λ q. q.left) c.self.view_is) c.requires (sym c.text.ensures ∙ ap (λ o. option_copied o) c.in_default.is)
 
 pub split_at_of-requires : goal.split_at_of-requires
 split_at_of-requires g c =
+    let texts = g.T.SessionTexts.texts c.self.inside.texts in
     let place = c.self.invariant in
     let at = sym c.in-Some.ensures in
-    let inside = within-at c.self.inside.texts c.self.inside.index c.in-Some.text.now at in
+    let inside = within-at texts c.self.inside.index c.in-Some.text.now at in
     let fine = subst (λ t. text_fault longest_text t ≡ None) inside.1
-    (All-get_or (λ t. text_fault longest_text t ≡ None) c.self.inside.texts c.self.inside.index [] inside.0
+    (All-get_or (λ t. text_fault longest_text t ≡ None) texts c.self.inside.index [] inside.0
     place.sendable) in (
       omega (arith, place.is_limit.at_most),
       (
@@ -38,11 +40,12 @@ split_at_of-requires g c =
 
 pub returns : goal.returns
 returns g c =
+    let texts = g.T.SessionTexts.texts c.self.inside.texts in
     let place = c.self.invariant in
     let some : 0 < g.row.N = omega (arith, place.is_limit.at_least) in
     let at = sym c.in-Some.ensures in
-    let inside = within-at c.self.inside.texts c.self.inside.index c.in-Some.text.now at in
-    let first = left-some g.row.N c.self.inside.texts c.self.inside.index c.self.inside.offset c.self.inside.number
+    let inside = within-at texts c.self.inside.index c.in-Some.text.now at in
+    let first = left-some g.row.N texts c.self.inside.index c.self.inside.offset c.self.inside.number
     c.in-Some.text.now some at
     (subst (λ t. (c.self.inside.offset ≡ 0) ⊎ (c.self.inside.offset < length t)) inside.1 place.offset_within) in
     let left_is = sym (ap (λ q. q.left) c.self.view_is) ∙ first.1 in

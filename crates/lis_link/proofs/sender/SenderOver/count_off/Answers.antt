@@ -2,7 +2,7 @@ use Rattle.std.proofs.Common.{◌≡◌, length, sym, ap, ◌∙◌, subst, arit
 use Rattle.lis_frame.specs.Pieces.{session_frames}
 use Rattle.lis_link.specs.inside.Queue.{frames_of, IsSender}
 use Rattle.lis_link.proofs.SenderLaws.{advanced_sender}
-use Rattle.lis_link.proofs.sender.SenderOf.count_off.Goals as goal
+use Rattle.lis_link.proofs.sender.SenderOver.count_off.Goals as goal
 
 pub unreachable-requires : goal.unreachable-requires
 unreachable-requires g c =

@@ -1,0 +1,83 @@
+//! Texts that stay with a caller in C, and what holds those of a session.
+
+ghost use Rattle.std.specs.Prelude.{◌≡◌, ◌≤◌, length};
+ghost use Rattle.lis_c.specs.Lent.{bytes_of, session_texts};
+
+use lis_link::SessionTexts;
+use lis_text::Texts;
+use std::marker::Model;
+
+/// A text that stays with its caller.
+#[repr(C)]
+#[derive(Drop)]
+pub struct LisText {
+    pub bytes: &'static [u8],
+}
+
+/// The texts of a session that stay with the caller, at most 65,536.
+#[derive(Drop)]
+pub struct LentTexts {
+    texts: &'static [LisText],
+}
+
+impl Model for LentTexts {
+    ghost use Rattle.std.specs.Prelude.{ℕ, ◌≤◌, List, length};
+
+    ghost Value = { List (List ℕ) };
+
+    ghost use Rattle.lis_c.specs.Lent.{bytes_of};
+
+    ghost view = { λ t. bytes_of t.texts.now };
+
+    ghost invariant = { λ t. length t.texts.now ≤ 65536 };
+}
+
+impl LentTexts {
+    /// The texts of this array, in order. There are at most 65,536 of them.
+    pub(crate) fn new(texts: &'static [LisText]) -> Self
+        requires { length texts.now ≤ 65536 }
+        ensures { result ≡ bytes_of texts.now }
+    {
+        LentTexts { texts }
+    }
+}
+
+impl SessionTexts for LentTexts {
+    ghost texts = { λ t. t };
+
+    fn count(&self) -> usize {
+        self.texts.len()
+    }
+
+    fn text(&self, place: usize) -> Option<&[u8]> {
+        match self.texts.get(place) {
+            None => None,
+            Some(text) => Some(text.bytes),
+        }
+    }
+}
+
+/// What holds the texts of a session: a list of copies, or the caller.
+#[derive(Drop)]
+pub enum DeskTexts {
+    Copied(Texts),
+    Lent(LentTexts),
+}
+
+impl SessionTexts for DeskTexts {
+    ghost texts = { session_texts };
+
+    fn count(&self) -> usize {
+        match self {
+            DeskTexts::Copied(texts) => texts.count(),
+            DeskTexts::Lent(texts) => texts.count(),
+        }
+    }
+
+    fn text(&self, place: usize) -> Option<&[u8]> {
+        match self {
+            DeskTexts::Copied(texts) => texts.text(place),
+            DeskTexts::Lent(texts) => texts.text(place),
+        }
+    }
+}
