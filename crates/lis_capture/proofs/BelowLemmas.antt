@@ -1,4 +1,5 @@
--- Lanes below a limit: whether all are, and the greater of two vectors, whose lanes are below it where those of both are.
+-- Lanes below a limit: whether all are, and the greater of two vectors, whose lanes are below it where those of both
+-- are.
 use Rattle.std.proofs.Common.{◌≡◌, ℕ, zero, suc, ◌+◌, ◌-◌, ◌*◌, ◌%◌, ◌^◌, ◌≤◌, ◌&&◌, Bool, true, false, cond}
 use Rattle.std.proofs.Common.{eqb, ltb, leb, List, [], ◌∷◌, length, map, replicate, refl, sym, ap, ◌∙◌, arith}
 use Rattle.std.specs.Prelude.{nat_lt}

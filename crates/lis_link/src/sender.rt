@@ -5,7 +5,8 @@ ghost use Rattle.lis_frame.specs.Limit.{IsLimit};
 ghost use Rattle.lis_link.specs.declared.sender.EmitOf.TheVariants as Emits;
 ghost use Rattle.lis_link.specs.declared.sender.Phase.TheVariants as Phases;
 ghost use Rattle.lis_link.specs.inside.Queue.{first_frame};
-ghost use Rattle.lis_link.specs.Sender.{SenderState, reply_in, new_sender, over, bad_text, start_fault, started, sends_first};
+ghost use Rattle.lis_link.specs.Sender.{SenderState, reply_in, new_sender, over, bad_text, start_fault, started};
+ghost use Rattle.lis_link.specs.Sender.{sends_first};
 ghost use Rattle.lis_link.specs.Sender.{on_accepted, sends_again, on_reply, on_sender_timer, sender_restarted};
 
 use crate::queue::QueueOf;
@@ -295,7 +296,8 @@ impl<const N: usize, T: SessionTexts> SenderOver<N, T> {
     /// session is done.
     fn send(&mut self) -> EmitOf<N>
         ensures emit { result ≡ (sends_first {limit = N} (drop self.old.acknowledged self.old.frames) self.old).emit }
-        ensures after { self.new ≡ (sends_first {limit = N} (drop self.old.acknowledged self.old.frames) self.old).after }
+        ensures after { self.new ≡
+            (sends_first {limit = N} (drop self.old.acknowledged self.old.frames) self.old).after }
     {
         match self.present() {
             None => self.end(Outcome::Done),

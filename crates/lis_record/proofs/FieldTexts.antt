@@ -156,7 +156,8 @@ taken_parts mark byte count all text rest taken whole p some is =
     let parts : parts_behind mark all ≡ p.parts ++ others = ap (parts_behind mark) whole ∙ p.behind in
     rw (parts, ← p.count) (
       omega (arith, length-append p.parts others),
-      ap (λ (l : List ℕ). mark ∷ l) is ∙ taken_text mark text rest (flat_map f p.parts) p.joined (filled p.parts p.count)
+      ap (λ (l : List ℕ). mark ∷ l) is
+          ∙ taken_text mark text rest (flat_map f p.parts) p.joined (filled p.parts p.count)
           ∙ ap (flat_map f) (sym (take-append_seam p.parts others)),
       sym (drop-append_seam p.parts others),
     )

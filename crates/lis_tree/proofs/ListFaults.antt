@@ -16,8 +16,8 @@ use Rattle.lis_tree.specs.Level.{Level, outside, closed, next_level, level_after
 use Rattle.lis_tree.specs.Places.{capped}
 use Rattle.lis_tree.specs.ListFaults.{IsListFault, IsMisplacedAt, IsUnclosed}
 use Rattle.lis_tree.specs.Tree.{MessageTree, IsTree, flatten, group_records}
-use Rattle.lis_tree.proofs.Levels.{outside_refused, map_append, stands_back, tree_leads, inside_takes, next_unclosed, level_more}
-use Rattle.lis_tree.proofs.Levels.{stands_more}
+use Rattle.lis_tree.proofs.Levels.{map_append, stands_back, tree_leads, inside_takes, next_unclosed, level_more}
+use Rattle.lis_tree.proofs.Levels.{outside_refused, stands_more}
 
 -- the open message has the first records of the list, and these are left
 pub record IsSoFar (delimiters : DelimiterBytes) (records : List RecordContent) (begun : Begun)

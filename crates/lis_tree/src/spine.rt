@@ -225,7 +225,8 @@ fn patient_of(alloc: Global, item: Item) -> Patient
 /// The patient with the order that grew last.
 #[tactic(auto, using(crate::proofs::Appends::appends))]
 fn close_entry(patient: Patient, order: Order, item: Item) -> Result<Patient, AllocError>
-    ensures records { IfOk result (λ p. patient_records p ≡ patient_records patient ++ order_records order ++ noted_records item) }
+    ensures records { IfOk result (λ p.
+        patient_records p ≡ patient_records patient ++ order_records order ++ noted_records item) }
     ensures shape { IfOk result (λ p. IsPatient patient → IsOrder order → IsNoted kinds.R item → IsPatient p) }
 {
     let order = close_result(order, item)?;
@@ -235,7 +236,8 @@ fn close_entry(patient: Patient, order: Order, item: Item) -> Result<Patient, Al
 /// The front with the patient that grew last.
 #[tactic(auto, using(crate::proofs::Appends::appends))]
 fn close_below(front: Front, patient: Patient, order: Order) -> Result<Front, AllocError>
-    ensures records { IfOk result (λ f. front_records f ≡ front_records front ++ patient_records patient ++ order_records order) }
+    ensures records { IfOk result (λ f.
+        front_records f ≡ front_records front ++ patient_records patient ++ order_records order) }
     ensures shape { IfOk result (λ f. IsFront front → IsPatient patient → IsOrder order → IsFront f) }
 {
     let patient = close_order(patient, order)?;

@@ -169,7 +169,8 @@ restarted_receiver_hands_out_nothing :
       outcome = Some TimedOut;
     }
     ∷ []
-unfolding signal_after open_stretch stretch_fault session_frames pieces frame_bytes round_trips restarted_receiver_events
+unfolding signal_after open_stretch stretch_fault session_frames pieces frame_bytes round_trips
+    restarted_receiver_events
 restarted_receiver_hands_out_nothing = refl
 
 -- with the long limit the same text is one frame, and the session is done before
@@ -184,7 +185,8 @@ long_frame_hands_out :
       outcome = Some Done;
     }
     ∷ []
-unfolding signal_after open_stretch stretch_fault session_frames pieces frame_bytes round_trips restarted_receiver_events
+unfolding signal_after open_stretch stretch_fault session_frames pieces frame_bytes round_trips
+    restarted_receiver_events
 long_frame_hands_out = refl
 
 -- a frame is lost, and the sender's timer ends its session; EOT is lost too, and the next session is carried through
