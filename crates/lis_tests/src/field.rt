@@ -104,34 +104,11 @@ fn memory_is_taken_before_it_is_used(rt: HostRuntime) -> Result<(), Fail> {
     assert_eq!(rt; component.len(), 0);
     component.push(Sym::On)?;
     assert_eq!(rt; component.get(0), Some(&Sym::On));
-    let mut repeat = Repeat::with_capacity(alloc, component, 2)?;
-    assert_eq!(rt; repeat.len(), 1);
-    repeat.push(component_of(alloc, b"ab")?)?;
-    assert_eq!(rt; repeat.get(1).map(Component::len), Some(2));
     let mut record = Record::with_capacity(alloc, Kind::O, 1)?;
     assert_eq!(rt; record.kind(), Kind::O);
     assert_eq!(rt; record.len(), 0);
-    record.push(Field::new(alloc, repeat)?)?;
+    record.push(Field::new(alloc, Repeat::new(alloc, component)?)?)?;
     assert_eq!(rt; record.len(), 1);
-    Ok(())
-}
-
-#[test]
-fn a_component_holds_few_symbols_and_many(rt: HostRuntime) -> Result<(), Fail> {
-    let alloc = rt.alloc();
-    let text = b"0123456789abcdefghijklmnopqrstuvwxyz";
-    let mut grown = Component::new(alloc);
-    for (place, byte) in text.iter().enumerate() {
-        let made = Component::from_text(alloc, &text[..place])?;
-        assert!(rt; made == grown);
-        assert!(rt; grown.copy(alloc)? == made);
-        assert_eq!(rt; grown.len(), place);
-        grown.push(Sym::Char(*byte))?;
-        assert_eq!(rt; grown.get(place), Some(&Sym::Char(*byte)));
-        assert_eq!(rt; grown.get(0), Some(&Sym::Char(b'0')));
-    }
-    let told = grown.to_text(alloc)?.ok_or("no text")?;
-    assert_eq!(rt; told.as_slice(), text.as_slice());
     Ok(())
 }
 
