@@ -12,6 +12,7 @@ use Rattle.lis_capture.specs.declared.line.Line.{Line}
 use Rattle.lis_capture.specs.Line.{longest_line, line_of, said, without_return}
 use Rattle.lis_capture.specs.Capture.{Lines, begun, ended_lines, with_said, next_by, read_lines, capture, version_of}
 use Rattle.lis_capture.specs.Reader.{is_long}
+use Rattle.lis_link.proofs.HearingLaws.{stream_with-append}
 
 -- ---- bytes that end no line
 
@@ -19,10 +20,6 @@ use Rattle.lis_capture.specs.Reader.{is_long}
 abbrev pub has_end : List ℕ → Bool
 has_end [] = false
 has_end (b ∷ text) = if b == LF then true else has_end text
-
-pub stream_with-append : (past xs ys : List ℕ) → stream_with past (xs ++ ys) ≡ stream_with (stream_with past xs) ys
-stream_with-append past [] ys = refl
-stream_with-append past (b ∷ xs) ys = stream_with-append (b ∷ past) xs ys
 
 begun_by : (test : Bool) (past text : List ℕ) (b : ℕ) → test ≡ false
     → (if test then [] else begun past ++ b ∷ []) ++ text ≡ begun past ++ b ∷ text
@@ -97,13 +94,13 @@ pub capture-ended :
     (past text : List ℕ) → (capture past false).refused ≡ false → has_end text ≡ false
     → capture (stream_with past (text ++ LF ∷ [])) false ≡ with_text (capture past false) (begun past ++ text)
 capture-ended past text fine none =
-    ap (λ (s : List ℕ). capture s false) (stream_with-append past text (LF ∷ []))
+    ap (λ (s : List ℕ). capture s false) (stream_with-append text (LF ∷ []) past)
     ∙ ap (λ (l : List ℕ). read_lines (l ∷ ended_lines (stream_with past text))) (begun-within past text none)
     ∙ ap (λ (l : List (List ℕ)). read_lines ((begun past ++ text) ∷ l)) (ended_lines-within past text none)
     ∙ read_more past (begun past ++ text) fine
 
 pub begun-ended : (past text : List ℕ) → begun (stream_with past (text ++ LF ∷ [])) ≡ []
-begun-ended past text = ap begun (stream_with-append past text (LF ∷ []))
+begun-ended past text = ap begun (stream_with-append text (LF ∷ []) past)
 
 -- bytes with no LF
 lines-within :

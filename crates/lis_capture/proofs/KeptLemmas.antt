@@ -1,5 +1,5 @@
 -- What is kept of a line's bytes.
-use Rattle.std.proofs.Common.{◌≡◌, ℕ, ◌*◌, ◌≤◌, Bool, true, false, List, [], ◌∷◌, length, Option, None, Some, unwrap_or}
+use Rattle.std.proofs.Common.{◌≡◌, ℕ, ◌*◌, ◌≤◌, Bool, true, false, List, [], length, Option, None, Some, unwrap_or}
 use Rattle.std.proofs.Common.{refl, ap, sym, ◌∙◌, arith}
 use Rattle.std.proofs.Common.{◌++◌, subst, take}
 use Rattle.std.proofs.Math.Seq.{take-append_seam}
@@ -13,6 +13,7 @@ use Rattle.lis_capture.specs.inside.Kept.{KeptAs, kept_bytes}
 use Rattle.lis_capture.proofs.EncodeLemmas.{length-encode_lower}
 use Rattle.lis_capture.proofs.LowerLemmas.{encoded_nothing}
 use Rattle.lis_capture.proofs.SpellingLemmas.{IsSent-bytes_of, bytes_of-digits}
+use Rattle.std.proofs.lemmas.List.{nil_from_length}
 
 pub nothing_kept : (keeping : Keeping) → KeptAs keeping []
 nothing_kept Bytes = omega arith
@@ -34,10 +35,6 @@ digits_kept Bytes kept is all = cc
 digits_kept Digits kept is all =
     (all.1, ap length (sym all.1) ∙ length-encode_lower (unwrap_or (bytes_of kept) []), all.0)
 
-none_of : (xs : List ℕ) → length xs ≡ 0 → xs ≡ []
-none_of [] none = refl
-none_of (x ∷ xs) none = absurd (omega arith)
-
 -- and are read as these
 pub read_kept :
     (keeping : Keeping) (kept bytes : List ℕ) (t : Bool) → keeping ≡ Digits → KeptAs keeping kept
@@ -48,7 +45,7 @@ read_kept Digits kept bytes true is all room told = ap (λ (o : Option (List ℕ
 read_kept Digits kept bytes false is all room told =
     let nothing : unwrap_or (bytes_of kept) [] ≡ [] = ap (λ (o : Option (List ℕ)). unwrap_or o []) told in
     let empty : kept ≡ [] = sym all.1 ∙ ap encode_lower nothing ∙ encoded_nothing in
-    none_of bytes (omega (arith, room, ap length empty)) ∙ sym nothing
+    nil_from_length bytes (omega (arith, room, ap length empty)) ∙ sym nothing
 
 -- digits in lower case are read as those that they were written from
 lowered_by :

@@ -28,8 +28,9 @@ use Rattle.lis_capture.specs.Capture.{Lines, begun, capture, counts, ended_lines
 use Rattle.lis_capture.specs.Capture.{with_said}
 use Rattle.lis_capture.specs.Spelling.{added_spelling, line_spelling, line_text, lines_spelling, upgraded}
 use Rattle.lis_capture.specs.Spelling.{upgraded_lines}
-use Rattle.lis_capture.proofs.CaptureLemmas.{begun-within, ended_lines-within, has_end, stream_with-append}
+use Rattle.lis_capture.proofs.CaptureLemmas.{begun-within, ended_lines-within, has_end}
 use Rattle.lis_capture.proofs.LineLemmas.{without_return-length}
+use Rattle.lis_link.proofs.HearingLaws.{stream_with-append}
 
 -- ---- texts of bytes that are neither CR nor LF
 
@@ -279,7 +280,7 @@ spelled_more line lines spelled plain is =
     let text : List ℕ = line_text line in
     let none = has_end-plain text plain in
     let parts : stream_with [] (lines_spelling (line ∷ lines)) ≡ stream_with (stream_with past text) (LF ∷ []) =
-    stream_with-append [] (lines_spelling lines) (line_spelling line) ∙ stream_with-append past text (LF ∷ []) in
+    stream_with-append (lines_spelling lines) (line_spelling line) [] ∙ stream_with-append text (LF ∷ []) past in
     let started : begun (stream_with past text) ≡ text = begun-within past text none
     ∙ ap (λ (l : List ℕ). l ++ text) spelled.ended in
     record {

@@ -26,6 +26,7 @@ use Rattle.lis_tree.specs.inside.Begun.{Begun, level_of}
 use Rattle.lis_tree.specs.Level.{Level, closed, misplaced, next_level}
 use Rattle.lis_tree.specs.Places.{capped}
 use Rattle.lis_tree.specs.inside.Standing.{standing_level}
+use Rattle.std.proofs.lemmas.List.{nil_from_length}
 
 -- ---- in an open message
 
@@ -130,10 +131,6 @@ line_stopped left held text behind bytes reason lacks whole (inr why) =
           (record { rest = behind; ended_by = refl; short = why.1; why = why.0 });
     })
 
-none_of : (xs : List ℕ) → length xs ≡ 0 → xs ≡ []
-none_of [] none = refl
-none_of (x ∷ xs) none = absurd (omega arith)
-
 -- where nothing was held
 pub whole_stopped : (left : Option Begun) (held text behind bytes : List ℕ) (reason : Reason)
     → true ≡ (length held == 0) → LacksReturn text → bytes ≡ text ++ 13 ∷ behind → IsRefusedFor left text reason
@@ -141,7 +138,7 @@ pub whole_stopped : (left : Option Begun) (held text behind bytes : List ℕ) (r
 whole_stopped left held text behind bytes reason empty lacks whole why =
     line_stopped left held text behind bytes reason lacks whole
     (subst (λ (h : List ℕ). IsRefusedFor left (h ++ text) reason)
-    (sym (none_of held (eqb-true (length held) 0 (sym empty)))) why)
+    (sym (nil_from_length held (eqb-true (length held) 0 (sym empty)))) why)
 
 -- a record that was found in a text is the one that is known to be it
 pub known_told : (entry : Lent RecordContent) (d : DelimiterBytes) (k : Kind) (text held : List ℕ)

@@ -23,7 +23,8 @@ use Rattle.lis_tool.specs.Outcome.{Outcome, whole}
 use Rattle.lis_tool.specs.Output.{Gathered, Out, most_counted}
 use Rattle.lis_tool.specs.inside.Steps.{Ends, Fails, Halts, Puts}
 use Rattle.lis_tool.proofs.GatherLaws.{gathered_nothing, gathered_then}
-use Rattle.lis_tool.proofs.ShowLaws.{front_stream, stream_with-append}
+use Rattle.lis_tool.proofs.ShowLaws.{front_stream}
+use Rattle.lis_link.proofs.HearingLaws.{stream_with-append}
 
 -- ---- lines are no more than bytes
 
@@ -186,7 +187,7 @@ at_start w stands reader old before past text bytes fits lined few =
       has_read = lined.has_read;
       fine = lined.fine;
       stood = lined.stood;
-      joined = sym (stream_with-append [] past bytes);
+      joined = sym (stream_with-append past bytes []);
       few = omega (arith, few, stream-length [] past);
       more = [];
       put = gathered_nothing old before fits;

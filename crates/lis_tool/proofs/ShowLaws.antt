@@ -15,6 +15,7 @@ use Rattle.lis_tool.specs.Outcome.{Outcome, at_end, whole}
 use Rattle.lis_tool.specs.Output.{WentOut}
 use Rattle.lis_tool.specs.Runs.{Ran, Shown, Wrote, WroteText}
 use Rattle.lis_tool.specs.Show.{Shows, clean, frame_line, lent_line, show, signal_line, signal_lines}
+use Rattle.lis_link.proofs.HearingLaws.{stream_with-append}
 
 -- the line of a byte's signal, and then the lines of what follows
 pub signal_lines-with :
@@ -39,10 +40,6 @@ pub lines-append :
 lines-append limit past xs ys = ap signal_lines (signals_after-append limit xs ys past)
     ∙ signal_lines-append (signals_after limit past xs) _
 
-pub stream_with-append : (past xs ys : List ℕ) → stream_with past (xs ++ ys) ≡ stream_with (stream_with past xs) ys
-stream_with-append past [] ys = refl
-stream_with-append past (b ∷ xs) ys = stream_with-append (b ∷ past) xs ys
-
 pub no_lines : (limit : ℕ) (past bytes : List ℕ) → length bytes ≡ 0
     → length (signal_lines (signals_after limit past bytes)) ≡ 0
 no_lines limit past [] none = refl
@@ -65,7 +62,7 @@ front_lines limit n past bytes o is =
 
 pub front_stream : (n : ℕ) (past bytes : List ℕ)
     → stream_with (stream_with past (take n bytes)) (drop n bytes) ≡ stream_with past bytes
-front_stream n past bytes = sym (stream_with-append past (take n bytes) (drop n bytes))
+front_stream n past bytes = sym (stream_with-append (take n bytes) (drop n bytes) past)
     ∙ ap (stream_with past) (take-append-drop n bytes)
 
 -- ---- a run

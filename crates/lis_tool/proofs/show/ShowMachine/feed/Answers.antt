@@ -2,7 +2,8 @@ use Rattle.std.proofs.Common.{[], ◌++◌, refl, ap, sym}
 use Rattle.lis_frame.specs.Stream.{signals_after, stream_with}
 use Rattle.lis_tool.specs.Outcome.{going}
 use Rattle.lis_tool.specs.Show.{show, signal_lines}
-use Rattle.lis_tool.proofs.ShowLaws.{shown_more, stream_with-append}
+use Rattle.lis_tool.proofs.ShowLaws.{shown_more}
+use Rattle.lis_link.proofs.HearingLaws.{stream_with-append}
 use Rattle.lis_tool.proofs.show.ShowMachine.feed.Goals as goal
 
 pub returns-in-Ok-clause-steps : goal.returns-in-Ok-clause-steps
@@ -13,7 +14,7 @@ returns-in-Ok-clause-steps g c = λ past text stood few.
       put = c.in-Ok.ensures.gathered (stream_with [] past) stood.1;
       behind = (
         shown_more g.row.N past bytes text stood.0,
-        rw (stream_with-append [] past bytes) (c.in-Ok.ensures.stands (stream_with [] past) stood.1),
+        rw (stream_with-append past bytes []) (c.in-Ok.ensures.stands (stream_with [] past) stood.1),
       );
     }
 
