@@ -6,15 +6,13 @@ ghost use Rattle.lis_c.specs.Writing.{IsPut, PartStatus, PutStatus, after_kind, 
 ghost use Rattle.lis_c.specs.Writing.{put_fault, with_parts, with_field, write_fault};
 ghost use Rattle.lis_field.specs.Delimiters.{usual};
 ghost use Rattle.lis_field.specs.Shape.{plain_component};
-ghost use Rattle.lis_record.specs.Faults.{check_fault};
-ghost use Rattle.lis_record.specs.Spelling.{written};
 ghost use Rattle.lis_tree.specs.Level.{misplaced};
 
 use crate::status;
 use lis_field::{Component, Delimiters, Field, Kind, Record, Repeat};
-use lis_port::{Failed, Sink};
-use lis_record::{WriteFault, check_record, write_record};
-use lis_text::{LinkText, MOST_TEXTS, Texts};
+use lis_message::record_text;
+use lis_record::{WriteFault, check_record};
+use lis_text::{MOST_TEXTS, Texts};
 use lis_tree::{Reason, Standing};
 use std::alloc::{AllocError, Global};
 use std::mem;
@@ -46,57 +44,6 @@ pub struct PutFault {
 
 /// Lets go of all that a desk keeps.
 pub(crate) fn let_go_writer(_desk: WriterDesk) {}
-
-/// A sink that keeps what it takes.
-#[derive(Drop)]
-struct TextSink {
-    text: LinkText,
-    failed: bool,
-}
-
-impl Sink for TextSink {
-    ghost taken = { λ s. Some s.text };
-
-    ghost sent = { λ s. Some s.text };
-
-    ghost failed = { λ s. s.failed };
-
-    fn write(&mut self, bytes: &[u8]) -> Result<usize, Failed> {
-        match self.text.extend(bytes) {
-            Ok(()) => Ok(bytes.len()),
-            Err(_) => {
-                self.failed = true;
-                Err(Failed)
-            }
-        }
-    }
-
-    fn flush(&mut self) -> Result<(), Failed> {
-        Ok(())
-    }
-
-    fn failed(&self) -> bool {
-        self.failed
-    }
-}
-
-/// A record's spelling and CR.
-fn text_of(alloc: Global, delimiters: Delimiters, entry: &Record) -> Result<LinkText, AllocError>
-    requires { check_fault delimiters entry.now ≡ None }
-    ensures { IfOk result (λ text. text ≡ written delimiters entry.now) }
-{
-    let mut sink = TextSink {
-        text: LinkText::new(alloc),
-        failed: false,
-    };
-    match write_record(&mut sink, &delimiters, entry) {
-        Ok(()) => {
-            let TextSink { text, failed: _ } = sink;
-            Ok(text)
-        }
-        Err(_) => Err(AllocError),
-    }
-}
 
 /// The components with one more of these bytes.
 fn with_part(alloc: Global, parts: Option<Repeat>, bytes: &[u8]) -> Result<Repeat, AllocError>
@@ -315,7 +262,7 @@ impl WriterDesk {
             return status::NO_RECORD;
         };
         let kind = draft.entry.kind();
-        let Ok(text) = text_of(self.alloc, self.delimiters, &draft.entry) else {
+        let Ok(text) = record_text(self.alloc, self.delimiters, &draft.entry) else {
             return status::OUT_OF_MEMORY;
         };
         if self.texts.push(text).is_err() {

@@ -18,5 +18,5 @@ pub use lis_tree::{
 };
 pub use reader::{Fed, MessageReader, Messages, read_messages};
 pub use records::{Found, RecordReader};
-pub use texts::{TextsFault, message_texts};
+pub use texts::{TextsFault, message_texts, record_text};
 pub use writer::{write_message, write_message_from};

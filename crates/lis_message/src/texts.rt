@@ -63,8 +63,12 @@ impl Sink for TextSink {
     }
 }
 
-/// A record's spelling and CR.
-fn text_of(alloc: Global, delimiters: Delimiters, entry: &Record) -> Result<LinkText, AllocError>
+/// The link text of a record that can be written under these delimiters: its spelling and CR (LIS02-A2, Delimiters).
+pub fn record_text(
+    alloc: Global,
+    delimiters: Delimiters,
+    entry: &Record,
+) -> Result<LinkText, AllocError>
     requires { check_fault delimiters entry.now ≡ None }
     ensures { IfOk result (λ text. text ≡ written delimiters entry.now) }
 {
@@ -89,7 +93,7 @@ fn texts_of(alloc: Global, delimiters: Delimiters, walk: Walk<'_>) -> Result<Tex
     let mut texts = Texts::new(alloc);
     let mut walk = walk;
     while let Some(entry) = walk.next() {
-        let text = text_of(alloc, delimiters, entry)?;
+        let text = record_text(alloc, delimiters, entry)?;
         if texts.push(text).is_err() {
             return Err(AllocError);
         }
