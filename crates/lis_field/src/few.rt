@@ -1,6 +1,6 @@
 //! A few symbols that stand in place.
 
-ghost use Rattle.std.specs.Prelude.{◌≡◌, ◌<◌, ◌≤◌, ◌↔◌, ◌++◌, ◌∷◌, [], IsTrue, length, map};
+ghost use Rattle.std.specs.Prelude.{◌≡◌, ◌<◌, ◌≤◌, ◌↔◌, ◌++◌, ◌∷◌, [], IsTrue, length, map, take};
 ghost use Rattle.lis_field.specs.declared.symbols.Sym.TheVariants.{Char};
 
 use crate::symbols::Sym;
@@ -50,6 +50,24 @@ impl Few {
             few.push(Sym::Char(*byte));
         }
         few
+    }
+
+    // So many bytes of a text's front, each a character. The text has as many bytes as symbols stand in place, so that
+    // all of them are copied without a test for the last.
+    #[inline(always)]
+    pub(crate) fn from_front(text: &[u8], count: usize) -> Self
+        requires few { count ≤ 15 }
+        requires room { 15 ≤ length text.now }
+        ensures { result ≡ map Char (take count text.now) }
+    {
+        let mut symbols = [Sym::Off; FEW];
+        for place in 0..FEW {
+            symbols[place] = Sym::Char(text[place]);
+        }
+        Few {
+            count: count as u8,
+            symbols,
+        }
     }
 
     // The same symbols once more.

@@ -60,6 +60,7 @@ impl<T: Drop> OneOrMore<T> {
     }
 
     // Puts an item at the end. Where memory is refused it comes back, and the list is as before.
+    #[inline(always)]
     pub(crate) fn push(&mut self, item: T) -> Result<(), AllocFailed<T>>
         ensures ok { OnOk result (self.new ≡ self.old ++ item ∷ []) }
         ensures err { IfErr result (λ refused. (refused.value ≡ item) × (self.new ≡ self.old)) }

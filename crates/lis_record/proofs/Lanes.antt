@@ -10,7 +10,9 @@ use Rattle.std.proofs.Math.Nat.{pow-succ'}
 use Rattle.std.proofs.lemmas.List.{length-map}
 use Rattle.std.proofs.lemmas.List.Sums.{sum_by-take-drop}
 use Rattle.std.proofs.lemmas.Bool.Decides.{nat_tests}
+use Rattle.lis_field.specs.Delimiters.{DelimiterBytes}
 use Rattle.lis_record.specs.Text.{is_text_byte}
+use Rattle.lis_record.specs.inside.FrontReading.{is_delimiter}
 
 -- the lanes of a test
 abbrev lanes : (ℕ → Bool) → List ℕ → List ℕ
@@ -177,6 +179,24 @@ module _ (xs : List ℕ) (long : length xs ≡ 16) where
 
   pub allowed-others : 65535 - mask_l (map (top 7) allowed_lanes) % 2 ^ 64 ≡ mask_l (map (λ b. not (is_text_byte b)) xs)
   allowed-others = omega (arith, both)
+
+  -- ---- the bytes that are delimiters
+
+  pub delimiter-bits : (d : DelimiterBytes)
+      → mask_l (map (top 7)
+      (zip2 bit_or
+      (zip2 bit_or (zip2 {C = ℕ} (λ a b. cond (eqb a b) 255 0) xs (replicate 16 d.field))
+      (zip2 {C = ℕ} (λ a b. cond (eqb a b) 255 0) xs (replicate 16 d.repeat)))
+      (zip2 bit_or (zip2 {C = ℕ} (λ a b. cond (eqb a b) 255 0) xs (replicate 16 d.component))
+      (zip2 {C = ℕ} (λ a b. cond (eqb a b) 255 0) xs (replicate 16 d.escape))))) % 2 ^ 64
+      ≡ mask_l (map (is_delimiter d) xs)
+  delimiter-bits d =
+      let outer = or_lanes (λ b. eqb b d.field) (λ b. eqb b d.repeat) xs _ _ (eq xs long d.field)
+      (eq xs long d.repeat) in
+      let inner = or_lanes (λ b. eqb b d.component) (λ b. eqb b d.escape) xs _ _ (eq xs long d.component)
+      (eq xs long d.escape) in
+      bits (is_delimiter d) xs _ long
+      (or_lanes (λ b. eqb b d.field || eqb b d.repeat) (λ b. eqb b d.component || eqb b d.escape) xs _ _ outer inner)
 
 -- how many pass among the first bytes, and among the others
 pub count_by-chunk : (f : ℕ → Bool) (n : ℕ) (xs : List ℕ)

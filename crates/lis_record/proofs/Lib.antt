@@ -10,6 +10,7 @@ pub mod LentTexts
 pub mod Opening
 pub mod Pairs
 pub mod Places
+pub mod PlainLengths
 pub mod ReadBack
 pub mod RecordTexts
 pub mod Respelled

@@ -1,11 +1,12 @@
 //! Records made from their texts, part by part (LIS02-A2, Delimiters).
 
-ghost use Rattle.std.specs.Prelude.{◌≡◌, IfOk, IsTrue};
+ghost use Rattle.std.specs.Prelude.{◌≡◌, ◌≤◌, ◌++◌, ◌∷◌, [], IfOk, IsTrue, OnOk, length, map};
 ghost use Rattle.lis_field.specs.Shape.{plain_field};
-ghost use Rattle.lis_record.specs.inside.FrontReading.{components_of, fields_of, repeats_of, symbols_of};
+ghost use Rattle.lis_record.specs.inside.FrontReading.{components_of, fields_of, parts_of, repeats_of};
+ghost use Rattle.lis_record.specs.inside.FrontReading.{symbols_of};
 
 use crate::escapes::read_component;
-use crate::search::place_of;
+use crate::search::{place_of, plain_length};
 use crate::texts::{count_parts, first_part};
 use lis_field::{Component, Delimiters, Field, Kind, Record, Repeat};
 use std::alloc::{AllocError, Global};
@@ -28,29 +29,56 @@ pub(crate) fn is_plain(delimiters: Delimiters, text: &[u8]) -> bool
     true
 }
 
-// Reads a component; one without an escape byte as it stands.
+// Adds a component to a repeat. Each way adds it itself, so that none is moved to where they meet.
 #[inline(always)]
-fn component_of(alloc: Global, delimiters: Delimiters, text: &[u8]) -> Result<Component, AllocError>
-    ensures { IfOk result (λ component. component ≡ symbols_of delimiters text.now) }
+fn push_component(
+    alloc: Global,
+    delimiters: Delimiters,
+    repeat: &mut Repeat,
+    text: &[u8],
+) -> Result<(), AllocError>
+    ensures { OnOk result (repeat.new ≡ repeat.old ++ symbols_of delimiters text.now ∷ []) }
 {
     if place_of(text, delimiters.escape()).is_some() {
-        return read_component(alloc, delimiters, text);
+        repeat.push(read_component(alloc, delimiters, text)?)?;
+    } else if text.is_empty() {
+        repeat.push(Component::new(alloc))?;
+    } else {
+        repeat.push(Component::from_text(alloc, text)?)?;
     }
-    Component::from_text(alloc, text)
+    Ok(())
 }
 
-// Reads a repeat, component by component.
+// A repeat of the component that this text is, with memory for so many.
+#[inline(always)]
+fn first_component(
+    alloc: Global,
+    delimiters: Delimiters,
+    text: &[u8],
+    components: usize,
+) -> Result<Repeat, AllocError>
+    ensures { IfOk result (λ repeat. repeat ≡ symbols_of delimiters text.now ∷ []) }
+{
+    if place_of(text, delimiters.escape()).is_some() {
+        return Repeat::with_capacity(alloc, read_component(alloc, delimiters, text)?, components);
+    }
+    if text.is_empty() {
+        return Repeat::with_capacity(alloc, Component::new(alloc), components);
+    }
+    Repeat::with_capacity(alloc, Component::from_text(alloc, text)?, components)
+}
+
+// Reads a repeat, component by component. All components get their memory at once.
+#[inline(always)]
 fn read_repeat(alloc: Global, delimiters: Delimiters, text: &[u8]) -> Result<Repeat, AllocError>
     ensures { IfOk result (λ repeat. repeat ≡ components_of delimiters text.now) }
 {
     let (part, mut rest) = first_part(text, delimiters.component());
-    let first = component_of(alloc, delimiters, part)?;
-    // All components get their memory at once.
     let count = count_parts(text, delimiters.component());
-    let mut repeat = Repeat::with_capacity(alloc, first, count)?;
+    let mut repeat = first_component(alloc, delimiters, part, count)?;
     while let Some((_delimiter, more)) = rest.split_first() {
         let (part, others) = first_part(more, delimiters.component());
-        repeat.push(component_of(alloc, delimiters, part)?)?;
+        push_component(alloc, delimiters, &mut repeat, part)?;
         rest = others;
     }
     Ok(repeat)
@@ -86,6 +114,36 @@ fn read_repeats(alloc: Global, delimiters: Delimiters, text: &[u8]) -> Result<Fi
     Ok(field)
 }
 
+// Adds the field that a text begins with to a record, and answers what follows from the next field delimiter on. Each
+// way adds it itself, so that none is moved to where they meet.
+#[inline(always)]
+fn push_next<'a>(
+    alloc: Global,
+    delimiters: Delimiters,
+    entry: &mut Record,
+    text: &'a [u8],
+) -> Result<&'a [u8], AllocError>
+    ensures kind { OnOk result (entry.new.kind ≡ entry.old.kind) }
+    ensures fields { IfOk result (λ rest. entry.new.fields ++ fields_of delimiters rest.now
+        ≡ entry.old.fields ++ map (repeats_of delimiters) (parts_of delimiters.field text.now)) }
+    ensures shorter { IfOk result (λ rest. length rest.now ≤ length text.now) }
+{
+    if let Some(end) = plain_length(delimiters, text) {
+        entry.push(Field::from_front(alloc, text, end)?)?;
+        let (_field, rest) = text.split_at(end);
+        return Ok(rest);
+    }
+    let (part, rest) = first_part(text, delimiters.field());
+    if !is_plain(delimiters, part) {
+        entry.push(read_repeats(alloc, delimiters, part)?)?;
+    } else if part.is_empty() {
+        entry.push(Field::from_text(alloc, &[])?)?;
+    } else {
+        entry.push(Field::from_text(alloc, part)?)?;
+    }
+    Ok(rest)
+}
+
 // Reads the fields that follow a record's letter, or a header's delimiters.
 pub(crate) fn read_fields(
     alloc: Global,
@@ -99,9 +157,7 @@ pub(crate) fn read_fields(
     let mut record = Record::with_capacity(alloc, kind, count)?;
     let mut rest = text;
     while let Some((_delimiter, more)) = rest.split_first() {
-        let (part, others) = first_part(more, delimiters.field());
-        record.push(read_field(alloc, delimiters, part)?)?;
-        rest = others;
+        rest = push_next(alloc, delimiters, &mut record, more)?;
     }
     Ok(record)
 }

@@ -1,11 +1,14 @@
 //! Places of bytes in a text, looked for sixteen bytes at a time (LIS02-A2, Character Codes).
 
-ghost use Rattle.std.specs.Prelude.{◌≡◌, ◌≤◌, ◌<◌, ◌==◌, IfNone, IfSome, None, length, map, not, position, take};
-ghost use Rattle.std.specs.Prelude.{count_by};
+ghost use Rattle.std.specs.Prelude.{◌≡◌, ◌≤◌, ◌<◌, ◌==◌, ◌∷◌, IfNone, IfSome, None, drop, length, map, not, position};
+ghost use Rattle.std.specs.Prelude.{count_by, take};
 ghost use Rattle.std.specs.List.{position_from};
 ghost use Rattle.std.specs.Simd.Lanes.{mask_l};
+ghost use Rattle.lis_field.specs.Shape.{plain_field};
+ghost use Rattle.lis_record.specs.inside.FrontReading.{is_delimiter, parts_behind, parts_of, repeats_of};
 ghost use Rattle.lis_record.specs.Text.{IsText, bad_byte_place, is_text_byte};
 
+use lis_field::Delimiters;
 use lis_text::{ByteSet, first_in};
 use std::simd::prelude::*;
 
@@ -99,6 +102,45 @@ fn place_by_one(text: &[u8], mark: u8) -> Option<usize>
     ensures bound { IfSome result (λ found. found < length text.now) }
 {
     text.iter().position(|byte| *byte == mark)
+}
+
+/// The places among sixteen bytes that hold a delimiter of any kind, as bits.
+#[inline(always)]
+fn delimiter_bits(delimiters: Delimiters, bytes: &[u8]) -> u64
+    requires { 16 ≤ length bytes.now }
+    ensures { result ≡ mask_l (map (is_delimiter delimiters) (take 16 bytes.now)) }
+{
+    let sixteen = u8x16::from_slice(bytes);
+    let outer = sixteen.simd_eq(u8x16::splat(delimiters.field()))
+        | sixteen.simd_eq(u8x16::splat(delimiters.repeat()));
+    let inner = sixteen.simd_eq(u8x16::splat(delimiters.component()))
+        | sixteen.simd_eq(u8x16::splat(delimiters.escape()));
+    (outer | inner).to_bitmask()
+}
+
+/// The length of the field that a text begins with, where a field delimiter ends it within sixteen bytes and no other
+/// delimiter stands before that, so that its bytes are its symbols; none where that isn't so.
+#[inline(always)]
+pub(crate) fn plain_length(delimiters: Delimiters, text: &[u8]) -> Option<usize>
+    ensures first { IfSome result (λ end. parts_of delimiters.field text.now
+        ≡ take end text.now ∷ parts_behind delimiters.field (drop end text.now)) }
+    ensures plain { IfSome result (λ end. repeats_of delimiters (take end text.now)
+        ≡ plain_field (take end text.now)) }
+    ensures bound { IfSome result (λ end. end < length text.now) }
+{
+    if text.len() < 16 {
+        return None;
+    }
+    let bits = delimiter_bits(delimiters, text);
+    if bits == 0 {
+        return None;
+    }
+    let end = bits.trailing_zeros() as usize;
+    if text[end] == delimiters.field() {
+        Some(end)
+    } else {
+        None
+    }
 }
 
 /// How many bytes are this one.

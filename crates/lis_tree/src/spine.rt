@@ -119,21 +119,12 @@ impl Front {
         }
     }
 
-    fn with_group(self, group: Group) -> Result<Front, AllocError>
-        ensures { IfOk result
-            (λ f. f ≡ record { header = self.header; notes = self.notes; groups = self.groups ++ group ∷ [] }) }
+    fn push_group(&mut self, group: Group) -> Result<(), AllocError>
+        ensures { OnOk result (self.new
+            ≡ record { header = self.old.header; notes = self.old.notes; groups = self.old.groups ++ group ∷ [] }) }
     {
-        let Front {
-            header,
-            notes,
-            mut groups,
-        } = self;
-        match groups.push(group) {
-            Ok(()) => Ok(Front {
-                header,
-                notes,
-                groups,
-            }),
+        match self.groups.push(group) {
+            Ok(()) => Ok(()),
             Err(_) => Err(AllocError),
         }
     }
@@ -177,6 +168,7 @@ pub(crate) enum Spine {
 }
 
 /// The order with one more result.
+#[inline(always)]
 fn close_result(mut order: Order, item: Item) -> Result<Order, AllocError>
     ensures records { IfOk result (λ o. order_records o ≡ order_records order ++ noted_records item) }
     ensures shape { IfOk result (λ o. IsOrder order → IsNoted kinds.R item → IsOrder o) }
@@ -188,6 +180,7 @@ fn close_result(mut order: Order, item: Item) -> Result<Order, AllocError>
 }
 
 /// The patient with one more order.
+#[inline(always)]
 fn close_order(mut patient: Patient, order: Order) -> Result<Patient, AllocError>
     ensures records { IfOk result (λ p. patient_records p ≡ patient_records patient ++ order_records order) }
     ensures shape { IfOk result (λ p. IsPatient patient → IsOrder order → IsPatient p) }
@@ -199,14 +192,17 @@ fn close_order(mut patient: Patient, order: Order) -> Result<Patient, AllocError
 }
 
 /// The front with one more group.
-fn close_group(front: Front, group: Group) -> Result<Front, AllocError>
+#[inline(always)]
+fn close_group(mut front: Front, group: Group) -> Result<Front, AllocError>
     ensures records { IfOk result (λ f. front_records f ≡ front_records front ++ group_records group) }
     ensures shape { IfOk result (λ f. IsFront front → IsGroup group → IsFront f) }
 {
-    front.with_group(group)
+    front.push_group(group)?;
+    Ok(front)
 }
 
 /// The order that an item alone is.
+#[inline(always)]
 fn order_of(alloc: Global, item: Item) -> Order
     ensures records { order_records result ≡ noted_records item }
     ensures shape { IsNoted kinds.O item → IsOrder result }
@@ -215,6 +211,7 @@ fn order_of(alloc: Global, item: Item) -> Order
 }
 
 /// The patient that an item alone is.
+#[inline(always)]
 fn patient_of(alloc: Global, item: Item) -> Patient
     ensures records { patient_records result ≡ noted_records item }
     ensures shape { IsNoted kinds.P item → IsPatient result }
@@ -224,6 +221,7 @@ fn patient_of(alloc: Global, item: Item) -> Patient
 
 /// The patient with the order that grew last.
 #[tactic(auto, using(crate::proofs::Appends::appends))]
+#[inline(always)]
 fn close_entry(patient: Patient, order: Order, item: Item) -> Result<Patient, AllocError>
     ensures records { IfOk result (λ p.
         patient_records p ≡ patient_records patient ++ order_records order ++ noted_records item) }
@@ -235,6 +233,7 @@ fn close_entry(patient: Patient, order: Order, item: Item) -> Result<Patient, Al
 
 /// The front with the patient that grew last.
 #[tactic(auto, using(crate::proofs::Appends::appends))]
+#[inline(always)]
 fn close_below(front: Front, patient: Patient, order: Order) -> Result<Front, AllocError>
     ensures records { IfOk result (λ f.
         front_records f ≡ front_records front ++ patient_records patient ++ order_records order) }
@@ -246,6 +245,7 @@ fn close_below(front: Front, patient: Patient, order: Order) -> Result<Front, Al
 
 /// The front with all that stands below it.
 #[tactic(auto, using(crate::proofs::Appends::appends))]
+#[inline(always)]
 pub(crate) fn whole_front(alloc: Global, spine: Spine) -> Result<Front, AllocError>
     ensures records { IfOk result (λ f. front_records f ≡ spine_records spine) }
     ensures shape { IfOk result (λ f. IsSpine spine → IsFront f) }
@@ -264,6 +264,7 @@ pub(crate) fn whole_front(alloc: Global, spine: Spine) -> Result<Front, AllocErr
     }
 }
 
+#[inline(always)]
 fn with_note(spine: Spine, note: Record) -> Result<Spine, AllocError>
     ensures records { IfOk result (λ s. spine_records s ≡ spine_records spine ++ note ∷ []) }
     ensures shape { IfOk result (λ s. IsSpine spine → IsNote note.kind → IsSpine s) }
@@ -292,6 +293,7 @@ fn with_note(spine: Spine, note: Record) -> Result<Spine, AllocError>
     }
 }
 
+#[inline(always)]
 fn with_patient(alloc: Global, spine: Spine, head: Record) -> Result<Spine, AllocError>
     ensures records { IfOk result (λ s. spine_records s ≡ spine_records spine ++ head ∷ []) }
     ensures shape { IfOk result (λ s. IsSpine spine → head.kind ≡ kinds.P → IsSpine s) }
@@ -300,6 +302,7 @@ fn with_patient(alloc: Global, spine: Spine, head: Record) -> Result<Spine, Allo
     Ok(Spine::Patient(front, Item::new(alloc, head)))
 }
 
+#[inline(always)]
 fn with_query(alloc: Global, spine: Spine, head: Record) -> Result<Spine, AllocError>
     ensures records { IfOk result (λ s. spine_records s ≡ spine_records spine ++ head ∷ []) }
     ensures shape { IfOk result (λ s. IsSpine spine → head.kind ≡ kinds.Q → IsSpine s) }
@@ -308,6 +311,7 @@ fn with_query(alloc: Global, spine: Spine, head: Record) -> Result<Spine, AllocE
     Ok(Spine::Query(front, Item::new(alloc, head)))
 }
 
+#[inline(always)]
 fn with_order(alloc: Global, spine: Spine, head: Record) -> Result<Spine, AllocError>
     requires { misplaced (spine_level spine) kinds.O ≡ None }
     ensures records { IfOk result (λ s. spine_records s ≡ spine_records spine ++ head ∷ []) }
@@ -330,6 +334,7 @@ fn with_order(alloc: Global, spine: Spine, head: Record) -> Result<Spine, AllocE
     }
 }
 
+#[inline(always)]
 fn with_result(alloc: Global, spine: Spine, head: Record) -> Result<Spine, AllocError>
     requires { misplaced (spine_level spine) kinds.R ≡ None }
     ensures records { IfOk result (λ s. spine_records s ≡ spine_records spine ++ head ∷ []) }
@@ -361,6 +366,7 @@ pub(crate) fn standing(spine: &Spine) -> Standing
 }
 
 /// The message so far with one more record, which may stand there.
+#[inline(always)]
 pub(crate) fn with_record(
     alloc: Global,
     spine: Spine,
@@ -417,6 +423,23 @@ fn push_result(
     }
 }
 
+/// Moves the last query into the front, and puts the next in its place.
+#[tactic(auto, using(crate::proofs::Appends::appends))]
+fn push_query(
+    alloc: Global,
+    front: &mut Front,
+    item: &mut Item,
+    head: Record,
+) -> Result<(), AllocError>
+    ensures records { OnOk result (front_records front.new ++ noted_records item.new
+        ≡ front_records front.old ++ noted_records item.old ++ head ∷ []) }
+    ensures shape { OnOk result (IsFront front.old → IsNoted kinds.Q item.old → head.kind ≡ kinds.Q
+        → IsFront front.new × IsNoted kinds.Q item.new) }
+{
+    let whole = mem::replace(item, Item::new(alloc, head));
+    front.push_group(Group::Query(whole.into_query()))
+}
+
 /// Adds a record, and moves all that stands before it.
 #[inline(never)]
 fn push_moved(alloc: Global, spine: &mut Spine, kind: Kind, entry: Record) -> Result<(), AllocError>
@@ -431,8 +454,8 @@ fn push_moved(alloc: Global, spine: &mut Spine, kind: Kind, entry: Record) -> Re
     Ok(())
 }
 
-/// Adds a record, which may stand there, to the message so far: a result behind another and a note where they stand,
-/// since most records are these.
+/// Adds a record, which may stand there, to the message so far: a result or a query behind another and a note where
+/// they stand, since most records are these.
 pub(crate) fn push_record(
     alloc: Global,
     spine: &mut Spine,
@@ -449,6 +472,12 @@ pub(crate) fn push_record(
         Kind::R => {
             if let Spine::Entry(_front, _patient, order, item) = spine {
                 return push_result(alloc, order, item, entry);
+            }
+            push_moved(alloc, spine, kind, entry)
+        }
+        Kind::Q => {
+            if let Spine::Query(front, item) = spine {
+                return push_query(alloc, front, item, entry);
             }
             push_moved(alloc, spine, kind, entry)
         }

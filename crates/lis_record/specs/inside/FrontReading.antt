@@ -1,7 +1,7 @@
 -- Reading a text from its front, once: the same symbols, components, repeats and fields as the relation has.
 use Rattle.lis_field.specs.declared.kinds.Kind.{Kind}
 use Rattle.std.specs.Prelude.{◌≡◌, ◌≢◌, ℕ, zero, suc, ◌+◌, ◌==◌, nat_lt, cond, if◌then◌else◌, List, [], ◌∷◌, ◌++◌}
-use Rattle.std.specs.Prelude.{map, take, length, Option, Some, None, option_map, is_some, unwrap_or, IsTrue}
+use Rattle.std.specs.Prelude.{Bool, ◌||◌, map, take, length, Option, Some, None, option_map, is_some, unwrap_or, IsTrue}
 use Rattle.std.specs.List.{position_or_len, slice_split}
 use Rattle.lis_field.specs.declared.symbols.Sym.{Sym}
 use Rattle.lis_field.specs.declared.symbols.Sym.TheVariants.{Char}
@@ -12,6 +12,10 @@ use Rattle.lis_field.specs.declared.kinds.Kind.TheVariants as kinds
 use Rattle.lis_record.specs.Faults.{text_fault, trailing_byte}
 use Rattle.lis_field.specs.Kinds.{kind_of}
 use Rattle.lis_field.specs.Shape.{Symbols, Components, Repeats, Fields}
+
+-- whether a byte is a delimiter of any kind
+abbrev pub is_delimiter : DelimiterBytes → ℕ → Bool
+is_delimiter d b = (b == d.field || b == d.repeat) || (b == d.component || b == d.escape)
 
 -- the parts of a text round a byte
 abbrev pub parts_of : ℕ → List ℕ → List (List ℕ)
