@@ -107,8 +107,45 @@ fn memory_is_taken_before_it_is_used(rt: HostRuntime) -> Result<(), Fail> {
     let mut record = Record::with_capacity(alloc, Kind::O, 1)?;
     assert_eq!(rt; record.kind(), Kind::O);
     assert_eq!(rt; record.len(), 0);
-    record.push(Field::new(alloc, Repeat::new(alloc, component)?)?)?;
+    let repeat = Repeat::with_capacity(alloc, component, 3)?;
+    assert_eq!(rt; repeat.len(), 1);
+    record.push(Field::new(alloc, repeat)?)?;
     assert_eq!(rt; record.len(), 1);
+    Ok(())
+}
+
+// Fifteen symbols stand in a component itself, and the sixteenth takes memory.
+#[test]
+fn a_component_holds_few_symbols_and_many(rt: HostRuntime) -> Result<(), Fail> {
+    let alloc = rt.alloc();
+    let letters = b"abcdefghijklmnopqrstuvwxyz".as_slice();
+    for (count, last) in [(1, b'a'), (15, b'o'), (16, b'p'), (26, b'z')] {
+        let component = component_of(alloc, &letters[..count])?;
+        assert_eq!(rt; component.len(), count);
+        assert_eq!(rt; component.get(count - 1), Some(&Sym::Char(last)));
+        assert!(rt; component.get(count).is_none());
+    }
+    Ok(())
+}
+
+#[test]
+fn a_field_is_made_of_the_front_of_a_text(rt: HostRuntime) -> Result<(), Fail> {
+    let alloc = rt.alloc();
+    let rows = [
+        (0, b"".as_slice()),
+        (6, b"mmol/L".as_slice()),
+        (15, b"mmol/L|3.9 to 6".as_slice()),
+        (16, b"mmol/L|3.9 to 6.".as_slice()),
+        (40, b"mmol/L|3.9 to 6.1|H".as_slice()),
+    ];
+    for (count, front) in rows {
+        let field = Field::from_front(alloc, b"mmol/L|3.9 to 6.1|H", count)?;
+        let text = field.to_text(alloc)?.ok_or("no text")?;
+        assert_eq!(rt; text.as_slice(), front);
+    }
+    let field = Field::from_front(alloc, b"H|F", 1)?;
+    let text = field.to_text(alloc)?.ok_or("no text")?;
+    assert_eq!(rt; text.as_slice(), b"H".as_slice());
     Ok(())
 }
 

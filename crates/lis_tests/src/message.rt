@@ -1,6 +1,7 @@
 //! What no contract and no conformance row says: messages of very many records, a message's results, its copies.
 
 use lis_message::{Fed, Group, MessageReader, Record, TextsFault, message_texts, read_messages};
+use lis_tree::{Delimiters, Kind, OpenMessage};
 use std::alloc::{AllocError, Global};
 use std::test::Fail;
 
@@ -77,6 +78,44 @@ fn results_come_with_their_orders_and_patients(rt: HostRuntime) -> Result<(), Fa
         assert_eq!(rt; result_value.as_slice(), value);
     }
     assert!(rt; results.next().is_none());
+    Ok(())
+}
+
+// Adds an empty record of this kind, which may stand there and closes nothing.
+fn add(alloc: Global, message: &mut OpenMessage, kind: Kind) -> Result<(), Fail> {
+    if kind == Kind::L || message.place_fault(kind).is_some() {
+        return Err("misplaced")?;
+    }
+    message.push(alloc, Record::new(alloc, kind))?;
+    Ok(())
+}
+
+#[test]
+fn an_open_message_takes_records_one_by_one(rt: HostRuntime) -> Result<(), Fail> {
+    let alloc = rt.alloc();
+    let mut message =
+        OpenMessage::new(alloc, Delimiters::usual(), Record::new(alloc, Kind::H));
+    for kind in [Kind::Q, Kind::C, Kind::Q, Kind::P, Kind::O, Kind::R, Kind::R, Kind::S] {
+        add(alloc, &mut message, kind)?;
+    }
+    assert_eq!(rt; message.next_place(), 10);
+    assert!(rt; message.place_fault(Kind::R).is_none());
+    let message = message.closed(alloc, Record::new(alloc, Kind::L))?;
+    let [first, second, third] = message.groups() else {
+        return Err("not three groups")?;
+    };
+    let (Group::Query(first), Group::Query(second)) = (first, second) else {
+        return Err("not two queries")?;
+    };
+    assert_eq!(rt; (first.notes().len(), second.notes().len()), (1, 0));
+    let Group::Patient(patient) = third else {
+        return Err("no patient")?;
+    };
+    let order = patient.orders().first().ok_or("no order")?;
+    let [_, last] = order.results() else {
+        return Err("not two results")?;
+    };
+    assert_eq!(rt; last.notes().len(), 1);
     Ok(())
 }
 
