@@ -3,6 +3,7 @@
 //!
 //!     timed_calls bytes       hears the link bytes of standard input, and tells how many texts were handed out
 //!     timed_calls messages    reads the record text of standard input, and tells how many messages it holds
+//!     timed_calls again 40    the same so many times, each time with the memory of the time before
 //!     timed_calls play 40     plays a session of 1,000 full frames so many times, and tells how many were accepted
 #![tactic(auto)]
 
@@ -32,10 +33,11 @@ fn main(rt: HostRuntime) -> ExitCode {
     let told = match (words.next(), words.next()) {
         (Some("bytes"), None) => heard(rt.alloc(), &mut rt.reader()),
         (Some("messages"), None) => in_messages(rt.alloc(), &mut rt.reader()),
+        (Some("again"), Some(rounds)) => in_messages_again(rt.alloc(), &mut rt.reader(), rounds),
         (Some("play"), Some(rounds)) => played(rt.alloc(), rounds),
         _ => {
             let _ = eprintln!(rt;
-                "usage: timed_calls bytes | timed_calls messages | timed_calls play ROUNDS"
+                "usage: timed_calls bytes | timed_calls messages | timed_calls again ROUNDS | timed_calls play ROUNDS"
             );
             return ExitCode::from(2);
         }
@@ -78,7 +80,24 @@ fn handed_out(receiver: &mut Receiver, bytes: &[u8], texts: u64) -> u64 {
 fn in_messages<R: Read>(alloc: Global, reader: &mut R) -> Option<u64> {
     let mut bytes = Vec::new(alloc);
     reader.read_to_end(&mut bytes).ok()?;
-    let read = read_messages(alloc, bytes.as_slice());
+    messages_of(alloc, bytes.as_slice())
+}
+
+/// The same of all rounds.
+fn in_messages_again<R: Read>(alloc: Global, reader: &mut R, rounds: &str) -> Option<u64> {
+    let rounds: u32 = rounds.parse().ok()?;
+    let mut bytes = Vec::new(alloc);
+    reader.read_to_end(&mut bytes).ok()?;
+    let mut messages = 0u64;
+    for _ in 0..rounds {
+        messages = messages.saturating_add(messages_of(alloc, bytes.as_slice())?);
+    }
+    Some(messages)
+}
+
+/// The number of messages in a record text, each made a tree; none where a record is refused.
+fn messages_of(alloc: Global, bytes: &[u8]) -> Option<u64> {
+    let read = read_messages(alloc, bytes);
     if read.fault.is_some() {
         return None;
     }
