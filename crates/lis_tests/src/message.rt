@@ -93,9 +93,17 @@ fn add(alloc: Global, message: &mut OpenMessage, kind: Kind) -> Result<(), Fail>
 #[test]
 fn an_open_message_takes_records_one_by_one(rt: HostRuntime) -> Result<(), Fail> {
     let alloc = rt.alloc();
-    let mut message =
-        OpenMessage::new(alloc, Delimiters::usual(), Record::new(alloc, Kind::H));
-    for kind in [Kind::Q, Kind::C, Kind::Q, Kind::P, Kind::O, Kind::R, Kind::R, Kind::S] {
+    let mut message = OpenMessage::new(alloc, Delimiters::usual(), Record::new(alloc, Kind::H));
+    for kind in [
+        Kind::Q,
+        Kind::C,
+        Kind::Q,
+        Kind::P,
+        Kind::O,
+        Kind::R,
+        Kind::R,
+        Kind::S,
+    ] {
         add(alloc, &mut message, kind)?;
     }
     assert_eq!(rt; message.next_place(), 10);
