@@ -8,7 +8,7 @@ use Rattle.lis_link.specs.Receiver.{ReceiverState, ReceiverStep}
 use Rattle.lis_link.specs.inside.Stands.{IsIn}
 use Rattle.lis_link.specs.inside.Stands as Stands
 use Rattle.lis_c.specs.Codes.{note_code, note_detail, note_place, reply_code}
-use Rattle.lis_c.specs.Steps.{IsRefused, IsTold, HoldsText, Makes}
+use Rattle.lis_c.specs.Steps.{IsRefused, TellsStep, HoldsText, Makes}
 use Rattle.lis_c.specs.declared.desk.ReceiverDesk.{ReceiverDesk}
 use Rattle.lis_c.specs.declared.out.LisStep.{LisStep}
 
@@ -17,18 +17,18 @@ out_of_memory Notes.OutOfMemory e = refl
 out_of_memory note e = absurd (omega (e, arith))
 
 -- the answer means that memory was refused exactly where its note does
-pub not_out : (answer : Step) (before text : List ℕ) (out : LisStep) → IsTold answer before out text → out.note ≢ 11 →
+pub not_out : (answer : Step) (before text : List ℕ) (out : LisStep) → TellsStep answer before out text → out.note ≢ 11 →
     answer.note ≢ Notes.OutOfMemory
 not_out answer before text out told loud same = loud (told.note_is ∙ ap note_code same)
 
-pub is_out : (answer : Step) (before text : List ℕ) (out : LisStep) → IsTold answer before out text → out.note ≡ 11 →
+pub is_out : (answer : Step) (before text : List ℕ) (out : LisStep) → TellsStep answer before out text → out.note ≡ 11 →
     answer.note ≡ Notes.OutOfMemory
 is_out answer before text out told same = out_of_memory answer.note (sym told.note_is ∙ same)
 
 -- a step that was made is told
 pub makes :
     (step : ReceiverStep) (answer : Step) (kept : Kept) (old new : ReceiverDesk) (out : LisStep) →
-    Stands.Makes 240 step answer kept → IsTold answer old.text out new.text →
+    Stands.Makes 240 step answer kept → TellsStep answer old.text out new.text →
     ((r : ReceiverState) → IsIn 240 kept r → IsIn 240 new.receiver r) → Makes step old out new
 makes step answer kept old new out made told stays = record {
   reply_is = told.reply_is ∙ ap reply_code made.answer.reply_is;
@@ -42,7 +42,7 @@ makes step answer kept old new out made told stays = record {
 -- and one for which memory was refused
 pub refused :
     (step : ReceiverStep) (r : ReceiverState) (answer : Step) (kept : Kept) (old new : ReceiverDesk) (out : LisStep) →
-    Stands.IsRefused 240 old.receiver.spare step r answer kept → IsTold answer old.text out new.text →
+    Stands.IsRefused 240 old.receiver.spare step r answer kept → TellsStep answer old.text out new.text →
     ((s : ReceiverState) → IsIn 240 kept s → IsIn 240 new.receiver s) → IsRefused step r old out new
 refused step r answer kept old new out was told stays = record {
   frame = was.frame;

@@ -61,11 +61,11 @@ told_fault fault =
     }
 
 -- what is told of what was found; a record whose bytes were held is the one that the reader keeps
-abbrev pub IsTold : Found → Option (Lent RecordContent) → LisFound → Type 0
-IsTold founds.Nothing cut out = out ≡ nothing
-IsTold (founds.Record entry) cut out = out ≡ told_record entry.content
-IsTold founds.Held cut out = (entry : Lent RecordContent) → cut ≡ Some entry → out ≡ told_record entry.content
-IsTold (founds.Refused fault) cut out = out ≡ told_fault fault
+abbrev pub TellsFound : Found → Option (Lent RecordContent) → LisFound → Type 0
+TellsFound founds.Nothing cut out = out ≡ nothing
+TellsFound (founds.Record entry) cut out = out ≡ told_record entry.content
+TellsFound founds.Held cut out = (entry : Lent RecordContent) → cut ≡ Some entry → out ≡ told_record entry.content
+TellsFound (founds.Refused fault) cut out = out ≡ told_fault fault
 
 -- this piece was read, so many bytes of it, and what was found is told
 pub record ReadsAndTells (before after : RecordsState) (left : Option Begun) (piece : List ℕ) (count : ℕ)
@@ -74,7 +74,7 @@ pub record ReadsAndTells (before after : RecordsState) (left : Option Begun) (pi
   pub found : Found
   pub reads : Reads before after left piece behind found
   pub count_is : count ≡ length piece - length behind
-  pub told : IsTold found after.cut out
+  pub told : TellsFound found after.cut out
 
 abbrev pub ReadsPiece : RecordsState → RecordsState → Option Begun → List ℕ → ℕ → LisFound → Type 0
 ReadsPiece before after left bytes count out =

@@ -35,13 +35,13 @@ record_place RecordFaults.TooLong = 0
 record_place RecordFaults.OutOfMemory = 0
 
 -- a record is told by its letter in upper case and the number of its fields
-pub record IsTold (content : RecordContent) (status : ℕ) (out : LisRecord) : Type 0 where
+pub record TellsRecord (content : RecordContent) (status : ℕ) (out : LisRecord) : Type 0 where
   pub well : status ≡ OK
   pub letter_is : out.letter ≡ letter_of content.kind
   pub fields_are : out.fields ≡ length content.fields
   pub place_is : out.place ≡ 0
 
-pub record IsRefused (fault : RecordFault) (status : ℕ) (out : LisRecord) : Type 0 where
+pub record TellsFault (fault : RecordFault) (status : ℕ) (out : LisRecord) : Type 0 where
   pub why : status ≡ record_status fault
   pub letter_is : out.letter ≡ 0
   pub fields_are : out.fields ≡ 0

@@ -14,15 +14,15 @@ pub record HasParts (out : LisSignal) (kind number : ℕ) (last : Bool) (fault p
   pub place_is : out.place ≡ place
   pub text_is : take out.len out.text ≡ text
 
-abbrev pub IsTold : Option (SignalOf 240) → LisSignal → Type 0
-IsTold None out = HasParts out 0 0 false 0 0 []
-IsTold (Some Enq) out = HasParts out 1 0 false 0 0 []
-IsTold (Some Eot) out = HasParts out 2 0 false 0 0 []
-IsTold (Some (Good frame)) out = HasParts out 3 frame.number frame.last 0 0 frame.text
-IsTold (Some (Bad fault)) out = HasParts out 4 0 false (fault_code fault) (fault_place fault) []
+abbrev pub TellsSignal : Option (SignalOf 240) → LisSignal → Type 0
+TellsSignal None out = HasParts out 0 0 false 0 0 []
+TellsSignal (Some Enq) out = HasParts out 1 0 false 0 0 []
+TellsSignal (Some Eot) out = HasParts out 2 0 false 0 0 []
+TellsSignal (Some (Good frame)) out = HasParts out 3 frame.number frame.last 0 0 frame.text
+TellsSignal (Some (Bad fault)) out = HasParts out 4 0 false (fault_code fault) (fault_place fault) []
 
 -- bytes were read, and their signal told
 pub record FedAndTold (past bytes : List ℕ) (count : ℕ) (out : LisSignal) : Type 0 where
   pub signal : Option (SignalOf 240)
   pub fed : IsFed 240 past bytes count signal
-  pub told : IsTold signal out
+  pub told : TellsSignal signal out

@@ -23,7 +23,7 @@ HoldsText None has before text = (has ≡ false) × (text ≡ before)
 HoldsText (Some message) has before text = (has ≡ true) × (text ≡ message)
 
 -- the answer of a receiver, in numbers
-pub record IsTold (step : Step) (before : List ℕ) (out : LisStep) (text : List ℕ) : Type 0 where
+pub record TellsStep (step : Step) (before : List ℕ) (out : LisStep) (text : List ℕ) : Type 0 where
   pub reply_is : out.reply ≡ reply_code step.reply
   pub note_is : out.note ≡ note_code step.note
   pub detail_is : out.detail ≡ note_detail step.note

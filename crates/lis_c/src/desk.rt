@@ -3,7 +3,7 @@
 ghost use Rattle.std.specs.Prelude.{◌≡◌, ◌≢◌, ◌++◌, ◌∷◌, [], length, None, Some, MatchResult};
 ghost use Rattle.lis_c.specs.Codes.{note_code, note_detail, note_place};
 ghost use Rattle.lis_c.specs.Status.{AddStatus, OK};
-ghost use Rattle.lis_c.specs.Steps.{IsTold};
+ghost use Rattle.lis_c.specs.Steps.{TellsStep};
 ghost use Rattle.lis_frame.specs.Scanner.{StandsFor};
 ghost use Rattle.lis_link.specs.Receiver.{ReceiverState, new_receiver};
 ghost use Rattle.lis_link.specs.Sender.{new_sender, start_fault, started};
@@ -164,7 +164,7 @@ impl ReceiverDesk {
 
     /// Tells a step. A text that it hands out is kept; the receiver has the room of the one before.
     pub(crate) fn tell(&mut self, step: Step, out: &mut LisStep)
-        ensures told { IsTold step self.old.text out.new self.new.text }
+        ensures told { TellsStep step self.old.text out.new self.new.text }
         ensures receiver { (r : ReceiverState) → IsIn 240 self.old.receiver r → IsIn 240 self.new.receiver r }
     {
         let Step {

@@ -3,7 +3,7 @@
 ghost use Rattle.std.specs.Prelude.{◌≡◌, ◌≤◌, length, take};
 ghost use Rattle.lis_c.specs.Codes.{fault_code, fault_place};
 ghost use Rattle.lis_c.specs.Emitted.{emitted};
-ghost use Rattle.lis_c.specs.Signals.{IsTold};
+ghost use Rattle.lis_c.specs.Signals.{TellsSignal};
 
 use lis_frame::{FrameFault, Signal, SignalOf, frame_bytes};
 use lis_link::{Emit, EmitOf};
@@ -99,7 +99,7 @@ pub(crate) fn fault_place(fault: FrameFault) -> usize
 
 /// Tells a signal.
 pub(crate) fn tell_signal(signal: Option<Signal>, out: &mut LisSignal)
-    ensures { IsTold signal out.new }
+    ensures { TellsSignal signal out.new }
 {
     out.kind = 0;
     out.number = 0;

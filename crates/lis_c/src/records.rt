@@ -2,7 +2,7 @@
 
 ghost use Rattle.std.specs.Prelude.{◌≡◌, ◌≢◌, ◌<◌, length, take, None, Some, IfSome, IfNone, MatchOption};
 ghost use Rattle.std.specs.Option.{option_to_list};
-ghost use Rattle.lis_c.specs.Records.{IsPart, IsRefused, IsTold, delimiters_in, part_at, plain};
+ghost use Rattle.lis_c.specs.Records.{IsPart, TellsFault, TellsRecord, delimiters_in, part_at, plain};
 ghost use Rattle.lis_c.specs.Records.{record_place, record_status, symbol_bytes};
 ghost use Rattle.lis_c.specs.Status.{BAD_DELIMITERS};
 ghost use Rattle.lis_field.specs.declared.kinds.Kind.TheVariants as kinds;
@@ -45,9 +45,9 @@ pub extern "C" fn lis_header_read(
     out: &mut LisRecord,
 ) -> u8
     ensures found { (d : DelimiterBytes) (content : RecordContent) → IsDelimiters d → IsRecord d text.now content
-        → content.kind ≡ kinds.H → IsTold content result out.new × (delimiters_in delimiters.new ≡ d) }
+        → content.kind ≡ kinds.H → TellsRecord content result out.new × (delimiters_in delimiters.new ≡ d) }
     ensures fault { (fault : RecordFault) → header_fault text.now ≡ Some fault
-        → IsRefused fault result out.new × (delimiters.new ≡ delimiters.old) }
+        → TellsFault fault result out.new × (delimiters.new ≡ delimiters.old) }
 {
     match lend_header(text) {
         Ok(entry) => {
@@ -72,9 +72,9 @@ pub extern "C" fn lis_record_read(
 ) -> u8
     ensures found { (content : RecordContent) → IsDelimiters (delimiters_in delimiters.now)
         → IsRecord (delimiters_in delimiters.now) text.now content → content.kind ≢ kinds.H
-        → IsTold content result out.new }
+        → TellsRecord content result out.new }
     ensures fault { (fault : RecordFault) → IsDelimiters (delimiters_in delimiters.now)
-        → record_fault (delimiters_in delimiters.now) text.now ≡ Some fault → IsRefused fault result out.new }
+        → record_fault (delimiters_in delimiters.now) text.now ≡ Some fault → TellsFault fault result out.new }
     ensures delimiters { (IsDelimiters (delimiters_in delimiters.now) → ⊥) → result ≡ BAD_DELIMITERS }
 {
     out.letter = 0;
@@ -158,7 +158,7 @@ pub(crate) fn known(delimiters: &LisDelimiters) -> Option<Delimiters>
 
 /// Tells a record.
 fn tell(entry: &LentRecord<'_>, out: &mut LisRecord) -> u8
-    ensures { IsTold entry.now.content result out.new }
+    ensures { TellsRecord entry.now.content result out.new }
 {
     out.letter = entry.kind().letter();
     out.fields = entry.len();
@@ -168,7 +168,7 @@ fn tell(entry: &LentRecord<'_>, out: &mut LisRecord) -> u8
 
 /// Tells why a text is none.
 fn refuse(fault: RecordFault, out: &mut LisRecord) -> u8
-    ensures { IsRefused fault result out.new }
+    ensures { TellsFault fault result out.new }
 {
     out.letter = 0;
     out.fields = 0;

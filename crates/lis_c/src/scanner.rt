@@ -2,7 +2,7 @@
 
 ghost use Rattle.std.specs.Prelude.{◌≡◌, ◌∷◌, ℕ, List, take};
 ghost use Rattle.lis_c.specs.declared.desk.ScannerDesk.{ScannerDesk};
-ghost use Rattle.lis_c.specs.Signals.{FedAndTold, IsTold};
+ghost use Rattle.lis_c.specs.Signals.{FedAndTold, TellsSignal};
 ghost use Rattle.lis_frame.specs.Scanner.{StandsFor};
 ghost use Rattle.lis_frame.specs.Stream.{signal_after, stream_with};
 ghost use Rattle.lis_c.specs.New.{IsNewScanner, type_align};
@@ -51,7 +51,7 @@ impl LisScanner {
 #[unsafe(no_mangle)]
 pub extern "C" fn lis_scanner_push(s: &mut LisScanner, byte: u8, out: &mut LisSignal)
     ensures signal { (past : List ℕ) → StandsFor 240 s.old.state.scanner past →
-        IsTold (signal_after 240 past byte) out.new }
+        TellsSignal (signal_after 240 past byte) out.new }
     ensures after { (past : List ℕ) → StandsFor 240 s.old.state.scanner past →
         StandsFor 240 s.new.state.scanner (byte ∷ past) }
 {

@@ -13,7 +13,7 @@ pub use fault::MessageWriteFault;
 pub use lis_record::{Delimiters, Kind, LentRecord, Record, RecordFault, WriteFault};
 pub use lis_text::{LinkText, List, Texts};
 pub use lis_tree::{
-    Group, Message, MessageFault, Order, Patient, PlacedResult, Query, Reason, Records,
+    Group, Message, MessageFault, Noted, Order, Patient, PlacedResult, Query, Reason, Records,
     ResultEntry, Results,
 };
 pub use reader::{Fed, MessageReader, Messages, read_messages};

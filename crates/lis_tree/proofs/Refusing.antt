@@ -6,7 +6,7 @@ use Rattle.lis_field.specs.declared.kinds.Kind.TheVariants as kinds
 use Rattle.lis_tree.specs.declared.fault.Reason.{Reason}
 use Rattle.lis_tree.specs.declared.fault.Reason.TheVariants as reasons
 use Rattle.lis_tree.specs.Hierarchy.{HasParent, IsViable}
-use Rattle.lis_tree.specs.Level.{Level, outside, in_header, in_patient, in_order, in_query, closed, next_level}
+use Rattle.lis_tree.specs.Level.{Level, outside, in_header, in_patient, in_query, closed, next_level}
 use Rattle.lis_tree.specs.Level.{level_after, misplaced, StandsFrom}
 use Rattle.lis_tree.specs.Refusing.{IsClosed, IsRefusedFor}
 use Rattle.lis_tree.proofs.Levels.{level_append, stands_append, stands_back, header_first, nothing_closed}

@@ -9,7 +9,7 @@ ghost use Rattle.lis_tree.specs.Tree.{flatten, IsTree};
 
 use crate::fault::Reason;
 use crate::message::Message;
-use crate::spine::{Spine, headed, push_record, standing, whole_front, with_record};
+use crate::spine::{Spine, headed, push_record, standing, whole_front};
 use lis_record::{Delimiters, Kind, Record};
 use std::alloc::{AllocError, Global};
 use std::marker::Model;
@@ -80,18 +80,9 @@ impl OpenMessage {
         requires open { entry.kind ≢ kinds.L }
         ensures { IfOk result (λ m. m ≡ record { delimiters = self.delimiters; records = self.records ++ entry ∷ [] }) }
     {
-        let OpenMessage {
-            delimiters,
-            spine,
-            count,
-        } = self;
-        let kind = entry.kind();
-        let spine = with_record(alloc, spine, kind, entry)?;
-        Ok(OpenMessage {
-            delimiters,
-            spine,
-            count: count.saturating_add(1),
-        })
+        let mut message = self;
+        message.push(alloc, entry)?;
+        Ok(message)
     }
 
     /// Adds one more record, which may stand there and doesn't close the message. Where memory is refused, what is

@@ -11,85 +11,12 @@ ghost use Rattle.lis_tree.specs.inside.Standing.{standing_level};
 use crate::lists::Records;
 use crate::message::Message;
 use crate::standing::Standing;
-use crate::tree::{Group, Order, Patient, Query, ResultEntry};
+use crate::tree::{Group, Noted, Order, Patient};
 use lis_record::{Delimiters, Kind, Record};
 use lis_text::List;
 use std::alloc::{AllocError, Global};
 use std::marker::Model;
 use std::mem;
-
-/// A node that has no children yet.
-#[derive(Drop)]
-pub(crate) struct Item {
-    head: Record,
-    notes: Records,
-}
-
-impl Model for Item {
-    ghost use Rattle.lis_tree.specs.Nodes.{Noted};
-
-    ghost Value = { Noted };
-
-    ghost view = { λ i. record { head = i.head; notes = i.notes } };
-}
-
-impl Item {
-    fn new(alloc: Global, head: Record) -> Self
-        ensures { result ≡ record { head = head; notes = [] } }
-    {
-        Item {
-            head,
-            notes: Records::new(alloc),
-        }
-    }
-
-    fn with_note(self, note: Record) -> Result<Item, AllocError>
-        ensures { IfOk result (λ i. i ≡ record { head = self.head; notes = self.notes ++ note ∷ [] }) }
-    {
-        let Item { head, mut notes } = self;
-        match notes.push(note) {
-            Ok(()) => Ok(Item { head, notes }),
-            Err(_) => Err(AllocError),
-        }
-    }
-
-    fn push_note(&mut self, note: Record) -> Result<(), AllocError>
-        ensures { OnOk result (self.new ≡ record { head = self.old.head; notes = self.old.notes ++ note ∷ [] }) }
-    {
-        match self.notes.push(note) {
-            Ok(()) => Ok(()),
-            Err(_) => Err(AllocError),
-        }
-    }
-
-    fn into_entry(self) -> ResultEntry
-        ensures { result ≡ self }
-    {
-        let Item { head, notes } = self;
-        ResultEntry::new(head, notes)
-    }
-
-    fn into_query(self) -> Query
-        ensures { result ≡ self }
-    {
-        let Item { head, notes } = self;
-        Query::new(head, notes)
-    }
-
-    fn into_order(self, alloc: Global) -> Order
-        ensures { result ≡ record { head = self.head; notes = self.notes; results = [] } }
-    {
-        let Item { head, notes } = self;
-        Order::new(head, notes, List::new(alloc))
-    }
-
-    fn into_patient(self, alloc: Global) -> Patient
-        ensures { result ≡ record { head = self.head; notes = self.notes; orders = [] } }
-    {
-        let Item { head, notes } = self;
-        Patient::new(head, notes, List::new(alloc))
-    }
-}
 
 /// The header with its notes, and the groups that are whole.
 #[derive(Drop)]
@@ -108,12 +35,12 @@ impl Model for Front {
 }
 
 impl Front {
-    fn new(alloc: Global, item: Item) -> Self
+    fn new(alloc: Global, item: Noted) -> Self
         ensures { result ≡ record { header = item.head; notes = item.notes; groups = [] } }
     {
-        let Item { head, notes } = item;
+        let (header, notes) = item.into_parts();
         Front {
-            header: head,
+            header,
             notes,
             groups: List::new(alloc),
         }
@@ -160,20 +87,20 @@ impl Front {
 /// A message that isn't whole yet. The last item is the node that the next note belongs to.
 #[derive(Drop)]
 pub(crate) enum Spine {
-    Header(Item),
-    Query(Front, Item),
-    Patient(Front, Item),
-    Order(Front, Patient, Item),
-    Entry(Front, Patient, Order, Item),
+    Header(Noted),
+    Query(Front, Noted),
+    Patient(Front, Noted),
+    Order(Front, Patient, Noted),
+    Entry(Front, Patient, Order, Noted),
 }
 
 /// The order with one more result.
 #[inline(always)]
-fn close_result(mut order: Order, item: Item) -> Result<Order, AllocError>
+fn close_result(mut order: Order, item: Noted) -> Result<Order, AllocError>
     ensures records { IfOk result (λ o. order_records o ≡ order_records order ++ noted_records item) }
     ensures shape { IfOk result (λ o. IsOrder order → IsNoted kinds.R item → IsOrder o) }
 {
-    match order.push(item.into_entry()) {
+    match order.push(item) {
         Ok(()) => Ok(order),
         Err(_) => Err(AllocError),
     }
@@ -203,26 +130,28 @@ fn close_group(mut front: Front, group: Group) -> Result<Front, AllocError>
 
 /// The order that an item alone is.
 #[inline(always)]
-fn order_of(alloc: Global, item: Item) -> Order
+fn order_of(alloc: Global, item: Noted) -> Order
     ensures records { order_records result ≡ noted_records item }
     ensures shape { IsNoted kinds.O item → IsOrder result }
 {
-    item.into_order(alloc)
+    let (head, notes) = item.into_parts();
+    Order::new(head, notes, List::new(alloc))
 }
 
 /// The patient that an item alone is.
 #[inline(always)]
-fn patient_of(alloc: Global, item: Item) -> Patient
+fn patient_of(alloc: Global, item: Noted) -> Patient
     ensures records { patient_records result ≡ noted_records item }
     ensures shape { IsNoted kinds.P item → IsPatient result }
 {
-    item.into_patient(alloc)
+    let (head, notes) = item.into_parts();
+    Patient::new(head, notes, List::new(alloc))
 }
 
 /// The patient with the order that grew last.
 #[tactic(auto, using(crate::proofs::Appends::appends))]
 #[inline(always)]
-fn close_entry(patient: Patient, order: Order, item: Item) -> Result<Patient, AllocError>
+fn close_entry(patient: Patient, order: Order, item: Noted) -> Result<Patient, AllocError>
     ensures records { IfOk result (λ p.
         patient_records p ≡ patient_records patient ++ order_records order ++ noted_records item) }
     ensures shape { IfOk result (λ p. IsPatient patient → IsOrder order → IsNoted kinds.R item → IsPatient p) }
@@ -252,7 +181,7 @@ pub(crate) fn whole_front(alloc: Global, spine: Spine) -> Result<Front, AllocErr
 {
     match spine {
         Spine::Header(item) => Ok(Front::new(alloc, item)),
-        Spine::Query(front, item) => close_group(front, Group::Query(item.into_query())),
+        Spine::Query(front, item) => close_group(front, Group::Query(item)),
         Spine::Patient(front, item) => {
             close_group(front, Group::Patient(patient_of(alloc, item)))
         }
@@ -265,41 +194,12 @@ pub(crate) fn whole_front(alloc: Global, spine: Spine) -> Result<Front, AllocErr
 }
 
 #[inline(always)]
-fn with_note(spine: Spine, note: Record) -> Result<Spine, AllocError>
-    ensures records { IfOk result (λ s. spine_records s ≡ spine_records spine ++ note ∷ []) }
-    ensures shape { IfOk result (λ s. IsSpine spine → IsNote note.kind → IsSpine s) }
-{
-    match spine {
-        Spine::Header(item) => {
-            let item = item.with_note(note)?;
-            Ok(Spine::Header(item))
-        }
-        Spine::Query(front, item) => {
-            let item = item.with_note(note)?;
-            Ok(Spine::Query(front, item))
-        }
-        Spine::Patient(front, item) => {
-            let item = item.with_note(note)?;
-            Ok(Spine::Patient(front, item))
-        }
-        Spine::Order(front, patient, item) => {
-            let item = item.with_note(note)?;
-            Ok(Spine::Order(front, patient, item))
-        }
-        Spine::Entry(front, patient, order, item) => {
-            let item = item.with_note(note)?;
-            Ok(Spine::Entry(front, patient, order, item))
-        }
-    }
-}
-
-#[inline(always)]
 fn with_patient(alloc: Global, spine: Spine, head: Record) -> Result<Spine, AllocError>
     ensures records { IfOk result (λ s. spine_records s ≡ spine_records spine ++ head ∷ []) }
     ensures shape { IfOk result (λ s. IsSpine spine → head.kind ≡ kinds.P → IsSpine s) }
 {
     let front = whole_front(alloc, spine)?;
-    Ok(Spine::Patient(front, Item::new(alloc, head)))
+    Ok(Spine::Patient(front, Noted::new(alloc, head)))
 }
 
 #[inline(always)]
@@ -308,7 +208,7 @@ fn with_query(alloc: Global, spine: Spine, head: Record) -> Result<Spine, AllocE
     ensures shape { IfOk result (λ s. IsSpine spine → head.kind ≡ kinds.Q → IsSpine s) }
 {
     let front = whole_front(alloc, spine)?;
-    Ok(Spine::Query(front, Item::new(alloc, head)))
+    Ok(Spine::Query(front, Noted::new(alloc, head)))
 }
 
 #[inline(always)]
@@ -321,15 +221,15 @@ fn with_order(alloc: Global, spine: Spine, head: Record) -> Result<Spine, AllocE
         Spine::Header(_) | Spine::Query(..) => unreachable!(),
         Spine::Patient(front, item) => {
             let patient = patient_of(alloc, item);
-            Ok(Spine::Order(front, patient, Item::new(alloc, head)))
+            Ok(Spine::Order(front, patient, Noted::new(alloc, head)))
         }
         Spine::Order(front, patient, item) => {
             let patient = close_order(patient, order_of(alloc, item))?;
-            Ok(Spine::Order(front, patient, Item::new(alloc, head)))
+            Ok(Spine::Order(front, patient, Noted::new(alloc, head)))
         }
         Spine::Entry(front, patient, order, item) => {
             let patient = close_entry(patient, order, item)?;
-            Ok(Spine::Order(front, patient, Item::new(alloc, head)))
+            Ok(Spine::Order(front, patient, Noted::new(alloc, head)))
         }
     }
 }
@@ -344,11 +244,11 @@ fn with_result(alloc: Global, spine: Spine, head: Record) -> Result<Spine, Alloc
         Spine::Header(_) | Spine::Query(..) | Spine::Patient(..) => unreachable!(),
         Spine::Order(front, patient, item) => {
             let order = order_of(alloc, item);
-            Ok(Spine::Entry(front, patient, order, Item::new(alloc, head)))
+            Ok(Spine::Entry(front, patient, order, Noted::new(alloc, head)))
         }
         Spine::Entry(front, patient, order, item) => {
             let order = close_result(order, item)?;
-            Ok(Spine::Entry(front, patient, order, Item::new(alloc, head)))
+            Ok(Spine::Entry(front, patient, order, Noted::new(alloc, head)))
         }
     }
 }
@@ -365,41 +265,17 @@ pub(crate) fn standing(spine: &Spine) -> Standing
     }
 }
 
-/// The message so far with one more record, which may stand there.
-#[inline(always)]
-pub(crate) fn with_record(
-    alloc: Global,
-    spine: Spine,
-    kind: Kind,
-    entry: Record,
-) -> Result<Spine, AllocError>
-    requires kind { entry.kind ≡ kind }
-    requires placed { misplaced (spine_level spine) kind ≡ None }
-    requires open { kind ≢ kinds.L }
-    ensures records { IfOk result (λ s. spine_records s ≡ spine_records spine ++ entry ∷ []) }
-    ensures shape { IfOk result (λ s. IsSpine spine → IsSpine s) }
-{
-    match kind {
-        Kind::H | Kind::L => unreachable!(),
-        Kind::P => with_patient(alloc, spine, entry),
-        Kind::O => with_order(alloc, spine, entry),
-        Kind::R => with_result(alloc, spine, entry),
-        Kind::Q => with_query(alloc, spine, entry),
-        Kind::C | Kind::M | Kind::S => with_note(spine, entry),
-    }
-}
-
 /// Adds a note to the last item where it stands.
 fn push_note(spine: &mut Spine, note: Record) -> Result<(), AllocError>
     ensures records { OnOk result (spine_records spine.new ≡ spine_records spine.old ++ note ∷ []) }
     ensures shape { OnOk result (IsSpine spine.old → IsNote note.kind → IsSpine spine.new) }
 {
     match spine {
-        Spine::Header(item) => item.push_note(note),
-        Spine::Query(_front, item) => item.push_note(note),
-        Spine::Patient(_front, item) => item.push_note(note),
-        Spine::Order(_front, _patient, item) => item.push_note(note),
-        Spine::Entry(_front, _patient, _order, item) => item.push_note(note),
+        Spine::Header(item) => item.push(note),
+        Spine::Query(_front, item) => item.push(note),
+        Spine::Patient(_front, item) => item.push(note),
+        Spine::Order(_front, _patient, item) => item.push(note),
+        Spine::Entry(_front, _patient, _order, item) => item.push(note),
     }
 }
 
@@ -408,7 +284,7 @@ fn push_note(spine: &mut Spine, note: Record) -> Result<(), AllocError>
 fn push_result(
     alloc: Global,
     order: &mut Order,
-    item: &mut Item,
+    item: &mut Noted,
     head: Record,
 ) -> Result<(), AllocError>
     ensures records { OnOk result (order_records order.new ++ noted_records item.new
@@ -416,8 +292,8 @@ fn push_result(
     ensures shape { OnOk result (IsOrder order.old → IsNoted kinds.R item.old → head.kind ≡ kinds.R
         → IsOrder order.new × IsNoted kinds.R item.new) }
 {
-    let whole = mem::replace(item, Item::new(alloc, head));
-    match order.push(whole.into_entry()) {
+    let whole = mem::replace(item, Noted::new(alloc, head));
+    match order.push(whole) {
         Ok(()) => Ok(()),
         Err(_) => Err(AllocError),
     }
@@ -428,7 +304,7 @@ fn push_result(
 fn push_query(
     alloc: Global,
     front: &mut Front,
-    item: &mut Item,
+    item: &mut Noted,
     head: Record,
 ) -> Result<(), AllocError>
     ensures records { OnOk result (front_records front.new ++ noted_records item.new
@@ -436,21 +312,28 @@ fn push_query(
     ensures shape { OnOk result (IsFront front.old → IsNoted kinds.Q item.old → head.kind ≡ kinds.Q
         → IsFront front.new × IsNoted kinds.Q item.new) }
 {
-    let whole = mem::replace(item, Item::new(alloc, head));
-    front.push_group(Group::Query(whole.into_query()))
+    let whole = mem::replace(item, Noted::new(alloc, head));
+    front.push_group(Group::Query(whole))
 }
 
-/// Adds a record, and moves all that stands before it.
+/// Adds a record that is no note, and moves all that stands before it.
 #[inline(never)]
 fn push_moved(alloc: Global, spine: &mut Spine, kind: Kind, entry: Record) -> Result<(), AllocError>
     requires kind { entry.kind ≡ kind }
     requires placed { misplaced (spine_level spine.old) kind ≡ None }
+    requires node { IsNote kind → ⊥ }
     requires open { kind ≢ kinds.L }
     ensures records { OnOk result (spine_records spine.new ≡ spine_records spine.old ++ entry ∷ []) }
     ensures shape { OnOk result (IsSpine spine.old → IsSpine spine.new) }
 {
     let before = mem::replace(spine, headed(alloc, Record::new(alloc, Kind::H)));
-    *spine = with_record(alloc, before, kind, entry)?;
+    *spine = match kind {
+        Kind::H | Kind::L | Kind::C | Kind::M | Kind::S => unreachable!(),
+        Kind::P => with_patient(alloc, before, entry)?,
+        Kind::O => with_order(alloc, before, entry)?,
+        Kind::R => with_result(alloc, before, entry)?,
+        Kind::Q => with_query(alloc, before, entry)?,
+    };
     Ok(())
 }
 
@@ -482,7 +365,8 @@ pub(crate) fn push_record(
             push_moved(alloc, spine, kind, entry)
         }
         Kind::C | Kind::M | Kind::S => push_note(spine, entry),
-        _ => push_moved(alloc, spine, kind, entry),
+        Kind::P | Kind::O => push_moved(alloc, spine, kind, entry),
+        Kind::H | Kind::L => unreachable!(),
     }
 }
 
@@ -491,5 +375,5 @@ pub(crate) fn headed(alloc: Global, header: Record) -> Spine
     ensures records { spine_records result ≡ header ∷ [] }
     ensures shape { header.kind ≡ kinds.H → IsSpine result }
 {
-    Spine::Header(Item::new(alloc, header))
+    Spine::Header(Noted::new(alloc, header))
 }

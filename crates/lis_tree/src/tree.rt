@@ -2,15 +2,13 @@
 
 ghost use Rattle.std.specs.Prelude.{◌≡◌, IfOk};
 
-mod entry;
+mod noted;
 mod order;
 mod patient;
-mod query;
 
-pub use entry::ResultEntry;
+pub use noted::{Noted, Query, ResultEntry};
 pub use order::Order;
 pub use patient::Patient;
-pub use query::Query;
 use std::alloc::{AllocError, Global};
 
 /// What stands right under a header.

@@ -1,6 +1,6 @@
 ghost use Rattle.std.specs.Prelude.{◌≡◌, ◌++◌, ◌∷◌, [], IfOk, OnOk};
 
-use super::entry::ResultEntry;
+use super::noted::ResultEntry;
 use crate::lists::{Records, copy_records};
 use lis_record::Record;
 use lis_text::List;

@@ -1,6 +1,6 @@
 use Rattle.std.proofs.Common.{ap, subst, ◌∙◌}
 use Rattle.lis_record.specs.Lent.{lent}
-use Rattle.lis_c.specs.Records.{IsTold}
+use Rattle.lis_c.specs.Records.{TellsRecord}
 use Rattle.lis_c.proofs.RecordLaws.{found_is, no_fault}
 use Rattle.lis_c.proofs.records.lis_header_read.Goals as goal
 
@@ -9,7 +9,7 @@ returns-in-Ok-clause-found c d content is_d is_record is_h =
     let same =
     found_is c.lend_header.result c.in-Ok.entry (lent d content) c.in-Ok.is
     (c.lend_header.ensures.only d content is_d is_record is_h) in (
-      subst (λ e. IsTold e.content c.tell.result c.tell.new.out) same c.tell.ensures,
+      subst (λ e. TellsRecord e.content c.tell.result c.tell.new.out) same c.tell.ensures,
       rw (
         c.field-delimiters.ensures.byte,
         c.repeat-delimiters.ensures,

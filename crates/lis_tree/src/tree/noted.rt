@@ -1,0 +1,83 @@
+ghost use Rattle.std.specs.Prelude.{◌≡◌, ◌++◌, ◌∷◌, [], IfOk, OnOk};
+
+use crate::lists::{Records, copy_records};
+use lis_record::Record;
+use std::alloc::{AllocError, Global};
+use std::marker::Model;
+
+/// A record with the notes on it.
+#[derive(Debug, PartialEq, Eq, Drop)]
+pub struct Noted {
+    head: Record,
+    notes: Records,
+}
+
+/// An R record with its notes.
+pub type ResultEntry = Noted;
+
+/// A Q record with its notes.
+pub type Query = Noted;
+
+impl Model for Noted {
+    ghost use Rattle.lis_tree.specs.Nodes.{Noted as NotedRecord};
+
+    ghost Value = { NotedRecord };
+
+    ghost view = { λ n. record { head = n.head; notes = n.notes } };
+
+    ghost inverse = { λ n. record { head = n.head; notes = n.notes } };
+}
+
+impl Noted {
+    /// The record without a note.
+    pub(crate) fn new(alloc: Global, head: Record) -> Self
+        ensures { result ≡ record { head = head; notes = [] } }
+    {
+        Noted {
+            head,
+            notes: Records::new(alloc),
+        }
+    }
+
+    /// Adds a note at the end.
+    pub(crate) fn push(&mut self, note: Record) -> Result<(), AllocError>
+        ensures { OnOk result (self.new ≡ record { head = self.old.head; notes = self.old.notes ++ note ∷ [] }) }
+    {
+        match self.notes.push(note) {
+            Ok(()) => Ok(()),
+            Err(_) => Err(AllocError),
+        }
+    }
+
+    /// The record, and the notes on it.
+    pub(crate) fn into_parts(self) -> (Record, Records)
+        ensures { result ≡ (self.head, self.notes) }
+    {
+        let Noted { head, notes } = self;
+        (head, notes)
+    }
+
+    /// The record.
+    pub fn head(&self) -> &Record
+        ensures { result.now ≡ self.now.head }
+    {
+        &self.head
+    }
+
+    /// The notes on it.
+    pub fn notes(&self) -> &Records
+        ensures { result.now ≡ self.now.notes }
+    {
+        &self.notes
+    }
+
+    /// The same once more, with memory of its own.
+    pub fn copy(&self, alloc: Global) -> Result<Self, AllocError>
+        ensures { IfOk result (λ n. n ≡ self.now) }
+    {
+        Ok(Noted {
+            head: self.head.copy(alloc)?,
+            notes: copy_records(alloc, &self.notes)?,
+        })
+    }
+}
