@@ -17,12 +17,12 @@ out_of_memory Notes.OutOfMemory e = refl
 out_of_memory note e = absurd (omega (e, arith))
 
 -- the answer means that memory was refused exactly where its note does
-pub not_out : (answer : Step) (before text : List ℕ) (out : LisStep) → TellsStep answer before out text → out.note ≢ 11 →
-    answer.note ≢ Notes.OutOfMemory
+pub not_out : (answer : Step) (before text : List ℕ) (out : LisStep) → TellsStep answer before out text
+    → out.note ≢ 11 → answer.note ≢ Notes.OutOfMemory
 not_out answer before text out told loud same = loud (told.note_is ∙ ap note_code same)
 
-pub is_out : (answer : Step) (before text : List ℕ) (out : LisStep) → TellsStep answer before out text → out.note ≡ 11 →
-    answer.note ≡ Notes.OutOfMemory
+pub is_out : (answer : Step) (before text : List ℕ) (out : LisStep) → TellsStep answer before out text
+    → out.note ≡ 11 → answer.note ≡ Notes.OutOfMemory
 is_out answer before text out told same = out_of_memory answer.note (sym told.note_is ∙ same)
 
 -- a step that was made is told
