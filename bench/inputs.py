@@ -42,6 +42,37 @@ def results_message(rng):
     return records + [b"L|1|N"]
 
 
+def full_record(letter, fields, told):
+    """A record with as many fields as the standard lists, of which these are told."""
+    return letter + b"".join(b"|" + told.get(number, b"") for number in range(2, fields + 1))
+
+
+def full_result(rng, number):
+    return full_record(b"R", 14, {
+        2: b"%d" % number, 3: b"^^^%s^^%d" % (rng.choice(TESTS), rng.randrange(1, 4)),
+        4: b"%d.%d" % (rng.randrange(300), rng.randrange(100)), 5: rng.choice(UNITS), 6: b"3.9 to 6.1",
+        7: rng.choice((b"N", b"H", b"L")), 9: b"F", 11: b"op%d" % rng.randrange(20),
+        12: b"202405%02d101500" % rng.randrange(1, 29), 13: b"202405%02d102300" % rng.randrange(1, 29), 14: b"A4"})
+
+
+def full_message(rng):
+    """The records of a message of results, as many fields in each as the standard lists."""
+    records = [header(rng)]
+    for patient in range(1, rng.randrange(2, 5)):
+        records.append(full_record(b"P", 35, {
+            2: b"%d" % patient, 3: b"L%06d" % rng.randrange(10**6), 5: b"%d" % rng.randrange(10**6), 6: b"Doe^Jane",
+            8: b"19%d0101" % rng.randrange(30, 99), 9: b"F", 14: b"Dr^House", 26: b"ward %d" % rng.randrange(9)}))
+        for order in range(1, rng.randrange(2, 4)):
+            records.append(full_record(b"O", 31, {
+                2: b"%d" % order, 3: b"S%05d" % rng.randrange(10**5), 5: b"^^^" + rng.choice(TESTS), 6: b"R",
+                8: b"202405%02d093000" % rng.randrange(1, 29), 12: b"N", 16: b"S", 26: b"F"}))
+            for number in range(1, rng.randrange(2, 12)):
+                records.append(full_result(rng, number))
+                if rng.random() < 0.1:
+                    records.append(b"C|1|I|%s|G" % rng.choice(REMARKS))
+    return records + [b"L|1|N"]
+
+
 def query_message(rng):
     """The records of a message of queries."""
     queries = [b"Q|%d|^S%05d||ALL||||||||O" % (k, rng.randrange(10**5)) for k in range(1, rng.randrange(2, 6))]
@@ -155,6 +186,7 @@ def of_records(rng, scale):
     yield Input("results", commands, b"", messages(rng, results_message, 12 * scale))
     yield Input("queries", commands, b"", messages(rng, query_message, 40 * scale))
     yield Input("escapes", commands, b"", messages(rng, escaped_message, 12 * scale))
+    yield Input("full records", commands, b"", messages(rng, full_message, 8 * scale))
 
 
 def inputs(scale):

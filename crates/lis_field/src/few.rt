@@ -45,27 +45,12 @@ impl Few {
         requires { length text.now ≤ 15 }
         ensures { result ≡ map Char text.now }
     {
-        let mut few = Few::new();
-        for byte in text {
-            few.push(Sym::Char(*byte));
-        }
-        few
-    }
-
-    // So many bytes of a text's front, each a character. The text has as many bytes as symbols stand in place, so that
-    // all of them are copied without a test for the last.
-    #[inline(always)]
-    pub(crate) fn from_front(text: &[u8], count: usize) -> Self
-        requires few { count ≤ 15 }
-        requires room { 15 ≤ length text.now }
-        ensures { result ≡ map Char (take count text.now) }
-    {
         let mut symbols = [Sym::Off; FEW];
-        for place in 0..FEW {
+        for place in 0..text.len() {
             symbols[place] = Sym::Char(text[place]);
         }
         Few {
-            count: count as u8,
+            count: text.len() as u8,
             symbols,
         }
     }

@@ -1,6 +1,6 @@
 //! Lists of symbols that keep few of them in place.
 
-ghost use Rattle.std.specs.Prelude.{◌≡◌, ◌++◌, ◌∷◌, [], length, IfErr, IfOk, OnOk, take};
+ghost use Rattle.std.specs.Prelude.{◌≡◌, ◌++◌, ◌∷◌, [], length, IfErr, IfOk, OnOk};
 ghost use Rattle.lis_field.specs.Shape.{plain_component};
 
 use crate::few::{FEW, Few};
@@ -72,19 +72,6 @@ impl SymbolList {
             Kept::Many(many_from_text(alloc, text)?)
         };
         Ok(SymbolList { alloc, kept })
-    }
-
-    // A list of so many bytes of a text's front, each a character; of the whole text where it has fewer.
-    #[inline(always)]
-    pub(crate) fn from_front(alloc: Global, text: &[u8], count: usize) -> Result<Self, AllocError>
-        ensures { IfOk result (λ list. list ≡ plain_component (take count text.now)) }
-    {
-        if count <= FEW && text.len() >= FEW {
-            let kept = Kept::Few(Few::from_front(text, count));
-            return Ok(SymbolList { alloc, kept });
-        }
-        let (front, _behind) = text.split_at(count.min(text.len()));
-        SymbolList::from_text(alloc, front)
     }
 
     // The same list once more.

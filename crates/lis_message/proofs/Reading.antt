@@ -9,7 +9,7 @@ use Rattle.lis_record.specs.Relation.{IsRecord, declared_part}
 use Rattle.lis_field.specs.Shape.{RecordContent}
 use Rattle.lis_record.proofs.RecordTexts.{IsRecord-one}
 use Rattle.lis_tree.specs.inside.Begun.{Begun, level_of}
-use Rattle.lis_tree.specs.Level.{Level, outside, in_header, in_patient, in_order, in_query, closed, next_level}
+use Rattle.lis_tree.specs.Level.{Level, outside, closed, next_level}
 use Rattle.lis_tree.specs.Level.{level_after, misplaced, StandsFrom, kinds_of}
 use Rattle.lis_message.specs.Stream.{ended, AreMessage, AreLeft, IsCut, LacksReturn}
 use Rattle.lis_tree.specs.Tree.{MessageTree, IsTree, flatten, group_records}

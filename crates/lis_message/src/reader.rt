@@ -1,17 +1,18 @@
 //! Reading messages from a stream that comes in pieces. What is kept is the open message and one record's bytes.
-ghost use Rattle.std.specs.Prelude.{◌≡◌, ℕ, ◌++◌, ◌≤◌, [], List, IfOk, IfErr};
+ghost use Rattle.std.specs.Prelude.{◌≡◌, ℕ, ◌++◌, ◌∷◌, ◌≤◌, [], List, IfOk, IfErr};
 ghost use Rattle.std.specs.Prelude.{OnOk, OnSome, IfSome, IfNone, MatchOption, None, Some, Option, length};
 ghost use Rattle.std.specs.List.{AllByRecursion, flat_map};
 ghost use Rattle.lis_message.specs.Feeding.{Goes, GoesBefore, ReadsWhole, Reads, StopsIn, finished};
 ghost use Rattle.lis_message.specs.Records.{Adds, HasLeft, unended};
 ghost use Rattle.lis_message.specs.Stream.{IsCut};
-ghost use Rattle.lis_message.specs.inside.Taking.{ComesNext, Completes, left_after};
+ghost use Rattle.lis_message.specs.inside.Taking.{ComesNext, begun_with, left_after};
 ghost use Rattle.lis_message.specs.Writing.{IsWritable, message_bytes};
+ghost use Rattle.lis_field.specs.declared.kinds.Kind.TheVariants as kinds;
 ghost use Rattle.lis_tree.specs.declared.fault.Reason.TheVariants as reasons;
 ghost use Rattle.lis_tree.specs.Tree.{IsTree, MessageTree};
 
 use crate::records::{Found, RecordReader};
-use lis_record::{Kind, LentRecord};
+use lis_record::{Delimiters, Kind, LentRecord, Record};
 use lis_tree::{Message, MessageFault, OpenMessage, Reason};
 use std::alloc::{AllocError, Global};
 use std::marker::Model;
@@ -19,32 +20,64 @@ use std::marker::Model;
 /// A list of messages.
 pub type Messages = lis_text::List<Message>;
 
-/// Adds a record that comes next to the open message, and answers the message that it completes.
+/// Closes the open message with a record that comes next, and adds it to the others.
+// Its locals are large: within its caller each record would pay for them.
+#[inline(never)]
+fn take_last(
+    alloc: Global,
+    begun: &mut Option<OpenMessage>,
+    messages: &mut Messages,
+    entry: &LentRecord<'_>,
+) -> Result<(), AllocError>
+    requires next { (text : List ℕ) × ComesNext begun.old text entry.now }
+    requires last { entry.now.content.kind ≡ kinds.L }
+    ensures ok { OnOk result (Adds begun.old entry.now messages.old messages.new) }
+    ensures left { OnOk result (begun.new ≡ None) }
+    ensures err { IfErr result (λ _. messages.new ≡ messages.old) }
+{
+    let Some(message) = begun.take() else {
+        unreachable!()
+    };
+    let whole = message.closed(alloc, entry.to_record(alloc)?)?;
+    messages.push(whole)?;
+    Ok(())
+}
+
+/// Opens a message with its header.
+#[inline(never)]
+fn open_message(
+    alloc: Global,
+    begun: &mut Option<OpenMessage>,
+    delimiters: Delimiters,
+    header: Record,
+)
+    requires { header.kind ≡ kinds.H }
+    ensures { begun.new ≡ begun_with delimiters (header ∷ []) }
+{
+    *begun = Some(OpenMessage::new(alloc, delimiters, header));
+}
+
+/// Adds a record that comes next to the open message, and the message that it completes to the others.
 fn take_record(
     alloc: Global,
     begun: &mut Option<OpenMessage>,
+    messages: &mut Messages,
     entry: &LentRecord<'_>,
-) -> Result<Option<Message>, AllocError>
+) -> Result<(), AllocError>
     requires { (text : List ℕ) × ComesNext begun.old text entry.now }
-    ensures message { IfOk result (λ message. Completes begun.old entry.now message) }
+    ensures ok { OnOk result (Adds begun.old entry.now messages.old messages.new) }
     ensures left { OnOk result (begun.new ≡ left_after begun.old entry.now entry.now.content.kind) }
+    ensures err { IfErr result (λ _. messages.new ≡ messages.old) }
 {
-    let record = entry.to_record(alloc)?;
     if let Kind::L = entry.kind() {
-        let Some(message) = begun.take() else {
-            unreachable!()
-        };
-        let whole = message.closed(alloc, record)?;
-        return Ok(Some(whole));
+        return take_last(alloc, begun, messages, entry);
     }
+    let record = entry.to_record(alloc)?;
     match begun {
-        Some(message) => {
-            message.push(alloc, record)?;
-            Ok(None)
-        }
+        Some(message) => message.push(alloc, record),
         None => {
-            *begun = Some(OpenMessage::new(alloc, entry.delimiters(), record));
-            Ok(None)
+            open_message(alloc, begun, entry.delimiters(), record);
+            Ok(())
         }
     }
 }
@@ -63,17 +96,12 @@ fn take_entry(
     ensures err { IfErr result (λ fault. (fault.reason ≡ reasons.OutOfMemory) × (messages.new ≡ messages.old)) }
     ensures place { IfErr result (λ fault. fault.place ≡ place) }
 {
-    let reason = Reason::OutOfMemory;
-    let message = match take_record(alloc, begun, entry) {
-        Ok(message) => message,
-        Err(AllocError) => return Err(MessageFault { place, reason }),
-    };
-    let Some(message) = message else {
-        return Ok(());
-    };
-    match messages.push(message) {
+    match take_record(alloc, begun, messages, entry) {
         Ok(()) => Ok(()),
-        Err(_) => Err(MessageFault { place, reason }),
+        Err(AllocError) => Err(MessageFault {
+            place,
+            reason: Reason::OutOfMemory,
+        }),
     }
 }
 

@@ -6,8 +6,10 @@ pub mod FaultlessTexts
 pub mod FieldTexts
 pub mod Joins
 pub mod Lanes
+pub mod LastBits
 pub mod LentTexts
 pub mod Opening
+pub mod PaddedTexts
 pub mod Pairs
 pub mod Places
 pub mod PlainLengths

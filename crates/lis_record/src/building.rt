@@ -1,9 +1,9 @@
 //! Records made from their texts, part by part (LIS02-A2, Delimiters).
 
-ghost use Rattle.std.specs.Prelude.{◌≡◌, ◌≤◌, ◌++◌, ◌∷◌, [], IfOk, IsTrue, OnOk, length, map};
+ghost use Rattle.std.specs.Prelude.{◌≡◌, ◌≤◌, ◌-◌, ◌++◌, ◌∷◌, [], ℕ, List, IfOk, IsTrue, OnOk, drop, length, map, replicate};
 ghost use Rattle.lis_field.specs.Shape.{plain_field};
 ghost use Rattle.lis_record.specs.inside.FrontReading.{components_of, fields_of, parts_of, repeats_of};
-ghost use Rattle.lis_record.specs.inside.FrontReading.{symbols_of};
+ghost use Rattle.lis_record.specs.inside.FrontReading.{EndsWith, symbols_of};
 
 use crate::escapes::read_component;
 use crate::search::{place_of, plain_length};
@@ -114,10 +114,25 @@ fn read_repeats(alloc: Global, delimiters: Delimiters, text: &[u8]) -> Result<Fi
     Ok(field)
 }
 
-// Adds the field that a text begins with to a record, and answers what follows from the next field delimiter on. Each
-// way adds it itself, so that none is moved to where they meet.
+// The last sixteen bytes of a text, or all where it has fewer, with sixteen delimiters behind them, and some before them
+// so that they end at place 16.
 #[inline(always)]
-fn push_next<'a>(
+fn padded_end(text: &[u8], mark: u8) -> [u8; 32]
+    ensures { (last : List ℕ) → EndsWith text.now last → length last ≤ 16
+        → drop (16 - length last) result ≡ last ++ replicate 16 mark }
+{
+    let mut padded = [mark; 32];
+    let count = text.len().min(16);
+    let (_, last) = text.split_at(text.len() - count);
+    let (_, room) = padded.split_at_mut(16 - count);
+    let (place, _) = room.split_at_mut(count);
+    place.copy_from_slice(last);
+    padded
+}
+
+// The same of a field that is longer than sixteen bytes, has several components or repeats, or has an escape.
+#[inline(never)]
+fn push_other<'a>(
     alloc: Global,
     delimiters: Delimiters,
     entry: &mut Record,
@@ -126,25 +141,42 @@ fn push_next<'a>(
     ensures kind { OnOk result (entry.new.kind ≡ entry.old.kind) }
     ensures fields { IfOk result (λ rest. entry.new.fields ++ fields_of delimiters rest.now
         ≡ entry.old.fields ++ map (repeats_of delimiters) (parts_of delimiters.field text.now)) }
+    ensures ends { IfOk result (λ rest. EndsWith text.now rest.now) }
     ensures shorter { IfOk result (λ rest. length rest.now ≤ length text.now) }
 {
-    if let Some(end) = plain_length(delimiters, text) {
-        entry.push(Field::from_front(alloc, text, end)?)?;
-        let (_field, rest) = text.split_at(end);
-        return Ok(rest);
-    }
     let (part, rest) = first_part(text, delimiters.field());
-    if !is_plain(delimiters, part) {
-        entry.push(read_repeats(alloc, delimiters, part)?)?;
-    } else if part.is_empty() {
-        entry.push(Field::from_text(alloc, &[])?)?;
-    } else {
-        entry.push(Field::from_text(alloc, part)?)?;
-    }
+    let field = read_field(alloc, delimiters, part)?;
+    entry.push(field)?;
+    Ok(rest)
+}
+
+// Adds the field that a text begins with to a record, and answers what follows from the next field delimiter on. The
+// text is given twice, once with field delimiters behind it or none, so that sixteen bytes can be looked at.
+#[inline(always)]
+fn push_next<'a>(
+    alloc: Global,
+    delimiters: Delimiters,
+    entry: &mut Record,
+    text: &'a [u8],
+    padded: &[u8],
+) -> Result<&'a [u8], AllocError>
+    requires { (count : ℕ) × (padded.now ≡ text.now ++ replicate count delimiters.field) }
+    ensures kind { OnOk result (entry.new.kind ≡ entry.old.kind) }
+    ensures fields { IfOk result (λ rest. entry.new.fields ++ fields_of delimiters rest.now
+        ≡ entry.old.fields ++ map (repeats_of delimiters) (parts_of delimiters.field text.now)) }
+    ensures ends { IfOk result (λ rest. EndsWith text.now rest.now) }
+    ensures shorter { IfOk result (λ rest. length rest.now ≤ length text.now) }
+{
+    let Some(end) = plain_length(delimiters, padded) else {
+        return push_other(alloc, delimiters, entry, text);
+    };
+    let (part, rest) = text.split_at(end);
+    entry.push(Field::from_text(alloc, part)?)?;
     Ok(rest)
 }
 
 // Reads the fields that follow a record's letter, or a header's delimiters.
+#[inline(never)]
 pub(crate) fn read_fields(
     alloc: Global,
     delimiters: Delimiters,
@@ -155,9 +187,16 @@ pub(crate) fn read_fields(
 {
     let count = count_parts(text, delimiters.field()).saturating_sub(1);
     let mut record = Record::with_capacity(alloc, kind, count)?;
+    let end = padded_end(text, delimiters.field());
     let mut rest = text;
     while let Some((_delimiter, more)) = rest.split_first() {
-        rest = push_next(alloc, delimiters, &mut record, more)?;
+        let padded = if more.len() < 16 {
+            let (_, last) = end.split_at(16 - more.len());
+            last
+        } else {
+            more
+        };
+        rest = push_next(alloc, delimiters, &mut record, more, padded)?;
     }
     Ok(record)
 }

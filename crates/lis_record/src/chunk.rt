@@ -31,34 +31,40 @@ pub(crate) const CHUNK: usize = 256;
 pub(crate) const LONGEST_SYMBOL: usize = 5;
 
 // The first bytes of a fixed buffer.
-pub(crate) struct Chunk {
-    bytes: [u8; CHUNK],
+pub(crate) struct ChunkOf<const N: usize> {
+    bytes: [u8; N],
     len: usize,
 }
 
-impl Model for Chunk {
+// What goes out to a sink at a time.
+pub(crate) type Chunk = ChunkOf<256>;
+
+// Room for one symbol.
+pub(crate) type SymbolChunk = ChunkOf<5>;
+
+impl<const N: usize> Model for ChunkOf<N> {
     ghost use Rattle.std.specs.Prelude.{ℕ, ◌≤◌, List, take};
 
     ghost Value = { List ℕ };
 
     ghost view = { λ c. take c.len c.bytes };
 
-    ghost invariant = { λ c. c.len ≤ 256 };
+    ghost invariant = { λ c. c.len ≤ N };
 }
 
-impl Drop for Chunk {
+impl<const N: usize> Drop for ChunkOf<N> {
     fn drop(self) {
-        let Chunk { bytes: _, len: _ } = self;
+        let ChunkOf { bytes: _, len: _ } = self;
     }
 }
 
-impl Chunk {
+impl<const N: usize> ChunkOf<N> {
     // An empty chunk.
     pub(crate) fn new() -> Self
         ensures { result ≡ [] }
     {
-        Chunk {
-            bytes: [0; CHUNK],
+        ChunkOf {
+            bytes: [0; N],
             len: 0,
         }
     }
@@ -66,7 +72,7 @@ impl Chunk {
     // The number of bytes.
     pub(crate) fn len(&self) -> usize
         ensures len { result ≡ length self.now }
-        ensures bound { result ≤ 256 }
+        ensures bound { result ≤ N }
     {
         self.len
     }
@@ -81,7 +87,7 @@ impl Chunk {
     // The bytes.
     pub(crate) fn as_slice(&self) -> &[u8]
         ensures value { result.now ≡ self.now }
-        ensures bound { length result.now ≤ 256 }
+        ensures bound { length result.now ≤ N }
     {
         &self.bytes[..self.len]
     }
@@ -89,7 +95,7 @@ impl Chunk {
     // Puts a byte at the end.
     #[inline(always)]
     pub(crate) fn push(&mut self, byte: u8)
-        requires { length self.old < 256 }
+        requires { length self.old < N }
         ensures { self.new ≡ self.old ++ byte ∷ [] }
     {
         self.bytes[self.len] = byte;
@@ -105,7 +111,7 @@ impl Chunk {
 
     // Puts an escape of one letter at the end.
     fn push_letter(&mut self, delimiters: Delimiters, letter: u8)
-        requires { length self.old + 3 ≤ 256 }
+        requires { length self.old + 3 ≤ N }
         ensures { self.new ≡ self.old ++ letter_spelling delimiters letter }
     {
         self.push(delimiters.escape());
@@ -116,7 +122,7 @@ impl Chunk {
     #[tactic(auto, unfolding(crate::specs::Spelling::spelled_symbol))]
     // Puts a raw byte at the end, as an escape with two digits.
     fn push_raw(&mut self, delimiters: Delimiters, byte: u8)
-        requires { length self.old + 5 ≤ 256 }
+        requires { length self.old + 5 ≤ N }
         ensures { self.new ≡ self.old ++ spelled_symbol delimiters (Raw byte) }
     {
         let mut digits = [0; 2];
@@ -131,7 +137,7 @@ impl Chunk {
     // Puts a character at the end, a delimiter as an escape.
     #[tactic(auto, unfolding(crate::specs::Spelling::spelled_symbol))]
     fn push_char(&mut self, delimiters: Delimiters, byte: u8)
-        requires { length self.old + 5 ≤ 256 }
+        requires { length self.old + 5 ≤ N }
         ensures { self.new ≡ self.old ++ spelled_symbol delimiters (Char byte) }
     {
         match delimiter_letter(delimiters, byte) {
@@ -143,7 +149,7 @@ impl Chunk {
     // Puts the spelling of a symbol at the end.
     #[tactic(auto, unfolding(crate::specs::Spelling::spelled_symbol))]
     pub(crate) fn push_symbol(&mut self, delimiters: Delimiters, symbol: Sym)
-        requires { length self.old + 5 ≤ 256 }
+        requires { length self.old + 5 ≤ N }
         ensures after { self.new ≡ self.old ++ spelled_symbol delimiters symbol }
         ensures more { length self.old < length self.new }
     {
@@ -161,14 +167,14 @@ impl Chunk {
         delimiters: Delimiters,
         symbols: &'a [Sym],
     ) -> &'a [Sym]
-        requires { length self.old + 5 ≤ 256 }
+        requires { length self.old + 5 ≤ N }
         ensures same { self.new ++ spelled_component delimiters result.now
             ≡ self.old ++ spelled_component delimiters symbols.now }
         ensures more { 0 < length symbols.now → length self.old < length self.new }
     {
         let mut rest = symbols;
         while let Some((symbol, others)) = rest.split_first() {
-            if self.len() > CHUNK - LONGEST_SYMBOL {
+            if self.len() > N - LONGEST_SYMBOL {
                 return rest;
             }
             self.push_symbol(delimiters, *symbol);

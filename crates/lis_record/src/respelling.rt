@@ -5,7 +5,7 @@ ghost use Rattle.lis_record.specs.Spelling.{spelled_component, spelled_symbol};
 ghost use Rattle.lis_record.specs.inside.FrontReading.{ArePairs, digit_symbols};
 ghost use Rattle.lis_record.specs.inside.Respelling.{respelled};
 
-use crate::chunk::Chunk;
+use crate::chunk::SymbolChunk;
 use crate::escapes::{escape_meaning, first_pair};
 use crate::search::place_of;
 use lis_field::{Delimiters, Sym};
@@ -72,7 +72,7 @@ fn add_escape<'a>(
 fn add_symbol(out: &mut Vec<u8>, delimiters: Delimiters, symbol: Sym) -> Result<(), AllocError>
     ensures { OnOk result (out.new.items ≡ out.old.items ++ spelled_symbol delimiters symbol) }
 {
-    let mut chunk = Chunk::new();
+    let mut chunk = SymbolChunk::new();
     chunk.push_symbol(delimiters, symbol);
     out.extend_from_slice(chunk.as_slice())
 }

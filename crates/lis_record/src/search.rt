@@ -1,7 +1,7 @@
 //! Places of bytes in a text, looked for sixteen bytes at a time (LIS02-A2, Character Codes).
 
 ghost use Rattle.std.specs.Prelude.{◌≡◌, ◌≤◌, ◌<◌, ◌==◌, ◌∷◌, IfNone, IfSome, None, drop, length, map, not, position};
-ghost use Rattle.std.specs.Prelude.{count_by, take};
+ghost use Rattle.std.specs.Prelude.{◌-◌, count_by, take};
 ghost use Rattle.std.specs.List.{position_from};
 ghost use Rattle.std.specs.Simd.Lanes.{mask_l};
 ghost use Rattle.lis_field.specs.Shape.{plain_field};
@@ -73,6 +73,18 @@ fn bits_of(bytes: &[u8], mark: u8) -> u64
         .to_bitmask()
 }
 
+/// The places among so many bytes at a text's end that hold this one, as bits. The sixteen that they stand among are
+/// tested at once.
+#[inline(always)]
+fn last_bits(text: &[u8], count: usize, mark: u8) -> u64
+    requires few { count ≤ 16 }
+    requires room { 16 ≤ length text.now }
+    ensures { result ≡ mask_l (map (λ b. b == mark) (drop (length text.now - count) text.now)) }
+{
+    let (_, last) = text.split_at(text.len() - 16);
+    bits_of(last, mark) >> (16 - count)
+}
+
 /// The place of the first byte that is this one.
 #[inline(always)]
 pub(crate) fn place_of(text: &[u8], mark: u8) -> Option<usize>
@@ -89,17 +101,20 @@ pub(crate) fn place_of(text: &[u8], mark: u8) -> Option<usize>
         rest = behind;
         place += 16;
     }
-    match place_by_one(rest, mark) {
-        None => None,
-        Some(found) => Some(place + found),
+    if text.len() < 16 {
+        return place_by_one(text, mark);
     }
+    let bits = last_bits(text, rest.len(), mark);
+    if bits == 0 {
+        return None;
+    }
+    Some(place + bits.trailing_zeros() as usize)
 }
 
 /// The same, a byte at a time.
 #[inline(always)]
 fn place_by_one(text: &[u8], mark: u8) -> Option<usize>
-    ensures place { result ≡ position_from (λ b. b == mark) 0 text.now }
-    ensures bound { IfSome result (λ found. found < length text.now) }
+    ensures { result ≡ position_from (λ b. b == mark) 0 text.now }
 {
     text.iter().position(|byte| *byte == mark)
 }
@@ -156,7 +171,10 @@ pub(crate) fn count_of(text: &[u8], mark: u8) -> usize
         let (_, behind) = rest.split_at(16);
         rest = behind;
     }
-    count + count_by_one(rest, mark)
+    if text.len() < 16 {
+        return count_by_one(text, mark);
+    }
+    count + last_bits(text, rest.len(), mark).count_ones() as usize
 }
 
 /// The same, a byte at a time.

@@ -129,27 +129,6 @@ fn a_component_holds_few_symbols_and_many(rt: HostRuntime) -> Result<(), Fail> {
 }
 
 #[test]
-fn a_field_is_made_of_the_front_of_a_text(rt: HostRuntime) -> Result<(), Fail> {
-    let alloc = rt.alloc();
-    let rows = [
-        (0, b"".as_slice()),
-        (6, b"mmol/L".as_slice()),
-        (15, b"mmol/L|3.9 to 6".as_slice()),
-        (16, b"mmol/L|3.9 to 6.".as_slice()),
-        (40, b"mmol/L|3.9 to 6.1|H".as_slice()),
-    ];
-    for (count, front) in rows {
-        let field = Field::from_front(alloc, b"mmol/L|3.9 to 6.1|H", count)?;
-        let text = field.to_text(alloc)?.ok_or("no text")?;
-        assert_eq!(rt; text.as_slice(), front);
-    }
-    let field = Field::from_front(alloc, b"H|F", 1)?;
-    let text = field.to_text(alloc)?.ok_or("no text")?;
-    assert_eq!(rt; text.as_slice(), b"H".as_slice());
-    Ok(())
-}
-
-#[test]
 fn a_record_is_made_of_texts_and_copied(rt: HostRuntime) -> Result<(), Fail> {
     let alloc = rt.alloc();
     let entry = Record::from_texts(alloc, Kind::R, &[b"1".as_slice(), b"5|4".as_slice()])?;

@@ -266,6 +266,7 @@ pub(crate) fn standing(spine: &Spine) -> Standing
 }
 
 /// Adds a note to the last item where it stands.
+#[inline(never)]
 fn push_note(spine: &mut Spine, note: Record) -> Result<(), AllocError>
     ensures records { OnOk result (spine_records spine.new ≡ spine_records spine.old ++ note ∷ []) }
     ensures shape { OnOk result (IsSpine spine.old → IsNote note.kind → IsSpine spine.new) }
@@ -301,6 +302,7 @@ fn push_result(
 
 /// Moves the last query into the front, and puts the next in its place.
 #[tactic(auto, using(crate::proofs::Appends::appends))]
+#[inline(never)]
 fn push_query(
     alloc: Global,
     front: &mut Front,

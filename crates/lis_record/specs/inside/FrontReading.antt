@@ -55,6 +55,10 @@ abbrev pub parts_behind : ℕ → List ℕ → List (List ℕ)
 parts_behind byte [] = []
 parts_behind byte (delimiter ∷ bytes) = parts_of byte bytes
 
+-- a text ends with another
+abbrev pub EndsWith : List ℕ → List ℕ → Type 0
+EndsWith text last = (front : List ℕ) × (text ≡ front ++ last)
+
 -- the fields of what follows a record's letter, or a header's delimiters
 abbrev pub fields_of : DelimiterBytes → List ℕ → Fields
 fields_of d text = map (repeats_of d) (parts_behind d.field text)

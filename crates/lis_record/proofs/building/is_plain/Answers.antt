@@ -1,5 +1,4 @@
 use Rattle.std.proofs.Common.{◌≢◌, ℕ, arith}
-use Rattle.std.specs.List.{All}
 use Rattle.std.proofs.lemmas.List.{take_all}
 use Rattle.std.proofs.lemmas.List.Elements.{All-weaker}
 use Rattle.lis_record.proofs.FieldTexts.{plain_read}

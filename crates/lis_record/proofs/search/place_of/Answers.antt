@@ -1,6 +1,8 @@
-use Rattle.std.proofs.Common.{ℕ, None, Some, sym, ◌∙◌, ◌==◌, arith}
+use Rattle.std.proofs.Common.{ℕ, sym, ◌∙◌, ◌==◌, arith}
 use Rattle.std.proofs.lemmas.Iterator.Adapters.{position_from-zero}
-use Rattle.lis_text.proofs.SearchLemmas.{passed-chunk, found-chunk, position-behind}
+use Rattle.std.proofs.lemmas.List.{drop-drop}
+use Rattle.lis_record.proofs.LastBits.{first-left, none-left}
+use Rattle.lis_text.proofs.SearchLemmas.{passed-chunk, found-chunk}
 use Rattle.lis_record.proofs.search.place_of.Goals as goal
 
 pub returns-then-bits-ne0 : goal.returns-then-bits-ne0
@@ -15,6 +17,8 @@ returns-then-bits-ne0 c =
 pub loop-rest-preserved : goal.loop-rest-preserved
 loop-rest-preserved c = record {
   fits = omega (arith, c.split_at.ensures.back_len, c.loop-rest.invariant.fits);
+  behind =
+      rw (c.split_at.ensures.back, c.loop-rest.invariant.behind) (drop-drop 16 c.loop-rest.place c.args.text.now);
   same =
       rw c.split_at.ensures.back
       (c.loop-rest.invariant.same
@@ -22,14 +26,22 @@ loop-rest-preserved c = record {
       (rw c.bits_of-bits.ensures at c.if-bits-ne0.false));
 }
 
-pub returns-in-None : goal.returns-in-None
-returns-in-None c =
-    let test = λ (b : ℕ). b == c.args.mark in
-    position-behind test c.loop-rest.place c.loop-rest.rest.now None c.in-None.ensures.place
-    ∙ sym c.loop-rest.invariant.same ∙ sym (position_from-zero test c.args.text.now)
+pub returns-then-text-lt16 : goal.returns-then-text-lt16
+returns-then-text-lt16 c =
+    c.place_by_one.ensures ∙ sym (position_from-zero (λ (b : ℕ). b == c.args.mark) c.args.text.now)
 
-pub returns-in-Some : goal.returns-in-Some
-returns-in-Some c =
+pub returns-then-bits-eq0 : goal.returns-then-bits-eq0
+returns-then-bits-eq0 c =
     let test = λ (b : ℕ). b == c.args.mark in
-    position-behind test c.loop-rest.place c.loop-rest.rest.now (Some c.in-Some.found) c.in-Some.ensures.place
-    ∙ sym c.loop-rest.invariant.same ∙ sym (position_from-zero test c.args.text.now)
+    let passed = c.loop-rest.invariant in
+    sym (none-left test c.loop-rest.place c.last_bits-bits.result c.loop-rest.rest.now c.args.text.now passed.fits
+    passed.behind c.last_bits-bits.ensures c.if-bits-eq0.true)
+    ∙ sym passed.same ∙ sym (position_from-zero test c.args.text.now)
+
+pub returns : goal.returns
+returns c =
+    let test = λ (b : ℕ). b == c.args.mark in
+    let passed = c.loop-rest.invariant in
+    sym (first-left test c.loop-rest.place c.last_bits-bits.result c.loop-rest.rest.now c.args.text.now passed.fits
+    passed.behind c.last_bits-bits.ensures (omega (arith, c.loop-rest-test.false)) c.if-bits-eq0.false)
+    ∙ sym passed.same ∙ sym (position_from-zero test c.args.text.now)

@@ -1,6 +1,6 @@
-use Rattle.std.proofs.Common.{◌≡◌, map, take}
+use Rattle.std.proofs.Common.{◌≡◌, length, map, take}
 use Rattle.lis_field.specs.declared.symbols.Sym.TheVariants.{Char}
 use Rattle.lis_field.proofs.few.Few.from_text.Given as goal
 
-abbrev pub invariant-loop-byte : goal.invariant-loop-byte
-invariant-loop-byte l = l.few ≡ map Char (take l.byte-index l.text)
+abbrev pub invariant-loop-place : goal.invariant-loop-place
+invariant-loop-place l = (length l.symbols ≡ 15) × (take l.place l.symbols ≡ map Char (take l.place l.text))

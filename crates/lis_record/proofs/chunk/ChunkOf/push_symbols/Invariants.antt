@@ -1,9 +1,9 @@
 use Rattle.std.proofs.Common.{◌≡◌, ◌++◌, ◌<◌, ◌≤◌, length}
 use Rattle.lis_record.specs.Spelling.{spelled_component}
-use Rattle.lis_record.proofs.chunk.Chunk.push_symbols.Given as goal
+use Rattle.lis_record.proofs.chunk.ChunkOf.push_symbols.Given as goal
 
 abbrev pub invariant-loop-symbol : goal.invariant-loop-symbol
-invariant-loop-symbol l = record {
+invariant-loop-symbol g l = record {
   same : l.self ++ spelled_component l.delimiters l.rest ≡ l.initial.self ++ spelled_component l.delimiters l.symbols;
   grows : length l.initial.self ≤ length l.self;
   more : length l.rest < length l.symbols → length l.initial.self < length l.self;
@@ -11,4 +11,4 @@ invariant-loop-symbol l = record {
 }
 
 abbrev pub decreases-loop-symbol : goal.decreases-loop-symbol
-decreases-loop-symbol l = length l.rest
+decreases-loop-symbol g l = length l.rest
