@@ -1,16 +1,19 @@
 -- The first part of a text that delimiters were put behind is that of the text.
 use Rattle.std.proofs.Common.{◌≡◌, ◌≤◌, ◌<◌, ℕ, zero, suc, ◌+◌, ◌-◌, ◌==◌, Bool, true, false, None, Some, Option}
 use Rattle.std.proofs.Common.{List, [], ◌∷◌, ◌++◌, length, take, drop, replicate, ap, sym, refl, ◌∙◌, arith, eq-eqb}
-use Rattle.std.proofs.Common.{append-nil, take-append-drop, length-take}
+use Rattle.std.proofs.Common.{append-nil, map, take-append-drop, length-take}
 use Rattle.std.specs.List.{position}
 use Rattle.std.specs.Option.{unwrap_or}
 use Rattle.std.proofs.Math.Seq.{drop-append-add, drop-append_seam}
 use Rattle.std.proofs.lemmas.Bool.{eqb-true}
 use Rattle.std.proofs.lemmas.List.{append_assoc, drop-append-le, drop-drop, length-append, length-drop}
 use Rattle.std.proofs.lemmas.List.Splits.{slice_split_at}
+use Rattle.lis_field.specs.Delimiters.{DelimiterBytes}
+use Rattle.lis_field.specs.Shape.{RecordContent}
 use Rattle.lis_record.specs.Faults.{trailing_byte}
 use Rattle.lis_record.specs.Relation.{Lacks}
-use Rattle.lis_record.specs.inside.FrontReading.{EndsWith, parts_behind, parts_of}
+use Rattle.lis_record.specs.inside.FrontReading.{EndsWith, TakesField, fields_of, parts_behind, parts_of}
+use Rattle.lis_record.specs.inside.FrontReading.{repeats_of}
 use Rattle.lis_record.proofs.FieldTexts.{Lacks-first, part_behind-mark}
 use Rattle.lis_record.proofs.Joins.{Lacks-tests}
 use Rattle.lis_record.proofs.Places.{IsFound-position, parts_of-first}
@@ -139,6 +142,21 @@ ends-on text more last ends on = (
   ends.0 ++ on.0,
   ends.1 ∙ ap (λ (l : List ℕ). ends.0 ++ l) on.1 ∙ sym (append_assoc ends.0 on.0 last),
 )
+
+-- a record that takes the first part as a field
+pub takes_field : (d : DelimiterBytes) (before after : RecordContent) (text rest part : List ℕ) (end : ℕ)
+    → Begins d.field text end part → after ≡ record before { fields = before.fields ++ repeats_of d part ∷ [] }
+    → rest ≡ drop end text → TakesField d before after text rest
+takes_field d before after text rest part end found is left = record {
+  kind_is = ap (λ (r : RecordContent). r.kind) is;
+  fields =
+      ap (λ (r : RecordContent). r.fields ++ fields_of d rest) is
+      ∙ append_assoc before.fields (repeats_of d part ∷ []) (fields_of d rest)
+      ∙ ap (λ (l : List ℕ). before.fields ++ repeats_of d part ∷ fields_of d l) left
+      ∙ ap (λ (l : List (List ℕ)). before.fields ++ map (repeats_of d) l) (sym found.parts);
+  ends = (take end text, sym (ap (λ (l : List ℕ). take end text ++ l) left ∙ take-append-drop end text));
+  shorter = omega (arith, ap (λ (l : List ℕ). length l) left, length-drop end text);
+}
 
 pub end-padded : (text front kept marks last : List ℕ) (count : ℕ) → count ≤ 16 → count ≤ length text
     → length front ≡ 16 - count → kept ≡ drop (length text - count) text → EndsWith text last → length last ≤ count

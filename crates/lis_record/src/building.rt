@@ -3,7 +3,7 @@
 ghost use Rattle.std.specs.Prelude.{◌≡◌, ◌≤◌, ◌-◌, ◌++◌, ◌∷◌, [], ℕ, List, IfOk, IsTrue, OnOk, drop, length, map, replicate};
 ghost use Rattle.lis_field.specs.Shape.{plain_field};
 ghost use Rattle.lis_record.specs.inside.FrontReading.{components_of, fields_of, parts_of, repeats_of};
-ghost use Rattle.lis_record.specs.inside.FrontReading.{EndsWith, symbols_of};
+ghost use Rattle.lis_record.specs.inside.FrontReading.{EndsWith, TakesField, symbols_of};
 
 use crate::escapes::read_component;
 use crate::search::{place_of, plain_length};
@@ -138,11 +138,7 @@ fn push_other<'a>(
     entry: &mut Record,
     text: &'a [u8],
 ) -> Result<&'a [u8], AllocError>
-    ensures kind { OnOk result (entry.new.kind ≡ entry.old.kind) }
-    ensures fields { IfOk result (λ rest. entry.new.fields ++ fields_of delimiters rest.now
-        ≡ entry.old.fields ++ map (repeats_of delimiters) (parts_of delimiters.field text.now)) }
-    ensures ends { IfOk result (λ rest. EndsWith text.now rest.now) }
-    ensures shorter { IfOk result (λ rest. length rest.now ≤ length text.now) }
+    ensures { IfOk result (λ rest. TakesField delimiters entry.old entry.new text.now rest.now) }
 {
     let (part, rest) = first_part(text, delimiters.field());
     let field = read_field(alloc, delimiters, part)?;
@@ -161,11 +157,7 @@ fn push_next<'a>(
     padded: &[u8],
 ) -> Result<&'a [u8], AllocError>
     requires { (count : ℕ) × (padded.now ≡ text.now ++ replicate count delimiters.field) }
-    ensures kind { OnOk result (entry.new.kind ≡ entry.old.kind) }
-    ensures fields { IfOk result (λ rest. entry.new.fields ++ fields_of delimiters rest.now
-        ≡ entry.old.fields ++ map (repeats_of delimiters) (parts_of delimiters.field text.now)) }
-    ensures ends { IfOk result (λ rest. EndsWith text.now rest.now) }
-    ensures shorter { IfOk result (λ rest. length rest.now ≤ length text.now) }
+    ensures { IfOk result (λ rest. TakesField delimiters entry.old entry.new text.now rest.now) }
 {
     let Some(end) = plain_length(delimiters, padded) else {
         return push_other(alloc, delimiters, entry, text);

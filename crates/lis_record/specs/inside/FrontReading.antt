@@ -1,6 +1,6 @@
 -- Reading a text from its front, once: the same symbols, components, repeats and fields as the relation has.
 use Rattle.lis_field.specs.declared.kinds.Kind.{Kind}
-use Rattle.std.specs.Prelude.{◌≡◌, ◌≢◌, ℕ, zero, suc, ◌+◌, ◌==◌, nat_lt, cond, if◌then◌else◌, List, [], ◌∷◌, ◌++◌}
+use Rattle.std.specs.Prelude.{◌≡◌, ◌≢◌, ◌≤◌, ℕ, zero, suc, ◌+◌, ◌==◌, nat_lt, cond, if◌then◌else◌, List, [], ◌∷◌, ◌++◌}
 use Rattle.std.specs.Prelude.{Bool, ◌||◌, map, take, length, Option, Some, None, option_map, is_some, unwrap_or, IsTrue}
 use Rattle.std.specs.List.{position_or_len, slice_split}
 use Rattle.lis_field.specs.declared.symbols.Sym.{Sym}
@@ -11,7 +11,7 @@ use Rattle.lis_record.specs.Escapes.{escape_of, raw_symbols}
 use Rattle.lis_field.specs.declared.kinds.Kind.TheVariants as kinds
 use Rattle.lis_record.specs.Faults.{text_fault, trailing_byte}
 use Rattle.lis_field.specs.Kinds.{kind_of}
-use Rattle.lis_field.specs.Shape.{Symbols, Components, Repeats, Fields}
+use Rattle.lis_field.specs.Shape.{Symbols, Components, Repeats, Fields, RecordContent}
 
 -- whether a byte is a delimiter of any kind
 abbrev pub is_delimiter : DelimiterBytes → ℕ → Bool
@@ -98,3 +98,10 @@ pub record OpensHeader (text : List ℕ) (d : DelimiterBytes) (rest : List ℕ) 
   pub kind_is : kind_of letter ≡ Some kinds.H
   pub declares : DeclaresDelimiters part d rest
   pub texts : text_fault text ≡ None
+
+-- A record takes the field that a text begins with, and the rest of the text follows.
+pub record TakesField (d : DelimiterBytes) (before after : RecordContent) (text rest : List ℕ) : Type 0 where
+  pub kind_is : after.kind ≡ before.kind
+  pub fields : after.fields ++ fields_of d rest ≡ before.fields ++ map (repeats_of d) (parts_of d.field text)
+  pub ends : EndsWith text rest
+  pub shorter : length rest ≤ length text

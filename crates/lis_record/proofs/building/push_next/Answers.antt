@@ -1,8 +1,7 @@
-use Rattle.std.proofs.Common.{◌≡◌, ◌++◌, ◌∷◌, [], ℕ, List, ap, sym, ◌∙◌, map, take}
-use Rattle.std.proofs.lemmas.List.{append_assoc}
-use Rattle.lis_field.specs.Shape.{Fields, RecordContent, Repeats, plain_field}
-use Rattle.lis_record.specs.inside.FrontReading.{fields_of, repeats_of}
-use Rattle.lis_record.proofs.PaddedTexts.{begins_padded}
+use Rattle.std.proofs.Common.{◌≡◌, ◌++◌, ◌∷◌, [], ℕ, List, ap, sym, ◌∙◌, take}
+use Rattle.lis_field.specs.Shape.{Repeats, plain_field}
+use Rattle.lis_record.specs.inside.FrontReading.{repeats_of}
+use Rattle.lis_record.proofs.PaddedTexts.{begins_padded, takes_field}
 use Rattle.lis_record.proofs.building.push_next.Goals as goal
 
 pub split_at-requires : goal.split_at-requires
@@ -10,8 +9,8 @@ split_at-requires c =
     (begins_padded c.args.delimiters.field c.requires.0 c.in-Some.end c.args.text.now c.args.padded.now c.requires.1
     c.in-Some.ensures.bound c.in-Some.ensures.first).within
 
-pub returns-clause-fields : goal.returns-clause-fields
-returns-clause-fields c =
+pub returns : goal.returns
+returns c =
     let d = c.args.delimiters in
     let text = c.args.text.now in
     let end = c.in-Some.end in
@@ -20,10 +19,8 @@ returns-clause-fields c =
     c.in-Some.ensures.first in
     let field : c.in_ok-from_text.field-0 ≡ repeats_of d part =
     c.in_ok-from_text.ensures ∙ ap plain_field (c.split_at.ensures.front ∙ sym begins.same) ∙ sym c.in-Some.ensures.plain in
-    let pushed : c.push.new.self.fields ≡ c.args.entry.now.fields ++ repeats_of d part ∷ [] =
-    ap (λ (r : RecordContent). r.fields) c.in_ok-push.ensures.ok
-    ∙ ap (λ (f : Repeats). c.args.entry.now.fields ++ f ∷ []) field in
-    ap (λ (l : Fields). l ++ fields_of d c.split_at.result.1.now) pushed
-    ∙ append_assoc c.args.entry.now.fields (repeats_of d part ∷ []) (fields_of d c.split_at.result.1.now)
-    ∙ ap (λ (l : List ℕ). c.args.entry.now.fields ++ repeats_of d part ∷ fields_of d l) c.split_at.ensures.back
-    ∙ ap (λ (l : List (List ℕ)). c.args.entry.now.fields ++ map (repeats_of d) l) (sym begins.parts)
+    takes_field d c.args.entry.now c.push.new.self text c.split_at.result.1.now part end begins
+    (c.in_ok-push.ensures.ok ∙ ap (λ (f : Repeats). record c.args.entry.now {
+      fields = c.args.entry.now.fields ++ f ∷ [];
+    }) field)
+    c.split_at.ensures.back

@@ -39,7 +39,7 @@ loop-delimiter-preserved c =
     (c.in-Some._delimiter.now ∷ [], c.in-Some.ensures.cases.0) in
     let all = λ (l : List ℕ). c.loop-delimiter.record.fields ++ fields_of c.args.delimiters l in
     record {
-      kind_is = c.in_ok-rest.ensures.kind ∙ c.loop-delimiter.invariant.kind_is;
+      kind_is = c.in_ok-rest.ensures.kind_is ∙ c.loop-delimiter.invariant.kind_is;
       fields =
           c.in_ok-rest.ensures.fields ∙ sym (ap all c.in-Some.ensures.cases.0) ∙ c.loop-delimiter.invariant.fields;
       ends = ends-on c.args.text.now more c.in_ok-rest.rest.now ends c.in_ok-rest.ensures.ends;
