@@ -80,7 +80,8 @@ module _ (mark : ℕ) (text : List ℕ) where
             → (others : List (List ℕ)) × (parts_of mark padded ≡ take first text ∷ others)
         go [] is = (
           parts_of mark (replicate count mark),
-          behind (replicate (suc count) mark) (replicate count mark) mark (joined (replicate (suc count) mark) [] is) refl,
+          behind (replicate (suc count) mark) (replicate count mark) mark
+              (joined (replicate (suc count) mark) [] is) refl,
         )
         go (b ∷ bs) is = (
           parts_of mark (bs ++ replicate (suc count) mark),

@@ -1,6 +1,7 @@
 //! Records made from their texts, part by part (LIS02-A2, Delimiters).
 
-ghost use Rattle.std.specs.Prelude.{◌≡◌, ◌≤◌, ◌-◌, ◌++◌, ◌∷◌, [], ℕ, List, IfOk, IsTrue, OnOk, drop, length, map, replicate};
+ghost use Rattle.std.specs.Prelude.{◌≡◌, ◌≤◌, ◌-◌, ◌++◌, ◌∷◌, [], ℕ, List, IfOk, IsTrue, OnOk, drop, length};
+ghost use Rattle.std.specs.Prelude.{replicate};
 ghost use Rattle.lis_field.specs.Shape.{plain_field};
 ghost use Rattle.lis_record.specs.inside.FrontReading.{components_of, fields_of, parts_of, repeats_of};
 ghost use Rattle.lis_record.specs.inside.FrontReading.{EndsWith, TakesField, symbols_of};
@@ -114,8 +115,8 @@ fn read_repeats(alloc: Global, delimiters: Delimiters, text: &[u8]) -> Result<Fi
     Ok(field)
 }
 
-// The last sixteen bytes of a text, or all where it has fewer, with sixteen delimiters behind them, and some before them
-// so that they end at place 16.
+// The last sixteen bytes of a text, or all where it has fewer, with sixteen delimiters behind them, and so many before
+// them that they end at place 16.
 #[inline(always)]
 fn padded_end(text: &[u8], mark: u8) -> [u8; 32]
     ensures { (last : List ℕ) → EndsWith text.now last → length last ≤ 16

@@ -18,7 +18,8 @@ returns c =
     let begins = begins_padded d.field c.requires.0 end text c.args.padded.now c.requires.1 c.in-Some.ensures.bound
     c.in-Some.ensures.first in
     let field : c.in_ok-from_text.field-0 ≡ repeats_of d part =
-    c.in_ok-from_text.ensures ∙ ap plain_field (c.split_at.ensures.front ∙ sym begins.same) ∙ sym c.in-Some.ensures.plain in
+    c.in_ok-from_text.ensures ∙ ap plain_field (c.split_at.ensures.front ∙ sym begins.same)
+    ∙ sym c.in-Some.ensures.plain in
     takes_field d c.args.entry.now c.push.new.self text c.split_at.result.1.now part end begins
     (c.in_ok-push.ensures.ok ∙ ap (λ (f : Repeats). record c.args.entry.now {
       fields = c.args.entry.now.fields ++ f ∷ [];
