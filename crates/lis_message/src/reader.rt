@@ -16,6 +16,7 @@ use lis_record::{Delimiters, Kind, LentRecord, Record};
 use lis_tree::{Message, MessageFault, OpenMessage, Reason};
 use std::alloc::{AllocError, Global};
 use std::marker::Model;
+use std::mem::{drop, replace};
 
 /// A list of messages.
 pub type Messages = lis_text::List<Message>;
@@ -35,10 +36,11 @@ fn take_last(
     ensures left { OnOk result (begun.new ≡ None) }
     ensures err { IfErr result (λ _. messages.new ≡ messages.old) }
 {
+    let closing = entry.to_record(alloc)?;
     let Some(message) = begun.take() else {
         unreachable!()
     };
-    let whole = message.closed(alloc, entry.to_record(alloc)?)?;
+    let whole = message.closed(alloc, closing)?;
     messages.push(whole)?;
     Ok(())
 }
@@ -54,7 +56,7 @@ fn open_message(
     requires { header.kind ≡ kinds.H }
     ensures { begun.new ≡ begun_with delimiters (header ∷ []) }
 {
-    *begun = Some(OpenMessage::new(alloc, delimiters, header));
+    drop(replace(begun, Some(OpenMessage::new(alloc, delimiters, header))));
 }
 
 /// Adds a record that comes next to the open message, and the message that it completes to the others.
@@ -240,7 +242,7 @@ impl MessageReader {
             },
             Err(fault) => {
                 self.records = RecordReader::new(self.alloc);
-                self.begun = None;
+                drop(self.begun.take());
                 self.fault = Some(fault);
                 Fed {
                     messages,
@@ -254,10 +256,12 @@ impl MessageReader {
     pub fn finish(self) -> Result<(), MessageFault>
         ensures { result ≡ finished self }
     {
-        match self.fault {
+        let ended = match self.fault {
             Some(fault) => Err(fault),
             None => self.records.finish(),
-        }
+        };
+        drop(self);
+        ended
     }
 
     /// How many bytes of a record that isn't ended are held; none after a fault.
@@ -277,10 +281,13 @@ fn read_whole(alloc: Global, bytes: &[u8]) -> Fed
     let mut reader = MessageReader::new(alloc);
     let Fed { messages, fault } = reader.feed(bytes);
     match fault {
-        Some(fault) => Fed {
-            messages,
-            fault: Some(fault),
-        },
+        Some(fault) => {
+            drop(reader);
+            Fed {
+                messages,
+                fault: Some(fault),
+            }
+        }
         None => match reader.finish() {
             Ok(()) => Fed {
                 messages,

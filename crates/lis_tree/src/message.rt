@@ -18,6 +18,7 @@ use lis_record::{Delimiters, Kind, Record};
 use lis_text::List;
 use std::alloc::{AllocError, Global};
 use std::marker::Model;
+use std::mem::drop;
 
 /// A whole message: its header with notes, its patients and queries, and the record that closes it.
 #[derive(Debug, PartialEq, Eq, Drop)]
@@ -123,6 +124,7 @@ impl Message {
             let place = begun.next_place();
             let kind = entry.kind();
             if let Some(reason) = begun.place_fault(kind) {
+                drop(begun);
                 return Err(MessageFault { place, reason });
             }
             if let Kind::L = kind {
@@ -139,8 +141,10 @@ impl Message {
                 }),
             }
         }
+        let place = begun.next_place();
+        drop(begun);
         Err(MessageFault {
-            place: begun.next_place(),
+            place,
             reason: Reason::Unfinished,
         })
     }
@@ -231,6 +235,7 @@ fn close(
 {
     let place = begun.next_place();
     if let Some(extra) = next {
+        drop(begun);
         let reason = match extra.kind() {
             Kind::H => Reason::SecondHeader,
             _ => Reason::NotHeader,

@@ -13,6 +13,7 @@ use crate::spine::{Spine, headed, push_record, standing, whole_front};
 use lis_record::{Delimiters, Kind, Record};
 use std::alloc::{AllocError, Global};
 use std::marker::Model;
+use std::mem::{drop, replace};
 
 /// A message that isn't closed yet.
 #[derive(Drop)]
@@ -81,8 +82,13 @@ impl OpenMessage {
         ensures { IfOk result (λ m. m ≡ record { delimiters = self.delimiters; records = self.records ++ entry ∷ [] }) }
     {
         let mut message = self;
-        message.push(alloc, entry)?;
-        Ok(message)
+        match message.push(alloc, entry) {
+            Ok(()) => Ok(message),
+            Err(AllocError) => {
+                drop(message);
+                Err(AllocError)
+            }
+        }
     }
 
     /// Adds one more record, which may stand there and doesn't close the message. Where memory is refused, what is
@@ -100,7 +106,8 @@ impl OpenMessage {
                 Ok(())
             }
             Err(AllocError) => {
-                self.spine = headed(alloc, Record::new(alloc, Kind::H));
+                let nothing = headed(alloc, Record::new(alloc, Kind::H));
+                drop(replace(&mut self.spine, nothing));
                 self.count = 1;
                 Err(AllocError)
             }

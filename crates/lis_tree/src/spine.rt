@@ -16,7 +16,7 @@ use lis_record::{Delimiters, Kind, Record};
 use lis_text::List;
 use std::alloc::{AllocError, Global};
 use std::marker::Model;
-use std::mem;
+use std::mem::{self, drop};
 
 /// The header with its notes, and the groups that are whole.
 #[derive(Drop)]
@@ -329,13 +329,14 @@ fn push_moved(alloc: Global, spine: &mut Spine, kind: Kind, entry: Record) -> Re
     ensures shape { OnOk result (IsSpine spine.old → IsSpine spine.new) }
 {
     let before = mem::replace(spine, headed(alloc, Record::new(alloc, Kind::H)));
-    *spine = match kind {
+    let after = match kind {
         Kind::H | Kind::L | Kind::C | Kind::M | Kind::S => unreachable!(),
         Kind::P => with_patient(alloc, before, entry)?,
         Kind::O => with_order(alloc, before, entry)?,
         Kind::R => with_result(alloc, before, entry)?,
         Kind::Q => with_query(alloc, before, entry)?,
     };
+    drop(mem::replace(spine, after));
     Ok(())
 }
 

@@ -24,10 +24,13 @@ use crate::state::State;
 use crate::words::Trouble;
 use std::alloc::Global;
 use std::io::{self, BufRead, BufReader, BufWriter, Write};
+use std::mem::drop;
 
 fn main(rt: HostRuntime) -> io::Result<()> {
     let mut state = State::new(rt.alloc());
-    run(&rt, &mut state)
+    let ended = run(&rt, &mut state);
+    drop(state);
+    ended
 }
 
 /// Answers all lines of standard input.

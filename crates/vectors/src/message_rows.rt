@@ -8,6 +8,7 @@ use crate::spelling::{delimiters_of, record_of};
 use crate::words::{Trouble, bytes_of, number_of};
 use lis_message::{Fed, Message, MessageReader, Messages, Records, read_messages};
 use std::alloc::Global;
+use std::mem::{drop, replace};
 
 /// The reader of a case, and the last message that was read or built.
 #[derive(Drop)]
@@ -54,7 +55,7 @@ impl Reading {
         answer: &mut Answer,
     ) -> Result<(), Trouble> {
         if call == "new" {
-            self.reader = Some(MessageReader::new(alloc));
+            drop(replace(&mut self.reader, Some(MessageReader::new(alloc))));
             answer.word("ok")?;
             return Ok(());
         }

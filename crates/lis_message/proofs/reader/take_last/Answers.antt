@@ -23,8 +23,8 @@ returns-clause-ok c =
         c.in_ok-whole.ensures.shape,
         c.in_ok-whole.ensures.delimiters ∙ marks,
         c.in_ok-whole.ensures.records
-            ∙ ap (λ (l : List RecordContent). l ++ c.in_ok-to_record.field-0 ∷ []) records
-            ∙ ap (λ (r : RecordContent). records_of c.args.begun.now ++ r ∷ []) c.in_ok-to_record.ensures,
+            ∙ ap (λ (l : List RecordContent). l ++ c.in_ok-closing.closing ∷ []) records
+            ∙ ap (λ (r : RecordContent). records_of c.args.begun.now ++ r ∷ []) c.in_ok-closing.ensures,
       );
       added = c.in_ok-push.ensures.ok;
     }

@@ -90,8 +90,8 @@ returns-clause-only c = λ m is marks e.
     let empty : into_iter_items c.loop-entry.rest ≡ [] =
     nil_from_length (into_iter_items c.loop-entry.rest)
     (sym c.loop-entry.rest.rest.ok.0 ∙ c.in_default-next.ensures.cases.0) in
-    only_memory c.args.records (record { place = c.next_place.result; reason = reasons.Unfinished })
+    only_memory c.args.records (record { place = c.next_place-place-2.result; reason = reasons.Unfinished })
     (inr (unclosed_fault c.args.delimiters c.args.records c.loop-entry.begun (into_iter_items c.loop-entry.rest)
-    (record { place = c.next_place.result; reason = reasons.Unfinished }) c.loop-entry.invariant empty refl
-    c.next_place.ensures))
+    (record { place = c.next_place-place-2.result; reason = reasons.Unfinished }) c.loop-entry.invariant empty refl
+    c.next_place-place-2.ensures))
     m is e
