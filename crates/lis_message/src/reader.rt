@@ -260,6 +260,7 @@ impl MessageReader {
             Some(fault) => Err(fault),
             None => self.records.finish(),
         };
+        // By a call: what ends in place is let go of part by part, and the proof goes over each of them.
         drop(self);
         ended
     }

@@ -85,6 +85,7 @@ impl OpenMessage {
         match message.push(alloc, entry) {
             Ok(()) => Ok(message),
             Err(AllocError) => {
+                // By a call: what ends in place is let go of part by part, and the proof goes over each of them.
                 drop(message);
                 Err(AllocError)
             }
