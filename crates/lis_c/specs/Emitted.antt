@@ -5,9 +5,9 @@ use Rattle.lis_frame.specs.Frame.{frame_bytes}
 use Rattle.lis_link.specs.declared.sender.EmitOf.{EmitOf}
 use Rattle.lis_link.specs.declared.sender.EmitOf.TheVariants as Emits
 
-abbrev pub emitted : {limit : ℕ} → EmitOf limit → List ℕ
-emitted Emits.Nothing = []
-emitted Emits.Enq = ENQ ∷ []
-emitted Emits.Eot = EOT ∷ []
-emitted Emits.Nak = NAK ∷ []
-emitted (Emits.Frame frame) = frame_bytes frame
+abbrev pub emitted_bytes : {limit : ℕ} → EmitOf limit → List ℕ
+emitted_bytes Emits.Nothing = []
+emitted_bytes Emits.Enq = ENQ ∷ []
+emitted_bytes Emits.Eot = EOT ∷ []
+emitted_bytes Emits.Nak = NAK ∷ []
+emitted_bytes (Emits.Frame frame) = frame_bytes frame

@@ -8,8 +8,8 @@ use Rattle.lis_link.specs.declared.sender.StartFault.{StartFault}
 use Rattle.lis_text.specs.LinkText.{most_texts}
 
 -- the texts that an array names
-abbrev pub bytes_of : List LisText → List (List ℕ)
-bytes_of texts = map (λ text. text.bytes.now) texts
+abbrev pub lent_bytes : List LisText → List (List ℕ)
+lent_bytes texts = map (λ text. text.bytes.now) texts
 
 -- the texts of a session, whoever holds them
 abbrev pub session_texts : DeskTexts → List (List ℕ)

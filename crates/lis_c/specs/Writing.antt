@@ -32,26 +32,26 @@ abbrev pub after_kind : Level → Kind → Level
 after_kind level kind = reopened (next_level level kind)
 
 -- the components of a field that isn't ended, one more of these bytes, and the field ended by it
-abbrev pub parts_of : Option Components → Components
-parts_of None = []
-parts_of (Some parts) = parts
+abbrev pub parts_so_far : Option Components → Components
+parts_so_far None = []
+parts_so_far (Some parts) = parts
 
 abbrev pub with_parts : Draft → List ℕ → Draft
-with_parts draft bytes = record draft { parts = Some (parts_of draft.parts ++ plain_component bytes ∷ []) }
+with_parts draft bytes = record draft { parts = Some (parts_so_far draft.parts ++ plain_component bytes ∷ []) }
 
 abbrev pub with_field : Draft → List ℕ → Draft
 with_field draft bytes =
     record {
       entry = record {
         kind = draft.entry.kind;
-        fields = draft.entry.fields ++ ((parts_of draft.parts ++ plain_component bytes ∷ []) ∷ []) ∷ [];
+        fields = draft.entry.fields ++ ((parts_so_far draft.parts ++ plain_component bytes ∷ []) ∷ []) ∷ [];
       };
       parts = None;
     }
 
-abbrev pub with_bytes : Draft → Bool → List ℕ → Draft
-with_bytes draft true bytes = with_field draft bytes
-with_bytes draft false bytes = with_parts draft bytes
+abbrev pub with_component : Draft → Bool → List ℕ → Draft
+with_component draft true bytes = with_field draft bytes
+with_component draft false bytes = with_parts draft bytes
 
 -- a record is begun, or the letter is none
 abbrev pub BeginStatus : Option Kind → WriterDesk → ℕ → WriterDesk → Type 0
@@ -64,7 +64,7 @@ BeginStatus (Some kind) old status new =
 abbrev pub PartStatus : Option Draft → Bool → List ℕ → WriterDesk → ℕ → WriterDesk → Type 0
 PartStatus None last bytes old status new = (status ≡ NO_RECORD) × (new ≡ old)
 PartStatus (Some draft) last bytes old status new =
-    ((status ≡ OK) × (new ≡ record old { draft = Some (with_bytes draft last bytes) }))
+    ((status ≡ OK) × (new ≡ record old { draft = Some (with_component draft last bytes) }))
     ⊎ ((status ≡ OUT_OF_MEMORY) × (new ≡ record old { draft = None }))
 
 -- ---- why a record can't be put, the first of these

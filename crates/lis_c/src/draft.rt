@@ -2,7 +2,8 @@
 
 ghost use Rattle.std.specs.Prelude.{◌≡◌, ◌≢◌, ◌++◌, ◌∷◌, [], IfOk, None, Option, Some, length};
 ghost use Rattle.lis_c.specs.Status.{OK};
-ghost use Rattle.lis_c.specs.Writing.{IsPut, PartStatus, PutStatus, after_kind, level_at, misplaced_status, parts_of};
+ghost use Rattle.lis_c.specs.Writing.{IsPut, PartStatus, PutStatus, after_kind, level_at, misplaced_status};
+ghost use Rattle.lis_c.specs.Writing.{parts_so_far};
 ghost use Rattle.lis_c.specs.Writing.{put_fault, with_parts, with_field, write_fault};
 ghost use Rattle.lis_field.specs.Delimiters.{usual};
 ghost use Rattle.lis_field.specs.Shape.{plain_component};
@@ -47,7 +48,7 @@ pub(crate) fn let_go_writer(_desk: WriterDesk) {}
 
 /// The components with one more of these bytes.
 fn with_part(alloc: Global, parts: Option<Repeat>, bytes: &[u8]) -> Result<Repeat, AllocError>
-    ensures { IfOk result (λ repeat. repeat ≡ parts_of parts ++ plain_component bytes.now ∷ []) }
+    ensures { IfOk result (λ repeat. repeat ≡ parts_so_far parts ++ plain_component bytes.now ∷ []) }
 {
     let part = Component::from_text(alloc, bytes)?;
     match parts {

@@ -1,7 +1,7 @@
 //! Texts that stay with a caller in C, and what holds those of a session.
 
 ghost use Rattle.std.specs.Prelude.{◌≡◌, ◌≤◌, length};
-ghost use Rattle.lis_c.specs.Lent.{bytes_of, session_texts};
+ghost use Rattle.lis_c.specs.Lent.{lent_bytes, session_texts};
 
 use lis_link::SessionTexts;
 use lis_text::Texts;
@@ -25,9 +25,9 @@ impl Model for LentTexts {
 
     ghost Value = { List (List ℕ) };
 
-    ghost use Rattle.lis_c.specs.Lent.{bytes_of};
+    ghost use Rattle.lis_c.specs.Lent.{lent_bytes};
 
-    ghost view = { λ t. bytes_of t.texts.now };
+    ghost view = { λ t. lent_bytes t.texts.now };
 
     ghost invariant = { λ t. length t.texts.now ≤ 65536 };
 }
@@ -36,7 +36,7 @@ impl LentTexts {
     /// The texts of this array, in order. There are at most 65,536 of them.
     pub(crate) fn new(texts: &'static [LisText]) -> Self
         requires { length texts.now ≤ 65536 }
-        ensures { result ≡ bytes_of texts.now }
+        ensures { result ≡ lent_bytes texts.now }
     {
         LentTexts { texts }
     }

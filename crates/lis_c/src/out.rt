@@ -2,7 +2,7 @@
 
 ghost use Rattle.std.specs.Prelude.{◌≡◌, ◌≤◌, length, take};
 ghost use Rattle.lis_c.specs.Codes.{fault_code, fault_place};
-ghost use Rattle.lis_c.specs.Emitted.{emitted};
+ghost use Rattle.lis_c.specs.Emitted.{emitted_bytes};
 ghost use Rattle.lis_c.specs.Signals.{TellsSignal};
 
 use lis_frame::{FrameFault, Signal, SignalOf, frame_bytes};
@@ -28,7 +28,7 @@ pub(crate) fn put(out: &mut LisBytes, bytes: &[u8])
 
 /// Puts what an emit is on the link.
 pub(crate) fn put_emit(out: &mut LisBytes, emit: &Emit)
-    ensures { take out.new.len out.new.bytes ≡ emitted emit.now }
+    ensures { take out.new.len out.new.bytes ≡ emitted_bytes emit.now }
 {
     match emit {
         EmitOf::Nothing => put(out, &[]),

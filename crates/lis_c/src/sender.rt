@@ -3,8 +3,8 @@
 ghost use Rattle.std.specs.Prelude.{◌≡◌, ◌≢◌, ◌++◌, ◌∷◌, [], MatchResult, Some, length, take};
 ghost use Rattle.lis_c.specs.declared.desk.SenderDesk.{SenderDesk};
 ghost use Rattle.lis_c.specs.Codes.{outcome_code, phase_code};
-ghost use Rattle.lis_c.specs.Emitted.{emitted};
-ghost use Rattle.lis_c.specs.Lent.{bytes_of, lent_status};
+ghost use Rattle.lis_c.specs.Emitted.{emitted_bytes};
+ghost use Rattle.lis_c.specs.Lent.{lent_bytes, lent_status};
 ghost use Rattle.lis_c.specs.New.{IsNewSender, type_align};
 ghost use Rattle.lis_c.specs.Status.{AddStatus, FULL, OK, start_index, start_place, start_status};
 ghost use Rattle.lis_c.specs.contracts.desk.SenderDesk.{the_row as desk_row};
@@ -106,15 +106,15 @@ pub extern "C" fn lis_sender_start_lent(
     out: &mut LisBytes,
     fault: &mut LisPlace,
 ) -> u8
-    ensures status { result ≡ lent_status texts.now (start_fault s.old.state.sender (bytes_of texts.now)) }
+    ensures status { result ≡ lent_status texts.now (start_fault s.old.state.sender (lent_bytes texts.now)) }
     ensures index { result ≢ FULL →
-        fault.new.index ≡ start_index (start_fault s.old.state.sender (bytes_of texts.now)) }
+        fault.new.index ≡ start_index (start_fault s.old.state.sender (lent_bytes texts.now)) }
     ensures place { result ≢ FULL →
-        fault.new.place ≡ start_place (start_fault s.old.state.sender (bytes_of texts.now)) }
+        fault.new.place ≡ start_place (start_fault s.old.state.sender (lent_bytes texts.now)) }
     ensures full { result ≡ FULL → (fault.new.index ≡ 0) × (fault.new.place ≡ 0) }
     ensures emit { result ≡ OK → take out.new.len out.new.bytes ≡ ENQ ∷ [] }
     ensures started { result ≡ OK →
-        s.new.state ≡ record s.old.state { sender = started 240 (bytes_of texts.now) } }
+        s.new.state ≡ record s.old.state { sender = started 240 (lent_bytes texts.now) } }
     ensures refused { result ≢ OK → (out.new ≡ out.old) × (s.new.state ≡ s.old.state) }
 {
     if texts.len() > MOST_TEXTS {
@@ -128,7 +128,7 @@ pub extern "C" fn lis_sender_start_lent(
 /// Tells how a start went, and puts what goes on the link.
 fn tell_start(start: Result<Emit, StartFault>, out: &mut LisBytes, place: &mut LisPlace) -> u8
     ensures { MatchResult start
-        (λ emit. (result ≡ OK) × (take out.new.len out.new.bytes ≡ emitted emit)
+        (λ emit. (result ≡ OK) × (take out.new.len out.new.bytes ≡ emitted_bytes emit)
         × (place.new.index ≡ 0) × (place.new.place ≡ 0))
         (λ fault. (result ≡ start_status (Some fault)) × (out.new ≡ out.old)
         × (place.new.index ≡ start_index (Some fault)) × (place.new.place ≡ start_place (Some fault))) }
@@ -151,7 +151,8 @@ fn tell_start(start: Result<Emit, StartFault>, out: &mut LisBytes, place: &mut L
 /// A reply byte comes: what goes on the link.
 #[unsafe(no_mangle)]
 pub extern "C" fn lis_sender_reply(s: &mut LisSender, byte: u8, out: &mut LisBytes)
-    ensures emit { take out.new.len out.new.bytes ≡ emitted (on_reply {limit = 240} byte s.old.state.sender).emit }
+    ensures emit { take out.new.len out.new.bytes
+        ≡ emitted_bytes (on_reply {limit = 240} byte s.old.state.sender).emit }
     ensures after { s.new.state
         ≡ record s.old.state { sender = (on_reply {limit = 240} byte s.old.state.sender).after } }
 {
@@ -162,7 +163,8 @@ pub extern "C" fn lis_sender_reply(s: &mut LisSender, byte: u8, out: &mut LisByt
 /// The timer runs out: what goes on the link.
 #[unsafe(no_mangle)]
 pub extern "C" fn lis_sender_timer(s: &mut LisSender, out: &mut LisBytes)
-    ensures emit { take out.new.len out.new.bytes ≡ emitted (on_sender_timer {limit = 240} s.old.state.sender).emit }
+    ensures emit { take out.new.len out.new.bytes
+        ≡ emitted_bytes (on_sender_timer {limit = 240} s.old.state.sender).emit }
     ensures after { s.new.state
         ≡ record s.old.state { sender = (on_sender_timer {limit = 240} s.old.state.sender).after } }
 {

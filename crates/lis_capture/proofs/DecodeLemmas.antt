@@ -18,7 +18,7 @@ use Rattle.std.proofs.lemmas.Simd.{pick_l_whole, put_chunk_whole}
 use Rattle.std.proofs.Math.Seq.{take-add}
 use Rattle.hex.specs.Hex.{decode_pairs, hex_digit_value, is_hex_digit}
 use Rattle.hex.proofs.HexLemmas.{decode_of-even}
-use Rattle.lis_capture.specs.Digits.{bytes_of, is_value, told_digit}
+use Rattle.lis_capture.specs.Digits.{bytes_of, is_digit_value, told_digit}
 use Rattle.lis_capture.proofs.BelowLemmas.{all-greater, all_below, bit_clear, bit_set, bits_fit, bits_over, greater}
 use Rattle.lis_capture.proofs.BelowLemmas.{greater_below, length-greater}
 use Rattle.lis_capture.proofs.DigitsLemmas.{by_value, bytes_of-decoded, bytes_of-other, pair_of_digits, pairs_from_some}
@@ -213,12 +213,12 @@ sixteen_read digits bytes vs ws many room first second =
 abbrev pub value_bits : ℕ → List ℕ → ℕ
 value_bits n xs = bits_over 16 n xs
 
-pub all_values_seen : (xs : List ℕ) → length xs ≡ 16 → list_all is_value xs ≡ eqb (value_bits 16 xs % 2 ^ 64) 0
-all_values_seen xs long = rw (bits_fit 16 xs) (all_below is_value 16 (λ x. refl) 16 xs long)
+pub all_values_seen : (xs : List ℕ) → length xs ≡ 16 → list_all is_digit_value xs ≡ eqb (value_bits 16 xs % 2 ^ 64) 0
+all_values_seen xs long = rw (bits_fit 16 xs) (all_below is_digit_value 16 (λ x. refl) 16 xs long)
 
 values-greater : (n : ℕ) (xs ys : List ℕ) → length xs ≡ n → length ys ≡ n
-    → list_all is_value (greater xs ys) ≡ (list_all is_value xs && list_all is_value ys)
-values-greater = all-greater is_value 16 (λ x. refl)
+    → list_all is_digit_value (greater xs ys) ≡ (list_all is_digit_value xs && list_all is_digit_value ys)
+values-greater = all-greater is_digit_value 16 (λ x. refl)
 
 -- sixteen bytes are read where each of the greater values is one
 pub sixteen_values :
@@ -226,7 +226,7 @@ pub sixteen_values :
     → map told_digit vs ≡ map hex_digit_value (pick_l 0 (take 16 digits ++ take 16 (drop 16 digits)) first_places)
     → map told_digit ws ≡ map hex_digit_value (pick_l 0 (take 16 digits ++ take 16 (drop 16 digits)) second_places)
     → (length (greater vs ws) ≡ 16)
-    × (bytes_of (take 32 digits) ≡ (if list_all is_value (greater vs ws) then Some
+    × (bytes_of (take 32 digits) ≡ (if list_all is_digit_value (greater vs ws) then Some
     (put_chunk 0 bytes (joined 16 vs ws)) else None))
 sixteen_values digits bytes vs ws many room first second =
     let v_long : length vs ≡ 16 = sym (length-map vs told_digit) ∙ ap length first in
@@ -395,8 +395,8 @@ last_read digits out chunk true n place last k pairs room ends less width is tol
 -- so many bytes are read where each value so far is one, and else none
 pub record IsReadBy (digits out most : List ℕ) (place : ℕ) : Type 0 where
   pub lanes : length most ≡ 16
-  pub read : list_all is_value most ≡ true → IsRead digits out place
-  pub none : list_all is_value most ≡ false → bytes_of digits ≡ None
+  pub read : list_all is_digit_value most ≡ true → IsRead digits out place
+  pub none : list_all is_digit_value most ≡ false → bytes_of digits ≡ None
 
 pub none_read_by : (digits out : List ℕ) → IsReadBy digits out (replicate 16 0) 0
 none_read_by digits out = record { lanes = refl; read = λ e. none_read digits out; none = λ e. cc }
@@ -417,12 +417,12 @@ more_by digits out chunk false b n place k pairs room fits read none told = (λ 
 pub more_read_by :
     (digits out chunk most values : List ℕ) (n place k : ℕ) → length digits ≡ 2 * n → length out ≡ n → place + 16 ≤ n
     → IsReadBy digits out most place → length values ≡ 16
-    → bytes_of (take 32 (behind digits place)) ≡ (if list_all is_value values then Some chunk else None)
+    → bytes_of (take 32 (behind digits place)) ≡ (if list_all is_digit_value values then Some chunk else None)
     → IsReadBy digits (put_mid place k out chunk) (greater most values) (place + 16)
 more_read_by digits out chunk most values n place k pairs room fits so_far lanes told =
     let both = values-greater 16 most values so_far.lanes lanes in
     let more =
-    more_by digits out chunk (list_all is_value most) (list_all is_value values) n place k pairs room fits
+    more_by digits out chunk (list_all is_digit_value most) (list_all is_digit_value values) n place k pairs room fits
     so_far.read so_far.none told in
     record {
       lanes = length-greater 16 most values so_far.lanes lanes;
@@ -444,15 +444,15 @@ pub last_read_by :
     (digits out chunk most values : List ℕ) (n place last k : ℕ) → length digits ≡ 2 * n → length out ≡ n
     → last + 16 ≡ n → last ≤ place
     → k ≡ 16 → IsReadBy digits out most place → length values ≡ 16
-    → bytes_of (take 32 (behind digits last)) ≡ (if list_all is_value values then Some chunk else None)
+    → bytes_of (take 32 (behind digits last)) ≡ (if list_all is_digit_value values then Some chunk else None)
     → bytes_of digits ≡ (if eqb (value_bits 16 (greater most values) % 2 ^ 64) 0 then Some
     (put_mid last k out chunk) else None)
 last_read_by digits out chunk most values n place last k pairs room ends less width so_far lanes told =
     let seen = all_values_seen (greater most values) (length-greater 16 most values so_far.lanes lanes) in
     let both = values-greater 16 most values so_far.lanes lanes in
     rw (← seen, both)
-    (last_by digits out chunk (list_all is_value most) (list_all is_value values) n place last k pairs room ends
-    less width so_far.read so_far.none told)
+    (last_by digits out chunk (list_all is_digit_value most) (list_all is_digit_value values) n place last k pairs room
+    ends less width so_far.read so_far.none told)
 
 -- ---- one pair
 

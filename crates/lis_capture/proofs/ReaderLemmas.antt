@@ -13,7 +13,8 @@ use Rattle.lis_capture.specs.declared.reader.Found.{Found}
 use Rattle.lis_capture.specs.declared.reader.Found.TheVariants as found
 use Rattle.lis_capture.specs.Line.{line_of, version_after}
 use Rattle.lis_capture.specs.Capture.{Lines, begun, capture, number_of, version_of, with_said}
-use Rattle.lis_capture.specs.Reader.{HasRead, Known, Reading, capped, found_holding, found_lines, found_of, holding}
+use Rattle.lis_text.specs.Capped.{capped}
+use Rattle.lis_capture.specs.Reader.{HasRead, Known, Reading, found_holding, found_lines, found_of, holding}
 use Rattle.lis_capture.specs.Reader.{is_long, known_of, known_with}
 use Rattle.lis_capture.proofs.CaptureLemmas.{begun-ended, begun-within, capture-ended, capture-long, capture-within}
 use Rattle.lis_capture.proofs.CaptureLemmas.{has_end, has_end-before}

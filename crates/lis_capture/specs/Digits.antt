@@ -13,8 +13,8 @@ abbrev pub told_digit : ℕ → Option ℕ
 told_digit value = if nat_lt value 16 then Some value else None
 
 -- whether it tells a value
-abbrev pub is_value : ℕ → Bool
-is_value value = nat_lt value 16
+abbrev pub is_digit_value : ℕ → Bool
+is_digit_value value = nat_lt value 16
 
 -- a digit in lower case: those of numbers have that bit too
 abbrev pub lower_case : ℕ → ℕ

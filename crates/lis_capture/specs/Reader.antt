@@ -1,6 +1,7 @@
 -- What a reader of captures keeps.
-use Rattle.std.specs.Prelude.{◌≡◌, ℕ, ◌+◌, min, nat_lt, Bool, true, false, List, [], ◌∷◌, ◌++◌, length, Option, None}
+use Rattle.std.specs.Prelude.{◌≡◌, ℕ, ◌+◌, nat_lt, Bool, true, false, List, [], ◌∷◌, ◌++◌, length, Option, None}
 use Rattle.std.specs.Prelude.{Some, if◌then◌else◌}
+use Rattle.lis_text.specs.Capped.{capped}
 use Rattle.lis_capture.specs.declared.line.CaptureVersion.{CaptureVersion}
 use Rattle.lis_capture.specs.declared.line.Line.{Line}
 use Rattle.lis_capture.specs.declared.line.Line.TheVariants.{Empty}
@@ -22,20 +23,16 @@ pub record Reading : Type 0 where
   pub known : Known
   pub held : List ℕ
 
--- a number stays at its greatest value
-abbrev pub capped : ℕ → ℕ
-capped n = min n 18446744073709551615
-
-abbrev pub last_of : List Line → Line
-last_of [] = Empty
-last_of (line ∷ lines) = line
+abbrev pub last_line : List Line → Line
+last_line [] = Empty
+last_line (line ∷ lines) = line
 
 abbrev pub known_of : Lines → Known
 known_of read = record {
   version = version_of read.lines;
   refused = read.refused;
   number = capped (number_of read);
-  line = last_of read.lines;
+  line = last_line read.lines;
 }
 
 -- the reader has read these bytes, newest first

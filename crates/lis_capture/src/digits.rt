@@ -6,7 +6,7 @@ ghost use Rattle.std.specs.List.{list_all};
 ghost use Rattle.std.specs.Simd.Lanes.{Each1};
 ghost use Rattle.hex.specs.Hex.{encode_lower, hex_digit_value, is_hex_digit, lower_digits};
 ghost use Rattle.std.specs.Option.{option_map};
-ghost use Rattle.lis_capture.specs.Digits.{bytes_of, is_none_far, is_value, lower_case, told_digit};
+ghost use Rattle.lis_capture.specs.Digits.{bytes_of, is_none_far, is_digit_value, lower_case, told_digit};
 
 use std::simd::prelude::*;
 
@@ -107,7 +107,7 @@ fn decode_sixteen(digits: &[u8], bytes: &mut [u8]) -> u8x16
     requires many { 32 ≤ length digits.now }
     requires room { length bytes.old ≡ 16 }
     ensures lanes { length result ≡ 16 }
-    ensures bytes { bytes_of (take 32 digits.now) ≡ (if list_all is_value result then Some bytes.new else None) }
+    ensures bytes { bytes_of (take 32 digits.now) ≡ (if list_all is_digit_value result then Some bytes.new else None) }
 {
     let front = u8x16::from_slice(digits);
     let (_, behind) = digits.split_at(16);

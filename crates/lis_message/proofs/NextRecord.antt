@@ -24,7 +24,7 @@ use Rattle.lis_tree.specs.declared.standing.Standing.{Standing}
 use Rattle.lis_tree.specs.declared.standing.Standing.TheVariants as standings
 use Rattle.lis_tree.specs.inside.Begun.{Begun, level_of}
 use Rattle.lis_tree.specs.Level.{Level, closed, misplaced, next_level}
-use Rattle.lis_tree.specs.Places.{capped}
+use Rattle.lis_text.specs.Capped.{capped}
 use Rattle.lis_tree.specs.inside.Standing.{standing_level}
 use Rattle.std.proofs.lemmas.List.{nil_from_length}
 

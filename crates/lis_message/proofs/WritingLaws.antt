@@ -16,7 +16,7 @@ use Rattle.lis_field.specs.Shape.{RecordContent}
 use Rattle.lis_record.specs.Spelling.{spelled, written}
 use Rattle.lis_record.specs.Writing.{Wrote, is_io}
 use Rattle.lis_message.specs.declared.fault.MessageWriteFault.{MessageWriteFault}
-use Rattle.lis_tree.specs.Places.{capped}
+use Rattle.lis_text.specs.Capped.{capped}
 use Rattle.lis_message.specs.Writing.{records_bytes, AreWritable, CanResume, refusal_from, first_bytes, first_length}
 use Rattle.lis_message.specs.Writing.{front_of, StoppedIn, WroteRecords}
 

@@ -14,7 +14,7 @@ use Rattle.lis_tree.specs.declared.fault.Reason.{Reason}
 use Rattle.lis_tree.specs.declared.fault.Reason.TheVariants as reasons
 use Rattle.lis_tree.specs.inside.Begun.{Begun, level_of}
 use Rattle.lis_tree.specs.Level.{outside, closed, kinds_of, level_after, misplaced, StandsFrom}
-use Rattle.lis_tree.specs.Places.{capped}
+use Rattle.lis_text.specs.Capped.{capped}
 use Rattle.lis_tree.specs.Tree.{MessageTree, IsTree, flatten}
 use Rattle.lis_record.specs.Text.{record_limit}
 

@@ -11,7 +11,7 @@ use Rattle.lis_field.specs.Shape.{RecordContent}
 use Rattle.lis_record.specs.Spelling.{written}
 use Rattle.lis_record.specs.Writing.{is_io}
 use Rattle.lis_message.specs.declared.fault.MessageWriteFault.{MessageWriteFault}
-use Rattle.lis_tree.specs.Places.{capped}
+use Rattle.lis_text.specs.Capped.{capped}
 use Rattle.lis_tree.specs.Tree.{MessageTree, flatten}
 
 -- the records' spellings in order, CR after each

@@ -37,7 +37,7 @@ pub option_map-some : {X Y : Type 0} (f : X → Y) (o : Option X) (y : Y) → op
 option_map-some f None y h = cc
 option_map-some f (Some x) y h = (x, refl, cc)
 
-Lacks-letter : (d : DelimiterBytes) (mark : ℕ) → is_punctuation mark ≡ true → (letter : ℕ) (symbol : Sym)
+pub Lacks-letter : (d : DelimiterBytes) (mark : ℕ) → is_punctuation mark ≡ true → (letter : ℕ) (symbol : Sym)
     → letter_symbol d letter ≡ Some symbol → letter ≢ mark
 Lacks-letter d mark punctuation letter symbol h e =
     some_none symbol (letter_symbol d letter) h

@@ -133,6 +133,19 @@ passed_more mark text rest passed byte behind part others p is first joined next
       next = next;
     }
 
+-- fewer bytes are left
+pub passed_within : (mark : ℕ) (text rest : List ℕ) (passed : ℕ) → Passed mark text rest passed → 0 < passed
+    → length rest ≤ length text
+passed_within mark text rest passed p some = by p.parts p.count p.joined
+  where
+    by : (parts : List (List ℕ)) → length parts ≡ passed → mark ∷ text ≡ flat_map (λ part. mark ∷ part) parts ++ rest
+        → length rest ≤ length text
+    by [] e joined = absurd (omega (arith, e, some))
+    by (part ∷ parts) e joined =
+        let more = flat_map (λ (l : List ℕ). mark ∷ l) parts in
+        let whole : text ≡ (part ++ more) ++ rest = cc in
+        omega (arith, ap length whole, length-append (part ++ more) rest)
+
 -- the bytes that were passed over
 taken_text : (mark : ℕ) (text rest front : List ℕ) → mark ∷ text ≡ front ++ rest → 0 ≢ length front
     → mark ∷ take (length text - length rest) text ≡ front
@@ -146,11 +159,15 @@ taken_text mark text rest (byte ∷ front) whole some =
 -- so many parts, and those behind them
 pub taken_parts :
     (mark byte count : ℕ) (all text rest taken : List ℕ) → all ≡ byte ∷ text → Passed mark text rest count → 0 < count
-    → taken ≡ take (length text - length rest) text
+    → taken ≡ take (length text - length rest + 1) all
     → (count ≤ length (parts_behind mark all))
-    × (mark ∷ taken ≡ flat_map (λ part. mark ∷ part) (take count (parts_behind mark all)))
+    × (mark ∷ drop 1 taken ≡ flat_map (λ part. mark ∷ part) (take count (parts_behind mark all)))
     × (parts_behind mark rest ≡ drop count (parts_behind mark all))
-taken_parts mark byte count all text rest taken whole p some is =
+taken_parts mark byte count all text rest taken whole p some cut =
+    let more : length text - length rest + 1 ≡ suc (length text - length rest) = omega arith in
+    let is : drop 1 taken ≡ take (length text - length rest) text =
+    ap (drop 1) cut ∙ ap (λ (n : ℕ). drop 1 (take n all)) more
+    ∙ ap (λ (l : List ℕ). drop 1 (take (suc (length text - length rest)) l)) whole in
     let f = λ (part : List ℕ). mark ∷ part in
     let others = parts_behind mark rest in
     let parts : parts_behind mark all ≡ p.parts ++ others = ap (parts_behind mark) whole ∙ p.behind in
@@ -189,16 +206,3 @@ fields_added d good all taken count whole =
     apart : (text : List ℕ) → All (Lacks d.field) (parts_behind d.field text)
     apart [] = All-nil (Lacks d.field)
     apart (byte ∷ bytes) = parts_of-apart d.field bytes
-
--- fewer bytes are left
-pub passed_within : (mark : ℕ) (text rest : List ℕ) (passed : ℕ) → Passed mark text rest passed → 0 < passed
-    → length rest ≤ length text
-passed_within mark text rest passed p some = by p.parts p.count p.joined
-  where
-    by : (parts : List (List ℕ)) → length parts ≡ passed → mark ∷ text ≡ flat_map (λ part. mark ∷ part) parts ++ rest
-        → length rest ≤ length text
-    by [] e joined = absurd (omega (arith, e, some))
-    by (part ∷ parts) e joined =
-        let more = flat_map (λ (l : List ℕ). mark ∷ l) parts in
-        let whole : text ≡ (part ++ more) ++ rest = cc in
-        omega (arith, ap length whole, length-append (part ++ more) rest)

@@ -9,6 +9,7 @@ use Rattle.std.proofs.lemmas.Simd.{zip2_splat, zip2_splat_left, mask_l-mod}
 use Rattle.std.proofs.Math.Nat.{pow-succ'}
 use Rattle.std.proofs.lemmas.List.{length-map}
 use Rattle.std.proofs.lemmas.List.Sums.{sum_by-take-drop}
+use Rattle.std.proofs.lemmas.Bool.{eqb-true}
 use Rattle.std.proofs.lemmas.Bool.Decides.{nat_tests}
 use Rattle.lis_field.specs.Delimiters.{DelimiterBytes}
 use Rattle.lis_record.specs.Text.{is_text_byte}
@@ -55,21 +56,21 @@ tops : (f : ℕ → Bool) (xs : List ℕ) → map (top 7) (lanes f xs) ≡ map f
 tops f [] = refl
 tops f (x ∷ xs) = rw (top_lane (f x), tops f xs) refl
 
-bits : (f : ℕ → Bool) (xs ls : List ℕ) → length xs ≡ 16 → ls ≡ lanes f xs
+bits : (f : ℕ → Bool) (xs ls : List ℕ) → length xs ≤ 64 → ls ≡ lanes f xs
     → mask_l (map (top 7) ls) % 2 ^ 64 ≡ mask_l (map f xs)
 bits f xs ls long is =
     ap (λ (l : List ℕ). mask_l (map (top 7) l) % 2 ^ 64) is ∙ ap (λ (l : List Bool). mask_l l % 2 ^ 64) (tops f xs)
     ∙ mask_l-mod (map f xs) 64 (omega (arith, length-map xs f))
 
-module _ (xs : List ℕ) (long : length xs ≡ 16) where
-  eq : (n : ℕ) → zip2 {C = ℕ} (λ a b. cond (eqb a b) 255 0) xs (replicate 16 n) ≡ lanes (λ b. eqb b n) xs
-  eq n = zip2_splat {Z = ℕ} (λ a b. cond (eqb a b) 255 0) xs 16 n long
+module _ (count : ℕ) (xs : List ℕ) (long : length xs ≡ count) where
+  eq : (n : ℕ) → zip2 {C = ℕ} (λ a b. cond (eqb a b) 255 0) xs (replicate count n) ≡ lanes (λ b. eqb b n) xs
+  eq n = zip2_splat {Z = ℕ} (λ a b. cond (eqb a b) 255 0) xs count n long
 
-  le : (n : ℕ) → zip2 {C = ℕ} (λ a b. cond (leb a b) 255 0) xs (replicate 16 n) ≡ lanes (λ b. leb b n) xs
-  le n = zip2_splat {Z = ℕ} (λ a b. cond (leb a b) 255 0) xs 16 n long
+  le : (n : ℕ) → zip2 {C = ℕ} (λ a b. cond (leb a b) 255 0) xs (replicate count n) ≡ lanes (λ b. leb b n) xs
+  le n = zip2_splat {Z = ℕ} (λ a b. cond (leb a b) 255 0) xs count n long
 
-  ge : (n : ℕ) → zip2 {C = ℕ} (λ a b. cond (leb a b) 255 0) (replicate 16 n) xs ≡ lanes (λ b. leb n b) xs
-  ge n = zip2_splat_left {Z = ℕ} (λ a b. cond (leb a b) 255 0) n 16 xs long
+  ge : (n : ℕ) → zip2 {C = ℕ} (λ a b. cond (leb a b) 255 0) (replicate count n) xs ≡ lanes (λ b. leb n b) xs
+  ge n = zip2_splat_left {Z = ℕ} (λ a b. cond (leb a b) 255 0) n count xs long
 
 -- ---- the bytes that a record may hold
 
@@ -122,24 +123,65 @@ none_unusual (b ∷ xs) none = by (unusual b) refl none (none_unusual xs)
     by true t none later = absurd (omega arith)
     by false t none later = rw (usual b t) (omega (arith, later (omega arith)))
 
-module _ (xs : List ℕ) (long : length xs ≡ 16) where
-  low : zip2 bit_or (zip2 {C = ℕ} (λ a b. cond (leb a b) 255 0) xs (replicate 16 31))
-      (zip2 {C = ℕ} (λ a b. cond (eqb a b) 255 0) xs (replicate 16 127))
+-- where each unusual byte is a CR, no record may hold just these
+bad_return : (b : ℕ) → eqb b 13 ≡ true → is_text_byte b ≡ false
+unfolding is_text_byte
+bad_return b t = rw (eqb-true b 13 t) refl
+
+only_returns : (xs : List ℕ) → mask_l (map unusual xs) ≡ mask_l (map (λ b. eqb b 13) xs)
+    → mask_l (map (λ b. eqb b 13) xs) ≡ mask_l (map (λ b. not (is_text_byte b)) xs)
+only_returns [] same = refl
+only_returns (b ∷ xs) same = by (unusual b) (eqb b 13) refl refl same (only_returns xs)
+  where
+    by :
+        (s t : Bool) → unusual b ≡ s → eqb b 13 ≡ t →
+        cond s 1 0 + 2 * mask_l (map unusual xs) ≡ cond t 1 0 + 2 * mask_l (map (λ b. eqb b 13) xs) →
+        (mask_l (map unusual xs) ≡ mask_l (map (λ b. eqb b 13) xs)
+        → mask_l (map (λ b. eqb b 13) xs) ≡ mask_l (map (λ b. not (is_text_byte b)) xs))
+        → cond t 1 0 + 2 * mask_l (map (λ b. eqb b 13) xs) ≡ mask_l (map (λ b. not (is_text_byte b)) (b ∷ xs))
+    by true true s t same later = rw (bad_return b t) (omega (arith, later (omega arith)))
+    by false false s t same later = rw (usual b s) (omega (arith, later (omega arith)))
+    by true false s t same later = absurd (omega arith)
+    by false true s t same later = absurd (omega arith)
+
+module _ (count : ℕ) (few : count ≤ 64) (xs : List ℕ) (long : length xs ≡ count) where
+  short : length xs ≤ 64
+  short = omega (arith, few, long)
+
+  low : zip2 bit_or (zip2 {C = ℕ} (λ a b. cond (leb a b) 255 0) xs (replicate count 31))
+      (zip2 {C = ℕ} (λ a b. cond (eqb a b) 255 0) xs (replicate count 127))
       ≡ lanes (λ b. leb b 31 || eqb b 127) xs
-  low = or_lanes (λ b. leb b 31) (λ b. eqb b 127) xs _ _ (le xs long 31) (eq xs long 127)
+  low = or_lanes (λ b. leb b 31) (λ b. eqb b 127) xs _ _ (le count xs long 31) (eq count xs long 127)
 
   pub unusual-none :
       mask_l (map (top 7)
       (zip2 bit_or
-      (zip2 bit_or (zip2 {C = ℕ} (λ a b. cond (leb a b) 255 0) xs (replicate 16 31))
-      (zip2 {C = ℕ} (λ a b. cond (eqb a b) 255 0) xs (replicate 16 127)))
-      (zip2 {C = ℕ} (λ a b. cond (leb a b) 255 0) (replicate 16 255) xs))) % 2 ^ 64 ≡ 0
+      (zip2 bit_or (zip2 {C = ℕ} (λ a b. cond (leb a b) 255 0) xs (replicate count 31))
+      (zip2 {C = ℕ} (λ a b. cond (eqb a b) 255 0) xs (replicate count 127)))
+      (zip2 {C = ℕ} (λ a b. cond (leb a b) 255 0) (replicate count 255) xs))) % 2 ^ 64 ≡ 0
       → 0 ≡ mask_l (map (λ b. not (is_text_byte b)) xs)
   unusual-none none =
       none_unusual xs
-      (sym (bits unusual xs _ long (or_lanes (λ b. leb b 31 || eqb b 127) (λ b. leb 255 b) xs _ _ low
-      (ge xs long 255))) ∙ none)
+      (sym (bits unusual xs _ short (or_lanes (λ b. leb b 31 || eqb b 127) (λ b. leb 255 b) xs _ _ low
+      (ge count xs long 255))) ∙ none)
 
+  pub returns-only :
+      mask_l (map (top 7)
+      (zip2 bit_or
+      (zip2 bit_or (zip2 {C = ℕ} (λ a b. cond (leb a b) 255 0) xs (replicate count 31))
+      (zip2 {C = ℕ} (λ a b. cond (eqb a b) 255 0) xs (replicate count 127)))
+      (zip2 {C = ℕ} (λ a b. cond (leb a b) 255 0) (replicate count 255) xs))) % 2 ^ 64
+      ≡ mask_l (map (top 7) (zip2 {C = ℕ} (λ a b. cond (eqb a b) 255 0) xs (replicate count 13))) % 2 ^ 64
+      → mask_l (map (top 7) (zip2 {C = ℕ} (λ a b. cond (eqb a b) 255 0) xs (replicate count 13))) % 2 ^ 64
+      ≡ mask_l (map (λ b. not (is_text_byte b)) xs)
+  returns-only same =
+      let told = bits (λ b. eqb b 13) xs _ short (eq count xs long 13) in
+      told
+      ∙ only_returns xs
+      (sym (bits unusual xs _ short (or_lanes (λ b. leb b 31 || eqb b 127) (λ b. leb 255 b) xs _ _ low
+      (ge count xs long 255))) ∙ same ∙ told)
+
+module _ (xs : List ℕ) (long : length xs ≡ 16) where
   -- the lanes of the bytes that are allowed
   abbrev allowed_lanes : List ℕ
   allowed_lanes =
@@ -157,10 +199,10 @@ module _ (xs : List ℕ) (long : length xs ≡ 16) where
 
   allowed_is_lanes : allowed_lanes ≡ lanes allowed xs
   allowed_is_lanes =
-      let bells = or_lanes (λ b. eqb b 7) (λ b. eqb b 9) xs _ _ (eq xs long 7) (eq xs long 9) in
-      let feeds = or_lanes (λ b. eqb b 11) (λ b. eqb b 12) xs _ _ (eq xs long 11) (eq xs long 12) in
-      let ascii = and_lanes (λ b. leb 32 b) (λ b. leb b 126) xs _ _ (ge xs long 32) (le xs long 126) in
-      let high = and_lanes (λ b. leb 128 b) (λ b. leb b 254) xs _ _ (ge xs long 128) (le xs long 254) in
+      let bells = or_lanes (λ b. eqb b 7) (λ b. eqb b 9) xs _ _ (eq 16 xs long 7) (eq 16 xs long 9) in
+      let feeds = or_lanes (λ b. eqb b 11) (λ b. eqb b 12) xs _ _ (eq 16 xs long 11) (eq 16 xs long 12) in
+      let ascii = and_lanes (λ b. leb 32 b) (λ b. leb b 126) xs _ _ (ge 16 xs long 32) (le 16 xs long 126) in
+      let high = and_lanes (λ b. leb 128 b) (λ b. leb b 254) xs _ _ (ge 16 xs long 128) (le 16 xs long 254) in
       let controls = or_lanes (λ b. eqb b 7 || eqb b 9) (λ b. eqb b 11 || eqb b 12) xs _ _ bells feeds in
       or_lanes (λ b. ((eqb b 7 || eqb b 9) || (eqb b 11 || eqb b 12)) || (leb 32 b && leb b 126))
       (λ b. leb 128 b && leb b 254) xs _ _
@@ -171,7 +213,7 @@ module _ (xs : List ℕ) (long : length xs ≡ 16) where
   both =
       let all : 2 ^ length xs ≡ 2 ^ 16 = ap (λ (n : ℕ). 2 ^ n) long in
       ap (λ (n : ℕ). n + mask_l (map (λ b. not (is_text_byte b)) xs) + 1)
-      (bits allowed xs allowed_lanes long allowed_is_lanes)
+      (bits allowed xs allowed_lanes (omega (arith, long)) allowed_is_lanes)
       ∙ mask_l-not allowed is_text_byte allowed_is xs ∙ all
 
   pub allowed-within : mask_l (map (top 7) allowed_lanes) % 2 ^ 64 ≤ 65535
@@ -191,11 +233,11 @@ module _ (xs : List ℕ) (long : length xs ≡ 16) where
       (zip2 {C = ℕ} (λ a b. cond (eqb a b) 255 0) xs (replicate 16 d.escape))))) % 2 ^ 64
       ≡ mask_l (map (is_delimiter d) xs)
   delimiter-bits d =
-      let outer = or_lanes (λ b. eqb b d.field) (λ b. eqb b d.repeat) xs _ _ (eq xs long d.field)
-      (eq xs long d.repeat) in
-      let inner = or_lanes (λ b. eqb b d.component) (λ b. eqb b d.escape) xs _ _ (eq xs long d.component)
-      (eq xs long d.escape) in
-      bits (is_delimiter d) xs _ long
+      let outer = or_lanes (λ b. eqb b d.field) (λ b. eqb b d.repeat) xs _ _ (eq 16 xs long d.field)
+      (eq 16 xs long d.repeat) in
+      let inner = or_lanes (λ b. eqb b d.component) (λ b. eqb b d.escape) xs _ _ (eq 16 xs long d.component)
+      (eq 16 xs long d.escape) in
+      bits (is_delimiter d) xs _ (omega (arith, long))
       (or_lanes (λ b. eqb b d.field || eqb b d.repeat) (λ b. eqb b d.component || eqb b d.escape) xs _ _ outer inner)
 
 -- how many pass among the first bytes, and among the others

@@ -17,7 +17,7 @@ module _ (f : ℕ → Bool) where
   halved false n = omega arith
 
   -- the bits behind so many are those of the bytes behind as many
-  mask_l-drop : (k : ℕ) (xs : List ℕ) → mask_l (map f xs) / 2 ^ k ≡ mask_l (map f (drop k xs))
+  pub mask_l-drop : (k : ℕ) (xs : List ℕ) → mask_l (map f xs) / 2 ^ k ≡ mask_l (map f (drop k xs))
   mask_l-drop zero xs = div-one (mask_l (map f xs))
   mask_l-drop (suc k) [] = zero-div (2 ^ suc k)
   mask_l-drop (suc k) (x ∷ xs) =

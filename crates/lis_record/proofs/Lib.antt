@@ -1,4 +1,5 @@
 mod DefinitionRows
+pub mod AsIs
 pub mod BadBytes
 pub mod Components
 pub mod FaultLaws
@@ -8,6 +9,7 @@ pub mod Joins
 pub mod Lanes
 pub mod LastBits
 pub mod LentTexts
+pub mod Marks
 pub mod Opening
 pub mod PaddedTexts
 pub mod Pairs

@@ -1,21 +1,20 @@
 -- A text that is spelled run by run: the bytes before an escape byte, and what that byte begins.
-use Rattle.std.proofs.Common.{◌≡◌, ℕ, ◌+◌, ◌-◌, ◌<◌, ◌==◌, List, ◌∷◌, ◌++◌, length, take, drop, Option, Some, None}
-use Rattle.std.proofs.Common.{option_map, unwrap_or, sym, ap, ◌∙◌, append_assoc, arith}
-use Rattle.std.specs.List.{position, position_or_len}
-use Rattle.std.proofs.lemmas.List.{drop-drop, take_rest}
+use Rattle.std.proofs.Common.{◌≡◌, ℕ, ◌+◌, ◌-◌, ◌==◌, List, ◌∷◌, ◌++◌, length, take, drop, Some, None}
+use Rattle.std.proofs.Common.{option_map, sym, ap, ◌∙◌, append_assoc, append-nil}
+use Rattle.std.specs.List.{position}
+use Rattle.std.proofs.lemmas.List.{drop-drop, nil_from_length, take_rest}
 use Rattle.lis_field.specs.declared.symbols.Sym.{Sym}
 use Rattle.lis_field.specs.declared.symbols.Sym.TheVariants.{Char}
 use Rattle.lis_field.specs.Delimiters.{DelimiterBytes}
 use Rattle.lis_field.specs.Shape.{Symbols}
 use Rattle.lis_record.specs.Escapes.{escape_of}
-use Rattle.lis_record.specs.Relation.{Lacks}
+use Rattle.lis_record.specs.Faults.{trailing_byte}
 use Rattle.lis_record.specs.Spelling.{spelled_component, spelled_symbol}
 use Rattle.lis_record.specs.inside.FrontReading.{digit_symbols, escape_at}
-use Rattle.lis_record.specs.inside.Respelling.{respelled}
-use Rattle.lis_record.proofs.Components.{split_at_first}
-use Rattle.lis_record.proofs.FieldTexts.{Lacks-first}
-use Rattle.lis_record.proofs.Places.{IsFound-position, escape_at-found, parts_of-first}
-use Rattle.lis_record.proofs.Respelled.{respelled-escape, respelled-lone, respelled-plain}
+use Rattle.lis_record.specs.inside.Respelling.{respelled, respelled_after}
+use Rattle.lis_record.proofs.FieldTexts.{trailing-none}
+use Rattle.lis_record.proofs.Places.{escape_at-found}
+use Rattle.lis_record.proofs.Respelled.{respelled-escape, respelled-lone}
 
 -- what follows a first byte
 behind_mark : (text back : List ℕ) (end : ℕ) → back ≡ drop end text
@@ -46,25 +45,24 @@ module _ (d : DelimiterBytes) (escape : ℕ) (is : escape ≡ d.escape) where
       rw (added, is, respelled-lone d text none)
       (append_assoc old (spelled_symbol d (Char d.escape)) (respelled d text))
 
+  -- what is spelled as it stands, before an escape byte or the end
   pub run_added :
-      (old new out text front back rest : List ℕ) (end : ℕ) → position (λ b. b == escape) text ≡ Some end
-      → front ≡ take end text → back ≡ drop end text → new ≡ old ++ front
-      → out ++ respelled d rest ≡ new ++ respelled d (d.escape ∷ take (length back - 1) (drop 1 back))
-      → out ++ respelled d rest ≡ old ++ respelled d text
-  run_added old new out text front back rest end h is_front is_back added same =
-      let place : position (λ b. b == d.escape) text ≡ Some end = rw is at h in
-      let found = IsFound-position d.escape text end place in
-      let tail = take (length back - 1) (drop 1 back) in
-      let below : position_or_len (λ b. b == d.escape) text < length text =
-      let w = found.within in omega (arith, found.is_first, w) in
-      let parted : text ≡ take end text ++ d.escape ∷ drop (end + 1) text =
-      rw found.is_first at (split_at_first d.escape text below) in
-      let whole : text ≡ front ++ d.escape ∷ tail =
-      parted ∙ ap (λ (l : List ℕ). l ++ d.escape ∷ drop (end + 1) text) (sym is_front)
-      ∙ ap (λ (l : List ℕ). front ++ d.escape ∷ l) (sym (behind_mark text back end is_back)) in
-      let free : Lacks d.escape front =
-      rw (← is_front) at (Lacks-first d.escape text (take end text) (drop end text) (parts_of-first d.escape text end
-      (sym (ap (λ (o : Option ℕ). unwrap_or o (length text)) place)))) in
-      same ∙ ap (λ (l : List ℕ). l ++ respelled d (d.escape ∷ tail)) added
-      ∙ append_assoc old front (respelled d (d.escape ∷ tail))
-      ∙ ap (λ (l : List ℕ). old ++ l) (sym (ap (respelled d) whole ∙ respelled-plain d front (d.escape ∷ tail) free))
+      (old new out rest next front behind inside : List ℕ) (byte : ℕ) → respelled d rest ≡ front ++ respelled d behind
+      → behind ≡ byte ∷ inside → trailing_byte d.escape behind ≡ None → new ≡ old ++ front
+      → out ++ respelled d next ≡ new ++ respelled d (d.escape ∷ inside)
+      → out ++ respelled d next ≡ old ++ respelled d rest
+  run_added old new out rest next front behind inside byte same stands mark added more =
+      let at : byte ≡ d.escape = trailing-none d.escape byte inside behind stands mark in
+      more ∙ ap (λ (l : List ℕ). l ++ respelled d (d.escape ∷ inside)) added
+      ∙ append_assoc old front (respelled d (d.escape ∷ inside))
+      ∙ ap (λ (b : ℕ). old ++ (front ++ respelled d (b ∷ inside))) (sym at)
+      ∙ ap (λ (l : List ℕ). old ++ (front ++ respelled d l)) (sym stands)
+      ∙ ap (λ (l : List ℕ). old ++ l) (sym same)
+
+  pub last_added : (old new rest front behind : List ℕ) → respelled d rest ≡ front ++ respelled d behind
+      → length behind ≡ 0 → new ≡ old ++ front → new ≡ old ++ respelled d rest
+  unfolding respelled_after
+  last_added old new rest front behind same none added =
+      added ∙ ap (λ (l : List ℕ). old ++ l)
+      (sym (append-nil front) ∙ ap (λ (l : List ℕ). front ++ respelled d l) (sym (nil_from_length behind none))
+      ∙ sym same)

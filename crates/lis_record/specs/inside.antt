@@ -1,5 +1,6 @@
 -- What stands for private fields, and what holds within loops: no promise is stated here.
 pub mod FrontReading
+pub mod Marks
 pub mod Pieces
 pub mod Remaining
 pub mod Respelling

@@ -13,7 +13,8 @@ use std::alloc::{AllocError, Global};
 use std::marker::Model;
 
 // The symbol of an escape of one letter.
-fn letter_symbol(delimiters: Delimiters, letter: u8) -> Option<Sym>
+#[inline(always)]
+pub(crate) fn letter_symbol(delimiters: Delimiters, letter: u8) -> Option<Sym>
     ensures { result ≡ letter_symbol delimiters letter }
 {
     match letter {

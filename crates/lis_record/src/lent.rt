@@ -19,9 +19,9 @@ use crate::cursor::Spelling;
 use crate::escapes::LentSymbols;
 use crate::faults::WriteFault;
 use crate::lent_cursor::LentCursor;
-use crate::respelling::add_respelled;
-use crate::search::place_of;
-use crate::texts::{count_parts, first_part, part_at, part_behind, split_parts};
+use crate::respelling::{add_behind, add_respelled};
+use crate::search::{front_marks, place_of};
+use crate::texts::{count_parts, first_marked, part_at, part_behind, split_parts};
 use crate::writing::send;
 use lis_field::{Delimiters, Field, Kind, Record};
 use lis_port::{Sink, write_all};
@@ -203,16 +203,21 @@ fn put_symbols<W: Sink>(sink: &mut W, delimiters: Delimiters, text: &[u8]) -> Re
 pub struct LentFields<'a> {
     delimiters: Delimiters,
     text: &'a [u8],
+    // The first places of the field delimiter, or none of them, as bits.
+    marks: u64,
 }
 
 impl<'a> Model for LentFields<'a> {
     ghost use Rattle.lis_field.specs.Shape.{Fields};
     ghost use Rattle.lis_record.specs.inside.FrontReading.{fields_of};
+    ghost use Rattle.lis_record.specs.inside.Marks.{AreMarks};
     ghost use Rattle.lis_record.specs.Lent.{Lent, lent};
 
     ghost Value = { Lent Fields };
 
     ghost view = { λ f. lent f.delimiters (fields_of f.delimiters f.text.now) };
+
+    ghost invariant = { λ f. AreMarks f.delimiters.field f.text.now f.marks };
 }
 
 impl<'a> LentFields<'a> {
@@ -226,8 +231,9 @@ impl<'a> LentFields<'a> {
         let Some((_delimiter, behind)) = self.text.split_first() else {
             return None;
         };
-        let (text, rest) = first_part(behind, self.delimiters.field());
+        let (text, rest, marks) = first_marked(behind, self.delimiters.field(), self.marks >> 1);
         self.text = rest;
+        self.marks = marks;
         Some(LentField {
             delimiters: self.delimiters,
             text,
@@ -245,12 +251,19 @@ impl<'a> LentFields<'a> {
             × (self.new ≡ lent self.old.delimiters (drop count self.old.content))) }
         ensures left { IfOk result (λ added. IsFalse added → (text.new ≡ text.old) × (self.new ≡ self.old)) }
     {
-        let Some((fields, rest)) = split_parts(self.text, self.delimiters.field(), count) else {
+        let mark = self.delimiters.field();
+        // Known marks last for the fields behind these too; where none is known, they are looked for at once.
+        let known = if self.marks == 0 {
+            front_marks(self.text, mark)
+        } else {
+            self.marks
+        };
+        let Some((fields, rest, marks)) = split_parts(self.text, mark, count, known) else {
             return Ok(false);
         };
-        text.extend_from_slice(&[self.delimiters.field()])?;
-        add_respelled(text, self.delimiters, fields)?;
+        add_behind(text, self.delimiters, fields)?;
         self.text = rest;
+        self.marks = marks;
         Ok(true)
     }
 }
@@ -361,6 +374,7 @@ impl<'a> LentRecord<'a> {
         LentFields {
             delimiters: self.delimiters,
             text: self.fields,
+            marks: 0,
         }
     }
 

@@ -1,12 +1,13 @@
 //! The spelling of what a text tells, taken from the text run by run (LIS02-A2, Delimiters).
 
-ghost use Rattle.std.specs.Prelude.{◌≡◌, ◌≤◌, ◌++◌, ◌∷◌, IfOk, OnOk, length};
+ghost use Rattle.std.specs.Prelude.{◌≡◌, ◌<◌, ◌≤◌, ◌++◌, ◌∷◌, IfOk, IsTrue, None, OnOk, drop, length, take};
+ghost use Rattle.lis_record.specs.Faults.{trailing_byte};
 ghost use Rattle.lis_record.specs.Spelling.{spelled_component, spelled_symbol};
 ghost use Rattle.lis_record.specs.inside.FrontReading.{ArePairs, digit_symbols};
 ghost use Rattle.lis_record.specs.inside.Respelling.{respelled};
 
 use crate::chunk::SymbolChunk;
-use crate::escapes::{escape_meaning, first_pair};
+use crate::escapes::{escape_meaning, first_pair, letter_symbol};
 use crate::search::place_of;
 use lis_field::{Delimiters, Sym};
 use std::alloc::AllocError;
@@ -27,20 +28,81 @@ pub(crate) fn add_respelled(
     Ok(())
 }
 
-// The same, of a text with an escape byte: the bytes before each go out as they stand.
+// Adds a field delimiter and the spelling of what stands behind a text's first byte.
+#[inline(always)]
+pub(crate) fn add_behind(
+    out: &mut Vec<u8>,
+    delimiters: Delimiters,
+    text: &[u8],
+) -> Result<(), AllocError>
+    requires { 0 < length text.now }
+    ensures { OnOk result (out.new.items ≡ out.old.items ++ delimiters.field ∷ respelled delimiters (drop 1 text.now)) }
+{
+    let mark = delimiters.field();
+    let Some((byte, behind)) = text.split_first() else {
+        unreachable!()
+    };
+    if *byte == mark {
+        // As in each record that was read: so both are added at once.
+        return add_respelled(out, delimiters, text);
+    }
+    out.extend_from_slice(&[mark])?;
+    add_runs(out, delimiters, behind)
+}
+
+// The same, of a text with an escape byte: what is spelled as it stands goes out at once.
 #[inline(never)]
 fn add_runs(out: &mut Vec<u8>, delimiters: Delimiters, text: &[u8]) -> Result<(), AllocError>
     ensures { OnOk result (out.new.items ≡ out.old.items ++ respelled delimiters text.now) }
 {
-    let escape = delimiters.escape();
     let mut rest = text;
-    while let Some(place) = place_of(rest, escape) {
-        let (front, behind) = rest.split_at(place);
+    loop {
+        let (front, behind) = rest.split_at(front_as_is(delimiters, rest));
         out.extend_from_slice(front)?;
-        rest = add_escape(out, delimiters, &behind[1..])?;
+        let Some((_escape, inside)) = behind.split_first() else {
+            return Ok(());
+        };
+        rest = add_escape(out, delimiters, inside)?;
     }
-    out.extend_from_slice(rest)?;
-    Ok(())
+}
+
+// How many bytes of a text are spelled as they stand, up to its end or to an escape byte: those of escapes of one
+// letter are.
+#[inline(always)]
+fn front_as_is(delimiters: Delimiters, text: &[u8]) -> usize
+    ensures same { respelled delimiters text.now
+        ≡ take result text.now ++ respelled delimiters (drop result text.now) }
+    ensures next { trailing_byte delimiters.escape (drop result text.now) ≡ None }
+    ensures bound { result ≤ length text.now }
+{
+    let mut passed = 0;
+    let mut rest = text;
+    while let Some(place) = place_of(rest, delimiters.escape()) {
+        let (_front, behind) = rest.split_at(place);
+        let Some((_escape, inside)) = behind.split_first() else {
+            unreachable!()
+        };
+        if !begins_letter(delimiters, inside) {
+            return passed + place;
+        }
+        let (_letter, others) = inside.split_at(2);
+        passed += place + 3;
+        rest = others;
+    }
+    text.len()
+}
+
+// Whether a text that follows an escape byte begins with the letter of an escape, and the byte that ends it.
+#[inline(always)]
+fn begins_letter(delimiters: Delimiters, text: &[u8]) -> bool
+    ensures { IsTrue result → (2 ≤ length text.now) × (respelled delimiters (delimiters.escape ∷ text.now)
+        ≡ delimiters.escape ∷ take 2 text.now ++ respelled delimiters (drop 2 text.now)) }
+{
+    let _ = delimiters.field();
+    let [letter, end, ..] = text else {
+        return false;
+    };
+    *end == delimiters.escape() && letter_symbol(delimiters, *letter).is_some()
 }
 
 // Adds what an escape byte in front of a text begins, and answers the text behind it.
@@ -54,6 +116,7 @@ fn add_escape<'a>(
         ≡ out.old.items ++ respelled delimiters (delimiters.escape ∷ text.now)) }
     ensures shorter { IfOk result (λ rest. length rest.now ≤ length text.now) }
 {
+    let _ = delimiters.field();
     let escape = delimiters.escape();
     if let Some(end) = place_of(text, escape) {
         let (inside, behind) = text.split_at(end);
@@ -63,7 +126,7 @@ fn add_escape<'a>(
             return Ok(&behind[1..]);
         }
     }
-    add_symbol(out, delimiters, Sym::Char(escape))?;
+    out.extend_from_slice(&[escape, b'E', escape])?;
     Ok(text)
 }
 

@@ -6,6 +6,7 @@ ghost use Rattle.std.specs.List.{position_from};
 ghost use Rattle.std.specs.Simd.Lanes.{mask_l};
 ghost use Rattle.lis_field.specs.Shape.{plain_field};
 ghost use Rattle.lis_record.specs.inside.FrontReading.{is_delimiter, parts_behind, parts_of, repeats_of};
+ghost use Rattle.lis_record.specs.inside.Marks.{AreMarks};
 ghost use Rattle.lis_record.specs.Text.{IsText, bad_byte_place, is_text_byte};
 
 use lis_field::Delimiters;
@@ -49,6 +50,51 @@ impl ByteSet for BadBytes {
     }
 }
 
+/// The places among thirty-two bytes that hold one that no record may hold, as bits, where these are CRs and all others
+/// are from 32 to 126 or 128 to 254, as most are; none where that isn't so.
+#[inline(always)]
+fn return_bits(bytes: &[u8]) -> Option<u64>
+    requires { 32 ≤ length bytes.now }
+    ensures { IfSome result (λ bits. bits ≡ mask_l (map (λ b. not (is_text_byte b)) (take 32 bytes.now))) }
+{
+    let lanes = u8x32::from_slice(bytes);
+    let low = lanes.simd_le(u8x32::splat(31)) | lanes.simd_eq(u8x32::splat(127));
+    let unusual = (low | lanes.simd_ge(u8x32::splat(255))).to_bitmask();
+    if unusual == 0 {
+        return Some(0);
+    }
+    let returns = lanes.simd_eq(u8x32::splat(13)).to_bitmask();
+    if unusual == returns {
+        Some(returns)
+    } else {
+        None
+    }
+}
+
+/// The place of the first byte that no record may hold, thirty-two bytes at a time as long as these are CRs alone.
+#[inline(always)]
+fn first_bad(bytes: &[u8]) -> Option<usize>
+    ensures { result ≡ position_from (λ b. not (is_text_byte b)) 0 bytes.now }
+{
+    let mut rest = bytes;
+    let mut place = 0;
+    while rest.len() >= 32 {
+        let Some(bits) = return_bits(rest) else {
+            return first_in::<BadBytes>(bytes);
+        };
+        if bits != 0 {
+            return Some(place + bits.trailing_zeros() as usize);
+        }
+        let (_, behind) = rest.split_at(32);
+        rest = behind;
+        place += 32;
+    }
+    match first_in::<BadBytes>(rest) {
+        None => None,
+        Some(found) => Some(place + found),
+    }
+}
+
 /// The place of the first byte that no record may hold, from 0. A CR is such a byte, so that one search finds the end
 /// of a record and tests its text.
 #[inline(always)]
@@ -59,7 +105,7 @@ pub fn first_bad_byte(bytes: &[u8]) -> Option<usize>
     ensures texts { IfSome result (λ place. IsText (take place bytes.now)) }
     ensures text { IfNone result (IsText bytes.now) }
 {
-    first_in::<BadBytes>(bytes)
+    first_bad(bytes)
 }
 
 /// The places among sixteen bytes that hold this one, as bits.
@@ -83,6 +129,47 @@ fn last_bits(text: &[u8], count: usize, mark: u8) -> u64
 {
     let (_, last) = text.split_at(text.len() - 16);
     bits_of(last, mark) >> (16 - count)
+}
+
+/// The places among thirty-two bytes that hold this one, as bits.
+#[inline(always)]
+fn bits_of_32(bytes: &[u8], mark: u8) -> u64
+    requires { 32 ≤ length bytes.now }
+    ensures { result ≡ mask_l (map (λ b. b == mark) (take 32 bytes.now)) }
+{
+    u8x32::from_slice(bytes)
+        .simd_eq(u8x32::splat(mark))
+        .to_bitmask()
+}
+
+/// The places among the first bytes of a text, at most 64, that hold this one, as bits: two windows are tested that
+/// may overlap, so that no loop turns on the length. Of fewer than sixteen bytes none is tested.
+#[inline(always)]
+pub(crate) fn front_marks(text: &[u8], mark: u8) -> u64
+    ensures { AreMarks mark text.now result }
+{
+    if text.len() < 32 {
+        return short_marks(text, mark);
+    }
+    let count = (text.len() - 32).min(32);
+    let (_, window) = text.split_at(count);
+    let behind = bits_of_32(window, mark) >> (32 - count);
+    bits_of_32(text, mark) + 4_294_967_296 * behind
+}
+
+/// The same, of fewer than thirty-two bytes.
+#[inline(always)]
+fn short_marks(text: &[u8], mark: u8) -> u64
+    requires { length text.now < 32 }
+    ensures { AreMarks mark text.now result }
+{
+    if text.len() < 16 {
+        return 0;
+    }
+    let count = text.len() - 16;
+    let (_, window) = text.split_at(count);
+    let behind = bits_of(window, mark) >> (16 - count);
+    bits_of(text, mark) + 65_536 * behind
 }
 
 /// The place of the first byte that is this one.

@@ -1,10 +1,11 @@
 //! The parts of a text round a delimiter (LIS02-A2, Delimiters).
 
-ghost use Rattle.std.specs.Prelude.{◌≡◌, ◌<◌, ◌≤◌, ◌∷◌, ◌++◌, MatchOption, None, drop, length, slice_get, take};
+ghost use Rattle.std.specs.Prelude.{◌≡◌, ◌<◌, ◌≤◌, ◌∷◌, ◌++◌, IfSome, MatchOption, None, drop, length, slice_get, take};
 ghost use Rattle.std.specs.List.{flat_map};
 ghost use Rattle.std.specs.Option.{option_copied};
 ghost use Rattle.lis_record.specs.Faults.{trailing_byte};
 ghost use Rattle.lis_record.specs.inside.FrontReading.{parts_behind, parts_of};
+ghost use Rattle.lis_record.specs.inside.Marks.{AreMarks};
 
 use crate::search::{count_of, place_of};
 
@@ -21,6 +22,25 @@ pub(crate) fn first_part(text: &[u8], delimiter: u8) -> (&[u8], &[u8])
 {
     let end = place_of(text, delimiter).unwrap_or(text.len());
     text.split_at(end)
+}
+
+// The same, where bits tell of the first places of the delimiter, or of none; and those bits of the rest.
+#[inline(always)]
+pub(crate) fn first_marked(text: &[u8], delimiter: u8, marks: u64) -> (&[u8], &[u8], u64)
+    requires { AreMarks delimiter text.now marks }
+    ensures parts { parts_of delimiter text.now ≡ result.0.now ∷ parts_behind delimiter result.1.now }
+    ensures shorter { length result.1.now ≤ length text.now }
+    ensures joined { text.now ≡ result.0.now ++ result.1.now }
+    ensures mark { trailing_byte delimiter result.1.now ≡ None }
+    ensures marks { AreMarks delimiter result.1.now result.2 }
+{
+    if marks == 0 {
+        let (first, rest) = first_part(text, delimiter);
+        return (first, rest, 0);
+    }
+    let end = marks.trailing_zeros() as usize;
+    let (first, rest) = text.split_at(end);
+    (first, rest, marks >> end)
 }
 
 // The part at a place among those round a delimiter.
@@ -53,32 +73,42 @@ pub(crate) fn part_behind(text: &[u8], delimiter: u8, place: usize) -> Option<&[
     }
 }
 
-// So many parts behind a first delimiter, with the delimiters between them, and what follows; none where there are
-// fewer. At least one is asked for.
+// A first byte, so many parts behind it with the delimiters between them, and what follows; none where there are fewer.
+// At least one is asked for. Bits tell of the first places of the delimiter, or of none, and then of those of what
+// follows.
 #[inline(always)]
-pub(crate) fn split_parts(text: &[u8], delimiter: u8, count: usize) -> Option<(&[u8], &[u8])>
-    requires { 0 < count }
-    ensures { MatchOption result (length (parts_behind delimiter text.now) < count) (λ split.
+pub(crate) fn split_parts(
+    text: &[u8],
+    delimiter: u8,
+    count: usize,
+    marks: u64,
+) -> Option<(&[u8], &[u8], u64)>
+    requires some { 0 < count }
+    requires marks { AreMarks delimiter text.now marks }
+    ensures split { MatchOption result (length (parts_behind delimiter text.now) < count) (λ split.
         (count ≤ length (parts_behind delimiter text.now))
-        × (delimiter ∷ split.0.now ≡ flat_map (λ part. delimiter ∷ part)
+        × (delimiter ∷ drop 1 split.0.now ≡ flat_map (λ part. delimiter ∷ part)
         (take count (parts_behind delimiter text.now)))
         × (parts_behind delimiter split.1.now ≡ drop count (parts_behind delimiter text.now))) }
+    ensures first { IfSome result (λ split. 0 < length split.0.now) }
+    ensures marks { IfSome result (λ split. AreMarks delimiter split.1.now split.2) }
 {
     let Some((_delimiter, parts)) = text.split_first() else {
         return None;
     };
-    let (_first, mut rest) = first_part(parts, delimiter);
+    let (_first, mut rest, mut marks) = first_marked(parts, delimiter, marks >> 1);
     let mut left = count - 1;
     while left > 0 {
         let Some((_mark, behind)) = rest.split_first() else {
             return None;
         };
-        let (_part, others) = first_part(behind, delimiter);
+        let (_part, others, further) = first_marked(behind, delimiter, marks >> 1);
         rest = others;
+        marks = further;
         left -= 1;
     }
-    let (taken, _behind) = parts.split_at(parts.len() - rest.len());
-    Some((taken, rest))
+    let (taken, _behind) = text.split_at(parts.len() - rest.len() + 1);
+    Some((taken, rest, marks))
 }
 
 // The number of parts round a delimiter.

@@ -8,6 +8,7 @@ mod reader;
 mod spelling;
 
 use lis_capture::*;
+use std::process::Abort;
 
 /// Writes a line, where there is room.
 fn put(text: &mut Page, line: &Line) {
@@ -55,4 +56,11 @@ fn says(capture: &[u8], lines: &[u8], refused: Option<u64>) -> bool {
         }
     }
     true
+}
+
+/// Fails where one of these captures has other lines than those behind it, or another line is refused.
+fn assert_says(rt: &impl Abort, told: &[(&[u8], &[u8], Option<u64>)]) {
+    for (capture, lines, refused) in told {
+        assert!(rt; says(capture, lines, *refused));
+    }
 }

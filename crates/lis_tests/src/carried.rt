@@ -1,8 +1,10 @@
 //! A message on its whole way: its texts, the link, what is handed out, and the reader of messages.
 
-use lis_message::{Fed, message_texts, read_messages};
+use lis_message::{message_texts, read_messages};
+use lis_text::{LinkText, Texts};
 use lis_world::{Event, Events, Outcome, play};
-use std::alloc::Global;
+use std::alloc::{AllocError, Global};
+use std::process::Abort;
 use std::test::Fail;
 
 /// A message with a comment that is longer than a frame.
@@ -17,17 +19,20 @@ fn panel(alloc: Global) -> Result<Vec<u8>, Fail> {
     Ok(bytes)
 }
 
-#[test]
-fn a_message_that_is_carried_is_read_back(rt: HostRuntime) -> Result<(), Fail> {
-    let alloc = rt.alloc();
-    let sent = panel(alloc)?;
-    let Fed { messages, fault } = read_messages(alloc, sent.as_slice());
-    assert!(rt; fault.is_none());
-    let message = messages.get(0).expect(&rt, "a message");
-    let texts = message_texts(alloc, message).ok().expect(&rt, "its texts");
+/// The texts of the only message in these bytes.
+fn texts_in(rt: &impl Abort, alloc: Global, bytes: &[u8]) -> Texts {
+    let fed = read_messages(alloc, bytes);
+    let message = fed.messages.get(0).expect(rt, "a message");
+    let texts = message_texts(alloc, message).ok().expect(rt, "its texts");
+    drop(fed);
+    texts
+}
+
+/// A session with these texts. A NAK comes in place of the first frame's reply, so it is sent again; then come seven
+/// frames, and EOT.
+fn session_of(rt: &impl Abort, alloc: Global, texts: Texts) -> Events {
     let mut events = Events::new(alloc);
     assert!(rt; events.push(Event::Start(texts)).is_ok());
-    // The line is opened. A NAK comes in place of the first frame's reply, so it is sent again.
     for event in [
         Event::Deliver,
         Event::Reply,
@@ -36,23 +41,47 @@ fn a_message_that_is_carried_is_read_back(rt: HostRuntime) -> Result<(), Fail> {
     ] {
         assert!(rt; events.push(event).is_ok());
     }
-    // Seven frames, and EOT.
     for _ in 0..8 {
         assert!(rt; events.push(Event::Deliver).is_ok());
         assert!(rt; events.push(Event::Reply).is_ok());
     }
-    let history = play(alloc, events).ok().expect(&rt, "a history");
-    let session = history.get(0).expect(&rt, "a session");
+    events
+}
+
+/// What the only session of these events handed out, once it is done.
+fn handed_out(rt: &impl Abort, alloc: Global, events: Events) -> Result<Vec<u8>, AllocError> {
+    let history = play(alloc, events).ok().expect(rt, "a history");
+    let session = history.get(0).expect(rt, "a session");
     assert_eq!(rt; session.outcome(), Some(Outcome::Done));
     assert_eq!(rt; session.accepted().len(), 7);
-    let mut handed = Vec::new(alloc);
-    for text in session.handed() {
-        handed.extend_from_slice(text.as_slice())?;
+    let handed = joined(alloc, session.handed());
+    drop(history);
+    handed
+}
+
+fn joined(alloc: Global, texts: &[LinkText]) -> Result<Vec<u8>, AllocError> {
+    let mut bytes = Vec::new(alloc);
+    for text in texts {
+        bytes.extend_from_slice(text.as_slice())?;
     }
+    Ok(bytes)
+}
+
+#[test]
+fn a_message_that_is_carried_is_read_back(rt: HostRuntime) -> Result<(), Fail> {
+    let alloc = rt.alloc();
+    let sent = panel(alloc)?;
+    let events = session_of(&rt, alloc, texts_in(&rt, alloc, sent.as_slice()));
+    let handed = handed_out(&rt, alloc, events)?;
     assert_eq!(rt; handed.as_slice(), sent.as_slice());
-    let Fed { messages, fault } = read_messages(alloc, handed.as_slice());
-    assert!(rt; fault.is_none());
-    assert_eq!(rt; messages.len(), 1);
-    assert_eq!(rt; messages.get(0).map(|message| message.len()), Some(6));
+    let fed = read_messages(alloc, handed.as_slice());
+    let lengths = (
+        fed.messages.len(),
+        fed.messages.get(0).map(|message| message.len()),
+    );
+    let is_whole = fed.fault.is_none();
+    drop(fed);
+    assert!(rt; is_whole);
+    assert_eq!(rt; lengths, (1, Some(6)));
     Ok(())
 }

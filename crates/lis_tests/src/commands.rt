@@ -5,6 +5,7 @@ use lis_port::{Buffered, Cut, Faltering, Reading, Slow, Source, Then, Writing};
 use lis_tool::{Command, Report, ToolFault, command, run_show};
 use std::alloc::Global;
 use std::io::{BufWriter, ErrorKind};
+use std::process::Abort;
 use std::test::Fail;
 
 /// Number 1, last, the text of a header record and CR.
@@ -32,37 +33,37 @@ fn a_sink_that_can_not_send_on_ends_the_run(rt: HostRuntime) -> Result<(), Fail>
     let writer = BufWriter::with_capacity(rt.alloc(), 100, room.as_mut_slice())?;
     let mut source = Cut::new(b"\x05\x04", 1, Then::End);
     let mut sink = Buffered::new(writer);
-    assert_eq!(rt;
-        run_show(&mut source, &mut sink, 1000),
-        Err(ToolFault::Write { written: 4 })
-    );
-    assert_eq!(rt; source.made(), 1);
+    let ended = run_show(&mut source, &mut sink, 1000);
+    let want = Err(ToolFault::Write { written: 4 });
+    assert_eq!(rt; (ended, source.made()), (want, 1));
     Ok(())
 }
 
-#[test]
-fn a_run_tries_nothing_again(rt: HostRuntime) -> Result<(), Fail> {
+/// A run whose second read is interrupted.
+fn assert_one_read(rt: &impl Abort) {
     let reader = Faltering::new(b"\x05\x04".as_slice(), 1, ErrorKind::Interrupted);
     let mut source = Reading::new(reader);
     let mut sink = Slow::new(100, 100);
-    assert_eq!(rt;
-        run_show(&mut source, &mut sink, 1000),
-        Err(ToolFault::Read)
-    );
+    let ended = run_show(&mut source, &mut sink, 1000);
+    let calls = source.into_inner().calls();
+    assert_eq!(rt; (ended, calls), (Err(ToolFault::Read), 2));
     assert_eq!(rt; sink.took(), b"ENQ\nEOT\n".as_slice());
-    assert_eq!(rt; source.into_inner().calls(), 2);
+}
 
+/// A run whose first write is interrupted: the sink is flushed before the read, and then written to.
+fn assert_one_write(rt: &impl Abort, alloc: Global) {
     let mut source = Cut::new(b"\x05\x04", 2, Then::End);
-    // The sink is flushed before the read, and then written to.
-    let writer = Faltering::new(Vec::new(rt.alloc()), 1, ErrorKind::Interrupted);
-    let mut sink = Writing::new(writer);
-    assert_eq!(rt;
-        run_show(&mut source, &mut sink, 1000),
-        Err(ToolFault::Write { written: 0 })
-    );
-    assert_eq!(rt; source.made(), 1);
-    assert_eq!(rt; sink.into_inner().calls(), 2);
-    Ok(())
+    let mut sink = Writing::new(Faltering::new(Vec::new(alloc), 1, ErrorKind::Interrupted));
+    let ended = run_show(&mut source, &mut sink, 1000);
+    let calls = sink.into_inner().calls();
+    let want = Err(ToolFault::Write { written: 0 });
+    assert_eq!(rt; (ended, source.made(), calls), (want, 1, 2));
+}
+
+#[test]
+fn a_run_tries_nothing_again(rt: HostRuntime) {
+    assert_one_read(&rt);
+    assert_one_write(&rt, rt.alloc());
 }
 
 #[test]
@@ -80,94 +81,104 @@ fn a_sink_that_fails_has_taken_the_front_of_a_line(rt: HostRuntime) {
     }
 }
 
+/// Fails where `show` ends otherwise with so many reads of a source, or writes something else.
+fn assert_shown(
+    rt: &impl Abort,
+    bytes: &[u8],
+    then: Then,
+    reads: u32,
+    ended: Result<Report, ToolFault>,
+    took: &[u8],
+) {
+    let mut source = Cut::new(bytes, 1, then);
+    let mut sink = Slow::new(100, 100);
+    assert_eq!(rt; run_show(&mut source, &mut sink, reads), ended);
+    assert_eq!(rt; sink.took(), took);
+}
+
 #[test]
-fn reads_are_counted(rt: HostRuntime) -> Result<(), Fail> {
-    let mut source = Cut::new(b"\x05", 1, Then::End);
-    let mut sink = Slow::new(100, 100);
-    assert_eq!(rt;
-        run_show(&mut source, &mut sink, 1),
-        Err(ToolFault::TooManyReads)
-    );
-    assert_eq!(rt; sink.took(), b"ENQ\n".as_slice());
-    let mut source = Cut::new(b"\x05", 1, Then::End);
-    let mut sink = Slow::new(100, 100);
-    assert_eq!(rt;
-        run_show(&mut source, &mut sink, 2),
-        Ok(Report {
-            status: 0,
-            refused: None
-        })
-    );
-    let mut source = Cut::new(b"", 1, Then::Again(5));
-    let mut sink = Slow::new(100, 100);
-    assert_eq!(rt;
-        run_show(&mut source, &mut sink, 3),
-        Err(ToolFault::TooManyReads)
-    );
-    assert_eq!(rt; sink.took(), b"ENQ\nENQ\nENQ\n".as_slice());
+fn reads_are_counted(rt: HostRuntime) {
+    let over = Err(ToolFault::TooManyReads);
+    let whole = Ok(Report {
+        status: 0,
+        refused: None,
+    });
+    assert_shown(&rt, b"\x05", Then::End, 1, over, b"ENQ\n");
+    assert_shown(&rt, b"\x05", Then::End, 2, whole, b"ENQ\n");
+    assert_shown(&rt, b"", Then::Again(5), 3, over, b"ENQ\nENQ\nENQ\n");
+}
+
+/// The command that these words name, the first being the program's own.
+fn named(alloc: Global, words: &[&str]) -> Result<Option<Command>, Fail> {
+    let mut owned = Vec::new(alloc);
+    for word in words {
+        owned.push(String::from_str(alloc, word)?)?;
+    }
+    Ok(command(&owned))
+}
+
+/// Fails where some words name another command than these.
+fn assert_named(
+    rt: &impl Abort,
+    alloc: Global,
+    told: &[(&[&str], Option<Command>)],
+) -> Result<(), Fail> {
+    for (words, want) in told {
+        assert_eq!(rt; named(alloc, words)?, *want);
+    }
     Ok(())
 }
 
 #[test]
 fn words_name_commands(rt: HostRuntime) -> Result<(), Fail> {
-    let alloc = rt.alloc();
-    let name = || String::from_str(alloc, "lislink");
-    let show = || String::from_str(alloc, "show");
-    let long = || String::from_str(alloc, "--long");
-    let words = vec![in alloc; name()?, show()?]?;
-    assert_eq!(rt; command(&words), Some(Command::Show { long: false }));
-    let words = vec![in alloc; name()?, show()?, long()?]?;
-    assert_eq!(rt; command(&words), Some(Command::Show { long: true }));
-    let words = vec![in alloc; name()?]?;
-    assert_eq!(rt; command(&words), None);
-    let words = vec![in alloc; name()?, String::from_str(alloc, "frob")?]?;
-    assert_eq!(rt; command(&words), None);
-    let words = vec![in alloc; name()?, show()?, String::from_str(alloc, "x")?]?;
-    assert_eq!(rt; command(&words), None);
-    let upgrade = || String::from_str(alloc, "upgrade");
-    let words = vec![in alloc; name()?, upgrade()?]?;
-    assert_eq!(rt; command(&words), Some(Command::Upgrade));
-    let words = vec![in alloc; name()?, upgrade()?, long()?]?;
-    assert_eq!(rt; command(&words), None);
-    let words = vec![in alloc; name()?, String::from_str(alloc, "check")?, long()?]?;
-    assert_eq!(rt; command(&words), None);
-    let words = vec![in alloc; name()?, show()?, long()?, long()?]?;
-    assert_eq!(rt; command(&words), None);
-    Ok(())
+    let told: [(&[&str], Option<Command>); 9] = [
+        (&["lislink", "show"], Some(Command::Show { long: false })),
+        (
+            &["lislink", "show", "--long"],
+            Some(Command::Show { long: true }),
+        ),
+        (&["lislink"], None),
+        (&["lislink", "frob"], None),
+        (&["lislink", "show", "x"], None),
+        (&["lislink", "upgrade"], Some(Command::Upgrade)),
+        (&["lislink", "upgrade", "--long"], None),
+        (&["lislink", "check", "--long"], None),
+        (&["lislink", "show", "--long", "--long"], None),
+    ];
+    assert_named(&rt, rt.alloc(), &told)
 }
 
 #[test]
 fn words_name_the_commands_that_play_captures(rt: HostRuntime) -> Result<(), Fail> {
-    let alloc = rt.alloc();
-    let name = || String::from_str(alloc, "lislink");
-    let long = || String::from_str(alloc, "--long");
-    let replay = || String::from_str(alloc, "replay");
-    let texts = || String::from_str(alloc, "texts");
-    let words = vec![in alloc; name()?, replay()?]?;
-    assert_eq!(rt; command(&words), Some(Command::Replay { long: false }));
-    let words = vec![in alloc; name()?, replay()?, long()?]?;
-    assert_eq!(rt; command(&words), Some(Command::Replay { long: true }));
-    let words = vec![in alloc; name()?, texts()?]?;
-    assert_eq!(rt; command(&words), Some(Command::Texts { long: false }));
-    let words = vec![in alloc; name()?, texts()?, long()?]?;
-    assert_eq!(rt; command(&words), Some(Command::Texts { long: true }));
-    Ok(())
+    let told: [(&[&str], Option<Command>); 4] = [
+        (
+            &["lislink", "replay"],
+            Some(Command::Replay { long: false }),
+        ),
+        (
+            &["lislink", "replay", "--long"],
+            Some(Command::Replay { long: true }),
+        ),
+        (&["lislink", "texts"], Some(Command::Texts { long: false })),
+        (
+            &["lislink", "texts", "--long"],
+            Some(Command::Texts { long: true }),
+        ),
+    ];
+    assert_named(&rt, rt.alloc(), &told)
 }
 
 #[test]
 fn each_fault_has_its_line(rt: HostRuntime) -> Result<(), Fail> {
-    let alloc = rt.alloc();
-    let line = |fault: ToolFault| format!(in alloc; "{fault}");
-    assert_eq!(rt;
-        line(ToolFault::CaptureLine { line: 7 })?.as_str(),
-        "lislink: K1 line 7"
-    );
-    assert_eq!(rt; line(ToolFault::Read)?.as_str(), "lislink: K2");
-    assert_eq!(rt;
-        line(ToolFault::Write { written: 9 })?.as_str(),
-        "lislink: K3"
-    );
-    assert_eq!(rt; line(ToolFault::OutOfMemory)?.as_str(), "lislink: K4");
-    assert_eq!(rt; line(ToolFault::TooManyReads)?.as_str(), "lislink: K5");
+    for (fault, want) in [
+        (ToolFault::CaptureLine { line: 7 }, "lislink: K1 line 7"),
+        (ToolFault::Read, "lislink: K2"),
+        (ToolFault::Write { written: 9 }, "lislink: K3"),
+        (ToolFault::OutOfMemory, "lislink: K4"),
+        (ToolFault::TooManyReads, "lislink: K5"),
+    ] {
+        let line = format!(in rt.alloc(); "{fault}")?;
+        assert_eq!(rt; line.as_str(), want);
+    }
     Ok(())
 }

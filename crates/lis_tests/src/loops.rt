@@ -3,17 +3,19 @@
 ghost use Rattle.std.specs.Prelude.{None};
 
 use lis_link::{Outcome, Receiver};
+use lis_message::Message;
 use lis_port::Slow;
-use lis_text::{ACK, ENQ, EOT, LinkText, NAK, Texts};
+use lis_text::{ACK, ENQ, EOT, NAK, Texts};
 use lis_tool::ToolFault;
 use std::alloc::Global;
+use std::process::Abort;
 use std::test::Fail;
 use uses::analyzer::send_texts;
 use uses::building::{result_message, result_texts};
 use uses::capture::is_as_played;
 use uses::computer::next_text;
 use uses::line::{Event, Line};
-use uses::results::{count_results, readings};
+use uses::results::{Reading, count_results, readings};
 use uses::resuming::write_to_both;
 
 /// ENQ, the text A in one frame, and EOT.
@@ -59,21 +61,31 @@ impl Line for Scripted<'_> {
     }
 }
 
-#[test]
-fn a_text_is_sent(rt: HostRuntime) -> Result<(), Fail> {
-    let alloc = rt.alloc();
-    let mut line = Scripted::new(alloc, &[Event::Byte(ACK), Event::Byte(ACK)]);
+/// Fails where a session with the text A ends otherwise on a line on which this happens, or where it sends other bytes
+/// or starts other timers.
+fn assert_sent(
+    rt: &impl Abort,
+    alloc: Global,
+    events: &[Event],
+    outcome: Outcome,
+    told: (&[u8], &[u32]),
+) -> Result<(), Fail> {
     let texts = Texts::from_slices(alloc, &[b"A".as_slice()])?;
-    let sent = send_texts(&mut line, texts);
-    assert!(rt; sent == Ok(Some(Outcome::Done)));
-    assert_eq!(rt; line.sent.as_slice(), SESSION);
-    assert_eq!(rt; line.seconds.as_slice(), [15, 15].as_slice());
+    let mut line = Scripted::new(alloc, events);
+    assert!(rt; send_texts(&mut line, texts) == Ok(Some(outcome)));
+    assert_eq!(rt; (line.sent.as_slice(), line.seconds.as_slice()), told);
     Ok(())
 }
 
 #[test]
+fn a_text_is_sent(rt: HostRuntime) -> Result<(), Fail> {
+    let events = [Event::Byte(ACK), Event::Byte(ACK)];
+    let told = (SESSION, [15, 15].as_slice());
+    assert_sent(&rt, rt.alloc(), &events, Outcome::Done, told)
+}
+
+#[test]
 fn each_wait_has_its_timer(rt: HostRuntime) -> Result<(), Fail> {
-    let alloc = rt.alloc();
     let events = [
         Event::Byte(NAK),
         Event::Byte(b'x'),
@@ -82,55 +94,82 @@ fn each_wait_has_its_timer(rt: HostRuntime) -> Result<(), Fail> {
         Event::Timer,
         Event::Timer,
     ];
-    let mut line = Scripted::new(alloc, &events);
-    let texts = Texts::from_slices(alloc, &[b"A".as_slice()])?;
-    let sent = send_texts(&mut line, texts);
-    assert!(rt; sent == Ok(Some(Outcome::TimedOut)));
-    assert_eq!(rt; line.sent.as_slice(), [ENQ, ENQ, ENQ, EOT].as_slice());
-    assert_eq!(rt; line.seconds.as_slice(), [15, 10, 15, 1, 15].as_slice());
-    Ok(())
+    let sent = [ENQ, ENQ, ENQ, EOT];
+    let told = (sent.as_slice(), [15, 10, 15, 1, 15].as_slice());
+    assert_sent(&rt, rt.alloc(), &events, Outcome::TimedOut, told)
+}
+
+/// The bytes of a session, one event each.
+fn bytes_that_come(alloc: Global, bytes: &[u8]) -> Result<Vec<Event>, Fail> {
+    let mut events = Vec::new(alloc);
+    for byte in bytes {
+        events.push(Event::Byte(*byte))?;
+    }
+    Ok(events)
+}
+
+/// Fails where the next text isn't this one; none at the end of the session.
+fn assert_next(
+    rt: &impl Abort,
+    line: &mut Scripted<'_>,
+    receiver: &mut Receiver,
+    want: Option<&[u8]>,
+) {
+    let text = next_text(line, receiver);
+    assert_eq!(rt; text.as_ref().map(|text| text.as_slice()), want);
 }
 
 #[test]
 fn a_text_is_received(rt: HostRuntime) -> Result<(), Fail> {
-    let alloc = rt.alloc();
-    let mut events = Vec::new(alloc);
-    for byte in SESSION {
-        events.push(Event::Byte(*byte))?;
-    }
-    let mut line = Scripted::new(alloc, events.as_slice());
-    let mut receiver = Receiver::new(alloc);
-    let text = next_text(&mut line, &mut receiver).ok_or("no text")?;
-    assert!(rt; text == LinkText::from_slice(alloc, b"A")?);
-    assert!(rt; next_text(&mut line, &mut receiver).is_none());
-    assert_eq!(rt; line.sent.as_slice(), [ACK, ACK].as_slice());
-    assert_eq!(rt; line.seconds.as_slice(), [30, 30].as_slice());
+    let events = bytes_that_come(rt.alloc(), SESSION)?;
+    let mut line = Scripted::new(rt.alloc(), events.as_slice());
+    let mut receiver = Receiver::new(rt.alloc());
+    assert_next(&rt, &mut line, &mut receiver, Some(b"A"));
+    assert_next(&rt, &mut line, &mut receiver, None);
+    drop(receiver);
+    let told = ([ACK, ACK].as_slice(), [30, 30].as_slice());
+    assert_eq!(rt; (line.sent.as_slice(), line.seconds.as_slice()), told);
     Ok(())
 }
 
 /// The records of one result, of the sample S7.
 const RESULT: &[u8] = b"H|\\^&\rP|1\rO|1|S7\rR|1|^^^GLU|5.4|mmol/L\rL|1|N\r";
 
+/// Fails where a message isn't written to two sinks, the front to the one and the rest to the other.
+fn assert_written(rt: &impl Abort, message: &Message) {
+    let mut first = Slow::new(20, 7);
+    let mut second = Slow::new(100, 100);
+    assert_eq!(rt; write_to_both(&mut first, &mut second, message), Ok(()));
+    assert_eq!(rt; (first.took(), second.took()), RESULT.split_at(20));
+}
+
+/// Fails where the only reading of a message is another.
+fn assert_reading(rt: &impl Abort, found: &[Reading]) {
+    let [reading] = found else {
+        panic!(rt; "not one reading");
+    };
+    let told = [&reading.sample, &reading.value, &reading.units].map(|text| text.as_slice());
+    let want: [&[u8]; 3] = [b"S7", b"5.4", b"mmol/L"];
+    assert_eq!(rt; told, want);
+}
+
+/// How many texts there are in a message of one result.
+fn count_texts(alloc: Global) -> Result<usize, Fail> {
+    let texts = result_texts(alloc, b"S7", b"5.4")?;
+    Ok(texts.len())
+}
+
 #[test]
 fn a_message_is_built_written_and_read(rt: HostRuntime) -> Result<(), Fail> {
     let alloc = rt.alloc();
-    let texts = result_texts(alloc, b"S7", b"5.4")?;
-    assert_eq!(rt; texts.len(), 5);
+    assert_eq!(rt; count_texts(alloc)?, 5);
     let message = result_message(alloc, b"S7", b"5.4")?;
-    let mut first = Slow::new(20, 7);
-    let mut second = Slow::new(100, 100);
-    assert_eq!(rt; write_to_both(&mut first, &mut second, &message), Ok(()));
+    assert_written(&rt, &message);
+    let found = readings(alloc, &message);
+    drop(message);
+    assert_reading(&rt, found?.as_slice());
     let (front, rest) = RESULT.split_at(20);
-    assert_eq!(rt; first.took(), front);
-    assert_eq!(rt; second.took(), rest);
     assert_eq!(rt; count_results(alloc, &[front, rest]), Ok(1));
-    let found = readings(alloc, &message)?;
-    assert_eq!(rt; found.len(), 1);
-    for reading in &found {
-        assert_eq!(rt; reading.sample.as_slice(), b"S7".as_slice());
-        assert_eq!(rt; reading.value.as_slice(), b"5.4".as_slice());
-        assert_eq!(rt; reading.units.as_slice(), b"mmol/L".as_slice());
-    }
     Ok(())
 }
 

@@ -3,6 +3,8 @@
 use lis_message::{MessageFault, Reason, RecordFault};
 use lis_port::{Cut, Slow, Source, Then};
 use lis_tool::{Refused, Report, ToolFault, run_check, run_results};
+use std::alloc::Global;
+use std::process::Abort;
 use std::test::Fail;
 
 /// A message with one result.
@@ -26,25 +28,29 @@ const fn refused(message: u64, place: u64, reason: Reason) -> Result<Report, Too
     })
 }
 
+/// A message with one result, and a patient outside a message.
+const REFUSED: &[u8] =
+    b"H|\\^&\rP|1\rO|1|S7\rR|1|^^^GLU|5.4|mmol/L|3.9 to 6.1|N||F\rC|1|I|fasting\rL|1|N\rP|1\r";
+
+/// What `check` writes for these.
+const REFUSED_CHECKED: &[u8] =
+    b"message 1\n1 H 0\n2 P 1\n3 O 2\n4 R 8\n5 C 3\n6 L 2\nrefused 2 1 G2\nmessages 1 findings 0\n";
+
 #[test]
-fn a_refusal_ends_the_run_before_the_next_read(rt: HostRuntime) -> Result<(), Fail> {
-    let alloc = rt.alloc();
-    let mut bytes = PANEL.to_vec(alloc)?;
-    bytes.extend_from_slice(b"P|1\r")?;
-    let mut wanted = CHECKED.to_vec(alloc)?;
-    wanted.extend_from_slice(b"refused 2 1 G2\nmessages 1 findings 0\n")?;
-    let mut source = Cut::new(bytes.as_slice(), 4096, Then::Fail);
+fn a_refusal_ends_the_run_before_the_next_read(rt: HostRuntime) {
+    let mut source = Cut::new(REFUSED, 4096, Then::Fail);
     let mut sink = Slow::new(1000, 7);
-    let ended = run_check(alloc, &mut source, &mut sink, 1000);
-    assert_eq!(rt; ended, refused(2, 1, Reason::NotHeader));
-    assert_eq!(rt; source.made(), 1);
-    assert_eq!(rt; sink.took(), wanted.as_slice());
-    let mut source = Cut::new(bytes.as_slice(), 3, Then::End);
+    let ended = run_check(rt.alloc(), &mut source, &mut sink, 1000);
+    assert_eq!(rt;
+        (ended, source.made()),
+        (refused(2, 1, Reason::NotHeader), 1)
+    );
+    assert_eq!(rt; sink.took(), REFUSED_CHECKED);
+    let mut source = Cut::new(REFUSED, 3, Then::End);
     let mut sink = Slow::new(1000, 1);
-    let ended = run_results(alloc, &mut source, &mut sink, 1000);
+    let ended = run_results(rt.alloc(), &mut source, &mut sink, 1000);
     assert_eq!(rt; ended, refused(2, 1, Reason::NotHeader));
     assert_eq!(rt; sink.took(), RESULT);
-    Ok(())
 }
 
 #[test]
@@ -56,20 +62,27 @@ fn whole_messages_are_told_before_a_source_fails(rt: HostRuntime) {
     assert_eq!(rt; sink.took(), CHECKED);
 }
 
-#[test]
-fn a_record_without_an_end_is_refused_at_its_limit(rt: HostRuntime) {
+/// Fails where `check` ends otherwise with so many reads of letters A, or writes something else.
+fn assert_letters(
+    rt: &impl Abort,
+    alloc: Global,
+    reads: u32,
+    ended: Result<Report, ToolFault>,
+    took: &[u8],
+) {
     let mut source = Cut::new(b"", 1, Then::Again(b'A'));
     let mut sink = Slow::new(100, 100);
-    let ended = run_check(rt.alloc(), &mut source, &mut sink, 65_536);
-    assert_eq!(rt; ended, Err(ToolFault::TooManyReads));
-    assert!(rt; sink.took().is_empty());
-    let mut source = Cut::new(b"", 1, Then::Again(b'A'));
-    let ended = run_check(rt.alloc(), &mut source, &mut sink, 65_537);
-    assert_eq!(rt; ended, refused(1, 1, Reason::RecordTooLong));
-    assert_eq!(rt;
-        sink.took(),
-        b"refused 1 1 G6\nmessages 0 findings 0\n".as_slice()
-    );
+    assert_eq!(rt; run_check(alloc, &mut source, &mut sink, reads), ended);
+    assert_eq!(rt; sink.took(), took);
+}
+
+#[test]
+fn a_record_without_an_end_is_refused_at_its_limit(rt: HostRuntime) {
+    let over = Err(ToolFault::TooManyReads);
+    assert_letters(&rt, rt.alloc(), 65_536, over, b"");
+    let ended = refused(1, 1, Reason::RecordTooLong);
+    let took = b"refused 1 1 G6\nmessages 0 findings 0\n";
+    assert_letters(&rt, rt.alloc(), 65_537, ended, took);
 }
 
 #[test]

@@ -2,3 +2,4 @@
 pub mod Control
 pub mod Text
 pub mod LinkText
+pub mod Capped

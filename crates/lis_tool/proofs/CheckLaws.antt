@@ -14,7 +14,7 @@ use Rattle.lis_tree.specs.inside.Begun.{Begun}
 use Rattle.lis_tree.specs.declared.numbering.Finding.{Finding}
 use Rattle.lis_tree.specs.Findings.{HasNumbered, finding_on, findings_from, findings_of}
 use Rattle.lis_tree.specs.Numbers.{expected_number, field_number, is_number, is_numbered}
-use Rattle.lis_tree.specs.Places.{capped}
+use Rattle.lis_text.specs.Capped.{capped}
 use Rattle.lis_tree.specs.Tree.{MessageTree, flatten}
 use Rattle.lis_tool.specs.Check.{IsChecking, check_writes, finding_count, finding_line, message_line, record_line}
 use Rattle.lis_tool.specs.Check.{record_lines}

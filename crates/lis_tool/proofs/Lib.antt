@@ -2,6 +2,7 @@ pub mod CaptureLaws
 pub mod CarriedLaws
 pub mod CheckLaws
 mod CheckRows
+pub mod Digits
 pub mod GatherLaws
 pub mod HearingLaws
 pub mod LineLaws

@@ -152,6 +152,35 @@ fn report_of(before: u64, fault: Option<MessageFault>, findings: u64) -> Report
 fn add_record(lines: &mut HeldText, place: u64, kind: Kind, fields: u64) -> Result<(), AllocError>
     ensures { OnOk result (lines.new.bytes.items ≡ lines.old.bytes.items ++ record_line place kind fields) }
 {
+    if place < 100 && fields < 100 {
+        return add_short(lines, place as u8, kind, fields as u8);
+    }
+    add_long(lines, place, kind, fields)
+}
+
+/// The same, where both numbers have one or two digits, as most have: all is added at once.
+#[inline(always)]
+fn add_short(lines: &mut HeldText, place: u8, kind: Kind, fields: u8) -> Result<(), AllocError>
+    requires place { place < 100 }
+    requires fields { fields < 100 }
+    ensures { OnOk result (lines.new.bytes.items ≡ lines.old.bytes.items ++ record_line place kind fields) }
+{
+    let letter = kind.letter();
+    let [first, second] = [b'0' + place / 10, b'0' + place % 10];
+    let [third, fourth] = [b'0' + fields / 10, b'0' + fields % 10];
+    match (place < 10, fields < 10) {
+        (true, true) => lines.add(&[second, b' ', letter, b' ', fourth, b'\n']),
+        (true, false) => lines.add(&[second, b' ', letter, b' ', third, fourth, b'\n']),
+        (false, true) => lines.add(&[first, second, b' ', letter, b' ', fourth, b'\n']),
+        (false, false) => lines.add(&[first, second, b' ', letter, b' ', third, fourth, b'\n']),
+    }
+}
+
+/// The same, of numbers of any length.
+#[inline(never)]
+fn add_long(lines: &mut HeldText, place: u64, kind: Kind, fields: u64) -> Result<(), AllocError>
+    ensures { OnOk result (lines.new.bytes.items ≡ lines.old.bytes.items ++ record_line place kind fields) }
+{
     lines.add_number(place)?;
     lines.add(&[b' ', kind.letter(), b' '])?;
     lines.add_number(fields)?;

@@ -137,7 +137,7 @@ fn add_result(lines: &mut HeldText, sample: &[u8], entry: &LentRecord<'_>) -> Re
 {
     lines.add(sample)?;
     add_told(lines, entry)?;
-    lines.add_byte(b'\n')
+    lines.add(b"\n")
 }
 
 /// Adds the fields of a result that are told, each behind a field delimiter.

@@ -13,7 +13,7 @@ use Rattle.lis_tree.specs.declared.fault.MessageFault.{MessageFault}
 use Rattle.lis_tree.specs.declared.fault.Reason.TheVariants as reasons
 use Rattle.lis_tree.specs.inside.Begun.{Begun, level_of}
 use Rattle.lis_tree.specs.Level.{Level, outside, closed, next_level, level_after, misplaced, StandsFrom, kinds_of}
-use Rattle.lis_tree.specs.Places.{capped}
+use Rattle.lis_text.specs.Capped.{capped}
 use Rattle.lis_tree.specs.ListFaults.{IsListFault, IsMisplacedAt, IsUnclosed}
 use Rattle.lis_tree.specs.Tree.{MessageTree, IsTree, flatten, group_records}
 use Rattle.lis_tree.proofs.Levels.{map_append, stands_back, tree_leads, inside_takes, next_unclosed, level_more}

@@ -5,7 +5,7 @@ use Rattle.lis_field.specs.Shape.{RecordContent, field_at}
 use Rattle.lis_tree.specs.declared.numbering.Finding.{Finding}
 use Rattle.lis_tree.specs.declared.numbering.Numbering.{Numbering}
 use Rattle.lis_tree.specs.Numbers.{CountsOf, expected_number, field_number, is_number, is_numbered}
-use Rattle.lis_tree.specs.Places.{capped}
+use Rattle.lis_text.specs.Capped.{capped}
 use Rattle.lis_tree.specs.Tree.{MessageTree, flatten}
 
 -- the finding on a record, if there is one

@@ -5,7 +5,6 @@ pub mod ListFaults
 pub mod Nodes
 pub mod Notes
 pub mod Numbers
-pub mod Places
 pub mod Refusing
 pub mod Results
 pub mod Tree

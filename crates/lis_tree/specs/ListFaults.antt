@@ -4,7 +4,7 @@ use Rattle.lis_field.specs.declared.kinds.Kind.{Kind}
 use Rattle.lis_tree.specs.declared.fault.MessageFault.{MessageFault}
 use Rattle.lis_tree.specs.declared.fault.Reason.TheVariants as reasons
 use Rattle.lis_tree.specs.Level.{outside, closed, level_after, misplaced, StandsFrom}
-use Rattle.lis_tree.specs.Places.{capped}
+use Rattle.lis_text.specs.Capped.{capped}
 
 -- a record of a list that can't stand where it does, the first of them
 pub record IsMisplacedAt (ks : List Kind) (fault : MessageFault) : Type 0 where

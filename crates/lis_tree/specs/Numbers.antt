@@ -7,7 +7,7 @@ use Rattle.lis_field.specs.declared.kinds.Kind.TheVariants as kinds
 use Rattle.lis_field.specs.declared.symbols.Sym.{Sym}
 use Rattle.lis_field.specs.declared.symbols.Sym.TheVariants.{Char}
 use Rattle.lis_field.specs.Shape.{Repeats, Symbols}
-use Rattle.lis_tree.specs.Places.{capped}
+use Rattle.lis_text.specs.Capped.{capped}
 
 -- whether records of this kind carry a number that is examined: not headers, manufacturer and scientific records
 abbrev pub is_numbered : Kind → Bool

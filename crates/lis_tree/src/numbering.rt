@@ -5,7 +5,7 @@ ghost use Rattle.lis_field.specs.declared.kinds.Kind.{Kind as KindOf};
 ghost use Rattle.lis_tree.specs.Findings.{HasNumbered, finding_on, findings_from, findings_of};
 ghost use Rattle.std.specs.Option.{option_to_list};
 ghost use Rattle.lis_field.specs.Shape.{RecordContent, field_at, plain_component};
-ghost use Rattle.lis_tree.specs.Places.{capped};
+ghost use Rattle.lis_text.specs.Capped.{capped};
 ghost use Rattle.lis_tree.specs.Numbers.{CountsOf, symbol_digit, digits_number, field_number, is_number, is_numbered};
 
 use crate::message::Message;
@@ -336,10 +336,11 @@ impl Numbering {
             → HasNumbered self.new (records ++ entry.now.content ∷ []) }
     {
         let kind = entry.kind();
-        let finding = finding_on(kind, lent_number(entry), self.counts, self.next_place());
-        self.counts = self.counts.after(kind);
+        let (before, place) = (self.counts, self.next_place());
+        self.counts = before.after(kind);
         self.count = self.count.saturating_add(1);
-        finding
+        // Last, so that no finding is carried past these: one is seldom found.
+        finding_on(kind, lent_number(entry), before, place)
     }
 }
 

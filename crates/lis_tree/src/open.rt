@@ -4,7 +4,7 @@ ghost use Rattle.lis_field.specs.declared.kinds.Kind.TheVariants as kinds;
 ghost use Rattle.lis_field.specs.Delimiters.{IsDelimiters};
 ghost use Rattle.lis_tree.specs.Level.{misplaced};
 ghost use Rattle.lis_tree.specs.inside.Begun.{level_of};
-ghost use Rattle.lis_tree.specs.Places.{capped};
+ghost use Rattle.lis_text.specs.Capped.{capped};
 ghost use Rattle.lis_tree.specs.Tree.{flatten, IsTree};
 
 use crate::fault::Reason;

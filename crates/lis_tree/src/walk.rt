@@ -1,7 +1,7 @@
 //! A walk over the records of a message, in the order in which they are written.
 ghost use Rattle.std.specs.Prelude.{◌≡◌, [], ◌++◌, IfNone, length};
 ghost use Rattle.std.specs.Option.{option_copied, option_to_list};
-ghost use Rattle.lis_tree.specs.Places.{capped};
+ghost use Rattle.lis_text.specs.Capped.{capped};
 ghost use Rattle.lis_tree.specs.Tree.{flatten};
 
 use crate::message::Message;

@@ -8,8 +8,7 @@ use Rattle.lis_text.specs.Control.{STX, LF}
 use Rattle.lis_frame.specs.declared.frame.FrameFault.{FrameFault}
 use Rattle.lis_frame.specs.declared.scanner.SignalOf.TheVariants.{Bad}
 use Rattle.lis_frame.specs.Stretch.{stretch_fault}
-use Rattle.lis_frame.specs.Stream.{look_back, open_stretch, signal_after, signals_after, stream_with}
-use Rattle.lis_world.specs.Progress.{is_mark}
+use Rattle.lis_frame.specs.Stream.{is_mark, look_back, open_stretch, signal_after, signals_after, stream_with}
 
 abbrev pub AreInner : List ℕ → Type 0
 AreInner xs = All (λ b. is_mark b ≡ false) xs

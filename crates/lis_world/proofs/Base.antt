@@ -9,7 +9,7 @@ use Rattle.lis_link.specs.Sender.{SenderState}
 use Rattle.lis_world.specs.Unit.{Load, enquiry, ending, one_frame, Travelling}
 use Rattle.lis_world.specs.Session.{Session, new_session, session_at, changed, follows}
 use Rattle.lis_world.specs.World.{World}
-use Rattle.lis_world.specs.Steps.{placed, with_sender, forgotten}
+use Rattle.lis_world.specs.Steps.{put_on_link, with_sender, forgotten}
 use Rattle.lis_world.proofs.SessionLemmas.{length-changed, at-changed_same, at-changed, kept-changed}
 use Rattle.lis_world.proofs.Invariant.{IsSound, Line, Pending, Unsent, Waits, Behind, Leads, Front, KeepsFrames}
 use Rattle.lis_world.proofs.Invariant.{IsCurrent, InPhase, Holds}
@@ -125,7 +125,7 @@ front_more ss is_open owner [] u h waits = (leads_from_waits ss is_open owner u.
 front_more ss is_open owner (v ∷ us) u h waits = (h.0, behind_more ss us u h.1 waits)
 
 pub base_placed : (limit : ℕ) (load : Load) (w : World) → Waits w.sessions w.current load → Base limit w
-    → Base limit (placed load w)
+    → Base limit (put_on_link load w)
 base_placed limit load w waits base = record {
   sound = base.sound;
   mute_within =

@@ -17,7 +17,8 @@ use Rattle.lis_world.specs.declared.event.Event.TheVariants.{RestartSender, Rest
 use Rattle.lis_world.specs.Unit.{ending, one_frame, Travelling, load_bytes}
 use Rattle.lis_world.specs.Session.{Session, session_at, changed, follows}
 use Rattle.lis_world.specs.World.{World, Desk, desk_of, hears, replies_with, settled}
-use Rattle.lis_world.specs.Steps.{placed, with_sender, sender_steps, begins, delivered, delivered_no_room, is_noticed}
+use Rattle.lis_world.specs.Steps.{put_on_link, with_sender, sender_steps, begins, delivered, delivered_no_room}
+use Rattle.lis_world.specs.Steps.{is_noticed}
 use Rattle.lis_world.specs.Steps.{damaged, lost, replied, reply_damaged, reply_lost, forgotten, given_up, after_event}
 use Rattle.lis_world.specs.Steps.{runs, world}
 use Rattle.lis_world.specs.Recovery.{Loss, unit_is_lost, unit_is_unheard, reply_is_lost, loss_events, IsUnheard}
@@ -281,13 +282,13 @@ cut_on limit (event ∷ others) w v is_limit all cut =
 
 timed_is :
     (limit : ℕ) (v : World) → Awaits v
-    → after_event limit SenderTimer v ≡ placed ending (with_sender (over TimedOut v.sender) (forgotten v))
+    → after_event limit SenderTimer v ≡ put_on_link ending (with_sender (over TimedOut v.sender) (forgotten v))
 timed_is limit v (inl bids) = ap (λ p. sender_steps {limit = limit} (timer_in p v.sender) (given_up p v)) bids
 timed_is limit v (inr awaits) = ap (λ p. sender_steps {limit = limit} (timer_in p v.sender) (given_up p v)) awaits
 
 timed_out_of :
     (limit : ℕ) (w v : World) → IsCutOff limit w v
-    → IsTimedOut w (placed ending (with_sender (over TimedOut v.sender) (forgotten v)))
+    → IsTimedOut w (put_on_link ending (with_sender (over TimedOut v.sender) (forgotten v)))
 timed_out_of limit w v cut =
     let gone = cut.gone in
     let c : ℕ = v.current in
@@ -336,7 +337,7 @@ timed_out limit events others loss is_limit one silent all =
     let cut =
     cut_on limit others w (runs limit (loss_events loss) w) is_limit all (cut_off limit loss w is_limit h one silent) in
     let is : world limit (events ++ lost_events loss others)
-    ≡ placed ending (with_sender (over TimedOut v.sender) (forgotten v)) =
+    ≡ put_on_link ending (with_sender (over TimedOut v.sender) (forgotten v)) =
     world-append limit events (lost_events loss others) ∙ lost_runs limit loss others w
     ∙ timed_is limit v cut.gone.awaits in
     subst (IsTimedOut w) (sym is) (timed_out_of limit w v cut)

@@ -13,7 +13,7 @@ use Rattle.lis_world.specs.Unit.{ending, one_frame, Travelling}
 use Rattle.lis_world.specs.Session.{Session, session_at, changed, follows, sends_frame}
 use Rattle.lis_world.specs.World.{World}
 use Rattle.lis_world.specs.Safe.{IsPrefix}
-use Rattle.lis_world.specs.Steps.{placed, with_sender}
+use Rattle.lis_world.specs.Steps.{put_on_link, with_sender}
 use Rattle.lis_world.proofs.SessionLemmas.{length-changed, at-changed_same, at-changed, kept-changed}
 use Rattle.lis_world.proofs.Invariant.{IsSound, Pending, Front, KeepsFrames, IsCurrent, AllEndings, InPhase, Holds}
 use Rattle.lis_world.proofs.Base.{Base, holds_of, CanFollow, base_placed, base_followed, current_followed}
@@ -56,22 +56,22 @@ pub ended_with_ending :
     → sender.phase ≡ Neutral
     → w.replies ≡ []
     → AllEndings (drop w.mute w.units)
-    → Holds limit (placed ending (with_sender sender w))
+    → Holds limit (put_on_link ending (with_sender sender w))
 ended_with_ending limit sender w base within can neutral none endings =
     let last : Travelling = record { session = w.current; load = ending } in
     let live : AllEndings (drop w.mute (w.units ++ last ∷ [])) =
     subst AllEndings (sym (drop-append-le w.mute w.units (last ∷ []) base.mute_within))
     (endings_more (drop w.mute w.units) last endings refl) in
-    holds_of limit (placed ending (with_sender sender w))
+    holds_of limit (put_on_link ending (with_sender sender w))
     (base_placed limit ending (with_sender sender w) tt (base_followed limit sender w can base))
     (current_followed limit sender w within can)
-    (in_phase Neutral sender.phase (placed ending (with_sender sender w)) neutral
+    (in_phase Neutral sender.phase (put_on_link ending (with_sender sender w)) neutral
     (record { no_reply = none; live_endings = live }))
 
 -- a frame goes on the link, for the first time or again
 abbrev pub frame_sent : FrameContent → SenderState → World → World
 frame_sent f sender w =
-    placed (one_frame f) (record (with_sender sender w)
+    put_on_link (one_frame f) (record (with_sender sender w)
     { sessions = changed w.current (sends_frame f) (changed w.current (follows sender) w.sessions) })
 
 pub record CanSend (limit : ℕ) (sender : SenderState) (w : World) (before : List FrameContent) (f : FrameContent)

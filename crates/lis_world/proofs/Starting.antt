@@ -18,7 +18,7 @@ use Rattle.lis_link.specs.Sender.{SenderState, bad_text_or, bad_text, start_faul
 use Rattle.lis_world.specs.Unit.{enquiry, Travelling}
 use Rattle.lis_world.specs.Session.{Session, new_session}
 use Rattle.lis_world.specs.World.{World}
-use Rattle.lis_world.specs.Steps.{placed, begins}
+use Rattle.lis_world.specs.Steps.{put_on_link, begins}
 use Rattle.lis_world.proofs.SessionLemmas.{at-more, at-more_last, at-more_each}
 use Rattle.lis_world.proofs.Invariant.{IsSound, Unsent, IsCurrent, AllEndings, BidsBy, Bids, InPhase, Holds}
 use Rattle.lis_world.proofs.Base.{Base, holds_of, AreSame, base_placed, front_same, line_same}
@@ -123,7 +123,7 @@ begun_holds limit texts w h can =
     (let more = length_push ss x in omega arith, ap (λ (y : Session). y.sent) (at-more_last ss x)) in
     let resting = subst (λ p. InPhase p w) can.neutral h.phase in
     let bid : Travelling = record { session = length ss; load = enquiry } in
-    holds_of limit (placed enquiry w1) (base_placed limit enquiry w1 unsent base1)
+    holds_of limit (put_on_link enquiry w1) (base_placed limit enquiry w1 unsent base1)
     (subst (IsCurrent limit (started limit texts)) (sym (at-more_last ss x))
     (record { frames_are = refl; acknowledged_is = refl; outcome_is = refl }))
     (record {

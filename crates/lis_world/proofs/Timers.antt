@@ -13,7 +13,7 @@ use Rattle.lis_link.specs.Receiver.{ReceiverState, timer_by, on_receiver_timer}
 use Rattle.lis_world.specs.Unit.{Load, enquiry, ending, one_frame, Travelling}
 use Rattle.lis_world.specs.Session.{Session, session_at, changed, follows}
 use Rattle.lis_world.specs.World.{World}
-use Rattle.lis_world.specs.Steps.{placed, with_sender, sender_steps, forgotten, given_up}
+use Rattle.lis_world.specs.Steps.{put_on_link, with_sender, sender_steps, forgotten, given_up}
 use Rattle.lis_world.proofs.Invariant.{Pending, Unsent, Leads, Front, AllEndings, Bids, BidAnswer, IsWaiting}
 use Rattle.lis_world.proofs.Invariant.{KeepsFrames, InPhase, Holds}
 use Rattle.lis_world.proofs.Base.{base_of, holds_of, CanFollow, base_forgotten, base_placed, base_followed}
@@ -68,7 +68,7 @@ asks_again limit w h kept waiting =
     let unmuted : w.mute ≡ 0 = zero_mute w.mute w.units h.mute_within waiting.no_unit in
     let live : drop w.mute (w.units ++ bid ∷ []) ≡ bid ∷ [] =
     ap (λ m. drop m (w.units ++ bid ∷ [])) unmuted ∙ ap (λ us. us ++ bid ∷ []) waiting.no_unit in
-    holds_of limit (placed enquiry w1) (base_placed limit enquiry w1 unsent
+    holds_of limit (put_on_link enquiry w1) (base_placed limit enquiry w1 unsent
     (base_followed limit sender w now (base_of limit w h)))
     (current_followed limit sender w waiting.unsent.0 now)
     (record {

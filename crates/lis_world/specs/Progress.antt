@@ -1,10 +1,11 @@
 -- When a session is carried through: enough undisturbed rounds, and never six disturbed ones in a row.
 use Rattle.std.specs.Prelude.{◌≡◌, ◌≢◌, ℕ, zero, suc, ◌<◌, ◌≤◌, Bool, false, List, [], ◌∷◌, ◌++◌, length, None, Some}
-use Rattle.std.specs.Prelude.{All, ◌==◌, ◌||◌}
-use Rattle.lis_text.specs.Control.{STX, EOT, ENQ, ACK, LF}
+use Rattle.std.specs.Prelude.{All}
+use Rattle.lis_text.specs.Control.{STX, EOT, ACK, LF}
 use Rattle.lis_frame.specs.declared.frame.FrameFault.{FrameFault}
 use Rattle.lis_text.specs.LinkText.{most_texts}
 use Rattle.lis_frame.specs.Pieces.{session_frames}
+use Rattle.lis_frame.specs.Stream.{is_mark}
 use Rattle.lis_frame.specs.Stretch.{stretch_fault}
 use Rattle.lis_link.specs.declared.sender.Phase.TheVariants.{Neutral}
 use Rattle.lis_link.specs.declared.sender.Outcome.TheVariants.{Done}
@@ -33,10 +34,6 @@ round_events (bad_reply b) = Deliver ∷ DamageReply b ∷ []
 abbrev pub rounds_events : List Round → List Event
 rounds_events [] = []
 rounds_events (round ∷ rounds) = round_events round ++ rounds_events rounds
-
--- a byte that begins or ends something
-abbrev pub is_mark : ℕ → Bool
-is_mark b = b == STX || b == EOT || b == ENQ || b == LF
 
 -- the disturbance is noticed: the stretch holds no mark and is no frame, the reply byte is neither ACK nor EOT
 pub record IsBadStretch (limit : ℕ) (stretch : List ℕ) : Type 0 where

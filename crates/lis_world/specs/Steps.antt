@@ -23,15 +23,15 @@ use Rattle.lis_world.specs.Session.{new_session, changed, follows, sends_frame}
 use Rattle.lis_world.specs.World.{World, new_world, Desk, desk_of, hears, settled}
 
 -- a unit of the present session goes on the link, behind what is there
-abbrev pub placed : Load → World → World
-placed load w = record w { units = w.units ++ record { session = w.current; load = load } ∷ [] }
+abbrev pub put_on_link : Load → World → World
+put_on_link load w = record w { units = w.units ++ record { session = w.current; load = load } ∷ [] }
 
 abbrev pub emitted : {limit : ℕ} → EmitOf limit → World → World
 emitted Emits.Nothing w = w
-emitted Emits.Enq w = placed enquiry w
-emitted Emits.Eot w = placed ending w
+emitted Emits.Enq w = put_on_link enquiry w
+emitted Emits.Eot w = put_on_link ending w
 emitted Emits.Nak w = w
-emitted (Emits.Frame frame) w = placed (one_frame frame)
+emitted (Emits.Frame frame) w = put_on_link (one_frame frame)
     (record w { sessions = changed w.current (sends_frame frame) w.sessions })
 
 -- the sender's new state, booked to its session
@@ -45,7 +45,7 @@ sender_steps step w = emitted step.emit (with_sender step.after w)
 abbrev pub begins : ℕ → Option StartFault → List (List ℕ) → World → World
 begins limit (Some fault) texts w = w
 begins limit None texts w =
-    placed enquiry (record w {
+    put_on_link enquiry (record w {
       sender = started limit texts;
       current = length w.sessions;
       sessions = w.sessions ++ new_session texts ∷ [];

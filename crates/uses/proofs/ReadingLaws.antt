@@ -9,7 +9,8 @@ use Rattle.lis_message.specs.Stream.{IsCut}
 use Rattle.lis_tree.specs.Results.{ResultNode, results_of}
 use Rattle.lis_tree.specs.Tree.{MessageTree}
 use Rattle.uses.specs.declared.results.Reading.{Reading}
-use Rattle.uses.specs.Readings.{IsReading, counted, result_count}
+use Rattle.lis_text.specs.Capped.{capped}
+use Rattle.uses.specs.Readings.{IsReading, result_count}
 
 -- one more reading
 pub one_more : (nodes : List ResultNode) (readings : List Reading) (node : ResultNode) (reading : Reading)
@@ -27,15 +28,15 @@ result_count-append [] more = omega arith
 result_count-append (m ∷ messages) more = omega (arith, result_count-append messages more)
 
 -- counts that stop at the greatest number
-pub counted_more : (count more : ℕ) → counted (counted count + counted more) ≡ counted (count + more)
-counted_more count more = omega arith
+pub capped_more : (count more : ℕ) → capped (capped count + capped more) ≡ capped (count + more)
+capped_more count more = omega arith
 
 -- the results of one message more
 pub counts_next : (base index : ℕ) (messages : List MessageTree) (message : MessageTree) (count more : ℕ)
     → index < length messages
-    → message ≡ get_or messages index message → count ≡ counted (base + result_count (take index messages))
-    → more ≡ counted (length (results_of message))
-    → min (count + more) 18446744073709551615 ≡ counted (base + result_count (take (index + 1) messages))
+    → message ≡ get_or messages index message → count ≡ capped (base + result_count (take index messages))
+    → more ≡ capped (length (results_of message))
+    → min (count + more) 18446744073709551615 ≡ capped (base + result_count (take (index + 1) messages))
 counts_next base index messages message count more few is before next =
     rw (
       take_more messages index message few,

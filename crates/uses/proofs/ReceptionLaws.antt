@@ -10,7 +10,7 @@ use Rattle.lis_link.specs.inside.Kept.{Kept}
 use Rattle.lis_link.specs.inside.Stands.{IsIn, IsRefused, Makes}
 use Rattle.lis_link.specs.Receiver.{ReceiverState, on_byte, on_receiver_timer}
 use Rattle.uses.specs.Computer.{Answers, IsReception, WasReception, closed, whole, goes_on, given_up, made, refused}
-use Rattle.uses.specs.Computer.{deeds_at, replied, timer_behind}
+use Rattle.uses.specs.Computer.{deeds_at, reply_deeds, timer_behind}
 use Rattle.uses.specs.Line.{Deed, GoesOn, most_events, waited}
 use Rattle.uses.specs.declared.line.Event.{Event}
 use Rattle.uses.specs.declared.line.Event.TheVariants.{Byte, Timer, Closed}
@@ -93,7 +93,7 @@ pub was_whole : (first : ReceiverState) (past now mid last : Option (List Deed))
     → ((r : ReceiverState) → IsIn 240 kept r → Answers event r answer new)
     → ((r : ReceiverState) → IsIn 240 new r → is_open ≡ r.is_open)
     → answer.message ≢ None → GoesOn now mid (waited event ∷ [])
-    → GoesOn mid last (replied answer.reply ++ timer_behind answer.note is_open)
+    → GoesOn mid last (reply_deeds answer.reply ++ timer_behind answer.note is_open)
     → WasReception first past last answer.message new
 was_whole first past now mid last turn kept new event answer is_open so_far more still answering tells some waits puts =
     let given = answering so_far.r so_far.state in
@@ -102,7 +102,7 @@ was_whole first past now mid last turn kept new event answer is_open so_far more
       deeds = so_far.deeds ++ deeds;
       done = goes_on_then past now last so_far.deeds deeds so_far.done
           (goes_on_then now mid last (waited event ∷ [])
-          (replied answer.reply ++ timer_behind answer.note given.after.is_open) waits
+          (reply_deeds answer.reply ++ timer_behind answer.note given.after.is_open) waits
           (rw (tells given.after given.state) at puts));
       last = given.after;
       reception = so_far.behind (most_events - turn) deeds answer.message given.after (omega (arith, more))
@@ -117,7 +117,7 @@ pub goes_on_behind : (first : ReceiverState) (past now mid last : Option (List D
     → ((r : ReceiverState) → IsIn 240 kept r → Answers event r answer new)
     → ((r : ReceiverState) → IsIn 240 new r → is_open ≡ r.is_open)
     → answer.message ≡ None → GoesOn now mid (waited event ∷ [])
-    → GoesOn mid last (replied answer.reply ++ timer_behind answer.note is_open)
+    → GoesOn mid last (reply_deeds answer.reply ++ timer_behind answer.note is_open)
     → IsSoFar first past last (turn + 1) new
 goes_on_behind first past now mid last turn kept new event answer is_open so_far still answering tells none waits puts =
     let given = answering so_far.r so_far.state in
@@ -126,7 +126,7 @@ goes_on_behind first past now mid last turn kept new event answer is_open so_far
       deeds = so_far.deeds ++ deeds;
       done = goes_on_then past now last so_far.deeds deeds so_far.done
           (goes_on_then now mid last (waited event ∷ [])
-          (replied answer.reply ++ timer_behind answer.note given.after.is_open) waits
+          (reply_deeds answer.reply ++ timer_behind answer.note given.after.is_open) waits
           (rw (tells given.after given.state) at puts));
       r = given.after;
       state = given.state;

@@ -34,9 +34,9 @@ pub record Answers (event : Event) (r : ReceiverState) (given : Step) (new : Kep
   pub state : IsIn 240 new after
 
 -- the reply goes out
-abbrev pub replied : Option ℕ → List Deed
-replied None = []
-replied (Some byte) = sent (byte ∷ []) ∷ []
+abbrev pub reply_deeds : Option ℕ → List Deed
+reply_deeds None = []
+reply_deeds (Some byte) = sent (byte ∷ []) ∷ []
 
 -- the timer for the next frame or EOT (LIS01-A2, 6.2 to 6.5) is started anew by each step that isn't quiet and
 -- leaves the line open
@@ -47,7 +47,7 @@ timer_behind note true = timed 30 ∷ []
 
 -- an event, the reply to it, and the timer
 abbrev pub deeds_at : Event → Step → Bool → List Deed
-deeds_at event answer is_open = waited event ∷ replied answer.reply ++ timer_behind answer.note is_open
+deeds_at event answer is_open = waited event ∷ reply_deeds answer.reply ++ timer_behind answer.note is_open
 
 -- The deeds on the line until a text is whole, of which so many events are waited for at most, the text, none where
 -- the line was closed before, and the receiver behind them.

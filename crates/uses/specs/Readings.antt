@@ -1,5 +1,5 @@
 -- What is read of the results of a message and of a stream (LIS02-A2).
-use Rattle.std.specs.Prelude.{◌≡◌, ◌≢◌, ℕ, ◌+◌, List, [], ◌∷◌, ◌++◌, ◌⊎◌, length, min, Option, Some}
+use Rattle.std.specs.Prelude.{◌≡◌, ◌≢◌, ℕ, ◌+◌, List, [], ◌∷◌, ◌++◌, ◌⊎◌, length, Option, Some}
 use Rattle.lis_field.specs.Shape.{Repeats, field_at, plain_field}
 use Rattle.lis_message.specs.Feeding.{IsCutShort, Stops}
 use Rattle.lis_tree.specs.declared.fault.MessageFault.{MessageFault}
@@ -18,13 +18,10 @@ pub record IsReading (node : ResultNode) (reading : Reading) : Type 0 where
   pub value : IsText (field_at node.entry.head 4) reading.value.items
   pub units : IsText (field_at node.entry.head 5) reading.units.items
 
--- how many results messages have; the greatest number stands for all behind it
+-- how many results messages have
 abbrev pub result_count : List MessageTree → ℕ
 result_count [] = 0
 result_count (message ∷ messages) = length (results_of message) + result_count messages
-
-abbrev pub counted : ℕ → ℕ
-counted count = min count 18446744073709551615
 
 -- The reading stops in a front of the stream, or at its end.
 pub record IsUnread (stream : List ℕ) (fault : MessageFault) : Type 0 where

@@ -4,7 +4,7 @@ ghost use Rattle.std.specs.Prelude.{◌≡◌, ◌≢◌, ◌++◌, MatchOption}
 ghost use Rattle.lis_link.specs.declared.receiver.Note.TheVariants as Notes;
 ghost use Rattle.lis_link.specs.inside.Stands.{IsIn};
 ghost use Rattle.lis_link.specs.Receiver.{ReceiverState};
-ghost use Rattle.uses.specs.Computer.{Answers, WasReception, replied, timer_behind};
+ghost use Rattle.uses.specs.Computer.{Answers, WasReception, reply_deeds, timer_behind};
 ghost use Rattle.uses.specs.Line.{GoesOn};
 ghost use Rattle.uses.specs.declared.line.Event.TheVariants as Events;
 
@@ -56,7 +56,7 @@ fn step_at(receiver: &mut Receiver, event: Event) -> Option<Step>
 /// Sends the reply and starts the timer, by what an event meant. Each answer but that to EOT starts the timer anew;
 /// noise leaves it running.
 fn put<L: Line>(line: &mut L, reply: Option<u8>, note: Note, is_open: bool)
-    ensures { GoesOn (L.deeds line.old) (L.deeds line.new) (replied reply ++ timer_behind note is_open) }
+    ensures { GoesOn (L.deeds line.old) (L.deeds line.new) (reply_deeds reply ++ timer_behind note is_open) }
 {
     if let Some(byte) = reply {
         line.send(&[byte]);

@@ -6,7 +6,8 @@ ghost use Rattle.lis_field.specs.Shape.{field_at};
 ghost use Rattle.lis_message.specs.Stream.{IsCut};
 ghost use Rattle.lis_tree.specs.Results.{results_of};
 ghost use Rattle.lis_tree.specs.Tree.{MessageTree};
-ghost use Rattle.uses.specs.Readings.{IsReading, IsText, IsUnread, counted, result_count};
+ghost use Rattle.lis_text.specs.Capped.{capped};
+ghost use Rattle.uses.specs.Readings.{IsReading, IsText, IsUnread, result_count};
 
 use lis_field::Record;
 use lis_message::{Message, MessageFault, MessageReader};
@@ -50,7 +51,7 @@ fn text_of(alloc: Global, entry: &Record, number: usize) -> Result<Vec<u8>, Allo
 pub fn count_results(alloc: Global, pieces: &[&[u8]]) -> Result<usize, MessageFault>
     ensures ok { IfOk result (λ count. (messages : List MessageTree)
         × IsCut (flat_map (λ piece. piece.now) pieces.now) messages None []
-        × (count ≡ counted (result_count messages))) }
+        × (count ≡ capped (result_count messages))) }
     ensures err { IfErr result (IsUnread (flat_map (λ piece. piece.now) pieces.now)) }
 {
     let mut reader = MessageReader::new(alloc);
@@ -70,7 +71,7 @@ pub fn count_results(alloc: Global, pieces: &[&[u8]]) -> Result<usize, MessageFa
 
 /// How many results a message has.
 fn results_in(message: &Message) -> usize
-    ensures { result ≡ counted (length (results_of message.now)) }
+    ensures { result ≡ capped (length (results_of message.now)) }
 {
     let mut count = 0usize;
     for _placed in message.results() {

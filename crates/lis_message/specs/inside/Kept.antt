@@ -7,7 +7,7 @@ use Rattle.lis_record.specs.Lent.{Lent, record_in}
 use Rattle.lis_tree.specs.declared.fault.MessageFault.{MessageFault}
 use Rattle.lis_tree.specs.inside.Begun.{Begun, level_of}
 use Rattle.lis_tree.specs.Level.{Level}
-use Rattle.lis_tree.specs.Places.{capped}
+use Rattle.lis_text.specs.Capped.{capped}
 
 -- of an open message: its delimiters, where the next record will stand, and how many there are
 pub record Opened : Type 0 where

@@ -1,8 +1,8 @@
 ghost use Rattle.std.specs.Prelude.{◌≤◌};
 
-use super::says;
+use super::assert_says;
 use lis_capture::*;
-use std::test::Fail;
+use std::process::Abort;
 
 /// A line of the analyzer with 2,047 letters A, its CR and its LF.
 fn long_line() -> [u8; 4098] {
@@ -33,73 +33,81 @@ fn letters(line: &Line) -> Option<usize> {
     }
 }
 
-#[test]
-fn the_return_of_a_line_is_one_of_its_bytes(rt: HostRuntime) -> Result<(), Fail> {
-    let mut line = long_line();
-    let mut reader = LineReader::new();
-    assert_eq!(rt; reader.read(&line), (4098, Found::Refused));
-    assert_eq!(rt; reader.number(), 1);
-    line[4096] = b'\n';
-    let mut shorter = LineReader::new();
-    assert_eq!(rt; shorter.read(&line), (4097, Found::Line));
-    assert_eq!(rt; letters(&shorter.line()), Some(2047));
-    assert_eq!(rt; shorter.number(), 1);
-    let mut kept = LineReader::keeping_digits();
-    assert_eq!(rt; kept.read(&line), (4097, Found::Line));
-    assert_eq!(rt; letters(&kept.line()), Some(2047));
-    Ok(())
+/// Fails where a new reader finds something else in these bytes than a line of 2,047 letters A behind so many of them.
+fn assert_letters(rt: &impl Abort, reader: LineReader, bytes: &[u8]) {
+    let mut reader = reader;
+    assert_eq!(rt; reader.read(bytes), (4097, Found::Line));
+    assert_eq!(rt; (letters(&reader.line()), reader.number()), (Some(2047), 1));
 }
 
 #[test]
-fn a_byte_too_many_is_refused_at_once(rt: HostRuntime) -> Result<(), Fail> {
+fn the_return_of_a_line_is_one_of_its_bytes(rt: HostRuntime) {
+    let mut line = long_line();
+    let mut reader = LineReader::new();
+    let found = reader.read(&line);
+    assert_eq!(rt; (found, reader.number()), ((4098, Found::Refused), 1));
+    line[4096] = b'\n';
+    assert_letters(&rt, LineReader::new(), &line);
+    assert_letters(&rt, LineReader::keeping_digits(), &line);
+}
+
+#[test]
+fn a_byte_too_many_is_refused_at_once(rt: HostRuntime) {
     let line = long_line();
     let (front, _) = line.split_at(4096);
     let mut reader = LineReader::new();
-    assert_eq!(rt; reader.read(front), (4096, Found::Nothing));
-    assert_eq!(rt; reader.read(b"\r"), (1, Found::Refused));
-    assert_eq!(rt; reader.number(), 1);
+    let found = [reader.read(front), reader.read(b"\r")];
+    let want = [(4096, Found::Nothing), (1, Found::Refused)];
+    assert_eq!(rt; (found, reader.number()), (want, 1));
     let mut unended = LineReader::new();
-    assert_eq!(rt; unended.read(front), (4096, Found::Nothing));
-    assert_eq!(rt; unended.finish(), Found::Line);
-    assert_eq!(rt; letters(&unended.line()), Some(2047));
-    Ok(())
+    let found = (unended.read(front), unended.finish());
+    let want = ((4096, Found::Nothing), Found::Line);
+    assert_eq!(rt; (found, letters(&unended.line())), (want, Some(2047)));
 }
 
 #[test]
-fn a_last_line_may_lack_its_end(rt: HostRuntime) -> Result<(), Fail> {
-    assert!(rt; says(b"", b"", None));
-    assert!(rt; says(b"T", b"T\n", None));
-    assert!(rt; says(b"T\n", b"T\n", None));
-    assert!(rt; says(b"T\r", b"T\n", None));
-    assert!(rt; says(b"T\n\r", b"T\n\n", None));
-    assert!(rt; says(b"> 05\n< 0", b"> 05\n", Some(2)));
-    Ok(())
+fn a_last_line_may_lack_its_end(rt: HostRuntime) {
+    assert_says(
+        &rt,
+        &[
+            (b"", b"", None),
+            (b"T", b"T\n", None),
+            (b"T\n", b"T\n", None),
+            (b"T\r", b"T\n", None),
+            (b"T\n\r", b"T\n\n", None),
+            (b"> 05\n< 0", b"> 05\n", Some(2)),
+        ],
+    );
 }
 
 #[test]
-fn behind_a_refused_line_nothing_is_read(rt: HostRuntime) -> Result<(), Fail> {
+fn behind_a_refused_line_nothing_is_read(rt: HostRuntime) {
     let mut reader = LineReader::new();
-    assert_eq!(rt; reader.number(), 0);
-    assert_eq!(rt; reader.version(), CaptureVersion::Untold);
-    assert_eq!(rt; reader.read(b"> 41\n> 4z\nT\n"), (5, Found::Line));
-    assert_eq!(rt; reader.read(b"> 4z\nT\n"), (5, Found::Refused));
-    assert_eq!(rt; reader.number(), 2);
-    assert_eq!(rt; letters(&reader.line()), Some(1));
-    assert_eq!(rt; reader.read(b"T\n"), (0, Found::Refused));
-    assert_eq!(rt; reader.number(), 2);
-    assert_eq!(rt; reader.finish(), Found::Refused);
-    assert_eq!(rt; reader.version(), CaptureVersion::First);
-    Ok(())
+    assert_eq!(rt;
+        (reader.number(), reader.version()),
+        (0, CaptureVersion::Untold)
+    );
+    for (bytes, found, number) in [
+        (b"> 41\n> 4z\nT\n".as_slice(), (5, Found::Line), 1),
+        (b"> 4z\nT\n", (5, Found::Refused), 2),
+        (b"T\n", (0, Found::Refused), 2),
+    ] {
+        assert_eq!(rt; (reader.read(bytes), reader.number()), (found, number));
+        assert_eq!(rt; letters(&reader.line()), Some(1));
+    }
+    let told = (reader.finish(), reader.version());
+    assert_eq!(rt; told, (Found::Refused, CaptureVersion::First));
 }
 
 #[test]
-fn the_first_line_tells_the_version(rt: HostRuntime) -> Result<(), Fail> {
+fn the_first_line_tells_the_version(rt: HostRuntime) {
     let mut reader = LineReader::new();
-    assert_eq!(rt; reader.read(b"capture 2\n"), (10, Found::Line));
-    assert_eq!(rt; reader.version(), CaptureVersion::Second);
-    assert_eq!(rt; reader.read(b"R\n"), (2, Found::Line));
+    let found = (reader.read(b"capture 2\n"), reader.version());
+    assert_eq!(rt; found, ((10, Found::Line), CaptureVersion::Second));
+    assert_eq!(rt;
+        (reader.read(b"R\n"), reader.number()),
+        ((2, Found::Line), 2)
+    );
     assert!(rt; matches!(reader.line(), Line::Restart));
-    assert_eq!(rt; reader.number(), 2);
     assert_eq!(rt; reader.finish(), Found::Nothing);
-    Ok(())
 }

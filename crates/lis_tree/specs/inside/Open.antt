@@ -4,7 +4,7 @@ use Rattle.std.specs.List.{AllByRecursion}
 use Rattle.lis_field.specs.Delimiters.{DelimiterBytes, IsDelimiters}
 use Rattle.lis_field.specs.Shape.{IsRecordShape}
 use Rattle.lis_tree.specs.inside.Spine.{spine_records, IsSpine}
-use Rattle.lis_tree.specs.Places.{capped}
+use Rattle.lis_text.specs.Capped.{capped}
 use Rattle.lis_tree.specs.declared.spine.Spine.{Spine}
 
 pub record IsOpen (delimiters : DelimiterBytes) (spine : Spine) (count : ℕ) : Type 0 where

@@ -1,7 +1,10 @@
-use Rattle.std.proofs.Common.{◌≡◌, ℕ, None, sym, ◌∙◌, ap, option_map, ◌+◌}
+use Rattle.std.proofs.Common.{◌≡◌, ℕ, None, sym, ◌∙◌, ap, option_map, ◌+◌, ◌++◌, List, ◌∷◌, []}
+use Rattle.lis_field.specs.declared.symbols.Sym.TheVariants.{Char}
+use Rattle.lis_record.specs.Spelling.{spelled_symbol}
 use Rattle.lis_field.specs.Shape.{Symbols}
 use Rattle.lis_record.specs.Escapes.{escape_of}
 use Rattle.lis_record.specs.inside.FrontReading.{escape_at}
+use Rattle.lis_record.proofs.AsIs.{escape_spelled}
 use Rattle.lis_record.proofs.Places.{escape_at-found, escape_at-none}
 use Rattle.lis_record.proofs.Runs.{escape_added, lone_added}
 use Rattle.lis_record.proofs.respelling.add_escape.Goals as goal
@@ -31,5 +34,8 @@ returns-clause-same c =
       | in_default w ↦
           escape_at-none d text (rw c.escape-escape.ensures at (sym c.place_of.ensures ∙ w.in_default.is))
     ] in
-    lone_added d c.escape-escape.result c.escape-escape.ensures c.args.out.now.items c.add_symbol-2.new.out.items text
-    none c.in_ok-add_symbol-2.ensures
+    let escape = c.escape-escape.result in
+    let spelled : spelled_symbol d (Char escape) ≡ escape ∷ 69 ∷ escape ∷ [] =
+    rw c.escape-escape.ensures (escape_spelled d c.field.ensures.shape) in
+    lone_added d escape c.escape-escape.ensures c.args.out.now.items c.extend_from_slice.new.self.items text none
+    (c.in_ok-extend_from_slice.ensures.items ∙ ap (λ (l : List ℕ). c.args.out.now.items ++ l) (sym spelled))

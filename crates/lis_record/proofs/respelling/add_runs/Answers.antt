@@ -1,22 +1,22 @@
-use Rattle.std.proofs.Common.{◌++◌, List, ℕ, ap, sym, ◌∙◌}
-use Rattle.lis_record.proofs.LentTexts.{Lacks-position}
-use Rattle.lis_record.proofs.Respelled.{respelled_as_is}
-use Rattle.lis_record.proofs.Runs.{run_added}
+use Rattle.std.proofs.Common.{◌∙◌, refl}
+use Rattle.lis_record.proofs.Runs.{last_added, run_added}
 use Rattle.lis_record.proofs.respelling.add_runs.Goals as goal
 
-pub loop-place-preserved : goal.loop-place-preserved
-loop-place-preserved c =
-    run_added c.args.delimiters c.escape-escape.result c.escape-escape.ensures c.loop-place.out.items
-    c.extend_from_slice.new.self.items c.add_escape.new.out.items c.loop-place.rest.now c.split_at.result.0.now
-    c.split_at.result.1.now c.in_ok-rest.rest.now c.in-Some.place (sym c.place_of.ensures ∙ c.in-Some.is)
-    c.split_at.ensures.front c.split_at.ensures.back c.in_ok-extend_from_slice.ensures.items c.in_ok-rest.ensures.same
-    ∙ c.loop-place.invariant
+pub loop-escape-preserved : goal.loop-escape-preserved
+loop-escape-preserved c =
+    run_added c.args.delimiters c.args.delimiters.escape refl c.loop-escape.out.items
+    c.extend_from_slice.new.self.items c.add_escape.new.out.items c.loop-escape.rest.now c.in_ok-rest.rest.now
+    c.split_at.result.0.now c.split_at.result.1.now c.in-Some.inside.now c.in-Some._escape.now
+    (rw (c.split_at.ensures.front, c.split_at.ensures.back) c.front_as_is.ensures.same) c.in-Some.ensures.cases.0
+    (rw c.split_at.ensures.back c.front_as_is.ensures.next)
+    c.in_ok-extend_from_slice.ensures.items c.in_ok-rest.ensures.same
+    ∙ c.loop-escape.invariant
 
-pub returns : goal.returns
-returns c =
-    let free = rw c.escape-escape.ensures at (Lacks-position c.escape-escape.result c.loop-place.rest.now
-    (sym c.place_of.ensures ∙ c.in_default.is)) in
-    c.in_ok-extend_from_slice-2.ensures.items
-    ∙ ap (λ (l : List ℕ). c.loop-place.out.items ++ l)
-    (sym (respelled_as_is c.args.delimiters c.loop-place.rest.now free))
-    ∙ c.loop-place.invariant
+pub returns-in_default : goal.returns-in_default
+returns-in_default c =
+    last_added c.args.delimiters c.args.delimiters.escape refl c.loop-escape.out.items
+    c.extend_from_slice.new.self.items c.loop-escape.rest.now
+    c.split_at.result.0.now c.split_at.result.1.now
+    (rw (c.split_at.ensures.front, c.split_at.ensures.back) c.front_as_is.ensures.same) c.in_default.ensures.cases
+    c.in_ok-extend_from_slice.ensures.items
+    ∙ c.loop-escape.invariant

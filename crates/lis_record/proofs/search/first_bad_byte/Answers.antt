@@ -5,16 +5,16 @@ use Rattle.lis_record.proofs.BadBytes.{found_before, found_bound, found_texts, f
 use Rattle.lis_record.proofs.search.first_bad_byte.Goals as goal
 
 pub returns-clause-place : goal.returns-clause-place
-returns-clause-place c = c.first_in.ensures ∙ sym (position_from-zero (λ b. not (is_text_byte b)) c.args.bytes.now)
+returns-clause-place c = c.first_bad.ensures ∙ sym (position_from-zero (λ b. not (is_text_byte b)) c.args.bytes.now)
 
 pub returns-clause-bound : goal.returns-clause-bound
-returns-clause-bound c = found_bound c.args.bytes.now c.first_in.result c.first_in.ensures
+returns-clause-bound c = found_bound c.args.bytes.now c.first_bad.result c.first_bad.ensures
 
 pub returns-clause-before : goal.returns-clause-before
-returns-clause-before c = found_before c.args.bytes.now c.first_in.result c.first_in.ensures
+returns-clause-before c = found_before c.args.bytes.now c.first_bad.result c.first_bad.ensures
 
 pub returns-clause-texts : goal.returns-clause-texts
-returns-clause-texts c = found_texts c.args.bytes.now c.first_in.result c.first_in.ensures
+returns-clause-texts c = found_texts c.args.bytes.now c.first_bad.result c.first_bad.ensures
 
 pub returns-clause-text : goal.returns-clause-text
-returns-clause-text c = found_none c.args.bytes.now c.first_in.result c.first_in.ensures
+returns-clause-text c = found_none c.args.bytes.now c.first_bad.result c.first_bad.ensures

@@ -1,15 +1,23 @@
 use Rattle.std.proofs.Common.{◌≡◌, ◌+◌, arith}
 use Rattle.lis_record.proofs.FieldTexts.{passed_more, passed_one, passed_within, taken_parts}
+use Rattle.lis_record.proofs.Marks.{marks-next}
 use Rattle.lis_record.proofs.texts.split_parts.Goals as goal
+
+pub first_marked-further-requires : goal.first_marked-further-requires
+first_marked-further-requires c =
+    marks-next c.args.delimiter c.in-Some-split_first._mark.now c.loop-left.marks c.loop-left.rest.now
+    c.in-Some-split_first.behind.now c.in-Some-split_first.ensures.cases.0 c.loop-left.invariant.marks
 
 pub loop-left-init : goal.loop-left-init
 loop-left-init c = record {
   passed = 1;
   some = omega arith;
-  sum = omega (arith, c.requires);
+  sum = omega (arith, c.requires.some);
   parts =
-      passed_one c.args.delimiter c.in-Some.parts.now c.first_part.result.0.now c.first_part.result.1.now
-      c.first_part.ensures.parts c.first_part.ensures.joined c.first_part.ensures.mark;
+      passed_one c.args.delimiter c.in-Some.parts.now c.first_marked-marks.result.0.now
+      c.first_marked-marks.result.1.now c.first_marked-marks.ensures.parts
+      c.first_marked-marks.ensures.joined c.first_marked-marks.ensures.mark;
+  marks = c.first_marked-marks.ensures.marks;
 }
 
 pub loop-left-preserved : goal.loop-left-preserved
@@ -19,11 +27,12 @@ loop-left-preserved c = record {
   sum = omega (arith, c.loop-left.invariant.sum, c.loop-left-test.true);
   parts =
       passed_more c.args.delimiter c.in-Some.parts.now c.loop-left.rest.now c.loop-left.invariant.passed
-      c.in-Some-split_first._mark.now c.in-Some-split_first.behind.now c.first_part-in-loop-left.result.0.now
-      c.first_part-in-loop-left.result.1.now
+      c.in-Some-split_first._mark.now c.in-Some-split_first.behind.now c.first_marked-further.result.0.now
+      c.first_marked-further.result.1.now
       c.loop-left.invariant.parts c.in-Some-split_first.ensures.cases.0
-      c.first_part-in-loop-left.ensures.parts c.first_part-in-loop-left.ensures.joined
-      c.first_part-in-loop-left.ensures.mark;
+      c.first_marked-further.ensures.parts c.first_marked-further.ensures.joined
+      c.first_marked-further.ensures.mark;
+  marks = c.first_marked-further.ensures.marks;
 }
 
 pub overflow_sub-parts : goal.overflow_sub-parts
@@ -31,10 +40,10 @@ overflow_sub-parts c =
     passed_within c.args.delimiter c.in-Some.parts.now c.loop-left.rest.now c.loop-left.invariant.passed
     c.loop-left.invariant.parts c.loop-left.invariant.some
 
-pub returns : goal.returns
-returns c =
+pub returns-clause-split : goal.returns-clause-split
+returns-clause-split c =
     let all : c.loop-left.invariant.passed ≡ c.args.count =
     omega (arith, c.loop-left.invariant.sum, c.loop-left-test.false) in
     taken_parts c.args.delimiter c.in-Some._delimiter.now c.args.count c.args.text.now c.in-Some.parts.now
     c.loop-left.rest.now c.split_at.result.0.now c.in-Some.ensures.cases.0
-    (rw all at c.loop-left.invariant.parts) c.requires c.split_at.ensures.front
+    (rw all at c.loop-left.invariant.parts) c.requires.some c.split_at.ensures.front

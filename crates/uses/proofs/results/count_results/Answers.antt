@@ -1,6 +1,7 @@
 use Rattle.std.proofs.Common.{◌≡◌, Err, append-nil, take_all, ◌+◌, [], ◌++◌, inl, inr, take, drop, flat_map, refl}
 use Rattle.std.proofs.Common.{sym, ap, ◌∙◌, arith}
-use Rattle.uses.specs.Readings.{counted, result_count}
+use Rattle.lis_text.specs.Capped.{capped}
+use Rattle.uses.specs.Readings.{result_count}
 use Rattle.uses.proofs.ReadingLaws.{counts_next, result_count-append, stream_next, stream_rest, nothing_read, if_err}
 use Rattle.uses.proofs.results.count_results.Goals as goal
 
@@ -30,7 +31,7 @@ pub loop-piece-preserved : goal.loop-piece-preserved
 loop-piece-preserved c =
     let so_far = c.loop-piece.invariant in
     let read = rw c.in_default.is at (c.feed-fed.ensures.read so_far.1 _ so_far.0 so_far.2) in
-    let last : c.loop-message.count ≡ counted (c.loop-piece.count + result_count c.feed-fed.result.messages) =
+    let last : c.loop-message.count ≡ capped (c.loop-piece.count + result_count c.feed-fed.result.messages) =
     rw (
       take_all c.loop-message.message-index c.as_slice-message-items.result.now
           (omega (arith, c.loop-message-test.false)),

@@ -1,9 +1,9 @@
 use Rattle.std.proofs.Common.{◌≡◌, ◌+◌, length}
 use Rattle.lis_tree.specs.Results.{results_left, results_of}
-use Rattle.uses.specs.Readings.{counted}
+use Rattle.lis_text.specs.Capped.{capped}
 use Rattle.uses.proofs.results.results_in.Given as goal
 
 -- those that were gone over, and those that are left
 abbrev pub invariant-loop-placed : goal.invariant-loop-placed
 invariant-loop-placed l = length l.yielded + length (results_left l._placed-iterator) ≡ length (results_of l.message)
-    × l.count ≡ counted (length l.yielded)
+    × l.count ≡ capped (length l.yielded)

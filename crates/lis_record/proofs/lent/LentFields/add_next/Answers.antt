@@ -1,9 +1,8 @@
-use Rattle.std.proofs.Common.{◌≡◌, ◌∷◌, ◌++◌, List, ℕ, ap, sym, ◌∙◌, map, take, append_assoc, drop}
+use Rattle.std.proofs.Common.{◌≡◌, ◌++◌, List, ℕ, ap, sym, ◌∙◌, map, take, drop}
 use Rattle.std.specs.List.{drop-map}
 use Rattle.lis_record.specs.Lent.{lent}
 use Rattle.lis_record.specs.inside.FrontReading.{fields_of, parts_behind, repeats_of}
 use Rattle.lis_record.specs.inside.Remaining.{more_fields}
-use Rattle.lis_record.specs.inside.Respelling.{respelled}
 use Rattle.lis_record.proofs.FieldTexts.{fields_added}
 use Rattle.lis_record.proofs.lent.LentFields.add_next.Goals as goal
 
@@ -13,14 +12,11 @@ returns-clause-added c = λ added.
     let d = i.delimiters in
     let old = c.args.text.now.items in
     let all = i.text.now in
-    let taken = c.in-Some.fields.now in
-    let told = rw c.field.ensures.byte at c.in-Some.ensures in
-    let spelled : c.add_respelled.new.out.items ≡ old ++ more_fields d (take c.args.count (fields_of d all)) =
-    c.in_ok-add_respelled.ensures
-    ∙ ap (λ (l : List ℕ). l ++ respelled d taken) c.in_ok-extend_from_slice.ensures.items
-    ∙ append_assoc old _ (respelled d taken)
-    ∙ ap (λ (byte : ℕ). old ++ byte ∷ respelled d taken) c.field-2.ensures.byte
-    ∙ ap (λ (l : List ℕ). old ++ l) (fields_added d c.field.ensures.shape all taken c.args.count told.1) in
+    let told = rw c.field-mark.ensures.byte at c.in-Some.ensures.split in
+    let spelled : c.add_behind.new.out.items ≡ old ++ more_fields d (take c.args.count (fields_of d all)) =
+    c.in_ok-add_behind.ensures
+    ∙ ap (λ (l : List ℕ). old ++ l) (fields_added d c.field-mark.ensures.shape all (drop 1 c.in-Some.fields.now)
+    c.args.count told.1) in
     let left : fields_of d c.in-Some.rest.now ≡ drop c.args.count (fields_of d all) =
     ap (map (repeats_of d)) told.2 ∙ sym (drop-map (repeats_of d) c.args.count (parts_behind d.field all)) in
     rw (sym c.self.view_is) (spelled, ap (lent d) left)

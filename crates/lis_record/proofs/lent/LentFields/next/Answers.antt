@@ -3,5 +3,5 @@ use Rattle.lis_record.proofs.lent.LentFields.next.Goals as goal
 
 pub invariant_of-result : goal.invariant_of-result
 invariant_of-result c =
-    rw c.field.ensures.byte at (Lacks-first c.field.result c.in-Some.behind.now c.first_part.result.0.now
-    c.first_part.result.1.now c.first_part.ensures.parts)
+    rw c.field.ensures.byte at (Lacks-first c.field.result c.in-Some.behind.now c.first_marked-marks.result.0.now
+    c.first_marked-marks.result.1.now c.first_marked-marks.ensures.parts)

@@ -4,7 +4,8 @@ use Rattle.lis_record.proofs.search.BadBytesByteSet.bits.Goals as goal
 
 pub returns-then-unusual-eq0 : goal.returns-then-unusual-eq0
 returns-then-unusual-eq0 c =
-    unusual-none (take 16 c.args.bytes.now) (omega (arith, length-take 16 c.args.bytes.now)) c.if-unusual-eq0.true
+    unusual-none 16 (omega arith) (take 16 c.args.bytes.now) (omega (arith, length-take 16 c.args.bytes.now))
+    c.if-unusual-eq0.true
 
 pub overflow_sub-result : goal.overflow_sub-result
 overflow_sub-result c = allowed-within (take 16 c.args.bytes.now) (omega (arith, length-take 16 c.args.bytes.now))

@@ -2,18 +2,18 @@ use Rattle.std.proofs.Common.{◌≡◌, ℕ, ◌+◌, ◌++◌, ◌∷◌, [], 
 use Rattle.lis_field.specs.declared.kinds.Kind.{Kind}
 use Rattle.lis_tree.specs.Findings.{findings_from, kinds_back}
 use Rattle.lis_tree.specs.Numbers.{CountsOf}
-use Rattle.lis_tree.specs.Places.{capped}
+use Rattle.lis_text.specs.Capped.{capped}
 use Rattle.lis_tree.proofs.Counting.{findings-more, kinds_back-more}
 use Rattle.lis_tree.proofs.numbering.Numbering.take.Goals as goal
 
 pub returns-clause-found : goal.returns-clause-found
 returns-clause-found c = λ records has.
     let r = c.args.entry.now.content in
-    let place : c.next_place.result ≡ capped (1 + length records) =
-    c.next_place.ensures records has ∙ ap (λ (k : ℕ). capped k) (omega arith) in
+    let place : c.next_place-place.result ≡ capped (1 + length records) =
+    c.next_place-place.ensures records has ∙ ap (λ (k : ℕ). capped k) (omega arith) in
     findings-more [] 1 records r
     ∙ ap (λ l. findings_from [] 1 records ++ l)
-    (sym (c.finding_on-finding.ensures (kinds_back [] records) (1 + length records) r has.counts place
+    (sym (c.finding_on.ensures (kinds_back [] records) (1 + length records) r has.counts place
     (sym c.kind-kind.ensures) (sym c.lent_number.ensures)))
 
 pub returns-clause-numbered : goal.returns-clause-numbered

@@ -1,8 +1,10 @@
 ghost use Rattle.std.specs.Prelude.{◌≤◌};
+ghost use Rattle.lis_frame.specs.Limit.{IsLimit};
 
 use lis_frame::FrameFault;
 use lis_link::{Note, Receiver, ReceiverOf};
 use std::alloc::{AllocError, Global};
+use std::process::Abort;
 use std::test::Fail;
 
 /// What the last byte of these is answered: the reply, the note and the length of the text handed out.
@@ -22,30 +24,23 @@ fn opened(alloc: Global) -> Receiver {
     receiver
 }
 
+/// Fails where the last byte of a frame doesn't hand out this text, which is given back.
+fn assert_given_back(rt: &impl Abort, receiver: &mut Receiver, want: &[u8]) {
+    let text = receiver.byte(0x0a).message.expect(rt, "a text");
+    assert_eq!(rt; text.as_slice(), want);
+    receiver.reuse(text);
+}
+
 #[test]
-fn a_text_that_is_given_back_is_gone(rt: HostRuntime) -> Result<(), Fail> {
+fn a_text_that_is_given_back_is_gone(rt: HostRuntime) {
     let mut receiver = opened(rt.alloc());
-    let _ = last_step(&mut receiver, b"\x021A\x1789\r");
-    let step = receiver.byte(0x0a);
-    assert_eq!(rt; (step.reply, step.note), (Some(0x06), Note::Accepted(1)));
+    let accepted = (Some(0x06), Note::Accepted(1), None);
+    assert_eq!(rt; last_step(&mut receiver, b"\x021A\x1789\r\n"), accepted);
     let _ = last_step(&mut receiver, b"\x022A\x0376\r");
-    let step = receiver.byte(0x0a);
-    match step.message {
-        Some(text) => {
-            assert_eq!(rt; text.as_slice(), b"AA".as_slice());
-            receiver.reuse(text);
-        }
-        None => assert!(rt; false),
-    }
-    assert_eq!(rt; receiver.held(), 0);
-    assert_eq!(rt; receiver.accepted(), 2);
+    assert_given_back(&rt, &mut receiver, b"AA");
+    assert_eq!(rt; (receiver.held(), receiver.accepted()), (0, 2));
     let _ = last_step(&mut receiver, b"\x023A\x0377\r");
-    let step = receiver.byte(0x0a);
-    match step.message {
-        Some(text) => assert_eq!(rt; text.as_slice(), b"A".as_slice()),
-        None => assert!(rt; false),
-    }
-    Ok(())
+    assert_given_back(&rt, &mut receiver, b"A");
 }
 
 /// Sends a full intermediate frame of letters A behind so many others of its session.
@@ -79,26 +74,30 @@ fn fill(receiver: &mut Receiver, frames: usize) -> (Option<u8>, Note, Option<usi
     last
 }
 
+/// Fails where the last of these bytes isn't answered so, or another number of bytes is held then.
+fn assert_answered(
+    rt: &impl Abort,
+    receiver: &mut Receiver,
+    bytes: &[u8],
+    want: (Option<u8>, Note, Option<usize>),
+    held: u64,
+) {
+    assert_eq!(rt; last_step(receiver, bytes), want);
+    assert_eq!(rt; receiver.held(), held);
+}
+
 #[test]
 fn the_held_text_has_a_limit(rt: HostRuntime) -> Result<(), Fail> {
     let mut receiver = opened(rt.alloc());
     receiver.reserve(1_048_576)?;
-    assert_eq!(rt;
-        fill(&mut receiver, 4369),
-        (Some(0x06), Note::Accepted(1), None)
-    );
+    let filled = fill(&mut receiver, 4369);
+    assert_eq!(rt; filled, (Some(0x06), Note::Accepted(1), None));
     assert_eq!(rt; receiver.held(), 1_048_560);
     let sixteen = b"\x022AAAAAAAAAAAAAAAA\x1759\r\n";
-    assert_eq!(rt;
-        last_step(&mut receiver, sixteen),
-        (Some(0x06), Note::Accepted(2), None)
-    );
-    assert_eq!(rt; receiver.held(), 1_048_576);
-    assert_eq!(rt;
-        last_step(&mut receiver, b"\x023A\x178B\r\n"),
-        (Some(0x15), Note::TooLong, None)
-    );
-    assert_eq!(rt; receiver.held(), 1_048_576);
+    let accepted = (Some(0x06), Note::Accepted(2), None);
+    assert_answered(&rt, &mut receiver, sixteen, accepted, 1_048_576);
+    let too_long = (Some(0x15), Note::TooLong, None);
+    assert_answered(&rt, &mut receiver, b"\x023A\x178B\r\n", too_long, 1_048_576);
     let whole = (Some(0x06), Note::Accepted(3), Some(1_048_576));
     assert_eq!(rt; last_step(&mut receiver, b"\x023\x0336\r\n"), whole);
     Ok(())
@@ -115,26 +114,39 @@ fn frame_of_letters(alloc: Global, letters: usize, digits: &[u8]) -> Result<Vec<
     Ok(bytes)
 }
 
+/// Fails where these bytes of a frame, which come at once, aren't answered so.
+fn assert_heard<const N: usize>(
+    rt: &impl Abort,
+    alloc: Global,
+    bytes: &[u8],
+    note: Note,
+    length: Option<usize>,
+)
+    requires { IsLimit N }
+{
+    let mut receiver = ReceiverOf::<N>::new(alloc);
+    let _ = receiver.byte(0x05);
+    let heard = receiver.bytes(bytes);
+    let told = heard.step.message.map(|text| text.len());
+    assert_eq!(rt;
+        (heard.count, heard.step.note, told),
+        (bytes.len(), note, length)
+    );
+}
+
 #[test]
 fn the_longest_frame_is_taken_at_once(rt: HostRuntime) -> Result<(), Fail> {
+    let alloc = rt.alloc();
+    let good = Note::Accepted(1);
     // 240 letters A, the digit 1 and ETX have the sum 0x24, and 63,993 have 0x6D.
-    for (letters, digits) in [(240, b"24"), (63_993, b"6D")] {
-        let bytes = frame_of_letters(rt.alloc(), letters, digits)?;
-        let mut long = ReceiverOf::<63_993>::new(rt.alloc());
-        let _ = long.byte(0x05);
-        let heard = long.bytes(bytes.as_slice());
-        assert_eq!(rt; heard.count, letters + 7);
-        assert_eq!(rt; heard.step.note, Note::Accepted(1));
-        assert_eq!(rt; heard.step.message.map(|text| text.len()), Some(letters));
-        let mut usual = opened(rt.alloc());
-        let heard = usual.bytes(bytes.as_slice());
-        assert_eq!(rt; heard.count, letters + 7);
-        let want = if letters == 240 {
-            Note::Accepted(1)
-        } else {
-            Note::Refused(FrameFault::TooLong)
-        };
-        assert_eq!(rt; heard.step.note, want);
-    }
+    let short = frame_of_letters(alloc, 240, b"24")?;
+    assert_eq!(rt; short.len(), 247);
+    assert_heard::<63_993>(&rt, alloc, short.as_slice(), good, Some(240));
+    assert_heard::<240>(&rt, alloc, short.as_slice(), good, Some(240));
+    let long = frame_of_letters(alloc, 63_993, b"6D")?;
+    assert_eq!(rt; long.len(), 64_000);
+    assert_heard::<63_993>(&rt, alloc, long.as_slice(), good, Some(63_993));
+    let bad = Note::Refused(FrameFault::TooLong);
+    assert_heard::<240>(&rt, alloc, long.as_slice(), bad, None);
     Ok(())
 }

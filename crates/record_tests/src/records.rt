@@ -4,6 +4,7 @@ use lis_message::{Found, LentRecord, MessageFault, Reason, RecordReader};
 use lis_port::Slow;
 use lis_record::Kind;
 use std::alloc::Global;
+use std::process::Abort;
 use std::test::Fail;
 
 const STREAM: &[u8] =
@@ -61,14 +62,27 @@ fn read_cut(alloc: Global, stream: &[u8], place: usize) -> Result<(RecordReader,
     Ok((reader, written))
 }
 
+/// Fails where other kinds of records, other fields 3 or another fault were written down.
+fn assert_written(
+    rt: &impl Abort,
+    written: &Written,
+    kinds: &[u8],
+    fields: &[u8],
+    fault: Option<MessageFault>,
+) {
+    assert_eq!(rt; written.kinds.as_slice(), kinds);
+    assert_eq!(rt; written.fields.as_slice(), fields);
+    assert_eq!(rt; written.fault, fault);
+}
+
 #[test]
 fn a_stream_cut_anywhere_gives_its_records(rt: HostRuntime) -> Result<(), Fail> {
     for place in 0..=STREAM.len() {
         let (reader, written) = read_cut(rt.alloc(), STREAM, place)?;
-        assert_eq!(rt; written.kinds.as_slice(), b"H3P1O2R3L2H1P2L2".as_slice());
-        assert_eq!(rt; written.fields.as_slice(), b"S7^^^GLUNax!yN".as_slice());
-        assert_eq!(rt; written.fault, None);
-        assert_eq!(rt; reader.finish(), Ok(()));
+        let ended = reader.finish();
+        drop(reader);
+        assert_written(&rt, &written, b"H3P1O2R3L2H1P2L2", b"S7^^^GLUNax!yN", None);
+        assert_eq!(rt; ended, Ok(()));
     }
     Ok(())
 }
@@ -82,10 +96,10 @@ fn a_refused_record_is_told_for_good(rt: HostRuntime) -> Result<(), Fail> {
     };
     for place in 0..=stream.len() {
         let (reader, written) = read_cut(rt.alloc(), stream, place)?;
-        assert_eq!(rt; written.kinds.as_slice(), b"H0P1".as_slice());
-        assert_eq!(rt; written.fault, Some(fault));
-        assert_eq!(rt; reader.finish(), Err(fault));
-        assert_eq!(rt; reader.held(), 0);
+        let told = (reader.finish(), reader.held());
+        drop(reader);
+        assert_written(&rt, &written, b"H0P1", b"", Some(fault));
+        assert_eq!(rt; told, (Err(fault), 0));
     }
     Ok(())
 }
@@ -93,14 +107,13 @@ fn a_refused_record_is_told_for_good(rt: HostRuntime) -> Result<(), Fail> {
 #[test]
 fn a_record_without_its_return_is_unfinished(rt: HostRuntime) -> Result<(), Fail> {
     let (reader, written) = read_cut(rt.alloc(), b"H|\\^&\rP|1\rL|1|N", 8)?;
-    assert_eq!(rt; written.kinds.as_slice(), b"H0P1".as_slice());
-    assert_eq!(rt; reader.held(), 5);
-    assert_eq!(rt;
-        reader.finish(),
-        Err(MessageFault {
-            place: 3,
-            reason: Reason::Unfinished,
-        })
-    );
+    let told = (reader.held(), reader.finish());
+    drop(reader);
+    let unfinished = MessageFault {
+        place: 3,
+        reason: Reason::Unfinished,
+    };
+    assert_written(&rt, &written, b"H0P1", b"", None);
+    assert_eq!(rt; told, (5, Err(unfinished)));
     Ok(())
 }

@@ -2,7 +2,7 @@ ghost use Rattle.std.specs.Prelude.{◌≤◌, length};
 ghost use Rattle.lis_frame.specs.Limit.{IsLimit};
 
 use lis_frame::{FrameFault, Heard, ScannerOf};
-use std::test::Fail;
+use std::process::Abort;
 
 /// What an observer writes down of a signal.
 #[derive(Debug, Clone, Copy, PartialEq, Eq)]
@@ -84,30 +84,33 @@ fn cut_at<const N: usize>(stream: &[u8], place: usize) -> (Option<Told>, usize)
     (last, before.saturating_add(behind))
 }
 
+/// Fails where a stream tells otherwise somewhere that it is cut: with frames of up to 240 text bytes, and of 63,993.
+fn assert_cut(
+    rt: &impl Abort,
+    stream: &[u8],
+    usual: (Option<Told>, usize),
+    long: (Option<Told>, usize),
+) {
+    for place in 0..stream.len() {
+        assert_eq!(rt; cut_at::<240>(stream, place), usual);
+        assert_eq!(rt; cut_at::<63_993>(stream, place), long);
+    }
+}
+
 #[test]
-fn scanning_pieces_tells_what_the_stream_tells(rt: HostRuntime) -> Result<(), Fail> {
+fn scanning_pieces_tells_what_the_stream_tells(rt: HostRuntime) {
     let header = Told::Good {
         number: 1,
         last: true,
         length: 6,
     };
     let session = b"\x05noise\x02torn\x02\n\x021H|\\^&\r\x03e5\r\n";
-    for place in 0..session.len() {
-        assert_eq!(rt; cut_at::<240>(session, place), (Some(header), 3));
-        assert_eq!(rt; cut_at::<63_993>(session, place), (Some(header), 3));
-    }
+    assert_cut(&rt, session, (Some(header), 3), (Some(header), 3));
     let long = Told::Good {
         number: 1,
         last: true,
         length: 241,
     };
-    let frame = frame_of_241();
-    for place in 0..frame.len() {
-        assert_eq!(rt; cut_at::<63_993>(&frame, place), (Some(long), 1));
-        assert_eq!(rt;
-            cut_at::<240>(&frame, place),
-            (Some(Told::Bad(FrameFault::TooLong)), 1)
-        );
-    }
-    Ok(())
+    let bad = Told::Bad(FrameFault::TooLong);
+    assert_cut(&rt, &frame_of_241(), (Some(bad), 1), (Some(long), 1));
 }

@@ -1,0 +1,15 @@
+//! Tests over the public calls of fields, records and messages: what no contract, no conformance row and no test of the
+//! programs says.
+//! They stand in a crate of their own, as a crate that has tests is proved once more with them.
+#![tactic(auto)]
+
+#[cfg(test)]
+mod field;
+#[cfg(test)]
+mod memory;
+#[cfg(test)]
+mod message;
+#[cfg(test)]
+mod record;
+#[cfg(test)]
+mod records;
