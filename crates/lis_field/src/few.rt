@@ -5,6 +5,7 @@ ghost use Rattle.lis_field.specs.declared.symbols.Sym.TheVariants.{Char};
 
 use crate::symbols::Sym;
 use std::marker::Model;
+use std::simd::prelude::*;
 
 // How many symbols stand in place: as many as take no more room than what keeps more.
 pub(crate) const FEW: usize = 15;
@@ -51,6 +52,25 @@ impl Few {
         }
         Few {
             count: text.len() as u8,
+            symbols,
+        }
+    }
+
+    // So many bytes of a text's front, each a character. Sixteen bytes are read and fifteen symbols made of them at once,
+    // so that no loop turns on the count.
+    #[inline(always)]
+    pub(crate) fn from_front(text: &[u8], count: usize) -> Self
+        requires few { count ≤ 15 }
+        requires room { 16 ≤ length text.now }
+        ensures { result ≡ map Char (take count text.now) }
+    {
+        let lanes = u8x16::from_slice(text).to_array();
+        let mut symbols = [Sym::Off; FEW];
+        for place in 0..FEW {
+            symbols[place] = Sym::Char(lanes[place]);
+        }
+        Few {
+            count: count as u8,
             symbols,
         }
     }

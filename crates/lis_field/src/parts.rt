@@ -1,7 +1,7 @@
 //! What a field is made of: components in repeats, repeats in fields (LIS02-A2, Delimiters).
 
 ghost use Rattle.std.specs.Prelude.{◌≡◌, ◌++◌, ◌∷◌, [], length, slice_get, ◌≢◌, ℕ, List, IfErr, IfOk, MatchOption};
-ghost use Rattle.std.specs.Prelude.{OnOk};
+ghost use Rattle.std.specs.Prelude.{OnOk, take};
 ghost use Rattle.std.specs.Option.{option_copied};
 ghost use Rattle.std.specs.Cmp.Lexicographic.{pointwise, lists_equiv, lists_per};
 ghost use Rattle.lis_field.specs.contracts.symbols.SymPartialEq.TheImpl as symbol;
@@ -57,6 +57,17 @@ impl Component {
     {
         Ok(Component {
             symbols: SymbolList::from_text(alloc, text)?,
+        })
+    }
+
+    /// The component of so many bytes of a text's front, each a character; of the whole text where it has fewer. What
+    /// follows in the text may be read, and isn't told.
+    #[inline(always)]
+    pub fn from_front(alloc: Global, text: &[u8], count: usize) -> Result<Self, AllocError>
+        ensures { IfOk result (λ component. component ≡ plain_component (take count text.now)) }
+    {
+        Ok(Component {
+            symbols: SymbolList::from_front(alloc, text, count)?,
         })
     }
 
@@ -275,6 +286,16 @@ impl Field {
         ensures { IfOk result (λ field. field ≡ plain_field text.now) }
     {
         let component = Component::from_text(alloc, text)?;
+        Ok(Field::new(alloc, Repeat::new(alloc, component)?)?)
+    }
+
+    /// The field of one component that holds so many bytes of a text's front, each a character; of the whole text where
+    /// it has fewer. What follows in the text may be read, and isn't told.
+    #[inline(always)]
+    pub fn from_front(alloc: Global, text: &[u8], count: usize) -> Result<Self, AllocError>
+        ensures { IfOk result (λ field. field ≡ plain_field (take count text.now)) }
+    {
+        let component = Component::from_front(alloc, text, count)?;
         Ok(Field::new(alloc, Repeat::new(alloc, component)?)?)
     }
 

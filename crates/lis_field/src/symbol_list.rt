@@ -1,6 +1,6 @@
 //! Lists of symbols that keep few of them in place.
 
-ghost use Rattle.std.specs.Prelude.{◌≡◌, ◌++◌, ◌∷◌, [], length, IfErr, IfOk, OnOk};
+ghost use Rattle.std.specs.Prelude.{◌≡◌, ◌++◌, ◌∷◌, [], length, take, IfErr, IfOk, OnOk};
 ghost use Rattle.lis_field.specs.Shape.{plain_component};
 
 use crate::few::{FEW, Few};
@@ -74,6 +74,19 @@ impl SymbolList {
         Ok(SymbolList { alloc, kept })
     }
 
+    // A list of so many bytes of a text's front, each a character; of the whole text where it has fewer.
+    #[inline(always)]
+    pub(crate) fn from_front(alloc: Global, text: &[u8], count: usize) -> Result<Self, AllocError>
+        ensures { IfOk result (λ list. list ≡ plain_component (take count text.now)) }
+    {
+        if count <= FEW && text.len() > FEW {
+            let kept = Kept::Few(Few::from_front(text, count));
+            return Ok(SymbolList { alloc, kept });
+        }
+        let (front, _behind) = text.split_at(count.min(text.len()));
+        SymbolList::from_text(alloc, front)
+    }
+
     // The same list once more.
     pub(crate) fn copy(&self, alloc: Global) -> Result<Self, AllocError>
         ensures { IfOk result (λ list. list ≡ self.now) }
@@ -98,7 +111,16 @@ impl SymbolList {
             few.push(symbol);
             return Ok(());
         }
-        match longer(self.alloc, few.as_slice(), symbol) {
+        self.push_beyond(symbol)
+    }
+
+    // The same where memory of its own is to be taken: its locals are large, and each symbol would pay for them.
+    #[inline(never)]
+    fn push_beyond(&mut self, symbol: Sym) -> Result<(), AllocFailed<Sym>>
+        ensures ok { OnOk result (self.new ≡ self.old ++ symbol ∷ []) }
+        ensures err { IfErr result (λ refused. (refused.value ≡ symbol) × (self.new ≡ self.old)) }
+    {
+        match longer(self.alloc, self.as_slice(), symbol) {
             Ok(many) => {
                 self.kept = Kept::Many(many);
                 Ok(())

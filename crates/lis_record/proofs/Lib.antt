@@ -5,6 +5,7 @@ pub mod Components
 pub mod FaultLaws
 pub mod FaultlessTexts
 pub mod FieldTexts
+pub mod Fronts
 pub mod Joins
 pub mod Lanes
 pub mod LastBits

@@ -16,7 +16,7 @@ use Rattle.lis_record.proofs.Joins.{Lacks-tests}
 use Rattle.lis_text.proofs.SearchLemmas.{clean-before, found-chunk}
 
 -- where none is found, each fails
-all-fail : (f : ℕ → Bool) (i : ℕ) (xs : List ℕ) → position_from f i xs ≡ None → All (λ b. f b ≡ false) xs
+pub all-fail : (f : ℕ → Bool) (i : ℕ) (xs : List ℕ) → position_from f i xs ≡ None → All (λ b. f b ≡ false) xs
 all-fail f i [] e = All-nil (λ b. f b ≡ false)
 all-fail f i (x ∷ xs) e = by (f x) refl e (all-fail f (i + 1) xs)
   where

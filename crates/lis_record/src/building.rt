@@ -1,16 +1,20 @@
 //! Records made from their texts, part by part (LIS02-A2, Delimiters).
 
-ghost use Rattle.std.specs.Prelude.{◌≡◌, ◌≤◌, ◌-◌, ◌++◌, ◌∷◌, [], ℕ, List, IfOk, IsTrue, OnOk, drop, length};
-ghost use Rattle.std.specs.Prelude.{replicate};
+ghost use Rattle.std.specs.Prelude.{◌≡◌, ◌≤◌, ◌-◌, ◌++◌, ◌∷◌, [], ℕ, List, IfOk, IfSome, IsTrue, OnOk, drop, length};
+ghost use Rattle.std.specs.Prelude.{map, replicate, take};
 ghost use Rattle.lis_field.specs.Shape.{plain_field};
 ghost use Rattle.lis_record.specs.inside.FrontReading.{components_of, fields_of, parts_of, repeats_of};
-ghost use Rattle.lis_record.specs.inside.FrontReading.{EndsWith, TakesField, symbols_of};
+ghost use Rattle.lis_record.specs.inside.FrontReading.{BeginsWith, ComponentFront, EndsWith, TakesField, ends_part};
+ghost use Rattle.lis_record.specs.inside.FrontReading.{symbols_of};
+ghost use Rattle.lis_record.specs.Relation.{Lacks};
+ghost use Rattle.std.specs.Simd.Lanes.{mask_l};
 
 use crate::escapes::read_component;
-use crate::search::{place_of, plain_length};
+use crate::search::{bits_of, place_of, plain_length};
 use crate::texts::{count_parts, first_part};
 use lis_field::{Component, Delimiters, Field, Kind, Record, Repeat};
 use std::alloc::{AllocError, Global};
+use std::simd::prelude::*;
 
 // Whether a field is one component without an escape byte, so that its bytes are its symbols.
 #[inline(always)]
@@ -85,6 +89,146 @@ fn read_repeat(alloc: Global, delimiters: Delimiters, text: &[u8]) -> Result<Rep
     Ok(repeat)
 }
 
+// The places among sixteen bytes that hold a delimiter at which a component ends, as bits.
+#[inline(always)]
+fn part_bits(delimiters: Delimiters, bytes: &[u8]) -> u64
+    requires { 16 ≤ length bytes.now }
+    ensures { result ≡ mask_l (map (ends_part delimiters) (take 16 bytes.now)) }
+{
+    let sixteen = u8x16::from_slice(bytes);
+    let outer = sixteen.simd_eq(u8x16::splat(delimiters.field()))
+        | sixteen.simd_eq(u8x16::splat(delimiters.repeat()));
+    (outer | sixteen.simd_eq(u8x16::splat(delimiters.component()))).to_bitmask()
+}
+
+// Whether this byte is known to stand nowhere among so many of the first sixteen.
+#[inline(always)]
+fn is_free(bytes: &[u8], count: usize, mark: u8) -> bool
+    requires room { 16 ≤ length bytes.now }
+    requires few { count ≤ 16 }
+    ensures { IsTrue result → Lacks mark (take count bytes.now) }
+{
+    let bits = bits_of(bytes, mark);
+    if bits == 0 {
+        return true;
+    }
+    count <= bits.trailing_zeros() as usize
+}
+
+// Where the component ends that a field's text begins with, and whether its bytes are known to be its symbols; none
+// where no component delimiter or the end is found within sixteen bytes. The text is given twice, once with more behind
+// it or nothing, so that sixteen bytes can be looked at.
+#[inline(always)]
+fn component_front(delimiters: Delimiters, text: &[u8], padded: &[u8]) -> Option<(usize, bool)>
+    requires { BeginsWith padded.now text.now }
+    ensures front { IfSome result (λ found. ComponentFront delimiters text.now found.0 found.1) }
+    ensures room { IfSome result (λ found. 16 ≤ length padded.now) }
+{
+    if padded.len() < 16 {
+        return None;
+    }
+    let bits = part_bits(delimiters, padded);
+    if bits == 0 {
+        return None;
+    }
+    let stop = bits.trailing_zeros() as usize;
+    if stop >= text.len() {
+        return Some((text.len(), is_free(padded, text.len(), delimiters.escape())));
+    }
+    if text[stop] != delimiters.component() {
+        return None;
+    }
+    Some((stop, is_free(padded, stop, delimiters.escape())))
+}
+
+// A repeat of the component that a field's text begins with, with memory for as many as the delimiters among the first
+// sixteen bytes tell of. Each way makes it itself, so that none is moved to where they meet.
+#[inline(always)]
+fn first_front(
+    alloc: Global,
+    delimiters: Delimiters,
+    text: &[u8],
+    padded: &[u8],
+    front: (usize, bool),
+) -> Result<Repeat, AllocError>
+    requires room { 16 ≤ length padded.now }
+    requires begins { BeginsWith padded.now text.now }
+    requires front { ComponentFront delimiters text.now front.0 front.1 }
+    ensures { IfOk result (λ repeat. repeat ≡ symbols_of delimiters (take front.0 text.now) ∷ []) }
+{
+    let (end, is_plain) = front;
+    let near = text.len().min(16).max(1);
+    let marks = bits_of(padded, delimiters.component()) << (64 - near);
+    let components = marks.count_ones() as usize + 1;
+    if is_plain {
+        return Repeat::with_capacity(
+            alloc,
+            Component::from_front(alloc, padded, end)?,
+            components,
+        );
+    }
+    let (part, _behind) = text.split_at(end);
+    Repeat::with_capacity(alloc, read_component(alloc, delimiters, part)?, components)
+}
+
+// Adds the component that a field's text begins with to a repeat, as above.
+#[inline(always)]
+fn push_front(
+    alloc: Global,
+    delimiters: Delimiters,
+    repeat: &mut Repeat,
+    text: &[u8],
+    padded: &[u8],
+    front: (usize, bool),
+) -> Result<(), AllocError>
+    requires begins { BeginsWith padded.now text.now }
+    requires front { ComponentFront delimiters text.now front.0 front.1 }
+    ensures { OnOk result (repeat.new ≡ repeat.old ++ symbols_of delimiters (take front.0 text.now) ∷ []) }
+{
+    let (end, is_plain) = front;
+    if is_plain {
+        repeat.push(Component::from_front(alloc, padded, end)?)?;
+    } else {
+        let (part, _behind) = text.split_at(end);
+        repeat.push(read_component(alloc, delimiters, part)?)?;
+    }
+    Ok(())
+}
+
+// Reads a field of one repeat and short components component by component, each looked at once; any other field by its
+// delimiters. The text is given twice, as above.
+#[inline(always)]
+fn read_parted(
+    alloc: Global,
+    delimiters: Delimiters,
+    text: &[u8],
+    padded: &[u8],
+) -> Result<Field, AllocError>
+    requires { BeginsWith padded.now text.now }
+    ensures { IfOk result (λ field. field ≡ repeats_of delimiters text.now) }
+{
+    let Some(front) = component_front(delimiters, text, padded) else {
+        return read_field(alloc, delimiters, text);
+    };
+    // A component delimiter is no repeat delimiter, since delimiters are apart.
+    let _ = delimiters.field();
+    let mut repeat = first_front(alloc, delimiters, text, padded, front)?;
+    let (_, mut rest) = text.split_at(front.0);
+    let (_, mut window) = padded.split_at(front.0);
+    while let Some((_delimiter, more)) = rest.split_first() {
+        let (_, behind) = window.split_at(1);
+        let Some(front) = component_front(delimiters, more, behind) else {
+            return read_field(alloc, delimiters, text);
+        };
+        push_front(alloc, delimiters, &mut repeat, more, behind, front)?;
+        let (_, others) = more.split_at(front.0);
+        let (_, further) = behind.split_at(front.0);
+        rest = others;
+        window = further;
+    }
+    Ok(Field::new(alloc, repeat)?)
+}
+
 // Reads a field; one component without an escape byte as it stands.
 #[inline(always)]
 pub(crate) fn read_field(
@@ -138,12 +282,13 @@ fn push_other<'a>(
     delimiters: Delimiters,
     entry: &mut Record,
     text: &'a [u8],
+    padded: &[u8],
 ) -> Result<&'a [u8], AllocError>
+    requires { BeginsWith padded.now text.now }
     ensures { IfOk result (λ rest. TakesField delimiters entry.old entry.new text.now rest.now) }
 {
     let (part, rest) = first_part(text, delimiters.field());
-    let field = read_field(alloc, delimiters, part)?;
-    entry.push(field)?;
+    entry.push(read_parted(alloc, delimiters, part, padded)?)?;
     Ok(rest)
 }
 
@@ -161,10 +306,10 @@ fn push_next<'a>(
     ensures { IfOk result (λ rest. TakesField delimiters entry.old entry.new text.now rest.now) }
 {
     let Some(end) = plain_length(delimiters, padded) else {
-        return push_other(alloc, delimiters, entry, text);
+        return push_other(alloc, delimiters, entry, text, padded);
     };
-    let (part, rest) = text.split_at(end);
-    entry.push(Field::from_text(alloc, part)?)?;
+    entry.push(Field::from_front(alloc, padded, end)?)?;
+    let (_field, rest) = text.split_at(end);
     Ok(rest)
 }
 

@@ -110,7 +110,7 @@ pub fn first_bad_byte(bytes: &[u8]) -> Option<usize>
 
 /// The places among sixteen bytes that hold this one, as bits.
 #[inline(always)]
-fn bits_of(bytes: &[u8], mark: u8) -> u64
+pub(crate) fn bits_of(bytes: &[u8], mark: u8) -> u64
     requires { 16 ≤ length bytes.now }
     ensures { result ≡ mask_l (map (λ b. b == mark) (take 16 bytes.now)) }
 {

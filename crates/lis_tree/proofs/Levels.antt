@@ -1,5 +1,5 @@
 -- Where the next record stands after the records of a tree's parts, and that each of these stands where it may.
-use Rattle.std.proofs.Common.{◌≡◌, ◌≢◌, List, [], ◌∷◌, ◌++◌, None, Some, refl, sym, ◌∙◌, ap, subst}
+use Rattle.std.proofs.Common.{◌≡◌, ◌≢◌, List, [], ◌∷◌, ◌++◌, None, Some, Option, refl, sym, ◌∙◌, ap, subst, append-nil}
 use Rattle.std.specs.List.{AllByRecursion, flat_map}
 use Rattle.lis_field.specs.declared.kinds.Kind.{Kind}
 use Rattle.lis_field.specs.declared.kinds.Kind.TheVariants as kinds
@@ -15,7 +15,8 @@ use Rattle.lis_tree.specs.Level.{Level, outside, in_header, in_patient, in_order
 use Rattle.lis_tree.specs.Level.{level_after, misplaced, StandsFrom, kinds_of}
 use Rattle.lis_tree.specs.Tree.{MessageTree, noted_records, order_records, patient_records, group_records, IsNote}
 use Rattle.lis_tree.specs.Tree.{AreNotes, IsNoted, IsOrder, IsPatient, IsGroup, IsTree}
-use Rattle.lis_tree.specs.inside.Spine.{front_records, spine_records, spine_level, IsFront, IsSpine}
+use Rattle.lis_tree.specs.inside.Spine.{front_records, last_records, open_records, spine_records, spine_level, IsFront}
+use Rattle.lis_tree.specs.inside.Spine.{IsLast, IsSpine}
 
 -- a run of kinds that all stand, and where it leads
 pub record Leads (from : Level) (ks : List Kind) (to : Level) : Type 0 where
@@ -185,6 +186,10 @@ front_leads f is =
           (head_leads outside f.header f.notes kinds.H in_header is.header refl refl header is.notes) rest.2,
     )
 
+last_leads : (o : OrderTree) (last : Option Noted) → IsLast o last → LeadsBy in_order (last_records last) in_order
+last_leads o None is = record { stands = tt; arrives = refl }
+last_leads o (Some item) is = noted_leads in_order item kinds.R in_order is refl refl order
+
 -- the records of a message that isn't whole lead to where the next one will stand
 pub spine_leads : (s : Spine) → IsSpine s → LeadsBy outside (spine_records s) (spine_level s)
 spine_leads (spines.Header item) is = noted_leads outside item kinds.H in_header is refl refl header
@@ -192,24 +197,25 @@ spine_leads (spines.Query f item) is =
     let front = front_leads f is.0 in
     leads_then outside front.0 in_query (front_records f) (noted_records item) front.2
     (noted_leads front.0 item kinds.Q in_query is.1 (inside_takes front.0 front.1).1 refl query)
-spine_leads (spines.Patient f item) is =
+spine_leads (spines.Patient f p None) is =
     let front = front_leads f is.0 in
-    leads_then outside front.0 in_patient (front_records f) (noted_records item) front.2
-    (noted_leads front.0 item kinds.P in_patient is.1 (inside_takes front.0 front.1).0 refl patient)
-spine_leads (spines.Order f p item) is =
+    let bare : patient_records p ≡ p.head ∷ p.notes =
+    ap (λ (os : List OrderTree). (p.head ∷ p.notes) ++ flat_map order_records os) is.2
+    ∙ append-nil (p.head ∷ p.notes) in
+    subst (λ (rs : List RecordContent). LeadsBy outside rs in_patient)
+    (sym (append-nil (front_records f ++ patient_records p)
+    ∙ ap (λ (rs : List RecordContent). front_records f ++ rs) bare))
+    (leads_then outside front.0 in_patient (front_records f) (p.head ∷ p.notes) front.2
+    (head_leads front.0 p.head p.notes kinds.P in_patient is.1.head (inside_takes front.0 front.1).0 refl patient
+    is.1.notes))
+spine_leads (spines.Patient f p (Some o)) is =
     let front = front_leads f is.0 in
     let above = patient_leads front.0 p is.1 (inside_takes front.0 front.1).0 in
-    leads_then outside above.0 in_order (front_records f ++ patient_records p) (noted_records item)
+    let order = order_leads above.0 o.order is.2.0 (takes_order above.0 above.1) in
+    leads_then outside above.0 in_order (front_records f ++ patient_records p) (open_records o)
     (leads_then outside front.0 above.0 (front_records f) (patient_records p) front.2 above.2)
-    (noted_leads above.0 item kinds.O in_order is.2 (takes_order above.0 above.1) refl order)
-spine_leads (spines.Entry f p o item) is =
-    let front = front_leads f is.0 in
-    let above = patient_leads front.0 p is.1 (inside_takes front.0 front.1).0 in
-    leads_then outside in_order in_order (front_records f ++ patient_records p ++ order_records o) (noted_records item)
-    (leads_then outside above.0 in_order (front_records f ++ patient_records p) (order_records o)
-    (leads_then outside front.0 above.0 (front_records f) (patient_records p) front.2 above.2)
-    (order_leads above.0 o is.2 (takes_order above.0 above.1)))
-    (noted_leads in_order item kinds.R in_order is.3 refl refl order)
+    (leads_then above.0 in_order in_order (order_records o.order) (last_records o.last) order
+    (last_leads o.order o.last is.2.1))
 
 -- the records of a whole message stand, and lead to its end
 pub tree_leads : (m : MessageTree) → IsTree m → (to : Level) × IsInside to

@@ -1,11 +1,12 @@
 //! The tree of a message while its records come: what is whole stands in lists, and the node that still grows stands
 //! by itself.
-ghost use Rattle.std.specs.Prelude.{◌≡◌, ◌∷◌, [], ◌++◌, ◌≢◌, IfOk, None, OnOk};
+ghost use Rattle.std.specs.Prelude.{◌≡◌, ◌∷◌, [], ◌++◌, ◌≢◌, ◌⊎◌, IfOk, None, OnOk};
 ghost use Rattle.lis_field.specs.declared.kinds.Kind.TheVariants as kinds;
 ghost use Rattle.lis_tree.specs.Level.{misplaced};
 ghost use Rattle.lis_tree.specs.Tree.{noted_records, order_records, patient_records, group_records, IsNote, IsNoted};
 ghost use Rattle.lis_tree.specs.Tree.{IsOrder, IsPatient, IsGroup, IsTree};
 ghost use Rattle.lis_tree.specs.inside.Spine.{front_records, spine_records, spine_level, IsFront, IsSpine};
+ghost use Rattle.lis_tree.specs.inside.Spine.{below_records, open_records, IsBelow, IsOpenOrder};
 ghost use Rattle.lis_tree.specs.inside.Standing.{standing_level};
 
 use crate::lists::Records;
@@ -84,14 +85,19 @@ impl Front {
     }
 }
 
-/// A message that isn't whole yet. The last item is the node that the next note belongs to.
+/// An order that still grows: what is whole of it, and the result that the next note belongs to.
+#[derive(Drop)]
+pub(crate) struct OpenOrder {
+    order: Order,
+    last: Option<Noted>,
+}
+
+/// A message that isn't whole yet. The next note belongs to the node that stands last.
 #[derive(Drop)]
 pub(crate) enum Spine {
     Header(Noted),
     Query(Front, Noted),
-    Patient(Front, Noted),
-    Order(Front, Patient, Noted),
-    Entry(Front, Patient, Order, Noted),
+    Patient(Front, Patient, Option<OpenOrder>),
 }
 
 /// The order with one more result.
@@ -128,48 +134,52 @@ fn close_group(mut front: Front, group: Group) -> Result<Front, AllocError>
     Ok(front)
 }
 
-/// The order that an item alone is.
+/// The order that a record alone is.
 #[inline(always)]
-fn order_of(alloc: Global, item: Noted) -> Order
-    ensures records { order_records result ≡ noted_records item }
-    ensures shape { IsNoted kinds.O item → IsOrder result }
+fn order_of(alloc: Global, head: Record) -> Order
+    ensures value { result ≡ record { head = head; notes = []; results = [] } }
+    ensures shape { head.kind ≡ kinds.O → IsOrder result }
 {
-    let (head, notes) = item.into_parts();
-    Order::new(head, notes, List::new(alloc))
+    Order::new(head, Records::new(alloc), List::new(alloc))
 }
 
-/// The patient that an item alone is.
+/// The patient that a record alone is.
 #[inline(always)]
-fn patient_of(alloc: Global, item: Noted) -> Patient
-    ensures records { patient_records result ≡ noted_records item }
-    ensures shape { IsNoted kinds.P item → IsPatient result }
+fn patient_of(alloc: Global, head: Record) -> Patient
+    ensures value { result ≡ record { head = head; notes = []; orders = [] } }
+    ensures shape { head.kind ≡ kinds.P → IsPatient result }
 {
-    let (head, notes) = item.into_parts();
-    Patient::new(head, notes, List::new(alloc))
+    Patient::new(head, Records::new(alloc), List::new(alloc))
 }
 
-/// The patient with the order that grew last.
+/// The order with all that stands below it.
 #[tactic(auto, using(crate::proofs::Appends::appends))]
 #[inline(always)]
-fn close_entry(patient: Patient, order: Order, item: Noted) -> Result<Patient, AllocError>
-    ensures records { IfOk result (λ p.
-        patient_records p ≡ patient_records patient ++ order_records order ++ noted_records item) }
-    ensures shape { IfOk result (λ p. IsPatient patient → IsOrder order → IsNoted kinds.R item → IsPatient p) }
+fn whole_order(growing: OpenOrder) -> Result<Order, AllocError>
+    ensures records { IfOk result (λ o. order_records o ≡ open_records growing) }
+    ensures shape { IfOk result (λ o. IsOpenOrder growing → IsOrder o) }
 {
-    let order = close_result(order, item)?;
-    close_order(patient, order)
+    let OpenOrder { order, last } = growing;
+    match last {
+        None => Ok(order),
+        Some(item) => close_result(order, item),
+    }
 }
 
-/// The front with the patient that grew last.
+/// The patient with all that stands below.
 #[tactic(auto, using(crate::proofs::Appends::appends))]
 #[inline(always)]
-fn close_below(front: Front, patient: Patient, order: Order) -> Result<Front, AllocError>
-    ensures records { IfOk result (λ f.
-        front_records f ≡ front_records front ++ patient_records patient ++ order_records order) }
-    ensures shape { IfOk result (λ f. IsFront front → IsPatient patient → IsOrder order → IsFront f) }
+fn whole_patient(patient: Patient, below: Option<OpenOrder>) -> Result<Patient, AllocError>
+    ensures records { IfOk result (λ p. patient_records p ≡ patient_records patient ++ below_records below) }
+    ensures shape { IfOk result (λ p. IsPatient patient → IsBelow patient below → IsPatient p) }
 {
-    let patient = close_order(patient, order)?;
-    close_group(front, Group::Patient(patient))
+    match below {
+        None => Ok(patient),
+        Some(growing) => {
+            let order = whole_order(growing)?;
+            close_order(patient, order)
+        }
+    }
 }
 
 /// The front with all that stands below it.
@@ -182,73 +192,9 @@ pub(crate) fn whole_front(alloc: Global, spine: Spine) -> Result<Front, AllocErr
     match spine {
         Spine::Header(item) => Ok(Front::new(alloc, item)),
         Spine::Query(front, item) => close_group(front, Group::Query(item)),
-        Spine::Patient(front, item) => {
-            close_group(front, Group::Patient(patient_of(alloc, item)))
-        }
-        Spine::Order(front, patient, item) => { close_below(front, patient, order_of(alloc, item)) }
-        Spine::Entry(front, patient, order, item) => {
-            let order = close_result(order, item)?;
-            close_below(front, patient, order)
-        }
-    }
-}
-
-#[inline(always)]
-fn with_patient(alloc: Global, spine: Spine, head: Record) -> Result<Spine, AllocError>
-    ensures records { IfOk result (λ s. spine_records s ≡ spine_records spine ++ head ∷ []) }
-    ensures shape { IfOk result (λ s. IsSpine spine → head.kind ≡ kinds.P → IsSpine s) }
-{
-    let front = whole_front(alloc, spine)?;
-    Ok(Spine::Patient(front, Noted::new(alloc, head)))
-}
-
-#[inline(always)]
-fn with_query(alloc: Global, spine: Spine, head: Record) -> Result<Spine, AllocError>
-    ensures records { IfOk result (λ s. spine_records s ≡ spine_records spine ++ head ∷ []) }
-    ensures shape { IfOk result (λ s. IsSpine spine → head.kind ≡ kinds.Q → IsSpine s) }
-{
-    let front = whole_front(alloc, spine)?;
-    Ok(Spine::Query(front, Noted::new(alloc, head)))
-}
-
-#[inline(always)]
-fn with_order(alloc: Global, spine: Spine, head: Record) -> Result<Spine, AllocError>
-    requires { misplaced (spine_level spine) kinds.O ≡ None }
-    ensures records { IfOk result (λ s. spine_records s ≡ spine_records spine ++ head ∷ []) }
-    ensures shape { IfOk result (λ s. IsSpine spine → head.kind ≡ kinds.O → IsSpine s) }
-{
-    match spine {
-        Spine::Header(_) | Spine::Query(..) => unreachable!(),
-        Spine::Patient(front, item) => {
-            let patient = patient_of(alloc, item);
-            Ok(Spine::Order(front, patient, Noted::new(alloc, head)))
-        }
-        Spine::Order(front, patient, item) => {
-            let patient = close_order(patient, order_of(alloc, item))?;
-            Ok(Spine::Order(front, patient, Noted::new(alloc, head)))
-        }
-        Spine::Entry(front, patient, order, item) => {
-            let patient = close_entry(patient, order, item)?;
-            Ok(Spine::Order(front, patient, Noted::new(alloc, head)))
-        }
-    }
-}
-
-#[inline(always)]
-fn with_result(alloc: Global, spine: Spine, head: Record) -> Result<Spine, AllocError>
-    requires { misplaced (spine_level spine) kinds.R ≡ None }
-    ensures records { IfOk result (λ s. spine_records s ≡ spine_records spine ++ head ∷ []) }
-    ensures shape { IfOk result (λ s. IsSpine spine → head.kind ≡ kinds.R → IsSpine s) }
-{
-    match spine {
-        Spine::Header(_) | Spine::Query(..) | Spine::Patient(..) => unreachable!(),
-        Spine::Order(front, patient, item) => {
-            let order = order_of(alloc, item);
-            Ok(Spine::Entry(front, patient, order, Noted::new(alloc, head)))
-        }
-        Spine::Entry(front, patient, order, item) => {
-            let order = close_result(order, item)?;
-            Ok(Spine::Entry(front, patient, order, Noted::new(alloc, head)))
+        Spine::Patient(front, patient, below) => {
+            let patient = whole_patient(patient, below)?;
+            close_group(front, Group::Patient(patient))
         }
     }
 }
@@ -260,44 +206,101 @@ pub(crate) fn standing(spine: &Spine) -> Standing
     match spine {
         Spine::Header(_) => Standing::InHeader,
         Spine::Query(..) => Standing::InQuery,
-        Spine::Patient(..) => Standing::InPatient,
-        Spine::Order(..) | Spine::Entry(..) => Standing::InOrder,
+        Spine::Patient(_front, _patient, None) => Standing::InPatient,
+        Spine::Patient(_front, _patient, Some(_)) => Standing::InOrder,
     }
 }
 
-/// Adds a note to the last item where it stands.
+/// Adds a note to the last node of an order where it stands.
+#[tactic(auto, using(crate::proofs::Appends::appends))]
+fn push_order_note(growing: &mut OpenOrder, note: Record) -> Result<(), AllocError>
+    requires { IsOpenOrder growing.old }
+    ensures records { OnOk result (open_records growing.new ≡ open_records growing.old ++ note ∷ []) }
+    ensures shape { OnOk result (IsNote note.kind → IsOpenOrder growing.new) }
+{
+    match &mut growing.last {
+        Some(item) => item.push(note),
+        None => growing.order.push_note(note),
+    }
+}
+
+/// Adds a note to the last node where it stands.
+#[tactic(auto, using(crate::proofs::Appends::appends))]
 #[inline(never)]
 fn push_note(spine: &mut Spine, note: Record) -> Result<(), AllocError>
+    requires { IsSpine spine.old }
     ensures records { OnOk result (spine_records spine.new ≡ spine_records spine.old ++ note ∷ []) }
-    ensures shape { OnOk result (IsSpine spine.old → IsNote note.kind → IsSpine spine.new) }
+    ensures shape { OnOk result (IsNote note.kind → IsSpine spine.new) }
 {
     match spine {
         Spine::Header(item) => item.push(note),
         Spine::Query(_front, item) => item.push(note),
-        Spine::Patient(_front, item) => item.push(note),
-        Spine::Order(_front, _patient, item) => item.push(note),
-        Spine::Entry(_front, _patient, _order, item) => item.push(note),
+        Spine::Patient(_front, patient, None) => patient.push_note(note),
+        Spine::Patient(_front, _patient, Some(growing)) => push_order_note(growing, note),
     }
 }
 
 /// Moves the last result into its order, and puts the next in its place.
 #[tactic(auto, using(crate::proofs::Appends::appends))]
-fn push_result(
-    alloc: Global,
-    order: &mut Order,
-    item: &mut Noted,
-    head: Record,
-) -> Result<(), AllocError>
-    ensures records { OnOk result (order_records order.new ++ noted_records item.new
-        ≡ order_records order.old ++ noted_records item.old ++ head ∷ []) }
-    ensures shape { OnOk result (IsOrder order.old → IsNoted kinds.R item.old → head.kind ≡ kinds.R
-        → IsOrder order.new × IsNoted kinds.R item.new) }
+fn push_result(alloc: Global, growing: &mut OpenOrder, head: Record) -> Result<(), AllocError>
+    ensures records { OnOk result (open_records growing.new ≡ open_records growing.old ++ head ∷ []) }
+    ensures shape { OnOk result (IsOpenOrder growing.old → head.kind ≡ kinds.R → IsOpenOrder growing.new) }
 {
-    let whole = mem::replace(item, Noted::new(alloc, head));
-    match order.push(whole) {
+    let Some(whole) = growing.last.replace(Noted::new(alloc, head)) else {
+        return Ok(());
+    };
+    match growing.order.push(whole) {
         Ok(()) => Ok(()),
         Err(_) => Err(AllocError),
     }
+}
+
+/// Moves the last order into its patient, and puts the next in its place.
+#[tactic(auto, using(crate::proofs::Appends::appends))]
+#[inline(never)]
+fn push_order(
+    alloc: Global,
+    patient: &mut Patient,
+    below: &mut Option<OpenOrder>,
+    head: Record,
+) -> Result<(), AllocError>
+    ensures records { OnOk result (patient_records patient.new ++ below_records below.new
+        ≡ patient_records patient.old ++ below_records below.old ++ head ∷ []) }
+    ensures shape { OnOk result (IsPatient patient.old → IsBelow patient.old below.old → head.kind ≡ kinds.O
+        → IsPatient patient.new × IsBelow patient.new below.new) }
+{
+    let next = OpenOrder {
+        order: order_of(alloc, head),
+        last: None,
+    };
+    let Some(before) = below.replace(next) else {
+        return Ok(());
+    };
+    let whole = whole_order(before)?;
+    match patient.push(whole) {
+        Ok(()) => Ok(()),
+        Err(_) => Err(AllocError),
+    }
+}
+
+/// Moves the last patient into the front, and puts the next in the place.
+#[tactic(auto, using(crate::proofs::Appends::appends))]
+#[inline(never)]
+fn push_patient(
+    alloc: Global,
+    front: &mut Front,
+    patient: &mut Patient,
+    below: &mut Option<OpenOrder>,
+    head: Record,
+) -> Result<(), AllocError>
+    ensures records { OnOk result (front_records front.new ++ patient_records patient.new ++ below_records below.new
+        ≡ front_records front.old ++ patient_records patient.old ++ below_records below.old ++ head ∷ []) }
+    ensures shape { OnOk result (IsFront front.old → IsPatient patient.old → IsBelow patient.old below.old
+        → head.kind ≡ kinds.P → IsFront front.new × IsPatient patient.new × IsBelow patient.new below.new) }
+{
+    let before = mem::replace(patient, patient_of(alloc, head));
+    let whole = whole_patient(before, below.take())?;
+    front.push_group(Group::Patient(whole))
 }
 
 /// Moves the last query into the front, and puts the next in its place.
@@ -318,30 +321,28 @@ fn push_query(
     front.push_group(Group::Query(whole))
 }
 
-/// Adds a record that is no note, and moves all that stands before it.
+/// Adds a patient or a query, and moves all that stands before it.
+#[tactic(auto, using(crate::proofs::Appends::appends))]
 #[inline(never)]
 fn push_moved(alloc: Global, spine: &mut Spine, kind: Kind, entry: Record) -> Result<(), AllocError>
     requires kind { entry.kind ≡ kind }
-    requires placed { misplaced (spine_level spine.old) kind ≡ None }
-    requires node { IsNote kind → ⊥ }
-    requires open { kind ≢ kinds.L }
+    requires group { (kind ≡ kinds.P) ⊎ (kind ≡ kinds.Q) }
     ensures records { OnOk result (spine_records spine.new ≡ spine_records spine.old ++ entry ∷ []) }
     ensures shape { OnOk result (IsSpine spine.old → IsSpine spine.new) }
 {
     let before = mem::replace(spine, headed(alloc, Record::new(alloc, Kind::H)));
+    let front = whole_front(alloc, before)?;
     let after = match kind {
-        Kind::H | Kind::L | Kind::C | Kind::M | Kind::S => unreachable!(),
-        Kind::P => with_patient(alloc, before, entry)?,
-        Kind::O => with_order(alloc, before, entry)?,
-        Kind::R => with_result(alloc, before, entry)?,
-        Kind::Q => with_query(alloc, before, entry)?,
+        Kind::Q => Spine::Query(front, Noted::new(alloc, entry)),
+        _ => Spine::Patient(front, patient_of(alloc, entry), None),
     };
     drop(mem::replace(spine, after));
     Ok(())
 }
 
-/// Adds a record, which may stand there, to the message so far: a result or a query behind another and a note where
-/// they stand, since most records are these.
+/// Adds a record, which may stand there, to the message so far, whose last node alone it moves; but a first patient
+/// behind a header or a query, and a first query behind a header or a patient, move all that stands before them.
+#[tactic(auto, using(crate::proofs::Appends::appends))]
 pub(crate) fn push_record(
     alloc: Global,
     spine: &mut Spine,
@@ -351,13 +352,22 @@ pub(crate) fn push_record(
     requires kind { entry.kind ≡ kind }
     requires placed { misplaced (spine_level spine.old) kind ≡ None }
     requires open { kind ≢ kinds.L }
+    requires shape { IsSpine spine.old }
     ensures records { OnOk result (spine_records spine.new ≡ spine_records spine.old ++ entry ∷ []) }
-    ensures shape { OnOk result (IsSpine spine.old → IsSpine spine.new) }
+    ensures shape { OnOk result (IsSpine spine.new) }
 {
     match kind {
-        Kind::R => {
-            if let Spine::Entry(_front, _patient, order, item) = spine {
-                return push_result(alloc, order, item, entry);
+        Kind::R => match spine {
+            Spine::Patient(_front, _patient, Some(growing)) => push_result(alloc, growing, entry),
+            Spine::Header(_) | Spine::Query(..) | Spine::Patient(_, _, None) => unreachable!(),
+        },
+        Kind::O => match spine {
+            Spine::Patient(_front, patient, below) => push_order(alloc, patient, below, entry),
+            Spine::Header(_) | Spine::Query(..) => unreachable!(),
+        },
+        Kind::P => {
+            if let Spine::Patient(front, patient, below) = spine {
+                return push_patient(alloc, front, patient, below, entry);
             }
             push_moved(alloc, spine, kind, entry)
         }
@@ -368,7 +378,6 @@ pub(crate) fn push_record(
             push_moved(alloc, spine, kind, entry)
         }
         Kind::C | Kind::M | Kind::S => push_note(spine, entry),
-        Kind::P | Kind::O => push_moved(alloc, spine, kind, entry),
         Kind::H | Kind::L => unreachable!(),
     }
 }

@@ -1,7 +1,7 @@
 -- Reading a text from its front, once: the same symbols, components, repeats and fields as the relation has.
 use Rattle.lis_field.specs.declared.kinds.Kind.{Kind}
 use Rattle.std.specs.Prelude.{◌≡◌, ◌≢◌, ◌≤◌, ℕ, zero, suc, ◌+◌, ◌==◌, nat_lt, cond, if◌then◌else◌, List, [], ◌∷◌, ◌++◌}
-use Rattle.std.specs.Prelude.{Bool, ◌||◌, map, take, length, Option, Some, None, option_map, is_some, unwrap_or, IsTrue}
+use Rattle.std.specs.Prelude.{Bool, ◌||◌, map, take, drop, length, Option, Some, None, option_map, is_some, unwrap_or, IsTrue}
 use Rattle.std.specs.List.{position_or_len, slice_split}
 use Rattle.lis_field.specs.declared.symbols.Sym.{Sym}
 use Rattle.lis_field.specs.declared.symbols.Sym.TheVariants.{Char}
@@ -11,11 +11,16 @@ use Rattle.lis_record.specs.Escapes.{escape_of, raw_symbols}
 use Rattle.lis_field.specs.declared.kinds.Kind.TheVariants as kinds
 use Rattle.lis_record.specs.Faults.{text_fault, trailing_byte}
 use Rattle.lis_field.specs.Kinds.{kind_of}
-use Rattle.lis_field.specs.Shape.{Symbols, Components, Repeats, Fields, RecordContent}
+use Rattle.lis_field.specs.Shape.{Symbols, Components, Repeats, Fields, RecordContent, plain_component}
+use Rattle.lis_record.specs.Relation.{Lacks}
 
 -- whether a byte is a delimiter of any kind
 abbrev pub is_delimiter : DelimiterBytes → ℕ → Bool
 is_delimiter d b = (b == d.field || b == d.repeat) || (b == d.component || b == d.escape)
+
+-- whether a component ends at a byte
+abbrev pub ends_part : DelimiterBytes → ℕ → Bool
+ends_part d b = (b == d.field || b == d.repeat) || b == d.component
 
 -- the parts of a text round a byte
 abbrev pub parts_of : ℕ → List ℕ → List (List ℕ)
@@ -58,6 +63,10 @@ parts_behind byte (delimiter ∷ bytes) = parts_of byte bytes
 -- a text ends with another
 abbrev pub EndsWith : List ℕ → List ℕ → Type 0
 EndsWith text last = (front : List ℕ) × (text ≡ front ++ last)
+
+-- a text begins with another
+abbrev pub BeginsWith : List ℕ → List ℕ → Type 0
+BeginsWith text front = (more : List ℕ) × (text ≡ front ++ more)
 
 -- the fields of what follows a record's letter, or a header's delimiters
 abbrev pub fields_of : DelimiterBytes → List ℕ → Fields
@@ -105,3 +114,11 @@ pub record TakesField (d : DelimiterBytes) (before after : RecordContent) (text 
   pub fields : after.fields ++ fields_of d rest ≡ before.fields ++ map (repeats_of d) (parts_of d.field text)
   pub ends : EndsWith text rest
   pub shorter : length rest ≤ length text
+
+-- The first component of a field's text ends there, where no repeat ends; its bytes may be known to be its symbols.
+pub record ComponentFront (d : DelimiterBytes) (text : List ℕ) (end : ℕ) (plain : Bool) : Type 0 where
+  pub within : end ≤ length text
+  pub parts : parts_of d.component text ≡ take end text ∷ parts_behind d.component (drop end text)
+  pub symbols : IsTrue plain → symbols_of d (take end text) ≡ plain_component (take end text)
+  pub single : Lacks d.repeat (take end text)
+  pub next : trailing_byte d.component (drop end text) ≡ None

@@ -49,6 +49,21 @@ impl Order {
         self.results.push(entry)
     }
 
+    /// Adds a note at the end.
+    pub(crate) fn push_note(&mut self, note: Record) -> Result<(), AllocError>
+        ensures { OnOk result
+            (self.new ≡ record {
+              head = self.old.head;
+              notes = self.old.notes ++ note ∷ [];
+              results = self.old.results;
+            }) }
+    {
+        match self.notes.push(note) {
+            Ok(()) => Ok(()),
+            Err(_) => Err(AllocError),
+        }
+    }
+
     /// The O record.
     pub fn head(&self) -> &Record
         ensures { result.now ≡ self.now.head }

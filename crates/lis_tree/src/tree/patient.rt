@@ -49,6 +49,21 @@ impl Patient {
         self.orders.push(order)
     }
 
+    /// Adds a note at the end.
+    pub(crate) fn push_note(&mut self, note: Record) -> Result<(), AllocError>
+        ensures { OnOk result
+            (self.new ≡ record {
+              head = self.old.head;
+              notes = self.old.notes ++ note ∷ [];
+              orders = self.old.orders;
+            }) }
+    {
+        match self.notes.push(note) {
+            Ok(()) => Ok(()),
+            Err(_) => Err(AllocError),
+        }
+    }
+
     /// The P record.
     pub fn head(&self) -> &Record
         ensures { result.now ≡ self.now.head }
