@@ -8,6 +8,7 @@ pub mod FieldTexts
 pub mod Joins
 pub mod Lanes
 pub mod LastBits
+pub mod LeftMarks
 pub mod LentTexts
 pub mod Marks
 pub mod Opening
