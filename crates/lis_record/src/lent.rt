@@ -322,6 +322,14 @@ impl<'a> LentRecord<'a> {
         LentRecord::of_parts(delimiters, kind, fields)
     }
 
+    /// The same record. Lent to a call that is seldom made, it lets this one stay in registers.
+    #[inline(always)]
+    pub fn again(&self) -> LentRecord<'a>
+        ensures { result ≡ self.now }
+    {
+        LentRecord::of_parts(self.delimiters, self.kind, self.fields)
+    }
+
     /// The delimiters that the record is read under; a header's own.
     #[inline(always)]
     pub fn delimiters(&self) -> Delimiters
