@@ -10,7 +10,7 @@ use Rattle.lis_field.specs.Shape.{RecordContent}
 use Rattle.lis_message.specs.inside.Kept.{Opened, opened_of, opened_with}
 use Rattle.lis_message.specs.Records.{IsRefusedFor, IsStopped}
 use Rattle.lis_message.specs.Stream.{LacksReturn, refusal}
-use Rattle.lis_message.specs.inside.Taking.{ComesNext, front_refusal, inner, left_after}
+use Rattle.lis_message.specs.inside.Taking.{ComesNext, front_refusal, header, inner, left_after}
 use Rattle.lis_message.proofs.Cuts.{left_after-more}
 use Rattle.lis_message.proofs.TakingLaws.{inner_refused, place_refused}
 use Rattle.lis_record.specs.declared.faults.RecordFault.{RecordFault}
@@ -85,6 +85,17 @@ standing_open standing e = cc
 
 capped_more : (n : ℕ) → min (capped n + 1) 18446744073709551615 ≡ capped (n + 1)
 capped_more n = omega arith
+
+-- what comes next in it has its delimiters
+pub marks_kept : (left : Option Begun) (text : List ℕ) (entry : Lent RecordContent) (o : Opened)
+    → Some o ≡ opened_of left → ComesNext left text entry → entry.delimiters ≡ o.delimiters
+marks_kept left text entry o e (header none good read kind) =
+    let no : Some o ≡ None = e ∙ ap opened_of none in
+    cc
+marks_kept left text entry o e (inner begun is marks read fits) =
+    let same : Some o ≡ Some (opened_with begun) = e ∙ ap opened_of is in
+    let at : o ≡ opened_with begun = cc in
+    marks ∙ ap (λ (x : Opened). x.delimiters) (sym at)
 
 -- another record leaves the message open, one longer
 pub inner_after : (left : Option Begun) (entry : Lent RecordContent) (d : DelimiterBytes) (o : Opened)

@@ -126,26 +126,29 @@ fn lend_next<'a>(
     }
 }
 
-/// What is open behind a record of this kind, which came next under these delimiters.
+/// Keeps what is open behind a record of this kind, which came next under these delimiters. All but what changes stays
+/// where it is, since this is done for each record.
 #[inline(always)]
-fn opened_after(opened: &Option<Opened>, delimiters: Delimiters, kind: Kind) -> Option<Opened>
-    ensures { (left : Option Begun) (text : List ℕ) (entry : Lent RecordContent) → opened.now ≡ opened_of left →
+fn open_after(opened: &mut Option<Opened>, delimiters: Delimiters, kind: Kind)
+    ensures { (left : Option Begun) (text : List ℕ) (entry : Lent RecordContent) → opened.old ≡ opened_of left →
         ComesNext left text entry → entry.delimiters ≡ delimiters → entry.content.kind ≡ kind →
-        result ≡ opened_of (left_after left entry kind) }
+        opened.new ≡ opened_of (left_after left entry kind) }
 {
-    let Some(opened) = opened else {
-        return Some(Opened {
+    let Some(inner) = opened else {
+        *opened = Some(Opened {
             delimiters,
             standing: Standing::InHeader,
             count: 1,
         });
+        return;
     };
-    let standing = opened.standing.after(kind)?;
-    Some(Opened {
-        delimiters,
-        standing,
-        count: opened.count.saturating_add(1),
-    })
+    match inner.standing.after(kind) {
+        Some(standing) => {
+            inner.standing = standing;
+            inner.count = inner.count.saturating_add(1);
+        }
+        None => *opened = None,
+    }
 }
 
 /// The bytes before the first CR, those behind it, and the place of the first of those before it that no record may
@@ -496,7 +499,7 @@ impl RecordReader {
             Ok(entry) => entry,
             Err(reason) => return Err(reason),
         };
-        self.opened = opened_after(&self.opened, entry.delimiters(), entry.kind());
+        open_after(&mut self.opened, entry.delimiters(), entry.kind());
         Ok(entry)
     }
 
@@ -519,7 +522,7 @@ impl RecordReader {
             Ok(entry) => (entry.delimiters(), entry.kind()),
             Err(reason) => return Err(reason),
         };
-        self.opened = opened_after(&self.opened, delimiters, kind);
+        open_after(&mut self.opened, delimiters, kind);
         self.kept.end(delimiters, kind);
         Ok(())
     }

@@ -3,12 +3,17 @@ use Rattle.std.proofs.Common.{◌≡◌, ◌≢◌, ℕ, suc, ◌+◌, ◌-◌, 
 use Rattle.std.proofs.Common.{drop, None, Some, refl, sym, ap, ◌∙◌, arith, append_assoc, append-nil, length-append}
 use Rattle.std.proofs.Common.{eqb, true, false, Bool, cond, not, ◌==◌, Option, unwrap_or}
 use Rattle.std.specs.List.{All, flat_map}
+use Rattle.std.proofs.Common.{eq-eqb, get_or, slice_get}
+use Rattle.std.proofs.lemmas.Bool.Decides.{nat_tests}
+use Rattle.std.proofs.lemmas.Iterator.Adapters.{position_from-zero}
+use Rattle.lis_field.specs.Delimiters.{is_punctuation}
+use Rattle.lis_field.proofs.FirstFaults.{test_false}
 use Rattle.std.proofs.lemmas.Bool.{eqb-true}
 use Rattle.std.proofs.lemmas.Grind.{flat_map-append}
 use Rattle.std.proofs.lemmas.List.{drop_all}
 use Rattle.std.proofs.lemmas.List.Splits.{slice_split_none}
 use Rattle.std.specs.List.{position, position_or_len}
-use Rattle.std.proofs.lemmas.List.Elements.{All-head, All-tail, All-nil}
+use Rattle.std.proofs.lemmas.List.Elements.{All-cons, All-head, All-tail, All-nil}
 use Rattle.std.proofs.Math.Seq.{drop-append_seam, take-append_seam}
 use Rattle.lis_field.specs.Delimiters.{DelimiterBytes}
 use Rattle.lis_record.specs.Faults.{trailing_byte}
@@ -20,7 +25,7 @@ use Rattle.lis_record.specs.inside.Remaining.{more_fields}
 use Rattle.lis_record.specs.Relation.{Lacks}
 use Rattle.lis_record.proofs.Components.{symbols_of-plain}
 use Rattle.lis_record.proofs.Joins.{Lacks-tests, parts_of-apart}
-use Rattle.lis_record.proofs.Places.{IsFound-position, symbols_of-nil}
+use Rattle.lis_record.proofs.Places.{IsFound-position, parts_of-first, symbols_of-nil}
 use Rattle.lis_record.specs.inside.Respelling.{respelled}
 use Rattle.lis_record.proofs.Respelled.{fields_respelled, respelled-mark}
 use Rattle.lis_field.specs.Delimiters.{IsDelimiters}
@@ -86,6 +91,34 @@ module _ (d : DelimiterBytes) where
       ap (map (symbols_of d)) (whole_part d.component text component)
       ∙ ap (λ (s : Symbols). s ∷ []) (plain_symbols text escape) in
       ap (map (components_of d)) (whole_part d.repeat text repeat) ∙ ap (λ (r : Components). r ∷ []) one
+
+-- ---- a first field that is one digit
+
+digit-apart : (digit mark : ℕ) → 48 ≤ digit → digit ≤ 57 → is_punctuation mark ≡ true → digit ≢ mark
+unfolding is_punctuation
+digit-apart digit mark low high h e =
+    let no : is_punctuation digit ≡ false = grind (arith, nat_tests, low, high) in
+    let yes : is_punctuation digit ≡ true = rw e h in
+    cc
+
+pub lone_digit : (d : DelimiterBytes) → IsDelimiters d → (text : List ℕ) → 3 ≤ length text → 48 ≤ get_or text 1 0
+    → get_or text 1 0 ≤ 57 → get_or text 2 0 ≡ d.field
+    → slice_get (fields_of d text) 0 ≡ Some (plain_field (get_or text 1 0 ∷ []))
+lone_digit d good [] long low high ends = absurd (omega arith)
+lone_digit d good (a ∷ []) long low high ends = absurd (omega arith)
+lone_digit d good (a ∷ b ∷ []) long low high ends = absurd (omega arith)
+lone_digit d good (byte ∷ digit ∷ end ∷ rest) long low high ends =
+    let lacks : (mark : ℕ) → is_punctuation mark ≡ true → Lacks mark (digit ∷ []) =
+    λ mark h. All-cons (λ c. c ≢ mark) digit [] (digit-apart digit mark low high h) (All-nil (λ c. c ≢ mark)) in
+    let place : position (λ b. b == d.field) (digit ∷ end ∷ rest) ≡ Some 1 =
+    position_from-zero (λ (b : ℕ). b == d.field) (digit ∷ end ∷ rest)
+    ∙ rw (test_false digit d.field (digit-apart digit d.field low high good.field_is), eq-eqb end d.field ends) refl in
+    let first = parts_of-first d.field (digit ∷ end ∷ rest) 1
+    (sym (ap (λ (o : Option ℕ). unwrap_or o (length (digit ∷ end ∷ rest))) place)) in
+    let read : repeats_of d (digit ∷ []) ≡ plain_field (digit ∷ []) =
+    plain_read d (digit ∷ []) (lacks d.repeat good.repeat_is) (lacks d.component good.component_is)
+    (lacks d.escape good.escape_is) in
+    ap (λ (parts : List (List ℕ)). slice_get (map (repeats_of d) parts) 0) first ∙ ap Some read
 
 -- ---- the texts of fields that were passed over, and what is left
 pub record Passed (mark : ℕ) (text rest : List ℕ) (passed : ℕ) : Type 0 where

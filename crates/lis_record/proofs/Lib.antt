@@ -9,6 +9,7 @@ pub mod Fronts
 pub mod Joins
 pub mod Lanes
 pub mod LastBits
+pub mod LeftMarks
 pub mod LentTexts
 pub mod Marks
 pub mod Opening

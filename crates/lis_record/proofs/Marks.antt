@@ -60,7 +60,7 @@ none-taken zero = refl
 none-taken (suc n) = refl
 
 -- behind so many bytes
-front-behind : (m n : ℕ) (xs : List ℕ) → drop m (take n xs) ≡ take (n - m) (drop m xs)
+pub front-behind : (m n : ℕ) (xs : List ℕ) → drop m (take n xs) ≡ take (n - m) (drop m xs)
 front-behind zero n xs = let all : n - 0 ≡ n = omega arith in rw all refl
 front-behind (suc m) zero xs = let none : 0 - suc m ≡ 0 = omega arith in rw none refl
 front-behind (suc m) (suc n) [] = none-taken (suc n - suc m)

@@ -1,11 +1,11 @@
 -- A text's own spelling is that of its components, repeats and fields.
-use Rattle.std.proofs.Common.{◌≡◌, ◌≢◌, ℕ, zero, suc, ◌+◌, ◌≤◌, true, inl, inr, List, [], ◌∷◌, ◌++◌, map}
+use Rattle.std.proofs.Common.{◌≡◌, ◌≢◌, ℕ, zero, suc, ◌+◌, ◌≤◌, ◌<◌, true, inl, inr, List, [], ◌∷◌, ◌++◌, map}
 use Rattle.std.proofs.Common.{length, drop, Some, None, get_or, refl, sym, ap, ◌∙◌, eq-eqb, append_assoc}
 use Rattle.std.proofs.Common.{append-nil, length-append, arith}
 use Rattle.std.specs.List.{All, flat_map, join_with_byte}
 use Rattle.std.proofs.lemmas.Bool.Decides.{eqb_tells}
 use Rattle.std.proofs.lemmas.Grind.{flat_map-append}
-use Rattle.std.proofs.lemmas.List.Elements.{All-head, All-tail}
+use Rattle.std.proofs.lemmas.List.Elements.{All-cons, All-head, All-nil, All-tail}
 use Rattle.std.proofs.lemmas.List.Splits.{join_with_byte-slice_split}
 use Rattle.lis_field.specs.declared.symbols.Sym.TheVariants.{Char}
 use Rattle.lis_field.specs.Delimiters.{DelimiterBytes, IsDelimiters, is_punctuation}
@@ -242,3 +242,11 @@ module _ (d : DelimiterBytes) where
       → respelled d (d.escape ∷ text) ≡ spelled_symbol d (Char d.escape) ++ respelled d text
   unfolding respelled_after
   respelled-lone text h = rw (eq-eqb d.escape d.escape refl, h) refl
+
+  -- a byte that is no escape byte
+  pub one_as_is : (text : List ℕ) → 1 ≤ length text → length text < 2 → get_or text 0 0 ≢ d.escape
+      → respelled d text ≡ get_or text 0 0 ∷ []
+  one_as_is [] some few free = absurd (omega (arith, some))
+  one_as_is (b ∷ []) some few free =
+      respelled_as_is (b ∷ []) (All-cons (λ c. c ≢ d.escape) b [] free (All-nil (λ c. c ≢ d.escape)))
+  one_as_is (b ∷ c ∷ bs) some few free = absurd (omega (arith, few))

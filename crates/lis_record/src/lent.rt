@@ -1,7 +1,7 @@
 //! Records and their parts where they stand in a text, without memory (LIS02-A2, Delimiters).
 
 ghost use Rattle.std.specs.Prelude.{◌≡◌, ◌<◌, ◌≤◌, ◌++◌, ◌∷◌, ◌↔◌, [], IfOk, IfSome, IsFalse, IsTrue, OnOk};
-ghost use Rattle.std.specs.Prelude.{MatchOption};
+ghost use Rattle.std.specs.Prelude.{MatchOption, Some};
 ghost use Rattle.std.specs.Prelude.{drop, length, option_map, slice_get};
 ghost use Rattle.std.specs.Prelude.{false, take};
 ghost use Rattle.lis_field.specs.Shape.{field_at, plain_field};
@@ -322,6 +322,14 @@ impl<'a> LentRecord<'a> {
         LentRecord::of_parts(delimiters, kind, fields)
     }
 
+    /// The same record. Lent to a call that is seldom made, it lets this one stay in registers.
+    #[inline(always)]
+    pub fn again(&self) -> LentRecord<'a>
+        ensures { result ≡ self.now }
+    {
+        LentRecord::of_parts(self.delimiters, self.kind, self.fields)
+    }
+
     /// The delimiters that the record is read under; a header's own.
     #[inline(always)]
     pub fn delimiters(&self) -> Delimiters
@@ -376,6 +384,20 @@ impl<'a> LentRecord<'a> {
             text: self.fields,
             marks: 0,
         }
+    }
+
+    /// The byte of the first field, where that is one digit, as of most sequence numbers; none where it isn't so.
+    #[inline(always)]
+    pub fn first_digit(&self) -> Option<u8>
+        ensures { IfSome result (λ digit. slice_get self.now.content.fields 0 ≡ Some (plain_field (digit ∷ []))) }
+    {
+        let [_delimiter, digit, end, ..] = self.fields else {
+            return None;
+        };
+        if *end != self.delimiters.field() || *digit < b'0' || *digit > b'9' {
+            return None;
+        }
+        Some(*digit)
     }
 
     /// The record with memory of its own.

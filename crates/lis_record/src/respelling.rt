@@ -42,6 +42,13 @@ pub(crate) fn add_behind(
     let Some((byte, behind)) = text.split_first() else {
         unreachable!()
     };
+    if let [only] = behind
+        && *only != delimiters.escape()
+    {
+        // As many fields have: no call copies so few bytes.
+        out.extend_from_slice(&[mark, *only])?;
+        return Ok(());
+    }
     if *byte == mark {
         // As in each record that was read: so both are added at once.
         return add_respelled(out, delimiters, text);

@@ -75,7 +75,7 @@ pub(crate) fn part_behind(text: &[u8], delimiter: u8, place: usize) -> Option<&[
 
 // A first byte, so many parts behind it with the delimiters between them, and what follows; none where there are fewer.
 // At least one is asked for. Bits tell of the first places of the delimiter, or of none, and then of those of what
-// follows.
+// follows. The lowest is cleared for each part but the last, so that no part is cut off by itself.
 #[inline(always)]
 pub(crate) fn split_parts(
     text: &[u8],
@@ -93,22 +93,51 @@ pub(crate) fn split_parts(
     ensures first { IfSome result (λ split. 0 < length split.0.now) }
     ensures marks { IfSome result (λ split. AreMarks delimiter split.1.now split.2) }
 {
+    // The first byte is passed over, whatever it is.
+    let mut left = marks - marks % 2;
+    let mut ahead = count - 1;
+    while ahead > 0 {
+        if left == 0 {
+            return split_unmarked(text, delimiter, count);
+        }
+        left -= 1 << left.trailing_zeros();
+        ahead -= 1;
+    }
+    if left == 0 {
+        return split_unmarked(text, delimiter, count);
+    }
+    let end = left.trailing_zeros() as usize;
+    let (taken, rest) = text.split_at(end);
+    Some((taken, rest, left >> end))
+}
+
+// The same, where too few places are told; and none of what follows is.
+#[inline(never)]
+fn split_unmarked(text: &[u8], delimiter: u8, count: usize) -> Option<(&[u8], &[u8], u64)>
+    requires { 0 < count }
+    ensures split { MatchOption result (length (parts_behind delimiter text.now) < count) (λ split.
+        (count ≤ length (parts_behind delimiter text.now))
+        × (delimiter ∷ drop 1 split.0.now ≡ flat_map (λ part. delimiter ∷ part)
+        (take count (parts_behind delimiter text.now)))
+        × (parts_behind delimiter split.1.now ≡ drop count (parts_behind delimiter text.now))) }
+    ensures first { IfSome result (λ split. 0 < length split.0.now) }
+    ensures marks { IfSome result (λ split. split.2 ≡ 0) }
+{
     let Some((_delimiter, parts)) = text.split_first() else {
         return None;
     };
-    let (_first, mut rest, mut marks) = first_marked(parts, delimiter, marks >> 1);
+    let (_first, mut rest) = first_part(parts, delimiter);
     let mut left = count - 1;
     while left > 0 {
         let Some((_mark, behind)) = rest.split_first() else {
             return None;
         };
-        let (_part, others, further) = first_marked(behind, delimiter, marks >> 1);
+        let (_part, others) = first_part(behind, delimiter);
         rest = others;
-        marks = further;
         left -= 1;
     }
     let (taken, _behind) = text.split_at(parts.len() - rest.len() + 1);
-    Some((taken, rest, marks))
+    Some((taken, rest, 0))
 }
 
 // The number of parts round a delimiter.

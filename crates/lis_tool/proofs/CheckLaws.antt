@@ -108,18 +108,12 @@ pub check_text :
     (records findings : List ℕ) (numbering : Numbering) (found told before : ℕ) (messages : List MessageTree)
     (m : MessageTree)
     → IsChecking records findings numbering found told messages (whole_begun m)
-    → codes "message " ++ (decimal before ++ (codes "\n" ++ (records ++ (findings ++ []))))
+    → message_line before ++ (records ++ findings)
     ≡ message_line before ++ record_lines 1 (flatten m) ++ flat_map finding_line (findings_of m)
 check_text records findings numbering found told before messages m is =
-    ap (λ (l : List ℕ). codes "message " ++ (decimal before ++ (codes "\n" ++ (l ++ (findings ++ [])))))
-    is.record_lines_are
-    ∙ ap (λ (l : List ℕ). codes "message " ++ (decimal before
-    ++ (codes "\n" ++ (record_lines 1 (flatten m) ++ (l ++ []))))) is.finding_lines_are
-    ∙ sym (regroup (codes "message ") (decimal before) (codes "\n") (record_lines 1 (flatten m))
-    (flat_map finding_line (findings_of m)))
-  where
-    regroup : (a b c d e : List ℕ) → ((a ++ (b ++ (c ++ []))) ++ d) ++ e ≡ a ++ (b ++ (c ++ (d ++ (e ++ []))))
-    regroup a b c d e = simp (append_assoc, append-nil)
+    ap (λ (l : List ℕ). message_line before ++ (l ++ findings)) is.record_lines_are
+    ∙ ap (λ (l : List ℕ). message_line before ++ (record_lines 1 (flatten m) ++ l)) is.finding_lines_are
+    ∙ sym (append_assoc (message_line before) (record_lines 1 (flatten m)) (flat_map finding_line (findings_of m)))
 
 -- the findings of one more message are told
 pub told_more :

@@ -1,7 +1,7 @@
 //! The command `check`: messages, their records and what is to be looked at in them (LIS02-A2).
 
 ghost use Rattle.std.specs.Prelude.{◌≡◌, ◌^◌, ◌<◌, ◌≤◌, ◌++◌, [], List, None, OnOk, true, false, is_err, length, IfOk};
-ghost use Rattle.lis_tool.specs.Check.{IsChecking, check_writes, finding_count, finding_line, record_line};
+ghost use Rattle.lis_tool.specs.Check.{IsChecking, check_writes, finding_count, finding_line, message_line, record_line};
 ghost use Rattle.lis_tool.specs.Check.{refused_part, sums_line};
 ghost use Rattle.lis_tool.specs.MessageRuns.{MessagesRan};
 ghost use Rattle.lis_tool.specs.Messages.{report_after};
@@ -10,6 +10,7 @@ ghost use Rattle.lis_tool.specs.Runs.{EachGave, IsFresh, StopsBy};
 ghost use Rattle.lis_tree.specs.Tree.{MessageTree};
 
 use crate::fault::ToolFault;
+use crate::gather::{append_number, gather, make_room};
 use crate::held_text::HeldText;
 use crate::machine::{Halt, run};
 use crate::messages::{MessageMachine, Messages};
@@ -21,6 +22,9 @@ use lis_message::{LentRecord, MessageFault};
 use lis_port::{Sink, Source};
 use lis_tree::{Finding, Numbering};
 use std::alloc::{AllocError, Global};
+
+/// The room that the first line of a message has.
+const FIRST_ROOM: usize = 60;
 
 /// Reads record text and writes for each message its number, a line for each of its records and one for each finding on
 /// their sequence numbers; where a record is refused, or the end of the input comes before that of a message, its place
@@ -98,14 +102,9 @@ impl MessageMachine for Check {
         written: u64,
         before: u64,
     ) -> Result<u64, ToolFault> {
-        let parts = [
-            Part::Text(b"message "),
-            Part::Number(before.saturating_add(1)),
-            Part::Text(b"\n"),
-            Part::Text(self.records.as_slice()),
-            Part::Text(self.findings.as_slice()),
-        ];
-        let result = gather_parts(sink, page, written, &parts);
+        let number = before.saturating_add(1);
+        let (records, findings) = (self.records.as_slice(), self.findings.as_slice());
+        let result = gather_message(sink, page, written, number, records, findings);
         self.told = self.told.saturating_add(self.found);
         self.found = 0;
         self.records.clear();
@@ -129,6 +128,55 @@ impl MessageMachine for Check {
             }),
             Err(fault) => Err(fault),
         }
+    }
+}
+
+/// Gathers the lines of the message of this number: the first, those of its records and those of its findings.
+#[inline(always)]
+fn gather_message<W: Sink>(
+    sink: &mut W,
+    page: &mut Page,
+    written: u64,
+    number: u64,
+    records: &[u8],
+    findings: &[u8],
+) -> Result<u64, ToolFault>
+    requires { W.failed sink.old ≡ false }
+    ensures gathered { Gathered (out (W.taken sink.old) page.old) (out (W.taken sink.new) page.new) written result
+        (message_line number ++ (records.now ++ findings.now)) }
+    ensures failed { W.failed sink.new ≡ is_err result }
+{
+    let after = match gather_first(sink, page, written, number) {
+        Ok(after) => after,
+        Err(fault) => return Err(fault),
+    };
+    match gather(sink, page, after, records) {
+        Ok(after) => gather(sink, page, after, findings),
+        Err(fault) => Err(fault),
+    }
+}
+
+/// Gathers the first line of the message of this number.
+#[inline(always)]
+fn gather_first<W: Sink>(
+    sink: &mut W,
+    page: &mut Page,
+    written: u64,
+    number: u64,
+) -> Result<u64, ToolFault>
+    requires { W.failed sink.old ≡ false }
+    ensures gathered { Gathered (out (W.taken sink.old) page.old) (out (W.taken sink.new) page.new) written result
+        (message_line number) }
+    ensures failed { W.failed sink.new ≡ is_err result }
+{
+    match make_room(sink, page, written, FIRST_ROOM) {
+        Ok(after) => {
+            page.append(b"message ");
+            append_number(page, number);
+            page.append(b"\n");
+            Ok(after)
+        }
+        Err(fault) => Err(fault),
     }
 }
 

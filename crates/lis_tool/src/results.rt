@@ -78,7 +78,7 @@ impl MessageMachine for Results {
         match entry.kind() {
             Kind::O => {
                 self.sample.clear();
-                self.sample.add_field(entry, 3)
+                self.sample.add_field(&entry.again(), 3)
             }
             Kind::R => add_result(&mut self.lines, self.sample.as_slice(), entry),
             _ => Ok(()),
@@ -137,7 +137,7 @@ fn add_result(lines: &mut HeldText, sample: &[u8], entry: &LentRecord<'_>) -> Re
 {
     lines.add(sample)?;
     add_told(lines, entry)?;
-    lines.add(b"\n")
+    lines.add_byte(b'\n')
 }
 
 /// Adds the fields of a result that are told, each behind a field delimiter.
@@ -150,7 +150,7 @@ fn add_told(lines: &mut HeldText, entry: &LentRecord<'_>) -> Result<(), AllocErr
     let mut fields = entry.fields();
     let _number = fields.next();
     if !lines.add_fields(&mut fields, 5)? {
-        return add_each(lines, entry);
+        return add_each(lines, &entry.again());
     }
     let _nature = fields.next();
     lines.add_next(entry.delimiters().field(), &mut fields)

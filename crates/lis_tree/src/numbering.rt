@@ -6,7 +6,9 @@ ghost use Rattle.lis_tree.specs.Findings.{HasNumbered, finding_on, findings_from
 ghost use Rattle.std.specs.Option.{option_to_list};
 ghost use Rattle.lis_field.specs.Shape.{RecordContent, field_at, plain_component};
 ghost use Rattle.lis_text.specs.Capped.{capped};
-ghost use Rattle.lis_tree.specs.Numbers.{CountsOf, symbol_digit, digits_number, field_number, is_number, is_numbered};
+ghost use Rattle.lis_tree.specs.Numbers.{CountsOf, expected_number, symbol_digit, digits_number, field_number};
+ghost use Rattle.lis_tree.specs.Numbers.{is_number, is_numbered};
+ghost use Rattle.lis_field.specs.declared.kinds.Kind.TheVariants as kinds;
 
 use crate::message::Message;
 use crate::walk::Walk;
@@ -38,9 +40,6 @@ struct Counts {
 }
 
 impl Counts {
-    ghost use Rattle.lis_tree.specs.Numbers.{expected_number};
-    ghost use Rattle.lis_field.specs.declared.kinds.Kind.TheVariants as kinds;
-
     fn none() -> Self
         ensures { CountsOf [] result.patients result.queries result.orders result.results result.comments }
     {
@@ -53,60 +52,56 @@ impl Counts {
         }
     }
 
-    /// The number that a record of this kind should have.
+    /// Counts a record of this kind, and answers the number that it should have.
     #[inline(always)]
-    fn expected(self, kind: Kind) -> u64
-        ensures { (earlier : Listed KindOf) → CountsOf earlier self.patients self.queries self.orders self.results
-            self.comments
+    fn count(&mut self, kind: Kind) -> u64
+        ensures expected { (earlier : Listed KindOf) → CountsOf earlier self.old.patients self.old.queries
+            self.old.orders self.old.results self.old.comments
             → kind ≢ kinds.H → kind ≢ kinds.M → kind ≢ kinds.S → result ≡ capped (expected_number kind earlier) }
+        ensures counted { (earlier : Listed KindOf) → CountsOf earlier self.old.patients self.old.queries
+            self.old.orders self.old.results self.old.comments
+            → CountsOf (kind ∷ earlier) self.new.patients self.new.queries self.new.orders self.new.results
+            self.new.comments }
     {
-        match kind {
-            Kind::P => self.patients.saturating_add(1),
-            Kind::Q => self.queries.saturating_add(1),
-            Kind::O => self.orders.saturating_add(1),
-            Kind::R => self.results.saturating_add(1),
-            Kind::C => self.comments.saturating_add(1),
-            Kind::L | Kind::H | Kind::M | Kind::S => 1,
-        }
-    }
-
-    /// The counts behind a record of this kind.
-    #[inline(always)]
-    fn after(self, kind: Kind) -> Self
-        ensures { (earlier : Listed KindOf) → CountsOf earlier self.patients self.queries self.orders self.results
-            self.comments
-            → CountsOf (kind ∷ earlier) result.patients result.queries result.orders result.results result.comments }
-    {
-        let mut next = self;
         match kind {
             Kind::H => {
-                next.patients = 0;
-                next.queries = 0;
-                next.comments = 0;
+                self.patients = 0;
+                self.queries = 0;
+                self.comments = 0;
+                1
             }
             Kind::P => {
-                next.patients = self.patients.saturating_add(1);
-                next.orders = 0;
-                next.comments = 0;
+                self.patients = self.patients.saturating_add(1);
+                self.orders = 0;
+                self.comments = 0;
+                self.patients
             }
             Kind::Q => {
-                next.queries = self.queries.saturating_add(1);
-                next.comments = 0;
+                self.queries = self.queries.saturating_add(1);
+                self.comments = 0;
+                self.queries
             }
             Kind::O => {
-                next.orders = self.orders.saturating_add(1);
-                next.results = 0;
-                next.comments = 0;
+                self.orders = self.orders.saturating_add(1);
+                self.results = 0;
+                self.comments = 0;
+                self.orders
             }
             Kind::R => {
-                next.results = self.results.saturating_add(1);
-                next.comments = 0;
+                self.results = self.results.saturating_add(1);
+                self.comments = 0;
+                self.results
             }
-            Kind::C => next.comments = self.comments.saturating_add(1),
-            Kind::L => next.comments = 0,
-            Kind::M | Kind::S => {}
+            Kind::C => {
+                self.comments = self.comments.saturating_add(1);
+                self.comments
+            }
+            Kind::L => {
+                self.comments = 0;
+                1
+            }
+            Kind::M | Kind::S => 1,
         }
-        next
     }
 }
 
@@ -258,6 +253,9 @@ fn lent_number(entry: &LentRecord<'_>) -> Option<u64>
     if let Kind::H = entry.kind() {
         return None;
     }
+    if let Some(digit) = entry.first_digit() {
+        return bytes_number(&[digit]);
+    }
     match entry.fields().next() {
         Some(field) => lent_field_number(&field),
         None => None,
@@ -275,18 +273,18 @@ fn is_number(number: Option<u64>, expected: u64) -> bool
     }
 }
 
-/// The finding on a record at this place whose second field is this number, if there is one.
+/// The finding on a record at this place whose second field is this number and should be the expected one, if there is
+/// one.
 #[inline(always)]
-fn finding_on(kind: Kind, number: Option<u64>, counts: Counts, place: u64) -> Option<Finding>
+fn finding_on(kind: Kind, number: Option<u64>, expected: u64, place: u64) -> Option<Finding>
     ensures { (earlier : Listed KindOf) (n : ℕ) (r : RecordContent)
-        → CountsOf earlier counts.patients counts.queries counts.orders counts.results counts.comments
+        → (kind ≢ kinds.H → kind ≢ kinds.M → kind ≢ kinds.S → expected ≡ capped (expected_number kind earlier))
         → place ≡ capped n → r.kind ≡ kind → field_number (field_at r 2) ≡ number
         → option_to_list result ≡ finding_on earlier n r }
 {
     if !is_numbered(kind) {
         return None;
     }
-    let expected = counts.expected(kind);
     if is_number(number, expected) {
         return None;
     }
@@ -336,11 +334,11 @@ impl Numbering {
             → HasNumbered self.new (records ++ entry.now.content ∷ []) }
     {
         let kind = entry.kind();
-        let (before, place) = (self.counts, self.next_place());
-        self.counts = before.after(kind);
+        let place = self.next_place();
+        let expected = self.counts.count(kind);
         self.count = self.count.saturating_add(1);
         // Last, so that no finding is carried past these: one is seldom found.
-        finding_on(kind, lent_number(entry), before, place)
+        finding_on(kind, lent_number(entry), expected, place)
     }
 }
 
@@ -366,9 +364,9 @@ pub fn findings(alloc: Global, message: &Message) -> Result<Findings, AllocError
     let mut place: u64 = 1;
     while let Some(entry) = walk.next() {
         let kind = entry.kind();
-        let finding = finding_on(kind, record_number(entry), counts, place);
+        let expected = counts.count(kind);
+        let finding = finding_on(kind, record_number(entry), expected, place);
         add(&mut found, finding)?;
-        counts = counts.after(kind);
         place = place.saturating_add(1);
     }
     Ok(found)

@@ -110,6 +110,8 @@ fn the_length_of_a_spelling_is_that_of_what_is_written(rt: HostRuntime) -> Resul
 #[test]
 fn fields_come_in_order(rt: HostRuntime) -> Result<(), Fail> {
     let record = lend_record(&Delimiters::usual(), b"R|1|^^^GLU||5.4")?;
+    assert_eq!(rt; record.first_digit(), Some(b'1'));
+    let record = record.again();
     let mut fields = record.fields();
     let told: [Option<&[u8]>; 4] = [Some(b"1"), None, Some(b""), Some(b"5.4")];
     for want in told {

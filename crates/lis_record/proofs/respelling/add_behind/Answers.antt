@@ -1,6 +1,6 @@
-use Rattle.std.proofs.Common.{◌≡◌, ◌∷◌, List, ℕ, ap, sym, ◌∙◌, drop}
+use Rattle.std.proofs.Common.{◌≡◌, ◌∷◌, [], List, ℕ, ap, get_or, sym, ◌∙◌, drop}
 use Rattle.lis_record.specs.inside.Respelling.{respelled}
-use Rattle.lis_record.proofs.Respelled.{respelled-mark}
+use Rattle.lis_record.proofs.Respelled.{one_as_is, respelled-mark}
 use Rattle.lis_record.proofs.respelling.add_behind.Goals as goal
 
 pub returns-then-byte-mark : goal.returns-then-byte-mark
@@ -14,3 +14,12 @@ returns-then-byte-mark c =
     ∙ respelled-mark d good d.field good.field_is good.field_escape behind
     ∙ ap (λ (l : List ℕ). d.field ∷ respelled d (drop 1 l)) (sym is) in
     rw (← same) c.add_respelled.ensures
+
+pub returns : goal.returns
+returns c =
+    let d = c.args.delimiters in
+    let behind = c.in-Some.behind.now in
+    let told : respelled d (drop 1 c.args.text.now) ≡ get_or behind 0 0 ∷ [] =
+    ap (λ (l : List ℕ). respelled d (drop 1 l)) c.in-Some.ensures.cases.0
+    ∙ one_as_is d behind c.in-len1.len_at_least c.in-len1.len_below (rw c.escape.ensures at c.if-only-escape.true) in
+    rw (told, ← c.field-mark.ensures.byte) c.in_ok-extend_from_slice.ensures.items

@@ -1,49 +1,78 @@
-use Rattle.std.proofs.Common.{◌≡◌, ◌+◌, arith}
-use Rattle.lis_record.proofs.FieldTexts.{passed_more, passed_one, passed_within, taken_parts}
-use Rattle.lis_record.proofs.Marks.{marks-next}
+use Rattle.std.proofs.Common.{◌≡◌, ◌*◌, ◌+◌, ◌%◌, ◌^◌, drop, arith}
+use Rattle.std.specs.Int.Count.{count_trailing_zeros}
+use Rattle.lis_record.proofs.LeftMarks.{end_is, left-first, left-next, nothing_passed, part_begun, part_passed}
+use Rattle.lis_record.proofs.LeftMarks.{parts_split}
 use Rattle.lis_record.proofs.texts.split_parts.Goals as goal
 
-pub first_marked-further-requires : goal.first_marked-further-requires
-first_marked-further-requires c =
-    marks-next c.args.delimiter c.in-Some-split_first._mark.now c.loop-left.marks c.loop-left.rest.now
-    c.in-Some-split_first.behind.now c.in-Some-split_first.ensures.cases.0 c.loop-left.invariant.marks
-
-pub loop-left-init : goal.loop-left-init
-loop-left-init c = record {
-  passed = 1;
+pub loop-ahead-init : goal.loop-ahead-init
+loop-ahead-init c = record {
+  place = 1;
   some = omega arith;
+  passed = 0;
   sum = omega (arith, c.requires.some);
-  parts =
-      passed_one c.args.delimiter c.in-Some.parts.now c.first_marked-marks.result.0.now
-      c.first_marked-marks.result.1.now c.first_marked-marks.ensures.parts
-      c.first_marked-marks.ensures.joined c.first_marked-marks.ensures.mark;
-  marks = c.first_marked-marks.ensures.marks;
+  marks = left-first c.args.delimiter c.args.marks c.args.text.now c.requires.marks;
+  parts = nothing_passed c.args.delimiter (drop 1 c.args.text.now);
 }
 
-pub loop-left-preserved : goal.loop-left-preserved
-loop-left-preserved c = record {
-  passed = c.loop-left.invariant.passed + 1;
-  some = omega arith;
-  sum = omega (arith, c.loop-left.invariant.sum, c.loop-left-test.true);
-  parts =
-      passed_more c.args.delimiter c.in-Some.parts.now c.loop-left.rest.now c.loop-left.invariant.passed
-      c.in-Some-split_first._mark.now c.in-Some-split_first.behind.now c.first_marked-further.result.0.now
-      c.first_marked-further.result.1.now
-      c.loop-left.invariant.parts c.in-Some-split_first.ensures.cases.0
-      c.first_marked-further.ensures.parts c.first_marked-further.ensures.joined
-      c.first_marked-further.ensures.mark;
-  marks = c.first_marked-further.ensures.marks;
-}
+pub overflow_sub-left-in-loop-ahead : goal.overflow_sub-left-in-loop-ahead
+overflow_sub-left-in-loop-ahead c =
+    let i = c.loop-ahead.invariant in
+    let next = left-next c.args.delimiter c.args.text.now c.loop-ahead.left i.place i.marks c.if-left-eq0.false
+    (count_trailing_zeros 64 c.loop-ahead.left)
+    (end_is c.args.delimiter c.args.text.now c.loop-ahead.left i.place i.marks c.if-left-eq0.false) in
+    omega (arith, next.bit)
 
-pub overflow_sub-parts : goal.overflow_sub-parts
-overflow_sub-parts c =
-    passed_within c.args.delimiter c.in-Some.parts.now c.loop-left.rest.now c.loop-left.invariant.passed
-    c.loop-left.invariant.parts c.loop-left.invariant.some
+pub loop-ahead-preserved : goal.loop-ahead-preserved
+loop-ahead-preserved c =
+    let i = c.loop-ahead.invariant in
+    let d = c.args.delimiter in
+    let text = c.args.text.now in
+    let left = c.loop-ahead.left in
+    let end = count_trailing_zeros 64 left in
+    let next = left-next d text left i.place i.marks c.if-left-eq0.false end
+    (end_is d text left i.place i.marks c.if-left-eq0.false) in
+    let same : 1 * 2 ^ end % 18446744073709551616 ≡ 2 ^ end =
+    omega (arith, next.bit, c.loop-ahead.auto.left-fits) in
+    record {
+      place = end + 1;
+      some = omega arith;
+      passed = i.passed + 1;
+      sum = omega (arith, i.sum, c.loop-ahead-test.true);
+      marks = rw same next.others;
+      parts = part_begun d text left i.place end next (i.passed + 1)
+          (part_passed d text left i.place end next i.passed i.parts);
+    }
+
+pub split_at-requires : goal.split_at-requires
+split_at-requires c =
+    let i = c.loop-ahead.invariant in
+    let next = left-next c.args.delimiter c.args.text.now c.loop-ahead.left i.place i.marks c.if-left-eq0-2.false
+    (count_trailing_zeros 64 c.loop-ahead.left)
+    (end_is c.args.delimiter c.args.text.now c.loop-ahead.left i.place i.marks c.if-left-eq0-2.false) in
+    omega (arith, next.inside)
 
 pub returns-clause-split : goal.returns-clause-split
 returns-clause-split c =
-    let all : c.loop-left.invariant.passed ≡ c.args.count =
-    omega (arith, c.loop-left.invariant.sum, c.loop-left-test.false) in
-    taken_parts c.args.delimiter c.in-Some._delimiter.now c.args.count c.args.text.now c.in-Some.parts.now
-    c.loop-left.rest.now c.split_at.result.0.now c.in-Some.ensures.cases.0
-    (rw all at c.loop-left.invariant.parts) c.requires.some c.split_at.ensures.front
+    let i = c.loop-ahead.invariant in
+    let end = count_trailing_zeros 64 c.loop-ahead.left in
+    let next = left-next c.args.delimiter c.args.text.now c.loop-ahead.left i.place i.marks c.if-left-eq0-2.false end
+    (end_is c.args.delimiter c.args.text.now c.loop-ahead.left i.place i.marks c.if-left-eq0-2.false) in
+    parts_split c.args.delimiter c.args.text.now c.loop-ahead.left i.place end next i.passed c.args.count
+    c.split_at.result.0.now c.split_at.result.1.now i.parts
+    (omega (arith, i.sum, c.loop-ahead-test.false)) i.some c.split_at.ensures.front c.split_at.ensures.back
+
+pub returns-clause-first : goal.returns-clause-first
+returns-clause-first c =
+    let i = c.loop-ahead.invariant in
+    let next = left-next c.args.delimiter c.args.text.now c.loop-ahead.left i.place i.marks c.if-left-eq0-2.false
+    (count_trailing_zeros 64 c.loop-ahead.left)
+    (end_is c.args.delimiter c.args.text.now c.loop-ahead.left i.place i.marks c.if-left-eq0-2.false) in
+    omega (arith, next.from, i.some, c.split_at.ensures.front_len)
+
+pub returns-clause-marks : goal.returns-clause-marks
+returns-clause-marks c =
+    let i = c.loop-ahead.invariant in
+    let next = left-next c.args.delimiter c.args.text.now c.loop-ahead.left i.place i.marks c.if-left-eq0-2.false
+    (count_trailing_zeros 64 c.loop-ahead.left)
+    (end_is c.args.delimiter c.args.text.now c.loop-ahead.left i.place i.marks c.if-left-eq0-2.false) in
+    rw c.split_at.ensures.back next.marks

@@ -1,18 +1,19 @@
-use Rattle.std.proofs.Common.{◌≡◌, ◌+◌, ◌<◌, ℕ, List}
-use Rattle.lis_record.specs.inside.Marks.{AreMarks}
+use Rattle.std.proofs.Common.{◌≡◌, ◌+◌, ◌<◌, ◌∷◌, ℕ, List, drop}
 use Rattle.lis_record.proofs.FieldTexts.{Passed}
+use Rattle.lis_record.proofs.LeftMarks.{Left}
 use Rattle.lis_record.proofs.texts.split_parts.Given as goal
 
--- some parts were passed over, and so many are left
-pub record Passing (mark : ℕ) (text rest : List ℕ) (left count bits : ℕ) : Type 0 where
+-- some parts were passed over up to a place, behind which one begins
+pub record Passing (mark : ℕ) (text : List ℕ) (left ahead count : ℕ) : Type 0 where
+  pub place : ℕ
+  pub some : 0 < place
   pub passed : ℕ
-  pub some : 0 < passed
-  pub sum : passed + left ≡ count
-  pub parts : Passed mark text rest passed
-  pub marks : AreMarks mark rest bits
+  pub sum : passed + ahead + 1 ≡ count
+  pub marks : Left mark text left place
+  pub parts : Passed mark (drop 1 text) (mark ∷ drop place text) passed
 
-abbrev pub invariant-loop-left : goal.invariant-loop-left
-invariant-loop-left l = Passing l.delimiter l.parts l.rest l.left l.count l.marks
+abbrev pub invariant-loop-ahead : goal.invariant-loop-ahead
+invariant-loop-ahead l = Passing l.delimiter l.text l.left l.ahead l.count
 
-abbrev pub decreases-loop-left : goal.decreases-loop-left
-decreases-loop-left l = l.left
+abbrev pub decreases-loop-ahead : goal.decreases-loop-ahead
+decreases-loop-ahead l = l.ahead

@@ -15,7 +15,7 @@ returns-clause-ok c = λ left is.
       comes = subst (λ (l : List ℕ). ComesNext left l c.in-Ok.entry)
           (text ∙ ap (λ (r : RecordsState). r.held ++ c.args.text.now) c.self.view_is) comes;
       opened =
-          c.opened_after-self-inside.ensures left c.text-text.result.now c.in-Ok.entry here comes
+          c.open_after.ensures left c.text-text.result.now c.in-Ok.entry here comes
           (sym c.delimiters.ensures) (sym c.kind.ensures)
           ∙ ap (λ (k : Kind). opened_of (left_after left c.in-Ok.entry k)) c.kind.ensures;
       told =

@@ -9,7 +9,7 @@ returns-clause-ok c = λ left is.
     let here = ap (λ (r : RecordsState). r.opened) c.self.view_is ∙ is in
     let comes = c.in-Ok.ensures.ok left here in (
       comes,
-      c.opened_after-self-inside.ensures left c.args.text.now c.in-Ok.entry here comes (sym c.delimiters.ensures)
+      c.open_after.ensures left c.args.text.now c.in-Ok.entry here comes (sym c.delimiters.ensures)
           (sym c.kind.ensures)
           ∙ ap (λ (k : Kind). opened_of (left_after left c.in-Ok.entry k)) c.kind.ensures,
     )

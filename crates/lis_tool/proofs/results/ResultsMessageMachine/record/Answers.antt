@@ -22,7 +22,7 @@ returns-in-O c =
     c.add_field.new.self.bytes.items
     (sym c.kind.ensures ∙ c.in-O.is)
     (added ∙ ap (λ (l : List ℕ). l ++ field_text entry.delimiters (field_at entry.content 3)) c.clear.ensures)))
-    c.add_field.ensures
+    (rw c.again.ensures at c.add_field.ensures)
 
 pub returns-in-R : goal.returns-in-R
 returns-in-R c =

@@ -13,17 +13,18 @@ returns-clause-found c = λ records has.
     c.next_place-place.ensures records has ∙ ap (λ (k : ℕ). capped k) (omega arith) in
     findings-more [] 1 records r
     ∙ ap (λ l. findings_from [] 1 records ++ l)
-    (sym (c.finding_on.ensures (kinds_back [] records) (1 + length records) r has.counts place
+    (sym (c.finding_on.ensures (kinds_back [] records) (1 + length records) r
+    (c.count-expected.ensures.expected (kinds_back [] records) has.counts) place
     (sym c.kind-kind.ensures) (sym c.lent_number.ensures)))
 
 pub returns-clause-numbered : goal.returns-clause-numbered
 returns-clause-numbered c = λ records has.
     let r = c.args.entry.now.content in
-    let next = c.after-self.result in
+    let next = c.count-expected.new.self in
     record {
       counts =
           subst (λ (ks : List Kind). CountsOf ks next.patients next.queries next.orders next.results next.comments)
           (ap (λ (k : Kind). k ∷ kinds_back [] records) c.kind-kind.ensures ∙ sym (kinds_back-more [] records r))
-          (c.after-self.ensures (kinds_back [] records) has.counts);
+          (c.count-expected.ensures.counted (kinds_back [] records) has.counts);
       counted = omega (arith, has.counted, c.saturating_add-self.ensures, length-append records (r ∷ []));
     }

@@ -1,0 +1,276 @@
+-- The places of a byte that are left behind some of them, as bits of the whole text.
+use Rattle.std.proofs.Common.{◌≡◌, ◌≤◌, ◌<◌, ℕ, zero, suc, ◌+◌, ◌*◌, ◌-◌, ◌/◌, ◌%◌, ◌^◌, ◌==◌, Bool, true, false, cond}
+use Rattle.std.proofs.Common.{not, List, [], ◌∷◌, ◌++◌, length, map, take, drop, replicate, Option, Some, None, ap, sym}
+use Rattle.std.proofs.Common.{◌∙◌, refl, arith, eq-eqb, eqb, get_or, length-append, length-take, take-append-drop}
+use Rattle.std.proofs.Common.{unwrap_or}
+use Rattle.std.specs.List.{flat_map, position, prefix_len}
+use Rattle.std.specs.Int.Count.{count_trailing_zeros}
+use Rattle.std.specs.Simd.Lanes.{mask_l}
+use Rattle.std.proofs.Math.Nat.{div-div-eq-div-mul, mul-div_cancel_left, mul_assoc, pow-succ'}
+use Rattle.std.proofs.lemmas.Iterator.Adapters.{position_from-zero}
+use Rattle.std.proofs.lemmas.List.{drop-drop, drop_more, length-drop, length-replicate}
+use Rattle.std.proofs.lemmas.Nat.{pow-add}
+use Rattle.std.proofs.lemmas.Simd.{trailing_mask_l}
+use Rattle.std.proofs.lemmas.Bool.Decides.{nat_tests}
+use Rattle.lis_text.proofs.SearchLemmas.{found-chunk, found-within}
+use Rattle.lis_record.specs.inside.Marks.{AreMarks}
+use Rattle.lis_record.specs.Faults.{trailing_byte}
+use Rattle.lis_record.specs.inside.FrontReading.{parts_behind}
+use Rattle.lis_record.proofs.FieldTexts.{Passed, part_behind-mark, passed_more, taken_parts, trailing-none}
+use Rattle.lis_record.proofs.LastBits.{mask_l-drop}
+use Rattle.lis_record.proofs.Marks.{front-behind}
+use Rattle.lis_record.proofs.Places.{parts_of-first}
+
+eqb-other : (n : ℕ) → eqb (suc n) n ≡ false
+eqb-other n = grind (arith, nat_tests)
+
+positive : (n : ℕ) → (n ≡ 0 → ⊥) → 0 < n
+positive zero some = absurd (some refl)
+positive (suc n) some = omega arith
+
+module _ (f : ℕ → Bool) where
+  -- the lowest bit, and those above it
+  first-bit : (ys : List ℕ) (t : ℕ) → t ≡ prefix_len (λ b. not (f b)) ys → 0 < mask_l (map f ys)
+      → mask_l (map f ys) ≡ 2 ^ t * (1 + 2 * mask_l (map f (drop (suc t) ys)))
+  first-bit [] t is some = absurd (omega (arith, some))
+  first-bit (y ∷ ys) t is some = by (f y) t is some (first-bit ys)
+    where
+      by : (test : Bool) (t : ℕ) → t ≡ cond (not test) (1 + prefix_len (λ b. not (f b)) ys) 0
+          → 0 < cond test 1 0 + 2 * mask_l (map f ys)
+          → ((t : ℕ) → t ≡ prefix_len (λ b. not (f b)) ys → 0 < mask_l (map f ys)
+          → mask_l (map f ys) ≡ 2 ^ t * (1 + 2 * mask_l (map f (drop (suc t) ys))))
+          → cond test 1 0 + 2 * mask_l (map f ys) ≡ 2 ^ t * (1 + 2 * mask_l (map f (drop (suc t) (y ∷ ys))))
+      by true zero is some more = omega arith
+      by true (suc t) is some more = absurd (omega (arith, is))
+      by false zero is some more = absurd (omega (arith, is))
+      by false (suc t) is some more =
+          rw (pow-succ' 2 t, mul_assoc 2 (2 ^ t) (1 + 2 * mask_l (map f (drop (suc t) ys))))
+          (omega (arith, more t (omega (arith, is)) (omega (arith, some))))
+
+  -- behind so many bytes that aren't marked
+  module _ (off : ℕ) (is : f off ≡ false) where
+    blank : (k : ℕ) (ys : List ℕ) → mask_l (map f (replicate k off ++ ys)) ≡ 2 ^ k * mask_l (map f ys)
+    blank zero ys = omega arith
+    blank (suc k) ys = rw (is, pow-succ' 2 k, mul_assoc 2 (2 ^ k) (mask_l (map f ys))) (omega (arith, blank k ys))
+
+    blank-length : (k : ℕ) (ys : List ℕ) → prefix_len (λ b. not (f b)) (replicate k off ++ ys)
+        ≡ k + prefix_len (λ b. not (f b)) ys
+    blank-length zero ys = omega arith
+    blank-length (suc k) ys = rw is (omega (arith, blank-length k ys))
+
+    lowest-behind : (k : ℕ) (ys : List ℕ) → k + length ys ≤ 64 → (2 ^ k * mask_l (map f ys) ≡ 0 → ⊥)
+        → count_trailing_zeros 64 (2 ^ k * mask_l (map f ys)) ≡ k + prefix_len (λ b. not (f b)) ys
+    lowest-behind k ys room some =
+        let all = replicate k off ++ ys in
+        let long : length all ≤ 64 =
+        omega (arith, length-append (replicate k off) ys, length-replicate k off, room) in
+        ap (count_trailing_zeros 64) (sym (blank k ys))
+        ∙ trailing_mask_l f 64 all long (rw (blank k ys) (positive _ some)) ∙ blank-length k ys
+
+-- the places from one on
+pub record Left (mark : ℕ) (text : List ℕ) (left place : ℕ) : Type 0 where
+  pub count : ℕ
+  pub room : place + count ≤ 64
+  pub within : count ≤ length (drop place text)
+  pub are : left ≡ 2 ^ place * mask_l (map (λ b. b == mark) (take count (drop place text)))
+
+-- those behind the first byte
+pub left-first : (mark bits : ℕ) (text : List ℕ) → AreMarks mark text bits → Left mark text (bits - bits % 2) 1
+left-first mark bits [] m =
+    record { count = 0; room = omega arith; within = omega arith; are = omega (arith, m.are, none m.count) }
+  where
+    none : (count : ℕ) → mask_l (map (λ b. b == mark) (take count [])) ≡ 0
+    none zero = refl
+    none (suc count) = refl
+left-first mark bits (byte ∷ rest) m = by m.count m.few m.within m.are
+  where
+    by : (count : ℕ) → count ≤ 64 → count ≤ length (byte ∷ rest)
+        → bits ≡ mask_l (map (λ b. b == mark) (take count (byte ∷ rest))) → Left mark (byte ∷ rest) (bits - bits % 2) 1
+    by zero few within are =
+        record { count = 0; room = omega arith; within = omega arith; are = omega (arith, are) }
+    by (suc count) few within are = record {
+      count = count;
+      room = omega (arith, few);
+      within = omega (arith, within);
+      are = of (eqb byte mark) (mask_l (map (λ b. b == mark) (take count rest))) are;
+    }
+      where
+        of : (test : Bool) (more : ℕ) → bits ≡ cond test 1 0 + 2 * more → bits - bits % 2 ≡ 2 ^ 1 * more
+        of true more is = omega (arith, is)
+        of false more is = omega (arith, is)
+
+-- the first of them, and those behind it
+pub record Next (mark : ℕ) (text : List ℕ) (left place end : ℕ) : Type 0 where
+  pub from : place ≤ end
+  pub inside : end < length text
+  pub small : end < 64
+  pub first : position (λ b. b == mark) (drop place text) ≡ Some (end - place)
+  pub marks : AreMarks mark (drop end text) (left / 2 ^ end)
+  pub bit : 2 ^ end ≤ left
+  pub others : Left mark text (left - 2 ^ end) (end + 1)
+
+-- the product of a bit and a number by parts
+bit-off : (n : ℕ) (more : ℕ) → n * (1 + 2 * more) - n ≡ n * 2 * more
+bit-off n more = omega (arith, mul_assoc n 2 more)
+
+bit-in : (n more left : ℕ) → left ≡ n * (1 + 2 * more) → n ≤ left
+bit-in n more left is = omega (arith, is, mul_assoc n 2 more)
+
+pow-pos : (k : ℕ) → 0 < 2 ^ k
+pow-pos zero = omega arith
+pow-pos (suc k) = rw (pow-succ' 2 k) (omega (arith, pow-pos k))
+
+none-of : (n m left : ℕ) → left ≡ n * m → (left ≡ 0 → ⊥) → m ≡ 0 → ⊥
+none-of n m left is some none = some (omega (arith, rw none at is))
+
+module _ (mark : ℕ) (text : List ℕ) (left place : ℕ) (l : Left mark text left place) (some : left ≡ 0 → ⊥) where
+  abbrev known : List ℕ
+  known = take l.count (drop place text)
+
+  abbrev bits : ℕ
+  bits = mask_l (map (λ b. b == mark) known)
+
+  abbrev lead : ℕ
+  lead = prefix_len (λ b. not (b == mark)) known
+
+  marked : bits ≡ 0 → ⊥
+  marked = none-of (2 ^ place) bits left l.are some
+
+  few : l.count ≤ 64
+  few = omega (arith, l.room)
+
+  fits : l.count ≤ length (drop place text)
+  fits = l.within
+
+  long : length known ≡ l.count
+  long = omega (arith, length-take l.count (drop place text), fits)
+
+  lead_is : count_trailing_zeros 64 bits ≡ lead
+  lead_is = trailing_mask_l (λ b. b == mark) 64 known (omega (arith, long, few)) (positive bits marked)
+
+  lead_within : lead < l.count
+  lead_within = omega (arith, lead_is, found-within (λ b. b == mark) l.count (drop place text) few fits marked)
+
+  pub end_is : count_trailing_zeros 64 left ≡ place + lead
+  end_is = rw l.are (lowest-behind (λ b. b == mark) (suc mark) (eqb-other mark) place known
+      (omega (arith, long, l.room)) (rw l.are at some))
+
+  first_place : position (λ b. b == mark) (drop place text) ≡ Some lead
+  first_place =
+      let at : 0 + count_trailing_zeros 64 bits ≡ lead = omega (arith, lead_is) in
+      position_from-zero (λ (b : ℕ). b == mark) (drop place text)
+      ∙ found-chunk (λ b. b == mark) 0 l.count (drop place text) few fits marked ∙ ap Some at
+
+  abbrev others : ℕ
+  others = mask_l (map (λ b. b == mark) (drop (suc lead) known))
+
+  parted : left ≡ 2 ^ (place + lead) * (1 + 2 * others)
+  parted = l.are ∙ ap (λ (n : ℕ). 2 ^ place * n) (first-bit (λ b. b == mark) known lead refl (positive bits marked))
+      ∙ sym (mul_assoc (2 ^ place) (2 ^ lead) (1 + 2 * others))
+      ∙ ap (λ (n : ℕ). n * (1 + 2 * others)) (sym (pow-add 2 place lead))
+
+  bits_behind : left / 2 ^ (place + lead) ≡ mask_l (map (λ b. b == mark) (drop lead known))
+  bits_behind =
+      ap (λ (n : ℕ). left / n) (pow-add 2 place lead)
+      ∙ sym (div-div-eq-div-mul left (2 ^ place) (2 ^ lead))
+      ∙ ap (λ (n : ℕ). n / 2 ^ place / 2 ^ lead) l.are
+      ∙ ap (λ (n : ℕ). n / 2 ^ lead) (mul-div_cancel_left bits (pow-pos place))
+      ∙ mask_l-drop (λ b. b == mark) lead known
+
+  -- the known bytes from a place on
+  known_behind : (n : ℕ) → drop n known ≡ take (l.count - n) (drop (place + n) text)
+  known_behind n = front-behind n l.count (drop place text)
+      ∙ ap (λ (xs : List ℕ). take (l.count - n) xs) (drop-drop n place text)
+
+  pub left-next : (end : ℕ) → end ≡ place + lead → Next mark text left place end
+  left-next end is =
+      let at : end - place ≡ lead = omega (arith, is) in
+      let whole : left ≡ 2 ^ end * (1 + 2 * others) = rw is parted in
+      record {
+        from = omega (arith, is);
+        inside = omega (arith, is, lead_within, l.within, length-drop place text);
+        small = omega (arith, is, lead_within, l.room);
+        first = rw at first_place;
+        marks = record {
+          count = l.count - lead;
+          few = omega (arith, few);
+          within = omega (arith, is, l.within, lead_within, length-drop end text, length-drop place text);
+          are = rw is (bits_behind ∙ ap (λ (xs : List ℕ). mask_l (map (λ b. b == mark) xs)) (known_behind lead));
+        };
+        bit = bit-in (2 ^ end) others left whole;
+        others = record {
+          count = l.count - suc lead;
+          room = omega (arith, is, l.room, lead_within);
+          within =
+              omega (arith, is, l.within, lead_within, length-drop (end + 1) text, length-drop place text);
+          are = behind end is whole;
+        };
+      }
+    where
+      behind : (end : ℕ) → end ≡ place + lead → left ≡ 2 ^ end * (1 + 2 * others)
+          → left - 2 ^ end
+          ≡ 2 ^ (end + 1) * mask_l (map (λ b. b == mark) (take (l.count - suc lead) (drop (end + 1) text)))
+      behind end is whole =
+          let at : place + suc lead ≡ end + 1 = omega (arith, is) in
+          let more : others ≡ mask_l (map (λ b. b == mark) (take (l.count - suc lead) (drop (end + 1) text))) =
+          ap (λ (xs : List ℕ). mask_l (map (λ b. b == mark) xs)) (known_behind (suc lead)
+          ∙ ap (λ (n : ℕ). take (l.count - suc lead) (drop n text)) at) in
+          ap (λ (n : ℕ). n - 2 ^ end) whole ∙ bit-off (2 ^ end) others
+          ∙ ap (λ (n : ℕ). n * others) (sym (pow-add 2 end 1))
+          ∙ ap (λ (n : ℕ). 2 ^ (end + 1) * n) more
+
+-- ---- the parts that were passed over up to them
+
+pub nothing_passed : (mark : ℕ) (text : List ℕ) → Passed mark text (mark ∷ text) 0
+nothing_passed mark text = record {
+  parts = [];
+  count = refl;
+  joined = refl;
+  behind = refl;
+  next = lone (eqb mark mark) (eq-eqb mark mark refl);
+}
+  where
+    lone : (test : Bool) → test ≡ true → cond test None (Some mark) ≡ None
+    lone true is = refl
+    lone false is = cc
+
+module _ (mark : ℕ) (text : List ℕ) (left place end : ℕ) (n : Next mark text left place end) where
+  found : position (λ b. b == mark) (drop place text) ≡ Some (end - place)
+  found = n.first
+
+  behind_is : drop (end - place) (drop place text) ≡ drop end text
+  behind_is = drop-drop (end - place) place text ∙ ap (λ (k : ℕ). drop k text) (omega (arith, n.from))
+
+  ends : end - place ≡ unwrap_or (position (λ b. b == mark) (drop place text)) (length (drop place text))
+  ends = sym (ap (λ (o : Option ℕ). unwrap_or o (length (drop place text))) n.first)
+
+  marked_next : trailing_byte mark (drop end text) ≡ None
+  marked_next = rw behind_is at (part_behind-mark mark (drop place text) (end - place) ends)
+
+  pub part_passed : (passed : ℕ) → Passed mark (drop 1 text) (mark ∷ drop place text) passed
+      → Passed mark (drop 1 text) (drop end text) (passed + 1)
+  part_passed passed p =
+      passed_more mark (drop 1 text) (mark ∷ drop place text) passed mark (drop place text)
+      (take (end - place) (drop place text)) (drop end text) p refl
+      (rw behind_is at (parts_of-first mark (drop place text) (end - place) ends))
+      (rw behind_is at (sym (take-append-drop (end - place) (drop place text)))) marked_next
+
+  pub part_begun : (passed : ℕ) → Passed mark (drop 1 text) (drop end text) passed
+      → Passed mark (drop 1 text) (mark ∷ drop (end + 1) text) passed
+  part_begun passed p =
+      let at = drop_more text end 0 n.inside in
+      let same : get_or text end 0 ≡ mark =
+      trailing-none mark (get_or text end 0) (drop (end + 1) text) (drop end text) at marked_next in
+      rw (at ∙ ap (λ (b : ℕ). b ∷ drop (end + 1) text) same) at p
+
+  pub parts_split : (passed count : ℕ) (front back : List ℕ) → Passed mark (drop 1 text) (mark ∷ drop place text) passed
+      → passed + 1 ≡ count → 0 < place → front ≡ take end text → back ≡ drop end text
+      → (count ≤ length (parts_behind mark text))
+      × (mark ∷ drop 1 front ≡ flat_map (λ part. mark ∷ part) (take count (parts_behind mark text)))
+      × (parts_behind mark back ≡ drop count (parts_behind mark text))
+  parts_split passed count front back p sum some front_is back_is =
+      let whole = drop_more text 0 0 (omega (arith, n.inside)) in
+      let at : end ≡ length (drop 1 text) - length (drop end text) + 1 =
+      omega (arith, n.inside, n.from, some, length-drop 1 text, length-drop end text) in
+      rw back_is (taken_parts mark (get_or text 0 0) count text (drop 1 text) (drop end text) front whole
+      (rw sum at (part_passed passed p)) (omega (arith, sum)) (front_is ∙ ap (λ (k : ℕ). take k text) at))
