@@ -386,7 +386,8 @@ impl<'a> LentRecord<'a> {
         }
     }
 
-    /// The byte of the first field, where that is one digit, as of most sequence numbers; none where it isn't so.
+    /// The byte of the first field, where that is one digit and another field stands behind it, as of most sequence
+    /// numbers. None tells nothing of the field.
     #[inline(always)]
     pub fn first_digit(&self) -> Option<u8>
         ensures { IfSome result (λ digit. slice_get self.now.content.fields 0 ≡ Some (plain_field (digit ∷ []))) }
