@@ -56,8 +56,8 @@ impl Few {
         }
     }
 
-    // So many bytes of a text's front, each a character. Sixteen bytes are read and fifteen symbols made of them at once,
-    // so that no loop turns on the count.
+    // So many bytes of a text's front, each a character. Sixteen bytes are read and fifteen symbols made of them at
+    // once, so that no loop turns on the count.
     #[inline(always)]
     pub(crate) fn from_front(text: &[u8], count: usize) -> Self
         requires few { count ≤ 15 }

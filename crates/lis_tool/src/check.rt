@@ -1,7 +1,8 @@
 //! The command `check`: messages, their records and what is to be looked at in them (LIS02-A2).
 
 ghost use Rattle.std.specs.Prelude.{◌≡◌, ◌^◌, ◌<◌, ◌≤◌, ◌++◌, [], List, None, OnOk, true, false, is_err, length, IfOk};
-ghost use Rattle.lis_tool.specs.Check.{IsChecking, check_writes, finding_count, finding_line, message_line, record_line};
+ghost use Rattle.lis_tool.specs.Check.{IsChecking, check_writes, finding_count, finding_line, message_line};
+ghost use Rattle.lis_tool.specs.Check.{record_line};
 ghost use Rattle.lis_tool.specs.Check.{refused_part, sums_line};
 ghost use Rattle.lis_tool.specs.MessageRuns.{MessagesRan};
 ghost use Rattle.lis_tool.specs.Messages.{report_after};

@@ -10,4 +10,6 @@ returns c =
     let all : c.loop-place.place ≡ 15 = omega (arith, c.loop-place-test.false, c.loop-place.auto.place-end) in
     let whole = rw all at c.loop-place.invariant.1 in
     sym (take-take n 15 c.loop-place.symbols c.requires.few) ∙ ap (take n) whole
-    ∙ take-map Char n (take 15 (take 16 text)) ∙ ap (map Char) (take-take n 15 (take 16 text) c.requires.few ∙ take-take n 16 text (omega (arith, c.requires.few)))
+    ∙ take-map Char n (take 15 (take 16 text))
+    ∙ ap (map Char) (take-take n 15 (take 16 text) c.requires.few
+    ∙ take-take n 16 text (omega (arith, c.requires.few)))
