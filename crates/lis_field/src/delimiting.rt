@@ -87,9 +87,9 @@ fn fault_of(field: u8, repeat: u8, component: u8, escape: u8) -> Option<Delimite
 }
 
 impl Delimiters {
+    // The bytes stay in registers, where a call would store each by itself and load all four at once.
     /// Delimiters of these four bytes, which are distinct punctuation bytes; else the place, from 0, of
     /// the first that is no punctuation, or of the first that stands earlier too.
-    // The bytes stay in registers, where a call would store each by itself and load all four at once.
     #[inline(always)]
     pub fn new(field: u8, repeat: u8, component: u8, escape: u8) -> Result<Self, DelimiterFault>
         ensures found { IfOk result (λ d. (d ≡ delimiters_of field repeat component escape) × IsDelimiters d) }
