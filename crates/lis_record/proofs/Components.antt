@@ -52,7 +52,7 @@ Lacks-digits byte h digits all =
     let yes : is_hex_digit byte ≡ true = rw (← e) digit in
     cc) digits all
 
-raw_symbols-ok : (r : Result (List ℕ) FromHexError) (symbols : Symbols) → raw_symbols r ≡ Some symbols
+pub raw_symbols-ok : (r : Result (List ℕ) FromHexError) (symbols : Symbols) → raw_symbols r ≡ Some symbols
     → (bytes : List ℕ) × (r ≡ Ok bytes)
 raw_symbols-ok (Ok bytes) symbols h = (bytes, refl)
 raw_symbols-ok (Err fault) symbols h = cc

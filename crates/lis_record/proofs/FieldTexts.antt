@@ -10,7 +10,7 @@ use Rattle.lis_field.specs.Delimiters.{is_punctuation}
 use Rattle.lis_field.proofs.FirstFaults.{test_false}
 use Rattle.std.proofs.lemmas.Bool.{eqb-true}
 use Rattle.std.proofs.lemmas.Grind.{flat_map-append}
-use Rattle.std.proofs.lemmas.List.{drop_all}
+use Rattle.std.proofs.lemmas.List.{drop_all, length-map}
 use Rattle.std.proofs.lemmas.List.Splits.{slice_split_none}
 use Rattle.std.specs.List.{position, position_or_len}
 use Rattle.std.proofs.lemmas.List.Elements.{All-cons, All-head, All-tail, All-nil}
@@ -24,7 +24,7 @@ use Rattle.lis_record.specs.inside.FrontReading.{symbols_of}
 use Rattle.lis_record.specs.inside.Remaining.{more_fields}
 use Rattle.lis_record.specs.Relation.{Lacks}
 use Rattle.lis_record.proofs.Components.{symbols_of-plain}
-use Rattle.lis_record.proofs.Joins.{Lacks-tests, parts_of-apart}
+use Rattle.lis_record.proofs.Joins.{Lacks-tests, parts_of-apart, parts_of-some}
 use Rattle.lis_record.proofs.Places.{IsFound-position, parts_of-first, symbols_of-nil}
 use Rattle.lis_record.specs.inside.Respelling.{respelled}
 use Rattle.lis_record.proofs.Respelled.{fields_respelled, respelled-mark}
@@ -94,7 +94,7 @@ module _ (d : DelimiterBytes) where
 
 -- ---- a first field that is one digit
 
-digit-apart : (digit mark : ℕ) → 48 ≤ digit → digit ≤ 57 → is_punctuation mark ≡ true → digit ≢ mark
+pub digit-apart : (digit mark : ℕ) → 48 ≤ digit → digit ≤ 57 → is_punctuation mark ≡ true → digit ≢ mark
 unfolding is_punctuation
 digit-apart digit mark low high h e =
     let no : is_punctuation digit ≡ false = grind (arith, nat_tests, low, high) in
@@ -103,7 +103,7 @@ digit-apart digit mark low high h e =
 
 pub lone_digit : (d : DelimiterBytes) → IsDelimiters d → (text : List ℕ) → 3 ≤ length text → 48 ≤ get_or text 1 0
     → get_or text 1 0 ≤ 57 → get_or text 2 0 ≡ d.field
-    → slice_get (fields_of d text) 0 ≡ Some (plain_field (get_or text 1 0 ∷ []))
+    → (slice_get (fields_of d text) 0 ≡ Some (plain_field (get_or text 1 0 ∷ []))) × (1 < length (fields_of d text))
 lone_digit d good [] long low high ends = absurd (omega arith)
 lone_digit d good (a ∷ []) long low high ends = absurd (omega arith)
 lone_digit d good (a ∷ b ∷ []) long low high ends = absurd (omega arith)
@@ -118,7 +118,10 @@ lone_digit d good (byte ∷ digit ∷ end ∷ rest) long low high ends =
     let read : repeats_of d (digit ∷ []) ≡ plain_field (digit ∷ []) =
     plain_read d (digit ∷ []) (lacks d.repeat good.repeat_is) (lacks d.component good.component_is)
     (lacks d.escape good.escape_is) in
-    ap (λ (parts : List (List ℕ)). slice_get (map (repeats_of d) parts) 0) first ∙ ap Some read
+    let count = ap (λ (parts : List (List ℕ)). length (map (repeats_of d) parts)) first in (
+      ap (λ (parts : List (List ℕ)). slice_get (map (repeats_of d) parts) 0) first ∙ ap Some read,
+      omega (arith, count, length-map (parts_of d.field rest) (repeats_of d), parts_of-some d.field rest),
+    )
 
 -- ---- the texts of fields that were passed over, and what is left
 pub record Passed (mark : ℕ) (text rest : List ℕ) (passed : ℕ) : Type 0 where

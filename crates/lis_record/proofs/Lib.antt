@@ -16,6 +16,7 @@ pub mod Opening
 pub mod PaddedTexts
 pub mod Pairs
 pub mod Places
+pub mod PlainFields
 pub mod PlainLengths
 pub mod ReadBack
 pub mod RecordTexts

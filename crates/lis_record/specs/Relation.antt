@@ -13,6 +13,13 @@ use Rattle.lis_record.specs.Text.{IsText, record_limit}
 abbrev pub Lacks : ℕ → List ℕ → Type 0
 Lacks byte text = All (λ b. b ≢ byte) text
 
+-- no delimiter stands in the text
+pub record LacksDelimiters (d : DelimiterBytes) (text : List ℕ) : Type 0 where
+  pub field : Lacks d.field text
+  pub repeat : Lacks d.repeat text
+  pub component : Lacks d.component text
+  pub escape : Lacks d.escape text
+
 -- The text is one or more parts joined by the byte, which stands in none of them, a part for each item.
 pub record IsJoined {A : Type 0} (byte : ℕ) (IsItem : List ℕ → A → Type 0) (text : List ℕ) (items : List A) : Type 0
   where

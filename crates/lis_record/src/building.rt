@@ -1,11 +1,11 @@
 //! Records made from their texts, part by part (LIS02-A2, Delimiters).
 
-ghost use Rattle.std.specs.Prelude.{◌≡◌, ◌≤◌, ◌-◌, ◌++◌, ◌∷◌, [], ℕ, List, IfOk, IfSome, IsTrue, OnOk, drop, length};
+ghost use Rattle.std.specs.Prelude.{◌≡◌, ◌≤◌, ◌-◌, ◌++◌, ◌∷◌, ◌↔◌, [], ℕ, List, IfOk, IfSome, IsTrue, OnOk, drop, length};
 ghost use Rattle.std.specs.Prelude.{map, replicate, take};
 ghost use Rattle.lis_field.specs.Shape.{plain_field};
 ghost use Rattle.lis_record.specs.inside.FrontReading.{components_of, fields_of, parts_of, repeats_of};
 ghost use Rattle.lis_record.specs.inside.FrontReading.{BeginsWith, ComponentFront, EndsWith, TakesField, ends_part};
-ghost use Rattle.lis_record.specs.inside.FrontReading.{symbols_of};
+ghost use Rattle.lis_record.specs.inside.FrontReading.{IsPlainText, symbols_of};
 ghost use Rattle.lis_record.specs.Relation.{Lacks};
 ghost use Rattle.std.specs.Simd.Lanes.{mask_l};
 
@@ -19,7 +19,8 @@ use std::simd::prelude::*;
 // Whether a field is one component without an escape byte, so that its bytes are its symbols.
 #[inline(always)]
 pub(crate) fn is_plain(delimiters: Delimiters, text: &[u8]) -> bool
-    ensures { IsTrue result → repeats_of delimiters text.now ≡ plain_field text.now }
+    ensures plain { IsTrue result → repeats_of delimiters text.now ≡ plain_field text.now }
+    ensures exact { IsTrue result ↔ IsPlainText delimiters text.now }
 {
     let [repeat, component, escape] = [
         delimiters.repeat(),

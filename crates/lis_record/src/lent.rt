@@ -1,7 +1,7 @@
 //! Records and their parts where they stand in a text, without memory (LIS02-A2, Delimiters).
 
-ghost use Rattle.std.specs.Prelude.{◌≡◌, ◌<◌, ◌≤◌, ◌++◌, ◌∷◌, ◌↔◌, [], IfOk, IfSome, IsFalse, IsTrue, OnOk};
-ghost use Rattle.std.specs.Prelude.{MatchOption, Some};
+ghost use Rattle.std.specs.Prelude.{◌≡◌, ◌≢◌, ◌<◌, ◌≤◌, ◌++◌, ◌∷◌, ◌↔◌, [], IfNone, IfOk, IfSome, IsFalse, IsTrue, OnOk};
+ghost use Rattle.std.specs.Prelude.{List, MatchOption, Some, ℕ};
 ghost use Rattle.std.specs.Prelude.{drop, length, option_map, slice_get};
 ghost use Rattle.std.specs.Prelude.{false, take};
 ghost use Rattle.lis_field.specs.Shape.{field_at, plain_field};
@@ -9,7 +9,7 @@ ghost use Rattle.lis_field.specs.declared.kinds.Kind.{Kind as KindOf};
 ghost use Rattle.lis_record.specs.inside.FrontReading.{components_of, fields_of, repeats_of, symbols_of};
 ghost use Rattle.lis_record.specs.inside.Remaining.{more_fields};
 ghost use Rattle.lis_record.specs.Lent.{front_length, lent, record_in};
-ghost use Rattle.lis_record.specs.Relation.{Lacks};
+ghost use Rattle.lis_record.specs.Relation.{Lacks, LacksDelimiters};
 ghost use Rattle.lis_record.specs.Spelling.{spelled_field};
 ghost use Rattle.lis_record.specs.Writing.{WroteAny, is_io};
 
@@ -134,11 +134,16 @@ impl<'a> LentField<'a> {
         })
     }
 
-    /// The bytes of a field that is one component without an escape byte, each of them a character.
+    /// The characters of a field that is one component of them, none of them a delimiter; none of any other field.
     #[inline(always)]
     pub fn only_component(&self) -> Option<&'a [u8]>
-        ensures { IfSome result (λ bytes. self.now.content ≡ plain_field bytes.now) }
+        ensures is { IfSome result (λ bytes. self.now.content ≡ plain_field bytes.now) }
+        ensures free { IfSome result (λ bytes. LacksDelimiters self.now.delimiters bytes.now) }
+        ensures other { IfNone result ((bytes : List ℕ) → LacksDelimiters self.now.delimiters bytes
+            → self.now.content ≢ plain_field bytes) }
     {
+        // What an escape means is a delimiter or no character, since delimiters are apart.
+        let _ = self.delimiters.field();
         if is_plain(self.delimiters, self.text) {
             Some(self.text)
         } else {
@@ -278,6 +283,14 @@ fn front_length(kind: Kind) -> usize
     }
 }
 
+// Whether a field of this byte is one decimal digit, and ends at the next byte.
+#[inline(always)]
+fn is_lone_digit(byte: u8, next: u8, mark: u8) -> bool
+    ensures { IsTrue result ↔ ((next ≡ mark) × ((48 ≤ byte) × (byte ≤ 57))) }
+{
+    next == mark && byte >= b'0' && byte <= b'9'
+}
+
 /// A record that stands in a text, under the delimiters of its message.
 #[derive(Drop)]
 pub struct LentRecord<'a> {
@@ -386,16 +399,20 @@ impl<'a> LentRecord<'a> {
         }
     }
 
-    /// The byte of the first field, where that is one digit and another field stands behind it, as of most sequence
-    /// numbers. None tells nothing of the field.
+    /// The first field, where that is one decimal digit and another field stands behind it, as of most sequence
+    /// numbers; none of any other record.
     #[inline(always)]
     pub fn first_digit(&self) -> Option<u8>
-        ensures { IfSome result (λ digit. slice_get self.now.content.fields 0 ≡ Some (plain_field (digit ∷ []))) }
+        ensures is { IfSome result (λ digit. slice_get self.now.content.fields 0 ≡ Some (plain_field (digit ∷ []))) }
+        ensures digit { IfSome result (λ digit. (48 ≤ digit) × ((digit ≤ 57) × (1 < length self.now.content.fields))) }
+        ensures other { IfNone result ((digit : ℕ) → 48 ≤ digit → digit ≤ 57 → 1 < length self.now.content.fields
+            → slice_get self.now.content.fields 0 ≢ Some (plain_field (digit ∷ []))) }
     {
+        let mark = self.delimiters.field();
         let [_delimiter, digit, end, ..] = self.fields else {
             return None;
         };
-        if *end != self.delimiters.field() || *digit < b'0' || *digit > b'9' {
+        if !is_lone_digit(*digit, *end, mark) {
             return None;
         }
         Some(*digit)

@@ -81,6 +81,12 @@ ArePairs digits = IsTrue (is_some (raw_symbols (decode_of digits)))
 abbrev pub digit_symbols : List ℕ → Symbols
 digit_symbols digits = unwrap_or (raw_symbols (decode_of digits)) []
 
+-- the text of a field that is one component without an escape byte
+pub record IsPlainText (d : DelimiterBytes) (text : List ℕ) : Type 0 where
+  pub repeat : Lacks d.repeat text
+  pub component : Lacks d.component text
+  pub escape : Lacks d.escape text
+
 -- what is left of a component: the digits of an escape that was begun, and the text behind it
 abbrev pub symbols_left : DelimiterBytes → List ℕ → List ℕ → Symbols
 symbols_left d digits text = digit_symbols digits ++ symbols_of d text

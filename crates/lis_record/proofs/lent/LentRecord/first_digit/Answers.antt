@@ -1,13 +1,41 @@
-use Rattle.std.proofs.Common.{ap, arith, slice_get, sym, ◌∙◌}
+use Rattle.std.proofs.Common.{ap, arith, slice_get, length, sym, ◌∙◌}
 use Rattle.lis_field.specs.Shape.{RecordContent}
 use Rattle.lis_record.specs.Lent.{Lent}
 use Rattle.lis_record.proofs.FieldTexts.{lone_digit}
+use Rattle.lis_record.proofs.PlainFields.{digit_behind}
 use Rattle.lis_record.proofs.lent.LentRecord.first_digit.Goals as goal
 
-pub returns : goal.returns
-returns c =
+pub returns-clause-is : goal.returns-clause-is
+returns-clause-is c =
     let i = c.self.inside in
-    sym (ap (λ (r : Lent RecordContent). slice_get r.content.fields 0) c.self.view_is)
-    ∙ lone_digit i.delimiters c.field.ensures.shape i.fields.now c.in-len3-up.len_at_least
-    (omega (arith, c.if-digit-lt48.false)) (omega (arith, c.if-digit-gt57.false))
-    (c.if-end-field.false ∙ c.field.ensures.byte)
+    let is = c.is_lone_digit.ensures.0 c.if-not-is_lone_digit.false in
+    let digit = lone_digit i.delimiters c.field-mark.ensures.shape i.fields.now c.in-len3-up.len_at_least is.1.0 is.1.1
+    (is.0 ∙ c.field-mark.ensures.byte) in
+    sym (ap (λ (r : Lent RecordContent). slice_get r.content.fields 0) c.self.view_is) ∙ digit.0
+
+pub returns-clause-digit : goal.returns-clause-digit
+returns-clause-digit c =
+    let i = c.self.inside in
+    let is = c.is_lone_digit.ensures.0 c.if-not-is_lone_digit.false in
+    let digit = lone_digit i.delimiters c.field-mark.ensures.shape i.fields.now c.in-len3-up.len_at_least is.1.0 is.1.1
+    (is.0 ∙ c.field-mark.ensures.byte) in
+    let count = ap (λ (r : Lent RecordContent). length r.content.fields) c.self.view_is in
+    (is.1.0, (is.1.1, omega (arith, digit.1, count)))
+
+pub returns-in_default-clause-other : goal.returns-in_default-clause-other
+returns-in_default-clause-other c = λ digit low high more is.
+    let i = c.self.inside in
+    let found = digit_behind i.delimiters c.field-mark.ensures.shape i.fields.now i.kind c.args.self.now c.self.view_is
+    digit low high more is in
+    omega (arith, found.0, c.in_default.len_below)
+
+pub returns-then-not-is_lone_digit-clause-other : goal.returns-then-not-is_lone_digit-clause-other
+returns-then-not-is_lone_digit-clause-other c = λ digit low high more is.
+    let i = c.self.inside in
+    let found = digit_behind i.delimiters c.field-mark.ensures.shape i.fields.now i.kind c.args.self.now c.self.view_is
+    digit low high more is in
+    let yes = c.is_lone_digit.ensures.1 (
+      found.1.1 ∙ sym c.field-mark.ensures.byte,
+      (omega (arith, low, found.1.0), omega (arith, high, found.1.0)),
+    ) in
+    cc (yes, c.if-not-is_lone_digit.true)
