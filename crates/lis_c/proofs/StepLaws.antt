@@ -8,7 +8,7 @@ use Rattle.lis_link.specs.Receiver.{ReceiverState, ReceiverStep}
 use Rattle.lis_link.specs.inside.Stands.{IsIn}
 use Rattle.lis_link.specs.inside.Stands as Stands
 use Rattle.lis_c.specs.Codes.{note_code, note_detail, note_place, reply_code}
-use Rattle.lis_c.specs.Steps.{IsRefused, TellsStep, HoldsText, Makes}
+use Rattle.lis_c.specs.Steps.{TellsRefusedFrame, TellsStep, HoldsText, MakesStep}
 use Rattle.lis_c.specs.declared.desk.ReceiverDesk.{ReceiverDesk}
 use Rattle.lis_c.specs.declared.out.LisStep.{LisStep}
 
@@ -29,7 +29,7 @@ is_out answer before text out told same = out_of_memory answer.note (sym told.no
 pub makes :
     (step : ReceiverStep) (answer : Step) (kept : Kept) (old new : ReceiverDesk) (out : LisStep) →
     Stands.Makes 240 step answer kept → TellsStep answer old.text out new.text →
-    ((r : ReceiverState) → IsIn 240 kept r → IsIn 240 new.receiver r) → Makes step old out new
+    ((r : ReceiverState) → IsIn 240 kept r → IsIn 240 new.receiver r) → MakesStep step old out new
 makes step answer kept old new out made told stays = record {
   reply_is = told.reply_is ∙ ap reply_code made.answer.reply_is;
   note_is = told.note_is ∙ ap note_code made.answer.note_is;
@@ -43,7 +43,7 @@ makes step answer kept old new out made told stays = record {
 pub refused :
     (step : ReceiverStep) (r : ReceiverState) (answer : Step) (kept : Kept) (old new : ReceiverDesk) (out : LisStep) →
     Stands.IsRefused 240 old.receiver.spare step r answer kept → TellsStep answer old.text out new.text →
-    ((s : ReceiverState) → IsIn 240 kept s → IsIn 240 new.receiver s) → IsRefused step r old out new
+    ((s : ReceiverState) → IsIn 240 kept s → IsIn 240 new.receiver s) → TellsRefusedFrame step r old out new
 refused step r answer kept old new out was told stays = record {
   frame = was.frame;
   would_accept = was.would_accept;

@@ -41,7 +41,7 @@ pub record TellsRecord (content : RecordContent) (status : ℕ) (out : LisRecord
   pub fields_are : out.fields ≡ length content.fields
   pub place_is : out.place ≡ 0
 
-pub record TellsFault (fault : RecordFault) (status : ℕ) (out : LisRecord) : Type 0 where
+pub record TellsRecordFault (fault : RecordFault) (status : ℕ) (out : LisRecord) : Type 0 where
   pub why : status ≡ record_status fault
   pub letter_is : out.letter ≡ 0
   pub fields_are : out.fields ≡ 0

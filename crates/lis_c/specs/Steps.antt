@@ -31,7 +31,7 @@ pub record TellsStep (step : Step) (before : List ℕ) (out : LisStep) (text : L
   pub text_is : HoldsText step.message out.has_text before text
 
 -- the step was made and told
-pub record Makes (step : ReceiverStep) (old : ReceiverDesk) (out : LisStep) (new : ReceiverDesk) : Type 0 where
+pub record MakesStep (step : ReceiverStep) (old : ReceiverDesk) (out : LisStep) (new : ReceiverDesk) : Type 0 where
   pub reply_is : out.reply ≡ reply_code step.reply
   pub note_is : out.note ≡ note_code step.note
   pub detail_is : out.detail ≡ note_detail step.note
@@ -40,7 +40,7 @@ pub record Makes (step : ReceiverStep) (old : ReceiverDesk) (out : LisStep) (new
   pub state : IsIn 240 new.receiver step.after
 
 -- memory was refused for a frame that would be accepted and is longer than the spare room: NAK, and nothing else
-pub record IsRefused (step : ReceiverStep) (r : ReceiverState) (old : ReceiverDesk) (out : LisStep)
+pub record TellsRefusedFrame (step : ReceiverStep) (r : ReceiverState) (old : ReceiverDesk) (out : LisStep)
     (new : ReceiverDesk) : Type 0 where
   pub frame : FrameContent
   pub would_accept : step.taken ≡ Some frame

@@ -6,7 +6,7 @@ ghost use Rattle.lis_c.specs.New.{IsNewReader, type_align};
 ghost use Rattle.lis_c.specs.Reading.{AtEnd, IsCutPart, ReadsAndTells, ReadsPiece};
 ghost use Rattle.lis_c.specs.Reading.{detail_of, nothing, piece_length, place_of, reason_code, told_fault, told_record};
 ghost use Rattle.lis_c.specs.contracts.desk.ReaderDesk.{the_row as desk_row};
-ghost use Rattle.lis_message.specs.Feeding.{at_end};
+ghost use Rattle.lis_message.specs.Feeding.{answer_at_end};
 ghost use Rattle.lis_message.specs.Records.{HasLeft};
 ghost use Rattle.lis_tree.specs.inside.Begun.{Begun};
 ghost use Rattle.lis_text.specs.Control.{CR};
@@ -107,7 +107,7 @@ pub extern "C" fn lis_reader_part(
 #[unsafe(no_mangle)]
 pub extern "C" fn lis_reader_finish(s: &mut LisReader, out: &mut LisFound) -> u8
     ensures read { (left : Option Begun) → HasLeft s.old.state.reader left →
-        AtEnd (at_end left s.old.state.reader.held) result out.new }
+        AtEnd (answer_at_end left s.old.state.reader.held) result out.new }
     ensures same { s.new.state ≡ s.old.state }
 {
     clear(out);

@@ -5,7 +5,7 @@ ghost use Rattle.lis_c.specs.declared.desk.ReceiverDesk.{ReceiverDesk};
 ghost use Rattle.lis_c.specs.Codes.{readiness_code};
 ghost use Rattle.lis_c.specs.New.{IsNewReceiver, type_align};
 ghost use Rattle.lis_c.specs.Status.{BAD_NUMBER, OK, ReserveStatus, copy_status};
-ghost use Rattle.lis_c.specs.Steps.{IsNotOutOfMemory, IsOutOfMemory, IsRefused, Makes};
+ghost use Rattle.lis_c.specs.Steps.{IsNotOutOfMemory, IsOutOfMemory, TellsRefusedFrame, MakesStep};
 ghost use Rattle.lis_c.specs.contracts.desk.ReceiverDesk.{the_row as desk_row};
 ghost use Rattle.lis_link.specs.declared.receiver.Readiness.{Readiness};
 ghost use Rattle.lis_link.specs.Receiver.{ReceiverState, on_byte, on_bytes, on_receiver_timer, receiver_restarted};
@@ -58,9 +58,9 @@ impl LisReceiver {
 #[unsafe(no_mangle)]
 pub extern "C" fn lis_receiver_byte(s: &mut LisReceiver, byte: u8, out: &mut LisStep)
     ensures step { (r : ReceiverState) → IsIn 240 s.old.state.receiver r → IsNotOutOfMemory out.new
-        → Makes (on_byte 240 byte r) s.old.state out.new s.new.state }
+        → MakesStep (on_byte 240 byte r) s.old.state out.new s.new.state }
     ensures refused { (r : ReceiverState) → IsIn 240 s.old.state.receiver r → IsOutOfMemory out.new
-        → IsRefused (on_byte 240 byte r) (record r { past = byte ∷ r.past }) s.old.state out.new s.new.state }
+        → TellsRefusedFrame (on_byte 240 byte r) (record r { past = byte ∷ r.past }) s.old.state out.new s.new.state }
 {
     s.lend().byte(byte, out);
 }
@@ -72,9 +72,9 @@ pub extern "C" fn lis_receiver_hear(s: &mut LisReceiver, bytes: &[u8], out: &mut
     ensures count { (r : ReceiverState) → IsIn 240 s.old.state.receiver r →
         result ≡ (on_bytes 240 bytes.now r).count }
     ensures step { (r : ReceiverState) → IsIn 240 s.old.state.receiver r → IsNotOutOfMemory out.new
-        → Makes (on_bytes 240 bytes.now r).step s.old.state out.new s.new.state }
+        → MakesStep (on_bytes 240 bytes.now r).step s.old.state out.new s.new.state }
     ensures refused { (r : ReceiverState) → IsIn 240 s.old.state.receiver r → IsOutOfMemory out.new
-        → IsRefused (on_bytes 240 bytes.now r).step (with_heard (take result bytes.now) r) s.old.state out.new
+        → TellsRefusedFrame (on_bytes 240 bytes.now r).step (with_heard (take result bytes.now) r) s.old.state out.new
         s.new.state }
 {
     s.lend().hear(bytes, out)
@@ -84,7 +84,7 @@ pub extern "C" fn lis_receiver_hear(s: &mut LisReceiver, bytes: &[u8], out: &mut
 #[unsafe(no_mangle)]
 pub extern "C" fn lis_receiver_timer(s: &mut LisReceiver, out: &mut LisStep)
     ensures { (r : ReceiverState) → IsIn 240 s.old.state.receiver r →
-        Makes (on_receiver_timer r) s.old.state out.new s.new.state }
+        MakesStep (on_receiver_timer r) s.old.state out.new s.new.state }
 {
     s.lend().timer(out);
 }
@@ -204,9 +204,9 @@ pub extern "C" fn lis_receiver_text(s: &mut LisReceiver, out: &mut [u8]) -> u8
 impl ReceiverDesk {
     fn byte(&mut self, byte: u8, out: &mut LisStep)
         ensures step { (r : ReceiverState) → IsIn 240 self.old.receiver r → IsNotOutOfMemory out.new
-            → Makes (on_byte 240 byte r) self.old out.new self.new }
+            → MakesStep (on_byte 240 byte r) self.old out.new self.new }
         ensures refused { (r : ReceiverState) → IsIn 240 self.old.receiver r → IsOutOfMemory out.new
-            → IsRefused (on_byte 240 byte r) (record r { past = byte ∷ r.past }) self.old out.new self.new }
+            → TellsRefusedFrame (on_byte 240 byte r) (record r { past = byte ∷ r.past }) self.old out.new self.new }
     {
         let step = self.receiver.byte(byte);
         self.tell(step, out);
@@ -216,9 +216,9 @@ impl ReceiverDesk {
         ensures count { (r : ReceiverState) → IsIn 240 self.old.receiver r →
             result ≡ (on_bytes 240 bytes.now r).count }
         ensures step { (r : ReceiverState) → IsIn 240 self.old.receiver r → IsNotOutOfMemory out.new
-            → Makes (on_bytes 240 bytes.now r).step self.old out.new self.new }
+            → MakesStep (on_bytes 240 bytes.now r).step self.old out.new self.new }
         ensures refused { (r : ReceiverState) → IsIn 240 self.old.receiver r → IsOutOfMemory out.new
-            → IsRefused (on_bytes 240 bytes.now r).step (with_heard (take result bytes.now) r) self.old out.new
+            → TellsRefusedFrame (on_bytes 240 bytes.now r).step (with_heard (take result bytes.now) r) self.old out.new
             self.new }
     {
         let Hearing { count, step } = self.receiver.bytes(bytes);
@@ -228,7 +228,7 @@ impl ReceiverDesk {
 
     fn timer(&mut self, out: &mut LisStep)
         ensures { (r : ReceiverState) → IsIn 240 self.old.receiver r →
-            Makes (on_receiver_timer r) self.old out.new self.new }
+            MakesStep (on_receiver_timer r) self.old out.new self.new }
     {
         let step = self.receiver.timer();
         self.tell(step, out);

@@ -2,7 +2,7 @@
 
 ghost use Rattle.std.specs.Prelude.{◌≡◌, ◌≢◌, ◌<◌, length, take, None, Some, IfSome, IfNone, MatchOption};
 ghost use Rattle.std.specs.Option.{option_to_list};
-ghost use Rattle.lis_c.specs.Records.{IsPart, TellsFault, TellsRecord, delimiters_in, part_at, plain};
+ghost use Rattle.lis_c.specs.Records.{IsPart, TellsRecordFault, TellsRecord, delimiters_in, part_at, plain};
 ghost use Rattle.lis_c.specs.Records.{record_place, record_status, symbol_bytes};
 ghost use Rattle.lis_c.specs.Status.{BAD_DELIMITERS};
 ghost use Rattle.lis_field.specs.declared.kinds.Kind.TheVariants as kinds;
@@ -47,7 +47,7 @@ pub extern "C" fn lis_header_read(
     ensures found { (d : DelimiterBytes) (content : RecordContent) → IsDelimiters d → IsRecord d text.now content
         → content.kind ≡ kinds.H → TellsRecord content result out.new × (delimiters_in delimiters.new ≡ d) }
     ensures fault { (fault : RecordFault) → header_fault text.now ≡ Some fault
-        → TellsFault fault result out.new × (delimiters.new ≡ delimiters.old) }
+        → TellsRecordFault fault result out.new × (delimiters.new ≡ delimiters.old) }
 {
     match lend_header(text) {
         Ok(entry) => {
@@ -74,7 +74,7 @@ pub extern "C" fn lis_record_read(
         → IsRecord (delimiters_in delimiters.now) text.now content → content.kind ≢ kinds.H
         → TellsRecord content result out.new }
     ensures fault { (fault : RecordFault) → IsDelimiters (delimiters_in delimiters.now)
-        → record_fault (delimiters_in delimiters.now) text.now ≡ Some fault → TellsFault fault result out.new }
+        → record_fault (delimiters_in delimiters.now) text.now ≡ Some fault → TellsRecordFault fault result out.new }
     ensures delimiters { (IsDelimiters (delimiters_in delimiters.now) → ⊥) → result ≡ BAD_DELIMITERS }
 {
     out.letter = 0;
@@ -168,7 +168,7 @@ fn tell(entry: &LentRecord<'_>, out: &mut LisRecord) -> u8
 
 /// Tells why a text is none.
 fn refuse(fault: RecordFault, out: &mut LisRecord) -> u8
-    ensures { TellsFault fault result out.new }
+    ensures { TellsRecordFault fault result out.new }
 {
     out.letter = 0;
     out.fields = 0;

@@ -5,7 +5,7 @@ ghost use Rattle.lis_c.specs.declared.draft.WriterDesk.{WriterDesk};
 ghost use Rattle.lis_c.specs.New.{IsNewWriter, type_align};
 ghost use Rattle.lis_c.specs.Records.{delimiters_in};
 ghost use Rattle.lis_c.specs.Status.{BAD_DELIMITERS, BAD_LETTER, OK};
-ghost use Rattle.lis_c.specs.Writing.{BeginStatus, IsPut, IsText, PartStatus, PutStatus, put_fault};
+ghost use Rattle.lis_c.specs.Writing.{BeginStatus, IsPut, IsTextAt, PartStatus, PutStatus, put_fault};
 ghost use Rattle.lis_c.specs.contracts.draft.WriterDesk.{the_row as desk_row};
 ghost use Rattle.lis_field.specs.Delimiters.{IsDelimiters};
 ghost use Rattle.lis_field.specs.Kinds.{kind_of};
@@ -139,7 +139,7 @@ pub extern "C" fn lis_writer_text(
     out: &mut [u8],
     size: &mut usize,
 ) -> u8
-    ensures text { IsText (slice_get s.old.state.texts place) result out.new size.new }
+    ensures text { IsTextAt (slice_get s.old.state.texts place) result out.new size.new }
     ensures same { s.new.state ≡ s.old.state }
 {
     *size = 0;

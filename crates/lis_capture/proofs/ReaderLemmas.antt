@@ -14,7 +14,7 @@ use Rattle.lis_capture.specs.declared.reader.Found.TheVariants as found
 use Rattle.lis_capture.specs.Line.{line_of, version_after}
 use Rattle.lis_capture.specs.Capture.{Lines, begun, capture, number_of, version_of, with_said}
 use Rattle.lis_text.specs.Capped.{capped}
-use Rattle.lis_capture.specs.Reader.{HasRead, Known, Reading, found_holding, found_lines, found_of, holding}
+use Rattle.lis_capture.specs.Reader.{HasRead, Known, Reading, found_holding, found_lines, found_of, holding_more}
 use Rattle.lis_capture.specs.Reader.{is_long, known_of, known_with}
 use Rattle.lis_capture.proofs.CaptureLemmas.{begun-ended, begun-within, capture-ended, capture-long, capture-within}
 use Rattle.lis_capture.proofs.CaptureLemmas.{has_end, has_end-before}
@@ -140,7 +140,7 @@ module _ (before : Reading) (past : List ℕ) (has : HasRead before past) (fine 
       }
 
   pub reads_within :
-      (after : Reading) (text : List ℕ) (result : Found) → has_end text ≡ false → after ≡ holding before text
+      (after : Reading) (text : List ℕ) (result : Found) → has_end text ≡ false → after ≡ holding_more before text
       → result ≡ found_holding (before.held ++ text) → ReadsOn before after past text result
   reads_within after text result none after_is result_is =
       reads_by (is_long (before.held ++ text)) after text result none refl after_is result_is

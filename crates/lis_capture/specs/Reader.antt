@@ -62,8 +62,8 @@ found_of (Some line) = found.Line
 abbrev pub is_long : List ℕ → Bool
 is_long text = nat_lt longest_line (length text)
 
-abbrev pub holding : Reading → List ℕ → Reading
-holding r text =
+abbrev pub holding_more : Reading → List ℕ → Reading
+holding_more r text =
     if is_long (r.held ++ text) then record r { known = known_with r.known None }
     else record r { held = r.held ++ text }
 

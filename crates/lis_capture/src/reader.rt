@@ -5,7 +5,7 @@ ghost use Rattle.memchr.specs.Find.{IsFirstByte, is_byte};
 ghost use Rattle.lis_frame.specs.Stream.{stream_with};
 ghost use Rattle.lis_capture.specs.Capture.{Lines, capture};
 ghost use Rattle.lis_capture.specs.Line.{line_of};
-ghost use Rattle.lis_capture.specs.Reader.{HasRead, found_holding, found_lines, found_of, holding};
+ghost use Rattle.lis_capture.specs.Reader.{HasRead, found_holding, found_lines, found_of, holding_more};
 ghost use Rattle.lis_capture.specs.Reader.{known_of, known_with};
 
 use crate::line::{CaptureVersion, Keeping, LONGEST_LINE, Line, Told, version_after};
@@ -179,7 +179,7 @@ impl LineReader {
 
     /// Keeps bytes of a line that doesn't end in them.
     fn hold(&mut self, text: &[u8]) -> Found
-        ensures after { self.new ≡ holding self.old text.now }
+        ensures after { self.new ≡ holding_more self.old text.now }
         ensures found { result ≡ found_holding (self.old.held ++ text.now) }
     {
         match self.held.try_extend_from_slice(text) {

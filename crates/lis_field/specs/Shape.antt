@@ -28,9 +28,9 @@ abbrev pub Repeats : Type 0
 Repeats = List Components
 
 -- the symbols of a list that keeps few of them in place
-abbrev pub symbols_of : Kept → Symbols
-symbols_of (Few few) = few
-symbols_of (ManySymbols many) = many.items
+abbrev pub symbols_kept : Kept → Symbols
+symbols_kept (Few few) = few
+symbols_kept (ManySymbols many) = many.items
 
 -- these bytes, each a character
 abbrev pub plain_component : List ℕ → Symbols

@@ -23,11 +23,11 @@ pub(crate) struct SymbolList {
 }
 
 impl Model for SymbolList {
-    ghost use Rattle.lis_field.specs.Shape.{Symbols, symbols_of};
+    ghost use Rattle.lis_field.specs.Shape.{Symbols, symbols_kept};
 
     ghost Value = { Symbols };
 
-    ghost view = { λ s. symbols_of s.kept };
+    ghost view = { λ s. symbols_kept s.kept };
 }
 
 impl fmt::Debug for SymbolList {

@@ -44,8 +44,8 @@ pub record IsContent (limit : ℕ) (frame : FrameContent) : Type 0 where
   pub is_text : IsText limit frame.text
 
 -- the bytes of a frame, by the digits of its checksum
-abbrev pub spelled : FrameContent → ℕ → ℕ → List ℕ
-spelled frame high low =
+abbrev pub frame_spelling : FrameContent → ℕ → ℕ → List ℕ
+frame_spelling frame high low =
     STX ∷ number_byte frame.number ∷ (frame.text ++ (end_byte frame.last ∷ high ∷ low ∷ CR ∷ LF ∷ []))
 
 -- the bytes are the frame's: STX, number, text, end byte, the checksum in two digits of either case, CR, LF
@@ -54,11 +54,11 @@ pub record IsFrame (limit : ℕ) (bytes : List ℕ) (frame : FrameContent) : Typ
   pub high : ℕ
   pub low : ℕ
   pub digits : IsDigits high low (checksum frame)
-  pub spelling : bytes ≡ spelled frame high low
+  pub spelling : bytes ≡ frame_spelling frame high low
 
 -- the bytes of a frame as they are written: its digits in upper case
 abbrev pub upper_digit : ℕ → ℕ
 upper_digit n = if nat_lt n 10 then 48 + n else 55 + n
 
 unfoldable pub frame_bytes : FrameContent → List ℕ
-frame_bytes frame = spelled frame (upper_digit (checksum frame / 16)) (upper_digit (checksum frame % 16))
+frame_bytes frame = frame_spelling frame (upper_digit (checksum frame / 16)) (upper_digit (checksum frame % 16))

@@ -21,7 +21,7 @@ use Rattle.lis_link.specs.declared.receiver.Readiness.{Readiness}
 use Rattle.lis_link.specs.declared.receiver.Readiness.TheVariants.{Ready, Busy, Contending}
 use Rattle.lis_link.specs.declared.receiver.Step.{Step}
 use Rattle.lis_link.specs.inside.Kept.{Kept, KeptLine, kept_of}
-use Rattle.lis_link.specs.inside.Stands.{IsIn, Makes, IsRefused, SpareAfter, HearsFront}
+use Rattle.lis_link.specs.inside.Stands.{IsIn, Makes, RefusesFrame, SpareAfter, HearsFront}
 use Rattle.lis_link.specs.Receiver.{ReceiverState, ReceiverStep, ReceiverHearing, answers, bid_with, judged_by, judged}
 use Rattle.lis_link.specs.Receiver.{on_judged, held_text, most_frames, heard_by, heard, on_byte, on_bytes, heard_on}
 use Rattle.lis_link.specs.Receiver.{with_heard}
@@ -270,7 +270,7 @@ beside limit line before scanner kept r bytes same is_in stands =
 pub front_byte :
     (limit : ℕ) (bytes : List ℕ) (r : ReceiverState) (spare : ℕ) (result : Step) (new : Kept) → 0 < length bytes →
     (result.note ≢ OutOfMemory → Makes limit (on_byte limit (get_or bytes 0 0) r) result new) →
-    (result.note ≡ OutOfMemory → IsRefused limit spare (on_byte limit (get_or bytes 0 0) r)
+    (result.note ≡ OutOfMemory → RefusesFrame limit spare (on_byte limit (get_or bytes 0 0) r)
     (with_heard (get_or bytes 0 0 ∷ []) r) result new) →
     SpareAfter spare new.spare (on_byte limit (get_or bytes 0 0) r).taken
     → HearsFront limit bytes r spare (record { count = 1; step = result }) new
@@ -323,7 +323,7 @@ pub front_frame :
     (result.note ≢ OutOfMemory → Makes limit (heard_by {limit = limit} r.is_open (Good frame)
     (with_heard (take count bytes) r)) result new) →
     (result.note ≡ OutOfMemory →
-    IsRefused limit spare (heard_by {limit = limit} r.is_open (Good frame) (with_heard (take count bytes) r))
+    RefusesFrame limit spare (heard_by {limit = limit} r.is_open (Good frame) (with_heard (take count bytes) r))
     (with_heard (take count bytes) r) result new) →
     SpareAfter spare new.spare (heard_by {limit = limit} r.is_open (Good frame)
     (with_heard (take count bytes) r)).taken →
@@ -435,7 +435,7 @@ pub record IsHeard (limit : ℕ) (bytes : List ℕ) (r : ReceiverState) (spare :
   pub count_is : hearing.count ≡ (on_bytes limit bytes r).count
   pub makes : hearing.step.note ≢ OutOfMemory → Makes limit (on_bytes limit bytes r).step hearing.step new
   pub refused :
-      hearing.step.note ≡ OutOfMemory → IsRefused limit spare (on_bytes limit bytes r).step
+      hearing.step.note ≡ OutOfMemory → RefusesFrame limit spare (on_bytes limit bytes r).step
       (with_heard (take hearing.count bytes) r) hearing.step new
   pub spare_after : SpareAfter spare new.spare (on_bytes limit bytes r).step.taken
 
@@ -446,8 +446,8 @@ more_spare spare before after (Some frame) less rises = λ is_last. omega (arith
 
 refused_more :
     (limit spare before : ℕ) (step : ReceiverStep) (r : ReceiverState) (result : Step) (new : Kept) → spare ≤ before
-    → IsRefused limit before step r result new →
-    IsRefused limit spare step r result new
+    → RefusesFrame limit before step r result new →
+    RefusesFrame limit spare step r result new
 refused_more limit spare before step r result new less h = record {
   frame = h.frame;
   would_accept = h.would_accept;
@@ -478,9 +478,9 @@ hears_last limit bytes r spare count kept more new hearing front loud =
       count_is = sym (ap (λ (h : ReceiverHearing). h.count) all);
       makes = λ fine. subst (λ (h : ReceiverHearing). Makes limit h.step more.step new) (sym all) (front.makes fine);
       refused = λ oom.
-          subst (λ (h : ReceiverHearing). IsRefused limit spare h.step
+          subst (λ (h : ReceiverHearing). RefusesFrame limit spare h.step
           (with_heard (take (count + more.count) bytes) r) more.step new) (sym all)
-          (subst (λ s. IsRefused limit spare front.meant s more.step new) state_is
+          (subst (λ s. RefusesFrame limit spare front.meant s more.step new) state_is
           (refused_more limit spare kept.spare front.meant _ more.step new hearing.spare_kept (front.refused oom)));
       spare_after =
           subst (λ (h : ReceiverHearing). SpareAfter spare new.spare h.step.taken) (sym all)

@@ -7,7 +7,7 @@ ghost use Rattle.lis_frame.specs.Scanner.{StandsFor};
 ghost use Rattle.lis_link.specs.Receiver.{ReceiverState, new_receiver, on_byte, on_bytes, on_receiver_timer};
 ghost use Rattle.lis_link.specs.Receiver.{receiver_restarted, with_heard, with_readiness, with_room};
 ghost use Rattle.lis_link.specs.declared.receiver.Note.TheVariants as Notes;
-ghost use Rattle.lis_link.specs.inside.Stands.{IsIn, Makes, IsRefused, SpareAfter, HearsFront};
+ghost use Rattle.lis_link.specs.inside.Stands.{IsIn, Makes, RefusesFrame, SpareAfter, HearsFront};
 
 use crate::receiver::line::Line;
 use lis_frame::{FrameFault, ScannerOf};
@@ -199,7 +199,7 @@ impl<const N: usize> ReceiverOf<N> {
         ensures step { (r : ReceiverState) → IsIn N self.old r → result.note ≢ Notes.OutOfMemory →
             Makes N (on_byte N byte r) result self.new }
         ensures refused { (r : ReceiverState) → IsIn N self.old r → result.note ≡ Notes.OutOfMemory →
-            IsRefused N self.old.spare (on_byte N byte r) (record r { past = byte ∷ r.past }) result self.new }
+            RefusesFrame N self.old.spare (on_byte N byte r) (record r { past = byte ∷ r.past }) result self.new }
         ensures spare { (r : ReceiverState) → IsIn N self.old r
             → SpareAfter self.old.spare self.new.spare (on_byte N byte r).taken }
     {
@@ -219,7 +219,7 @@ impl<const N: usize> ReceiverOf<N> {
         ensures step { (r : ReceiverState) → IsIn N self.old r → result.step.note ≢ Notes.OutOfMemory →
             Makes N (on_bytes N bytes.now r).step result.step self.new }
         ensures refused { (r : ReceiverState) → IsIn N self.old r → result.step.note ≡ Notes.OutOfMemory →
-            IsRefused N self.old.spare (on_bytes N bytes.now r).step (with_heard (take result.count bytes.now) r)
+            RefusesFrame N self.old.spare (on_bytes N bytes.now r).step (with_heard (take result.count bytes.now) r)
             result.step self.new }
         ensures spare { (r : ReceiverState) → IsIn N self.old r →
             SpareAfter self.old.spare self.new.spare (on_bytes N bytes.now r).step.taken }

@@ -3,7 +3,7 @@ use Rattle.std.proofs.Common.{◌≡◌, [], ◌∷◌, None, Some, refl}
 use Rattle.lis_field.specs.declared.kinds.Kind.TheVariants as kinds
 use Rattle.lis_record.specs.declared.faults.RecordFault.TheVariants as record_faults
 use Rattle.lis_field.specs.Delimiters.{DelimiterBytes, delimiters_of}
-use Rattle.lis_record.specs.Faults.{text_fault, record_fault}
+use Rattle.lis_record.specs.Faults.{record_text_fault, record_fault}
 use Rattle.lis_field.specs.Kinds.{kind_of}
 use Rattle.lis_record.specs.Text.{is_text_byte}
 use Rattle.lis_tree.specs.declared.fault.Reason.TheVariants as reasons
@@ -18,7 +18,7 @@ usual = delimiters_of 0x7c 0x5c 0x5e 0x26
 result_under_a_patient :
     refusal (Some (record { delimiters = usual; records = header ∷ patient ∷ [] })) (0x52 ∷ 0x7c ∷ 0x31 ∷ [])
     ≡ Some (reasons.NoParent kinds.R)
-unfolding refusal kind_refusal record_fault text_fault is_text_byte kind_of usual header patient with_number
+unfolding refusal kind_refusal record_fault record_text_fault is_text_byte kind_of usual header patient with_number
 result_under_a_patient = refl
 
 -- a second header

@@ -20,7 +20,7 @@ use Rattle.lis_record.specs.declared.faults.DelimiterPartFault.TheVariants.{Faul
 use Rattle.lis_record.specs.declared.faults.RecordFault.TheVariants as record_faults
 use Rattle.lis_record.specs.declared.texts.TheConstants.{RECORD_LIMIT}
 use Rattle.lis_record.specs.Faults.{delimiter_part_fault, header_fault, is_header_kind, is_other_kind, record_fault}
-use Rattle.lis_record.specs.Faults.{text_fault, trailing_byte}
+use Rattle.lis_record.specs.Faults.{record_text_fault, trailing_byte}
 use Rattle.lis_record.specs.inside.FrontReading.{fields_of}
 use Rattle.lis_record.specs.Relation.{IsRecord}
 use Rattle.lis_tree.proofs.Trees.{tree_of}
@@ -44,20 +44,20 @@ record CanTake (left : Option Begun) (text : List ℕ) : Type 0 where
   comes : ComesNext left text entry
 
 header_open : (letter : ℕ) (part : List ℕ) → header_fault (letter ∷ part) ≡ None → (delimiter_part_fault part ≡ None)
-    × (text_fault (letter ∷ part) ≡ None)
+    × (record_text_fault (letter ∷ part) ≡ None)
 unfolding header_fault
 header_open letter part none =
     let rest =
     option_or-none (if is_header_kind (kind_of letter) then None else Some (record_faults.UnknownKind letter))
-    (option_or (option_map record_faults.DelimiterPart (delimiter_part_fault part)) (text_fault (letter ∷ part)))
+    (option_or (option_map record_faults.DelimiterPart (delimiter_part_fault part)) (record_text_fault (letter ∷ part)))
     none in
     let both = option_or-none (option_map record_faults.DelimiterPart (delimiter_part_fault part))
-    (text_fault (letter ∷ part)) rest.1 in
+    (record_text_fault (letter ∷ part)) rest.1 in
     (option_map-none record_faults.DelimiterPart (delimiter_part_fault part) both.0, both.1)
 
 -- outside a message it is a header
 header_taken : (letter : ℕ) (part : List ℕ) → kind_of letter ≡ Some kinds.H → delimiter_part_fault part ≡ None
-    → text_fault (letter ∷ part) ≡ None → CanTake None (letter ∷ part)
+    → record_text_fault (letter ∷ part) ≡ None → CanTake None (letter ∷ part)
 unfolding delimiter_part_fault
 header_taken letter [] is none texts = cc
 header_taken letter (f ∷ []) is none texts = cc
@@ -134,10 +134,11 @@ unfolding record_fault
 record_found d good letter bytes kind is other none =
     let rest =
     option_or-none (if is_other_kind (kind_of letter) then None else Some (record_faults.UnknownKind letter))
-    (option_or (option_map record_faults.UnknownKind (trailing_byte d.field bytes)) (text_fault (letter ∷ bytes)))
+    (option_or (option_map record_faults.UnknownKind (trailing_byte d.field bytes))
+    (record_text_fault (letter ∷ bytes)))
     none in
     let both = option_or-none (option_map record_faults.UnknownKind (trailing_byte d.field bytes))
-    (text_fault (letter ∷ bytes)) rest.1 in
+    (record_text_fault (letter ∷ bytes)) rest.1 in
     IsRecord-fields_of d good letter bytes kind is other
     (option_map-none record_faults.UnknownKind (trailing_byte d.field bytes) both.0) both.1
 

@@ -4,7 +4,7 @@ use Rattle.std.proofs.Common.{arith}
 use Rattle.std.specs.List.{AllByRecursion}
 use Rattle.std.proofs.lemmas.List.Elements.{recursion_from_All}
 use Rattle.std.proofs.lemmas.Grind.{flat_map-append}
-use Rattle.lis_record.specs.Text.{is_text_byte, IsText}
+use Rattle.lis_record.specs.Text.{is_text_byte, IsRecordText}
 use Rattle.lis_message.specs.Stream.{line, ended, LacksReturn}
 
 -- each text lacks CR
@@ -28,7 +28,7 @@ lacks_each : (xs : List ℕ) → AllByRecursion (λ b. is_text_byte b ≡ true) 
 lacks_each [] a = tt
 lacks_each (x ∷ xs) a = (text_byte_no_return x a.0, lacks_each xs a.1)
 
-pub text_lacks : (xs : List ℕ) → IsText xs → LacksReturn xs
+pub text_lacks : (xs : List ℕ) → IsRecordText xs → LacksReturn xs
 text_lacks xs t = lacks_each xs (recursion_from_All (λ b. is_text_byte b ≡ true) xs t)
 
 -- what stands before the first CR is determined, and so is what follows it

@@ -12,7 +12,7 @@ use Rattle.lis_record.proofs.ReadBack.{IsRecord-spelled}
 use Rattle.lis_tree.specs.declared.fault.MessageFault.{MessageFault}
 use Rattle.lis_tree.specs.declared.fault.Reason.TheVariants as reasons
 use Rattle.lis_tree.specs.inside.Begun.{Begun}
-use Rattle.lis_message.specs.Feeding.{ReadsWhole, Stops, IsWantOfMemory, IsCutShort, at_end}
+use Rattle.lis_message.specs.Feeding.{ReadsWhole, StopsReading, IsWantOfMemory, IsCutShort, answer_at_end}
 use Rattle.lis_message.specs.Stream.{ended, AreMessage, IsMessage, IsCut, IsRefused}
 use Rattle.lis_tree.specs.Tree.{MessageTree, IsTree, flatten}
 use Rattle.lis_message.specs.Writing.{message_bytes, records_bytes, AreWritable, IsWritable}
@@ -87,13 +87,14 @@ pub reads_back : (ms : List MessageTree) → AllByRecursion IsTree ms → AllByR
     → MatchOption fault (messages ≡ ms) (λ f. f.reason ≡ reasons.OutOfMemory)
 reads_back ms are writable messages None r = (messages_one ms are writable messages None [] r).0
 reads_back ms are writable messages (Some f) r =
-    ⊎_elim (λ (s : Stops (flat_map message_bytes ms) messages f).
+    ⊎_elim (λ (s : StopsReading (flat_map message_bytes ms) messages f).
     ⊎_elim (λ (oom : IsWantOfMemory (flat_map message_bytes ms) messages f). oom.why)
     (λ (refused : IsRefused (flat_map message_bytes ms) messages f). absurd
     (refused_uncut (flat_map message_bytes ms) messages ms f None [] refused (messages_cut ms are writable))) s)
     (λ (short : IsCutShort (flat_map message_bytes ms) messages f).
     let one = messages_one ms are writable messages short.left short.held short.cut in
-    let done : at_end short.left short.held ≡ Ok tt = ap (λ l. at_end l short.held) one.1 ∙ ap (at_end None) one.2 in
+    let done : answer_at_end short.left short.held ≡ Ok tt =
+    ap (λ l. answer_at_end l short.held) one.1 ∙ ap (answer_at_end None) one.2 in
     let clash : Ok tt ≡ Err f = sym done ∙ short.why in absurd cc) r
 
 -- the same, with the record of it by cases of a result

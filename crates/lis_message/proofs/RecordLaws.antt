@@ -4,7 +4,7 @@ use Rattle.std.proofs.Common.{length, Option, Some, sym, ◌∙◌, ap, subst, a
 use Rattle.std.specs.Option.{option_to_list}
 use Rattle.lis_field.specs.Shape.{RecordContent}
 use Rattle.lis_message.specs.declared.records.Found.TheVariants as found
-use Rattle.lis_message.specs.Feeding.{GoesBefore, Stops, StopsIn, next_place}
+use Rattle.lis_message.specs.Feeding.{GoesBefore, StopsReading, StopsIn, next_place}
 use Rattle.lis_message.specs.inside.Kept.{RecordsState}
 use Rattle.lis_message.specs.Records.{Adds, CantCome, IsReadUpTo, IsStopped}
 use Rattle.lis_message.specs.Records.{Reads, ReadsOn, ReadsRecord, Refuses, unended}
@@ -67,7 +67,7 @@ refused_by stream messages left held bytes fault c place cant =
 -- a record is refused, or memory is
 pub cut_stops : (stream : List ℕ) (messages : List MessageTree) (left : Option Begun) (held bytes : List ℕ)
     (fault : MessageFault) → IsCut stream messages left held → fault.place ≡ next_place left
-    → IsStopped left held bytes fault.reason → Stops (stream ++ bytes) messages fault
+    → IsStopped left held bytes fault.reason → StopsReading (stream ++ bytes) messages fault
 cut_stops stream messages left held bytes fault c place (inl memory) =
     inl (starved stream messages left held bytes fault c place memory.0)
 cut_stops stream messages left held bytes fault c place (inr cant) =
@@ -111,7 +111,7 @@ pub memory_stops : (before : RecordsState) (left : Option Begun) (bytes : List �
     (fault : MessageFault) → fault.place ≡ next_place left → (fault.reason ≡ reasons.OutOfMemory) × (more ≡ messages)
     → StopsIn (unended left before) messages bytes more fault
 memory_stops before left bytes messages more fault place memory past base c =
-    subst (λ (ms : List MessageTree). Stops (past ++ bytes) (base ++ ms) fault) (sym memory.1)
+    subst (λ (ms : List MessageTree). StopsReading (past ++ bytes) (base ++ ms) fault) (sym memory.1)
     (inl (starved past (base ++ messages) left before.held bytes fault c place memory.0))
 
 -- the record that was cut is the one that the reader tells

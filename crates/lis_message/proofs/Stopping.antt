@@ -7,7 +7,7 @@ use Rattle.lis_record.specs.declared.texts.TheConstants.{RECORD_LIMIT}
 use Rattle.lis_tree.specs.declared.fault.MessageFault.{MessageFault}
 use Rattle.lis_tree.specs.declared.fault.Reason.TheVariants as reasons
 use Rattle.lis_tree.specs.inside.Begun.{Begun}
-use Rattle.lis_message.specs.Feeding.{Unended, IsWantOfMemory, Stops, Goes, StopsIn, next_place}
+use Rattle.lis_message.specs.Feeding.{Unended, IsWantOfMemory, StopsReading, Goes, StopsIn, next_place}
 use Rattle.lis_message.specs.Stream.{ended, refusal, IsCut, IsRefused, LacksReturn}
 use Rattle.lis_tree.specs.Tree.{MessageTree}
 use Rattle.lis_message.proofs.Lines.{lacks_append}
@@ -103,4 +103,4 @@ goes_then a b c ms ns os xs ys g h past base cut =
 pub goes_stops : (a b : Unended) (ms ns os : List MessageTree) (xs ys : List ℕ) (fault : MessageFault)
     → Goes a ms xs b ns → StopsIn b ns ys os fault → StopsIn a ms (xs ++ ys) os fault
 goes_stops a b ms ns os xs ys fault g h past base cut =
-    subst (λ s. Stops s (base ++ os) fault) (append_assoc past xs ys) (h (past ++ xs) base (g past base cut))
+    subst (λ s. StopsReading s (base ++ os) fault) (append_assoc past xs ys) (h (past ++ xs) base (g past base cut))

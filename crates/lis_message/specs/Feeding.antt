@@ -33,8 +33,8 @@ pub record IsWantOfMemory (stream : List ℕ) (messages : List MessageTree) (fau
   pub why : fault.reason ≡ reasons.OutOfMemory
 
 -- Memory is refused, or a record is.
-abbrev pub Stops : List ℕ → List MessageTree → MessageFault → Type 0
-Stops stream messages fault = IsWantOfMemory stream messages fault ⊎ IsRefused stream messages fault
+abbrev pub StopsReading : List ℕ → List MessageTree → MessageFault → Type 0
+StopsReading stream messages fault = IsWantOfMemory stream messages fault ⊎ IsRefused stream messages fault
 
 -- These bytes lead from what is kept to what is kept then, and add to the messages, whatever came before.
 abbrev pub Goes : Unended → List MessageTree → List ℕ → Unended → List MessageTree → Type 0
@@ -54,29 +54,29 @@ pub record GoesBefore (before : Unended) (messages : List MessageTree) (bytes be
 abbrev pub StopsIn : Unended → List MessageTree → List ℕ → List MessageTree → MessageFault → Type 0
 StopsIn before messages bytes more fault =
     (past : List ℕ) (base : List MessageTree) → IsCut past (base ++ messages) before.left before.held
-    → Stops (past ++ bytes) (base ++ more) fault
+    → StopsReading (past ++ bytes) (base ++ more) fault
 
 -- what a reader tells and keeps of a stream
-abbrev pub Reads : List ℕ → List MessageTree → ReaderState → Option MessageFault → Type 0
-Reads stream messages reader None = (reader.fault ≡ None) × IsCut stream messages reader.left reader.held
-Reads stream messages reader (Some fault) = (reader.fault ≡ Some fault) × Stops stream messages fault
+abbrev pub ReadsStream : List ℕ → List MessageTree → ReaderState → Option MessageFault → Type 0
+ReadsStream stream messages reader None = (reader.fault ≡ None) × IsCut stream messages reader.left reader.held
+ReadsStream stream messages reader (Some fault) = (reader.fault ≡ Some fault) × StopsReading stream messages fault
 
 -- the answer at the end of the stream
-abbrev pub at_end : Option Begun → List ℕ → Result (Unit {0}) MessageFault
-at_end None [] = Ok tt
-at_end left held = Err (record { place = next_place left; reason = reasons.Unfinished })
+abbrev pub answer_at_end : Option Begun → List ℕ → Result (Unit {0}) MessageFault
+answer_at_end None [] = Ok tt
+answer_at_end left held = Err (record { place = next_place left; reason = reasons.Unfinished })
 
 abbrev pub finished : ReaderState → Result (Unit {0}) MessageFault
-finished reader = elim reader.fault [ None ↦ at_end reader.left reader.held | Some fault ↦ Err fault ]
+finished reader = elim reader.fault [ None ↦ answer_at_end reader.left reader.held | Some fault ↦ Err fault ]
 
 -- These messages are read of the stream, and its end comes too early.
 pub record IsCutShort (stream : List ℕ) (messages : List MessageTree) (fault : MessageFault) : Type 0 where
   pub left : Option Begun
   pub held : List ℕ
   pub cut : IsCut stream messages left held
-  pub why : at_end left held ≡ Err fault
+  pub why : answer_at_end left held ≡ Err fault
 
 -- what is read of a stream that ends here
 abbrev pub ReadsWhole : List ℕ → List MessageTree → Option MessageFault → Type 0
 ReadsWhole stream messages None = IsCut stream messages None []
-ReadsWhole stream messages (Some fault) = Stops stream messages fault ⊎ IsCutShort stream messages fault
+ReadsWhole stream messages (Some fault) = StopsReading stream messages fault ⊎ IsCutShort stream messages fault

@@ -81,8 +81,8 @@ ReadsSome after bytes behind (found.Refused fault) = ⊤
 -- ---- one record
 
 -- a text that is too long, or can't come next
-abbrev pub IsRefusedFor : Option Begun → List ℕ → Reason → Type 0
-IsRefusedFor left text reason =
+abbrev pub IsTextRefusedFor : Option Begun → List ℕ → Reason → Type 0
+IsTextRefusedFor left text reason =
     ((reason ≡ reasons.RecordTooLong) × (record_limit < length text))
     ⊎ ((refusal left text ≡ Some reason) × (length text ≤ record_limit))
 
@@ -106,9 +106,9 @@ abbrev pub unended : Option Begun → RecordsState → Unended
 unended left reader = record { left = left; held = reader.held }
 
 -- What is open for the reader of records is the open message, until a fault is met; then nothing is held.
-abbrev pub IsReading : RecordsState → Option Begun → Option MessageFault → Type 0
-IsReading reader left None = HasLeft reader left
-IsReading reader left (Some fault) = reader.held ≡ []
+abbrev pub IsOpenFor : RecordsState → Option Begun → Option MessageFault → Type 0
+IsOpenFor reader left None = HasLeft reader left
+IsOpenFor reader left (Some fault) = reader.held ≡ []
 
 -- ---- the stream
 

@@ -10,7 +10,7 @@ ghost use Rattle.lis_record.specs.Relation.{IsRecord};
 ghost use Rattle.lis_field.specs.Shape.{RecordContent};
 ghost use Rattle.lis_tree.specs.declared.fault.MessageFault.{MessageFault};
 ghost use Rattle.lis_tree.specs.inside.Begun.{Begun};
-ghost use Rattle.lis_message.specs.Feeding.{Stops};
+ghost use Rattle.lis_message.specs.Feeding.{StopsReading};
 ghost use Rattle.lis_message.specs.inside.Kept.{RecordsState};
 ghost use Rattle.lis_message.specs.Records.{IsReadUpTo, ReadsOn, ReadsRecord, Refuses};
 ghost use Rattle.lis_message.specs.Stream.{IsCut, IsMessage, IsReadFrom, IsRefused};
@@ -74,5 +74,5 @@ pub fn records_of_a_stream()
     ensures refused { (before after : RecordsState) (stream : List ℕ) (messages : List MessageTree)
         (left : Option Begun) (bytes behind : List ℕ) (fault : MessageFault)
         → IsCut stream messages left before.held → Refuses before after left bytes behind fault
-        → Stops (stream ++ bytes) messages fault }
+        → StopsReading (stream ++ bytes) messages fault }
 {}

@@ -2,7 +2,7 @@
 ghost use Rattle.std.specs.Prelude.{◌≡◌, ℕ, ◌++◌, ◌∷◌, ◌≤◌, [], List, IfOk, IfErr};
 ghost use Rattle.std.specs.Prelude.{OnOk, OnSome, IfSome, IfNone, MatchOption, None, Some, Option, length};
 ghost use Rattle.std.specs.List.{AllByRecursion, flat_map};
-ghost use Rattle.lis_message.specs.Feeding.{Goes, GoesBefore, ReadsWhole, Reads, StopsIn, finished};
+ghost use Rattle.lis_message.specs.Feeding.{Goes, GoesBefore, ReadsWhole, ReadsStream, StopsIn, finished};
 ghost use Rattle.lis_message.specs.Records.{Adds, HasLeft, unended};
 ghost use Rattle.lis_message.specs.Stream.{IsCut};
 ghost use Rattle.lis_message.specs.inside.Taking.{ComesNext, begun_with, left_after};
@@ -191,13 +191,13 @@ pub struct MessageReader {
 
 impl Model for MessageReader {
     ghost use Rattle.lis_message.specs.Feeding.{ReaderState};
-    ghost use Rattle.lis_message.specs.Records.{IsReading};
+    ghost use Rattle.lis_message.specs.Records.{IsOpenFor};
 
     ghost Value = { ReaderState };
 
     ghost view = { λ r. record { left = r.begun; held = r.records.held; fault = r.fault } };
 
-    ghost invariant = { λ r. IsReading r.records r.begun r.fault };
+    ghost invariant = { λ r. IsOpenFor r.records r.begun r.fault };
 }
 
 impl MessageReader {
@@ -218,7 +218,7 @@ impl MessageReader {
     pub fn feed(&mut self, piece: &[u8]) -> Fed
         ensures read { self.old.fault ≡ None → (past : List ℕ) (messages : List MessageTree)
             → IsCut past messages self.old.left self.old.held
-            → Reads (past ++ piece.now) (messages ++ result.messages) self.new result.fault }
+            → ReadsStream (past ++ piece.now) (messages ++ result.messages) self.new result.fault }
         ensures failed { IfSome self.old.fault (λ fault.
             (result.messages ≡ []) × (result.fault ≡ Some fault) × (self.new ≡ self.old)) }
     {

@@ -5,9 +5,9 @@ ghost use Rattle.std.specs.Prelude.{◌≡◌, ◌≢◌, ℕ, true, false, ◌+
 ghost use Rattle.std.specs.Prelude.{List, Option, IfOk, IfErr, OnOk, OnSome};
 ghost use Rattle.std.specs.Prelude.{IfSome, IfNone, IsTrue, None, Some, Ok, Err, is_some, length};
 ghost use Rattle.lis_message.specs.declared.records.Found.TheVariants.{Record as IsFound, Refused as IsRefusal};
-ghost use Rattle.lis_message.specs.Feeding.{at_end, next_place};
+ghost use Rattle.lis_message.specs.Feeding.{answer_at_end, next_place};
 ghost use Rattle.lis_message.specs.inside.Kept.{opened_of, opened_with};
-ghost use Rattle.lis_message.specs.Records.{EndsHeld, HasLeft, IsRefusedFor, IsStopped, Reads, ReadsSome};
+ghost use Rattle.lis_message.specs.Records.{EndsHeld, HasLeft, IsTextRefusedFor, IsStopped, Reads, ReadsSome};
 ghost use Rattle.lis_message.specs.Stream.{LacksReturn, refusal};
 ghost use Rattle.lis_message.specs.inside.Taking.{ComesNext, front_refusal, left_after};
 ghost use Rattle.lis_record.specs.declared.texts.TheConstants.{RECORD_LIMIT};
@@ -431,7 +431,7 @@ impl RecordReader {
 
     /// The end of the stream: a message that isn't closed, or a record that isn't ended, is `Unfinished`.
     pub fn finish(&self) -> Result<(), MessageFault>
-        ensures read { (left : Option Begun) → HasLeft self.now left → result ≡ at_end left self.now.held }
+        ensures read { (left : Option Begun) → HasLeft self.now left → result ≡ answer_at_end left self.now.held }
         ensures failed { IfSome self.now.fault (λ fault. result ≡ Err fault) }
     {
         if let Some(fault) = self.fault {
@@ -487,7 +487,7 @@ impl RecordReader {
             → ComesNext left text.now entry × (self.new.opened ≡ opened_of
             (left_after left entry entry.content.kind))) }
         ensures err { IfErr result (λ reason. (left : Option Begun) → self.old.opened ≡ opened_of left
-            → IsRefusedFor left text.now reason) }
+            → IsTextRefusedFor left text.now reason) }
         ensures held { self.new.held ≡ self.old.held }
         ensures fault { self.new.fault ≡ self.old.fault }
         ensures same { IfErr result (λ _. self.new ≡ self.old) }
@@ -510,7 +510,7 @@ impl RecordReader {
         ensures ok { OnOk result ((left : Option Begun) → self.old.opened ≡ opened_of left
             → EndsHeld self.old self.new left text.now) }
         ensures err { IfErr result (λ reason. (left : Option Begun) → self.old.opened ≡ opened_of left
-            → (reason ≡ reasons.OutOfMemory) ⊎ IsRefusedFor left (self.old.held ++ text.now) reason) }
+            → (reason ≡ reasons.OutOfMemory) ⊎ IsTextRefusedFor left (self.old.held ++ text.now) reason) }
         ensures told { OnOk result (is_some self.new.cut ≡ true) }
         ensures fault { self.new.fault ≡ self.old.fault }
     {

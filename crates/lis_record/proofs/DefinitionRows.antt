@@ -9,7 +9,7 @@ use Rattle.lis_field.specs.declared.kinds.Kind.TheVariants as kinds
 use Rattle.lis_field.specs.declared.symbols.Sym.TheVariants.{Char, Raw}
 use Rattle.lis_field.specs.Delimiters.{DelimiterBytes, delimiters_of, delimiter_fault, is_punctuation}
 use Rattle.lis_record.specs.Escapes.{escape_of}
-use Rattle.lis_record.specs.Faults.{text_fault, record_fault, delimiter_part_fault, header_fault, check_fault}
+use Rattle.lis_record.specs.Faults.{record_text_fault, record_fault, delimiter_part_fault, header_fault, check_fault}
 use Rattle.lis_record.specs.inside.FrontReading.{escape_at, symbols_after, symbols_of}
 use Rattle.lis_field.specs.Kinds.{kind_of}
 use Rattle.lis_record.specs.Spelling.{spelled_symbol, spelled}
@@ -21,20 +21,20 @@ usual = delimiters_of 0x7c 0x5c 0x5e 0x26
 
 -- H|\^& and H||^& and H|\^ and H|\^&A and P|1
 usual_header_is_good : header_fault (0x48 ∷ 0x7c ∷ 0x5c ∷ 0x5e ∷ 0x26 ∷ []) ≡ None
-unfolding header_fault delimiter_part_fault text_fault delimiter_fault is_punctuation is_text_byte kind_of
+unfolding header_fault delimiter_part_fault record_text_fault delimiter_fault is_punctuation is_text_byte kind_of
 usual_header_is_good = refl
 
 repeated_delimiter : header_fault (0x48 ∷ 0x7c ∷ 0x7c ∷ 0x5e ∷ 0x26 ∷ []) ≡ Some (DelimiterPart (Fault (Repeated 1)))
-unfolding header_fault delimiter_part_fault text_fault delimiter_fault is_punctuation is_text_byte kind_of
+unfolding header_fault delimiter_part_fault record_text_fault delimiter_fault is_punctuation is_text_byte kind_of
 repeated_delimiter = refl
 
 short_delimiters : header_fault (0x48 ∷ 0x7c ∷ 0x5c ∷ 0x5e ∷ []) ≡ Some (DelimiterPart Short)
-unfolding header_fault delimiter_part_fault text_fault delimiter_fault is_punctuation is_text_byte kind_of
+unfolding header_fault delimiter_part_fault record_text_fault delimiter_fault is_punctuation is_text_byte kind_of
 short_delimiters = refl
 
 byte_behind_the_delimiters : header_fault (0x48 ∷ 0x7c ∷ 0x5c ∷ 0x5e ∷ 0x26 ∷ 0x41 ∷ [])
     ≡ Some (DelimiterPart (Trailing 0x41))
-unfolding header_fault delimiter_part_fault text_fault delimiter_fault is_punctuation is_text_byte kind_of
+unfolding header_fault delimiter_part_fault record_text_fault delimiter_fault is_punctuation is_text_byte kind_of
 byte_behind_the_delimiters = refl
 
 patient_is_no_header : header_fault (0x50 ∷ 0x7c ∷ 0x31 ∷ []) ≡ Some (UnknownKind 0x50)
@@ -47,11 +47,11 @@ unfolding record_fault
 nothing_is_no_record = refl
 
 letter_without_delimiter : record_fault usual (0x4c ∷ 0x78 ∷ []) ≡ Some (UnknownKind 0x78)
-unfolding record_fault text_fault usual is_text_byte kind_of
+unfolding record_fault record_text_fault usual is_text_byte kind_of
 letter_without_delimiter = refl
 
 byte_that_is_no_text : record_fault usual (0x50 ∷ 0x7c ∷ 0x7f ∷ []) ≡ Some (Byte 2)
-unfolding record_fault text_fault usual is_text_byte kind_of
+unfolding record_fault record_text_fault usual is_text_byte kind_of
 byte_that_is_no_text = refl
 
 -- &X0D0a& and &X4& and S & S

@@ -11,13 +11,13 @@ use Rattle.lis_field.specs.declared.kinds.Kind.TheVariants as kinds
 use Rattle.lis_record.specs.declared.faults.DelimiterPartFault.TheVariants.{Trailing, Short, Fault}
 use Rattle.lis_record.specs.declared.faults.RecordFault.TheVariants as record_faults
 use Rattle.lis_field.specs.Delimiters.{DelimiterBytes, IsDelimiters, delimiter_fault, delimiters_of}
-use Rattle.lis_record.specs.Faults.{delimiter_part_fault, header_fault, is_other_kind, record_fault, text_fault}
+use Rattle.lis_record.specs.Faults.{delimiter_part_fault, header_fault, is_other_kind, record_fault, record_text_fault}
 use Rattle.lis_record.specs.Faults.{trailing_byte, is_header_kind}
 use Rattle.lis_record.specs.inside.FrontReading.{fields_of}
 use Rattle.lis_field.specs.Kinds.{kind_of}
 use Rattle.lis_record.specs.Relation.{AreFieldTexts, IsRecord, declared_part}
 use Rattle.lis_field.specs.Shape.{RecordContent}
-use Rattle.lis_record.specs.Text.{IsText, is_text_byte, bad_byte_place, record_limit}
+use Rattle.lis_record.specs.Text.{IsRecordText, is_text_byte, bad_byte_place, record_limit}
 use Rattle.lis_field.proofs.FirstFaults.{AllPass-position, ltb-past, ltb_tells, option_map-none, option_or-none}
 use Rattle.lis_field.proofs.FirstFaults.{position-AllPass}
 use Rattle.lis_field.proofs.DelimiterFaults.{IsDelimiters-delimiters_of, delimiter_fault-IsDelimiters}
@@ -33,9 +33,9 @@ none_cond false x h = refl
 
 -- ---- text bytes, and not too many
 
-pub text_fault-none : (text : List ℕ) → text_fault text ≡ None → IsText text × (length text ≤ record_limit)
-unfolding text_fault
-text_fault-none text h =
+pub record_text_fault-none : (text : List ℕ) → record_text_fault text ≡ None → IsRecordText text × (length text ≤ record_limit)
+unfolding record_text_fault
+record_text_fault-none text h =
     let both = option_or-none (option_map record_faults.Byte (bad_byte_place text))
     (cond (ltb record_limit (length text)) (Some record_faults.TooLong) None) h in
     let not_long = none_cond (ltb record_limit (length text)) record_faults.TooLong both.1 in (
@@ -43,9 +43,9 @@ text_fault-none text h =
       elim (ltb_tells record_limit (length text)) [ inl past ↦ cc (not_long, past.0) | inr within ↦ within.1 ],
     )
 
-pub none-text_fault : (text : List ℕ) → IsText text → length text ≤ record_limit → text_fault text ≡ None
-unfolding text_fault
-none-text_fault text all short =
+pub none-record_text_fault : (text : List ℕ) → IsRecordText text → length text ≤ record_limit → record_text_fault text ≡ None
+unfolding record_text_fault
+none-record_text_fault text all short =
     rw (position-AllPass is_text_byte text all, ltb-past record_limit (length text) short) refl
 
 -- ---- records other than headers
@@ -102,10 +102,10 @@ trailing_byte-field field (first ∷ others) h byte rest e =
 -- a text in which no fault stands is a record
 pub IsRecord-fields_of : (d : DelimiterBytes) → IsDelimiters d → (letter : ℕ) (bytes : List ℕ) (kind : Kind)
     → kind_of letter ≡ Some kind → kind ≢ kinds.H
-    → trailing_byte d.field bytes ≡ None → text_fault (letter ∷ bytes) ≡ None
+    → trailing_byte d.field bytes ≡ None → record_text_fault (letter ∷ bytes) ≡ None
     → IsRecord d (letter ∷ bytes) (record { kind = kind; fields = fields_of d bytes })
 IsRecord-fields_of d good letter bytes kind letter_is other second texts =
-    let fine = text_fault-none (letter ∷ bytes) texts in
+    let fine = record_text_fault-none (letter ∷ bytes) texts in
     record {
       letter = letter;
       fields_text = bytes;
@@ -131,7 +131,8 @@ record_fault-IsRecord d text content other h =
     ∙ ap (λ (l : List ℕ). h.letter ∷ l ++ h.fields_text) (declared_part-other d content.kind other) in
     let second : trailing_byte d.field h.fields_text ≡ None =
     ap (trailing_byte d.field) h.fields_are.joined ∙ fields_text-first d h.fields_are.parts in
-    let texts : text_fault (h.letter ∷ h.fields_text) ≡ None = rw bare at (none-text_fault text h.is_text h.short) in
+    let texts : record_text_fault (h.letter ∷ h.fields_text) ≡ None =
+    rw bare at (none-record_text_fault text h.is_text h.short) in
     rw (bare, h.kind_is, is_other_kind-other content.kind other, second, texts) refl
 
 -- ---- headers
@@ -139,12 +140,12 @@ record_fault-IsRecord d text content other h =
 -- a text in which no fault stands is a header, under the delimiters that it declares
 pub IsRecord-header : (letter f r c e : ℕ) (bytes : List ℕ) → kind_of letter ≡ Some kinds.H
     → delimiter_fault (f ∷ r ∷ c ∷ e ∷ []) ≡ None → trailing_byte f bytes ≡ None
-    → text_fault (letter ∷ f ∷ r ∷ c ∷ e ∷ bytes) ≡ None
+    → record_text_fault (letter ∷ f ∷ r ∷ c ∷ e ∷ bytes) ≡ None
     → IsRecord (delimiters_of f r c e) (letter ∷ f ∷ r ∷ c ∷ e ∷ bytes)
     (record { kind = kinds.H; fields = fields_of (delimiters_of f r c e) bytes })
 IsRecord-header letter f r c e bytes letter_is marks trailing texts =
     let d = delimiters_of f r c e in
-    let fine = text_fault-none (letter ∷ f ∷ r ∷ c ∷ e ∷ bytes) texts in
+    let fine = record_text_fault-none (letter ∷ f ∷ r ∷ c ∷ e ∷ bytes) texts in
     record {
       letter = letter;
       fields_text = bytes;
@@ -174,8 +175,8 @@ header_fault-IsRecord d good text content is_header h =
     delimiter_fault-IsDelimiters d good in
     let trailing : trailing_byte d.field h.fields_text ≡ None =
     ap (trailing_byte d.field) h.fields_are.joined ∙ fields_text-first d h.fields_are.parts in
-    let texts : text_fault (h.letter ∷ d.field ∷ d.repeat ∷ d.component ∷ d.escape ∷ h.fields_text) ≡ None =
-    rw parts at (none-text_fault text h.is_text h.short) in
+    let texts : record_text_fault (h.letter ∷ d.field ∷ d.repeat ∷ d.component ∷ d.escape ∷ h.fields_text) ≡ None =
+    rw parts at (none-record_text_fault text h.is_text h.short) in
     rw (parts, letter, marks, trailing, texts) refl
 
 -- ---- the first fault of a text, as the code finds it
@@ -200,9 +201,10 @@ record_fault-trailing d text letter bytes byte e h t = rw (e, h, t) refl
 
 pub record_fault-text : (d : DelimiterBytes) (text : List ℕ) (letter : ℕ) (bytes : List ℕ) (fault : RecordFault)
     → text ≡ letter ∷ bytes → is_other_kind (kind_of letter) ≡ true
-    → trailing_byte d.field bytes ≡ None → text_fault text ≡ Some fault → record_fault d text ≡ Some fault
+    → trailing_byte d.field bytes ≡ None → record_text_fault text ≡ Some fault → record_fault d text ≡ Some fault
 unfolding record_fault
-record_fault-text d text letter bytes fault e h t f = let g : text_fault (letter ∷ bytes) ≡ Some fault = rw e at f in
+record_fault-text d text letter bytes fault e h t f =
+    let g : record_text_fault (letter ∷ bytes) ≡ Some fault = rw e at f in
     rw (e, h, t, g) refl
 
 pub header_fault-empty : (text : List ℕ) → length text ≡ 0 → header_fault text ≡ Some record_faults.Empty
@@ -224,9 +226,10 @@ header_fault-part text letter bytes fault e h p = rw (e, h, p) refl
 
 pub header_fault-text : (text : List ℕ) (letter : ℕ) (bytes : List ℕ) (fault : RecordFault) → text ≡ letter ∷ bytes
     → is_header_kind (kind_of letter) ≡ true
-    → delimiter_part_fault bytes ≡ None → text_fault text ≡ Some fault → header_fault text ≡ Some fault
+    → delimiter_part_fault bytes ≡ None → record_text_fault text ≡ Some fault → header_fault text ≡ Some fault
 unfolding header_fault
-header_fault-text text letter bytes fault e h p f = let g : text_fault (letter ∷ bytes) ≡ Some fault = rw e at f in
+header_fault-text text letter bytes fault e h p f =
+    let g : record_text_fault (letter ∷ bytes) ≡ Some fault = rw e at f in
     rw (e, h, p, g) refl
 
 pub delimiter_part_fault-short : (text : List ℕ) → length text < 4 → delimiter_part_fault text ≡ Some Short

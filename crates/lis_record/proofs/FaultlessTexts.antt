@@ -11,7 +11,7 @@ use Rattle.lis_field.specs.Kinds.{kind_of}
 use Rattle.lis_record.specs.declared.faults.DelimiterPartFault.TheVariants.{Fault, Trailing}
 use Rattle.lis_record.specs.declared.faults.RecordFault.TheVariants as record_faults
 use Rattle.lis_record.specs.Faults.{delimiter_part_fault, header_fault, is_header_kind, is_other_kind, record_fault}
-use Rattle.lis_record.specs.Faults.{text_fault, trailing_byte}
+use Rattle.lis_record.specs.Faults.{record_text_fault, trailing_byte}
 use Rattle.lis_record.specs.Faultless.{IsSomeHeader, IsSomeRecord}
 use Rattle.lis_record.specs.inside.FrontReading.{fields_of}
 use Rattle.lis_record.proofs.FaultLaws.{IsRecord-fields_of, IsRecord-header, header_fault-IsRecord}
@@ -46,10 +46,12 @@ record_without_fault d [] good none = cc
 record_without_fault d (letter ∷ bytes) good none =
     let parts =
     option_or-none (if is_other_kind (kind_of letter) then None else Some (record_faults.UnknownKind letter))
-    (option_or (option_map record_faults.UnknownKind (trailing_byte d.field bytes)) (text_fault (letter ∷ bytes)))
+    (option_or (option_map record_faults.UnknownKind (trailing_byte d.field bytes))
+    (record_text_fault (letter ∷ bytes)))
     none in
     let both =
-    option_or-none (option_map record_faults.UnknownKind (trailing_byte d.field bytes)) (text_fault (letter ∷ bytes))
+    option_or-none (option_map record_faults.UnknownKind (trailing_byte d.field bytes))
+    (record_text_fault (letter ∷ bytes))
     parts.1 in
     let first = other_letter (kind_of letter) letter parts.0 in
     record {
@@ -81,7 +83,7 @@ header_letter (Some kinds.L) letter e = absurd cc
 
 header_parts :
     (letter : ℕ) (part : List ℕ)
-    → kind_of letter ≡ Some kinds.H → delimiter_part_fault part ≡ None → text_fault (letter ∷ part) ≡ None
+    → kind_of letter ≡ Some kinds.H → delimiter_part_fault part ≡ None → record_text_fault (letter ∷ part) ≡ None
     → IsSomeHeader (letter ∷ part)
 unfolding delimiter_part_fault
 header_parts letter [] is none texts = cc
@@ -109,10 +111,11 @@ header_without_fault [] none = cc
 header_without_fault (letter ∷ part) none =
     let parts =
     option_or-none (if is_header_kind (kind_of letter) then None else Some (record_faults.UnknownKind letter))
-    (option_or (option_map record_faults.DelimiterPart (delimiter_part_fault part)) (text_fault (letter ∷ part)))
+    (option_or (option_map record_faults.DelimiterPart (delimiter_part_fault part)) (record_text_fault (letter ∷ part)))
     none in
     let both =
-    option_or-none (option_map record_faults.DelimiterPart (delimiter_part_fault part)) (text_fault (letter ∷ part))
+    option_or-none (option_map record_faults.DelimiterPart (delimiter_part_fault part))
+    (record_text_fault (letter ∷ part))
     parts.1 in
     header_parts letter part (header_letter (kind_of letter) letter parts.0)
     (option_map-none record_faults.DelimiterPart (delimiter_part_fault part) both.0) both.1

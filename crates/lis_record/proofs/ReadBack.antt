@@ -22,7 +22,7 @@ use Rattle.lis_field.specs.Shape.{first_number, AreSymbols, Components, Fields, 
 use Rattle.lis_field.specs.Shape.{IsRepeatShape, IsSymbol, RecordContent, Repeats, Symbols}
 use Rattle.lis_record.specs.Spelling.{letter_spelling, spelled, spelled_component, spelled_field, spelled_repeat}
 use Rattle.lis_record.specs.Spelling.{spelled_symbol}
-use Rattle.lis_record.specs.Text.{IsText, is_text_byte, record_limit}
+use Rattle.lis_record.specs.Text.{IsRecordText, is_text_byte, record_limit}
 use Rattle.lis_record.specs.declared.faults.WriteFault.TheVariants.{CharNotText, TooLong}
 use Rattle.lis_field.proofs.FirstFaults.{ltb_tells}
 use Rattle.lis_field.proofs.FirstFaults.{AllPass-position, option_map-none, option_or-none}
@@ -337,7 +337,7 @@ module _ (d : DelimiterBytes) (good : IsDelimiters d) where
   }
 
   fields_text : (fields : Fields) → All IsWritableField fields
-      → IsText (flat_map (λ field. d.field ∷ spelled_field d field) fields)
+      → IsRecordText (flat_map (λ field. d.field ∷ spelled_field d field) fields)
   fields_text [] h = All-nil IsTextByte
   fields_text (field ∷ fields) h =
       All-append IsTextByte (d.field ∷ spelled_field d field) (flat_map (λ next. d.field ∷ spelled_field d next) fields)
@@ -358,7 +358,7 @@ module _ (d : DelimiterBytes) (good : IsDelimiters d) where
   letter_text kinds.S = refl
   letter_text kinds.L = refl
 
-  declared_text : (kind : Kind) → IsText (declared_part d kind)
+  declared_text : (kind : Kind) → IsRecordText (declared_part d kind)
   declared_text kinds.H =
       All-cons IsTextByte d.field (d.repeat ∷ d.component ∷ d.escape ∷ []) (text-punctuation d.field good.field_is)
       (All-cons IsTextByte d.repeat (d.component ∷ d.escape ∷ []) (text-punctuation d.repeat good.repeat_is)
@@ -373,7 +373,7 @@ module _ (d : DelimiterBytes) (good : IsDelimiters d) where
   declared_text kinds.S = All-nil IsTextByte
   declared_text kinds.L = All-nil IsTextByte
 
-  pub spelled_text : (content : RecordContent) → All IsWritableField content.fields → IsText (spelled d content)
+  pub spelled_text : (content : RecordContent) → All IsWritableField content.fields → IsRecordText (spelled d content)
   spelled_text content h =
       All-cons IsTextByte (letter_of content.kind) (declared_part d content.kind
       ++ flat_map (λ field. d.field ∷ spelled_field d field) content.fields) (letter_text content.kind)

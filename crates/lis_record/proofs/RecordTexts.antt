@@ -12,7 +12,7 @@ use Rattle.lis_field.specs.Kinds.{kind_of}
 use Rattle.lis_record.specs.Relation.{AreFieldTexts, IsField, IsRecord, IsRepeat, Lacks, declared_part}
 use Rattle.lis_record.specs.Escapes.{IsComponent}
 use Rattle.lis_field.specs.Shape.{Components, Fields, Repeats, RecordContent}
-use Rattle.lis_record.specs.Text.{IsText, is_text_byte}
+use Rattle.lis_record.specs.Text.{IsRecordText, is_text_byte}
 use Rattle.std.proofs.lemmas.Bool.Decides.{nat_tests}
 use Rattle.std.proofs.lemmas.List.Elements.{All-weaker}
 use Rattle.lis_record.proofs.Components.{IsComponent-symbols_of, symbols_of-IsComponent}
@@ -129,5 +129,5 @@ unfolding is_text_byte
 CR_is_no_text byte h same = grind (arith, nat_tests)
 
 -- no CR stands in a text
-pub Lacks-CR : (text : List ℕ) → IsText text → Lacks 13 text
+pub Lacks-CR : (text : List ℕ) → IsRecordText text → Lacks 13 text
 Lacks-CR text h = All-weaker (λ byte. is_text_byte byte ≡ true) (λ byte. byte ≢ 13) CR_is_no_text text h

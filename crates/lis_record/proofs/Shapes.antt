@@ -15,7 +15,7 @@ use Rattle.lis_field.specs.Shape.{AreSymbols, Components, IsFieldShape, IsRecord
 use Rattle.lis_field.specs.Shape.{RecordContent, Repeats, Symbols}
 use Rattle.lis_record.specs.Escapes.{IsComponent, escape, escape_of, letter_symbol, lone, nothing, plain, raw_symbols}
 use Rattle.lis_record.specs.Relation.{IsField, IsJoined, IsRecord, IsRepeat, declared_part}
-use Rattle.lis_record.specs.Text.{IsText, is_text_byte}
+use Rattle.lis_record.specs.Text.{IsRecordText, is_text_byte}
 
 abbrev Small : List ℕ → Type 0
 Small = AllByRecursion (λ b. b < 256)
@@ -28,7 +28,7 @@ small_mark : (b : ℕ) → IsTrue (is_punctuation b) → b < 256
 unfolding is_punctuation
 small_mark b h = grind (arith, nat_tests)
 
-small_text : (text : List ℕ) → IsText text → Small text
+small_text : (text : List ℕ) → IsRecordText text → Small text
 small_text text h = recursion_from_All (λ b. b < 256) text
     (All-weaker (λ b. is_text_byte b ≡ true) (λ b. b < 256) small_text_byte text h)
 

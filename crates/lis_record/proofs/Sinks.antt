@@ -8,7 +8,7 @@ use Rattle.std.specs.Io.KnownBytes.{Appends, Keeps}
 use Rattle.lis_record.specs.declared.faults.WriteFault.{WriteFault}
 use Rattle.lis_record.specs.declared.faults.WriteFault.TheVariants as write_faults
 use Rattle.lis_port.proofs.Sinks.{Appends-none, Appends-then, take-split}
-use Rattle.lis_record.specs.Writing.{Sent}
+use Rattle.lis_record.specs.Writing.{SentOn}
 
 sum_told : (passed size count later told top : ℕ) → later ≡ min (passed + size) top → told ≡ min (later + count) top
     → told ≡ min (passed + (size + count)) top
@@ -31,7 +31,7 @@ Appends-keeps (Some a) (Some b) (Some c) xs h g = g ∙ h
 -- bytes went out whole, and more follow
 pub Sent-more : (passed later : ℕ) (bytes rest : List ℕ) (old mid new : Option (List ℕ)) (r : Result Unit WriteFault)
     → later ≡ min (passed + length bytes) (2 ^ 64 - 1)
-    → Appends old mid bytes → Sent later rest mid new r → Sent passed (bytes ++ rest) old new r
+    → Appends old mid bytes → SentOn later rest mid new r → SentOn passed (bytes ++ rest) old new r
 Sent-more passed later bytes rest old mid new (Ok done) e h g = Appends-then old mid new bytes rest h g
 Sent-more passed later bytes rest old mid new (Err (write_faults.CharNotText number)) e h g = absurd g
 Sent-more passed later bytes rest old mid new (Err write_faults.TooLong) e h g = absurd g
@@ -49,7 +49,7 @@ Sent-more passed later bytes rest old mid new (Err (write_faults.Io told)) e h (
 -- the sink failed in these bytes
 pub Sent-part : (passed told count : ℕ) (bytes rest : List ℕ) (old new : Option (List ℕ))
     → told ≡ min (passed + count) (2 ^ 64 - 1) → count < length bytes
-    → Appends old new (take count bytes) → Sent passed (bytes ++ rest) old new (Err (write_faults.Io told))
+    → Appends old new (take count bytes) → SentOn passed (bytes ++ rest) old new (Err (write_faults.Io told))
 Sent-part passed told count bytes rest old new is_told short taken =
     let size = length-append bytes rest in
     (count, is_told, omega (arith, size), rw (take-append-le count bytes rest (omega arith)) taken)

@@ -13,7 +13,7 @@ use Rattle.lis_record.specs.Faults.{bad_field_number, check_fault, field_char_fa
 use Rattle.lis_record.specs.Faults.{long_fault}
 use Rattle.lis_field.specs.Shape.{RecordContent, Repeats}
 use Rattle.lis_record.specs.Spelling.{spelled, spelled_field, written}
-use Rattle.lis_record.specs.Writing.{Sent, Wrote, WroteAny, is_io}
+use Rattle.lis_record.specs.Writing.{SentOn, Wrote, WroteAny, is_io}
 use Rattle.lis_field.proofs.FirstFaults.{ltb-past, ltb_tells}
 use Rattle.lis_field.proofs.FirstFaults.{option_or-none}
 use Rattle.lis_record.proofs.FaultLaws.{none_cond}
@@ -95,7 +95,7 @@ is_io-refused d content (write_faults.Io count) h = absurd (check_fault-io d con
 -- what the engine sent of a text that is no longer than a record and its CR
 pub Wrote-sent : (refusal : Option WriteFault) (skip : ℕ) (bytes rest : List ℕ) (old new : Option (List ℕ))
     (r : Result Unit WriteFault) → refusal ≡ None → skip ≤ length bytes → length bytes ≤ record_limit + 1
-    → rest ≡ drop skip bytes → Sent skip rest old new r → Wrote refusal skip bytes old new r
+    → rest ≡ drop skip bytes → SentOn skip rest old new r → Wrote refusal skip bytes old new r
 Wrote-sent refusal skip bytes rest old new (Ok tt) none within short is sent = (none, rw is at sent)
 Wrote-sent refusal skip bytes rest old new (Err (write_faults.CharNotText number)) none within short is sent =
     absurd sent
@@ -161,7 +161,7 @@ field_fault-none d repeats h short = ap (λ o. option_or o (long_fault (spelled_
 
 -- what the engine sent of bytes of any number
 pub WroteAny-sent : (refusal : Option WriteFault) (bytes rest : List ℕ) (old new : Option (List ℕ))
-    (r : Result Unit WriteFault) → refusal ≡ None → rest ≡ bytes → Sent 0 rest old new r
+    (r : Result Unit WriteFault) → refusal ≡ None → rest ≡ bytes → SentOn 0 rest old new r
     → WroteAny refusal bytes old new r
 WroteAny-sent refusal bytes rest old new (Ok tt) none is sent = (none, rw is at sent)
 WroteAny-sent refusal bytes rest old new (Err (write_faults.CharNotText number)) none is sent = absurd sent

@@ -22,8 +22,8 @@ use Rattle.lis_record.specs.Text.{is_text_byte, bad_byte_place, record_limit}
 -- ---- reading
 
 -- a byte that is no text byte, else too many bytes
-unfoldable pub text_fault : List ℕ → Option RecordFault
-text_fault text =
+unfoldable pub record_text_fault : List ℕ → Option RecordFault
+record_text_fault text =
     option_or (option_map record_faults.Byte (bad_byte_place text))
     (if nat_lt record_limit (length text) then Some record_faults.TooLong else None)
 
@@ -48,7 +48,8 @@ unfoldable pub record_fault : DelimiterBytes → List ℕ → Option RecordFault
 record_fault d [] = Some record_faults.Empty
 record_fault d (letter ∷ bytes) =
     option_or (if is_other_kind (kind_of letter) then None else Some (record_faults.UnknownKind letter))
-    (option_or (option_map record_faults.UnknownKind (trailing_byte d.field bytes)) (text_fault (letter ∷ bytes)))
+    (option_or (option_map record_faults.UnknownKind (trailing_byte d.field bytes))
+    (record_text_fault (letter ∷ bytes)))
 
 -- the first fault of what follows a header's letter
 unfoldable pub delimiter_part_fault : List ℕ → Option DelimiterPartFault
@@ -64,7 +65,8 @@ unfoldable pub header_fault : List ℕ → Option RecordFault
 header_fault [] = Some record_faults.Empty
 header_fault (letter ∷ bytes) =
     option_or (if is_header_kind (kind_of letter) then None else Some (record_faults.UnknownKind letter))
-    (option_or (option_map record_faults.DelimiterPart (delimiter_part_fault bytes)) (text_fault (letter ∷ bytes)))
+    (option_or (option_map record_faults.DelimiterPart (delimiter_part_fault bytes))
+    (record_text_fault (letter ∷ bytes)))
 
 -- an error tells the first fault, or want of memory where no fault stands
 abbrev pub TellsFault : RecordFault → Option RecordFault → Type 0

@@ -7,7 +7,7 @@ use Rattle.lis_field.specs.Delimiters.{DelimiterBytes, delimiter_list}
 use Rattle.lis_record.specs.Escapes.{IsComponent}
 use Rattle.lis_field.specs.Kinds.{kind_of}
 use Rattle.lis_field.specs.Shape.{Components, Repeats, Fields, RecordContent}
-use Rattle.lis_record.specs.Text.{IsText, record_limit}
+use Rattle.lis_record.specs.Text.{IsRecordText, record_limit}
 
 -- the byte stands nowhere in the text
 abbrev pub Lacks : ℕ → List ℕ → Type 0
@@ -56,5 +56,5 @@ pub record IsRecord (d : DelimiterBytes) (text : List ℕ) (content : RecordCont
   pub whole : text ≡ letter ∷ declared_part d content.kind ++ fields_text
   pub kind_is : kind_of letter ≡ Some content.kind
   pub fields_are : AreFieldTexts d fields_text content.fields
-  pub is_text : IsText text
+  pub is_text : IsRecordText text
   pub short : length text ≤ record_limit

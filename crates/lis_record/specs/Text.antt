@@ -12,8 +12,8 @@ abbrev pub record_limit : ℕ
 record_limit = 65536
 
 -- text bytes alone
-abbrev pub IsText : List ℕ → Type 0
-IsText bytes = AllPass is_text_byte bytes
+abbrev pub IsRecordText : List ℕ → Type 0
+IsRecordText bytes = AllPass is_text_byte bytes
 
 -- the place of the first byte that is no text byte
 abbrev pub bad_byte_place : List ℕ → Option ℕ

@@ -27,9 +27,9 @@ is_io (Err (write_faults.Io count)) = true
 is_io _ = false
 
 -- What the engine answers: all of the bytes went out, or so many of them; `passed` went before.
-abbrev pub Sent : ℕ → List ℕ → Option (List ℕ) → Option (List ℕ) → Result Unit WriteFault → Type 0
-Sent passed bytes old new (Ok done) = Appends old new bytes
-Sent passed bytes old new (Err (write_faults.Io told)) =
+abbrev pub SentOn : ℕ → List ℕ → Option (List ℕ) → Option (List ℕ) → Result Unit WriteFault → Type 0
+SentOn passed bytes old new (Ok done) = Appends old new bytes
+SentOn passed bytes old new (Err (write_faults.Io told)) =
     (count : ℕ) × (told ≡ min (passed + count) (2 ^ 64 - 1)) × (count < length bytes)
     × Appends old new (take count bytes)
-Sent passed bytes old new (Err fault) = ⊥
+SentOn passed bytes old new (Err fault) = ⊥

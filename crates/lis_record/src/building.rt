@@ -1,7 +1,7 @@
 //! Records made from their texts, part by part (LIS02-A2, Delimiters).
 
-ghost use Rattle.std.specs.Prelude.{◌≡◌, ◌≤◌, ◌-◌, ◌++◌, ◌∷◌, ◌↔◌, [], ℕ, List, IfOk, IfSome, IsTrue, OnOk, drop, length};
-ghost use Rattle.std.specs.Prelude.{map, replicate, take};
+ghost use Rattle.std.specs.Prelude.{◌≡◌, ◌≤◌, ◌-◌, ◌++◌, ◌∷◌, ◌↔◌, [], ℕ, List, IfOk, IfSome, IsTrue, OnOk, drop};
+ghost use Rattle.std.specs.Prelude.{length, map, replicate, take};
 ghost use Rattle.lis_field.specs.Shape.{plain_field};
 ghost use Rattle.lis_record.specs.inside.FrontReading.{components_of, fields_of, parts_of, repeats_of};
 ghost use Rattle.lis_record.specs.inside.FrontReading.{BeginsWith, ComponentFront, EndsWith, TakesField, ends_part};

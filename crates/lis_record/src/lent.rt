@@ -1,7 +1,7 @@
 //! Records and their parts where they stand in a text, without memory (LIS02-A2, Delimiters).
 
-ghost use Rattle.std.specs.Prelude.{◌≡◌, ◌≢◌, ◌<◌, ◌≤◌, ◌++◌, ◌∷◌, ◌↔◌, [], IfNone, IfOk, IfSome, IsFalse, IsTrue, OnOk};
-ghost use Rattle.std.specs.Prelude.{List, MatchOption, Some, ℕ};
+ghost use Rattle.std.specs.Prelude.{◌≡◌, ◌≢◌, ◌<◌, ◌≤◌, ◌++◌, ◌∷◌, ◌↔◌, [], IfNone, IfOk, IfSome, IsFalse, IsTrue};
+ghost use Rattle.std.specs.Prelude.{List, MatchOption, OnOk, Some, ℕ};
 ghost use Rattle.std.specs.Prelude.{drop, length, option_map, slice_get};
 ghost use Rattle.std.specs.Prelude.{false, take};
 ghost use Rattle.lis_field.specs.Shape.{field_at, plain_field};

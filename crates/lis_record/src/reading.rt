@@ -4,7 +4,7 @@ ghost use Rattle.std.specs.Prelude.{◌≡◌, ◌≢◌, IfOk, IfErr, MatchOpti
 ghost use Rattle.std.specs.Prelude.{false};
 ghost use Rattle.lis_field.specs.Delimiters.{DelimiterBytes, IsDelimiters};
 ghost use Rattle.lis_record.specs.Faults.{TellsFault, delimiter_part_fault, header_fault, is_header_kind};
-ghost use Rattle.lis_record.specs.Faults.{is_other_kind, record_fault, text_fault, trailing_byte};
+ghost use Rattle.lis_record.specs.Faults.{is_other_kind, record_fault, record_text_fault, trailing_byte};
 ghost use Rattle.lis_record.specs.inside.FrontReading.{DeclaresDelimiters, OpensHeader, OpensRecord};
 ghost use Rattle.lis_record.specs.Lent.{lent, record_in};
 ghost use Rattle.lis_record.specs.Relation.{IsRecord};
@@ -22,11 +22,11 @@ use lis_field::{Delimiters, Kind, Record};
 use std::alloc::{AllocError, Global};
 
 // A byte that is no text byte, the first of which stands at `bad`, else too many bytes.
-#[tactic(auto, unfolding(crate::specs::Faults::text_fault))]
+#[tactic(auto, unfolding(crate::specs::Faults::record_text_fault))]
 #[inline(always)]
-fn text_fault(text: &[u8], bad: Option<usize>) -> Option<RecordFault>
+fn record_text_fault(text: &[u8], bad: Option<usize>) -> Option<RecordFault>
     requires { bad ≡ bad_byte_place text.now }
-    ensures { result ≡ text_fault text.now }
+    ensures { result ≡ record_text_fault text.now }
 {
     if let Some(place) = bad {
         return Some(RecordFault::Byte(place));
@@ -88,7 +88,7 @@ fn open_record(
     if let Some(byte) = trailing_byte(field, rest) {
         return Err(RecordFault::UnknownKind(byte));
     }
-    if let Some(fault) = text_fault(text, bad) {
+    if let Some(fault) = record_text_fault(text, bad) {
         return Err(fault);
     }
     Ok((kind, rest))
@@ -129,7 +129,7 @@ fn open_header(text: &[u8], bad: Option<usize>) -> Result<(Delimiters, &[u8]), R
     }
     match read_delimiters(part) {
         Err(fault) => Err(RecordFault::DelimiterPart(fault)),
-        Ok(found) => match text_fault(text, bad) {
+        Ok(found) => match record_text_fault(text, bad) {
             Some(fault) => Err(fault),
             None => Ok(found),
         },

@@ -7,7 +7,7 @@ ghost use Rattle.std.specs.Simd.Lanes.{mask_l};
 ghost use Rattle.lis_field.specs.Shape.{plain_field};
 ghost use Rattle.lis_record.specs.inside.FrontReading.{is_delimiter, parts_behind, parts_of, repeats_of};
 ghost use Rattle.lis_record.specs.inside.Marks.{AreMarks};
-ghost use Rattle.lis_record.specs.Text.{IsText, bad_byte_place, is_text_byte};
+ghost use Rattle.lis_record.specs.Text.{IsRecordText, bad_byte_place, is_text_byte};
 
 use lis_field::Delimiters;
 use lis_text::{ByteSet, first_in};
@@ -102,8 +102,8 @@ pub fn first_bad_byte(bytes: &[u8]) -> Option<usize>
     ensures place { result ≡ bad_byte_place bytes.now }
     ensures bound { IfSome result (λ place. place < length bytes.now) }
     ensures before { IfSome result (λ place. bad_byte_place (take place bytes.now) ≡ None) }
-    ensures texts { IfSome result (λ place. IsText (take place bytes.now)) }
-    ensures text { IfNone result (IsText bytes.now) }
+    ensures texts { IfSome result (λ place. IsRecordText (take place bytes.now)) }
+    ensures text { IfNone result (IsRecordText bytes.now) }
 {
     first_bad(bytes)
 }

@@ -7,7 +7,7 @@ ghost use Rattle.lis_record.specs.Faults.{is_text_component, is_text_field, is_t
 ghost use Rattle.lis_record.specs.Relation.{IsRecord, declared_part};
 ghost use Rattle.lis_field.specs.Shape.{IsRecordShape, first_number};
 ghost use Rattle.lis_record.specs.Spelling.{spelled, spelled_field, written};
-ghost use Rattle.lis_record.specs.Writing.{Sent, Wrote, WroteAny, is_io};
+ghost use Rattle.lis_record.specs.Writing.{SentOn, Wrote, WroteAny, is_io};
 
 use crate::chunk::Chunk;
 use crate::cursor::{Cursor, Spelling};
@@ -29,7 +29,8 @@ pub(crate) fn send<W: Sink, S: Spelling>(
     requires open_sink { W.failed sink.old ≡ false }
     requires within { left ≤ length chunk.old }
     requires filled { length chunk.old ≡ 0 → S.left cursor.old ≡ [] }
-    ensures sent { Sent passed (drop left chunk.old ++ S.left cursor.old) (W.taken sink.old) (W.taken sink.new) result }
+    ensures sent { SentOn passed (drop left chunk.old ++ S.left cursor.old) (W.taken sink.old) (W.taken sink.new)
+        result }
     ensures failed { W.failed sink.new ≡ is_io result }
 {
     let mut left = left;

@@ -11,11 +11,11 @@ use Rattle.lis_tool.specs.declared.report.Report.{Report}
 use Rattle.lis_tool.specs.CaptureRuns.{CaptureRan, LineAnswer}
 use Rattle.lis_tool.specs.LineOutcome.{Writes, capture_outcome, lines_outcome}
 use Rattle.lis_tool.specs.Outcome.{Outcome}
-use Rattle.lis_tool.specs.Runs.{Ran, Wrote}
+use Rattle.lis_tool.specs.Runs.{Ran, WroteOutcome}
 
 module _ (memory : Bool) (w : Writes) (old new : Option (List ℕ)) where
   answer : (refused ended : Bool) (lines : List Line) (result : Result Report ToolFault)
-      → Wrote memory result (lines_outcome w refused ended lines) old new
+      → WroteOutcome memory result (lines_outcome w refused ended lines) old new
       → LineAnswer memory w (record { lines = lines; refused = refused }) ended result old new
   answer true ended lines (Ok report) wrote = absurd (no_report wrote.0)
     where
@@ -77,7 +77,7 @@ capture_ran memory w means is left_old left_new taken_old taken_new ended result
       read = ran.read;
       answer =
           answer memory w taken_old taken_new read.refused ended read.lines result
-          (subst (λ (o : Outcome). Wrote memory result o taken_old taken_new)
+          (subst (λ (o : Outcome). WroteOutcome memory result o taken_old taken_new)
           (is ran.given ended ran.outcome ran.meant) ran.wrote);
     }
 

@@ -4,7 +4,7 @@ use Rattle.std.proofs.Common.{MatchOption}
 use Rattle.std.proofs.lemmas.Grind.{flat_map-append}
 use Rattle.std.proofs.lemmas.List.Elements.{All-contains}
 use Rattle.std.specs.List.{AllByRecursion, flat_map}
-use Rattle.lis_message.specs.Feeding.{ReadsWhole, at_end}
+use Rattle.lis_message.specs.Feeding.{ReadsWhole, answer_at_end}
 use Rattle.lis_message.specs.Stream.{IsCut, IsRefused}
 use Rattle.lis_message.specs.Texts.{FitsInTexts}
 use Rattle.lis_message.specs.Writing.{IsWritable, message_bytes, message_texts_of}
@@ -63,7 +63,7 @@ module _ (stream : List ℕ) (ms : List MessageTree) (cut : IsCut stream ms None
         let left = alone read short.left short.held short.cut in
         absurd (ended short.left short.held left.1 left.2 short.why)
       where
-        ended : (l : Option Begun) (h : List ℕ) → l ≡ None → h ≡ [] → at_end l h ≡ Err fault → ⊥
+        ended : (l : Option Begun) (h : List ℕ) → l ≡ None → h ≡ [] → answer_at_end l h ≡ Err fault → ⊥
         ended None [] e f why = cc
         ended None (b ∷ h) e f why = cc
         ended (Some b) h e f why = cc

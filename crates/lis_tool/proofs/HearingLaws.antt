@@ -17,12 +17,12 @@ use Rattle.lis_tool.specs.declared.playing.Account.{Account}
 use Rattle.lis_tool.specs.declared.playing.Account.TheVariants.{Lines}
 use Rattle.lis_tool.specs.Output.{Gathered, Out, most_counted}
 use Rattle.lis_tool.specs.inside.Playing.{IsHearing, text_part, text_parts}
-use Rattle.lis_tool.specs.Replay.{heard, replies, handed}
+use Rattle.lis_tool.specs.Replay.{having_heard, replies, handed}
 use Rattle.lis_tool.proofs.GatherLaws.{gathered_then, gathered_stops}
 
 -- so many bytes of a list are heard by one step: it gives their replies and texts, and those behind them give the rest
 pub record AtOnce (limit : ℕ) (r : ReceiverState) (bytes : List ℕ) (n : ℕ) (step : ReceiverStep) : Type 0 where
-  pub heard_is : heard limit r bytes ≡ heard limit step.after (drop n bytes)
+  pub heard_is : having_heard limit r bytes ≡ having_heard limit step.after (drop n bytes)
   pub replies_are : replies limit r bytes ≡ option_to_list step.reply ++ replies limit step.after (drop n bytes)
   pub handed_are : handed limit r bytes ≡ option_to_list step.message ++ handed limit step.after (drop n bytes)
 
@@ -44,8 +44,8 @@ heard_at_once limit (b ∷ bytes) r =
         let is = on_byte-quiet limit b r quiet in
         let one : drop (1 + behind.count) (b ∷ bytes) ≡ drop behind.count bytes = one_more behind.count in
         record {
-          heard_is = ap (λ (s : ReceiverStep). heard limit s.after bytes) is ∙ once.heard_is
-              ∙ ap (λ (l : List ℕ). heard limit behind.step.after l) (sym one);
+          heard_is = ap (λ (s : ReceiverStep). having_heard limit s.after bytes) is ∙ once.heard_is
+              ∙ ap (λ (l : List ℕ). having_heard limit behind.step.after l) (sym one);
           replies_are =
               ap (λ (s : ReceiverStep). option_to_list s.reply ++ replies limit s.after bytes) is ∙ once.replies_are
               ∙ ap (λ (l : List ℕ). option_to_list behind.step.reply ++ replies limit behind.step.after l) (sym one);
@@ -69,7 +69,7 @@ pub record IsHearingOn
   pub hearing : IsHearing account limit kept kept_replies kept_texts here here_collected here_count
   pub so_far : List ℕ
   pub put : Gathered a b before (Ok after) so_far
-  pub heard_is : heard limit here rest ≡ heard limit r bytes
+  pub heard_is : having_heard limit here rest ≡ having_heard limit r bytes
   pub replies_are : here_collected ++ replies limit here rest ≡ collected ++ replies limit r bytes
   pub count_is : here_count + length (handed limit here rest) ≡ count + length (handed limit r bytes)
   pub few : here_count + length rest ≤ count + length bytes
@@ -203,7 +203,8 @@ pub all_heard :
     → IsHearingOn account limit number kept kept_replies kept_texts a b before after r collected count rest bytes
     → length rest ≡ 0
     → Gathered a b before (Ok after) (text_parts account number (handed limit r bytes))
-    × IsHearing account limit kept kept_replies kept_texts (heard limit r bytes) (collected ++ replies limit r bytes)
+    × IsHearing account limit kept kept_replies kept_texts (having_heard limit r bytes)
+    (collected ++ replies limit r bytes)
     (count + length (handed limit r bytes))
 all_heard account limit number kept kept_replies kept_texts a b before after r collected count [] bytes at none = (
   subst (λ (t : List ℕ). Gathered a b before (Ok after) t) (sym (append-nil at.so_far) ∙ at.text_is) at.put,

@@ -11,13 +11,13 @@ use Rattle.lis_tree.specs.declared.fault.MessageFault.{MessageFault}
 use Rattle.lis_tree.specs.declared.fault.Reason.TheVariants as reasons
 use Rattle.lis_tree.specs.inside.Begun.{Begun}
 use Rattle.lis_tree.specs.Tree.{MessageTree, flatten}
-use Rattle.lis_message.specs.Feeding.{at_end, Stops}
+use Rattle.lis_message.specs.Feeding.{answer_at_end, StopsReading}
 use Rattle.lis_message.specs.Stream.{IsCut, IsRefused, AreLeft, AreMessage, ended}
 use Rattle.lis_message.specs.inside.Taking.{records_of}
 use Rattle.lis_tool.specs.declared.fault.ToolFault.{ToolFault}
 use Rattle.lis_tool.specs.declared.machine.Halt.{Halt}
 use Rattle.lis_tool.specs.LineOutcome.{LineEnds}
-use Rattle.lis_tool.specs.Messages.{MessageWrites, Comes, messages_text, over, record_count, report_after}
+use Rattle.lis_tool.specs.Messages.{MessageWrites, Comes, messages_text, whole_outcome, record_count, report_after}
 use Rattle.lis_tool.specs.Output.{Gathered, Out}
 use Rattle.lis_tool.specs.inside.Steps.{Halts, IsEarly, Puts, Ends}
 use Rattle.lis_tool.proofs.GatherLaws.{gathered_then}
@@ -94,7 +94,8 @@ cut_few stream messages left held cut =
       length-append (flat_map ended cut.groups) (ended cut.texts),
     ))
 
-pub is_refused : (stream : List ℕ) (messages : List MessageTree) (fault : MessageFault) → Stops stream messages fault
+pub is_refused : (stream : List ℕ) (messages : List MessageTree) (fault : MessageFault)
+    → StopsReading stream messages fault
     → (fault.reason ≡ reasons.OutOfMemory → ⊥) → IsRefused stream messages fault
 is_refused stream messages fault (inl starved) other = absurd (other starved.why)
 is_refused stream messages fault (inr stop) other = stop
@@ -105,7 +106,7 @@ is_refused stream messages fault (inr stop) other = stop
 pub ends_over :
     (w : MessageWrites) (bytes : List ℕ) (at_end' : Bool) (a b c : Out) (before middle : ℕ) (start more : List ℕ)
     (messages : List MessageTree) (fault : Option MessageFault)
-    (result : Result Halt ToolFault) → Comes w bytes at_end' (over w messages fault)
+    (result : Result Halt ToolFault) → Comes w bytes at_end' (whole_outcome w messages fault)
     → start ++ more ≡ messages_text w 0 messages → Gathered a b before (Ok middle) more
     → LineEnds (report_after w messages fault) b c middle (w.last messages fault) result
     → Ends true (Comes w bytes at_end') a c before start result
@@ -114,7 +115,7 @@ ends_over w bytes at_end' a b c before middle start more messages fault (Ok halt
       more = more ++ w.last messages fault;
       put = gathered_then a b c before middle (Ok halt.written) more _ put last;
       behind = rw halt_is (
-        over w messages fault,
+        whole_outcome w messages fault,
         comes,
         refl,
         ap (λ (t : List ℕ). t ++ w.last messages fault) (sym text_is) ∙ append_assoc start more _,
@@ -122,7 +123,7 @@ ends_over w bytes at_end' a b c before middle start more messages fault (Ok halt
     }
 ends_over w bytes at_end' a b c before middle start more messages fault (Err stop) comes text_is put last =
     record {
-      outcome = over w messages fault;
+      outcome = whole_outcome w messages fault;
       meant = comes;
       more = more ++ w.last messages fault;
       rest = [];
@@ -136,7 +137,8 @@ ends_over w bytes at_end' a b c before middle start more messages fault (Err sto
 pub refuses_over :
     (w : MessageWrites) (bytes : List ℕ) (a b c : Out) (before middle : ℕ) (start more : List ℕ)
     (messages : List MessageTree) (fault : MessageFault)
-    (halt : Halt) → Comes w bytes false (over w messages (Some fault)) → start ++ more ≡ messages_text w 0 messages
+    (halt : Halt) → Comes w bytes false (whole_outcome w messages (Some fault))
+    → start ++ more ≡ messages_text w 0 messages
     → Gathered a b before (Ok middle) more
     → LineEnds (report_after w messages (Some fault)) b c middle (w.last messages (Some fault)) (Ok halt)
     → Puts (λ all. Halts true (Comes w bytes false) all halt.result × IsEarly true halt.result) a c before
@@ -147,7 +149,7 @@ refuses_over w bytes a b c before middle start more messages fault halt comes te
       put = gathered_then a b c before middle (Ok halt.written) more _ put last;
       behind = rw halt_is (
         (
-          over w messages (Some fault),
+          whole_outcome w messages (Some fault),
           comes,
           refl,
           ap (λ (t : List ℕ). t ++ w.last messages (Some fault)) (sym text_is) ∙ append_assoc start more _,
@@ -156,7 +158,7 @@ refuses_over w bytes a b c before middle start more messages fault halt comes te
       );
     }
 
-pub nothing_left : (left : Option Begun) (held : List ℕ) → at_end left held ≡ Ok tt → (left ≡ None) × (held ≡ [])
+pub nothing_left : (left : Option Begun) (held : List ℕ) → answer_at_end left held ≡ Ok tt → (left ≡ None) × (held ≡ [])
 nothing_left None [] e = (refl, refl)
 nothing_left None (b ∷ held) e = cc
 nothing_left (Some begun) held e = cc

@@ -8,18 +8,18 @@ use Rattle.std.specs.Io.KnownBytes.{Appends}
 use Rattle.lis_tree.specs.inside.Begun.{Begun}
 use Rattle.lis_tree.specs.declared.fault.MessageFault.{MessageFault}
 use Rattle.lis_tree.specs.Tree.{MessageTree}
-use Rattle.lis_message.specs.Feeding.{at_end}
+use Rattle.lis_message.specs.Feeding.{answer_at_end}
 use Rattle.lis_message.specs.Stream.{IsCut, IsReadFrom}
 use Rattle.lis_message.proofs.EveryStream.{goes_on as reads_more}
 use Rattle.lis_tool.specs.declared.fault.ToolFault.{ToolFault}
 use Rattle.lis_tool.specs.declared.fault.ToolFault.TheVariants.{CaptureLine, Read, Write, OutOfMemory, TooManyReads}
 use Rattle.lis_tool.specs.declared.report.Report.{Report}
 use Rattle.lis_tool.specs.MessageRuns.{MessageAnswer, MessagesRan}
-use Rattle.lis_tool.specs.Messages.{Comes, IsStarved, MessageWrites, Reads, complete, cut_short, goes_on}
-use Rattle.lis_tool.specs.Messages.{messages_text, over, refused, report_after}
+use Rattle.lis_tool.specs.Messages.{Comes, IsStarved, MessageWrites, HasOutcome, complete, cut_short, goes_on}
+use Rattle.lis_tool.specs.Messages.{messages_text, whole_outcome, refused, report_after}
 use Rattle.lis_tool.specs.Outcome.{Outcome, going, whole}
 use Rattle.lis_tool.specs.Output.{WentOut}
-use Rattle.lis_tool.specs.Runs.{Ran, Wrote}
+use Rattle.lis_tool.specs.Runs.{Ran, WroteOutcome}
 use Rattle.lis_tool.proofs.MessageLaws.{cut_whole, messages_text-append, nothing_left}
 
 -- ---- a front of the bytes, and all of them
@@ -27,7 +27,7 @@ use Rattle.lis_tool.proofs.MessageLaws.{cut_whole, messages_text-append, nothing
 -- what all of the bytes come to, where this text is that of a front of them
 pub record ReadsBehind (w : MessageWrites) (bytes : List ℕ) (ended : Bool) (text : List ℕ) : Type 0 where
   pub outcome : Outcome
-  pub reads : Reads w bytes ended outcome
+  pub reads : HasOutcome w bytes ended outcome
   pub rest : List ℕ
   pub text_is : outcome.text ≡ text ++ rest
 
@@ -38,12 +38,12 @@ module _ (w : MessageWrites) (bytes : List ℕ) (messages more : List MessageTre
 
   at_the_end :
       (left : Option Begun) (held : List ℕ) → IsCut bytes (messages ++ more) left held
-      → (r : Result (Unit {0}) MessageFault) → at_end left held ≡ r
+      → (r : Result (Unit {0}) MessageFault) → answer_at_end left held ≡ r
       → ReadsBehind w bytes true (messages_text w 0 messages)
   at_the_end left held cut (Ok done) is =
       let nothing = nothing_left left held is in
       record {
-        outcome = over w (messages ++ more) None;
+        outcome = whole_outcome w (messages ++ more) None;
         reads = complete (messages ++ more) (cut_whole bytes (messages ++ more) left held cut nothing.0 nothing.1)
             refl refl;
         rest = messages_text w (length messages) more;
@@ -51,7 +51,7 @@ module _ (w : MessageWrites) (bytes : List ℕ) (messages more : List MessageTre
       }
   at_the_end left held cut (Err fault) is =
       record {
-        outcome = over w (messages ++ more) (Some fault);
+        outcome = whole_outcome w (messages ++ more) (Some fault);
         reads = cut_short (messages ++ more) fault (record { left = left; held = held; cut = cut; why = is }) refl refl;
         rest = messages_text w (length messages) more;
         text_is = longer;
@@ -59,7 +59,7 @@ module _ (w : MessageWrites) (bytes : List ℕ) (messages more : List MessageTre
 
   cut_behind : (ended : Bool) (left : Option Begun) (held : List ℕ) → IsCut bytes (messages ++ more) left held
       → ReadsBehind w bytes ended (messages_text w 0 messages)
-  cut_behind true left held cut = at_the_end left held cut (at_end left held) refl
+  cut_behind true left held cut = at_the_end left held cut (answer_at_end left held) refl
   cut_behind false left held cut =
       record {
         outcome = going (messages_text w 0 (messages ++ more));
@@ -73,7 +73,7 @@ pub read_behind : (w : MessageWrites) (bytes : List ℕ) (ended : Bool) (message
 read_behind w bytes ended messages (more, inl cut) = cut_behind w bytes messages more ended cut.0 cut.1 cut.2
 read_behind w bytes ended messages (more, inr stop) =
     record {
-      outcome = over w (messages ++ more) (Some stop.0);
+      outcome = whole_outcome w (messages ++ more) (Some stop.0);
       reads = refused (messages ++ more) stop.0 stop.1 refl;
       rest = messages_text w (length messages) more;
       text_is = longer w bytes messages more;
@@ -100,7 +100,8 @@ went_out_longer old new before after count xs ys went =
 -- ---- the answer
 
 module _ (w : MessageWrites) (given : List ℕ) (ended : Bool) (old new : Option (List ℕ)) where
-  of_reads : (o : Outcome) → Reads w given ended o → (result : Result Report ToolFault) → Wrote true result o old new
+  of_reads : (o : Outcome) → HasOutcome w given ended o → (result : Result Report ToolFault)
+      → WroteOutcome true result o old new
       → MessageAnswer w given ended result old new
   of_reads o reads (Ok report) wrote = (o, reads, wrote.0, wrote.1)
   of_reads o reads (Err Read) wrote = (o, reads, wrote.0, wrote.1)
@@ -135,7 +136,8 @@ module _ (w : MessageWrites) (given : List ℕ) (ended : Bool) (old new : Option
       → Some (Err OutOfMemory) ≡ r
   halt_starved o s r is = sym (ap (λ (x : Outcome). x.halt) s.outcome_is) ∙ is
 
-  of_starved : (o : Outcome) → IsStarved w given o → (result : Result Report ToolFault) → Wrote true result o old new
+  of_starved : (o : Outcome) → IsStarved w given o → (result : Result Report ToolFault)
+      → WroteOutcome true result o old new
       → MessageAnswer w given ended result old new
   of_starved o s (Ok report) wrote = absurd (no (halt_starved o s (Some (Ok report)) wrote.0))
     where
@@ -212,7 +214,7 @@ module _ (w : MessageWrites) (few : (messages : List MessageTree) → w.status m
   after_few messages None = few messages
   after_few messages (Some fault) = omega arith
 
-  reads_few : (given : List ℕ) (ended : Bool) (o : Outcome) (report : Report) → Reads w given ended o
+  reads_few : (given : List ℕ) (ended : Bool) (o : Outcome) (report : Report) → HasOutcome w given ended o
       → o.halt ≡ Some (Ok report) → report.status ≤ 1
   reads_few given ended o report (refused messages fault is same) halt =
       subst (λ (r : Report). r.status ≤ 1) (same_report _ report

@@ -26,7 +26,8 @@ use Rattle.lis_tool.specs.Output.{Gathered, Out, most_counted}
 use Rattle.lis_tool.proofs.GatherLaws.{gathered_nothing}
 use Rattle.lis_tool.specs.inside.Playing.{IsHearing, IsPlaying, playing_writes, text_parts}
 use Rattle.lis_tool.specs.Replay.{Played, all_differences, compared_line, count_with, difference_count, differs_at}
-use Rattle.lis_tool.specs.Replay.{handed, heard, played, played_line, replay_line, replay_writes, replies, status_of}
+use Rattle.lis_tool.specs.Replay.{handed, having_heard, played, played_line, replay_line, replay_writes, replies}
+use Rattle.lis_tool.specs.Replay.{status_of}
 use Rattle.lis_tool.specs.Replay.{text_count, texts_at}
 
 by_differs : (t : Bool) (n k : ℕ) → n ≤ k → (if t then n + 1 else n) ≤ k + 1
@@ -72,7 +73,7 @@ pub played_analyzer :
     (account : Account) (limit : ℕ) (old kept : Kept) (old_collected collected : List ℕ)
     (old_count count differences now : ℕ) (lines : List Line) (bytes : List ℕ)
     → IsPlaying account limit old old_collected old_count differences lines → now ≡ differences → length bytes ≤ 2047
-    → IsHearing account limit kept collected count (heard limit (played limit lines).receiver bytes)
+    → IsHearing account limit kept collected count (having_heard limit (played limit lines).receiver bytes)
     ((played limit lines).replies ++ replies limit (played limit lines).receiver bytes)
     (text_count limit lines + length (handed limit (played limit lines).receiver bytes))
     → IsPlaying account limit kept collected count now (FromAnalyzer bytes ∷ lines)

@@ -7,7 +7,7 @@ use Rattle.std.specs.Option.{option_to_list}
 use Rattle.lis_field.specs.declared.kinds.Kind.TheVariants as kinds
 use Rattle.lis_field.specs.Delimiters.{DelimiterBytes}
 use Rattle.lis_field.specs.Shape.{RecordContent}
-use Rattle.lis_message.specs.Feeding.{Stops}
+use Rattle.lis_message.specs.Feeding.{StopsReading}
 use Rattle.lis_message.specs.inside.Kept.{RecordsState}
 use Rattle.lis_message.specs.Records.{HasLeft, ReadsOn, ReadsRecord, Refuses}
 use Rattle.lis_message.specs.Stream.{IsCut, IsReadFrom}
@@ -27,7 +27,7 @@ use Rattle.lis_tool.specs.declared.machine.Turn.{Turn}
 use Rattle.lis_tool.specs.declared.machine.Turn.TheVariants.{On, Off}
 use Rattle.lis_tool.specs.LineOutcome.{LineEnds, LineSteps}
 use Rattle.lis_tool.specs.Messages.{Comes, IsReadingMessages, MessageWrites, RefusesBy, StepsOver, messages_text}
-use Rattle.lis_tool.specs.Messages.{over, record_count, refused, report_after, whole_begun, with_record}
+use Rattle.lis_tool.specs.Messages.{whole_outcome, record_count, refused, report_after, whole_begun, with_record}
 use Rattle.lis_tool.specs.Outcome.{Outcome}
 use Rattle.lis_tool.specs.Output.{Gathered, Out, most_counted}
 use Rattle.lis_tool.specs.inside.Steps.{Halts, IsEarly, Puts, Steps}
@@ -256,13 +256,13 @@ pub refused_why :
     (w : MessageWrites) (stands : List MessageTree → Option Begun → Type 0) (before now : RecordsState) (count : ℕ)
     (past bytes behind text : List ℕ) (fault : MessageFault)
     → (reading : IsReadingMessages w stands before count past text) → Refuses before now reading.left bytes behind fault
-    → Stops (past ++ bytes) reading.messages fault
+    → StopsReading (past ++ bytes) reading.messages fault
 refused_why w stands before now count past bytes behind text fault reading r =
     cut_stops past reading.messages reading.left before.held bytes fault reading.cut r.place r.why
 
 pub stops_part :
     (w : MessageWrites) (stream : List ℕ) (messages : List MessageTree) (fault : MessageFault)
-    → Stops stream messages fault
+    → StopsReading stream messages fault
     → (o : Outcome) × Comes w stream false o × (o.text ≡ messages_text w 0 messages)
 stops_part w stream messages fault (inl starved) = (
   record { text = messages_text w 0 messages; closing = []; halt = Some (Err OutOfMemory) },
@@ -278,13 +278,14 @@ stops_part w stream messages fault (inl starved) = (
   }),
   refl,
 )
-stops_part w stream messages fault (inr is) = (over w messages (Some fault), inl (refused messages fault is refl), refl)
+stops_part w stream messages fault (inr is) =
+    (whole_outcome w messages (Some fault), inl (refused messages fault is refl), refl)
 
 -- memory was refused
 pub starved_by :
     (w : MessageWrites) (stream : List ℕ) (a : Out) (written : ℕ) (text : List ℕ) (messages : List MessageTree)
     (fault : MessageFault)
-    → written ≤ most_counted → text ≡ messages_text w 0 messages → Stops stream messages fault
+    → written ≤ most_counted → text ≡ messages_text w 0 messages → StopsReading stream messages fault
     → RefusesBy w stream a a written text (Ok (record { written = written; result = Err OutOfMemory }))
 starved_by w stream a written text messages fault fits text_is stops =
     let part = stops_part w stream messages fault stops in
@@ -302,7 +303,7 @@ pub refused_by :
     (w : MessageWrites) (stream : List ℕ) (a b : Out) (written : ℕ) (text : List ℕ) (messages : List MessageTree)
     (fault : MessageFault)
     (result : Result Halt ToolFault) → written ≤ most_counted → text ≡ messages_text w 0 messages
-    → Stops stream messages fault
+    → StopsReading stream messages fault
     → (fault.reason ≡ reasons.OutOfMemory → ⊥)
     → LineEnds (report_after w messages (Some fault)) a b written (w.last messages (Some fault)) result
     → RefusesBy w stream a b written text result

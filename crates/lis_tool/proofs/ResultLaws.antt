@@ -10,18 +10,18 @@ use Rattle.lis_message.specs.inside.Taking.{ComesNext, header, inner}
 use Rattle.lis_record.specs.Lent.{Lent}
 use Rattle.lis_tree.specs.inside.Begun.{Begun}
 use Rattle.lis_tool.specs.Messages.{with_record}
-use Rattle.lis_tool.specs.Results.{IsTelling, field_text, fields_behind, told_fields, line_of, result_lines}
+use Rattle.lis_tool.specs.Results.{IsTelling, field_text, fields_behind, told_fields, result_line_of, result_lines}
 use Rattle.lis_tool.specs.Results.{sample_after, sample_behind}
 
 result_lines-more : (d : DelimiterBytes) (sample : Option Repeats) (records : List RecordContent) (r : RecordContent)
     → result_lines d sample (records ++ r ∷ []) ≡ result_lines d sample records
-    ++ line_of d (sample_behind sample records) r r.kind
-result_lines-more d sample [] r = append-nil (line_of d sample r r.kind)
+    ++ result_line_of d (sample_behind sample records) r r.kind
+result_lines-more d sample [] r = append-nil (result_line_of d sample r r.kind)
 result_lines-more d sample (x ∷ records) r =
     let next = sample_after sample x x.kind in
-    ap (λ (l : List ℕ). line_of d sample x x.kind ++ l) (result_lines-more d next records r)
-    ∙ sym (append_assoc (line_of d sample x x.kind) (result_lines d next records)
-    (line_of d (sample_behind next records) r r.kind))
+    ap (λ (l : List ℕ). result_line_of d sample x x.kind ++ l) (result_lines-more d next records r)
+    ∙ sym (append_assoc (result_line_of d sample x x.kind) (result_lines d next records)
+    (result_line_of d (sample_behind next records) r r.kind))
 
 sample_behind-more : (sample : Option Repeats) (records : List RecordContent) (r : RecordContent)
     → sample_behind sample (records ++ r ∷ []) ≡ sample_after (sample_behind sample records) r r.kind
@@ -31,7 +31,7 @@ sample_behind-more sample (x ∷ records) r = sample_behind-more (sample_after s
 -- what one record adds, where its delimiters are these
 record Adds (d : DelimiterBytes) (r : RecordContent) (lines sample lines' sample' : List ℕ)
     (named : Option Repeats) : Type 0 where
-  line : lines' ≡ lines ++ line_of d named r r.kind
+  line : lines' ≡ lines ++ result_line_of d named r r.kind
   sample_is : sample' ≡ field_text d (sample_after named r r.kind)
 
 telling_by :
@@ -39,7 +39,7 @@ telling_by :
     → lines ≡ result_lines d None records → Adds d r lines sample lines' sample' (sample_behind None records)
     → IsTelling lines' sample' (Some (record { delimiters = d; records = records ++ r ∷ [] }))
 telling_by d records r lines sample lines' sample' lines_are adds = (
-  adds.line ∙ ap (λ (l : List ℕ). l ++ line_of d (sample_behind None records) r r.kind) lines_are
+  adds.line ∙ ap (λ (l : List ℕ). l ++ result_line_of d (sample_behind None records) r r.kind) lines_are
       ∙ sym (result_lines-more d None records r),
   adds.sample_is ∙ ap (field_text d) (sym (sample_behind-more None records r)),
 )
@@ -48,7 +48,7 @@ pub telling_on :
     (left : Option Begun) (text : List ℕ) (entry : Lent RecordContent) (lines sample lines' sample' : List ℕ)
     → IsTelling lines sample left → ComesNext left text entry
     → ((named : Option Repeats) → sample ≡ field_text entry.delimiters named
-    → (lines' ≡ lines ++ line_of entry.delimiters named entry.content entry.content.kind)
+    → (lines' ≡ lines ++ result_line_of entry.delimiters named entry.content entry.content.kind)
     × (sample' ≡ field_text entry.delimiters (sample_after named entry.content entry.content.kind)))
     → IsTelling lines' sample' (with_record left entry)
 telling_on None text entry lines sample lines' sample' is comes adds =
@@ -71,7 +71,7 @@ telling_on (Some begun) text entry lines sample lines' sample' is (inner b l d r
 -- a record that is neither an order nor a result
 pub other_line : (d : DelimiterBytes) (named : Option Repeats) (r : RecordContent) (kind : Kind) (lines sample : List ℕ)
     → (kind ≡ kinds.O → ⊥) → (kind ≡ kinds.R → ⊥) → sample ≡ field_text d named
-    → (lines ≡ lines ++ line_of d named r kind) × (sample ≡ field_text d (sample_after named r kind))
+    → (lines ≡ lines ++ result_line_of d named r kind) × (sample ≡ field_text d (sample_after named r kind))
 other_line d named r kinds.O lines sample order result is = absurd (order refl)
 other_line d named r kinds.R lines sample order result is = absurd (result refl)
 other_line d named r k lines sample order result is = (sym (append-nil lines), is)
@@ -79,19 +79,21 @@ other_line d named r k lines sample order result is = (sym (append-nil lines), i
 -- an order
 pub order_line : (d : DelimiterBytes) (named : Option Repeats) (r : RecordContent) (kind : Kind) (lines sample : List ℕ)
     → kind ≡ kinds.O → sample ≡ field_text d (sample_after named r kinds.O)
-    → (lines ≡ lines ++ line_of d named r kind) × (sample ≡ field_text d (sample_after named r kind))
+    → (lines ≡ lines ++ result_line_of d named r kind) × (sample ≡ field_text d (sample_after named r kind))
 order_line d named r kind lines sample is told =
-    subst (λ (k : Kind). (lines ≡ lines ++ line_of d named r k) × (sample ≡ field_text d (sample_after named r k)))
+    subst
+    (λ (k : Kind). (lines ≡ lines ++ result_line_of d named r k) × (sample ≡ field_text d (sample_after named r k)))
     (sym is)
     (sym (append-nil lines), told)
 
 -- a result
 pub result_added : (d : DelimiterBytes) (named : Option Repeats) (r : RecordContent) (kind : Kind)
     (lines lines' sample : List ℕ)
-    → kind ≡ kinds.R → lines' ≡ lines ++ line_of d named r kinds.R → sample ≡ field_text d named
-    → (lines' ≡ lines ++ line_of d named r kind) × (sample ≡ field_text d (sample_after named r kind))
+    → kind ≡ kinds.R → lines' ≡ lines ++ result_line_of d named r kinds.R → sample ≡ field_text d named
+    → (lines' ≡ lines ++ result_line_of d named r kind) × (sample ≡ field_text d (sample_after named r kind))
 result_added d named r kind lines lines' sample is line told =
-    subst (λ (k : Kind). (lines' ≡ lines ++ line_of d named r k) × (sample ≡ field_text d (sample_after named r k)))
+    subst
+    (λ (k : Kind). (lines' ≡ lines ++ result_line_of d named r k) × (sample ≡ field_text d (sample_after named r k)))
     (sym is)
     (line, told)
 

@@ -14,7 +14,7 @@ use Rattle.lis_tool.specs.declared.report.Report.{Report}
 use Rattle.lis_tool.specs.declared.machine.Halt.{Halt}
 use Rattle.lis_tool.specs.Outcome.{Outcome, whole, going}
 use Rattle.lis_tool.specs.Output.{Gathered, Out, PartWentOut, Put, WentOut, out}
-use Rattle.lis_tool.specs.Runs.{IsOver, Wrote, Ran, StopsBy}
+use Rattle.lis_tool.specs.Runs.{IsOver, WroteOutcome, Ran, StopsBy}
 use Rattle.lis_tool.specs.inside.Steps.{Halts, Fails, Puts, IsEarly, IsTold}
 use Rattle.lis_tool.proofs.GatherLaws.{gathered_sent, gathered_settled, gathered_then}
 use Rattle.lis_tool.proofs.PutLaws.{part_then, put_stops}
@@ -59,7 +59,7 @@ pub record Told (memory : Bool) (means : List ℕ → Bool → Outcome → Type 
     (a b : Option (List ℕ)) (result : Result Report ToolFault) : Type 0 where
   pub outcome : Outcome
   pub meant : means given ended outcome
-  pub wrote : Wrote memory result outcome a b
+  pub wrote : WroteOutcome memory result outcome a b
 
 module _ (memory : Bool) (means : List ℕ → Bool → Outcome → Type 0) (given : List ℕ) (ended : Bool)
     (a : Option (List ℕ)) where

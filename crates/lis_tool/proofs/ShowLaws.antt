@@ -13,7 +13,7 @@ use Rattle.lis_tool.specs.declared.fault.ToolFault.TheVariants.{CaptureLine, Rea
 use Rattle.lis_tool.specs.declared.report.Report.{Report}
 use Rattle.lis_tool.specs.Outcome.{Outcome, at_end, whole}
 use Rattle.lis_tool.specs.Output.{WentOut}
-use Rattle.lis_tool.specs.Runs.{Ran, Shown, Wrote, WroteText}
+use Rattle.lis_tool.specs.Runs.{Ran, Shown, WroteOutcome, WroteText}
 use Rattle.lis_tool.specs.Show.{Shows, clean, frame_line, lent_line, show, signal_line, signal_lines}
 use Rattle.lis_link.proofs.HearingLaws.{stream_with-append}
 
@@ -90,7 +90,7 @@ shown_ran limit left_old left_new taken_old taken_new ended result ran =
     whole_is : whole ran.outcome ≡ show limit ran.given
     whole_is = ap whole ran.meant ∙ append-nil (show limit ran.given)
 
-    text_of : (r : Result Report ToolFault) → Wrote false r ran.outcome taken_old taken_new
+    text_of : (r : Result Report ToolFault) → WroteOutcome false r ran.outcome taken_old taken_new
         → WroteText taken_old taken_new r (show limit ran.given)
     text_of (Ok report) wrote = subst (λ (t : List ℕ). Appends taken_old taken_new t) whole_is wrote.1
     text_of (Err Read) wrote = subst (λ (t : List ℕ). Appends taken_old taken_new t) text_is wrote.1

@@ -5,7 +5,7 @@ use Rattle.std.specs.Io.KnownBytes.{Appends, Consumes}
 use Rattle.lis_tool.specs.declared.fault.ToolFault.{ToolFault}
 use Rattle.lis_tool.specs.declared.fault.ToolFault.TheVariants.{CaptureLine, Read, Write, OutOfMemory, TooManyReads}
 use Rattle.lis_tool.specs.declared.report.Report.{Report}
-use Rattle.lis_tool.specs.Messages.{MessageWrites, Reads}
+use Rattle.lis_tool.specs.Messages.{MessageWrites, HasOutcome}
 use Rattle.lis_tool.specs.Outcome.{Outcome, whole}
 use Rattle.lis_tool.specs.Output.{WentOut}
 
@@ -15,15 +15,16 @@ use Rattle.lis_tool.specs.Output.{WentOut}
 abbrev pub MessageAnswer : MessageWrites → List ℕ → (ended : Bool) → Result Report ToolFault
     → (old new : Option (List ℕ)) → Type 0
 MessageAnswer w given ended (Ok report) old new =
-    (o : Outcome) × Reads w given ended o × (o.halt ≡ Some (Ok report)) × Appends old new (whole o)
+    (o : Outcome) × HasOutcome w given ended o × (o.halt ≡ Some (Ok report)) × Appends old new (whole o)
 MessageAnswer w given ended (Err Read) old new =
-    (o : Outcome) × Reads w given ended o × (o.halt ≡ None) × Appends old new o.text
+    (o : Outcome) × HasOutcome w given ended o × (o.halt ≡ None) × Appends old new o.text
 MessageAnswer w given ended (Err TooManyReads) old new =
-    (o : Outcome) × Reads w given ended o × (o.halt ≡ None) × Appends old new o.text
+    (o : Outcome) × HasOutcome w given ended o × (o.halt ≡ None) × Appends old new o.text
 MessageAnswer w given ended (Err (Write written)) old new =
-    (o : Outcome) × Reads w given ended o × (count : ℕ) × WentOut old new 0 written (whole o) count
+    (o : Outcome) × HasOutcome w given ended o × (count : ℕ) × WentOut old new 0 written (whole o) count
 MessageAnswer w given ended (Err OutOfMemory) old new =
-    (o : Outcome) × Reads w given ended o × (count : ℕ) × (count ≤ length o.text) × Appends old new (take count o.text)
+    (o : Outcome) × HasOutcome w given ended o × (count : ℕ) × (count ≤ length o.text)
+    × Appends old new (take count o.text)
 MessageAnswer w given ended (Err (CaptureLine line)) old new = ⊥
 
 -- all the bytes that were read, and the answer by their messages

@@ -42,8 +42,8 @@ report_after w messages (Some fault) =
 report_after w messages None = record { status = w.status messages; refused = None }
 
 -- these messages are all that is read
-abbrev pub over : MessageWrites → List MessageTree → Option MessageFault → Outcome
-over w messages fault =
+abbrev pub whole_outcome : MessageWrites → List MessageTree → Option MessageFault → Outcome
+whole_outcome w messages fault =
     record {
       text = messages_text w 0 messages;
       closing = w.last messages fault;
@@ -53,16 +53,16 @@ over w messages fault =
 
 -- What bytes come to. A record of them is refused, behind whole messages. Or they are whole messages and a part of
 -- one: that goes on, and is refused where the input ends. Or they are whole messages, and the input ends.
-pub data Reads (w : MessageWrites) (bytes : List ℕ) (ended : Bool) (outcome : Outcome) : Type 0 where
+pub data HasOutcome (w : MessageWrites) (bytes : List ℕ) (ended : Bool) (outcome : Outcome) : Type 0 where
   refused : (messages : List MessageTree) (fault : MessageFault) → IsRefused bytes messages fault
-      → outcome ≡ over w messages (Some fault) → Reads w bytes ended outcome
+      → outcome ≡ whole_outcome w messages (Some fault) → HasOutcome w bytes ended outcome
   goes_on : (messages : List MessageTree) (left : Option Begun) (held : List ℕ) → IsCut bytes messages left held
       → ended ≡ false
-      → outcome ≡ going (messages_text w 0 messages) → Reads w bytes ended outcome
+      → outcome ≡ going (messages_text w 0 messages) → HasOutcome w bytes ended outcome
   cut_short : (messages : List MessageTree) (fault : MessageFault) → IsCutShort bytes messages fault → ended ≡ true
-      → outcome ≡ over w messages (Some fault) → Reads w bytes ended outcome
+      → outcome ≡ whole_outcome w messages (Some fault) → HasOutcome w bytes ended outcome
   complete : (messages : List MessageTree) → IsCut bytes messages None [] → ended ≡ true
-      → outcome ≡ over w messages None → Reads w bytes ended outcome
+      → outcome ≡ whole_outcome w messages None → HasOutcome w bytes ended outcome
 
 -- ---- while it runs
 
@@ -84,7 +84,7 @@ pub record IsStarved (w : MessageWrites) (bytes : List ℕ) (outcome : Outcome) 
 
 -- what a run comes to
 abbrev pub Comes : MessageWrites → List ℕ → Bool → Outcome → Type 0
-Comes w bytes ended outcome = Reads w bytes ended outcome ⊎ IsStarved w bytes outcome
+Comes w bytes ended outcome = HasOutcome w bytes ended outcome ⊎ IsStarved w bytes outcome
 
 -- it has read these bytes, no record of them is refused, and this is the text for their messages
 pub record IsReadingMessages

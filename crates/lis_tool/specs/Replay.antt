@@ -21,9 +21,9 @@ use Rattle.lis_tool.specs.Show.{clean}
 -- ---- the receiver
 
 -- the receiver after bytes, its replies to them, and the texts that it hands out
-abbrev pub heard : ℕ → ReceiverState → List ℕ → ReceiverState
-heard limit r [] = r
-heard limit r (b ∷ bytes) = heard limit (on_byte limit b r).after bytes
+abbrev pub having_heard : ℕ → ReceiverState → List ℕ → ReceiverState
+having_heard limit r [] = r
+having_heard limit r (b ∷ bytes) = having_heard limit (on_byte limit b r).after bytes
 
 abbrev pub replies : ℕ → ReceiverState → List ℕ → List ℕ
 replies limit r [] = []
@@ -41,7 +41,7 @@ pub record Played : Type 0 where
 -- a line of the analyzer's bytes is heard; one of the computer's ends the replies that it is compared with
 abbrev pub played_line : ℕ → Line → Played → Played
 played_line limit (FromAnalyzer bytes) p =
-    record { receiver = heard limit p.receiver bytes; replies = p.replies ++ replies limit p.receiver bytes }
+    record { receiver = having_heard limit p.receiver bytes; replies = p.replies ++ replies limit p.receiver bytes }
 played_line limit (FromComputer bytes) p = record p { replies = [] }
 played_line limit Timer p = record p { receiver = (on_receiver_timer p.receiver).after }
 played_line limit Restart p = record p { receiver = receiver_restarted p.receiver }

@@ -33,14 +33,15 @@ sample_after sample r kinds.O = field_at r 3
 sample_after sample r kind = sample
 
 -- a result has a line, and no other record has
-abbrev pub line_of : DelimiterBytes → Option Repeats → RecordContent → Kind → List ℕ
-line_of d sample r kinds.R = result_line d sample r
-line_of d sample r kind = []
+abbrev pub result_line_of : DelimiterBytes → Option Repeats → RecordContent → Kind → List ℕ
+result_line_of d sample r kinds.R = result_line d sample r
+result_line_of d sample r kind = []
 
 -- the lines of records behind an order with this sample
 abbrev pub result_lines : DelimiterBytes → Option Repeats → List RecordContent → List ℕ
 result_lines d sample [] = []
-result_lines d sample (r ∷ records) = line_of d sample r r.kind ++ result_lines d (sample_after sample r r.kind) records
+result_lines d sample (r ∷ records) =
+    result_line_of d sample r r.kind ++ result_lines d (sample_after sample r r.kind) records
 
 -- nothing is written behind the messages; the status is 1 only where a record is refused
 abbrev pub results_writes : MessageWrites

@@ -19,15 +19,15 @@ pub record IsFresh (made : ℕ) (ended source_failed sink_failed : Bool) : Type 
 -- what went out of an outcome's text: with a report all of it; where a line is refused, or the source failed or was
 -- read too often, all but the closing lines; where the sink failed as much as is told; and where memory was refused a
 -- part without the closing lines
-abbrev pub Wrote : (takes_memory : Bool) → Result Report ToolFault → Outcome → Option (List ℕ) → Option (List ℕ)
+abbrev pub WroteOutcome : (takes_memory : Bool) → Result Report ToolFault → Outcome → Option (List ℕ) → Option (List ℕ)
     → Type 0
-Wrote takes_memory (Ok report) o old new = (o.halt ≡ Some (Ok report)) × Appends old new (whole o)
-Wrote takes_memory (Err (CaptureLine line)) o old new =
+WroteOutcome takes_memory (Ok report) o old new = (o.halt ≡ Some (Ok report)) × Appends old new (whole o)
+WroteOutcome takes_memory (Err (CaptureLine line)) o old new =
     (o.halt ≡ Some (Err (CaptureLine line))) × Appends old new o.text
-Wrote takes_memory (Err Read) o old new = (o.halt ≡ None) × Appends old new o.text
-Wrote takes_memory (Err TooManyReads) o old new = (o.halt ≡ None) × Appends old new o.text
-Wrote takes_memory (Err (Write written)) o old new = (count : ℕ) × WentOut old new 0 written (whole o) count
-Wrote takes_memory (Err OutOfMemory) o old new =
+WroteOutcome takes_memory (Err Read) o old new = (o.halt ≡ None) × Appends old new o.text
+WroteOutcome takes_memory (Err TooManyReads) o old new = (o.halt ≡ None) × Appends old new o.text
+WroteOutcome takes_memory (Err (Write written)) o old new = (count : ℕ) × WentOut old new 0 written (whole o) count
+WroteOutcome takes_memory (Err OutOfMemory) o old new =
     (takes_memory ≡ true) × (count : ℕ) × (count ≤ length o.text) × Appends old new (take count o.text)
 
 -- all the bytes that were read, what they come to, and what went out
@@ -39,7 +39,7 @@ pub record Ran
   pub read : Consumes left_old left_new given
   pub outcome : Outcome
   pub meant : means given ended outcome
-  pub wrote : Wrote takes_memory result outcome taken_old taken_new
+  pub wrote : WroteOutcome takes_memory result outcome taken_old taken_new
 
 -- A report is answered where the source told the end. A command that may refuse a record answers before that too, but
 -- only where it did.

@@ -16,7 +16,7 @@ use crate::held_text::HeldText;
 use crate::machine::{Halt, run};
 use crate::messages::{MessageMachine, Messages};
 use crate::parts::{Part, gather_parts};
-use crate::report::{Report, reason_code};
+use crate::report::{Report, printed_reason};
 use lis_capture::Page;
 use lis_field::Kind;
 use lis_message::{LentRecord, MessageFault};
@@ -297,7 +297,7 @@ fn gather_refusal<W: Sink>(
         Part::Text(b" "),
         Part::Number(fault.place),
         Part::Text(b" "),
-        Part::Text(reason_code(fault.reason).as_bytes()),
+        Part::Text(printed_reason(fault.reason).as_bytes()),
         Part::Text(b"\n"),
     ];
     gather_parts(sink, page, written, &parts)

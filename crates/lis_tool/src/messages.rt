@@ -3,7 +3,7 @@
 ghost use Rattle.std.specs.Prelude.{◌≡◌, ◌+◌, ◌^◌, ◌<◌, ◌++◌, ◌∷◌, [], ℕ, List, None, Some, Option, IfNone, IfSome};
 ghost use Rattle.std.specs.Prelude.{OnOk, false, true, is_err, length, Ok};
 ghost use Rattle.std.specs.Option.{option_to_list};
-ghost use Rattle.lis_message.specs.Feeding.{Stops};
+ghost use Rattle.lis_message.specs.Feeding.{StopsReading};
 ghost use Rattle.lis_message.specs.inside.Taking.{ComesNext, Completes, left_after, records_of};
 ghost use Rattle.lis_tool.specs.LineOutcome.{LineEnds, LineSteps};
 ghost use Rattle.lis_tool.specs.Messages.{Comes, IsReadingMessages, IsShorter, MessageWrites, RefusesBy, StepsOver};
@@ -134,7 +134,7 @@ impl<C: MessageMachine> Counted<C> {
         ensures refuses { (messages : List MessageTree) (left : Option Begun) (bytes text : List ℕ)
             → C.stands self.now.command messages left →
             self.now.count ≡ length messages → length messages < 2 ^ 44 → text ≡ messages_text C.writes 0 messages
-            → Stops bytes messages fault →
+            → StopsReading bytes messages fault →
             RefusesBy C.writes bytes (out (W.taken sink.old) page.old) (out (W.taken sink.new) page.new) written text
             result }
         ensures failed { W.failed sink.new ≡ is_err result }

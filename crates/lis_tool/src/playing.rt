@@ -13,7 +13,7 @@ ghost use Rattle.lis_tool.specs.declared.playing.Account.TheVariants as accounts
 ghost use Rattle.lis_tool.specs.LineOutcome.{LineEnds, LineSteps};
 ghost use Rattle.lis_tool.specs.Output.{Gathered, out};
 ghost use Rattle.lis_tool.specs.inside.Playing.{IsHearing, IsPlaying, Took, playing_writes, text_parts};
-ghost use Rattle.lis_tool.specs.Replay.{handed, heard, replay_writes, replies, status_of};
+ghost use Rattle.lis_tool.specs.Replay.{handed, having_heard, replay_writes, replies, status_of};
 
 use crate::fault::ToolFault;
 use crate::gather::gather;
@@ -112,7 +112,7 @@ impl<const N: usize, T: Teller> Playing<N, T> {
             → count + length bytes.now ≤ 2 ^ 63 →
             LineSteps true
             (IsHearing T.account N self.new.receiver self.new.replies.items self.new.texts
-            (heard N r bytes.now) (collected ++ replies N r bytes.now) (count + length (handed N r bytes.now)))
+            (having_heard N r bytes.now) (collected ++ replies N r bytes.now) (count + length (handed N r bytes.now)))
             (out (W.taken sink.old) page.old) (out (W.taken sink.new) page.new) written
             (text_parts T.account number (handed N r bytes.now)) result }
         ensures differences { self.new.differences ≡ self.old.differences }

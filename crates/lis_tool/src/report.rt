@@ -1,7 +1,7 @@
 //! How a run ended.
 
 ghost use Rattle.std.specs.Prelude.{◌≡◌, ◌+◌, ◌^◌, ◌<◌, Some};
-ghost use Rattle.lis_tool.specs.Codes.{reason_code};
+ghost use Rattle.lis_tool.specs.Codes.{printed_reason};
 
 use lis_message::{MessageFault, Reason, RecordFault};
 use std::fmt;
@@ -17,7 +17,7 @@ pub struct Refused {
 
 impl fmt::Display for Refused {
     fn fmt<W: fmt::Write>(&self, f: &mut fmt::Formatter<W>) -> fmt::Result {
-        let code = reason_code(self.fault.reason);
+        let code = printed_reason(self.fault.reason);
         write!(f, "refused {} {} {}", self.message, self.fault.place, code)
     }
 }
@@ -49,11 +49,11 @@ impl Report {
 }
 
 /// The code of a reason, as it is printed.
-pub(crate) fn reason_code(reason: Reason) -> &'static str
-    ensures { result.now ≡ reason_code reason }
+pub(crate) fn printed_reason(reason: Reason) -> &'static str
+    ensures { result.now ≡ printed_reason reason }
 {
     match reason {
-        Reason::BadRecord(fault) => record_code(fault),
+        Reason::BadRecord(fault) => printed_record_fault(fault),
         Reason::NotHeader => "G2",
         Reason::NoParent(_) => "G3",
         Reason::SecondHeader => "G4",
@@ -64,8 +64,8 @@ pub(crate) fn reason_code(reason: Reason) -> &'static str
 }
 
 /// The code of a text that is no record.
-fn record_code(fault: RecordFault) -> &'static str
-    ensures { result.now ≡ reason_code (Reason.BadRecord fault) }
+fn printed_record_fault(fault: RecordFault) -> &'static str
+    ensures { result.now ≡ printed_reason (Reason.BadRecord fault) }
 {
     match fault {
         RecordFault::Empty => "G1 C1",

@@ -7,7 +7,7 @@ use Rattle.lis_link.specs.declared.receiver.Note.{Note}
 use Rattle.lis_link.specs.declared.receiver.Note.TheVariants as Notes
 use Rattle.lis_link.specs.declared.receiver.Step.{Step}
 use Rattle.lis_link.specs.inside.Kept.{Kept}
-use Rattle.lis_link.specs.inside.Stands.{IsIn, IsRefused, Makes}
+use Rattle.lis_link.specs.inside.Stands.{IsIn, RefusesFrame, Makes}
 use Rattle.lis_link.specs.Receiver.{ReceiverState, on_byte, on_receiver_timer}
 use Rattle.uses.specs.Computer.{Answers, IsReception, WasReception, closed, whole, goes_on, given_up, made, refused}
 use Rattle.uses.specs.Computer.{deeds_at, reply_deeds, timer_behind}
@@ -24,7 +24,7 @@ wants_memory note = inr (λ e. cc)
 -- the answer to a byte, and to the timer
 pub answers_byte : (byte spare : ℕ) (r : ReceiverState) (answer : Step) (new : Kept)
     → (answer.note ≢ Notes.OutOfMemory → Makes 240 (on_byte 240 byte r) answer new)
-    → (answer.note ≡ Notes.OutOfMemory → IsRefused 240 spare (on_byte 240 byte r)
+    → (answer.note ≡ Notes.OutOfMemory → RefusesFrame 240 spare (on_byte 240 byte r)
     (record r { past = byte ∷ r.past }) answer new)
     → Answers (Byte byte) r answer new
 answers_byte byte spare r answer new makes refuses = elim (wants_memory answer.note) [

@@ -5,7 +5,7 @@ use Rattle.lis_text.specs.Control.{ENQ}
 use Rattle.lis_link.specs.declared.sender.Outcome.{Outcome}
 use Rattle.lis_link.specs.Sender.{SenderState, started}
 use Rattle.uses.specs.Analyzer.{IsSession, MeansNothing, WasSession, closed, over, quiet, answered, given_up, put_out}
-use Rattle.uses.specs.Analyzer.{seconds_in, step_at}
+use Rattle.uses.specs.Analyzer.{seconds_in, sender_step_at}
 use Rattle.uses.specs.Line.{Deed, GoesOn, most_events, sent, timed, waited}
 use Rattle.uses.specs.declared.line.Event.{Event}
 use Rattle.uses.specs.declared.line.Event.TheVariants.{Closed}
@@ -51,22 +51,23 @@ was_closed texts past now last turn s so_far more behind =
 pub was_over : (texts : List (List ℕ)) (past now mid last : Option (List Deed)) (turn : ℕ) (s : SenderState)
     (event : Event)
     → IsSoFar texts past now turn s → turn < most_events → event ≢ Closed → GoesOn now mid (waited event ∷ [])
-    → GoesOn mid last (put_out (step_at event s).emit) → seconds_in (step_at event s).after.phase ≡ None
-    → WasSession texts past last (step_at event s).after.outcome
+    → GoesOn mid last (put_out (sender_step_at event s).emit) → seconds_in (sender_step_at event s).after.phase ≡ None
+    → WasSession texts past last (sender_step_at event s).after.outcome
 was_over texts past now mid last turn s event so_far more still waits puts none =
-    ended texts past now last turn (most_events - turn) s (waited event ∷ put_out (step_at event s).emit)
-    (step_at event s).after.outcome
+    ended texts past now last turn (most_events - turn) s (waited event ∷ put_out (sender_step_at event s).emit)
+    (sender_step_at event s).after.outcome
     so_far (omega (arith, more)) (goes_on_then now mid last (waited event ∷ [])
-    (put_out (step_at event s).emit) waits puts)
+    (put_out (sender_step_at event s).emit) waits puts)
     (over (most_events - turn - 1) event (omega (arith, more)) still none refl refl)
 
 -- it goes on behind an event that means nothing, and behind any other
 pub goes_on_quiet : (texts : List (List ℕ)) (past now mid last : Option (List Deed)) (turn : ℕ) (s : SenderState)
     (event : Event) (seconds : ℕ)
     → IsSoFar texts past now turn s → event ≢ Closed → GoesOn now mid (waited event ∷ [])
-    → GoesOn mid last (put_out (step_at event s).emit) → seconds_in (step_at event s).after.phase ≡ Some seconds
-    → MeansNothing s.phase (step_at event s)
-    → IsSoFar texts past last (turn + 1) (step_at event s).after
+    → GoesOn mid last (put_out (sender_step_at event s).emit)
+    → seconds_in (sender_step_at event s).after.phase ≡ Some seconds
+    → MeansNothing s.phase (sender_step_at event s)
+    → IsSoFar texts past last (turn + 1) (sender_step_at event s).after
 goes_on_quiet texts past now mid last turn s event seconds so_far still waits puts some nothing = record {
   deeds = so_far.deeds ++ waited event ∷ [];
   done = goes_on_then past now last (sent (ENQ ∷ []) ∷ timed 15 ∷ so_far.deeds) (waited event ∷ []) so_far.done
@@ -79,11 +80,11 @@ goes_on_quiet texts past now mid last turn s event seconds so_far still waits pu
 pub goes_on_answered : (texts : List (List ℕ)) (past now mid sent_on last : Option (List Deed)) (turn : ℕ)
     (s : SenderState) (event : Event) (seconds : ℕ)
     → IsSoFar texts past now turn s → event ≢ Closed → GoesOn now mid (waited event ∷ [])
-    → GoesOn mid sent_on (put_out (step_at event s).emit) → GoesOn sent_on last (timed seconds ∷ [])
-    → seconds_in (step_at event s).after.phase ≡ Some seconds → ¬ (MeansNothing s.phase (step_at event s))
-    → IsSoFar texts past last (turn + 1) (step_at event s).after
+    → GoesOn mid sent_on (put_out (sender_step_at event s).emit) → GoesOn sent_on last (timed seconds ∷ [])
+    → seconds_in (sender_step_at event s).after.phase ≡ Some seconds → ¬ (MeansNothing s.phase (sender_step_at event s))
+    → IsSoFar texts past last (turn + 1) (sender_step_at event s).after
 goes_on_answered texts past now mid sent_on last turn s event seconds so_far still waits puts timing some means =
-    let emitted = put_out (step_at event s).emit in
+    let emitted = put_out (sender_step_at event s).emit in
     let answer = waited event ∷ emitted ++ timed seconds ∷ [] in
     record {
       deeds = so_far.deeds ++ answer;

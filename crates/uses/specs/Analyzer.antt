@@ -30,10 +30,10 @@ put_out emits.Nak = sent (NAK ∷ []) ∷ []
 put_out (emits.Frame frame) = sent (frame_bytes frame) ∷ []
 
 -- the sender's step at an event
-abbrev pub step_at : Event → SenderState → SenderStep 240
-step_at (Byte byte) s = on_reply byte s
-step_at Timer s = on_sender_timer s
-step_at Closed s = gives emits.Nothing s
+abbrev pub sender_step_at : Event → SenderState → SenderStep 240
+sender_step_at (Byte byte) s = on_reply byte s
+sender_step_at Timer s = on_sender_timer s
+sender_step_at Closed s = gives emits.Nothing s
 
 -- the event means nothing in this phase: nothing is emitted, and the phase stays
 abbrev pub MeansNothing : Phase → SenderStep 240 → Type 0
@@ -46,20 +46,20 @@ pub data IsSession : ℕ → SenderState → List Deed → Option Outcome → Ty
   closed : {left : ℕ} {s : SenderState} {deeds : List Deed} {outcome : Option Outcome} (more : ℕ)
       → left ≡ more + 1 → deeds ≡ waited Closed ∷ [] → outcome ≡ None → IsSession left s deeds outcome
   over : {left : ℕ} {s : SenderState} {deeds : List Deed} {outcome : Option Outcome} (more : ℕ) (event : Event)
-      → left ≡ more + 1 → event ≢ Closed → seconds_in (step_at event s).after.phase ≡ None
-      → deeds ≡ waited event ∷ put_out (step_at event s).emit → outcome ≡ (step_at event s).after.outcome
+      → left ≡ more + 1 → event ≢ Closed → seconds_in (sender_step_at event s).after.phase ≡ None
+      → deeds ≡ waited event ∷ put_out (sender_step_at event s).emit → outcome ≡ (sender_step_at event s).after.outcome
       → IsSession left s deeds outcome
   quiet : {left : ℕ} {s : SenderState} {deeds : List Deed} {outcome : Option Outcome} (more : ℕ) (event : Event)
       (seconds : ℕ) (rest : List Deed)
-      → left ≡ more + 1 → event ≢ Closed → seconds_in (step_at event s).after.phase ≡ Some seconds
-      → MeansNothing s.phase (step_at event s) → deeds ≡ waited event ∷ rest
-      → IsSession more (step_at event s).after rest outcome → IsSession left s deeds outcome
+      → left ≡ more + 1 → event ≢ Closed → seconds_in (sender_step_at event s).after.phase ≡ Some seconds
+      → MeansNothing s.phase (sender_step_at event s) → deeds ≡ waited event ∷ rest
+      → IsSession more (sender_step_at event s).after rest outcome → IsSession left s deeds outcome
   answered : {left : ℕ} {s : SenderState} {deeds : List Deed} {outcome : Option Outcome} (more : ℕ) (event : Event)
       (seconds : ℕ) (rest : List Deed)
-      → left ≡ more + 1 → event ≢ Closed → seconds_in (step_at event s).after.phase ≡ Some seconds
-      → ¬ (MeansNothing s.phase (step_at event s))
-      → deeds ≡ waited event ∷ put_out (step_at event s).emit ++ timed seconds ∷ rest
-      → IsSession more (step_at event s).after rest outcome → IsSession left s deeds outcome
+      → left ≡ more + 1 → event ≢ Closed → seconds_in (sender_step_at event s).after.phase ≡ Some seconds
+      → ¬ (MeansNothing s.phase (sender_step_at event s))
+      → deeds ≡ waited event ∷ put_out (sender_step_at event s).emit ++ timed seconds ∷ rest
+      → IsSession more (sender_step_at event s).after rest outcome → IsSession left s deeds outcome
   given_up : {left : ℕ} {s : SenderState} {deeds : List Deed} {outcome : Option Outcome}
       → left ≡ 0 → deeds ≡ [] → outcome ≡ None → IsSession left s deeds outcome
 

@@ -1,22 +1,22 @@
 -- What is read of the results of a message and of a stream (LIS02-A2).
 use Rattle.std.specs.Prelude.{◌≡◌, ◌≢◌, ℕ, ◌+◌, List, [], ◌∷◌, ◌++◌, ◌⊎◌, length, Option, Some}
 use Rattle.lis_field.specs.Shape.{Repeats, field_at, plain_field}
-use Rattle.lis_message.specs.Feeding.{IsCutShort, Stops}
+use Rattle.lis_message.specs.Feeding.{IsCutShort, StopsReading}
 use Rattle.lis_tree.specs.declared.fault.MessageFault.{MessageFault}
 use Rattle.lis_tree.specs.Results.{ResultNode, results_of}
 use Rattle.lis_tree.specs.Tree.{MessageTree}
 use Rattle.uses.specs.declared.results.Reading.{Reading}
 
 -- the text of a field that is one component of characters alone; of any other, and of one that is absent, no byte
-pub data IsText (field : Option Repeats) (bytes : List ℕ) : Type 0 where
-  plain : field ≡ Some (plain_field bytes) → IsText field bytes
-  other : ((text : List ℕ) → field ≢ Some (plain_field text)) → bytes ≡ [] → IsText field bytes
+pub data IsPlainOrEmpty (field : Option Repeats) (bytes : List ℕ) : Type 0 where
+  plain : field ≡ Some (plain_field bytes) → IsPlainOrEmpty field bytes
+  other : ((text : List ℕ) → field ≢ Some (plain_field text)) → bytes ≡ [] → IsPlainOrEmpty field bytes
 
 -- the sample stands in field 3 of the order, the value and its units in fields 4 and 5 of the result
 pub record IsReading (node : ResultNode) (reading : Reading) : Type 0 where
-  pub sample : IsText (field_at node.order.head 3) reading.sample.items
-  pub value : IsText (field_at node.entry.head 4) reading.value.items
-  pub units : IsText (field_at node.entry.head 5) reading.units.items
+  pub sample : IsPlainOrEmpty (field_at node.order.head 3) reading.sample.items
+  pub value : IsPlainOrEmpty (field_at node.entry.head 4) reading.value.items
+  pub units : IsPlainOrEmpty (field_at node.entry.head 5) reading.units.items
 
 -- how many results messages have
 abbrev pub result_count : List MessageTree → ℕ
@@ -29,4 +29,4 @@ pub record IsUnread (stream : List ℕ) (fault : MessageFault) : Type 0 where
   pub rest : List ℕ
   pub whole : stream ≡ front ++ rest
   pub messages : List MessageTree
-  pub stops : Stops front messages fault ⊎ ((rest ≡ []) × IsCutShort front messages fault)
+  pub stops : StopsReading front messages fault ⊎ ((rest ≡ []) × IsCutShort front messages fault)

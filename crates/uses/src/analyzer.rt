@@ -3,7 +3,7 @@
 ghost use Rattle.std.specs.Prelude.{◌≡◌, ◌≢◌, ◌↔◌, IsTrue, Some, None, MatchOption, MatchResult};
 ghost use Rattle.lis_link.specs.declared.sender.EmitOf.TheVariants as Emits;
 ghost use Rattle.lis_link.specs.Sender.{new_sender, start_fault};
-ghost use Rattle.uses.specs.Analyzer.{WasSession, put_out, seconds_in, step_at};
+ghost use Rattle.uses.specs.Analyzer.{WasSession, put_out, seconds_in, sender_step_at};
 ghost use Rattle.uses.specs.Line.{GoesOn};
 ghost use Rattle.uses.specs.declared.line.Event.TheVariants as Events;
 
@@ -64,8 +64,8 @@ pub fn send_texts<L: Line>(line: &mut L, texts: Texts) -> Result<Option<Outcome>
 fn emit_at(sender: &mut Sender, event: Event) -> Option<Emit>
     ensures { MatchOption result
         ((event ≡ Events.Closed) × (sender.new ≡ sender.old))
-        (λ emit. (event ≢ Events.Closed) × (emit ≡ (step_at event sender.old).emit)
-        × (sender.new ≡ (step_at event sender.old).after)) }
+        (λ emit. (event ≢ Events.Closed) × (emit ≡ (sender_step_at event sender.old).emit)
+        × (sender.new ≡ (sender_step_at event sender.old).after)) }
 {
     match event {
         Event::Byte(byte) => Some(sender.reply(byte)),

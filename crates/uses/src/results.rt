@@ -7,7 +7,7 @@ ghost use Rattle.lis_message.specs.Stream.{IsCut};
 ghost use Rattle.lis_tree.specs.Results.{results_of};
 ghost use Rattle.lis_tree.specs.Tree.{MessageTree};
 ghost use Rattle.lis_text.specs.Capped.{capped};
-ghost use Rattle.uses.specs.Readings.{IsReading, IsText, IsUnread, result_count};
+ghost use Rattle.uses.specs.Readings.{IsReading, IsPlainOrEmpty, IsUnread, result_count};
 
 use lis_field::Record;
 use lis_message::{Message, MessageFault, MessageReader};
@@ -38,7 +38,7 @@ pub fn readings(alloc: Global, message: &Message) -> Result<Vec<Reading>, AllocE
 
 /// The text of the field of this number; empty where it is absent, or is no plain text.
 fn text_of(alloc: Global, entry: &Record, number: usize) -> Result<Vec<u8>, AllocError>
-    ensures { IfOk result (λ text. IsText (field_at entry.now number) text.items) }
+    ensures { IfOk result (λ text. IsPlainOrEmpty (field_at entry.now number) text.items) }
 {
     let text = match entry.field(number) {
         Some(field) => field.to_text(alloc)?,

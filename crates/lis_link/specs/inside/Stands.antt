@@ -33,7 +33,7 @@ pub record Makes (limit : ℕ) (step : ReceiverStep) (result : Step) (new : Kept
 
 -- memory was refused for the text of a frame that would be accepted and is longer than the spare room: NAK, and nothing
 -- else
-pub record IsRefused (limit spare : ℕ) (step : ReceiverStep) (r : ReceiverState) (result : Step) (new : Kept) : Type
+pub record RefusesFrame (limit spare : ℕ) (step : ReceiverStep) (r : ReceiverState) (result : Step) (new : Kept) : Type
     0 where
   pub frame : FrameContent
   pub would_accept : step.taken ≡ Some frame
@@ -66,6 +66,6 @@ pub record HearsFront (limit : ℕ) (bytes : List ℕ) (r : ReceiverState) (spar
       (with_heard (take result.count bytes) r))
   pub quiet : meant.note ≡ Quiet → meant ≡ answers None Quiet (with_heard (take result.count bytes) r)
   pub makes : result.step.note ≢ OutOfMemory → Makes limit meant result.step new
-  pub refused : result.step.note ≡ OutOfMemory → IsRefused limit spare meant
+  pub refused : result.step.note ≡ OutOfMemory → RefusesFrame limit spare meant
       (with_heard (take result.count bytes) r) result.step new
   pub spare_after : SpareAfter spare new.spare meant.taken

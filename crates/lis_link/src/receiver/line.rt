@@ -9,7 +9,7 @@ ghost use Rattle.lis_link.specs.declared.receiver.Note.TheVariants as Notes;
 ghost use Rattle.lis_link.specs.inside.Kept.{idle_line, kept_of};
 ghost use Rattle.lis_link.specs.Receiver.{ReceiverState, bid_with, judged_by, found_reply, heard_by, heard};
 ghost use Rattle.lis_link.specs.Receiver.{on_receiver_timer};
-ghost use Rattle.lis_link.specs.inside.Stands.{IsIn, Makes, IsRefused, IsTaken, SpareAfter};
+ghost use Rattle.lis_link.specs.inside.Stands.{IsIn, Makes, RefusesFrame, IsTaken, SpareAfter};
 
 use crate::receiver::{MOST_FRAMES, Note, Readiness, Step};
 use lis_frame::{FrameFault, Heard, LentFrame};
@@ -165,7 +165,7 @@ impl Line {
             Makes limit (heard {limit = limit} (heard_signal told.entry) r) result (kept_of self.new scanner) }
         ensures refused { (limit : ℕ) (scanner : Held) (r : ReceiverState) → IsIn limit (kept_of self.old scanner) r →
             result.note ≡ Notes.OutOfMemory →
-            IsRefused limit self.old.spare (heard {limit = limit} (heard_signal told.entry) r) r result
+            RefusesFrame limit self.old.spare (heard {limit = limit} (heard_signal told.entry) r) r result
             (kept_of self.new scanner) }
         ensures spare { (limit : ℕ) (scanner : Held) (r : ReceiverState) → IsIn limit (kept_of self.old scanner) r →
             SpareAfter self.old.spare self.new.spare (heard {limit = limit} (heard_signal told.entry) r).taken }
@@ -237,7 +237,7 @@ impl Line {
             (kept_of self.new scanner) }
         ensures refused { (limit : ℕ) (scanner : Held) (r : ReceiverState) → IsIn limit (kept_of self.old scanner) r →
             result.note ≡ Notes.OutOfMemory →
-            IsRefused limit self.old.spare (heard_by {limit = limit} r.is_open (Signals.Good frame.now) r) r result
+            RefusesFrame limit self.old.spare (heard_by {limit = limit} r.is_open (Signals.Good frame.now) r) r result
             (kept_of self.new scanner) }
         ensures spare { (limit : ℕ) (scanner : Held) (r : ReceiverState) → IsIn limit (kept_of self.old scanner) r →
             SpareAfter self.old.spare self.new.spare (heard_by {limit = limit} r.is_open (Signals.Good frame.now)

@@ -10,7 +10,7 @@ use Rattle.lis_field.specs.Delimiters.{DelimiterBytes, IsDelimiters, delimiter_l
 use Rattle.hex.specs.Hex.{decode_of}
 use Rattle.lis_record.specs.Escapes.{escape_of, raw_symbols}
 use Rattle.lis_field.specs.declared.kinds.Kind.TheVariants as kinds
-use Rattle.lis_record.specs.Faults.{text_fault, trailing_byte}
+use Rattle.lis_record.specs.Faults.{record_text_fault, trailing_byte}
 use Rattle.lis_field.specs.Kinds.{kind_of}
 use Rattle.lis_field.specs.Shape.{Symbols, Components, Repeats, Fields, RecordContent, plain_component}
 use Rattle.lis_record.specs.Relation.{Lacks}
@@ -98,7 +98,7 @@ pub record OpensRecord (d : DelimiterBytes) (text : List ℕ) (kind : Kind) (res
   pub kind_is : kind_of letter ≡ Some kind
   pub other : kind ≢ kinds.H
   pub second : trailing_byte d.field rest ≡ None
-  pub texts : text_fault text ≡ None
+  pub texts : record_text_fault text ≡ None
 
 -- Behind a header's letter stand delimiters, and then nothing or the field delimiter.
 pub record DeclaresDelimiters (text : List ℕ) (d : DelimiterBytes) (rest : List ℕ) : Type 0 where
@@ -113,7 +113,7 @@ pub record OpensHeader (text : List ℕ) (d : DelimiterBytes) (rest : List ℕ) 
   pub whole : text ≡ letter ∷ part
   pub kind_is : kind_of letter ≡ Some kinds.H
   pub declares : DeclaresDelimiters part d rest
-  pub texts : text_fault text ≡ None
+  pub texts : record_text_fault text ≡ None
 
 -- A record takes the field that a text begins with, and the rest of the text follows.
 pub record TakesField (d : DelimiterBytes) (before after : RecordContent) (text rest : List ℕ) : Type 0 where

@@ -13,7 +13,8 @@ returns c =
     let free = rw (take_all c.loop-byte.byte-index text (omega arith)) at c.loop-byte.invariant in
     let plain : IsPlainText d text = record {
       repeat = rw c.repeat.ensures at (All-weaker Free (λ b. b ≢ c.repeat.result) (λ b all. all.0) text free);
-      component = rw c.component.ensures at (All-weaker Free (λ b. b ≢ c.component.result) (λ b all. all.1.0) text free);
+      component =
+          rw c.component.ensures at (All-weaker Free (λ b. b ≢ c.component.result) (λ b all. all.1.0) text free);
       escape = rw c.escape.ensures at (All-weaker Free (λ b. b ≢ c.escape.result) (λ b all. all.1.1) text free);
     } in
     record {

@@ -16,9 +16,9 @@ returns-in-Err c =
     header_fault-part c.args.text.now c.in-Some.letter.now c.in-Some.part.now c.in-Err.fault c.in-Some.ensures.cases.0
     (sym c.is_header_letter.ensures ∙ c.if-not-is_header_letter.false) c.in-Err.ensures
 
-pub returns-in-Some-text_fault : goal.returns-in-Some-text_fault
-returns-in-Some-text_fault c =
-    header_fault-text c.args.text.now c.in-Some.letter.now c.in-Some.part.now c.in-Some-text_fault.fault
+pub returns-in-Some-record_text_fault : goal.returns-in-Some-record_text_fault
+returns-in-Some-record_text_fault c =
+    header_fault-text c.args.text.now c.in-Some.letter.now c.in-Some.part.now c.in-Some-record_text_fault.fault
     c.in-Some.ensures.cases.0 (sym c.is_header_letter.ensures ∙ c.if-not-is_header_letter.false)
     (delimiter_part_fault-declares c.in-Some.part.now _ _ c.in-Ok.ensures)
-    (sym c.text_fault.ensures ∙ c.in-Some-text_fault.is)
+    (sym c.record_text_fault.ensures ∙ c.in-Some-record_text_fault.is)

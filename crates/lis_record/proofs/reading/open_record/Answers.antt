@@ -16,9 +16,9 @@ returns-in-Some-trailing_byte-clause-opened c =
     c.in-Some-trailing_byte.byte c.in-Some.ensures.cases.0 c.in-Some-other_kind.ensures.1
     (rw c.field-field.ensures.byte at (sym c.trailing_byte.ensures ∙ c.in-Some-trailing_byte.is))
 
-pub returns-in-Some-text_fault-clause-opened : goal.returns-in-Some-text_fault-clause-opened
-returns-in-Some-text_fault-clause-opened c =
+pub returns-in-Some-record_text_fault-clause-opened : goal.returns-in-Some-record_text_fault-clause-opened
+returns-in-Some-record_text_fault-clause-opened c =
     record_fault-text c.args.delimiters c.args.text.now c.in-Some.letter.now c.in-Some.rest.now
-    c.in-Some-text_fault.fault c.in-Some.ensures.cases.0 c.in-Some-other_kind.ensures.1
+    c.in-Some-record_text_fault.fault c.in-Some.ensures.cases.0 c.in-Some-other_kind.ensures.1
     (rw c.field-field.ensures.byte at (sym c.trailing_byte.ensures ∙ c.in_default-trailing_byte.is))
-    (sym c.text_fault.ensures ∙ c.in-Some-text_fault.is)
+    (sym c.record_text_fault.ensures ∙ c.in-Some-record_text_fault.is)

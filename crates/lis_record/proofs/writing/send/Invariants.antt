@@ -1,6 +1,6 @@
 use Rattle.std.proofs.Common.{◌≡◌, ℕ, ◌+◌, ◌≤◌, List, [], ◌++◌, length, drop, false, Option, Result}
 use Rattle.lis_record.specs.declared.faults.WriteFault.{WriteFault}
-use Rattle.lis_record.specs.Writing.{Sent}
+use Rattle.lis_record.specs.Writing.{SentOn}
 use Rattle.lis_record.proofs.writing.send.Given as goal
 
 -- whatever sends the rest from here sends all from the start
@@ -10,8 +10,8 @@ invariant-loop-chunk g l = record {
   within : l.left ≤ length l.chunk;
   filled : length l.chunk ≡ 0 → g.S.Spelling.left l.cursor ≡ [];
   goes_on : (new : Option (List ℕ)) (r : Result Unit WriteFault)
-      → Sent l.passed (drop l.left l.chunk ++ g.S.Spelling.left l.cursor) (g.W.Sink.taken l.sink) new r
-      → Sent l.initial.passed (drop l.initial.left l.initial.chunk ++ g.S.Spelling.left l.initial.cursor)
+      → SentOn l.passed (drop l.left l.chunk ++ g.S.Spelling.left l.cursor) (g.W.Sink.taken l.sink) new r
+      → SentOn l.initial.passed (drop l.initial.left l.initial.chunk ++ g.S.Spelling.left l.initial.cursor)
       (g.W.Sink.taken l.initial.sink) new r;
 }
 

@@ -1,7 +1,7 @@
 use Rattle.std.proofs.Common.{◌≡◌, Some, None, refl, arith, sym, ap, ◌∙◌}
 use Rattle.std.proofs.lemmas.Bool.{false≢true}
 use Rattle.lis_link.specs.Sender.{SenderState}
-use Rattle.uses.specs.Analyzer.{seconds_in, step_at}
+use Rattle.uses.specs.Analyzer.{seconds_in, sender_step_at}
 use Rattle.uses.proofs.SessionLaws.{begun, goes_on_answered, goes_on_quiet, was_closed, was_given_up, was_over}
 use Rattle.uses.proofs.analyzer.send_texts.Goals.{then-not-means_nothing, else-not-means_nothing}
 use Rattle.uses.proofs.analyzer.send_texts.Goals as goal
@@ -22,7 +22,7 @@ pub returns-in_default-sender_seconds : goal.returns-in_default-sender_seconds
 returns-in_default-sender_seconds g c =
     let event = c.wait-event.result in
     let after = c.in-Some.ensures.2 in
-    let none : seconds_in (step_at event c.loop-turn.sender).after.phase ≡ None =
+    let none : seconds_in (sender_step_at event c.loop-turn.sender).after.phase ≡ None =
     ap (λ (s : SenderState). seconds_in s.phase) (sym after) ∙ ap seconds_in (sym c.phase.ensures)
     ∙ sym c.sender_seconds.ensures ∙ c.in_default-sender_seconds.is in (
       rw c.new-sender.ensures at c.in_ok-start.ensures.0,
@@ -36,9 +36,10 @@ pub loop-turn-preserved : goal.loop-turn-preserved
 loop-turn-preserved g c =
     let event = c.wait-event.result in
     let after = c.in-Some.ensures.2 in
-    let phase : c.phase-in-loop-turn.result ≡ (step_at event c.loop-turn.sender).after.phase =
+    let phase : c.phase-in-loop-turn.result ≡ (sender_step_at event c.loop-turn.sender).after.phase =
     c.phase-in-loop-turn.ensures ∙ ap (λ (s : SenderState). s.phase) after in
-    let some : seconds_in (step_at event c.loop-turn.sender).after.phase ≡ Some c.in-Some-sender_seconds.seconds =
+    let some :
+        seconds_in (sender_step_at event c.loop-turn.sender).after.phase ≡ Some c.in-Some-sender_seconds.seconds =
     ap (λ (s : SenderState). seconds_in s.phase) (sym after) ∙ ap seconds_in (sym c.phase.ensures)
     ∙ sym c.sender_seconds.ensures ∙ c.in-Some-sender_seconds.is in
     let puts = rw c.in-Some.ensures.1 at c.put-in-loop-turn.ensures in

@@ -1,5 +1,5 @@
 use Rattle.std.proofs.Common.{◌≡◌, [], refl, sym, ◌∙◌, inl, None, Some, Ok, Err, append-nil, arith, true}
-use Rattle.lis_message.specs.Feeding.{at_end}
+use Rattle.lis_message.specs.Feeding.{answer_at_end}
 use Rattle.lis_tool.specs.Messages.{cut_short, complete}
 use Rattle.lis_tool.proofs.GatherLaws.{gathered_nothing}
 use Rattle.lis_tool.proofs.MessageLaws.{ends_over, nothing_left, cut_whole}
@@ -9,7 +9,7 @@ use Rattle.lis_tool.proofs.messages.MessagesMachine.end.Goals as goal
 pub returns-in-Ok-clause-ends : goal.returns-in-Ok-clause-ends
 returns-in-Ok-clause-ends g c = λ past text reading few.
     let reader = c.args.self.reader in
-    let done : at_end reading.left reader.held ≡ Ok tt =
+    let done : answer_at_end reading.left reader.held ≡ Ok tt =
     sym (c.finish.ensures.read reading.left reading.has) ∙ c.in-Ok.is in
     let nothing = nothing_left reading.left reader.held done in
     let short = read_few g.C.MessageMachine.writes (g.C.MessageMachine.stands c.args.self.told.command) reader
@@ -23,7 +23,7 @@ returns-in-Ok-clause-ends g c = λ past text reading few.
 pub returns-clause-ends : goal.returns-clause-ends
 returns-clause-ends g c = λ past text reading few.
     let reader = c.args.self.reader in
-    let why : at_end reading.left reader.held ≡ Err c.in-Err.fault =
+    let why : answer_at_end reading.left reader.held ≡ Err c.in-Err.fault =
     sym (c.finish.ensures.read reading.left reading.has) ∙ c.in-Err.is in
     let short = read_few g.C.MessageMachine.writes (g.C.MessageMachine.stands c.args.self.told.command) reader
     c.args.self.told.count past text reading few in
