@@ -260,6 +260,19 @@ fn read_repeats(alloc: Global, delimiters: Delimiters, text: &[u8]) -> Result<Fi
     Ok(field)
 }
 
+// Copies bytes to a place of their length. Sixteen, as of most records, go by themselves: no call is made for them.
+#[inline(always)]
+fn copy_few(place: &mut [u8], bytes: &[u8])
+    requires { length place.old ≡ length bytes.now }
+    ensures { place.new ≡ bytes.now }
+{
+    if bytes.len() == 16 {
+        place.copy_from_slice(bytes);
+    } else {
+        place.copy_from_slice(bytes);
+    }
+}
+
 // The last sixteen bytes of a text, or all where it has fewer, with sixteen delimiters behind them, and so many before
 // them that they end at place 16.
 #[inline(always)]
@@ -272,7 +285,7 @@ fn padded_end(text: &[u8], mark: u8) -> [u8; 32]
     let (_, last) = text.split_at(text.len() - count);
     let (_, room) = padded.split_at_mut(16 - count);
     let (place, _) = room.split_at_mut(count);
-    place.copy_from_slice(last);
+    copy_few(place, last);
     padded
 }
 

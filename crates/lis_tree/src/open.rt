@@ -9,11 +9,11 @@ ghost use Rattle.lis_tree.specs.Tree.{flatten, IsTree};
 
 use crate::fault::Reason;
 use crate::message::Message;
-use crate::spine::{Spine, headed, push_record, standing, whole_front};
+use crate::spine::{Spine, headed, let_go, push_record, standing, whole_front};
 use lis_record::{Delimiters, Kind, Record};
 use std::alloc::{AllocError, Global};
 use std::marker::Model;
-use std::mem::{drop, replace};
+use std::mem::drop;
 
 /// A message that isn't closed yet.
 #[derive(Drop)]
@@ -107,8 +107,7 @@ impl OpenMessage {
                 Ok(())
             }
             Err(AllocError) => {
-                let nothing = headed(alloc, Record::new(alloc, Kind::H));
-                drop(replace(&mut self.spine, nothing));
+                let_go(alloc, &mut self.spine);
                 self.count = 1;
                 Err(AllocError)
             }

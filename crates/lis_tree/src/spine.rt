@@ -1,6 +1,8 @@
 //! The tree of a message while its records come: what is whole stands in lists, and the node that still grows stands
 //! by itself.
 ghost use Rattle.std.specs.Prelude.{◌≡◌, ◌∷◌, [], ◌++◌, ◌≢◌, ◌⊎◌, IfOk, None, OnOk};
+ghost use Rattle.std.specs.List.{AllByRecursion};
+ghost use Rattle.lis_field.specs.Shape.{IsRecordShape};
 ghost use Rattle.lis_field.specs.declared.kinds.Kind.TheVariants as kinds;
 ghost use Rattle.lis_tree.specs.Level.{misplaced};
 ghost use Rattle.lis_tree.specs.Tree.{noted_records, order_records, patient_records, group_records, IsNote, IsNoted};
@@ -388,4 +390,16 @@ pub(crate) fn headed(alloc: Global, header: Record) -> Spine
     ensures shape { header.kind ≡ kinds.H → IsSpine result }
 {
     Spine::Header(Noted::new(alloc, header))
+}
+
+/// Lets go of a message so far, in whose place a header without fields is left.
+// Its locals are large: within its caller each record would pay for them.
+#[inline(never)]
+pub(crate) fn let_go(alloc: Global, spine: &mut Spine)
+    ensures records { spine_records spine.new ≡ record { kind = kinds.H; fields = [] } ∷ [] }
+    ensures shape { IsSpine spine.new }
+    ensures each { AllByRecursion IsRecordShape (spine_records spine.new) }
+{
+    let nothing = headed(alloc, Record::new(alloc, Kind::H));
+    drop(mem::replace(spine, nothing));
 }

@@ -14,8 +14,8 @@ returns c = λ last ends few.
     ∙ drop-drop count (16 - count) all ∙ ap (λ (n : ℕ). drop n all) behind in
     let short : length last ≤ length text =
     omega (arith, ap (λ (l : List ℕ). length l) ends.1, length-append ends.0 last) in
-    end-padded text c.split_at_mut-room.result.0.now c.copy_from_slice.new.self c.split_at_mut-place.result.1.now last
+    end-padded text c.split_at_mut-room.result.0.now c.copy_few.new.place c.split_at_mut-place.result.1.now last
     count (omega (arith, c.min-count.ensures)) (omega (arith, c.min-count.ensures))
     c.split_at_mut-room.ensures.front_len
-    (c.copy_from_slice.ensures.after ∙ c.split_at.ensures.back) ends (omega (arith, c.min-count.ensures, few, short))
+    (c.copy_few.ensures ∙ c.split_at.ensures.back) ends (omega (arith, c.min-count.ensures, few, short))
     ∙ ap (λ (m : List ℕ). last ++ m) marks
