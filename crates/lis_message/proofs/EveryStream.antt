@@ -43,7 +43,7 @@ record CanTake (left : Option Begun) (text : List ℕ) : Type 0 where
   entry : Lent RecordContent
   comes : ComesNext left text entry
 
-header_open : (letter : ℕ) (part : List ℕ) → header_fault (letter ∷ part) ≡ None → (delimiter_part_fault part ≡ None)
+pub header_open : (letter : ℕ) (part : List ℕ) → header_fault (letter ∷ part) ≡ None → (delimiter_part_fault part ≡ None)
     × (record_text_fault (letter ∷ part) ≡ None)
 unfolding header_fault
 header_open letter part none =
@@ -77,11 +77,11 @@ header_taken letter (f ∷ r ∷ c ∷ e ∷ bytes) is none texts =
           (IsRecord-header letter f r c e bytes is marks trailing texts) refl;
     }
 
-record OutsideKind (k : Option Kind) (text : List ℕ) : Type 0 where
-  is : k ≡ Some kinds.H
-  none : header_fault text ≡ None
+pub record OutsideKind (k : Option Kind) (text : List ℕ) : Type 0 where
+  pub is : k ≡ Some kinds.H
+  pub none : header_fault text ≡ None
 
-outside_kind : (letter : ℕ) (k : Option Kind) (text : List ℕ) → letter_refusal None letter k text ≡ None
+pub outside_kind : (letter : ℕ) (k : Option Kind) (text : List ℕ) → letter_refusal None letter k text ≡ None
     → OutsideKind k text
 unfolding kind_refusal
 outside_kind letter None text e = cc
@@ -91,11 +91,11 @@ outside_kind letter (Some kinds.P) text e = cc
 outside_kind letter kind text e = cc
 
 -- inside one it is another record
-record InsideKind (b : Begun) (k : Option Kind) (text : List ℕ) : Type 0 where
+pub record InsideKind (b : Begun) (k : Option Kind) (text : List ℕ) : Type 0 where
   kind : Kind
   is : k ≡ Some kind
   other : kind ≢ kinds.H
-  fine : record_fault b.delimiters text ≡ None
+  pub fine : record_fault b.delimiters text ≡ None
   placed : misplaced (level_of (Some b)) kind ≡ None
 
 inside : (b : Begun) (kind : Kind) (text : List ℕ) → kind ≢ kinds.H
@@ -113,7 +113,7 @@ inside b kind text other e =
       placed = both.1;
     }
 
-inside_kind : (b : Begun) (letter : ℕ) (k : Option Kind) (text : List ℕ)
+pub inside_kind : (b : Begun) (letter : ℕ) (k : Option Kind) (text : List ℕ)
     → letter_refusal (Some b) letter k text ≡ None → InsideKind b k text
 unfolding kind_refusal
 inside_kind b letter None text e = cc

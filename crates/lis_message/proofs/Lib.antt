@@ -12,4 +12,5 @@ pub mod Stopping
 pub mod TakingLaws
 pub mod TextLaws
 pub mod Whole
+pub mod WholeRecords
 pub mod WritingLaws

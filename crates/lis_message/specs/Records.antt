@@ -86,6 +86,10 @@ IsTextRefusedFor left text reason =
     ((reason ≡ reasons.RecordTooLong) × (record_limit < length text))
     ⊎ ((refusal left text ≡ Some reason) × (length text ≤ record_limit))
 
+-- for some reason
+abbrev pub IsTextRefused : Option Begun → List ℕ → Type 0
+IsTextRefused left text = (reason : Reason) × IsTextRefusedFor left text reason
+
 -- what was held and this text come next, as the record that was cut
 pub record EndsHeld (before after : RecordsState) (left : Option Begun) (text : List ℕ) : Type 0 where
   pub entry : Lent RecordContent

@@ -1,13 +1,14 @@
 //! Reading records where they stand, from a stream that comes in pieces (LIS02-A2, Delimiters). What is kept is the
 //! bytes of one record, and of the open message how its next record is read.
 
-ghost use Rattle.std.specs.Prelude.{◌≡◌, ◌≢◌, ℕ, true, false, ◌+◌, ◌<◌, ◌≤◌, ◌∷◌, [], ◌++◌, ◌⊎◌};
+ghost use Rattle.std.specs.Prelude.{◌≡◌, ◌≢◌, ℕ, true, false, ◌+◌, ◌<◌, ◌≤◌, ◌∷◌, [], ◌++◌, ◌⊎◌, ◌↔◌};
 ghost use Rattle.std.specs.Prelude.{List, Option, IfOk, IfErr, OnOk, OnSome};
 ghost use Rattle.std.specs.Prelude.{IfSome, IfNone, IsTrue, None, Some, Ok, Err, is_some, length};
 ghost use Rattle.lis_message.specs.declared.records.Found.TheVariants.{Record as IsFound, Refused as IsRefusal};
 ghost use Rattle.lis_message.specs.Feeding.{answer_at_end, next_place};
 ghost use Rattle.lis_message.specs.inside.Kept.{opened_of, opened_with};
-ghost use Rattle.lis_message.specs.Records.{EndsHeld, HasLeft, IsTextRefusedFor, IsStopped, Reads, ReadsSome};
+ghost use Rattle.lis_message.specs.Records.{EndsHeld, HasLeft, IsStopped, IsTextRefused, IsTextRefusedFor, Reads};
+ghost use Rattle.lis_message.specs.Records.{ReadsSome};
 ghost use Rattle.lis_message.specs.Stream.{LacksReturn, refusal};
 ghost use Rattle.lis_message.specs.inside.Taking.{ComesNext, front_refusal, left_after};
 ghost use Rattle.lis_record.specs.declared.texts.TheConstants.{RECORD_LIMIT};
@@ -240,7 +241,7 @@ impl HeldBytes {
     /// Whether nothing is held, no last record either.
     #[inline(always)]
     fn is_clear(&self) -> bool
-        ensures { IsTrue result → self.now ≡ record { held = []; cut = None } }
+        ensures { IsTrue result ↔ (self.now ≡ record { held = []; cut = None }) }
     {
         self.known.is_none() && self.bytes.is_empty()
     }
@@ -384,6 +385,9 @@ impl RecordReader {
             → Reads self.old self.new left bytes.now found.1.now (IsFound found.0)) }
         ensures some { IfSome result (λ found. length found.1.now < length bytes.now) }
         ensures none { IfNone result (self.new ≡ self.old) }
+        ensures refused { IfNone result ((left : Option Begun) → HasLeft self.old left → self.old.held ≡ []
+            → self.old.cut ≡ None → (text behind : List ℕ) → LacksReturn text → bytes.now ≡ text ++ 13 ∷ behind
+            → IsTextRefused left text) }
     {
         if self.fault.is_some() || !self.kept.is_clear() {
             return None;

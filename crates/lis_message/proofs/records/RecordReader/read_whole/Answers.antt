@@ -2,6 +2,7 @@ use Rattle.std.proofs.Common.{◌≡◌, ◌∷◌, ◌++◌, [], ℕ, List, sym
 use Rattle.lis_message.specs.inside.Kept.{Holding, RecordsState}
 use Rattle.lis_message.specs.inside.Taking.{ComesNext}
 use Rattle.lis_message.proofs.Lines.{text_lacks}
+use Rattle.lis_message.proofs.WholeRecords.{bad_line, ended_line, no_line}
 use Rattle.lis_message.proofs.records.RecordReader.read_whole.Goals as goal
 
 pub returns-in-Ok-clause-read : goal.returns-in-Ok-clause-read
@@ -10,7 +11,7 @@ returns-in-Ok-clause-read c = λ left has.
     let text = c.split_at.result.0.now in
     let end = c.in-Some.end in
     let rest = c.in-Some-split_first.rest.now in
-    let clear = c.is_clear.ensures c.if-not-is_clear.false in
+    let clear = c.is_clear.ensures.0 c.if-not-is_clear.false in
     let none : c.args.self.now.held ≡ [] = ap (λ (r : RecordsState). r.held) (sym c.self.view_is)
     ∙ ap (λ (h : Holding). h.held) clear in
     let read = c.in-Ok.ensures.ok left has.opened in
@@ -26,3 +27,23 @@ returns-in-Ok-clause-read c = λ left has.
       left_then = record { no_fault = c.end_whole.ensures.fault ∙ has.no_fault; opened = read.1 };
       empty = c.end_whole.ensures.held ∙ none;
     }
+
+pub returns-in_default-clause-refused : goal.returns-in_default-clause-refused
+returns-in_default-clause-refused c = λ left has held cut text behind lacks whole.
+    absurd (no_line c.args.bytes.now text behind c.in_default.ensures.text whole)
+
+pub returns-then-byte-ne-CR-clause-refused : goal.returns-then-byte-ne-CR-clause-refused
+returns-then-byte-ne-CR-clause-refused c = λ left has held cut text behind lacks whole.
+    let rest = c.in-Some-split_first.rest.now in
+    bad_line left c.args.bytes.now c.split_at.result.0.now rest text behind c.in-Some.end c.in-Some-split_first.byte.now
+    c.in-Some.ensures.place c.split_at.ensures.front (sym c.split_at.ensures.back ∙ c.in-Some-split_first.ensures.cases.0)
+    (rw c.split_at.ensures.front c.in-Some.ensures.texts) c.if-byte-ne-CR.true whole
+
+pub returns-in-Err-clause-refused : goal.returns-in-Err-clause-refused
+returns-in-Err-clause-refused c = λ left has held cut text behind lacks whole.
+    let rest = c.in-Some-split_first.rest.now in
+    ended_line left c.args.bytes.now c.split_at.result.0.now rest text behind c.in-Some.end
+    c.in-Some-split_first.byte.now c.in-Err.field-0
+    c.split_at.ensures.front (sym c.split_at.ensures.back ∙ c.in-Some-split_first.ensures.cases.0) c.if-byte-ne-CR.false
+    (rw c.split_at.ensures.front c.in-Some.ensures.texts) lacks whole
+    (c.in-Err.ensures.err left has.opened)
