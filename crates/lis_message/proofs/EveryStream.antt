@@ -43,7 +43,8 @@ record CanTake (left : Option Begun) (text : List ℕ) : Type 0 where
   entry : Lent RecordContent
   comes : ComesNext left text entry
 
-pub header_open : (letter : ℕ) (part : List ℕ) → header_fault (letter ∷ part) ≡ None → (delimiter_part_fault part ≡ None)
+pub header_open : (letter : ℕ) (part : List ℕ) → header_fault (letter ∷ part) ≡ None
+    → (delimiter_part_fault part ≡ None)
     × (record_text_fault (letter ∷ part) ≡ None)
 unfolding header_fault
 header_open letter part none =

@@ -1,6 +1,7 @@
 -- Where no record that may come next stands whole in the bytes: their first line is refused, or they have none.
 use Rattle.std.proofs.Common.{◌≡◌, ◌≢◌, ℕ, zero, suc, ◌≤◌, inl, inr, List, [], ◌∷◌, ◌++◌, length, Option, Some, None}
-use Rattle.std.proofs.Common.{Bool, true, false, not, option_map, refl, sym, ◌∙◌, ap, arith, take, drop, get_or, subst, take-append-drop}
+use Rattle.std.proofs.Common.{Bool, true, false, not, option_map, refl, sym, ◌∙◌, ap, arith, take, drop, get_or}
+use Rattle.std.proofs.Common.{subst, take-append-drop}
 use Rattle.std.proofs.lemmas.Bool.{cases_lt}
 use Rattle.std.proofs.lemmas.List.Quantifiers.{position-Some}
 use Rattle.std.proofs.lemmas.List.Elements.{All-head, All-tail}

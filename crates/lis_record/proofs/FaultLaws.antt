@@ -33,7 +33,8 @@ none_cond false x h = refl
 
 -- ---- text bytes, and not too many
 
-pub record_text_fault-none : (text : List ℕ) → record_text_fault text ≡ None → IsRecordText text × (length text ≤ record_limit)
+pub record_text_fault-none : (text : List ℕ) → record_text_fault text ≡ None
+    → IsRecordText text × (length text ≤ record_limit)
 unfolding record_text_fault
 record_text_fault-none text h =
     let both = option_or-none (option_map record_faults.Byte (bad_byte_place text))
@@ -43,7 +44,8 @@ record_text_fault-none text h =
       elim (ltb_tells record_limit (length text)) [ inl past ↦ cc (not_long, past.0) | inr within ↦ within.1 ],
     )
 
-pub none-record_text_fault : (text : List ℕ) → IsRecordText text → length text ≤ record_limit → record_text_fault text ≡ None
+pub none-record_text_fault : (text : List ℕ) → IsRecordText text → length text ≤ record_limit
+    → record_text_fault text ≡ None
 unfolding record_text_fault
 none-record_text_fault text all short =
     rw (position-AllPass is_text_byte text all, ltb-past record_limit (length text) short) refl

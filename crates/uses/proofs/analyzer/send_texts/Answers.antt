@@ -39,7 +39,7 @@ loop-turn-preserved g c =
     let phase : c.phase-in-loop-turn.result ≡ (sender_step_at event c.loop-turn.sender).after.phase =
     c.phase-in-loop-turn.ensures ∙ ap (λ (s : SenderState). s.phase) after in
     let some :
-        seconds_in (sender_step_at event c.loop-turn.sender).after.phase ≡ Some c.in-Some-sender_seconds.seconds =
+    seconds_in (sender_step_at event c.loop-turn.sender).after.phase ≡ Some c.in-Some-sender_seconds.seconds =
     ap (λ (s : SenderState). seconds_in s.phase) (sym after) ∙ ap seconds_in (sym c.phase.ensures)
     ∙ sym c.sender_seconds.ensures ∙ c.in-Some-sender_seconds.is in
     let puts = rw c.in-Some.ensures.1 at c.put-in-loop-turn.ensures in

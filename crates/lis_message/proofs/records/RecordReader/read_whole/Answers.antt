@@ -36,7 +36,8 @@ pub returns-then-byte-ne-CR-clause-refused : goal.returns-then-byte-ne-CR-clause
 returns-then-byte-ne-CR-clause-refused c = λ left has held cut text behind lacks whole.
     let rest = c.in-Some-split_first.rest.now in
     bad_line left c.args.bytes.now c.split_at.result.0.now rest text behind c.in-Some.end c.in-Some-split_first.byte.now
-    c.in-Some.ensures.place c.split_at.ensures.front (sym c.split_at.ensures.back ∙ c.in-Some-split_first.ensures.cases.0)
+    c.in-Some.ensures.place c.split_at.ensures.front
+    (sym c.split_at.ensures.back ∙ c.in-Some-split_first.ensures.cases.0)
     (rw c.split_at.ensures.front c.in-Some.ensures.texts) c.if-byte-ne-CR.true whole
 
 pub returns-in-Err-clause-refused : goal.returns-in-Err-clause-refused
