@@ -42,7 +42,7 @@ makes step answer kept old new out made told stays = record {
 -- and one for which memory was refused
 pub refused :
     (step : ReceiverStep) (r : ReceiverState) (answer : Step) (kept : Kept) (old new : ReceiverDesk) (out : LisStep) →
-    Stands.IsRefused 240 old.receiver.spare step r answer kept → TellsStep answer old.text out new.text →
+    Stands.RefusesFrame 240 old.receiver.spare step r answer kept → TellsStep answer old.text out new.text →
     ((s : ReceiverState) → IsIn 240 kept s → IsIn 240 new.receiver s) → TellsRefusedFrame step r old out new
 refused step r answer kept old new out was told stays = record {
   frame = was.frame;
