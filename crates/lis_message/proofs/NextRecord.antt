@@ -8,7 +8,7 @@ use Rattle.lis_field.specs.declared.kinds.Kind.TheVariants as kinds
 use Rattle.lis_field.specs.Delimiters.{DelimiterBytes}
 use Rattle.lis_field.specs.Shape.{RecordContent}
 use Rattle.lis_message.specs.inside.Kept.{Opened, opened_of, opened_with}
-use Rattle.lis_message.specs.Records.{IsTextRefusedFor, IsStopped}
+use Rattle.lis_message.specs.Records.{IsRecordRefusedFor, IsStopped}
 use Rattle.lis_message.specs.Stream.{LacksReturn, refusal}
 use Rattle.lis_message.specs.inside.Taking.{ComesNext, front_refusal, header, inner, left_after}
 use Rattle.lis_message.proofs.Cuts.{left_after-more}
@@ -129,7 +129,7 @@ inner_after left entry d o s kind count e marks k goes counted =
 -- ---- a line that is refused
 
 pub line_stopped : (left : Option Begun) (held text behind bytes : List ℕ) (reason : Reason) → LacksReturn text
-    → bytes ≡ text ++ 13 ∷ behind → IsTextRefusedFor left (held ++ text) reason → IsStopped left held bytes reason
+    → bytes ≡ text ++ 13 ∷ behind → IsRecordRefusedFor left (held ++ text) reason → IsStopped left held bytes reason
 line_stopped left held text behind bytes reason lacks whole (inl long) =
     inr (record { text = text; more = 13 ∷ behind; whole = whole; lacks = lacks; refused = inr long })
 line_stopped left held text behind bytes reason lacks whole (inr why) =
@@ -144,11 +144,11 @@ line_stopped left held text behind bytes reason lacks whole (inr why) =
 
 -- where nothing was held
 pub whole_stopped : (left : Option Begun) (held text behind bytes : List ℕ) (reason : Reason)
-    → true ≡ (length held == 0) → LacksReturn text → bytes ≡ text ++ 13 ∷ behind → IsTextRefusedFor left text reason
+    → true ≡ (length held == 0) → LacksReturn text → bytes ≡ text ++ 13 ∷ behind → IsRecordRefusedFor left text reason
     → IsStopped left held bytes reason
 whole_stopped left held text behind bytes reason empty lacks whole why =
     line_stopped left held text behind bytes reason lacks whole
-    (subst (λ (h : List ℕ). IsTextRefusedFor left (h ++ text) reason)
+    (subst (λ (h : List ℕ). IsRecordRefusedFor left (h ++ text) reason)
     (sym (nil_from_length held (eqb-true (length held) 0 (sym empty)))) why)
 
 -- a record that was found in a text is the one that is known to be it

@@ -17,7 +17,7 @@ use Rattle.lis_field.specs.Delimiters.{DelimiterBytes}
 use Rattle.lis_tree.specs.declared.fault.Reason.{Reason}
 use Rattle.lis_tree.specs.declared.fault.Reason.TheVariants as reasons
 use Rattle.lis_tree.specs.inside.Begun.{Begun}
-use Rattle.lis_message.specs.Records.{IsTextRefused, IsTextRefusedFor}
+use Rattle.lis_message.specs.Records.{IsRecordRefused, IsRecordRefusedFor}
 use Rattle.lis_message.specs.Stream.{refusal}
 use Rattle.lis_message.specs.Stream.{LacksReturn}
 use Rattle.lis_message.proofs.Lines.{line_one, no_return_in, text_lacks}
@@ -53,7 +53,7 @@ byte_in (x ∷ front) more byte all =
     byte_in front more byte (All-tail (λ b. is_text_byte b ≡ true) x (front ++ byte ∷ more) all)
 
 refused_at : (left : Option Begun) (text front more : List ℕ) (byte : ℕ) → text ≡ front ++ byte ∷ more
-    → is_text_byte byte ≡ false → IsTextRefused left text
+    → is_text_byte byte ≡ false → IsRecordRefused left text
 refused_at left text front more byte whole bad =
     elim (cases_lt record_limit (length text)) [
       | inl long ↦ (reasons.RecordTooLong, inl (refl, long))
@@ -61,7 +61,7 @@ refused_at left text front more byte whole bad =
     ]
   where
     by : (found : Option Reason) → refusal left text ≡ found → length text ≤ record_limit
-        → IsTextRefused left text
+        → IsRecordRefused left text
     by (Some reason) is short = (reason, inr (is, short))
     by None is short =
         let all = (record_text_fault-none text (text_of_none left text is)).0 in
@@ -104,7 +104,7 @@ bad_at end bytes rest byte found behind =
 pub bad_line : (left : Option Begun) (bytes front rest text behind : List ℕ) (end byte : ℕ)
     → Some end ≡ bad_byte_place bytes → front ≡ take end bytes → drop end bytes ≡ byte ∷ rest
     → IsRecordText front → byte ≢ 13 → bytes ≡ text ++ 13 ∷ behind
-    → IsTextRefused left text
+    → IsRecordRefused left text
 bad_line left bytes front rest text behind end byte found taken left_over all other whole =
     let parts : front ++ byte ∷ rest ≡ text ++ 13 ∷ behind =
     ap (λ (l : List ℕ). l ++ byte ∷ rest) taken ∙ ap (λ (l : List ℕ). take end bytes ++ l) (sym left_over)
@@ -115,14 +115,14 @@ bad_line left bytes front rest text behind end byte found taken left_over all ot
 -- It is a CR: then the line before it is the first.
 pub ended_line : (left : Option Begun) (bytes front rest text behind : List ℕ) (end byte : ℕ) (reason : Reason)
     → front ≡ take end bytes → drop end bytes ≡ byte ∷ rest → byte ≡ 13 → IsRecordText front
-    → LacksReturn text → bytes ≡ text ++ 13 ∷ behind → IsTextRefusedFor left front reason
-    → IsTextRefused left text
+    → LacksReturn text → bytes ≡ text ++ 13 ∷ behind → IsRecordRefusedFor left front reason
+    → IsRecordRefused left text
 ended_line left bytes front rest text behind end byte reason taken left_over return all lacks whole refused =
     let parts : front ++ 13 ∷ rest ≡ text ++ 13 ∷ behind =
     ap (λ (l : List ℕ). l ++ 13 ∷ rest) taken ∙ ap (λ (b : ℕ). take end bytes ++ b ∷ rest) (sym return)
     ∙ ap (λ (l : List ℕ). take end bytes ++ l) (sym left_over) ∙ take-append-drop end bytes ∙ whole in
     let same = (line_one front text rest behind (text_lacks front all) lacks parts).0 in
-    (reason, subst (λ (l : List ℕ). IsTextRefusedFor left l reason) same refused)
+    (reason, subst (λ (l : List ℕ). IsRecordRefusedFor left l reason) same refused)
 
 -- No byte is one that no record may hold: then no line ends.
 pub no_line : (bytes text behind : List ℕ) → IsRecordText bytes → bytes ≡ text ++ 13 ∷ behind → ⊥

@@ -81,14 +81,14 @@ ReadsSome after bytes behind (found.Refused fault) = ⊤
 -- ---- one record
 
 -- a text that is too long, or can't come next
-abbrev pub IsTextRefusedFor : Option Begun → List ℕ → Reason → Type 0
-IsTextRefusedFor left text reason =
+abbrev pub IsRecordRefusedFor : Option Begun → List ℕ → Reason → Type 0
+IsRecordRefusedFor left text reason =
     ((reason ≡ reasons.RecordTooLong) × (record_limit < length text))
     ⊎ ((refusal left text ≡ Some reason) × (length text ≤ record_limit))
 
 -- for some reason
-abbrev pub IsTextRefused : Option Begun → List ℕ → Type 0
-IsTextRefused left text = (reason : Reason) × IsTextRefusedFor left text reason
+abbrev pub IsRecordRefused : Option Begun → List ℕ → Type 0
+IsRecordRefused left text = (reason : Reason) × IsRecordRefusedFor left text reason
 
 -- what was held and this text come next, as the record that was cut
 pub record EndsHeld (before after : RecordsState) (left : Option Begun) (text : List ℕ) : Type 0 where

@@ -7,7 +7,7 @@ ghost use Rattle.std.specs.Prelude.{IfSome, IfNone, IsTrue, None, Some, Ok, Err,
 ghost use Rattle.lis_message.specs.declared.records.Found.TheVariants.{Record as IsFound, Refused as IsRefusal};
 ghost use Rattle.lis_message.specs.Feeding.{answer_at_end, next_place};
 ghost use Rattle.lis_message.specs.inside.Kept.{opened_of, opened_with};
-ghost use Rattle.lis_message.specs.Records.{EndsHeld, HasLeft, IsStopped, IsTextRefused, IsTextRefusedFor, Reads};
+ghost use Rattle.lis_message.specs.Records.{EndsHeld, HasLeft, IsStopped, IsRecordRefused, IsRecordRefusedFor, Reads};
 ghost use Rattle.lis_message.specs.Records.{ReadsSome};
 ghost use Rattle.lis_message.specs.Stream.{LacksReturn, refusal};
 ghost use Rattle.lis_message.specs.inside.Taking.{ComesNext, front_refusal, left_after};
@@ -376,9 +376,9 @@ impl RecordReader {
         }
     }
 
-    /// Reads the next record where it stands whole in the bytes and nothing is held, and answers it and the bytes
-    /// behind; none where that isn't so, or it is refused, and then the reader is as it was: `read` tells what there
-    /// is. What it reads is what `read` does, in less time.
+    /// Reads the next record where it stands whole in the bytes, nothing is held and no record was cut, and answers it
+    /// and the bytes behind; none where that isn't so, or it is refused, and then the reader is as it was: `read` tells
+    /// what there is. What it reads is what `read` does, in less time.
     #[inline(always)]
     pub fn read_whole<'a>(&mut self, bytes: &'a [u8]) -> Option<(LentRecord<'a>, &'a [u8])>
         ensures read { IfSome result (λ found. (left : Option Begun) → HasLeft self.old left
@@ -387,7 +387,7 @@ impl RecordReader {
         ensures none { IfNone result (self.new ≡ self.old) }
         ensures refused { IfNone result ((left : Option Begun) → HasLeft self.old left → self.old.held ≡ []
             → self.old.cut ≡ None → (text behind : List ℕ) → LacksReturn text → bytes.now ≡ text ++ 13 ∷ behind
-            → IsTextRefused left text) }
+            → IsRecordRefused left text) }
     {
         if self.fault.is_some() || !self.kept.is_clear() {
             return None;
@@ -491,7 +491,7 @@ impl RecordReader {
             → ComesNext left text.now entry × (self.new.opened ≡ opened_of
             (left_after left entry entry.content.kind))) }
         ensures err { IfErr result (λ reason. (left : Option Begun) → self.old.opened ≡ opened_of left
-            → IsTextRefusedFor left text.now reason) }
+            → IsRecordRefusedFor left text.now reason) }
         ensures held { self.new.held ≡ self.old.held }
         ensures fault { self.new.fault ≡ self.old.fault }
         ensures same { IfErr result (λ _. self.new ≡ self.old) }
@@ -514,7 +514,7 @@ impl RecordReader {
         ensures ok { OnOk result ((left : Option Begun) → self.old.opened ≡ opened_of left
             → EndsHeld self.old self.new left text.now) }
         ensures err { IfErr result (λ reason. (left : Option Begun) → self.old.opened ≡ opened_of left
-            → (reason ≡ reasons.OutOfMemory) ⊎ IsTextRefusedFor left (self.old.held ++ text.now) reason) }
+            → (reason ≡ reasons.OutOfMemory) ⊎ IsRecordRefusedFor left (self.old.held ++ text.now) reason) }
         ensures told { OnOk result (is_some self.new.cut ≡ true) }
         ensures fault { self.new.fault ≡ self.old.fault }
     {

@@ -17,7 +17,7 @@ use Rattle.std.proofs.lemmas.List.Elements.{All-cons, All-head, All-tail, All-ni
 use Rattle.std.proofs.Math.Seq.{drop-append_seam, take-append_seam}
 use Rattle.lis_field.specs.Delimiters.{DelimiterBytes}
 use Rattle.lis_record.specs.Faults.{trailing_byte}
-use Rattle.lis_field.specs.Shape.{Components, Symbols, plain_component, plain_field}
+use Rattle.lis_field.specs.Shape.{Symbols, plain_component, plain_field}
 use Rattle.lis_field.specs.declared.symbols.Sym.TheVariants.{Char}
 use Rattle.lis_record.specs.inside.FrontReading.{components_of, fields_of, parts_behind, parts_of, repeats_of}
 use Rattle.lis_record.specs.inside.FrontReading.{symbols_of}
@@ -72,25 +72,38 @@ part_behind-mark mark text end is = go (position (λ b. b == mark) text) refl
         rw (is, e) (sym (IsFound-position mark text n e).is_first) in
         rw at (behind_first mark text)
 
+-- a text without the delimiter is one part
+pub whole_part : (mark : ℕ) (text : List ℕ) → Lacks mark text → parts_of mark text ≡ text ∷ []
+whole_part mark text free = slice_split_none (λ b. b == mark) text (Lacks-tests mark text free)
+
 -- ---- a field that is one component without an escape byte
 module _ (d : DelimiterBytes) where
-  pub plain_symbols : (text : List ℕ) → Lacks d.escape text → symbols_of d text ≡ plain_component text
-  plain_symbols [] free = symbols_of-nil d [] refl
-  plain_symbols (b ∷ bs) free =
+  -- the bytes before an escape byte are the first symbols
+  pub symbols_of-front : (front rest : List ℕ) → Lacks d.escape front
+      → symbols_of d (front ++ rest) ≡ plain_component front ++ symbols_of d rest
+  symbols_of-front [] rest free = refl
+  symbols_of-front (b ∷ bs) rest free =
       let P : ℕ → Type 0 = λ c. c ≢ d.escape in
-      symbols_of-plain d b bs (All-head P b bs free)
-      ∙ ap (λ (l : Symbols). Char b ∷ l) (plain_symbols bs (All-tail P b bs free))
+      symbols_of-plain d b (bs ++ rest) (All-head P b bs free)
+      ∙ ap (λ (l : Symbols). Char b ∷ l) (symbols_of-front bs rest (All-tail P b bs free))
 
-  whole_part : (mark : ℕ) (text : List ℕ) → Lacks mark text → parts_of mark text ≡ text ∷ []
-  whole_part mark text free = slice_split_none (λ b. b == mark) text (Lacks-tests mark text free)
+  pub plain_symbols : (text : List ℕ) → Lacks d.escape text → symbols_of d text ≡ plain_component text
+  plain_symbols text free =
+      ap (symbols_of d) (sym (append-nil text)) ∙ symbols_of-front text [] free
+      ∙ ap (λ (l : Symbols). plain_component text ++ l) (symbols_of-nil d [] refl)
+      ∙ append-nil (plain_component text)
+
+  -- a field of one component
+  pub single_read : (text : List ℕ) → Lacks d.repeat text → Lacks d.component text
+      → repeats_of d text ≡ (symbols_of d text ∷ []) ∷ []
+  single_read text repeat component =
+      ap (map (components_of d)) (whole_part d.repeat text repeat)
+      ∙ ap (λ (parts : List (List ℕ)). map (symbols_of d) parts ∷ []) (whole_part d.component text component)
 
   pub plain_read : (text : List ℕ) → Lacks d.repeat text → Lacks d.component text → Lacks d.escape text
       → repeats_of d text ≡ plain_field text
   plain_read text repeat component escape =
-      let one : components_of d text ≡ plain_component text ∷ [] =
-      ap (map (symbols_of d)) (whole_part d.component text component)
-      ∙ ap (λ (s : Symbols). s ∷ []) (plain_symbols text escape) in
-      ap (map (components_of d)) (whole_part d.repeat text repeat) ∙ ap (λ (r : Components). r ∷ []) one
+      single_read text repeat component ∙ ap (λ (s : Symbols). (s ∷ []) ∷ []) (plain_symbols text escape)
 
 -- ---- a first field that is one digit
 

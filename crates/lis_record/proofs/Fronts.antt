@@ -2,23 +2,21 @@
 use Rattle.std.proofs.Common.{◌≡◌, ◌≢◌, ℕ, ◌+◌, ◌<◌, ◌≤◌, ◌==◌, ◌||◌, Bool, true, false, List, [], ◌∷◌, ◌++◌, length}
 use Rattle.std.proofs.Common.{take, drop, map, None, Some, refl, sym, ap, subst, ◌∙◌, arith, eq-eqb, take-append-drop}
 use Rattle.std.proofs.Common.{append_assoc, append-nil, length-take, IsTrue}
-use Rattle.std.specs.List.{All, position_from}
+use Rattle.std.specs.List.{All, position, position_from}
 use Rattle.std.specs.Int.Count.{count_trailing_zeros}
 use Rattle.std.specs.Simd.Lanes.{mask_l}
 use Rattle.std.proofs.lemmas.Iterator.Adapters.{position_from-zero}
 use Rattle.std.proofs.lemmas.List.{drop-append-le, drop_all, take_all, take-append-le, take-take}
 use Rattle.std.proofs.lemmas.List.Elements.{All-append, All-cons, All-take, All-weaker}
-use Rattle.std.proofs.lemmas.List.Splits.{slice_split_at, slice_split_none}
 use Rattle.lis_field.specs.Delimiters.{DelimiterBytes, IsDelimiters}
 use Rattle.lis_field.specs.Shape.{Components, Symbols, plain_component}
 use Rattle.lis_record.specs.Faults.{trailing_byte}
 use Rattle.lis_record.specs.Relation.{Lacks}
 use Rattle.lis_record.specs.inside.FrontReading.{BeginsWith, ComponentFront, components_of, ends_part, parts_behind}
 use Rattle.lis_record.specs.inside.FrontReading.{parts_of, repeats_of, symbols_of}
-use Rattle.lis_record.proofs.FieldTexts.{plain_symbols, trailing-none}
-use Rattle.lis_record.proofs.Joins.{Lacks-tests}
+use Rattle.lis_record.proofs.FieldTexts.{plain_symbols, single_read, symbols_of-front, trailing-none, whole_part}
 use Rattle.lis_record.proofs.LentTexts.{Lacks-position}
-use Rattle.lis_record.proofs.PlainLengths.{all-fail}
+use Rattle.lis_record.proofs.PlainLengths.{all-fail, parts-marked}
 use Rattle.lis_text.proofs.SearchLemmas.{clean-before, found-chunk, found-within, passed-chunk}
 
 -- where bits tell that a byte stands nowhere among the first sixteen, or not before a place
@@ -51,6 +49,35 @@ module _ (mark : ℕ) (bytes : List ℕ) (bits count : ℕ) (room : 16 ≤ lengt
       (All-take (λ b. b ≢ mark) count before
       (Lacks-position mark before (position_from-zero test before ∙ (clean-before test bytes _ found).1)))
 
+-- where a byte stands first, by the bits of sixteen bytes
+pub near-found : (mark : ℕ) (bytes : List ℕ) (bits : ℕ) → 16 ≤ length bytes
+    → bits ≡ mask_l (map (λ b. b == mark) (take 16 bytes)) → (bits ≡ 0 → ⊥)
+    → position (λ b. b == mark) bytes ≡ Some (count_trailing_zeros 64 bits)
+near-found mark bytes bits room are some =
+    let test : ℕ → Bool = λ b. b == mark in
+    let set : mask_l (map test (take 16 bytes)) ≡ 0 → ⊥ = λ none. some (are ∙ none) in
+    let at : 0 + count_trailing_zeros 64 bits ≡ count_trailing_zeros 64 bits = omega arith in
+    position_from-zero test bytes ∙ rw (← are) at (found-chunk test 0 16 bytes (omega arith) room set) ∙ ap Some at
+
+-- the front of a text, where it stands once more with others behind it
+module _ (text padded : List ℕ) (begins : BeginsWith padded text) (n : ℕ) (within : n ≤ length text) where
+  pub take-begins : take n padded ≡ take n text
+  take-begins = ap (take n) begins.1 ∙ take-append-le n text begins.0 within
+
+  pub Lacks-begins : (mark : ℕ) → Lacks mark (take n padded) → Lacks mark (take n text)
+  Lacks-begins mark free = subst (Lacks mark) take-begins free
+
+  -- a component of the bytes before an escape byte and the symbols of those behind them
+  pub fronted-symbols : (d : DelimiterBytes) (rest : List ℕ) (front whole : Symbols) → Lacks d.escape (take n text)
+      → front ≡ plain_component (take n padded) → rest ≡ drop n text → whole ≡ front ++ symbols_of d rest
+      → whole ≡ symbols_of d text
+  fronted-symbols d rest front whole free front_is rest_is whole_is =
+      whole_is
+      ∙ ap (λ (s : Symbols). s ++ symbols_of d rest) (front_is ∙ ap plain_component take-begins)
+      ∙ ap (λ (l : List ℕ). plain_component (take n text) ++ symbols_of d l) rest_is
+      ∙ sym (symbols_of-front d (take n text) (drop n text) free)
+      ∙ ap (symbols_of d) (take-append-drop n text)
+
 -- the first delimiter at which a component ends, by the bits of sixteen bytes
 module _ (d : DelimiterBytes) (padded : List ℕ) (bits : ℕ) (room : 16 ≤ length padded)
     (are : bits ≡ mask_l (map (ends_part d) (take 16 padded))) (some : bits ≡ 0 → ⊥) where
@@ -67,6 +94,7 @@ module _ (d : DelimiterBytes) (padded : List ℕ) (bits : ℕ) (room : 16 ≤ le
 
 -- what ends no component
 record Inner (d : DelimiterBytes) (b : ℕ) : Type 0 where
+  field : b ≢ d.field
   repeat : b ≢ d.repeat
   component : b ≢ d.component
 
@@ -81,20 +109,37 @@ inner d b none = by (b == d.field) (b == d.repeat) (b == d.component) refl refl 
     by true q r pe qe re none = cc none
     by false true r pe qe re none = cc none
     by false false true pe qe re none = cc none
-    by false false false pe qe re none = record { repeat = other d.repeat qe; component = other d.component re }
+    by false false false pe qe re none = record {
+      field = other d.field pe;
+      repeat = other d.repeat qe;
+      component = other d.component re;
+    }
+
+-- the text up to the first delimiter at which a component ends
+module _ (d : DelimiterBytes) (text : List ℕ) (end : ℕ) (found : position_from (ends_part d) 0 text ≡ Some end) where
+  inside : All (Inner d) (take end text)
+  inside = All-weaker (λ b. ends_part d b ≡ false) (Inner d) (inner d) (take end text)
+      (all-fail (ends_part d) 0 (take end text) (clean-before (ends_part d) text end found).1)
+
+  pub single-bound : end < length text
+  single-bound = (clean-before (ends_part d) text end found).0
+
+  pub single-symbols : repeats_of d (take end text) ≡ (symbols_of d (take end text) ∷ []) ∷ []
+  single-symbols = single_read d (take end text)
+      (All-weaker (Inner d) (λ b. b ≢ d.repeat) (λ b p. p.repeat) (take end text) inside)
+      (All-weaker (Inner d) (λ b. b ≢ d.component) (λ b p. p.component) (take end text) inside)
+
+  pub single-first : (byte : ℕ) (rest : List ℕ) → drop end text ≡ byte ∷ rest → byte ≡ d.field
+      → parts_of d.field text ≡ take end text ∷ parts_behind d.field (drop end text)
+  single-first = parts-marked d.field text end
+      (All-weaker (Inner d) (λ b. b ≢ d.field) (λ b p. p.field) (take end text) inside)
 
 module _ (d : DelimiterBytes) (text padded : List ℕ) (begins : BeginsWith padded text) (end : ℕ)
     (found : position_from (ends_part d) 0 padded ≡ Some end) where
-  same-front : (n : ℕ) → n ≤ length text → take n padded ≡ take n text
-  same-front n within = ap (take n) begins.1 ∙ take-append-le n text begins.0 within
-
   front : (n : ℕ) → n ≤ end → n ≤ length text → All (Inner d) (take n text)
   front n few within =
-      let before = take end padded in
-      subst (All (Inner d)) (take-take n end padded few ∙ same-front n within)
-      (All-take (Inner d) n before
-      (All-weaker (λ b. ends_part d b ≡ false) (Inner d) (inner d) before
-      (all-fail (ends_part d) 0 before (clean-before (ends_part d) padded end found).1)))
+      subst (All (Inner d)) (take-take n end padded few ∙ take-begins text padded begins n within)
+      (All-take (Inner d) n (take end padded) (inside d padded end found))
 
   no-repeat : (n : ℕ) → n ≤ end → n ≤ length text → Lacks d.repeat (take n text)
   no-repeat n few within = All-weaker (Inner d) (λ b. b ≢ d.repeat) (λ b p. p.repeat) (take n text) (front n few within)
@@ -107,7 +152,7 @@ module _ (d : DelimiterBytes) (text padded : List ℕ) (begins : BeginsWith padd
     are-symbols : (n : ℕ) → n ≤ length text → (IsTrue plain → Lacks d.escape (take n padded)) → IsTrue plain
         → symbols_of d (take n text) ≡ plain_component (take n text)
     are-symbols n within free true_is =
-        plain_symbols d (take n text) (subst (Lacks d.escape) (same-front n within) (free true_is))
+        plain_symbols d (take n text) (Lacks-begins text padded begins n within d.escape (free true_is))
 
     -- a component delimiter ends it
     pub front-marked : end < length text → (byte : ℕ) (rest : List ℕ) → drop end text ≡ byte ∷ rest
@@ -117,13 +162,7 @@ module _ (d : DelimiterBytes) (text padded : List ℕ) (begins : BeginsWith padd
         let within : end ≤ length text = omega (arith, inside) in
         record {
           within = within;
-          parts =
-              ap (parts_of d.component)
-              (sym (take-append-drop end text) ∙ ap (λ (l : List ℕ). take end text ++ l) is)
-              ∙ slice_split_at (λ b. b == d.component) (take end text) byte rest
-              (Lacks-tests d.component (take end text) (no-component end few within))
-              (eq-eqb byte d.component mark)
-              ∙ ap (λ (l : List ℕ). take end text ∷ parts_behind d.component l) (sym is);
+          parts = parts-marked d.component text end (no-component end few within) byte rest is mark;
           symbols = are-symbols end within free;
           single = no-repeat end few within;
           next = rw (is, eq-eqb byte d.component mark) refl;
@@ -142,8 +181,7 @@ module _ (d : DelimiterBytes) (text padded : List ℕ) (begins : BeginsWith padd
           within = within;
           parts =
               rw (all, none)
-              (slice_split_none (λ b. b == d.component) text
-              (Lacks-tests d.component text (subst (Lacks d.component) all (no-component n few within))));
+              (whole_part d.component text (subst (Lacks d.component) all (no-component n few within)));
           symbols = are-symbols n within free;
           single = no-repeat n few within;
           next = rw none refl;
@@ -155,7 +193,7 @@ pub front-read : (d : DelimiterBytes) (text padded : List ℕ) (end : ℕ) (plai
     → added ≡ plain_component (take end padded) → added ≡ symbols_of d (take end text)
 front-read d text padded end plain added begins f true_is is =
     is
-    ∙ ap plain_component (ap (take end) begins.1 ∙ take-append-le end text begins.0 f.within)
+    ∙ ap plain_component (take-begins text padded begins end f.within)
     ∙ sym (f.symbols true_is)
 
 -- a component was read, and what is left of the field; no repeat ended before it
@@ -217,6 +255,5 @@ module _ (d : DelimiterBytes) (text : List ℕ) where
         sym (append-nil components)
         ∙ ap (λ (l : List ℕ). components ++ map (symbols_of d) (parts_behind d.component l)) (sym none) ∙ p.all in
         ap (map (components_of d))
-        (slice_split_none (λ b. b == d.repeat) text (Lacks-tests d.repeat text (subst (Lacks d.repeat) (sym all)
-        p.single)))
+        (whole_part d.repeat text (subst (Lacks d.repeat) (sym all) p.single))
         ∙ ap (λ (r : Components). r ∷ []) (sym read)

@@ -9,6 +9,7 @@ use Rattle.std.proofs.lemmas.Bool.{eqb-true}
 use Rattle.std.proofs.lemmas.List.{append_assoc, drop-append-le, drop-drop, length-append, length-drop}
 use Rattle.std.proofs.lemmas.List.Splits.{slice_split_at}
 use Rattle.lis_field.specs.Delimiters.{DelimiterBytes}
+use Rattle.lis_field.specs.declared.kinds.Kind.{Kind}
 use Rattle.lis_field.specs.Shape.{RecordContent}
 use Rattle.lis_record.specs.Faults.{trailing_byte}
 use Rattle.lis_record.specs.Relation.{Lacks}
@@ -173,3 +174,30 @@ end-padded text front kept marks last count few room long is ends some =
     ∙ ap (λ (l : List ℕ). drop (count - length last) l ++ marks) is
     ∙ ap (λ (l : List ℕ). l ++ marks) (drop-drop (count - length last) (length text - count) text
     ∙ ap (λ (n : ℕ). drop n text) behind ∙ at-end text last ends)
+
+-- ---- the fields of a record, taken one behind another
+
+-- the fields so far, and those that are left at the text's end, are all; its last bytes stand before delimiters
+pub record Reading (d : DelimiterBytes) (kind : Kind) (content : RecordContent) (end rest text : List ℕ) : Type 0 where
+  pub kind_is : content.kind ≡ kind
+  pub fields : content.fields ++ map (repeats_of d) (parts_behind d.field rest) ≡ fields_of d text
+  pub ends : EndsWith text rest
+  pub padded : (last : List ℕ) → EndsWith text last → length last ≤ 16
+      → drop (16 - length last) end ≡ last ++ replicate 16 d.field
+
+-- what stands behind the delimiter that is next
+pub reading_on : (text rest more : List ℕ) (delimiter : ℕ) → EndsWith text rest → rest ≡ delimiter ∷ more
+    → EndsWith text more
+reading_on text rest more delimiter ends is = ends-on text rest more ends (delimiter ∷ [], is)
+
+-- one field is taken
+pub reading_next : (d : DelimiterBytes) (kind : Kind) (before after : RecordContent)
+    (end rest more others text : List ℕ) (delimiter : ℕ) → Reading d kind before end rest text
+    → rest ≡ delimiter ∷ more → TakesField d before after more others → Reading d kind after end others text
+reading_next d kind before after end rest more others text delimiter r is took = record {
+  kind_is = took.kind_is ∙ r.kind_is;
+  fields =
+      took.fields ∙ sym (ap (λ (l : List ℕ). before.fields ++ fields_of d l) is) ∙ r.fields;
+  ends = ends-on text more others (reading_on text rest more delimiter r.ends is) took.ends;
+  padded = r.padded;
+}

@@ -25,6 +25,16 @@ all-fail f i (x ∷ xs) e = by (f x) refl e (all-fail f (i + 1) xs)
     by true t e later = cc e
     by false t e later = All-cons (λ b. f b ≡ false) x xs t (later e)
 
+-- a delimiter ends the first part
+pub parts-marked : (mark : ℕ) (text : List ℕ) (end : ℕ) → Lacks mark (take end text) → (byte : ℕ) (rest : List ℕ)
+    → drop end text ≡ byte ∷ rest → byte ≡ mark
+    → parts_of mark text ≡ take end text ∷ parts_behind mark (drop end text)
+parts-marked mark text end lacks byte rest is same =
+    ap (parts_of mark) (sym (take-append-drop end text) ∙ ap (λ (l : List ℕ). take end text ++ l) is)
+    ∙ slice_split_at (λ b. b == mark) (take end text) byte rest (Lacks-tests mark (take end text) lacks)
+    (eq-eqb byte mark same)
+    ∙ ap (λ (l : List ℕ). take end text ∷ parts_behind mark l) (sym is)
+
 module _ (d : DelimiterBytes) where
   -- what is no delimiter is none of the four
   pub record Plain (b : ℕ) : Type 0 where
@@ -77,10 +87,5 @@ module _ (d : DelimiterBytes) where
 
     pub plain-first : (byte : ℕ) (rest : List ℕ) → drop end text ≡ byte ∷ rest → byte ≡ d.field
         → parts_of d.field text ≡ take end text ∷ parts_behind d.field (drop end text)
-    plain-first byte rest is mark =
-        let lacks : Lacks d.field (take end text) =
-        All-weaker Plain (λ b. b ≢ d.field) (λ b p. p.field) (take end text) before in
-        ap (parts_of d.field) (sym (take-append-drop end text) ∙ ap (λ (l : List ℕ). take end text ++ l) is)
-        ∙ slice_split_at (λ b. b == d.field) (take end text) byte rest (Lacks-tests d.field (take end text) lacks)
-        (eq-eqb byte d.field mark)
-        ∙ ap (λ (l : List ℕ). take end text ∷ parts_behind d.field l) (sym is)
+    plain-first = parts-marked d.field text end
+        (All-weaker Plain (λ b. b ≢ d.field) (λ b p. p.field) (take end text) before)

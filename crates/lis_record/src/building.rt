@@ -1,16 +1,15 @@
 //! Records made from their texts, part by part (LIS02-A2, Delimiters).
 
-ghost use Rattle.std.specs.Prelude.{◌≡◌, ◌≤◌, ◌-◌, ◌++◌, ◌∷◌, ◌↔◌, [], ℕ, List, IfOk, IfSome, IsTrue, OnOk, drop};
+ghost use Rattle.std.specs.Prelude.{◌≡◌, ◌<◌, ◌≤◌, ◌-◌, ◌++◌, ◌∷◌, ◌↔◌, [], ℕ, List, IfOk, IfSome, IsTrue, OnOk, drop};
 ghost use Rattle.std.specs.Prelude.{length, map, replicate, take};
-ghost use Rattle.lis_field.specs.Shape.{plain_field};
-ghost use Rattle.lis_record.specs.inside.FrontReading.{components_of, fields_of, parts_of, repeats_of};
+ghost use Rattle.lis_record.specs.inside.FrontReading.{components_of, fields_of, parts_behind, parts_of, repeats_of};
 ghost use Rattle.lis_record.specs.inside.FrontReading.{BeginsWith, ComponentFront, EndsWith, TakesField, ends_part};
 ghost use Rattle.lis_record.specs.inside.FrontReading.{IsPlainText, symbols_of};
 ghost use Rattle.lis_record.specs.Relation.{Lacks};
 ghost use Rattle.std.specs.Simd.Lanes.{mask_l};
 
-use crate::escapes::read_component;
-use crate::search::{bits_of, place_of, plain_length};
+use crate::escapes::{read_component, read_short_component};
+use crate::search::{bits_of, near_end, place_of, plain_length};
 use crate::texts::{count_parts, first_part};
 use lis_field::{Component, Delimiters, Field, Kind, Record, Repeat};
 use std::alloc::{AllocError, Global};
@@ -19,8 +18,7 @@ use std::simd::prelude::*;
 // Whether a field is one component without an escape byte, so that its bytes are its symbols.
 #[inline(always)]
 pub(crate) fn is_plain(delimiters: Delimiters, text: &[u8]) -> bool
-    ensures plain { IsTrue result → repeats_of delimiters text.now ≡ plain_field text.now }
-    ensures exact { IsTrue result ↔ IsPlainText delimiters text.now }
+    ensures { IsTrue result ↔ IsPlainText delimiters text.now }
 {
     let [repeat, component, escape] = [
         delimiters.repeat(),
@@ -289,7 +287,49 @@ fn padded_end(text: &[u8], mark: u8) -> [u8; 32]
     padded
 }
 
-// The same of a field that is longer than sixteen bytes, has several components or repeats, or has an escape.
+// The length of the field that a text begins with, where it is one component and a field delimiter ends it within
+// sixteen bytes; else none. It may have escapes.
+#[inline(always)]
+fn single_length(delimiters: Delimiters, text: &[u8]) -> Option<usize>
+    ensures first { IfSome result (λ end. parts_of delimiters.field text.now
+        ≡ take end text.now ∷ parts_behind delimiters.field (drop end text.now)) }
+    ensures single { IfSome result (λ end. repeats_of delimiters (take end text.now)
+        ≡ (symbols_of delimiters (take end text.now) ∷ []) ∷ []) }
+    ensures bound { IfSome result (λ end. end < length text.now) }
+    ensures room { IfSome result (λ end. 16 ≤ length text.now) }
+{
+    if text.len() < 16 {
+        return None;
+    }
+    let bits = part_bits(delimiters, text);
+    if bits == 0 {
+        return None;
+    }
+    let end = bits.trailing_zeros() as usize;
+    if text[end] == delimiters.field() {
+        Some(end)
+    } else {
+        None
+    }
+}
+
+// What stands before the first delimiter, and the rest from that delimiter on. The text is given twice, once with
+// delimiters behind it or none, so that sixteen bytes can be looked at.
+#[inline(always)]
+fn first_padded<'a>(text: &'a [u8], padded: &[u8], delimiter: u8) -> (&'a [u8], &'a [u8])
+    requires { (count : ℕ) × (padded.now ≡ text.now ++ replicate count delimiter) }
+    ensures parts { parts_of delimiter text.now ≡ result.0.now ∷ parts_behind delimiter result.1.now }
+    ensures shorter { length result.1.now ≤ length text.now }
+    ensures joined { text.now ≡ result.0.now ++ result.1.now }
+{
+    let Some(end) = near_end(padded, delimiter) else {
+        return first_part(text, delimiter);
+    };
+    text.split_at(end)
+}
+
+// Adds the field that a text begins with, where it is longer than sixteen bytes, has several components or repeats, or
+// has an escape, as `push_next` does.
 #[inline(never)]
 fn push_other<'a>(
     alloc: Global,
@@ -298,10 +338,16 @@ fn push_other<'a>(
     text: &'a [u8],
     padded: &[u8],
 ) -> Result<&'a [u8], AllocError>
-    requires { BeginsWith padded.now text.now }
+    requires { (count : ℕ) × (padded.now ≡ text.now ++ replicate count delimiters.field) }
     ensures { IfOk result (λ rest. TakesField delimiters entry.old entry.new text.now rest.now) }
 {
-    let (part, rest) = first_part(text, delimiters.field());
+    if let Some(end) = single_length(delimiters, padded) {
+        let (part, rest) = text.split_at(end);
+        let component = read_short_component(alloc, delimiters, part, padded)?;
+        entry.push(Field::new(alloc, Repeat::new(alloc, component)?)?)?;
+        return Ok(rest);
+    }
+    let (part, rest) = first_padded(text, padded, delimiters.field());
     entry.push(read_parted(alloc, delimiters, part, padded)?)?;
     Ok(rest)
 }
@@ -322,6 +368,12 @@ fn push_next<'a>(
     let Some(end) = plain_length(delimiters, padded) else {
         return push_other(alloc, delimiters, entry, text, padded);
     };
+    // Many fields are empty, at the same places of most records of a kind.
+    if end == 0 {
+        let empty = Repeat::new(alloc, Component::new(alloc))?;
+        entry.push(Field::new(alloc, empty)?)?;
+        return Ok(text);
+    }
     entry.push(Field::from_front(alloc, padded, end)?)?;
     let (_field, rest) = text.split_at(end);
     Ok(rest)
@@ -342,13 +394,14 @@ pub(crate) fn read_fields(
     let end = padded_end(text, delimiters.field());
     let mut rest = text;
     while let Some((_delimiter, more)) = rest.split_first() {
-        let padded = if more.len() < 16 {
-            let (_, last) = end.split_at(16 - more.len());
-            last
-        } else {
-            more
-        };
-        rest = push_next(alloc, delimiters, &mut record, more, padded)?;
+        if more.len() < 16 {
+            break;
+        }
+        rest = push_next(alloc, delimiters, &mut record, more, more)?;
+    }
+    while let Some((_last_delimiter, last)) = rest.split_first() {
+        let (_, padded) = end.split_at(16 - last.len());
+        rest = push_next(alloc, delimiters, &mut record, last, padded)?;
     }
     Ok(record)
 }

@@ -1,13 +1,15 @@
 //! A component's symbols, and the escapes among them, read where they stand (LIS02-A2, Delimiters).
 
-ghost use Rattle.std.specs.Prelude.{◌≡◌, ◌<◌, ◌++◌, ◌∷◌, [], IfOk, IsTrue, MatchOption, Some, None, is_some, unwrap_or};
+ghost use Rattle.std.specs.Prelude.{◌≡◌, ◌≤◌, ◌<◌, ◌++◌, ◌∷◌, [], IfOk, IsTrue, MatchOption, OnOk, Some, None};
+ghost use Rattle.std.specs.Prelude.{is_some, length, take, unwrap_or};
 ghost use Rattle.std.specs.List.{list_all};
 ghost use Rattle.lis_field.specs.declared.symbols.Sym.TheVariants.{Raw};
 ghost use Rattle.hex.specs.Hex.{decode_of, hex_digit_value, is_hex_digit};
 ghost use Rattle.lis_record.specs.Escapes.{escape_of, letter_symbol, raw_symbols};
-ghost use Rattle.lis_record.specs.inside.FrontReading.{ArePairs, digit_symbols, symbols_left, symbols_of};
+ghost use Rattle.lis_record.specs.inside.FrontReading.{ArePairs, BeginsWith, digit_symbols, symbols_left, symbols_of};
+ghost use Rattle.lis_record.specs.Relation.{Lacks};
 
-use crate::search::place_of;
+use crate::search::{bits_of, place_of};
 use lis_field::{Component, Delimiters, Sym};
 use std::alloc::{AllocError, Global};
 use std::marker::Model;
@@ -109,6 +111,7 @@ pub(crate) fn escape_meaning(delimiters: Delimiters, inside: &[u8]) -> Option<(S
 
 // The first symbol behind an escape byte, the digits of an escape that are left and the text behind it. Where
 // the escape byte begins no escape, it is itself, and the text is left.
+#[inline(always)]
 fn escape_symbol(delimiters: Delimiters, text: &[u8]) -> (Sym, &[u8], &[u8])
     ensures same { symbols_of delimiters (delimiters.escape ∷ text.now) ≡ result.0
         ∷ symbols_left delimiters result.1.now result.2.now }
@@ -126,6 +129,7 @@ fn escape_symbol(delimiters: Delimiters, text: &[u8]) -> (Sym, &[u8], &[u8])
 }
 
 // The first symbol of a text, the digits of an escape that are left and the text behind it.
+#[inline(always)]
 fn first_symbol(delimiters: Delimiters, text: &[u8]) -> Option<(Sym, &[u8], &[u8])>
     ensures { MatchOption result (symbols_of delimiters text.now ≡ [])
         (λ found. (symbols_of delimiters text.now ≡ found.0 ∷ symbols_left delimiters found.1.now found.2.now)
@@ -191,6 +195,22 @@ impl<'a> LentSymbols<'a> {
     }
 }
 
+// Adds the symbols of a text to a component.
+#[inline(always)]
+fn push_symbols(
+    component: &mut Component,
+    delimiters: Delimiters,
+    text: &[u8],
+) -> Result<(), AllocError>
+    ensures { OnOk result (component.new ≡ component.old ++ symbols_of delimiters text.now) }
+{
+    let mut symbols = LentSymbols::of_text(delimiters, text);
+    while let Some(symbol) = symbols.next() {
+        component.push(symbol)?;
+    }
+    Ok(())
+}
+
 // Reads a component from its front.
 pub(crate) fn read_component(
     alloc: Global,
@@ -201,9 +221,41 @@ pub(crate) fn read_component(
 {
     // No symbol has less than a byte, so this is taken once.
     let mut component = Component::with_capacity(alloc, text.len())?;
-    let mut symbols = LentSymbols::of_text(delimiters, text);
-    while let Some(symbol) = symbols.next() {
-        component.push(symbol)?;
+    push_symbols(&mut component, delimiters, text)?;
+    Ok(component)
+}
+
+// How many of a text's first sixteen bytes stand before an escape byte. The text is given twice, once with more behind
+// it or nothing, so that sixteen bytes can be looked at.
+#[inline(always)]
+fn plain_front(delimiters: Delimiters, text: &[u8], padded: &[u8]) -> usize
+    requires room { 16 ≤ length padded.now }
+    requires begins { BeginsWith padded.now text.now }
+    ensures within { result ≤ length text.now }
+    ensures plain { Lacks delimiters.escape (take result text.now) }
+{
+    let bits = bits_of(padded, delimiters.escape());
+    if bits == 0 {
+        return text.len().min(16);
     }
+    text.len().min(bits.trailing_zeros() as usize)
+}
+
+// Reads a component from its front, the bytes before its first escape byte at once. The text is given twice, as above.
+#[inline(never)]
+pub(crate) fn read_short_component(
+    alloc: Global,
+    delimiters: Delimiters,
+    text: &[u8],
+    padded: &[u8],
+) -> Result<Component, AllocError>
+    requires room { 16 ≤ length padded.now }
+    requires begins { BeginsWith padded.now text.now }
+    ensures { IfOk result (λ component. component ≡ symbols_of delimiters text.now) }
+{
+    let plain = plain_front(delimiters, text, padded);
+    let mut component = Component::from_front(alloc, padded, plain)?;
+    let (_, rest) = text.split_at(plain);
+    push_symbols(&mut component, delimiters, rest)?;
     Ok(component)
 }

@@ -245,6 +245,23 @@ pub(crate) fn plain_length(delimiters: Delimiters, text: &[u8]) -> Option<usize>
     }
 }
 
+/// The length of the part that a text begins with, where a delimiter ends it within sixteen bytes; else none.
+#[inline(always)]
+pub(crate) fn near_end(text: &[u8], delimiter: u8) -> Option<usize>
+    ensures first { IfSome result (λ end. parts_of delimiter text.now
+        ≡ take end text.now ∷ parts_behind delimiter (drop end text.now)) }
+    ensures bound { IfSome result (λ end. end < length text.now) }
+{
+    if text.len() < 16 {
+        return None;
+    }
+    let bits = bits_of(text, delimiter);
+    if bits == 0 {
+        return None;
+    }
+    Some(bits.trailing_zeros() as usize)
+}
+
 /// How many bytes are this one.
 #[inline(always)]
 pub(crate) fn count_of(text: &[u8], mark: u8) -> usize

@@ -2,7 +2,6 @@ use Rattle.std.proofs.Common.{◌≢◌, ℕ, arith, refl}
 use Rattle.std.proofs.lemmas.List.{take_all}
 use Rattle.std.proofs.lemmas.List.Elements.{All-weaker}
 use Rattle.lis_record.specs.inside.FrontReading.{IsPlainText}
-use Rattle.lis_record.proofs.FieldTexts.{plain_read}
 use Rattle.lis_record.proofs.building.is_plain.Goals as goal
 
 pub returns : goal.returns
@@ -17,7 +16,4 @@ returns c =
           rw c.component.ensures at (All-weaker Free (λ b. b ≢ c.component.result) (λ b all. all.1.0) text free);
       escape = rw c.escape.ensures at (All-weaker Free (λ b. b ≢ c.escape.result) (λ b all. all.1.1) text free);
     } in
-    record {
-      plain = λ _. plain_read d text plain.repeat plain.component plain.escape;
-      exact = (λ _. plain, λ _. refl);
-    }
+    (λ _. plain, λ _. refl)

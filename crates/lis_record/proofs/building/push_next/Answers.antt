@@ -19,8 +19,8 @@ returns c =
     c.in-Some.ensures.first in
     let field : c.in_ok-from_front.field-0 ≡ repeats_of d part =
     c.in_ok-from_front.ensures ∙ sym c.in-Some.ensures.plain in
-    takes_field d c.args.entry.now c.push.new.self text c.split_at.result.1.now part end begins
-    (c.in_ok-push.ensures.ok ∙ ap (λ (f : Repeats). record c.args.entry.now {
+    takes_field d c.args.entry.now c.push-2.new.self text c.split_at.result.1.now part end begins
+    (c.in_ok-push-2.ensures.ok ∙ ap (λ (f : Repeats). record c.args.entry.now {
       fields = c.args.entry.now.fields ++ f ∷ [];
     }) field)
     c.split_at.ensures.back
