@@ -166,6 +166,32 @@ fn a_component_holds_few_symbols_and_many(rt: HostRuntime) -> Result<(), Fail> {
     Ok(())
 }
 
+// Fails where a component or a field of so many bytes of a text isn't these.
+fn assert_front(rt: &impl Abort, alloc: Global, text: &[u8], count: usize, want: &[u8]) -> Result<(), Fail> {
+    let component = Component::from_front(alloc, text, count)?;
+    let bytes = component.to_text(alloc)?.expect(rt, "a text");
+    assert_eq!(rt; bytes.as_slice(), want);
+    let field = Field::from_front(alloc, text, count)?;
+    let bytes = field.to_text(alloc)?.expect(rt, "a text");
+    assert_eq!(rt; bytes.as_slice(), want);
+    Ok(())
+}
+
+#[test]
+fn the_front_of_a_text_makes_a_component_and_a_field(rt: HostRuntime) -> Result<(), Fail> {
+    let told: [(&[u8], usize, &[u8]); 5] = [
+        (b"3.9 to 6.1|N||F|", 10, b"3.9 to 6.1"),
+        (b"N||F||op7|20240511", 0, b""),
+        (b"20240511101500|A", 15, b"20240511101500|"),
+        (b"20240511101500|A4", 16, b"20240511101500|A"),
+        (b"N", 4, b"N"),
+    ];
+    for (text, count, want) in told {
+        assert_front(&rt, rt.alloc(), text, count, want)?;
+    }
+    Ok(())
+}
+
 // Whether the copy of a record is the same, and that of its field 3.
 fn is_copied(rt: &impl Abort, alloc: Global, entry: &Record) -> Result<bool, AllocError> {
     let copy = entry.copy(alloc)?;
