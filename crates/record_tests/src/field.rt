@@ -167,7 +167,13 @@ fn a_component_holds_few_symbols_and_many(rt: HostRuntime) -> Result<(), Fail> {
 }
 
 // Fails where a component or a field of so many bytes of a text isn't these.
-fn assert_front(rt: &impl Abort, alloc: Global, text: &[u8], count: usize, want: &[u8]) -> Result<(), Fail> {
+fn assert_front(
+    rt: &impl Abort,
+    alloc: Global,
+    text: &[u8],
+    count: usize,
+    want: &[u8],
+) -> Result<(), Fail> {
     let component = Component::from_front(alloc, text, count)?;
     let bytes = component.to_text(alloc)?.expect(rt, "a text");
     assert_eq!(rt; bytes.as_slice(), want);
