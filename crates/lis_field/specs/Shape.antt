@@ -59,15 +59,18 @@ IsSymbol Off = Unit {0}
 abbrev pub AreSymbols : Symbols → Type 0
 AreSymbols symbols = All IsSymbol symbols
 
+-- one item or more, each of them as it is to be
+pub record AreSome {A : Type 0} (IsItem : A → Type 0) (items : List A) : Type 0 where
+  pub some : 0 < length items
+  pub each : All IsItem items
+
 -- a repeat has a component
-pub record IsRepeatShape (components : Components) : Type 0 where
-  pub some : 0 < length components
-  pub each : All AreSymbols components
+abbrev pub IsRepeatShape : Components → Type 0
+IsRepeatShape components = AreSome AreSymbols components
 
 -- a field has a repeat
-pub record IsFieldShape (repeats : Repeats) : Type 0 where
-  pub some : 0 < length repeats
-  pub each : All IsRepeatShape repeats
+abbrev pub IsFieldShape : Repeats → Type 0
+IsFieldShape repeats = AreSome IsRepeatShape repeats
 
 abbrev pub AreFields : Fields → Type 0
 AreFields fields = All IsFieldShape fields

@@ -2,17 +2,22 @@
 //! fields.
 #![tactic(auto)]
 
+mod component;
 mod delimiting;
 mod few;
+mod field;
 mod kinds;
 mod one_or_more;
 mod parts;
 mod records;
+mod repeat;
 mod symbol_list;
 mod symbols;
 
+pub use component::Component;
 pub use delimiting::{DelimiterFault, Delimiters};
+pub use field::Field;
 pub use kinds::Kind;
-pub use parts::{Component, Field, Repeat};
 pub use records::Record;
+pub use repeat::Repeat;
 pub use symbols::Sym;

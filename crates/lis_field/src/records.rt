@@ -13,8 +13,8 @@ ghost use Rattle.lis_field.specs.contracts.symbols.SymPartialEq.TheImpl.Laws as 
 ghost use Rattle.lis_field.specs.contracts.symbols.SymEq.TheImpl.Laws as symbol_eq_laws;
 ghost use Rattle.lis_field.specs.Shape.{AreFields, IsRecordShape, field_at, first_number, plain_field};
 
+use crate::field::Field;
 use crate::kinds::Kind;
-use crate::parts::Field;
 use std::alloc::{AllocError, AllocFailed, Global};
 use std::marker::Model;
 

@@ -21,6 +21,7 @@ use Rattle.lis_record.specs.Text.{IsRecordText, is_text_byte, bad_byte_place, re
 use Rattle.lis_field.proofs.FirstFaults.{AllPass-position, ltb-past, ltb_tells, option_map-none, option_or-none}
 use Rattle.lis_field.proofs.FirstFaults.{position-AllPass}
 use Rattle.lis_field.proofs.DelimiterFaults.{IsDelimiters-delimiters_of, delimiter_fault-IsDelimiters}
+use Rattle.lis_record.proofs.KindCases.{other_kind}
 use Rattle.lis_record.proofs.RecordTexts.{AreFieldTexts-fields_of, AreFieldTexts-none}
 
 cond_none : {X : Type 0} (b : Bool) (x : X) → cond b None (Some x) ≡ None → b ≡ true
@@ -64,26 +65,11 @@ other_than_header kinds.S h = λ e. cc
 other_than_header kinds.L h = λ e. cc
 
 pub declared_part-other : (d : DelimiterBytes) (kind : Kind) → kind ≢ kinds.H → declared_part d kind ≡ []
-declared_part-other d kinds.H h = absurd (h refl)
-declared_part-other d kinds.P h = refl
-declared_part-other d kinds.O h = refl
-declared_part-other d kinds.R h = refl
-declared_part-other d kinds.C h = refl
-declared_part-other d kinds.Q h = refl
-declared_part-other d kinds.M h = refl
-declared_part-other d kinds.S h = refl
-declared_part-other d kinds.L h = refl
+declared_part-other d = other_kind (λ kind. declared_part d kind ≡ []) refl refl refl refl refl refl refl refl
 
 pub is_other_kind-other : (kind : Kind) → kind ≢ kinds.H → is_other_kind (Some kind) ≡ true
-is_other_kind-other kinds.H h = absurd (h refl)
-is_other_kind-other kinds.P h = refl
-is_other_kind-other kinds.O h = refl
-is_other_kind-other kinds.R h = refl
-is_other_kind-other kinds.C h = refl
-is_other_kind-other kinds.Q h = refl
-is_other_kind-other kinds.M h = refl
-is_other_kind-other kinds.S h = refl
-is_other_kind-other kinds.L h = refl
+is_other_kind-other =
+    other_kind (λ kind. is_other_kind (Some kind) ≡ true) refl refl refl refl refl refl refl refl
 
 -- where nothing but a field delimiter follows, what is behind it are fields
 AreFieldTexts-behind : (d : DelimiterBytes) → IsDelimiters d → (bytes : List ℕ)

@@ -17,7 +17,9 @@ use Rattle.std.proofs.lemmas.List.Elements.{All-cons, All-head, All-tail, All-ni
 use Rattle.std.proofs.Math.Seq.{drop-append_seam, take-append_seam}
 use Rattle.lis_field.specs.Delimiters.{DelimiterBytes}
 use Rattle.lis_record.specs.Faults.{trailing_byte}
-use Rattle.lis_field.specs.Shape.{Symbols, plain_component, plain_field}
+use Rattle.lis_field.specs.declared.kinds.Kind.{Kind}
+use Rattle.lis_field.specs.Shape.{RecordContent, Symbols, plain_component, plain_field}
+use Rattle.lis_record.specs.Lent.{Lent, lent}
 use Rattle.lis_field.specs.declared.symbols.Sym.TheVariants.{Char}
 use Rattle.lis_record.specs.inside.FrontReading.{components_of, fields_of, parts_behind, parts_of, repeats_of}
 use Rattle.lis_record.specs.inside.FrontReading.{symbols_of}
@@ -114,7 +116,7 @@ digit-apart digit mark low high h e =
     let yes : is_punctuation digit ≡ true = rw e h in
     cc
 
-pub lone_digit : (d : DelimiterBytes) → IsDelimiters d → (text : List ℕ) → 3 ≤ length text → 48 ≤ get_or text 1 0
+lone_digit : (d : DelimiterBytes) → IsDelimiters d → (text : List ℕ) → 3 ≤ length text → 48 ≤ get_or text 1 0
     → get_or text 1 0 ≤ 57 → get_or text 2 0 ≡ d.field
     → (slice_get (fields_of d text) 0 ≡ Some (plain_field (get_or text 1 0 ∷ []))) × (1 < length (fields_of d text))
 lone_digit d good [] long low high ends = absurd (omega arith)
@@ -135,6 +137,14 @@ lone_digit d good (byte ∷ digit ∷ end ∷ rest) long low high ends =
       ap (λ (parts : List (List ℕ)). slice_get (map (repeats_of d) parts) 0) first ∙ ap Some read,
       omega (arith, count, length-map (parts_of d.field rest) (repeats_of d), parts_of-some d.field rest),
     )
+
+-- the same of what is seen of a record that stands in a text
+pub lone_lent : (d : DelimiterBytes) → IsDelimiters d → (text : List ℕ) (kind : Kind) (entry : Lent RecordContent)
+    → lent d (record { kind = kind; fields = fields_of d text }) ≡ entry → 3 ≤ length text → 48 ≤ get_or text 1 0
+    → get_or text 1 0 ≤ 57 → get_or text 2 0 ≡ d.field
+    → (slice_get entry.content.fields 0 ≡ Some (plain_field (get_or text 1 0 ∷ [])))
+    × (1 < length entry.content.fields)
+lone_lent d good text kind entry is long low high ends = rw (← is) (lone_digit d good text long low high ends)
 
 -- ---- the texts of fields that were passed over, and what is left
 pub record Passed (mark : ℕ) (text rest : List ℕ) (passed : ℕ) : Type 0 where

@@ -1,5 +1,5 @@
 -- The first component of a field's text, by the first delimiters in a text that begins with it.
-use Rattle.std.proofs.Common.{◌≡◌, ◌≢◌, ℕ, ◌+◌, ◌<◌, ◌≤◌, ◌==◌, ◌||◌, Bool, true, false, List, [], ◌∷◌, ◌++◌, length}
+use Rattle.std.proofs.Common.{◌≡◌, ◌≢◌, ℕ, ◌+◌, ◌<◌, ◌≤◌, ◌==◌, Bool, List, [], ◌∷◌, ◌++◌, length}
 use Rattle.std.proofs.Common.{take, drop, map, None, Some, refl, sym, ap, subst, ◌∙◌, arith, eq-eqb, take-append-drop}
 use Rattle.std.proofs.Common.{append_assoc, append-nil, length-take, IsTrue}
 use Rattle.std.specs.List.{All, position, position_from}
@@ -12,12 +12,12 @@ use Rattle.lis_field.specs.Delimiters.{DelimiterBytes, IsDelimiters}
 use Rattle.lis_field.specs.Shape.{Components, Symbols, plain_component}
 use Rattle.lis_record.specs.Faults.{trailing_byte}
 use Rattle.lis_record.specs.Relation.{Lacks}
-use Rattle.lis_record.specs.inside.FrontReading.{BeginsWith, ComponentFront, components_of, ends_part, parts_behind}
-use Rattle.lis_record.specs.inside.FrontReading.{parts_of, repeats_of, symbols_of}
-use Rattle.lis_record.proofs.FieldTexts.{plain_symbols, single_read, symbols_of-front, trailing-none, whole_part}
+use Rattle.lis_record.specs.inside.FrontReading.{BeginsWith, ComponentFront, components_of, parts_behind}
+use Rattle.lis_record.specs.inside.FrontReading.{repeats_of, stops, symbols_of}
+use Rattle.lis_record.proofs.FieldTexts.{plain_symbols, symbols_of-front, trailing-none, whole_part}
 use Rattle.lis_record.proofs.LentTexts.{Lacks-position}
-use Rattle.lis_record.proofs.PlainLengths.{all-fail, parts-marked}
-use Rattle.lis_text.proofs.SearchLemmas.{clean-before, found-chunk, found-within, passed-chunk}
+use Rattle.lis_record.proofs.Stops.{NoStop, before, parts-marked}
+use Rattle.lis_text.proofs.SearchLemmas.{clean-before, found-chunk, passed-chunk}
 
 -- where bits tell that a byte stands nowhere among the first sixteen, or not before a place
 module _ (mark : ℕ) (bytes : List ℕ) (bits count : ℕ) (room : 16 ≤ length bytes)
@@ -67,6 +67,15 @@ module _ (text padded : List ℕ) (begins : BeginsWith padded text) (n : ℕ) (w
   pub Lacks-begins : (mark : ℕ) → Lacks mark (take n padded) → Lacks mark (take n text)
   Lacks-begins mark free = subst (Lacks mark) take-begins free
 
+  -- by the bits of sixteen bytes, where it is no longer than those that stand before the byte
+  module _ (mark bits : ℕ) (room : 16 ≤ length padded)
+      (are : bits ≡ mask_l (map (λ b. b == mark) (take 16 padded))) where
+    pub front-free : n ≤ 16 → bits ≡ 0 → Lacks mark (take n text)
+    front-free few none = Lacks-begins mark (free-none mark padded bits n room are few none)
+
+    pub front-before : (bits ≡ 0 → ⊥) → n ≤ count_trailing_zeros 64 bits → Lacks mark (take n text)
+    front-before some few = Lacks-begins mark (free-before mark padded bits n room are some few)
+
   -- a component of the bytes before an escape byte and the symbols of those behind them
   pub fronted-symbols : (d : DelimiterBytes) (rest : List ℕ) (front whole : Symbols) → Lacks d.escape (take n text)
       → front ≡ plain_component (take n padded) → rest ≡ drop n text → whole ≡ front ++ symbols_of d rest
@@ -78,75 +87,23 @@ module _ (text padded : List ℕ) (begins : BeginsWith padded text) (n : ℕ) (w
       ∙ sym (symbols_of-front d (take n text) (drop n text) free)
       ∙ ap (symbols_of d) (take-append-drop n text)
 
--- the first delimiter at which a component ends, by the bits of sixteen bytes
-module _ (d : DelimiterBytes) (padded : List ℕ) (bits : ℕ) (room : 16 ≤ length padded)
-    (are : bits ≡ mask_l (map (ends_part d) (take 16 padded))) (some : bits ≡ 0 → ⊥) where
-  set : mask_l (map (ends_part d) (take 16 padded)) ≡ 0 → ⊥
-  set none = some (are ∙ none)
-
-  pub part-end : position_from (ends_part d) 0 padded ≡ Some (count_trailing_zeros 64 bits)
-  part-end =
-      let at : 0 + count_trailing_zeros 64 bits ≡ count_trailing_zeros 64 bits = omega arith in
-      rw (← are) at (found-chunk (ends_part d) 0 16 padded (omega arith) room set) ∙ ap Some at
-
-  pub part-within : count_trailing_zeros 64 bits < 16
-  part-within = rw (← are) at (found-within (ends_part d) 16 padded (omega arith) room set)
-
--- what ends no component
-record Inner (d : DelimiterBytes) (b : ℕ) : Type 0 where
-  field : b ≢ d.field
-  repeat : b ≢ d.repeat
-  component : b ≢ d.component
-
-inner : (d : DelimiterBytes) (b : ℕ) → ends_part d b ≡ false → Inner d b
-inner d b none = by (b == d.field) (b == d.repeat) (b == d.component) refl refl refl none
-  where
-    other : (mark : ℕ) → (b == mark) ≡ false → b ≢ mark
-    other mark fails same = cc (fails, eq-eqb b mark same)
-
-    by : (p q r : Bool) → (b == d.field) ≡ p → (b == d.repeat) ≡ q → (b == d.component) ≡ r
-        → ((p || q) || r) ≡ false → Inner d b
-    by true q r pe qe re none = cc none
-    by false true r pe qe re none = cc none
-    by false false true pe qe re none = cc none
-    by false false false pe qe re none = record {
-      field = other d.field pe;
-      repeat = other d.repeat qe;
-      component = other d.component re;
-    }
-
--- the text up to the first delimiter at which a component ends
-module _ (d : DelimiterBytes) (text : List ℕ) (end : ℕ) (found : position_from (ends_part d) 0 text ≡ Some end) where
-  inside : All (Inner d) (take end text)
-  inside = All-weaker (λ b. ends_part d b ≡ false) (Inner d) (inner d) (take end text)
-      (all-fail (ends_part d) 0 (take end text) (clean-before (ends_part d) text end found).1)
-
-  pub single-bound : end < length text
-  single-bound = (clean-before (ends_part d) text end found).0
-
-  pub single-symbols : repeats_of d (take end text) ≡ (symbols_of d (take end text) ∷ []) ∷ []
-  single-symbols = single_read d (take end text)
-      (All-weaker (Inner d) (λ b. b ≢ d.repeat) (λ b p. p.repeat) (take end text) inside)
-      (All-weaker (Inner d) (λ b. b ≢ d.component) (λ b p. p.component) (take end text) inside)
-
-  pub single-first : (byte : ℕ) (rest : List ℕ) → drop end text ≡ byte ∷ rest → byte ≡ d.field
-      → parts_of d.field text ≡ take end text ∷ parts_behind d.field (drop end text)
-  single-first = parts-marked d.field text end
-      (All-weaker (Inner d) (λ b. b ≢ d.field) (λ b p. p.field) (take end text) inside)
-
+-- the first component of a text, by the first delimiter at which one ends
 module _ (d : DelimiterBytes) (text padded : List ℕ) (begins : BeginsWith padded text) (end : ℕ)
-    (found : position_from (ends_part d) 0 padded ≡ Some end) where
-  front : (n : ℕ) → n ≤ end → n ≤ length text → All (Inner d) (take n text)
+    (found : position_from (stops d d.component) 0 padded ≡ Some end) where
+  abbrev Inner : ℕ → Type 0
+  Inner = NoStop d d.component
+
+  front : (n : ℕ) → n ≤ end → n ≤ length text → All Inner (take n text)
   front n few within =
-      subst (All (Inner d)) (take-take n end padded few ∙ take-begins text padded begins n within)
-      (All-take (Inner d) n (take end padded) (inside d padded end found))
+      subst (All Inner) (take-take n end padded few ∙ take-begins text padded begins n within)
+      (All-take Inner n (take end padded) (before d d.component padded end found))
 
   no-repeat : (n : ℕ) → n ≤ end → n ≤ length text → Lacks d.repeat (take n text)
-  no-repeat n few within = All-weaker (Inner d) (λ b. b ≢ d.repeat) (λ b p. p.repeat) (take n text) (front n few within)
+  no-repeat n few within = All-weaker Inner (λ b. b ≢ d.repeat) (λ b p. p.repeat) (take n text) (front n few within)
 
   no-component : (n : ℕ) → n ≤ end → n ≤ length text → Lacks d.component (take n text)
   no-component n few within =
-      All-weaker (Inner d) (λ b. b ≢ d.component) (λ b p. p.component) (take n text) (front n few within)
+      All-weaker Inner (λ b. b ≢ d.component) (λ b p. p.component) (take n text) (front n few within)
 
   module _ (plain : Bool) where
     are-symbols : (n : ℕ) → n ≤ length text → (IsTrue plain → Lacks d.escape (take n padded)) → IsTrue plain

@@ -13,7 +13,7 @@ use Rattle.std.proofs.lemmas.Bool.{eqb-true}
 use Rattle.std.proofs.lemmas.Bool.Decides.{nat_tests}
 use Rattle.lis_field.specs.Delimiters.{DelimiterBytes}
 use Rattle.lis_record.specs.Text.{is_text_byte}
-use Rattle.lis_record.specs.inside.FrontReading.{ends_part, is_delimiter}
+use Rattle.lis_record.specs.inside.FrontReading.{stops}
 
 -- the lanes of a test
 abbrev lanes : (ℕ → Bool) → List ℕ → List ℕ
@@ -222,37 +222,23 @@ module _ (xs : List ℕ) (long : length xs ≡ 16) where
   pub allowed-others : 65535 - mask_l (map (top 7) allowed_lanes) % 2 ^ 64 ≡ mask_l (map (λ b. not (is_text_byte b)) xs)
   allowed-others = omega (arith, both)
 
-  -- ---- the bytes that are delimiters
+  -- ---- the bytes that a search for the end of a field or component stops at
 
-  pub delimiter-bits : (d : DelimiterBytes)
+  pub stop-bits : (d : DelimiterBytes) (other : ℕ)
       → mask_l (map (top 7)
       (zip2 bit_or
       (zip2 bit_or (zip2 {C = ℕ} (λ a b. cond (eqb a b) 255 0) xs (replicate 16 d.field))
       (zip2 {C = ℕ} (λ a b. cond (eqb a b) 255 0) xs (replicate 16 d.repeat)))
       (zip2 bit_or (zip2 {C = ℕ} (λ a b. cond (eqb a b) 255 0) xs (replicate 16 d.component))
-      (zip2 {C = ℕ} (λ a b. cond (eqb a b) 255 0) xs (replicate 16 d.escape))))) % 2 ^ 64
-      ≡ mask_l (map (is_delimiter d) xs)
-  delimiter-bits d =
+      (zip2 {C = ℕ} (λ a b. cond (eqb a b) 255 0) xs (replicate 16 other))))) % 2 ^ 64
+      ≡ mask_l (map (stops d other) xs)
+  stop-bits d other =
       let outer = or_lanes (λ b. eqb b d.field) (λ b. eqb b d.repeat) xs _ _ (eq 16 xs long d.field)
       (eq 16 xs long d.repeat) in
-      let inner = or_lanes (λ b. eqb b d.component) (λ b. eqb b d.escape) xs _ _ (eq 16 xs long d.component)
-      (eq 16 xs long d.escape) in
-      bits (is_delimiter d) xs _ (omega (arith, long))
-      (or_lanes (λ b. eqb b d.field || eqb b d.repeat) (λ b. eqb b d.component || eqb b d.escape) xs _ _ outer inner)
-
-  pub part-bits : (d : DelimiterBytes)
-      → mask_l (map (top 7)
-      (zip2 bit_or
-      (zip2 bit_or (zip2 {C = ℕ} (λ a b. cond (eqb a b) 255 0) xs (replicate 16 d.field))
-      (zip2 {C = ℕ} (λ a b. cond (eqb a b) 255 0) xs (replicate 16 d.repeat)))
-      (zip2 {C = ℕ} (λ a b. cond (eqb a b) 255 0) xs (replicate 16 d.component)))) % 2 ^ 64
-      ≡ mask_l (map (ends_part d) xs)
-  part-bits d =
-      let outer = or_lanes (λ b. eqb b d.field) (λ b. eqb b d.repeat) xs _ _ (eq 16 xs long d.field)
-      (eq 16 xs long d.repeat) in
-      bits (ends_part d) xs _ (omega (arith, long))
-      (or_lanes (λ b. eqb b d.field || eqb b d.repeat) (λ b. eqb b d.component) xs _ _ outer
-      (eq 16 xs long d.component))
+      let inner = or_lanes (λ b. eqb b d.component) (λ b. eqb b other) xs _ _ (eq 16 xs long d.component)
+      (eq 16 xs long other) in
+      bits (stops d other) xs _ (omega (arith, long))
+      (or_lanes (λ b. eqb b d.field || eqb b d.repeat) (λ b. eqb b d.component || eqb b other) xs _ _ outer inner)
 
 -- how many pass among the first bytes, and among the others
 pub count_by-chunk : (f : ℕ → Bool) (n : ℕ) (xs : List ℕ)

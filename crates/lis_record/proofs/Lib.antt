@@ -7,6 +7,7 @@ pub mod FaultlessTexts
 pub mod FieldTexts
 pub mod Fronts
 pub mod Joins
+pub mod KindCases
 pub mod Lanes
 pub mod LastBits
 pub mod LeftMarks
@@ -17,7 +18,6 @@ pub mod PaddedTexts
 pub mod Pairs
 pub mod Places
 pub mod PlainFields
-pub mod PlainLengths
 pub mod ReadBack
 pub mod RecordTexts
 pub mod Respelled
@@ -25,4 +25,5 @@ pub mod Runs
 pub mod Shapes
 pub mod Sinks
 pub mod Steps
+pub mod Stops
 pub mod WriteLaws

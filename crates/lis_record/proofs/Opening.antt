@@ -12,6 +12,7 @@ use Rattle.lis_field.specs.Shape.{Fields, RecordContent}
 use Rattle.lis_field.proofs.DelimiterFaults.{delimiter_fault-IsDelimiters}
 use Rattle.lis_record.proofs.FaultLaws.{IsRecord-fields_of, IsRecord-header, delimiter_part_fault-trailing}
 use Rattle.lis_record.proofs.FaultLaws.{header_fault-IsRecord, record_fault-IsRecord}
+use Rattle.lis_record.proofs.KindCases.{other_kind}
 use Rattle.lis_record.proofs.RecordTexts.{IsRecord-header_one, IsRecord-one}
 
 -- delimiters that are declared are no fault
@@ -30,15 +31,7 @@ content_with kind fields = record { kind = kind; fields = fields }
 
 -- one byte stands before the fields of a record other than a header
 front_length-other : (kind : Kind) → kind ≢ kinds.H → front_length kind ≡ 1
-front_length-other kinds.H other = absurd (other refl)
-front_length-other kinds.P other = refl
-front_length-other kinds.O other = refl
-front_length-other kinds.R other = refl
-front_length-other kinds.C other = refl
-front_length-other kinds.Q other = refl
-front_length-other kinds.M other = refl
-front_length-other kinds.S other = refl
-front_length-other kinds.L other = refl
+front_length-other = other_kind (λ kind. front_length kind ≡ 1) refl refl refl refl refl refl refl refl
 
 module _ (d : DelimiterBytes) (good : IsDelimiters d) (text : List ℕ) (kind : Kind) (rest : List ℕ)
     (h : OpensRecord d text kind rest) where

@@ -10,7 +10,7 @@ use Rattle.std.proofs.lemmas.List.{append_assoc, drop-append-le, drop-drop, leng
 use Rattle.std.proofs.lemmas.List.Splits.{slice_split_at}
 use Rattle.lis_field.specs.Delimiters.{DelimiterBytes}
 use Rattle.lis_field.specs.declared.kinds.Kind.{Kind}
-use Rattle.lis_field.specs.Shape.{RecordContent}
+use Rattle.lis_field.specs.Shape.{RecordContent, Repeats}
 use Rattle.lis_record.specs.Faults.{trailing_byte}
 use Rattle.lis_record.specs.Relation.{Lacks}
 use Rattle.lis_record.specs.inside.FrontReading.{EndsWith, TakesField, fields_of, parts_behind, parts_of}
@@ -111,10 +111,10 @@ module _ (mark : ℕ) (text : List ℕ) where
       padded-begins = rw (same, at) begins
 
 -- the same where none were put there
-pub begins_padded : (mark count end : ℕ) (text padded : List ℕ) → padded ≡ text ++ replicate count mark
+pub begins_padded : {mark end : ℕ} {text padded : List ℕ} (count : ℕ) → padded ≡ text ++ replicate count mark
     → end < length padded → parts_of mark padded ≡ take end padded ∷ parts_behind mark (drop end padded)
     → Begins mark text end (take end padded)
-begins_padded mark zero end text padded is bound parts =
+begins_padded {mark} {end} {text} {padded} zero is bound parts =
     let same : padded ≡ text = is ∙ append-nil text in
     record {
       within = omega (arith, bound, ap (λ (l : List ℕ). length l) same);
@@ -123,7 +123,7 @@ begins_padded mark zero end text padded is bound parts =
           sym (ap (parts_of mark) same) ∙ parts
           ∙ ap (λ (l : List ℕ). take end padded ∷ parts_behind mark (drop end l)) same;
     }
-begins_padded mark (suc count) end text padded is bound parts =
+begins_padded {mark} {end} {text} {padded} (suc count) is bound parts =
     rw is
     (padded-begins mark text count end (parts_behind mark (drop end (text ++ replicate (suc count) mark)))
     (rw is at bound) (rw is at parts))
@@ -146,7 +146,7 @@ ends-on text more last ends on = (
 )
 
 -- a record that takes the first part as a field
-pub takes_field : (d : DelimiterBytes) (before after : RecordContent) (text rest part : List ℕ) (end : ℕ)
+takes_field : (d : DelimiterBytes) (before after : RecordContent) (text rest part : List ℕ) (end : ℕ)
     → Begins d.field text end part → after ≡ record before { fields = before.fields ++ repeats_of d part ∷ [] }
     → rest ≡ drop end text → TakesField d before after text rest
 takes_field d before after text rest part end found is left = record {
@@ -159,6 +159,16 @@ takes_field d before after text rest part end found is left = record {
   ends = (take end text, sym (ap (λ (l : List ℕ). take end text ++ l) left ∙ take-append-drop end text));
   shorter = omega (arith, ap (λ (l : List ℕ). length l) left, length-drop end text);
 }
+
+-- the same, where the part was found with delimiters behind it
+pub takes_padded : {d : DelimiterBytes} {before after : RecordContent} {end : ℕ} {text padded rest : List ℕ}
+    {field : Repeats} (count : ℕ) → padded ≡ text ++ replicate count d.field → end < length padded
+    → parts_of d.field padded ≡ take end padded ∷ parts_behind d.field (drop end padded)
+    → field ≡ repeats_of d (take end padded) → after ≡ record before { fields = before.fields ++ field ∷ [] }
+    → rest ≡ drop end text → TakesField d before after text rest
+takes_padded {d} {before} {after} {end} {text} {padded} {rest} count is bound parts read took left =
+    takes_field d before after text rest (take end padded) end (begins_padded count is bound parts)
+    (took ∙ ap (λ (f : Repeats). record before { fields = before.fields ++ f ∷ [] }) read) left
 
 pub end-padded : (text front kept marks last : List ℕ) (count : ℕ) → count ≤ 16 → count ≤ length text
     → length front ≡ 16 - count → kept ≡ drop (length text - count) text → EndsWith text last → length last ≤ count

@@ -1,15 +1,15 @@
 -- What is spelled is a text of the record that it was spelled from.
 use Rattle.std.proofs.Common.{◌≡◌, ◌≢◌, ℕ, zero, suc, ◌+◌, ◌<◌, ◌≤◌, true, false, not, ltb, List, [], ◌∷◌, ◌++◌, map}
 use Rattle.std.proofs.Common.{length, Some, None, option_map, refl, sym, ap, arith, get_or, inl, inr, append_assoc}
+use Rattle.std.proofs.Common.{Bool}
 use Rattle.std.proofs.lemmas.List.{length-map}
-use Rattle.std.specs.List.{All, AllPass, AllZip, flat_map, join_with_byte, position}
+use Rattle.std.specs.List.{All, AllPass, AllZip, flat_map, join_with_byte, list_all, position}
 use Rattle.std.proofs.lemmas.Bool.Decides.{eqb_tells, nat_tests}
 use Rattle.std.proofs.lemmas.List.Elements.{All-append, All-cons, All-head, All-map, All-nil, All-tail, All-weaker}
 use Rattle.std.proofs.lemmas.List.Sums.{AllPass-from_list_all}
 use Rattle.hex.specs.Hex.{IsBytes, encode_lower, encode_with, is_hex_digit}
 use Rattle.hex.proofs.HexLemmas.{decode_of-encode_lower, decode_of-ok}
 use Rattle.lis_field.specs.declared.kinds.Kind.{Kind}
-use Rattle.lis_field.specs.declared.kinds.Kind.TheVariants as kinds
 use Rattle.lis_field.specs.declared.symbols.Sym.{Sym}
 use Rattle.lis_field.specs.declared.symbols.Sym.TheVariants.{Char, Raw, On, Off}
 use Rattle.lis_field.specs.Delimiters.{DelimiterBytes, IsDelimiters, is_punctuation}
@@ -17,8 +17,8 @@ use Rattle.lis_record.specs.Escapes.{IsComponent, escape, escape_of, nothing, pl
 use Rattle.lis_record.specs.Faults.{check_fault, is_text_component, is_text_field, is_text_repeat, is_text_symbol}
 use Rattle.lis_record.specs.Faults.{long_fault}
 use Rattle.lis_field.specs.Kinds.{kind_of, letter_of}
-use Rattle.lis_record.specs.Relation.{AreFieldTexts, IsField, IsRecord, IsRepeat, Lacks, declared_part}
-use Rattle.lis_field.specs.Shape.{first_number, AreSymbols, Components, Fields, IsFieldShape, IsRecordShape}
+use Rattle.lis_record.specs.Relation.{AreFieldTexts, IsField, IsJoined, IsRecord, IsRepeat, Lacks, declared_part}
+use Rattle.lis_field.specs.Shape.{first_number, AreSome, AreSymbols, Components, Fields, IsFieldShape, IsRecordShape}
 use Rattle.lis_field.specs.Shape.{IsRepeatShape, IsSymbol, RecordContent, Repeats, Symbols}
 use Rattle.lis_record.specs.Spelling.{letter_spelling, spelled, spelled_component, spelled_field, spelled_repeat}
 use Rattle.lis_record.specs.Spelling.{spelled_symbol}
@@ -27,6 +27,7 @@ use Rattle.lis_record.specs.declared.faults.WriteFault.TheVariants.{CharNotText,
 use Rattle.lis_field.proofs.FirstFaults.{ltb_tells}
 use Rattle.lis_field.proofs.FirstFaults.{AllPass-position, option_map-none, option_or-none}
 use Rattle.lis_record.proofs.FaultLaws.{none_cond}
+use Rattle.lis_record.proofs.KindCases.{each_kind}
 
 -- ---- what can be written
 
@@ -37,33 +38,32 @@ IsWritableSymbol symbol = IsSymbol symbol × (is_text_symbol symbol ≡ true)
 abbrev pub AreWritable : Symbols → Type 0
 AreWritable symbols = All IsWritableSymbol symbols
 
-pub record IsWritableRepeat (components : Components) : Type 0 where
-  pub some : 0 < length components
-  pub each : All AreWritable components
+abbrev pub IsWritableRepeat : Components → Type 0
+IsWritableRepeat components = AreSome AreWritable components
 
-pub record IsWritableField (repeats : Repeats) : Type 0 where
-  pub some : 0 < length repeats
-  pub each : All IsWritableRepeat repeats
+abbrev pub IsWritableField : Repeats → Type 0
+IsWritableField repeats = AreSome IsWritableRepeat repeats
 
 AreWritable-text : (symbols : Symbols) → AreSymbols symbols → is_text_component symbols ≡ true → AreWritable symbols
 AreWritable-text symbols shape test = λ k e below.
     (shape k e below, AllPass-from_list_all is_text_symbol symbols test k e below)
 
+-- where each item passes a test, and an item of its shape that passes is as it is to be
+AreSome-text : {A : Type 0} (IsShaped P : A → Type 0) (test : A → Bool)
+    → ((item : A) → IsShaped item → test item ≡ true → P item) → (items : List A) → AreSome IsShaped items
+    → list_all test items ≡ true → AreSome P items
+AreSome-text IsShaped P test passes items shape all = record {
+  some = shape.some;
+  each = λ k e below. passes (get_or items k e) (shape.each k e below) (AllPass-from_list_all test items all k e below);
+}
+
 IsWritableRepeat-text : (components : Components) → IsRepeatShape components → is_text_repeat components ≡ true
     → IsWritableRepeat components
-IsWritableRepeat-text components shape test = record {
-  some = shape.some;
-  each = λ k e below. AreWritable-text (get_or components k e) (shape.each k e below)
-      (AllPass-from_list_all is_text_component components test k e below);
-}
+IsWritableRepeat-text = AreSome-text AreSymbols AreWritable is_text_component AreWritable-text
 
 pub IsWritableField-text : (repeats : Repeats) → IsFieldShape repeats → is_text_field repeats ≡ true
     → IsWritableField repeats
-IsWritableField-text repeats shape test = record {
-  some = shape.some;
-  each = λ k e below. IsWritableRepeat-text (get_or repeats k e) (shape.each k e below)
-      (AllPass-from_list_all is_text_repeat repeats test k e below);
-}
+IsWritableField-text = AreSome-text IsRepeatShape IsWritableRepeat is_text_repeat IsWritableRepeat-text
 
 abbrev IsTextByte : ℕ → Type 0
 IsTextByte byte = is_text_byte byte ≡ true
@@ -296,28 +296,31 @@ module _ (d : DelimiterBytes) (good : IsDelimiters d) where
   AllZip-spelled IsItem spell P back (item ∷ items) h =
       (back item (All-head P item items h), AllZip-spelled IsItem spell P back items (All-tail P item items h))
 
-  repeat_back : (components : Components) → IsWritableRepeat components
-      → IsRepeat d (spelled_repeat d components) components
-  repeat_back components h = record {
-    parts = map (spelled_component d) components;
-    some = let some = h.some in simp length-map (omega arith);
+  -- items whose spellings are joined by a byte that stands in none of these
+  joined_back : {A : Type 0} (mark : ℕ) (IsItem : List ℕ → A → Type 0) (spell : A → List ℕ) (P : A → Type 0)
+      (IsByte : ℕ → Type 0) → ((byte : ℕ) → IsByte byte → byte ≢ mark)
+      → ((item : A) → P item → IsItem (spell item) item)
+      → (items : List A) → 0 < length items → All P items → All (All IsByte) (map spell items)
+      → IsJoined mark IsItem (join_with_byte mark (map spell items)) items
+  joined_back mark IsItem spell P IsByte differs back items some each bytes = record {
+    parts = map spell items;
+    some = simp length-map (omega (arith, some));
     joined = refl;
-    apart = All-weaker (All (IsComponentByte d)) (Lacks d.component)
-        (λ part. All-weaker (IsComponentByte d) (λ byte. byte ≢ d.component) (λ byte fine. fine.no_component) part)
-        (map (spelled_component d) components) (repeat_parts components h);
-    each = AllZip-spelled (IsComponent d) (spelled_component d) AreWritable component_back components h.each;
+    apart = All-weaker (All IsByte) (Lacks mark) (λ part. All-weaker IsByte (λ byte. byte ≢ mark) differs part)
+        (map spell items) bytes;
+    each = AllZip-spelled IsItem spell P back items each;
   }
 
+  repeat_back : (components : Components) → IsWritableRepeat components
+      → IsRepeat d (spelled_repeat d components) components
+  repeat_back components h =
+      joined_back d.component (IsComponent d) (spelled_component d) AreWritable (IsComponentByte d)
+      (λ byte fine. fine.no_component) component_back components h.some h.each (repeat_parts components h)
+
   pub field_back : (repeats : Repeats) → IsWritableField repeats → IsField d (spelled_field d repeats) repeats
-  field_back repeats h = record {
-    parts = map (spelled_repeat d) repeats;
-    some = let some = h.some in simp length-map (omega arith);
-    joined = refl;
-    apart = All-weaker (All (IsRepeatByte d)) (Lacks d.repeat)
-        (λ part. All-weaker (IsRepeatByte d) (λ byte. byte ≢ d.repeat) (λ byte fine. fine.no_repeat) part)
-        (map (spelled_repeat d) repeats) (field_parts repeats h);
-    each = AllZip-spelled (IsRepeat d) (spelled_repeat d) IsWritableRepeat repeat_back repeats h.each;
-  }
+  field_back repeats h =
+      joined_back d.repeat (IsRepeat d) (spelled_repeat d) IsWritableRepeat (IsRepeatByte d)
+      (λ byte fine. fine.no_repeat) repeat_back repeats h.some h.each (field_parts repeats h)
 
   fields_joined : (fields : Fields) → flat_map (λ field. d.field ∷ spelled_field d field) fields
       ≡ flat_map (λ part. d.field ∷ part) (map (spelled_field d) fields)
@@ -348,30 +351,17 @@ module _ (d : DelimiterBytes) (good : IsDelimiters d) where
 
   letter_text : (kind : Kind) → is_text_byte (letter_of kind) ≡ true
   unfolding is_text_byte
-  letter_text kinds.H = refl
-  letter_text kinds.P = refl
-  letter_text kinds.O = refl
-  letter_text kinds.R = refl
-  letter_text kinds.C = refl
-  letter_text kinds.Q = refl
-  letter_text kinds.M = refl
-  letter_text kinds.S = refl
-  letter_text kinds.L = refl
+  letter_text = each_kind (λ kind. is_text_byte (letter_of kind) ≡ true) refl refl refl refl refl refl refl refl refl
 
   declared_text : (kind : Kind) → IsRecordText (declared_part d kind)
-  declared_text kinds.H =
-      All-cons IsTextByte d.field (d.repeat ∷ d.component ∷ d.escape ∷ []) (text-punctuation d.field good.field_is)
+  declared_text =
+      let none = All-nil IsTextByte in
+      each_kind (λ kind. IsRecordText (declared_part d kind))
+      (All-cons IsTextByte d.field (d.repeat ∷ d.component ∷ d.escape ∷ []) (text-punctuation d.field good.field_is)
       (All-cons IsTextByte d.repeat (d.component ∷ d.escape ∷ []) (text-punctuation d.repeat good.repeat_is)
       (All-cons IsTextByte d.component (d.escape ∷ []) (text-punctuation d.component good.component_is)
-      (All-cons IsTextByte d.escape [] (text-punctuation d.escape good.escape_is) (All-nil IsTextByte))))
-  declared_text kinds.P = All-nil IsTextByte
-  declared_text kinds.O = All-nil IsTextByte
-  declared_text kinds.R = All-nil IsTextByte
-  declared_text kinds.C = All-nil IsTextByte
-  declared_text kinds.Q = All-nil IsTextByte
-  declared_text kinds.M = All-nil IsTextByte
-  declared_text kinds.S = All-nil IsTextByte
-  declared_text kinds.L = All-nil IsTextByte
+      (All-cons IsTextByte d.escape [] (text-punctuation d.escape good.escape_is) none))))
+      none none none none none none none none
 
   pub spelled_text : (content : RecordContent) → All IsWritableField content.fields → IsRecordText (spelled d content)
   spelled_text content h =
@@ -383,15 +373,8 @@ module _ (d : DelimiterBytes) (good : IsDelimiters d) where
 
   kind_of-letter_of : (kind : Kind) → kind_of (letter_of kind) ≡ Some kind
   unfolding kind_of
-  kind_of-letter_of kinds.H = refl
-  kind_of-letter_of kinds.P = refl
-  kind_of-letter_of kinds.O = refl
-  kind_of-letter_of kinds.R = refl
-  kind_of-letter_of kinds.C = refl
-  kind_of-letter_of kinds.Q = refl
-  kind_of-letter_of kinds.M = refl
-  kind_of-letter_of kinds.S = refl
-  kind_of-letter_of kinds.L = refl
+  kind_of-letter_of =
+      each_kind (λ kind. kind_of (letter_of kind) ≡ Some kind) refl refl refl refl refl refl refl refl refl
 
   pub IsRecord-writable : (content : RecordContent) → All IsWritableField content.fields
       → length (spelled d content) ≤ record_limit → IsRecord d (spelled d content) content

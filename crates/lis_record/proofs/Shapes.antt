@@ -12,7 +12,7 @@ use Rattle.lis_field.specs.declared.symbols.Sym.{Sym}
 use Rattle.lis_field.specs.declared.symbols.Sym.TheVariants.{Char, Raw, On, Off}
 use Rattle.lis_field.specs.Delimiters.{DelimiterBytes, IsDelimiters, is_punctuation}
 use Rattle.lis_field.specs.Shape.{AreSymbols, Components, IsFieldShape, IsRecordShape, IsRepeatShape, IsSymbol}
-use Rattle.lis_field.specs.Shape.{RecordContent, Repeats, Symbols}
+use Rattle.lis_field.specs.Shape.{AreSome, RecordContent, Repeats, Symbols}
 use Rattle.lis_record.specs.Escapes.{IsComponent, escape, escape_of, letter_symbol, lone, nothing, plain, raw_symbols}
 use Rattle.lis_record.specs.Relation.{IsField, IsJoined, IsRecord, IsRepeat, declared_part}
 use Rattle.lis_record.specs.Text.{IsRecordText, is_text_byte}
@@ -151,23 +151,19 @@ module _ {A : Type 0} (IsItem : List ℕ → A → Type 0) (P : A → Type 0)
   some_items (part ∷ parts) (item ∷ items) some zip = omega arith
 
   joined_items : (byte : ℕ) (text : List ℕ) (items : List A) → Small text → IsJoined byte IsItem text items
-      → All P items
-  joined_items byte text items small h = all_items h.parts items
-      (small_parts byte h.parts (subst Small h.joined small)) h.each
+      → AreSome P items
+  joined_items byte text items small h = record {
+    some = some_items h.parts items h.some h.each;
+    each = all_items h.parts items (small_parts byte h.parts (subst Small h.joined small)) h.each;
+  }
 
 repeat_shape : (d : DelimiterBytes) → IsDelimiters d → (text : List ℕ) (components : Components) → Small text
     → IsRepeat d text components → IsRepeatShape components
-repeat_shape d good text components small h = record {
-  some = some_items (IsComponent d) AreSymbols (component_shape d good) h.parts components h.some h.each;
-  each = joined_items (IsComponent d) AreSymbols (component_shape d good) d.component text components small h;
-}
+repeat_shape d good = joined_items (IsComponent d) AreSymbols (component_shape d good) d.component
 
 field_shape : (d : DelimiterBytes) → IsDelimiters d → (text : List ℕ) (repeats : Repeats) → Small text
     → IsField d text repeats → IsFieldShape repeats
-field_shape d good text repeats small h = record {
-  some = some_items (IsRepeat d) IsRepeatShape (repeat_shape d good) h.parts repeats h.some h.each;
-  each = joined_items (IsRepeat d) IsRepeatShape (repeat_shape d good) d.repeat text repeats small h;
-}
+field_shape d good = joined_items (IsRepeat d) IsRepeatShape (repeat_shape d good) d.repeat
 
 -- what a text is has the shape of a record
 pub IsRecord-shape : (d : DelimiterBytes) → IsDelimiters d → (text : List ℕ) (content : RecordContent)

@@ -1,6 +1,7 @@
 pub mod Escapes
 pub mod Faultless
 pub mod Faults
+pub mod Lending
 pub mod Lent
 pub mod Relation
 pub mod Spelling

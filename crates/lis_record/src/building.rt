@@ -3,13 +3,12 @@
 ghost use Rattle.std.specs.Prelude.{◌≡◌, ◌<◌, ◌≤◌, ◌-◌, ◌++◌, ◌∷◌, ◌↔◌, [], ℕ, List, IfOk, IfSome, IsTrue, OnOk, drop};
 ghost use Rattle.std.specs.Prelude.{length, map, replicate, take};
 ghost use Rattle.lis_record.specs.inside.FrontReading.{components_of, fields_of, parts_behind, parts_of, repeats_of};
-ghost use Rattle.lis_record.specs.inside.FrontReading.{BeginsWith, ComponentFront, EndsWith, TakesField, ends_part};
+ghost use Rattle.lis_record.specs.inside.FrontReading.{BeginsWith, ComponentFront, EndsWith, TakesField};
 ghost use Rattle.lis_record.specs.inside.FrontReading.{IsPlainText, symbols_of};
 ghost use Rattle.lis_record.specs.Relation.{Lacks};
-ghost use Rattle.std.specs.Simd.Lanes.{mask_l};
 
 use crate::escapes::{read_component, read_short_component};
-use crate::search::{bits_of, near_end, place_of, plain_length};
+use crate::search::{bits_of, field_end, first_stop, near_end, place_of};
 use crate::texts::{count_parts, first_part};
 use lis_field::{Component, Delimiters, Field, Kind, Record, Repeat};
 use std::alloc::{AllocError, Global};
@@ -88,18 +87,6 @@ fn read_repeat(alloc: Global, delimiters: Delimiters, text: &[u8]) -> Result<Rep
     Ok(repeat)
 }
 
-// The places among sixteen bytes that hold a delimiter at which a component ends, as bits.
-#[inline(always)]
-fn part_bits(delimiters: Delimiters, bytes: &[u8]) -> u64
-    requires { 16 ≤ length bytes.now }
-    ensures { result ≡ mask_l (map (ends_part delimiters) (take 16 bytes.now)) }
-{
-    let sixteen = u8x16::from_slice(bytes);
-    let outer = sixteen.simd_eq(u8x16::splat(delimiters.field()))
-        | sixteen.simd_eq(u8x16::splat(delimiters.repeat()));
-    (outer | sixteen.simd_eq(u8x16::splat(delimiters.component()))).to_bitmask()
-}
-
 // Whether this byte is known to stand nowhere among so many of the first sixteen.
 #[inline(always)]
 fn is_free(bytes: &[u8], count: usize, mark: u8) -> bool
@@ -123,14 +110,10 @@ fn component_front(delimiters: Delimiters, text: &[u8], padded: &[u8]) -> Option
     ensures front { IfSome result (λ found. ComponentFront delimiters text.now found.0 found.1) }
     ensures room { IfSome result (λ found. 16 ≤ length padded.now) }
 {
-    if padded.len() < 16 {
+    // Beside the delimiters no other byte ends it.
+    let Some(stop) = first_stop(delimiters, delimiters.component(), padded) else {
         return None;
-    }
-    let bits = part_bits(delimiters, padded);
-    if bits == 0 {
-        return None;
-    }
-    let stop = bits.trailing_zeros() as usize;
+    };
     if stop >= text.len() {
         return Some((text.len(), is_free(padded, text.len(), delimiters.escape())));
     }
@@ -287,32 +270,6 @@ fn padded_end(text: &[u8], mark: u8) -> [u8; 32]
     padded
 }
 
-// The length of the field that a text begins with, where it is one component and a field delimiter ends it within
-// sixteen bytes; else none. It may have escapes.
-#[inline(always)]
-fn single_length(delimiters: Delimiters, text: &[u8]) -> Option<usize>
-    ensures first { IfSome result (λ end. parts_of delimiters.field text.now
-        ≡ take end text.now ∷ parts_behind delimiters.field (drop end text.now)) }
-    ensures single { IfSome result (λ end. repeats_of delimiters (take end text.now)
-        ≡ (symbols_of delimiters (take end text.now) ∷ []) ∷ []) }
-    ensures bound { IfSome result (λ end. end < length text.now) }
-    ensures room { IfSome result (λ end. 16 ≤ length text.now) }
-{
-    if text.len() < 16 {
-        return None;
-    }
-    let bits = part_bits(delimiters, text);
-    if bits == 0 {
-        return None;
-    }
-    let end = bits.trailing_zeros() as usize;
-    if text[end] == delimiters.field() {
-        Some(end)
-    } else {
-        None
-    }
-}
-
 // What stands before the first delimiter, and the rest from that delimiter on. The text is given twice, once with
 // delimiters behind it or none, so that sixteen bytes can be looked at.
 #[inline(always)]
@@ -341,7 +298,7 @@ fn push_other<'a>(
     requires { (count : ℕ) × (padded.now ≡ text.now ++ replicate count delimiters.field) }
     ensures { IfOk result (λ rest. TakesField delimiters entry.old entry.new text.now rest.now) }
 {
-    if let Some(end) = single_length(delimiters, padded) {
+    if let Some(end) = field_end(delimiters, delimiters.component(), padded) {
         let (part, rest) = text.split_at(end);
         let component = read_short_component(alloc, delimiters, part, padded)?;
         entry.push(Field::new(alloc, Repeat::new(alloc, component)?)?)?;
@@ -365,7 +322,7 @@ fn push_next<'a>(
     requires { (count : ℕ) × (padded.now ≡ text.now ++ replicate count delimiters.field) }
     ensures { IfOk result (λ rest. TakesField delimiters entry.old entry.new text.now rest.now) }
 {
-    let Some(end) = plain_length(delimiters, padded) else {
+    let Some(end) = field_end(delimiters, delimiters.escape(), padded) else {
         return push_other(alloc, delimiters, entry, text, padded);
     };
     // Many fields are empty, at the same places of most records of a kind.

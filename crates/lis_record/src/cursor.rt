@@ -14,14 +14,29 @@ pub(crate) trait Spelling {
     // The bytes that are left.
     ghost left: { Self → List ℕ };
 
+    // Moves what comes next into the chunk, at least one byte; false where nothing is left.
+    fn step(&mut self, chunk: &mut Chunk) -> bool
+        requires { length chunk.old + 5 ≤ 256 }
+        ensures same { chunk.new ++ left self.new ≡ chunk.old ++ left self.old }
+        ensures more { IsTrue result → length chunk.old < length chunk.new }
+        ensures done { IsFalse result → (left self.new ≡ []) × (chunk.new ≡ chunk.old) };
+
     // Fills the chunk with what comes next, until a symbol may find no room in it.
     fn fill(&mut self, chunk: &mut Chunk)
         ensures same { chunk.new ++ left self.new ≡ chunk.old ++ left self.old }
-        ensures done { length chunk.new ≡ 0 → left self.new ≡ [] };
+        ensures done { length chunk.new ≡ 0 → left self.new ≡ [] }
+    {
+        while chunk.len() <= CHUNK - LONGEST_SYMBOL {
+            if !self.step(chunk) {
+                return;
+            }
+        }
+    }
 }
 
 // The rest of a component, the components behind it in its repeat, the repeats behind that in its field,
 // the fields behind that, and the bytes that end it all.
+#[derive(Drop)]
 pub(crate) struct Cursor<'a> {
     delimiters: Delimiters,
     symbols: &'a [Sym],
@@ -38,19 +53,6 @@ impl<'a> Model for Cursor<'a> {
     ghost Value = { List ℕ };
 
     ghost view = { λ c. remaining c.delimiters c.symbols.now c.components.now c.repeats.now c.fields.now c.end.now };
-}
-
-impl Drop for Cursor<'_> {
-    fn drop(self) {
-        let Cursor {
-            delimiters: _,
-            symbols: _,
-            components: _,
-            repeats: _,
-            fields: _,
-            end: _,
-        } = self;
-    }
 }
 
 // The symbols of a repeat's first component, and the components behind it.
@@ -108,14 +110,12 @@ impl<'a> Cursor<'a> {
             end,
         }
     }
+}
 
-    // Moves what comes next into the chunk, at least one byte; false where nothing is left.
-    fn step(&mut self, chunk: &mut Chunk) -> bool
-        requires { length chunk.old + 5 ≤ 256 }
-        ensures same { chunk.new ++ self.new ≡ chunk.old ++ self.old }
-        ensures more { IsTrue result → length chunk.old < length chunk.new }
-        ensures done { IsFalse result → (self.new ≡ []) × (chunk.new ≡ chunk.old) }
-    {
+impl Spelling for Cursor<'_> {
+    ghost left = { λ c. c };
+
+    fn step(&mut self, chunk: &mut Chunk) -> bool {
         if !self.symbols.is_empty() {
             self.symbols = chunk.push_symbols(self.delimiters, self.symbols);
             return true;
@@ -149,17 +149,5 @@ impl<'a> Cursor<'a> {
             return true;
         }
         false
-    }
-}
-
-impl Spelling for Cursor<'_> {
-    ghost left = { λ c. c };
-
-    fn fill(&mut self, chunk: &mut Chunk) {
-        while chunk.len() <= CHUNK - LONGEST_SYMBOL {
-            if !self.step(chunk) {
-                return;
-            }
-        }
     }
 }

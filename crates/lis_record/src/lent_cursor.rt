@@ -1,10 +1,10 @@
 //! What is left of a lent field while it is written.
 
-ghost use Rattle.std.specs.Prelude.{◌≡◌, ◌+◌, ◌<◌, ◌≤◌, ◌++◌, [], length, IsTrue, IsFalse};
+ghost use Rattle.std.specs.Prelude.{◌≡◌};
 ghost use Rattle.lis_record.specs.inside.FrontReading.{repeats_of};
 ghost use Rattle.lis_record.specs.Spelling.{spelled_field};
 
-use crate::chunk::{CHUNK, Chunk, LONGEST_SYMBOL};
+use crate::chunk::Chunk;
 use crate::cursor::Spelling;
 use crate::escapes::LentSymbols;
 use crate::texts::first_part;
@@ -13,6 +13,7 @@ use std::marker::Model;
 
 // The rest of a component, and the texts of the components behind it in its repeat and of the repeats behind
 // that in its field, each with the delimiter before it.
+#[derive(Drop)]
 pub(crate) struct LentCursor<'a> {
     delimiters: Delimiters,
     symbols: LentSymbols<'a>,
@@ -27,17 +28,6 @@ impl<'a> Model for LentCursor<'a> {
     ghost Value = { List ℕ };
 
     ghost view = { λ c. remaining_text c.delimiters c.symbols c.components.now c.repeats.now };
-}
-
-impl Drop for LentCursor<'_> {
-    fn drop(self) {
-        let LentCursor {
-            delimiters: _,
-            symbols: _,
-            components: _,
-            repeats: _,
-        } = self;
-    }
 }
 
 impl<'a> LentCursor<'a> {
@@ -56,15 +46,13 @@ impl<'a> LentCursor<'a> {
             repeats,
         }
     }
+}
 
-    // Moves what comes next into the chunk, at least one byte; false where nothing is left.
+impl Spelling for LentCursor<'_> {
+    ghost left = { λ c. c };
+
     #[inline(always)]
-    fn step(&mut self, chunk: &mut Chunk) -> bool
-        requires { length chunk.old + 5 ≤ 256 }
-        ensures same { chunk.new ++ self.new ≡ chunk.old ++ self.old }
-        ensures more { IsTrue result → length chunk.old < length chunk.new }
-        ensures done { IsFalse result → (self.new ≡ []) × (chunk.new ≡ chunk.old) }
-    {
+    fn step(&mut self, chunk: &mut Chunk) -> bool {
         if let Some(symbol) = self.symbols.next() {
             chunk.push_symbol(self.delimiters, symbol);
             return true;
@@ -89,17 +77,5 @@ impl<'a> LentCursor<'a> {
             return true;
         }
         false
-    }
-}
-
-impl Spelling for LentCursor<'_> {
-    ghost left = { λ c. c };
-
-    fn fill(&mut self, chunk: &mut Chunk) {
-        while chunk.len() <= CHUNK - LONGEST_SYMBOL {
-            if !self.step(chunk) {
-                return;
-            }
-        }
     }
 }

@@ -1,12 +1,13 @@
 //! Reading a record from its text (LIS02-A2, Delimiters, and Data Record Usage Overview).
 
-ghost use Rattle.std.specs.Prelude.{◌≡◌, ◌≢◌, IfOk, IfErr, MatchOption, MatchResult, Ok, Option, Some, None, true};
+ghost use Rattle.std.specs.Prelude.{◌≡◌, ◌≢◌, IfOk, IfErr, MatchOption, MatchResult, Option, Some, None, true};
 ghost use Rattle.std.specs.Prelude.{false};
 ghost use Rattle.lis_field.specs.Delimiters.{DelimiterBytes, IsDelimiters};
 ghost use Rattle.lis_record.specs.Faults.{TellsFault, delimiter_part_fault, header_fault, is_header_kind};
 ghost use Rattle.lis_record.specs.Faults.{is_other_kind, record_fault, record_text_fault, trailing_byte};
 ghost use Rattle.lis_record.specs.inside.FrontReading.{DeclaresDelimiters, OpensHeader, OpensRecord};
-ghost use Rattle.lis_record.specs.Lent.{lent, record_in};
+ghost use Rattle.lis_record.specs.Lending.{FindsHeader, FindsRecord, IsLentHeader, IsLentRecord};
+ghost use Rattle.lis_record.specs.Lent.{record_in};
 ghost use Rattle.lis_record.specs.Relation.{IsRecord};
 ghost use Rattle.lis_field.specs.Shape.{RecordContent};
 ghost use Rattle.lis_field.specs.declared.kinds.Kind.TheVariants as kinds;
@@ -151,13 +152,11 @@ pub fn lend_searched_record<'a>(
 ) -> Result<LentRecord<'a>, RecordFault>
     requires { bad ≡ bad_byte_place text.now }
     // What is found is the record that the text is.
-    ensures found { IfOk result (λ entry. (entry.delimiters ≡ delimiters.now)
-        × IsRecord delimiters.now text.now entry.content × (entry.content.kind ≢ kinds.H)) }
+    ensures found { IfOk result (λ entry. IsLentRecord delimiters.now text.now entry) }
     // Its fields stand behind its letter.
     ensures place { IfOk result (λ entry. entry ≡ record_in entry.delimiters entry.content.kind text.now) }
     // A text that is a record is found to be it.
-    ensures only { (content : RecordContent) → IsRecord delimiters.now text.now content → content.kind ≢ kinds.H
-        → result ≡ Ok (lent delimiters.now content) }
+    ensures only { FindsRecord delimiters.now text.now result }
     // Which fault it is.
     ensures fault { MatchResult result (λ _. record_fault delimiters.now text.now ≡ None)
         (λ fault. record_fault delimiters.now text.now ≡ Some fault) }
@@ -178,13 +177,11 @@ pub fn lend_record<'a>(
     text: &'a [u8],
 ) -> Result<LentRecord<'a>, RecordFault>
     // What is found is the record that the text is.
-    ensures found { IfOk result (λ entry. (entry.delimiters ≡ delimiters.now)
-        × IsRecord delimiters.now text.now entry.content × (entry.content.kind ≢ kinds.H)) }
+    ensures found { IfOk result (λ entry. IsLentRecord delimiters.now text.now entry) }
     // Its fields stand behind its letter.
     ensures place { IfOk result (λ entry. entry ≡ record_in entry.delimiters entry.content.kind text.now) }
     // A text that is a record is found to be it.
-    ensures only { (content : RecordContent) → IsRecord delimiters.now text.now content → content.kind ≢ kinds.H
-        → result ≡ Ok (lent delimiters.now content) }
+    ensures only { FindsRecord delimiters.now text.now result }
     // Which fault it is.
     ensures fault { MatchResult result (λ _. record_fault delimiters.now text.now ≡ None)
         (λ fault. record_fault delimiters.now text.now ≡ Some fault) }
@@ -202,14 +199,11 @@ pub fn lend_record<'a>(
 pub fn lend_searched_header(text: &[u8], bad: Option<usize>) -> Result<LentRecord<'_>, RecordFault>
     requires { bad ≡ bad_byte_place text.now }
     // What is found is the header that the text is, under the delimiters that it declares.
-    ensures found { IfOk result (λ entry. IsDelimiters entry.delimiters
-        × IsRecord entry.delimiters text.now entry.content × (entry.content.kind ≡ kinds.H)) }
+    ensures found { IfOk result (λ entry. IsLentHeader text.now entry) }
     // Its fields stand behind its delimiters.
     ensures place { IfOk result (λ entry. entry ≡ record_in entry.delimiters entry.content.kind text.now) }
     // A text that is a header is found to be it.
-    ensures only { (d : DelimiterBytes) (content : RecordContent) → IsDelimiters d → IsRecord d text.now content
-        → content.kind ≡ kinds.H
-        → result ≡ Ok (lent d content) }
+    ensures only { FindsHeader text.now result }
     // Which fault it is.
     ensures fault { MatchResult result (λ _. header_fault text.now ≡ None)
         (λ fault. header_fault text.now ≡ Some fault) }
@@ -226,14 +220,11 @@ pub fn lend_searched_header(text: &[u8], bad: Option<usize>) -> Result<LentRecor
 /// neither H nor h; `DelimiterPart`; `Byte`; `TooLong`. It takes no memory.
 pub fn lend_header(text: &[u8]) -> Result<LentRecord<'_>, RecordFault>
     // What is found is the header that the text is, under the delimiters that it declares.
-    ensures found { IfOk result (λ entry. IsDelimiters entry.delimiters
-        × IsRecord entry.delimiters text.now entry.content × (entry.content.kind ≡ kinds.H)) }
+    ensures found { IfOk result (λ entry. IsLentHeader text.now entry) }
     // Its fields stand behind its delimiters.
     ensures place { IfOk result (λ entry. entry ≡ record_in entry.delimiters entry.content.kind text.now) }
     // A text that is a header is found to be it.
-    ensures only { (d : DelimiterBytes) (content : RecordContent) → IsDelimiters d → IsRecord d text.now content
-        → content.kind ≡ kinds.H
-        → result ≡ Ok (lent d content) }
+    ensures only { FindsHeader text.now result }
     // Which fault it is.
     ensures fault { MatchResult result (λ _. header_fault text.now ≡ None)
         (λ fault. header_fault text.now ≡ Some fault) }

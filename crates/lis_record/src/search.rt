@@ -1,11 +1,10 @@
 //! Places of bytes in a text, looked for sixteen bytes at a time (LIS02-A2, Character Codes).
 
-ghost use Rattle.std.specs.Prelude.{◌≡◌, ◌≤◌, ◌<◌, ◌==◌, ◌∷◌, IfNone, IfSome, None, drop, length, map, not, position};
-ghost use Rattle.std.specs.Prelude.{◌-◌, count_by, take};
+ghost use Rattle.std.specs.Prelude.{◌≡◌, ◌≤◌, ◌<◌, ◌==◌, ◌∷◌, IfNone, IfSome, None, Some, drop, length, map, not};
+ghost use Rattle.std.specs.Prelude.{◌-◌, count_by, position, take};
 ghost use Rattle.std.specs.List.{position_from};
 ghost use Rattle.std.specs.Simd.Lanes.{mask_l};
-ghost use Rattle.lis_field.specs.Shape.{plain_field};
-ghost use Rattle.lis_record.specs.inside.FrontReading.{is_delimiter, parts_behind, parts_of, repeats_of};
+ghost use Rattle.lis_record.specs.inside.FrontReading.{parts_behind, parts_of, stops};
 ghost use Rattle.lis_record.specs.inside.Marks.{AreMarks};
 ghost use Rattle.lis_record.specs.Text.{IsRecordText, bad_byte_place, is_text_byte};
 
@@ -206,38 +205,51 @@ fn place_by_one(text: &[u8], mark: u8) -> Option<usize>
     text.iter().position(|byte| *byte == mark)
 }
 
-/// The places among sixteen bytes that hold a delimiter of any kind, as bits.
+/// The places among sixteen bytes that hold a field, repeat or component delimiter, or this byte, as bits.
 #[inline(always)]
-fn delimiter_bits(delimiters: Delimiters, bytes: &[u8]) -> u64
+fn stop_bits(delimiters: Delimiters, other: u8, bytes: &[u8]) -> u64
     requires { 16 ≤ length bytes.now }
-    ensures { result ≡ mask_l (map (is_delimiter delimiters) (take 16 bytes.now)) }
+    ensures { result ≡ mask_l (map (stops delimiters other) (take 16 bytes.now)) }
 {
     let sixteen = u8x16::from_slice(bytes);
     let outer = sixteen.simd_eq(u8x16::splat(delimiters.field()))
         | sixteen.simd_eq(u8x16::splat(delimiters.repeat()));
     let inner = sixteen.simd_eq(u8x16::splat(delimiters.component()))
-        | sixteen.simd_eq(u8x16::splat(delimiters.escape()));
+        | sixteen.simd_eq(u8x16::splat(other));
     (outer | inner).to_bitmask()
 }
 
-/// The length of the field that a text begins with, where a field delimiter ends it within sixteen bytes and no other
-/// delimiter stands before that, so that its bytes are its symbols; none where that isn't so.
+/// The place of the first of these bytes, where one stands among a text's first sixteen; else none, and of a shorter
+/// text too.
 #[inline(always)]
-pub(crate) fn plain_length(delimiters: Delimiters, text: &[u8]) -> Option<usize>
-    ensures first { IfSome result (λ end. parts_of delimiters.field text.now
-        ≡ take end text.now ∷ parts_behind delimiters.field (drop end text.now)) }
-    ensures plain { IfSome result (λ end. repeats_of delimiters (take end text.now)
-        ≡ plain_field (take end text.now)) }
-    ensures bound { IfSome result (λ end. end < length text.now) }
+pub(crate) fn first_stop(delimiters: Delimiters, other: u8, text: &[u8]) -> Option<usize>
+    ensures found { IfSome result (λ place. position_from (stops delimiters other) 0 text.now ≡ Some place) }
+    ensures near { IfSome result (λ place. place < 16) }
+    ensures room { IfSome result (λ place. 16 ≤ length text.now) }
 {
     if text.len() < 16 {
         return None;
     }
-    let bits = delimiter_bits(delimiters, text);
+    let bits = stop_bits(delimiters, other, text);
     if bits == 0 {
         return None;
     }
-    let end = bits.trailing_zeros() as usize;
+    Some(bits.trailing_zeros() as usize)
+}
+
+/// Where the field ends that a text begins with, if a field delimiter is the first of these bytes; else none. With the
+/// escape byte beside the delimiters, the field's bytes are its symbols; with none, it is one component.
+#[inline(always)]
+pub(crate) fn field_end(delimiters: Delimiters, other: u8, text: &[u8]) -> Option<usize>
+    ensures found { IfSome result (λ end. position_from (stops delimiters other) 0 text.now ≡ Some end) }
+    ensures first { IfSome result (λ end. parts_of delimiters.field text.now
+        ≡ take end text.now ∷ parts_behind delimiters.field (drop end text.now)) }
+    ensures bound { IfSome result (λ end. end < length text.now) }
+    ensures room { IfSome result (λ end. 16 ≤ length text.now) }
+{
+    let Some(end) = first_stop(delimiters, other, text) else {
+        return None;
+    };
     if text[end] == delimiters.field() {
         Some(end)
     } else {

@@ -1,10 +1,9 @@
 //! The parts of a text round a delimiter (LIS02-A2, Delimiters).
 
-ghost use Rattle.std.specs.Prelude.{◌≡◌, ◌<◌, ◌≤◌, ◌∷◌, ◌++◌, IfSome, MatchOption, None, drop, length, slice_get, take};
-ghost use Rattle.std.specs.List.{flat_map};
+ghost use Rattle.std.specs.Prelude.{◌≡◌, ◌<◌, ◌≤◌, ◌∷◌, ◌++◌, IfSome, MatchOption, None, length, slice_get};
 ghost use Rattle.std.specs.Option.{option_copied};
 ghost use Rattle.lis_record.specs.Faults.{trailing_byte};
-ghost use Rattle.lis_record.specs.inside.FrontReading.{parts_behind, parts_of};
+ghost use Rattle.lis_record.specs.inside.FrontReading.{SplitsParts, parts_behind, parts_of};
 ghost use Rattle.lis_record.specs.inside.Marks.{AreMarks};
 
 use crate::search::{count_of, place_of};
@@ -85,11 +84,8 @@ pub(crate) fn split_parts(
 ) -> Option<(&[u8], &[u8], u64)>
     requires some { 0 < count }
     requires marks { AreMarks delimiter text.now marks }
-    ensures split { MatchOption result (length (parts_behind delimiter text.now) < count) (λ split.
-        (count ≤ length (parts_behind delimiter text.now))
-        × (delimiter ∷ drop 1 split.0.now ≡ flat_map (λ part. delimiter ∷ part)
-        (take count (parts_behind delimiter text.now)))
-        × (parts_behind delimiter split.1.now ≡ drop count (parts_behind delimiter text.now))) }
+    ensures split { MatchOption result (length (parts_behind delimiter text.now) < count)
+        (λ split. SplitsParts delimiter count text.now split.0.now split.1.now) }
     ensures first { IfSome result (λ split. 0 < length split.0.now) }
     ensures marks { IfSome result (λ split. AreMarks delimiter split.1.now split.2) }
 {
@@ -115,11 +111,8 @@ pub(crate) fn split_parts(
 #[inline(never)]
 fn split_unmarked(text: &[u8], delimiter: u8, count: usize) -> Option<(&[u8], &[u8], u64)>
     requires { 0 < count }
-    ensures split { MatchOption result (length (parts_behind delimiter text.now) < count) (λ split.
-        (count ≤ length (parts_behind delimiter text.now))
-        × (delimiter ∷ drop 1 split.0.now ≡ flat_map (λ part. delimiter ∷ part)
-        (take count (parts_behind delimiter text.now)))
-        × (parts_behind delimiter split.1.now ≡ drop count (parts_behind delimiter text.now))) }
+    ensures split { MatchOption result (length (parts_behind delimiter text.now) < count)
+        (λ split. SplitsParts delimiter count text.now split.0.now split.1.now) }
     ensures first { IfSome result (λ split. 0 < length split.0.now) }
     ensures marks { IfSome result (λ split. split.2 ≡ 0) }
 {

@@ -3,7 +3,7 @@ use Rattle.lis_field.specs.declared.kinds.Kind.{Kind}
 use Rattle.std.specs.Prelude.{◌≡◌, ◌≢◌, ◌≤◌, ℕ, zero, suc, ◌+◌, ◌==◌, nat_lt, cond, if◌then◌else◌, List, [], ◌∷◌, ◌++◌}
 use Rattle.std.specs.Prelude.{Bool, ◌||◌, map, take, drop, length, Option, Some, None, option_map, is_some, unwrap_or}
 use Rattle.std.specs.Prelude.{IsTrue}
-use Rattle.std.specs.List.{position_or_len, slice_split}
+use Rattle.std.specs.List.{flat_map, position_or_len, slice_split}
 use Rattle.lis_field.specs.declared.symbols.Sym.{Sym}
 use Rattle.lis_field.specs.declared.symbols.Sym.TheVariants.{Char}
 use Rattle.lis_field.specs.Delimiters.{DelimiterBytes, IsDelimiters, delimiter_list}
@@ -15,13 +15,9 @@ use Rattle.lis_field.specs.Kinds.{kind_of}
 use Rattle.lis_field.specs.Shape.{Symbols, Components, Repeats, Fields, RecordContent, plain_component}
 use Rattle.lis_record.specs.Relation.{Lacks}
 
--- whether a byte is a delimiter of any kind
-abbrev pub is_delimiter : DelimiterBytes → ℕ → Bool
-is_delimiter d b = (b == d.field || b == d.repeat) || (b == d.component || b == d.escape)
-
--- whether a component ends at a byte
-abbrev pub ends_part : DelimiterBytes → ℕ → Bool
-ends_part d b = (b == d.field || b == d.repeat) || b == d.component
+-- whether a byte is one at which a component ends, or the other byte that a search stops at
+abbrev pub stops : DelimiterBytes → ℕ → ℕ → Bool
+stops d other b = (b == d.field || b == d.repeat) || (b == d.component || b == other)
 
 -- the parts of a text round a byte
 abbrev pub parts_of : ℕ → List ℕ → List (List ℕ)
@@ -60,6 +56,13 @@ repeats_of d text = map (components_of d) (parts_of d.repeat text)
 abbrev pub parts_behind : ℕ → List ℕ → List (List ℕ)
 parts_behind byte [] = []
 parts_behind byte (delimiter ∷ bytes) = parts_of byte bytes
+
+-- what a text begins with is a byte and so many of the parts behind it, and the others follow
+abbrev pub SplitsParts : ℕ → ℕ → List ℕ → List ℕ → List ℕ → Type 0
+SplitsParts byte count text front rest =
+    (count ≤ length (parts_behind byte text))
+    × (byte ∷ drop 1 front ≡ flat_map (λ part. byte ∷ part) (take count (parts_behind byte text)))
+    × (parts_behind byte rest ≡ drop count (parts_behind byte text))
 
 -- a text ends with another
 abbrev pub EndsWith : List ℕ → List ℕ → Type 0

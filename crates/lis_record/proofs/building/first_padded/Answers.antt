@@ -4,16 +4,11 @@ use Rattle.lis_record.proofs.PaddedTexts.{begins_padded}
 use Rattle.lis_record.proofs.building.first_padded.Goals as goal
 
 pub split_at-requires : goal.split_at-requires
-split_at-requires c =
-    (begins_padded c.args.delimiter c.requires.0 c.in-Some.end c.args.text.now c.args.padded.now c.requires.1
-    c.in-Some.ensures.bound c.in-Some.ensures.first).within
+split_at-requires c = (begins_padded c.requires.0 c.requires.1 c.in-Some.ensures.bound c.in-Some.ensures.first).within
 
 pub returns-clause-parts : goal.returns-clause-parts
 returns-clause-parts c =
-    let mark = c.args.delimiter in
-    let text = c.args.text.now in
-    let end = c.in-Some.end in
-    let begins = begins_padded mark c.requires.0 end text c.args.padded.now c.requires.1 c.in-Some.ensures.bound
-    c.in-Some.ensures.first in
+    let begins = begins_padded c.requires.0 c.requires.1 c.in-Some.ensures.bound c.in-Some.ensures.first in
     rw (c.split_at.ensures.front, c.split_at.ensures.back)
-    (begins.parts ∙ ap (λ (l : List ℕ). l ∷ parts_behind mark (drop end text)) begins.same)
+    (begins.parts
+    ∙ ap (λ (l : List ℕ). l ∷ parts_behind c.args.delimiter (drop c.in-Some.end c.args.text.now)) begins.same)

@@ -1,7 +1,7 @@
 use Rattle.std.proofs.Common.{◌≡◌, ◌*◌, ◌+◌, ◌%◌, ◌^◌, drop, arith}
 use Rattle.std.specs.Int.Count.{count_trailing_zeros}
-use Rattle.lis_record.proofs.LeftMarks.{end_is, left-first, left-next, nothing_passed, part_begun, part_passed}
-use Rattle.lis_record.proofs.LeftMarks.{parts_split}
+use Rattle.lis_record.proofs.LeftMarks.{left-first, nothing_passed, part_begun, part_passed, parts_split}
+use Rattle.lis_record.proofs.texts.split_parts.Invariants.{next-mark}
 use Rattle.lis_record.proofs.texts.split_parts.Goals as goal
 
 pub loop-ahead-init : goal.loop-ahead-init
@@ -15,12 +15,7 @@ loop-ahead-init c = record {
 }
 
 pub overflow_sub-left-in-loop-ahead : goal.overflow_sub-left-in-loop-ahead
-overflow_sub-left-in-loop-ahead c =
-    let i = c.loop-ahead.invariant in
-    let next = left-next c.args.delimiter c.args.text.now c.loop-ahead.left i.place i.marks c.if-left-eq0.false
-    (count_trailing_zeros 64 c.loop-ahead.left)
-    (end_is c.args.delimiter c.args.text.now c.loop-ahead.left i.place i.marks c.if-left-eq0.false) in
-    omega (arith, next.bit)
+overflow_sub-left-in-loop-ahead c = omega (arith, (next-mark c.loop-ahead.invariant c.if-left-eq0.false).bit)
 
 pub loop-ahead-preserved : goal.loop-ahead-preserved
 loop-ahead-preserved c =
@@ -29,8 +24,7 @@ loop-ahead-preserved c =
     let text = c.args.text.now in
     let left = c.loop-ahead.left in
     let end = count_trailing_zeros 64 left in
-    let next = left-next d text left i.place i.marks c.if-left-eq0.false end
-    (end_is d text left i.place i.marks c.if-left-eq0.false) in
+    let next = next-mark i c.if-left-eq0.false in
     let same : 1 * 2 ^ end % 18446744073709551616 ≡ 2 ^ end =
     omega (arith, next.bit, c.loop-ahead.auto.left-fits) in
     record {
@@ -44,35 +38,20 @@ loop-ahead-preserved c =
     }
 
 pub split_at-requires : goal.split_at-requires
-split_at-requires c =
-    let i = c.loop-ahead.invariant in
-    let next = left-next c.args.delimiter c.args.text.now c.loop-ahead.left i.place i.marks c.if-left-eq0-2.false
-    (count_trailing_zeros 64 c.loop-ahead.left)
-    (end_is c.args.delimiter c.args.text.now c.loop-ahead.left i.place i.marks c.if-left-eq0-2.false) in
-    omega (arith, next.inside)
+split_at-requires c = omega (arith, (next-mark c.loop-ahead.invariant c.if-left-eq0-2.false).inside)
 
 pub returns-clause-split : goal.returns-clause-split
 returns-clause-split c =
     let i = c.loop-ahead.invariant in
-    let end = count_trailing_zeros 64 c.loop-ahead.left in
-    let next = left-next c.args.delimiter c.args.text.now c.loop-ahead.left i.place i.marks c.if-left-eq0-2.false end
-    (end_is c.args.delimiter c.args.text.now c.loop-ahead.left i.place i.marks c.if-left-eq0-2.false) in
-    parts_split c.args.delimiter c.args.text.now c.loop-ahead.left i.place end next i.passed c.args.count
-    c.split_at.result.0.now c.split_at.result.1.now i.parts
+    parts_split c.args.delimiter c.args.text.now c.loop-ahead.left i.place (count_trailing_zeros 64 c.loop-ahead.left)
+    (next-mark i c.if-left-eq0-2.false) i.passed c.args.count c.split_at.result.0.now c.split_at.result.1.now i.parts
     (omega (arith, i.sum, c.loop-ahead-test.false)) i.some c.split_at.ensures.front c.split_at.ensures.back
 
 pub returns-clause-first : goal.returns-clause-first
 returns-clause-first c =
     let i = c.loop-ahead.invariant in
-    let next = left-next c.args.delimiter c.args.text.now c.loop-ahead.left i.place i.marks c.if-left-eq0-2.false
-    (count_trailing_zeros 64 c.loop-ahead.left)
-    (end_is c.args.delimiter c.args.text.now c.loop-ahead.left i.place i.marks c.if-left-eq0-2.false) in
-    omega (arith, next.from, i.some, c.split_at.ensures.front_len)
+    omega (arith, (next-mark i c.if-left-eq0-2.false).from, i.some, c.split_at.ensures.front_len)
 
 pub returns-clause-marks : goal.returns-clause-marks
 returns-clause-marks c =
-    let i = c.loop-ahead.invariant in
-    let next = left-next c.args.delimiter c.args.text.now c.loop-ahead.left i.place i.marks c.if-left-eq0-2.false
-    (count_trailing_zeros 64 c.loop-ahead.left)
-    (end_is c.args.delimiter c.args.text.now c.loop-ahead.left i.place i.marks c.if-left-eq0-2.false) in
-    rw c.split_at.ensures.back next.marks
+    rw c.split_at.ensures.back (next-mark c.loop-ahead.invariant c.if-left-eq0-2.false).marks

@@ -5,10 +5,10 @@ use Rattle.lis_record.proofs.writing.spelled_length.Goals as goal
 
 pub returns : goal.returns
 returns c =
-    let i = c.loop-chunk.invariant in
-    let none = eqb-true (length c.loop-chunk.chunk) 0 (sym c.is_empty.ensures ∙ c.loop-chunk-test.false) in
+    let i = c.loop-cursor.invariant in
+    let none = eqb-true (length c.loop-cursor.chunk) 0 (sym c.is_empty.ensures ∙ c.loop-cursor-test.false) in
     let done = ap length (i.filled none) in
-    let size = length-append c.loop-chunk.chunk c.loop-chunk.cursor in
+    let size = length-append c.loop-cursor.chunk c.loop-cursor.cursor in
     let whole = ap length (c.begin_record-cursor.ensures.whole
     ∙ append-nil (spelled c.args.delimiters.now c.args.entry.now)) in
     omega (arith, i.same, i.bound, none, done, size, whole)

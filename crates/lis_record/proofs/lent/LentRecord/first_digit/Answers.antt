@@ -1,7 +1,5 @@
-use Rattle.std.proofs.Common.{ap, arith, slice_get, length, sym, ◌∙◌}
-use Rattle.lis_field.specs.Shape.{RecordContent}
-use Rattle.lis_record.specs.Lent.{Lent}
-use Rattle.lis_record.proofs.FieldTexts.{lone_digit}
+use Rattle.std.proofs.Common.{arith, sym, ◌∙◌}
+use Rattle.lis_record.proofs.FieldTexts.{lone_lent}
 use Rattle.lis_record.proofs.PlainFields.{digit_behind}
 use Rattle.lis_record.proofs.lent.LentRecord.first_digit.Goals as goal
 
@@ -9,18 +7,16 @@ pub returns-clause-is : goal.returns-clause-is
 returns-clause-is c =
     let i = c.self.inside in
     let is = c.is_lone_digit.ensures.0 c.if-not-is_lone_digit.false in
-    let digit = lone_digit i.delimiters c.field-mark.ensures.shape i.fields.now c.in-len3-up.len_at_least is.1.0 is.1.1
-    (is.0 ∙ c.field-mark.ensures.byte) in
-    sym (ap (λ (r : Lent RecordContent). slice_get r.content.fields 0) c.self.view_is) ∙ digit.0
+    (lone_lent i.delimiters c.field-mark.ensures.shape i.fields.now i.kind c.args.self.now c.self.view_is
+    c.in-len3-up.len_at_least is.1.0 is.1.1 (is.0 ∙ c.field-mark.ensures.byte)).0
 
 pub returns-clause-digit : goal.returns-clause-digit
 returns-clause-digit c =
-    let i = c.self.inside in
     let is = c.is_lone_digit.ensures.0 c.if-not-is_lone_digit.false in
-    let digit = lone_digit i.delimiters c.field-mark.ensures.shape i.fields.now c.in-len3-up.len_at_least is.1.0 is.1.1
-    (is.0 ∙ c.field-mark.ensures.byte) in
-    let count = ap (λ (r : Lent RecordContent). length r.content.fields) c.self.view_is in
-    (is.1.0, (is.1.1, omega (arith, digit.1, count)))
+    let i = c.self.inside in
+    let more = (lone_lent i.delimiters c.field-mark.ensures.shape i.fields.now i.kind c.args.self.now c.self.view_is
+    c.in-len3-up.len_at_least is.1.0 is.1.1 (is.0 ∙ c.field-mark.ensures.byte)).1 in
+    (is.1.0, (is.1.1, more))
 
 pub returns-in_default-clause-other : goal.returns-in_default-clause-other
 returns-in_default-clause-other c = λ digit low high more is.

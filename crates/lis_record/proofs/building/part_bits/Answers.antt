@@ -1,8 +1,0 @@
-use Rattle.std.proofs.Common.{take, arith, length-take}
-use Rattle.lis_record.proofs.Lanes.{part-bits}
-use Rattle.lis_record.proofs.building.part_bits.Goals as goal
-
-pub returns : goal.returns
-returns c =
-    rw (c.field.ensures.byte, c.repeat.ensures, c.component.ensures)
-    (part-bits (take 16 c.args.bytes.now) (omega (arith, length-take 16 c.args.bytes.now)) c.args.delimiters)
