@@ -1,13 +1,15 @@
 -- Lanes below a limit: whether all are, and the greater of two vectors, whose lanes are below it where those of both
--- are.
-use Rattle.std.proofs.Common.{◌≡◌, ℕ, zero, suc, ◌+◌, ◌-◌, ◌*◌, ◌%◌, ◌^◌, ◌≤◌, ◌&&◌, Bool, true, false, cond}
+-- are; and what is told of a vector byte by byte.
+use Rattle.std.proofs.Common.{◌≡◌, ℕ, zero, suc, ◌+◌, ◌-◌, ◌*◌, ◌%◌, ◌^◌, ◌≤◌, ◌<◌, ◌&&◌, Bool, true, false, cond}
 use Rattle.std.proofs.Common.{eqb, ltb, leb, List, [], ◌∷◌, length, map, replicate, refl, sym, ap, ◌∙◌, arith}
 use Rattle.std.specs.Prelude.{nat_lt}
 use Rattle.std.specs.List.{list_all}
-use Rattle.std.specs.Simd.Lanes.{mask_l, sel_l, top, zip2}
+use Rattle.std.specs.Simd.Lanes.{Each1, mask_l, sel_l, top, zip2}
 use Rattle.std.proofs.lemmas.Bool.Decides.{nat_tests}
 use Rattle.std.proofs.lemmas.List.{length-map}
 use Rattle.std.proofs.lemmas.Simd.{mask_l-mod}
+use mir.Syntax.{w8}
+use mir.Val.{Fits}
 
 -- one number from another, of a lane's width
 abbrev pub less : ℕ → ℕ → ℕ
@@ -107,3 +109,19 @@ all-greater p limit tells (suc n) (x ∷ xs) (y ∷ ys) one two =
     greater_is x y =
         sym (tells (cond (top 7 (below x y)) y x))
         ∙ greater_below limit x y (p x) (p y) (ltb x y) (tells x) (tells y) refl
+
+-- ---- lane by lane
+
+-- what is told of each byte is told of the lanes of a vector that are made of bytes one by one
+pub lanes_told :
+    {A : Type 0} (lanes : ℕ → List ℕ → List ℕ) (lane : ℕ → ℕ) (tells says : ℕ → A)
+    → ((n : ℕ) → lanes n [] ≡ [])
+    → ((n b : ℕ) (bytes : List ℕ) → lanes (suc n) (b ∷ bytes) ≡ lane b ∷ lanes n bytes)
+    → ((b : ℕ) → b < 256 → tells (lane b) ≡ says b)
+    → (n : ℕ) (bytes : List ℕ) → length bytes ≡ n → Each1 (Fits w8) bytes
+    → map tells (lanes n bytes) ≡ map says bytes
+lanes_told lanes lane tells says none more told n [] long fits = ap (map tells) (none n)
+lanes_told lanes lane tells says none more told zero (b ∷ bytes) long fits = absurd (omega arith)
+lanes_told lanes lane tells says none more told (suc n) (b ∷ bytes) long fits =
+    ap (map tells) (more n b bytes)
+    ∙ (λ i. told b fits.0.fits i ∷ lanes_told lanes lane tells says none more told n bytes (omega arith) fits.1 i)

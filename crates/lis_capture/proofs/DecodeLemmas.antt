@@ -302,6 +302,22 @@ part_of digits place fits =
     ap (take 32) (take_all (length digits - 2 * place) (drop (2 * place) digits)
     (omega (arith, length-drop (2 * place) digits)))
 
+-- the sixteen pairs at a place, and what they tell
+part_long :
+    (digits : List ℕ) (n place : ℕ) → length digits ≡ 2 * n → place + 16 ≤ n
+    → length (take 32 (drop (2 * place) digits)) ≡ 32
+part_long digits n place pairs fits =
+    omega (arith, length-take 32 (drop (2 * place) digits), length-drop (2 * place) digits)
+
+part_there :
+    (digits chunk : List ℕ) (b : Bool) (n place : ℕ) → length digits ≡ 2 * n → place + 16 ≤ n
+    → bytes_of (take 32 (behind digits place)) ≡ (if b then Some chunk else None)
+    → (list_all is_hex_digit (take 32 (drop (2 * place) digits)) ≡ b)
+    × (b ≡ true → chunk ≡ paired (take 32 (drop (2 * place) digits)))
+part_there digits chunk b n place pairs fits told =
+    part_read (take 32 (drop (2 * place) digits)) chunk b (part_long digits n place pairs fits)
+    (ap bytes_of (sym (part_of digits place (omega arith))) ∙ told)
+
 -- sixteen more are read
 pub more_read :
     (digits out chunk : List ℕ) (n place k : ℕ) → length digits ≡ 2 * n → length out ≡ n → place + 16 ≤ n
@@ -309,14 +325,8 @@ pub more_read :
     → IsRead digits (put_mid place k out chunk) (place + 16)
 more_read digits out chunk n place k pairs room fits is told =
     let part : List ℕ = take 32 (drop (2 * place) digits) in
-    let part_is = part_of digits place (omega arith) in
-    let long : length part ≡ 32 = omega (
-      arith,
-      length-take 32 (drop (2 * place) digits),
-      length-drop (2 * place)
-          digits,
-    ) in
-    let read = part_read part chunk true long (ap bytes_of (sym part_is) ∙ told) in
+    let long = part_long digits n place pairs (omega arith) in
+    let read = part_there digits chunk true n place pairs (omega arith) told in
     let twice : 2 * (place + 16) ≡ 2 * place + 32 = omega arith in
     let whole : take (2 * (place + 16)) digits ≡ take (2 * place) digits ++ part =
     rw twice (take-add (2 * place) 32 digits) in
@@ -338,14 +348,7 @@ pub none_behind :
     → bytes_of (take 32 (behind digits place)) ≡ None → bytes_of digits ≡ None
 none_behind digits chunk n place pairs fits told =
     let part : List ℕ = take 32 (drop (2 * place) digits) in
-    let part_is = part_of digits place (omega arith) in
-    let long : length part ≡ 32 = omega (
-      arith,
-      length-take 32 (drop (2 * place) digits),
-      length-drop (2 * place)
-          digits,
-    ) in
-    let read = part_read part chunk false long (ap bytes_of (sym part_is) ∙ told) in
+    let read = part_there digits chunk false n place pairs (omega arith) told in
     let rest : List ℕ = drop 32 (drop (2 * place) digits) in
     let whole : take (2 * place) digits ++ (part ++ rest) ≡ digits =
     ap (λ (l : List ℕ). take (2 * place) digits ++ l) (take-append-drop 32 (drop (2 * place) digits))
@@ -368,17 +371,9 @@ last_read digits out chunk true n place last k pairs room ends less width is tol
     let read = more_read digits out chunk n last k pairs room (omega arith)
     (fewer_read digits out last place less is) told in
     let all : take (2 * (last + 16)) digits ≡ digits = take_all (2 * (last + 16)) digits (omega arith) in
-    let part_is = part_of digits last (omega arith) in
-    let part : List ℕ = take 32 (drop (2 * last) digits) in
-    let long : length part ≡ 32 = omega (
-      arith,
-      length-take 32 (drop (2 * last) digits),
-      length-drop (2 * last)
-          digits,
-    ) in
     let sixteen : length chunk ≡ 16 =
-    ap length ((part_read part chunk true long (ap bytes_of (sym part_is) ∙ told)).1 refl)
-    ∙ length-paired 16 part long in
+    ap length ((part_there digits chunk true n last pairs (omega arith) told).1 refl)
+    ∙ length-paired 16 (take 32 (drop (2 * last) digits)) (part_long digits n last pairs (omega arith)) in
     let none : drop (last + 16) (put_mid last k out chunk) ≡ [] =
     drop-put_mid last k out chunk (last + 16) (omega arith) (omega arith) (omega (arith, sixteen))
     ∙ drop_all (last + 16) out (omega arith) in

@@ -1,5 +1,5 @@
 -- The values of digits, lane by lane.
-use Rattle.std.proofs.Common.{◌≡◌, ℕ, zero, suc, ◌+◌, ◌%◌, ◌<◌, ◌==◌, Bool, true, false, cond, List, [], ◌∷◌}
+use Rattle.std.proofs.Common.{◌≡◌, ℕ, ◌+◌, ◌%◌, ◌<◌, ◌==◌, Bool, true, false, cond, List}
 use Rattle.std.proofs.Common.{length, map}
 use Rattle.std.proofs.Common.{replicate, bit_and, Option, None, Some, refl, ap, arith}
 use Rattle.std.specs.Simd.Lanes.{Each1, sel_l, top, zip2}
@@ -8,7 +8,7 @@ use mir.Syntax.{w8}
 use mir.Val.{Fits}
 use Rattle.hex.specs.Hex.{hex_digit_value}
 use Rattle.lis_capture.specs.Digits.{told_digit}
-use Rattle.lis_capture.proofs.BelowLemmas.{below, less}
+use Rattle.lis_capture.proofs.BelowLemmas.{below, lanes_told, less}
 use Rattle.lis_capture.proofs.DigitsLemmas.{passes, passes_at}
 
 -- ---- the value of a digit, tried at every byte
@@ -70,7 +70,4 @@ values_of n bytes =
 pub values_told :
     (n : ℕ) (bytes : List ℕ) → length bytes ≡ n → Each1 (Fits w8) bytes →
     map told_digit (values_of n bytes) ≡ map hex_digit_value bytes
-values_told n [] long fits = refl
-values_told zero (b ∷ bytes) long fits = absurd (omega arith)
-values_told (suc n) (b ∷ bytes) long fits =
-    λ i. value_told b fits.0.fits i ∷ values_told n bytes (omega arith) fits.1 i
+values_told = lanes_told values_of value told_digit hex_digit_value (λ n. refl) (λ n b bytes. refl) value_told

@@ -21,7 +21,7 @@ use Rattle.hex.specs.Hex.{encode_lower, encode_with, hex_digit_value, is_hex_dig
 use Rattle.lis_capture.specs.Digits.{bytes_of, is_none_far, lower_case}
 use Rattle.lis_capture.proofs.DigitsLemmas.{by_value, bytes_of-other, digit_passes, passes, passes_at}
 use Rattle.lis_capture.proofs.BelowLemmas.{all-greater, all_below, below, bits_fit, bits_over, greater, length-greater}
-use Rattle.lis_capture.proofs.BelowLemmas.{less}
+use Rattle.lis_capture.proofs.BelowLemmas.{lanes_told, less}
 use Rattle.lis_capture.proofs.DecodeLemmas.{bytes_of-paired, paired}
 
 -- ---- how far a byte is from a digit, tried at every byte
@@ -70,10 +70,7 @@ far_of n bytes =
 pub all_far_told :
     (n : ℕ) (bytes : List ℕ) → length bytes ≡ n → Each1 (Fits w8) bytes →
     map is_none_far (far_of n bytes) ≡ map is_hex_digit bytes
-all_far_told n [] long fits = refl
-all_far_told zero (b ∷ bytes) long fits = absurd (omega arith)
-all_far_told (suc n) (b ∷ bytes) long fits =
-    λ i. far_told b fits.0.fits i ∷ all_far_told n bytes (omega arith) fits.1 i
+all_far_told = lanes_told far_of far is_none_far is_hex_digit (λ n. refl) (λ n b bytes. refl) far_told
 
 -- no step is a number below one
 no_step : (x : ℕ) → nat_lt x 1 ≡ is_none_far x

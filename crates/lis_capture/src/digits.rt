@@ -106,8 +106,8 @@ fn decode_pair(high: u8, low: u8, bytes: &mut [u8]) -> bool
 fn decode_sixteen(digits: &[u8], bytes: &mut [u8]) -> u8x16
     requires many { 32 ≤ length digits.now }
     requires room { length bytes.old ≡ 16 }
-    ensures lanes { length result ≡ 16 }
-    ensures bytes { bytes_of (take 32 digits.now) ≡ (if list_all is_digit_value result then Some bytes.new else None) }
+    ensures { (length result ≡ 16)
+        × (bytes_of (take 32 digits.now) ≡ (if list_all is_digit_value result then Some bytes.new else None)) }
 {
     let front = u8x16::from_slice(digits);
     let (_, behind) = digits.split_at(16);

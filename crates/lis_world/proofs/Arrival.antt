@@ -55,23 +55,29 @@ no_is_no_yes : IsYes NAK → ⊥
 no_is_no_yes (inl e) = absurd (omega arith)
 no_is_no_yes (inr e) = absurd (omega arith)
 
--- NAK, and nothing else, in the place of a frame
-left_refused :
-    (limit s : ℕ) (f : FrameContent) (past : List ℕ) (d : Desk)
+-- one reply, and nothing else, in the place of a frame; the frame was accepted where it says yes
+left_answered :
+    (limit s byte : ℕ) (f : FrameContent) (past : List ℕ) (d : Desk)
     → IsSide limit d
-    → IsLeft limit s (one_frame f) d (at_past past (record d { replies = d.replies ++ NAK ∷ [] }))
-left_refused limit s f past d side = record {
+    → ((before : List FrameContent) (g : FrameContent) → Pending d.sessions d.receiver.is_open d.opened s before g
+    → IsYes byte → (session_at s d.sessions).accepted ≡ before ++ g ∷ [])
+    → IsLeft limit s (one_frame f) d (at_past past (record d { replies = d.replies ++ byte ∷ [] }))
+left_answered limit s byte f past d side accepted = record {
   sound = side.sound;
   line = side.line;
   kept = kept_refl d.sessions;
   after_ending = λ e. cc;
   after_enquiry = λ e. cc;
-  after_frame = λ before g e pending. (
-    pending,
-    inr
-        (NAK, one_reply NAK d.replies side.no_reply, λ yes. absurd (no_is_no_yes yes)),
-  );
+  after_frame = λ before g e pending.
+      (pending, inr (byte, one_reply byte d.replies side.no_reply, accepted before g pending));
 }
+
+left_refused :
+    (limit s : ℕ) (f : FrameContent) (past : List ℕ) (d : Desk)
+    → IsSide limit d
+    → IsLeft limit s (one_frame f) d (at_past past (record d { replies = d.replies ++ NAK ∷ [] }))
+left_refused limit s f past d side =
+    left_answered limit s NAK f past d side (λ before g pending yes. absurd (no_is_no_yes yes))
 
 pub left_bad :
     (limit s : ℕ) (f : FrameContent) (fault : FrameFault) (past : List ℕ) (d : Desk)
@@ -110,6 +116,21 @@ pub accepted_of_unsent : (limit : ℕ) (x : Session) → IsSound limit x → x.s
 accepted_of_unsent limit x sound none =
     nothing_before x.accepted sound.accepted_of_sent.rest (sound.accepted_of_sent.joined ∙ none)
 
+-- ENQ is answered while the line stays closed
+left_closed :
+    (limit s byte : ℕ) (past : List ℕ) (d : Desk) (after : ReceiverState)
+    → IsSide limit d
+    → after.is_open ≡ false
+    → IsLeft limit s enquiry d (at_past past (record d { receiver = after; replies = d.replies ++ byte ∷ [] }))
+left_closed limit s byte past d after side closed = record {
+  sound = side.sound;
+  line = λ e. cc;
+  kept = kept_refl d.sessions;
+  after_ending = λ e. cc;
+  after_enquiry = λ e. inr (byte, one_reply byte d.replies side.no_reply, λ is_open. cc);
+  after_frame = λ before f e pending. cc;
+}
+
 left_bid :
     (limit s : ℕ) (past : List ℕ) (d : Desk)
     → IsSide limit d
@@ -124,22 +145,10 @@ left_bid limit s past d side unsent Ready = record {
   after_enquiry = λ e. inr (ACK, one_reply ACK d.replies side.no_reply, λ is_open. refl);
   after_frame = λ before f e pending. cc;
 }
-left_bid limit s past d side unsent Busy = record {
-  sound = side.sound;
-  line = λ e. cc;
-  kept = kept_refl d.sessions;
-  after_ending = λ e. cc;
-  after_enquiry = λ e. inr (NAK, one_reply NAK d.replies side.no_reply, λ is_open. cc);
-  after_frame = λ before f e pending. cc;
-}
-left_bid limit s past d side unsent Contending = record {
-  sound = side.sound;
-  line = λ e. cc;
-  kept = kept_refl d.sessions;
-  after_ending = λ e. cc;
-  after_enquiry = λ e. inr (ENQ, one_reply ENQ d.replies side.no_reply, λ is_open. cc);
-  after_frame = λ before f e pending. cc;
-}
+left_bid limit s past d side unsent Busy =
+    left_closed limit s NAK past d (record d.receiver { is_open = false }) side refl
+left_bid limit s past d side unsent Contending =
+    left_closed limit s ENQ past d (record d.receiver { is_open = false; readiness = Ready }) side refl
 
 pub left_enquiry :
     (limit s : ℕ) (past : List ℕ) (d : Desk)
@@ -160,22 +169,9 @@ left_duplicate :
     → Pending d.sessions d.receiver.is_open d.opened s before f
     → (session_at s d.sessions).accepted ≡ before ++ f ∷ []
     → IsLeft limit s (one_frame f) d (at_past past (booked s (on_judged d.receiver f (Duplicate number)) d))
-left_duplicate limit s number f past d before side is_pending accepted = record {
-  sound = side.sound;
-  line = side.line;
-  kept = kept_refl d.sessions;
-  after_ending = λ e. cc;
-  after_enquiry = λ e. cc;
-  after_frame = λ before' g e pending. (
-    pending,
-    inr (
-      ACK,
-      one_reply ACK d.replies side.no_reply,
-      λ yes. accepted ∙ sym is_pending.sent_is
-          ∙ pending.sent_is,
-    ),
-  );
-}
+left_duplicate limit s number f past d before side is_pending accepted =
+    left_answered limit s ACK f past d side (λ before' g pending yes.
+    accepted ∙ sym is_pending.sent_is ∙ pending.sent_is)
 
 groups_push_by : (xs : List (List ℕ)) (o : Option (List ℕ)) → xs ++ (option_to_list o ++ []) ≡ with_more xs o
 groups_push_by xs None = append-nil xs

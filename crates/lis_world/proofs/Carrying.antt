@@ -1,5 +1,5 @@
 -- A session with enough rounds is done, and an undisturbed one too.
-use Rattle.std.proofs.Common.{◌≡◌, ℕ, zero, suc, ◌+◌, ◌-◌, ◌<◌, ◌≤◌, ◌⊎◌, inl, inr, Bool, true, false, List, [], ◌∷◌}
+use Rattle.std.proofs.Common.{◌≡◌, ℕ, zero, suc, ◌+◌, ◌-◌, ◌<◌, ◌≤◌, inl, inr, Bool, true, false, List, [], ◌∷◌}
 use Rattle.std.proofs.Common.{◌++◌, length, get_or, None, Some, refl, sym, ap, ◌∙◌, subst, arith}
 use Rattle.std.proofs.lemmas.Bool.{cond-false}
 use Rattle.std.proofs.lemmas.List.{length-append, length_push}
@@ -38,6 +38,7 @@ use Rattle.lis_world.proofs.Starting.{can_start}
 use Rattle.lis_world.proofs.Sending.{zero_mute}
 use Rattle.lis_world.proofs.Safety.{event_holds, runs_hold, new_holds, whole_prefix, prefix_trans}
 use Rattle.lis_world.proofs.Safety.{hands_out_all_from_sound}
+use Rattle.lis_world.proofs.Rounds.{EndTraffic}
 use Rattle.lis_world.proofs.Rounds.{IsSent, IsFinished, GoesOn, GoesOnOrAgain, by_signals, awaiting_of, sender_frames}
 use Rattle.lis_world.proofs.Rounds.{sent_on, undisturbed_round, disturbed_round}
 
@@ -96,10 +97,7 @@ finished_delivered : (limit c : ℕ) (frames : List FrameContent) (w : World) �
     → IsFinished limit c frames w → IsOver limit c frames (after_event limit Deliver w)
 finished_delivered limit c frames w is_limit finished = go finished.traffic
   where
-    go :
-        ((s : ℕ) × (w.units ≡ record { session = s; load = ending } ∷ [])) ⊎
-        ((w.units ≡ []) × (w.receiver.is_open ≡ false))
-        → IsOver limit c frames (after_event limit Deliver w)
+    go : EndTraffic w → IsOver limit c frames (after_event limit Deliver w)
     go (inl one) =
         closed_after limit c frames w (after_event limit Deliver w) (hears limit one.0 (EOT ∷ []) (desk_of w)) finished
         (event_holds limit Deliver w is_limit finished.tracked.holds) (ending_heard limit one.0 (desk_of w) refl)
@@ -113,10 +111,7 @@ finished_no_room :
     → IsFinished limit c frames (after_event limit DeliverNoRoom w)
 finished_no_room limit c frames w is_limit finished = go finished.traffic
   where
-    go :
-        ((s : ℕ) × (w.units ≡ record { session = s; load = ending } ∷ [])) ⊎
-        ((w.units ≡ []) × (w.receiver.is_open ≡ false))
-        → IsFinished limit c frames (after_event limit DeliverNoRoom w)
+    go : EndTraffic w → IsFinished limit c frames (after_event limit DeliverNoRoom w)
     go (inl one) =
         let d : Desk = room_at false (desk_of w) in
         let closed = ending_heard limit one.0 d refl in
@@ -138,10 +133,7 @@ finished_damaged limit c frames stretch w bad finished = go finished.traffic
     bytes : List ℕ
     bytes = STX ∷ (stretch ++ LF ∷ [])
 
-    go :
-        ((s : ℕ) × (w.units ≡ record { session = s; load = ending } ∷ [])) ⊎
-        ((w.units ≡ []) × (w.receiver.is_open ≡ false))
-        → IsFinished limit c frames (after_event limit (Damage bytes) w)
+    go : EndTraffic w → IsFinished limit c frames (after_event limit (Damage bytes) w)
     go (inl one) =
         let unnoticed : is_noticed ending (signals_after limit w.receiver.past bytes) ≡ false =
         ap (is_noticed ending) (signals-bad_stretch limit w.receiver.past stretch bad.fault bad.no_mark bad.is_bad) in

@@ -105,13 +105,17 @@ pub record IsResting (w : World) : Type 0 where
   pub no_reply : w.replies ≡ []
   pub live_endings : AllEndings (drop w.mute w.units)
 
+-- ENQ is on its way, or its answer is
+abbrev pub BidTraffic : World → Type 0
+BidTraffic w =
+    ((w.replies ≡ []) × Bids w.current (drop w.mute w.units))
+    ⊎ ((w.units ≡ []) × BidAnswer w.replies w.receiver.is_open w.opened w.current)
+
 -- ENQ was sent
 pub record IsBidding (w : World) : Type 0 where
   pub unsent : Unsent w.sessions w.current
   pub none_acknowledged : w.sender.acknowledged ≡ 0
-  pub traffic :
-      ((w.replies ≡ []) × Bids w.current (drop w.mute w.units))
-      ⊎ ((w.units ≡ []) × BidAnswer w.replies w.receiver.is_open w.opened w.current)
+  pub traffic : BidTraffic w
 
 -- ENQ was refused
 pub record IsWaiting (w : World) : Type 0 where
@@ -119,6 +123,12 @@ pub record IsWaiting (w : World) : Type 0 where
   pub none_acknowledged : w.sender.acknowledged ≡ 0
   pub no_reply : w.replies ≡ []
   pub no_unit : w.units ≡ []
+
+-- the frame is on its way, or its answer is
+abbrev pub FrameTraffic : World → List FrameContent → FrameContent → Type 0
+FrameTraffic w before frame =
+    ((w.units ≡ record { session = w.current; load = one_frame frame } ∷ []) × (w.replies ≡ []))
+    ⊎ ((w.units ≡ []) × FrameAnswer w.replies w.sessions w.current before frame)
 
 -- a frame was sent
 pub record IsAwaiting (w : World) : Type 0 where
@@ -129,9 +139,7 @@ pub record IsAwaiting (w : World) : Type 0 where
   pub acknowledged_is : w.sender.acknowledged ≡ length before
   pub pending : Pending w.sessions w.receiver.is_open w.opened w.current before frame
   pub unmuted : w.mute ≡ 0
-  pub traffic :
-      ((w.units ≡ record { session = w.current; load = one_frame frame } ∷ []) × (w.replies ≡ []))
-      ⊎ ((w.units ≡ []) × FrameAnswer w.replies w.sessions w.current before frame)
+  pub traffic : FrameTraffic w before frame
 
 abbrev pub InPhase : Phase → World → Type 0
 InPhase Neutral w = IsResting w

@@ -8,6 +8,7 @@ use Rattle.lis_link.specs.Sender.{SenderState}
 use Rattle.lis_world.specs.Unit.{Load, enquiry, ending, one_frame, Travelling}
 use Rattle.lis_world.specs.Session.{Session, session_at}
 use Rattle.lis_world.specs.World.{World, Desk, desk_of, replies_with, lowered, settled}
+use Rattle.lis_world.proofs.Invariant.{BidTraffic}
 use Rattle.lis_world.proofs.Invariant.{Unsent, Waits, Behind, Leads, Front, KeepsFrames, IsCurrent, AllEndings, BidsBy}
 use Rattle.lis_world.proofs.Invariant.{Bids, BidAnswer, FrameAnswer, IsAwaiting, InPhase, Holds, IsKeptSession, AreKept}
 use Rattle.lis_world.proofs.Invariant.{IsLeft}
@@ -115,9 +116,7 @@ phase_left limit w u us d' units_are left AwaitLine h = record {
   traffic = go h.traffic;
 }
   where
-    go :
-        ((w.replies ≡ []) × Bids w.current (drop w.mute w.units)) ⊎
-        ((w.units ≡ []) × BidAnswer w.replies w.receiver.is_open w.opened w.current)
+    go : BidTraffic w
         → ((replies_with w.mute d'.replies w.replies ≡ []) × Bids w.current (drop (lowered w.mute) us))
         ⊎ ((us ≡ []) × BidAnswer (replies_with w.mute d'.replies w.replies) d'.receiver.is_open d'.opened w.current)
     go (inl bids) =

@@ -4,6 +4,7 @@ pub mod SessionLemmas
 pub mod Invariant
 pub mod Leaving
 pub mod Hearing
+pub mod Heard
 pub mod Cutting
 pub mod Arrival
 pub mod BadHeard

@@ -1,5 +1,5 @@
 -- What a loss comes to: the sender's timer ends the session, and a later one is carried through.
-use Rattle.std.proofs.Common.{◌≡◌, ℕ, zero, suc, ◌<◌, ◌⊎◌, inl, inr, true, List, [], ◌∷◌, ◌++◌, length, drop, Some}
+use Rattle.std.proofs.Common.{◌≡◌, ℕ, zero, suc, ◌<◌, ◌⊎◌, inl, inr, true, List, [], ◌∷◌, ◌++◌, length, Some}
 use Rattle.std.proofs.Common.{refl, sym, ap, ◌∙◌, subst, arith}
 use Rattle.std.specs.Prelude.{All}
 use Rattle.std.proofs.lemmas.Bool.{cond-true}
@@ -14,7 +14,7 @@ use Rattle.lis_world.specs.declared.event.Event.{Event}
 use Rattle.lis_world.specs.declared.event.Event.TheVariants.{Start, Deliver, DeliverNoRoom, Damage, Lose, Reply}
 use Rattle.lis_world.specs.declared.event.Event.TheVariants.{DamageReply, LoseReply, SenderTimer, ReceiverTimer}
 use Rattle.lis_world.specs.declared.event.Event.TheVariants.{RestartSender, RestartReceiver, Ready, Busy, Contending}
-use Rattle.lis_world.specs.Unit.{ending, one_frame, Travelling, load_bytes}
+use Rattle.lis_world.specs.Unit.{ending, Travelling, load_bytes}
 use Rattle.lis_world.specs.Session.{Session, session_at, changed, follows}
 use Rattle.lis_world.specs.World.{World, Desk, desk_of, hears, replies_with, settled}
 use Rattle.lis_world.specs.Steps.{put_on_link, with_sender, sender_steps, begins, delivered, delivered_no_room}
@@ -24,7 +24,8 @@ use Rattle.lis_world.specs.Steps.{runs, world}
 use Rattle.lis_world.specs.Recovery.{Loss, unit_is_lost, unit_is_unheard, reply_is_lost, loss_events, IsUnheard}
 use Rattle.lis_world.specs.Recovery.{IsAwaitingOne, is_other, IsTimedOut, lost_events, OvercomesLoss}
 use Rattle.lis_world.proofs.SessionLemmas.{length-changed, at-changed_same}
-use Rattle.lis_world.proofs.Invariant.{Bids, BidAnswer, FrameAnswer, IsAwaiting, InPhase, Holds, AreKept}
+use Rattle.lis_world.proofs.Invariant.{BidTraffic, FrameTraffic}
+use Rattle.lis_world.proofs.Invariant.{FrameAnswer, IsAwaiting, InPhase, Holds, AreKept}
 use Rattle.lis_world.proofs.Arrival.{kept_refl}
 use Rattle.lis_world.proofs.Delivery.{side_of, left_delivered, leads_of}
 use Rattle.lis_world.proofs.Safety.{event_holds, runs_hold, new_holds}
@@ -43,10 +44,7 @@ none_is_some xs x none one = cc
 no_reply_yet : (limit : ℕ) (w : World) (u : Travelling) → Holds limit w → Awaits w → w.units ≡ u ∷ [] → w.replies ≡ []
 no_reply_yet limit w u h (inl bids) alone = go (subst (λ p. InPhase p w) bids h.phase).traffic
   where
-    go :
-        ((w.replies ≡ []) × Bids w.current (drop w.mute w.units)) ⊎
-        ((w.units ≡ []) × BidAnswer w.replies w.receiver.is_open w.opened w.current)
-        → w.replies ≡ []
+    go : BidTraffic w → w.replies ≡ []
     go (inl none) = none.0
     go (inr answered) = absurd (none_is_some w.units u answered.0 alone)
 no_reply_yet limit w u h (inr awaits) alone =
@@ -54,8 +52,7 @@ no_reply_yet limit w u h (inr awaits) alone =
   where
     go :
         (a : IsAwaiting w)
-        → ((w.units ≡ record { session = w.current; load = one_frame a.frame } ∷ []) × (w.replies ≡ []))
-        ⊎ ((w.units ≡ []) × FrameAnswer w.replies w.sessions w.current a.before a.frame)
+        → FrameTraffic w a.before a.frame
         → w.replies ≡ []
     go a (inl one) = one.1
     go a (inr answered) = absurd (none_is_some w.units u answered.0 alone)
@@ -67,10 +64,7 @@ AtMostOne replies = (replies ≡ []) ⊎ ((b : ℕ) × (replies ≡ b ∷ []))
 one_reply_left : (limit : ℕ) (w : World) → Holds limit w → Awaits w → w.units ≡ [] → AtMostOne w.replies
 one_reply_left limit w h (inl bids) none = go (subst (λ p. InPhase p w) bids h.phase).traffic
   where
-    go :
-        ((w.replies ≡ []) × Bids w.current (drop w.mute w.units)) ⊎
-        ((w.units ≡ []) × BidAnswer w.replies w.receiver.is_open w.opened w.current)
-        → AtMostOne w.replies
+    go : BidTraffic w → AtMostOne w.replies
     go (inl no_reply) = inl no_reply.0
     go (inr answered) = inr (answered.1.0, answered.1.1)
 one_reply_left limit w h (inr awaits) none =
@@ -82,8 +76,7 @@ one_reply_left limit w h (inr awaits) none =
 
     go :
         (a : IsAwaiting w)
-        → ((w.units ≡ record { session = w.current; load = one_frame a.frame } ∷ []) × (w.replies ≡ []))
-        ⊎ ((w.units ≡ []) × FrameAnswer w.replies w.sessions w.current a.before a.frame)
+        → FrameTraffic w a.before a.frame
         → AtMostOne w.replies
     go a (inl one) = inl one.1
     go a (inr answered) = answer a answered.1

@@ -12,7 +12,7 @@ use Rattle.lis_link.specs.declared.receiver.Hearing.{Hearing}
 use Rattle.lis_link.specs.declared.receiver.Readiness.{Readiness}
 use Rattle.lis_link.specs.declared.receiver.Readiness.TheVariants.{Ready}
 use Rattle.lis_link.specs.declared.receiver.Note.{Note}
-use Rattle.lis_link.specs.declared.receiver.Note.TheVariants.{Accepted, Duplicate, Opened, OutOfMemory, Quiet}
+use Rattle.lis_link.specs.declared.receiver.Note.TheVariants.{Accepted, Opened, OutOfMemory, Quiet}
 use Rattle.lis_link.specs.declared.receiver.Step.{Step}
 use Rattle.lis_link.specs.Receiver.{ReceiverState, ReceiverStep, ReceiverHearing, bid_with, judged, on_judged, heard_by}
 use Rattle.lis_link.specs.Receiver.{heard, on_byte, on_bytes, heard_on, with_heard, with_room}
@@ -24,6 +24,7 @@ use Rattle.lis_link.specs.declared.sender.Phase.TheVariants as Phases
 use Rattle.lis_link.specs.declared.sender.EmitOf.{EmitOf}
 use Rattle.lis_link.specs.Sender.{SenderState, SenderStep, on_sender_timer}
 use Rattle.lis_world.specs.declared.event.Event.{Event}
+use Rattle.lis_world.proofs.Heard.{heard_leaves, noted_after}
 use Rattle.lis_world.specs.Unit.{Load, one_frame}
 use Rattle.lis_world.specs.World.{World, Desk, new_world, booked, noted, hears}
 use Rattle.lis_world.specs.Steps.{emitted, with_sender, sender_steps, given_up, after_event, is_noticed, room_at, runs}
@@ -65,31 +66,6 @@ heard_as : {limit : ℕ} (signal : Option (SignalOf limit)) (r : ReceiverState) 
 heard_as None r number e = absurd cc
 heard_as (Some signal) r number e = heard_by_as r.is_open signal r number e
 
--- a step leaves the stream as it is
-bid-past : (readiness : Readiness) (r : ReceiverState) → (bid_with readiness r).after.past ≡ r.past
-bid-past Ready r = refl
-bid-past _ r = refl
-
-judged-past : (r : ReceiverState) (frame : FrameContent) (note : Note) → (on_judged r frame note).after.past ≡ r.past
-judged-past r frame (Accepted n) = refl
-judged-past r frame (Duplicate n) = refl
-judged-past r frame _ = refl
-
-heard_by-past : {limit : ℕ} (is_open : Bool) (signal : SignalOf limit) (r : ReceiverState)
-    → (heard_by is_open signal r).after.past ≡ r.past
-heard_by-past true Enq r = bid-past r.readiness r
-heard_by-past true Eot r = refl
-heard_by-past true (Good frame) r = judged-past r frame (judged r frame)
-heard_by-past true (Bad fault) r = refl
-heard_by-past false Enq r = bid-past r.readiness r
-heard_by-past false Eot r = refl
-heard_by-past false (Good frame) r = refl
-heard_by-past false (Bad fault) r = refl
-
-heard-past : {limit : ℕ} (signal : Option (SignalOf limit)) (r : ReceiverState) → (heard signal r).after.past ≡ r.past
-heard-past None r = refl
-heard-past (Some signal) r = heard_by-past r.is_open signal r
-
 -- the desk after a step has the step's receiver, whatever receiver it had
 noted-receiver : (s : ℕ) (step : ReceiverStep) (kept : KeptDesk) (p q : ReceiverState) (note : Note)
     → record (noted s step note (desk_at kept p)) { receiver = step.after } ≡ noted s step note (desk_at kept q)
@@ -102,11 +78,6 @@ noted-same : (s : ℕ) (step : ReceiverStep) (kept : KeptDesk) (p q : ReceiverSt
 noted-same s step kept p q Opened = refl
 noted-same s step kept p q (Accepted n) = refl
 noted-same s step kept p q _ = refl
-
-noted_after : (s : ℕ) (step : ReceiverStep) (d : Desk) (note : Note) → (noted s step note d).receiver ≡ step.after
-noted_after s step d Opened = refl
-noted_after s step d (Accepted n) = refl
-noted_after s step d _ = refl
 
 later_signals :
     {limit : ℕ} (load : Load) (signal : Option (SignalOf limit)) (signals : List (SignalOf limit))
@@ -172,7 +143,7 @@ hears_at_once limit s load (b ∷ bytes) r kept only =
           takes = λ number accepted. good_is_load load signal signals (on_byte limit b r) only
               (heard_as signal next number accepted);
           later =
-              subst (λ past. OnlyLoad load (signals_after limit past bytes)) (sym (heard-past signal next))
+              subst (λ past. OnlyLoad load (signals_after limit past bytes)) (sym (heard_leaves signal next).0)
               (later_signals load signal signals only);
         }
 

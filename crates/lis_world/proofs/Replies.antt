@@ -14,11 +14,12 @@ use Rattle.lis_link.specs.declared.sender.EmitOf.TheVariants.{Nothing}
 use Rattle.lis_link.specs.declared.sender.EmitOf.TheVariants as Emits
 use Rattle.lis_link.specs.Sender.{SenderState, over, gives, ends, sends_first, sends_again, on_accepted, reply_in}
 use Rattle.lis_link.specs.Sender.{on_reply, most_tries}
-use Rattle.lis_world.specs.Unit.{one_frame, Travelling}
+use Rattle.lis_world.specs.Unit.{Travelling}
 use Rattle.lis_world.specs.Session.{session_at, changed, follows}
 use Rattle.lis_world.specs.World.{World}
 use Rattle.lis_world.specs.Steps.{with_sender, sender_steps, replied, reply_damaged, reply_lost}
-use Rattle.lis_world.proofs.Invariant.{Unsent, AllEndings, Bids, IsYes, BidAnswer, FrameAnswer, IsBidding, IsWaiting}
+use Rattle.lis_world.proofs.Invariant.{BidTraffic, FrameTraffic}
+use Rattle.lis_world.proofs.Invariant.{Unsent, AllEndings, Bids, IsYes, FrameAnswer, IsBidding, IsWaiting}
 use Rattle.lis_world.proofs.Invariant.{IsAwaiting, KeepsFrames, InPhase, Holds, kept_frames}
 use Rattle.lis_world.proofs.Arrival.{accepted_of_unsent}
 use Rattle.lis_world.proofs.Base.{base_of, holds_of, CanFollow, base_replies, base_followed, current_followed}
@@ -44,6 +45,25 @@ can_follow limit w h = record {
       (sym h.current.acknowledged_is)
       ((h.sound w.current).done_acknowledged (sym h.current.outcome_is ∙ done));
 }
+
+-- and that of any state of the sender which counts the same
+pub can_follow_as :
+    (limit : ℕ) (w : World) (sender : SenderState)
+    → Holds limit w
+    → sender.acknowledged ≡ w.sender.acknowledged
+    → sender.outcome ≡ w.sender.outcome
+    → KeepsFrames sender.phase sender.frames (session_frames limit (session_at w.current w.sessions).texts)
+    → CanFollow limit sender (session_at w.current w.sessions)
+can_follow_as limit w sender h count outcome kept =
+    let can = can_follow limit w h in
+    record {
+      frames_are = kept;
+      acknowledged_of_accepted =
+          subst (λ n. n ≤ length (session_at w.current w.sessions).accepted) (sym count) can.acknowledged_of_accepted;
+      done_acknowledged = λ done.
+          subst (λ n. length (session_frames limit (session_at w.current w.sessions).texts) ≤ n) (sym count)
+          (can.done_acknowledged (sym outcome ∙ done));
+    }
 
 live_none : (mute : ℕ) (us : List Travelling) → us ≡ [] → AllEndings (drop mute us)
 live_none mute us none =
@@ -75,15 +95,10 @@ line_given limit w bs h unsent zero_is no_unit no_reply owner kept [] frames_are
     })
     refl no_reply (live_none w.mute w.units no_unit)
 line_given limit w bs h unsent zero_is no_unit no_reply owner kept (f ∷ left) frames_are =
-    let can = can_follow limit w h in
-    frame_sent_holds limit (record w.sender { phase = AwaitReply; tries = 1 }) (record w { replies = bs }) [] f left
-    (base_replies limit bs w (base_of limit w h))
+    let sender : SenderState = record w.sender { phase = AwaitReply; tries = 1 } in
+    frame_sent_holds limit sender (record w { replies = bs }) [] f left (base_replies limit bs w (base_of limit w h))
     (record {
-      can = record {
-        frames_are = kept;
-        acknowledged_of_accepted = can.acknowledged_of_accepted;
-        done_acknowledged = can.done_acknowledged;
-      };
+      can = can_follow_as limit w sender h refl refl kept;
       within = unsent.0;
       awaits = refl;
       frames_are = frames_are;
@@ -108,13 +123,8 @@ line_refused :
     → Holds limit (sender_steps {limit = limit} (gives Nothing (record w.sender { phase = p }))
     (record w { replies = bs }))
 line_refused limit w bs p h unsent zero_is no_unit no_reply kept waits =
-    let can = can_follow limit w h in
     let sender : SenderState = record w.sender { phase = p } in
-    let now : CanFollow limit sender (session_at w.current w.sessions) = record {
-      frames_are = kept;
-      acknowledged_of_accepted = can.acknowledged_of_accepted;
-      done_acknowledged = can.done_acknowledged;
-    } in
+    let now = can_follow_as limit w sender h refl refl kept in
     let w1 : World = record w { replies = bs } in
     holds_of limit (with_sender sender w1) (base_followed limit sender w1 now
     (base_replies limit bs w (base_of limit w h)))
@@ -136,10 +146,7 @@ bid_answered :
     → Replied limit AwaitLine b bs w
 bid_answered limit b bs w h are kept bidding = go bidding.traffic
   where
-    go :
-        ((w.replies ≡ []) × Bids w.current (drop w.mute w.units))
-        ⊎ ((w.units ≡ []) × BidAnswer w.replies w.receiver.is_open w.opened w.current)
-        → Replied limit AwaitLine b bs w
+    go : BidTraffic w → Replied limit AwaitLine b bs w
     go (inl none) =
         let e : b ∷ bs ≡ [] = sym are ∙ none.0 in
         absurd (cc)
@@ -245,11 +252,7 @@ same_sent limit w bs h awaiting awaits no_unit no_reply =
     (λ few. frame_sent_holds limit again (record w { replies = bs }) awaiting.before awaiting.frame awaiting.left
     (base_replies limit bs w (base_of limit w h))
     (record {
-      can = record {
-        frames_are = can.frames_are;
-        acknowledged_of_accepted = can.acknowledged_of_accepted;
-        done_acknowledged = can.done_acknowledged;
-      };
+      can = can_follow_as limit w again h refl refl can.frames_are;
       within = awaiting.pending.is_session;
       awaits = awaits;
       frames_are = awaiting.frames_are;
@@ -335,9 +338,7 @@ frame_answered limit b bs w h are awaits awaiting = go awaiting.traffic
         one_answer no_unit no_reply (subst (λ n. IsYes n
         → (session_at w.current w.sessions).accepted ≡ before ++ f ∷ []) same one.2)
 
-    go :
-        ((w.units ≡ record { session = w.current; load = one_frame f } ∷ []) × (w.replies ≡ []))
-        ⊎ ((w.units ≡ []) × FrameAnswer w.replies w.sessions w.current before f)
+    go : FrameTraffic w before f
         → Replied limit AwaitReply b bs w
     go (inl none) =
         let e : b ∷ bs ≡ [] = sym are ∙ none.1 in
@@ -369,6 +370,22 @@ pub replied_holds : (limit : ℕ) (replies : List ℕ) (w : World) → w.replies
 replied_holds limit [] w are h = h
 replied_holds limit (b ∷ bs) w are h = reply_phase limit b bs w w.sender.phase h are refl h.phase
 
+-- a frame awaits its reply, whatever replies there are
+awaiting_with :
+    (w : World) (bs : List ℕ) (awaiting : IsAwaiting w)
+    → FrameTraffic (record w { replies = bs }) awaiting.before awaiting.frame
+    → IsAwaiting (record w { replies = bs })
+awaiting_with w bs awaiting traffic = record {
+  before = awaiting.before;
+  frame = awaiting.frame;
+  left = awaiting.left;
+  frames_are = awaiting.frames_are;
+  acknowledged_is = awaiting.acknowledged_is;
+  pending = awaiting.pending;
+  unmuted = awaiting.unmuted;
+  traffic = traffic;
+}
+
 -- another byte in the place of the reply
 changed_reply :
     (limit : ℕ) (b d : ℕ) (bs : List ℕ) (w : World) (p : Phase)
@@ -382,11 +399,7 @@ changed_reply limit b d bs w Neutral are refused resting =
 changed_reply limit b d bs w AwaitLine are refused bidding =
     record { unsent = bidding.unsent; none_acknowledged = bidding.none_acknowledged; traffic = go bidding.traffic }
   where
-    go :
-        ((w.replies ≡ []) × Bids w.current (drop w.mute w.units))
-        ⊎ ((w.units ≡ []) × BidAnswer w.replies w.receiver.is_open w.opened w.current)
-        → ((d ∷ bs ≡ []) × Bids w.current (drop w.mute w.units))
-        ⊎ ((w.units ≡ []) × BidAnswer (d ∷ bs) w.receiver.is_open w.opened w.current)
+    go : BidTraffic w → BidTraffic (record w { replies = d ∷ bs })
     go (inl none) =
         let e : b ∷ bs ≡ [] = sym are ∙ none.0 in
         absurd (cc)
@@ -400,16 +413,8 @@ changed_reply limit b d bs w Busy are refused waiting =
 changed_reply limit b d bs w Contention are refused waiting =
     let e : b ∷ bs ≡ [] = sym are ∙ waiting.no_reply in
     absurd (cc)
-changed_reply limit b d bs w AwaitReply are refused awaiting = record {
-  before = awaiting.before;
-  frame = awaiting.frame;
-  left = awaiting.left;
-  frames_are = awaiting.frames_are;
-  acknowledged_is = awaiting.acknowledged_is;
-  pending = awaiting.pending;
-  unmuted = awaiting.unmuted;
-  traffic = go awaiting.traffic;
-}
+changed_reply limit b d bs w AwaitReply are refused awaiting =
+    awaiting_with w (d ∷ bs) awaiting (go awaiting.traffic)
   where
     answered :
         FrameAnswer w.replies w.sessions w.current awaiting.before awaiting.frame
@@ -422,11 +427,8 @@ changed_reply limit b d bs w AwaitReply are refused awaiting = record {
         let last : bs ≡ [] = cc in
         inr (d, ap (λ xs. d ∷ xs) last, λ yes. absurd (refused yes))
 
-    go :
-        ((w.units ≡ record { session = w.current; load = one_frame awaiting.frame } ∷ []) × (w.replies ≡ []))
-        ⊎ ((w.units ≡ []) × FrameAnswer w.replies w.sessions w.current awaiting.before awaiting.frame)
-        → ((w.units ≡ record { session = w.current; load = one_frame awaiting.frame } ∷ []) × (d ∷ bs ≡ []))
-        ⊎ ((w.units ≡ []) × FrameAnswer (d ∷ bs) w.sessions w.current awaiting.before awaiting.frame)
+    go : FrameTraffic w awaiting.before awaiting.frame
+        → FrameTraffic (record w { replies = d ∷ bs }) awaiting.before awaiting.frame
     go (inl none) =
         let e : b ∷ bs ≡ [] = sym are ∙ none.1 in
         absurd (cc)
@@ -466,10 +468,7 @@ without_reply limit b bs w AwaitLine are bidding =
       traffic = inl (go bidding.traffic);
     }
   where
-    go :
-        ((w.replies ≡ []) × Bids w.current (drop w.mute w.units))
-        ⊎ ((w.units ≡ []) × BidAnswer w.replies w.receiver.is_open w.opened w.current)
-        → (bs ≡ []) × Bids w.current (drop w.mute w.units)
+    go : BidTraffic w → (bs ≡ []) × Bids w.current (drop w.mute w.units)
     go (inl none) =
         let e : b ∷ bs ≡ [] = sym are ∙ none.0 in
         absurd (cc)
@@ -486,16 +485,8 @@ without_reply limit b bs w Busy are waiting =
 without_reply limit b bs w Contention are waiting =
     let e : b ∷ bs ≡ [] = sym are ∙ waiting.no_reply in
     absurd (cc)
-without_reply limit b bs w AwaitReply are awaiting = record {
-  before = awaiting.before;
-  frame = awaiting.frame;
-  left = awaiting.left;
-  frames_are = awaiting.frames_are;
-  acknowledged_is = awaiting.acknowledged_is;
-  pending = awaiting.pending;
-  unmuted = awaiting.unmuted;
-  traffic = inr (go awaiting.traffic);
-}
+without_reply limit b bs w AwaitReply are awaiting =
+    awaiting_with w bs awaiting (inr (go awaiting.traffic))
   where
     answered : FrameAnswer w.replies w.sessions w.current awaiting.before awaiting.frame → bs ≡ []
     answered (inl none) =
@@ -505,9 +496,7 @@ without_reply limit b bs w AwaitReply are awaiting = record {
         let e : b ∷ bs ≡ one.0 ∷ [] = sym are ∙ one.1 in
         cc
 
-    go :
-        ((w.units ≡ record { session = w.current; load = one_frame awaiting.frame } ∷ []) × (w.replies ≡ []))
-        ⊎ ((w.units ≡ []) × FrameAnswer w.replies w.sessions w.current awaiting.before awaiting.frame)
+    go : FrameTraffic w awaiting.before awaiting.frame
         → (w.units ≡ []) × FrameAnswer bs w.sessions w.current awaiting.before awaiting.frame
     go (inl none) =
         let e : b ∷ bs ≡ [] = sym are ∙ none.1 in

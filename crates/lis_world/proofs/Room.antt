@@ -3,67 +3,33 @@ use Rattle.std.proofs.Common.{◌≡◌, ℕ, Bool, true, false, List, [], ◌�
 use Rattle.std.specs.Prelude.{◌==◌, ◌||◌}
 use Rattle.std.proofs.lemmas.Bool.{cond_both}
 use Rattle.lis_text.specs.Control.{EOT, ACK}
-use Rattle.lis_frame.specs.declared.scanner.SignalOf.{SignalOf}
-use Rattle.lis_frame.specs.declared.scanner.SignalOf.TheVariants.{Enq, Eot, Good, Bad}
-use Rattle.lis_frame.specs.Frame.{FrameContent}
 use Rattle.lis_frame.specs.Stream.{signal_after, signals_after}
 use Rattle.lis_link.specs.declared.sender.Phase.{Phase}
 use Rattle.lis_link.specs.declared.sender.Phase.TheVariants as Phases
 use Rattle.lis_link.specs.declared.sender.EmitOf.{EmitOf}
 use Rattle.lis_link.specs.declared.sender.EmitOf.TheVariants as Emits
 use Rattle.lis_link.specs.declared.sender.StartFault.{StartFault}
-use Rattle.lis_link.specs.declared.receiver.Readiness.{Readiness}
-use Rattle.lis_link.specs.declared.receiver.Readiness.TheVariants as Readinesses
-use Rattle.lis_link.specs.declared.receiver.Note.{Note}
-use Rattle.lis_link.specs.declared.receiver.Note.TheVariants.{Quiet}
 use Rattle.lis_link.specs.Sender.{on_reply, on_sender_timer, start_fault}
-use Rattle.lis_link.specs.Receiver.{ReceiverState, ReceiverStep, bid_with, judged, on_judged, heard_by, heard, on_byte}
+use Rattle.lis_link.specs.Receiver.{ReceiverState, ReceiverStep, on_byte}
 use Rattle.lis_link.specs.Receiver.{timer_by}
 use Rattle.lis_world.specs.declared.event.Event.{Event}
 use Rattle.lis_world.specs.declared.event.Event.TheVariants.{Start, Deliver, DeliverNoRoom, Damage, Lose, Reply}
 use Rattle.lis_world.specs.declared.event.Event.TheVariants.{DamageReply, LoseReply, SenderTimer, ReceiverTimer}
 use Rattle.lis_world.specs.declared.event.Event.TheVariants.{RestartSender, RestartReceiver, Ready, Busy, Contending}
+use Rattle.lis_world.proofs.Heard.{heard_leaves, noted_after}
 use Rattle.lis_world.specs.Unit.{Travelling, load_bytes}
-use Rattle.lis_world.specs.World.{World, Desk, desk_of, noted, booked, hears, settled}
+use Rattle.lis_world.specs.World.{World, Desk, desk_of, booked, hears, settled}
 use Rattle.lis_world.specs.Steps.{emitted, with_sender, sender_steps, begins, delivered, delivered_no_room, is_noticed}
 use Rattle.lis_world.specs.Steps.{damaged, lost, replied, reply_damaged, reply_lost, given_up, after_event, runs}
 
--- a step of the receiver leaves the room as it is
-room-bid : (readiness : Readiness) (r : ReceiverState) → (bid_with readiness r).after.room ≡ r.room
-room-bid Readinesses.Ready r = refl
-room-bid _ r = refl
-
-room-judged : (r : ReceiverState) (frame : FrameContent) (note : Note) → (on_judged r frame note).after.room ≡ r.room
-room-judged r frame Quiet = refl
-room-judged r frame _ = refl
-
-room-signal :
-    {limit : ℕ} (is_open : Bool) (signal : SignalOf limit) (r : ReceiverState)
-    → (heard_by is_open signal r).after.room ≡ r.room
-room-signal true Enq r = room-bid r.readiness r
-room-signal true Eot r = refl
-room-signal true (Good frame) r = room-judged r frame (judged r frame)
-room-signal true (Bad fault) r = refl
-room-signal false Enq r = room-bid r.readiness r
-room-signal false Eot r = refl
-room-signal false (Good frame) r = refl
-room-signal false (Bad fault) r = refl
-
-room-heard : {limit : ℕ} (signal : Option (SignalOf limit)) (r : ReceiverState) → (heard signal r).after.room ≡ r.room
-room-heard None r = refl
-room-heard (Some signal) r = room-signal r.is_open signal r
-
-receiver-noted : (s : ℕ) (step : ReceiverStep) (note : Note) (d : Desk) → (noted s step note d).receiver ≡ step.after
-receiver-noted s step Quiet d = refl
-receiver-noted s step _ d = refl
-
+-- hearing bytes leaves the room as it is
 room-hears : (limit s : ℕ) (bytes : List ℕ) (d : Desk) → (hears limit s bytes d).receiver.room ≡ d.receiver.room
 room-hears limit s [] d = refl
 room-hears limit s (b ∷ bytes) d =
     let step : ReceiverStep = on_byte limit b d.receiver in
     room-hears limit s bytes (booked s step d)
-    ∙ ap (λ (r : ReceiverState). r.room) (receiver-noted s step step.note d)
-    ∙ room-heard (signal_after limit d.receiver.past b) (record d.receiver { past = b ∷ d.receiver.past })
+    ∙ ap (λ (r : ReceiverState). r.room) (noted_after s step d step.note)
+    ∙ (heard_leaves (signal_after limit d.receiver.past b) (record d.receiver { past = b ∷ d.receiver.past })).1
 
 room-timer : (is_open : Bool) (r : ReceiverState) → (timer_by is_open r).after.room ≡ r.room
 room-timer true r = refl

@@ -72,6 +72,11 @@ record IsAnswered (limit c : ℕ) (frames : List FrameContent) (k t b : ℕ) (w 
   room : w.receiver.room ≡ true
   remaining : w.sender.acknowledged + k ≡ length frames
 
+-- EOT is on the link, or was heard
+abbrev pub EndTraffic : World → Type 0
+EndTraffic w = ((s : ℕ) × (w.units ≡ record { session = s; load = ending } ∷ []))
+    ⊎ ((w.units ≡ []) × (w.receiver.is_open ≡ false))
+
 -- each frame was acknowledged, and EOT is on the link or was heard
 pub record IsFinished (limit c : ℕ) (frames : List FrameContent) (w : World) : Type 0 where
   pub tracked : IsTracked limit c frames w
@@ -79,9 +84,7 @@ pub record IsFinished (limit c : ℕ) (frames : List FrameContent) (w : World) :
   pub outcome_is : w.sender.outcome ≡ Some Done
   pub unmuted : w.mute ≡ 0
   pub no_reply : w.replies ≡ []
-  pub traffic :
-      ((s : ℕ) × (w.units ≡ record { session = s; load = ending } ∷ [])) ⊎
-      ((w.units ≡ []) × (w.receiver.is_open ≡ false))
+  pub traffic : EndTraffic w
 
 abbrev pub GoesOn : ℕ → ℕ → List FrameContent → ℕ → World → Type 0
 GoesOn limit c frames k w = IsFinished limit c frames w ⊎ IsSent limit c frames k 1 w
@@ -94,20 +97,12 @@ pub sender_frames :
     → w.sender.frames ≡ frames
 sender_frames limit c frames w tracked awaits = kept_frames limit w AwaitReply tracked.holds awaits ∙ tracked.frames_are
 
--- a sender's step keeps the texts of each session
-texts-followed :
-    (limit c : ℕ) (sender : SenderState) (ss : List Session)
-    → session_frames limit (session_at c (changed c (follows sender) ss)).texts
-    ≡ session_frames limit (session_at c ss).texts
-texts-followed limit c sender ss = ap (session_frames limit)
-    (kept-changed (λ (x : Session). x.texts) c (follows sender) ss (λ x. refl) c)
-
-texts-sent :
-    (limit c : ℕ) (f : FrameContent) (ss : List Session)
-    → session_frames limit (session_at c (changed c (sends_frame f) ss)).texts
-    ≡ session_frames limit (session_at c ss).texts
-texts-sent limit c f ss = ap (session_frames limit)
-    (kept-changed (λ (x : Session). x.texts) c (sends_frame f) ss (λ x. refl) c)
+-- what keeps the texts of a session keeps its frames
+texts-changed :
+    (limit c : ℕ) (f : Session → Session) (ss : List Session) → ((x : Session) → (f x).texts ≡ x.texts)
+    → session_frames limit (session_at c (changed c f ss)).texts ≡ session_frames limit (session_at c ss).texts
+texts-changed limit c f ss kept =
+    ap (session_frames limit) (kept-changed (λ (x : Session). x.texts) c f ss kept c)
 
 -- and their number
 pub length-followed : (c : ℕ) (sender : SenderState) (ss : List Session) (n : ℕ) → length ss ≡ n
@@ -140,7 +135,7 @@ sent_on limit c frames k sender w w2 current_is length_is mute_within holds no_u
         holds = subst (Holds limit) e holds;
         current_is = current_is;
         length_is = length-followed w.current (over Done sender) w.sessions (suc c) length_is;
-        frames_are = texts-followed limit w.current (over Done sender) w.sessions ∙ frames_are;
+        frames_are = texts-changed limit w.current (follows (over Done sender)) w.sessions (λ x. refl) ∙ frames_are;
       };
       neutral = refl;
       outcome_is = refl;
@@ -159,8 +154,8 @@ sent_on limit c frames k sender w w2 current_is length_is mute_within holds no_u
             length-changed w.current (sends_frame f) (changed w.current (follows next) w.sessions)
             ∙ length-followed w.current next w.sessions (suc c) length_is;
         frames_are =
-            texts-sent limit w.current f (changed w.current (follows next) w.sessions)
-            ∙ texts-followed limit w.current next w.sessions ∙ frames_are;
+            texts-changed limit w.current (sends_frame f) (changed w.current (follows next) w.sessions) (λ x. refl)
+            ∙ texts-changed limit w.current (follows next) w.sessions (λ x. refl) ∙ frames_are;
       };
       awaits = refl;
       tries_is = refl;
@@ -236,8 +231,8 @@ after_no limit c frames k t b r w w2 answered refused few holds e =
             length-changed w.current (sends_frame f) (changed w.current (follows again) w.sessions)
             ∙ length-followed w.current again w.sessions (suc c) answered.tracked.length_is;
         frames_are =
-            texts-sent limit w.current f (changed w.current (follows again) w.sessions)
-            ∙ texts-followed limit w.current again w.sessions ∙ answered.tracked.frames_are;
+            texts-changed limit w.current (sends_frame f) (changed w.current (follows again) w.sessions) (λ x. refl)
+            ∙ texts-changed limit w.current (follows again) w.sessions (λ x. refl) ∙ answered.tracked.frames_are;
       };
       awaits = answered.awaits;
       tries_is = ap (λ n. n + 1) tries_is;

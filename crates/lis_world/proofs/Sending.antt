@@ -32,41 +32,29 @@ zero_mute mute us within none =
     let empty : length us ≡ 0 = ap length none in
     omega arith
 
--- the session is over
-pub ended_holds :
-    (limit : ℕ) (sender : SenderState) (w : World)
-    → Base limit w
-    → w.current < length w.sessions
-    → CanFollow limit sender (session_at w.current w.sessions)
-    → sender.phase ≡ Neutral
-    → w.replies ≡ []
-    → AllEndings (drop w.mute w.units)
-    → Holds limit (with_sender sender w)
-ended_holds limit sender w base within can neutral none endings =
-    holds_of limit (with_sender sender w) (base_followed limit sender w can base)
-    (current_followed limit sender w within can)
-    (in_phase Neutral sender.phase (with_sender sender w) neutral (record { no_reply = none; live_endings = endings }))
+-- a session that is over, its replies heard and nothing but ends of sessions on their way
+module _ (limit : ℕ) (sender : SenderState) (w : World) (base : Base limit w) (within : w.current < length w.sessions)
+    (can : CanFollow limit sender (session_at w.current w.sessions)) (neutral : sender.phase ≡ Neutral)
+    (none : w.replies ≡ []) (endings : AllEndings (drop w.mute w.units)) where
+  pub ended_holds : Holds limit (with_sender sender w)
+  ended_holds =
+      holds_of limit (with_sender sender w) (base_followed limit sender w can base)
+      (current_followed limit sender w within can)
+      (in_phase Neutral sender.phase (with_sender sender w) neutral
+      (record { no_reply = none; live_endings = endings }))
 
--- and EOT says so
-pub ended_with_ending :
-    (limit : ℕ) (sender : SenderState) (w : World)
-    → Base limit w
-    → w.current < length w.sessions
-    → CanFollow limit sender (session_at w.current w.sessions)
-    → sender.phase ≡ Neutral
-    → w.replies ≡ []
-    → AllEndings (drop w.mute w.units)
-    → Holds limit (put_on_link ending (with_sender sender w))
-ended_with_ending limit sender w base within can neutral none endings =
-    let last : Travelling = record { session = w.current; load = ending } in
-    let live : AllEndings (drop w.mute (w.units ++ last ∷ [])) =
-    subst AllEndings (sym (drop-append-le w.mute w.units (last ∷ []) base.mute_within))
-    (endings_more (drop w.mute w.units) last endings refl) in
-    holds_of limit (put_on_link ending (with_sender sender w))
-    (base_placed limit ending (with_sender sender w) tt (base_followed limit sender w can base))
-    (current_followed limit sender w within can)
-    (in_phase Neutral sender.phase (put_on_link ending (with_sender sender w)) neutral
-    (record { no_reply = none; live_endings = live }))
+  -- and EOT says so
+  pub ended_with_ending : Holds limit (put_on_link ending (with_sender sender w))
+  ended_with_ending =
+      let last : Travelling = record { session = w.current; load = ending } in
+      let live : AllEndings (drop w.mute (w.units ++ last ∷ [])) =
+      subst AllEndings (sym (drop-append-le w.mute w.units (last ∷ []) base.mute_within))
+      (endings_more (drop w.mute w.units) last endings refl) in
+      holds_of limit (put_on_link ending (with_sender sender w))
+      (base_placed limit ending (with_sender sender w) tt (base_followed limit sender w can base))
+      (current_followed limit sender w within can)
+      (in_phase Neutral sender.phase (put_on_link ending (with_sender sender w)) neutral
+      (record { no_reply = none; live_endings = live }))
 
 -- a frame goes on the link, for the first time or again
 abbrev pub frame_sent : FrameContent → SenderState → World → World

@@ -1,5 +1,5 @@
 -- Timers and restarts of both ends, and the receiver's readiness.
-use Rattle.std.proofs.Common.{◌≡◌, ℕ, ◌<◌, ◌⊎◌, inl, inr, Bool, true, false, List, [], ◌∷◌, ◌++◌, length, drop, Some}
+use Rattle.std.proofs.Common.{◌≡◌, ℕ, ◌<◌, inl, inr, Bool, true, false, List, [], ◌∷◌, ◌++◌, length, drop, Some}
 use Rattle.std.proofs.Common.{refl, sym, ap, ◌∙◌, subst, arith}
 use Rattle.std.proofs.lemmas.List.{drop_all}
 use Rattle.lis_frame.specs.Frame.{FrameContent}
@@ -14,12 +14,13 @@ use Rattle.lis_world.specs.Unit.{Load, enquiry, ending, one_frame, Travelling}
 use Rattle.lis_world.specs.Session.{Session, session_at, changed, follows}
 use Rattle.lis_world.specs.World.{World}
 use Rattle.lis_world.specs.Steps.{put_on_link, with_sender, sender_steps, forgotten, given_up}
-use Rattle.lis_world.proofs.Invariant.{Pending, Unsent, Leads, Front, AllEndings, Bids, BidAnswer, IsWaiting}
+use Rattle.lis_world.proofs.Invariant.{BidTraffic}
+use Rattle.lis_world.proofs.Invariant.{Pending, Unsent, Leads, Front, AllEndings, Bids, IsWaiting}
 use Rattle.lis_world.proofs.Invariant.{KeepsFrames, InPhase, Holds}
 use Rattle.lis_world.proofs.Base.{base_of, holds_of, CanFollow, base_forgotten, base_placed, base_followed}
 use Rattle.lis_world.proofs.Base.{current_followed, unsent_same, are_same_followed, with_sender_same}
 use Rattle.lis_world.proofs.Sending.{zero_mute, ended_holds, ended_with_ending}
-use Rattle.lis_world.proofs.Replies.{can_follow}
+use Rattle.lis_world.proofs.Replies.{can_follow, can_follow_as}
 
 all_muted : (us : List Travelling) → AllEndings (drop (length us) us)
 all_muted us = subst AllEndings (sym (drop_all (length us) us (omega arith))) tt
@@ -53,13 +54,8 @@ asks_again :
     → IsWaiting w
     → Holds limit (sender_steps {limit = limit} (timer_in Busy w.sender) w)
 asks_again limit w h kept waiting =
-    let can = can_follow limit w h in
     let sender : SenderState = record w.sender { phase = AwaitLine } in
-    let now : CanFollow limit sender (session_at w.current w.sessions) = record {
-      frames_are = kept;
-      acknowledged_of_accepted = can.acknowledged_of_accepted;
-      done_acknowledged = can.done_acknowledged;
-    } in
+    let now = can_follow_as limit w sender h refl refl kept in
     let w1 : World = with_sender sender w in
     let unsent : Unsent w1.sessions w1.current =
     unsent_same w.sessions (changed w.current (follows sender) w.sessions) w.current
@@ -169,11 +165,7 @@ phase_closer w r' AwaitLine closer h = record {
   traffic = go h.traffic;
 }
   where
-    go :
-        ((w.replies ≡ []) × Bids w.current (drop w.mute w.units))
-        ⊎ ((w.units ≡ []) × BidAnswer w.replies w.receiver.is_open w.opened w.current)
-        → ((w.replies ≡ []) × Bids w.current (drop w.mute w.units))
-        ⊎ ((w.units ≡ []) × BidAnswer w.replies r'.is_open w.opened w.current)
+    go : BidTraffic w → BidTraffic (record w { receiver = r' })
     go (inl none) = inl none
     go (inr one) = inr (one.0, (one.1.0, one.1.1, λ e. one.1.2 (closer.was_open e)))
 phase_closer w r' Busy closer h = record {

@@ -1,5 +1,5 @@
 -- When a session is carried through: enough undisturbed rounds, and never six disturbed ones in a row.
-use Rattle.std.specs.Prelude.{◌≡◌, ◌≢◌, ℕ, zero, suc, ◌<◌, ◌≤◌, Bool, false, List, [], ◌∷◌, ◌++◌, length, None, Some}
+use Rattle.std.specs.Prelude.{◌≡◌, ◌≢◌, ℕ, zero, suc, ◌<◌, ◌≤◌, false, List, [], ◌∷◌, ◌++◌, length, None, Some}
 use Rattle.std.specs.Prelude.{All}
 use Rattle.lis_text.specs.Control.{STX, EOT, ACK, LF}
 use Rattle.lis_frame.specs.declared.frame.FrameFault.{FrameFault}

@@ -10,7 +10,7 @@ loop-place-preserved c =
     more_read_by c.args.digits.now c.loop-place.bytes c.decode_sixteen.new.bytes c.loop-place.most
     c.decode_sixteen.result (length c.args.bytes.now) c.loop-place.place _
     c.requires c.loop-place.auto.bytes (omega (arith, c.loop-place-test.true)) c.loop-place.invariant
-    c.decode_sixteen.ensures.lanes c.decode_sixteen.ensures.bytes
+    c.decode_sixteen.ensures.0 c.decode_sixteen.ensures.1
 
 pub returns : goal.returns
 returns c =
@@ -18,4 +18,4 @@ returns c =
     c.decode_sixteen-2.result (length c.args.bytes.now) c.loop-place.place
     _ _ c.requires c.loop-place.auto.bytes (omega (arith, c.if-bytes-lt16.false)) c.loop-place-test.false
     (omega (arith, c.loop-place.auto.bytes, c.if-bytes-lt16.false))
-    c.loop-place.invariant c.decode_sixteen-2.ensures.lanes c.decode_sixteen-2.ensures.bytes
+    c.loop-place.invariant c.decode_sixteen-2.ensures.0 c.decode_sixteen-2.ensures.1

@@ -1,0 +1,44 @@
+-- What a step of the receiver leaves as it is, and what the desk has of it.
+use Rattle.std.proofs.Common.{◌≡◌, ℕ, Bool, true, false, Option, None, Some, refl}
+use Rattle.lis_frame.specs.declared.scanner.SignalOf.{SignalOf}
+use Rattle.lis_frame.specs.declared.scanner.SignalOf.TheVariants.{Enq, Eot, Good, Bad}
+use Rattle.lis_frame.specs.Frame.{FrameContent}
+use Rattle.lis_link.specs.declared.receiver.Readiness.{Readiness}
+use Rattle.lis_link.specs.declared.receiver.Readiness.TheVariants.{Ready}
+use Rattle.lis_link.specs.declared.receiver.Note.{Note}
+use Rattle.lis_link.specs.declared.receiver.Note.TheVariants.{Accepted, Duplicate, Opened}
+use Rattle.lis_link.specs.Receiver.{ReceiverState, ReceiverStep, bid_with, judged, on_judged, heard_by, heard}
+use Rattle.lis_world.specs.World.{Desk, noted}
+
+-- the stream and the room
+abbrev pub LeavesRest : ReceiverState → ReceiverStep → Type 0
+LeavesRest r step = (step.after.past ≡ r.past) × (step.after.room ≡ r.room)
+
+bid_leaves : (readiness : Readiness) (r : ReceiverState) → LeavesRest r (bid_with readiness r)
+bid_leaves Ready r = (refl, refl)
+bid_leaves _ r = (refl, refl)
+
+judged_leaves : (r : ReceiverState) (frame : FrameContent) (note : Note) → LeavesRest r (on_judged r frame note)
+judged_leaves r frame (Accepted n) = (refl, refl)
+judged_leaves r frame (Duplicate n) = (refl, refl)
+judged_leaves r frame _ = (refl, refl)
+
+signal_leaves : {limit : ℕ} (is_open : Bool) (signal : SignalOf limit) (r : ReceiverState)
+    → LeavesRest r (heard_by is_open signal r)
+signal_leaves true Enq r = bid_leaves r.readiness r
+signal_leaves true Eot r = (refl, refl)
+signal_leaves true (Good frame) r = judged_leaves r frame (judged r frame)
+signal_leaves true (Bad fault) r = (refl, refl)
+signal_leaves false Enq r = bid_leaves r.readiness r
+signal_leaves false Eot r = (refl, refl)
+signal_leaves false (Good frame) r = (refl, refl)
+signal_leaves false (Bad fault) r = (refl, refl)
+
+pub heard_leaves : {limit : ℕ} (signal : Option (SignalOf limit)) (r : ReceiverState) → LeavesRest r (heard signal r)
+heard_leaves None r = (refl, refl)
+heard_leaves (Some signal) r = signal_leaves r.is_open signal r
+
+pub noted_after : (s : ℕ) (step : ReceiverStep) (d : Desk) (note : Note) → (noted s step note d).receiver ≡ step.after
+noted_after s step d Opened = refl
+noted_after s step d (Accepted n) = refl
+noted_after s step d _ = refl
