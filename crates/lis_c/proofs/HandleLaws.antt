@@ -66,6 +66,13 @@ pub record Handle : Type 2 where
   pub make : Ptr → row.Denot → type.D
   pub made : (p : Ptr) (w : row.Denot) → ◌≡◌ {A = Ptr × row.Denot} (at (make p w), state (make p w)) (p, w)
 
+-- a handle by its type, what lies behind it, and how it is taken apart and made
+abbrev pub handle : (type : Owning) (row : RattleType) → Laws row → (at : type.D → Ptr) (state : type.D → row.Denot)
+    (make : Ptr → row.Denot → type.D)
+    → ((p : Ptr) (w : row.Denot) → ◌≡◌ {A = Ptr × row.Denot} (at (make p w), state (make p w)) (p, w)) → Handle
+handle type row laws at state make made =
+    record { type = type; row = row; laws = laws; at = at; state = state; make = make; made = made }
+
 module _ (E : Handle) where
   -- its type: a pointer for a field, and what lies at it is owned beside it
   abbrev owned : Owning
@@ -309,6 +316,13 @@ begins E New new 𝓤 𝓛 𝓜 𝓡 k made closed =
     nothing ! $ group ! 3 $ done !))))))))
 
 -- ---- it ends
+-- a call that takes a value of this type, and answers nothing
+abbrev spends : RattleType → Ended
+spends X = record {
+  signature = record { lifetimes = 0; outlives = []; params = plain (λ _. X) ∷ []; result = plain (λ _. unit) };
+  kept = (yes, tt);
+}
+
 module _ (E : Handle) where
   abbrev end_fn : Callee → Fn
   end_fn go = written 0 1 (ty_unit ∷ lone (R E).mir ∷ ty_ptr ∷ ty_unit ∷ lone (T E).mir ∷ lone (T E).mir ∷ ty_ptr
@@ -321,16 +335,7 @@ module _ (E : Handle) where
       (seq (call go (copy (place 4 []) ∷ []) (place 3 [])) (seq (assign (place 0 []) (rv_opd opd_unit)) return)))))
 
   abbrev end_ended : Ended
-  end_ended = record {
-    signature = record {
-      lifetimes = 0;
-      outlives = [];
-      params = plain (λ _. R E)
-          ∷ [];
-      result = plain (λ _. unit);
-    };
-    kept = (yes, tt);
-  }
+  end_ended = spends (R E)
 
   abbrev end_clauses : {M : Type 1} {𝓤 : Ura M} (𝓛 : Logic 𝓤) → Clauses 𝓤 end_ended
   end_clauses {𝓤 = 𝓤} 𝓛 κs a = record {
@@ -345,16 +350,7 @@ module _ (E : Handle) where
 
   -- what lets go of all that is kept
   abbrev go_ended : Ended
-  go_ended = record {
-    signature = record {
-      lifetimes = 0;
-      outlives = [];
-      params = plain (λ _. T E)
-          ∷ [];
-      result = plain (λ _. unit);
-    };
-    kept = (yes, tt);
-  }
+  go_ended = spends (T E)
 
   abbrev go_clauses : {M : Type 1} {𝓤 : Ura M} (𝓛 : Logic 𝓤) → Clauses 𝓤 go_ended
   go_clauses {𝓤 = 𝓤} 𝓛 κs a = record { ghost = Unit {0}; requires = λ _. emp 𝓤; ensures = λ _ _ _. emp 𝓤 }

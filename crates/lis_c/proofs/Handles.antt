@@ -1,5 +1,5 @@
 -- The handles that C holds.
-use Rattle.lis_c.proofs.HandleLaws.{Handle}
+use Rattle.lis_c.proofs.HandleLaws.{Handle, handle}
 use Rattle.lis_c.proofs.desk.ScannerDesk.TheLaws as scanner_laws
 use Rattle.lis_c.specs.contracts.desk.ScannerDesk as scanner_desk
 use Rattle.lis_c.specs.contracts.scanner.LisScanner as scanner_type
@@ -18,56 +18,21 @@ use Rattle.lis_c.specs.contracts.writer.LisWriter as writer_type
 use Rattle.std.specs.Prelude.{refl}
 
 abbrev pub scanner : Handle
-scanner = record {
-  type = scanner_type.the_type;
-  row = scanner_desk.the_row;
-  laws = scanner_laws.the_row_laws;
-  at = λ h. h.at;
-  state = λ h. h.state;
-  make = λ p w. record { at = p; state = w };
-  made = λ p w. refl;
-}
+scanner = handle scanner_type.the_type scanner_desk.the_row scanner_laws.the_row_laws (λ h. h.at) (λ h. h.state)
+    (λ p w. record { at = p; state = w }) (λ p w. refl)
 
 abbrev pub sender : Handle
-sender = record {
-  type = sender_type.the_type;
-  row = sender_desk.the_row;
-  laws = sender_laws.the_row_laws;
-  at = λ h. h.at;
-  state = λ h. h.state;
-  make = λ p w. record { at = p; state = w };
-  made = λ p w. refl;
-}
+sender = handle sender_type.the_type sender_desk.the_row sender_laws.the_row_laws (λ h. h.at) (λ h. h.state)
+    (λ p w. record { at = p; state = w }) (λ p w. refl)
 
 abbrev pub receiver : Handle
-receiver = record {
-  type = receiver_type.the_type;
-  row = receiver_desk.the_row;
-  laws = receiver_laws.the_row_laws;
-  at = λ h. h.at;
-  state = λ h. h.state;
-  make = λ p w. record { at = p; state = w };
-  made = λ p w. refl;
-}
+receiver = handle receiver_type.the_type receiver_desk.the_row receiver_laws.the_row_laws (λ h. h.at) (λ h. h.state)
+    (λ p w. record { at = p; state = w }) (λ p w. refl)
 
 abbrev pub reader : Handle
-reader = record {
-  type = reader_type.the_type;
-  row = reader_desk.the_row;
-  laws = reader_laws.the_row_laws;
-  at = λ h. h.at;
-  state = λ h. h.state;
-  make = λ p w. record { at = p; state = w };
-  made = λ p w. refl;
-}
+reader = handle reader_type.the_type reader_desk.the_row reader_laws.the_row_laws (λ h. h.at) (λ h. h.state)
+    (λ p w. record { at = p; state = w }) (λ p w. refl)
 
 abbrev pub writer : Handle
-writer = record {
-  type = writer_type.the_type;
-  row = writer_desk.the_row;
-  laws = writer_laws.the_row_laws;
-  at = λ h. h.at;
-  state = λ h. h.state;
-  make = λ p w. record { at = p; state = w };
-  made = λ p w. refl;
-}
+writer = handle writer_type.the_type writer_desk.the_row writer_laws.the_row_laws (λ h. h.at) (λ h. h.state)
+    (λ p w. record { at = p; state = w }) (λ p w. refl)

@@ -8,8 +8,8 @@ use Rattle.lis_field.specs.Kinds.{letter_of}
 use Rattle.lis_field.specs.Shape.{Components, RecordContent, Repeats, Symbols, field_at}
 use Rattle.lis_record.specs.declared.faults.RecordFault.{RecordFault}
 use Rattle.lis_record.specs.declared.faults.RecordFault.TheVariants as RecordFaults
-use Rattle.lis_c.specs.Status.{OK, TOO_LONG, FORBIDDEN, OUT_OF_MEMORY, TOO_SHORT, NO_RECORD, BAD_LETTER}
-use Rattle.lis_c.specs.Status.{BAD_DELIMITERS, ABSENT}
+use Rattle.lis_c.specs.Status.{ABSENT, BAD_DELIMITERS, BAD_LETTER, FORBIDDEN, NO_RECORD, OK, OUT_OF_MEMORY, TOO_LONG}
+use Rattle.lis_c.specs.Status.{TOO_SHORT}
 use Rattle.lis_c.specs.declared.records.LisDelimiters.{LisDelimiters}
 use Rattle.lis_c.specs.declared.records.LisRecord.{LisRecord}
 

@@ -13,8 +13,8 @@ use Rattle.lis_tree.specs.declared.standing.Standing.{Standing}
 use Rattle.lis_tree.specs.inside.Standing.{standing_level}
 use Rattle.lis_tree.specs.Level.{Level, outside, closed, misplaced, next_level}
 use Rattle.lis_c.specs.Records.{IsCopied}
-use Rattle.lis_c.specs.Status.{OK, TOO_LONG, FORBIDDEN, OUT_OF_MEMORY, NO_RECORD, BAD_LETTER, ABSENT, UNFINISHED}
-use Rattle.lis_c.specs.Status.{PUT_NOT_HEADER, PUT_NO_PARENT, PUT_SECOND_HEADER, AddStatus}
+use Rattle.lis_c.specs.Status.{ABSENT, AddStatus, BAD_LETTER, FORBIDDEN, NO_RECORD, OK, OUT_OF_MEMORY, PUT_NOT_HEADER}
+use Rattle.lis_c.specs.Status.{PUT_NO_PARENT, PUT_SECOND_HEADER, TOO_LONG, UNFINISHED}
 use Rattle.lis_c.specs.declared.draft.Draft.{Draft}
 use Rattle.lis_c.specs.declared.draft.PutFault.{PutFault}
 use Rattle.lis_c.specs.declared.draft.WriterDesk.{WriterDesk}

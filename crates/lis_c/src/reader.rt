@@ -70,6 +70,31 @@ impl LisReader {
     }
 }
 
+/// The number of bytes of a reader's block.
+#[unsafe(no_mangle)]
+pub extern "C" fn lis_reader_size() -> usize
+    ensures { result ≡ type_size desk_row }
+{
+    size_of::<ReaderDesk>()
+}
+
+/// What the address of a reader's block is a multiple of.
+#[unsafe(no_mangle)]
+pub extern "C" fn lis_reader_align() -> usize
+    ensures { result ≡ type_align desk_row }
+{
+    align_of::<ReaderDesk>()
+}
+
+/// Makes a reader at the start of a stream in a block of the caller's.
+#[unsafe(no_mangle)]
+pub unsafe extern "C" fn lis_reader_init(alloc: Global, at: *mut u8)
+    requires* { sem 𝓛 (room_at desk_row at) }
+    ensures* { sem 𝓛 (IsNewReader at) }
+{
+    (at as *mut ReaderDesk).write(ReaderDesk::new(alloc));
+}
+
 /// Reads on: the bytes before the first CR, or a CR that stands first, which ends a record; answers how many it read.
 /// Of bytes in which a record is refused none count as read, and the reader then gives that fault for good. Memory
 /// may be refused for bytes that are held, which is told as a fault too.
@@ -120,6 +145,15 @@ pub extern "C" fn lis_reader_finish(s: &mut LisReader, out: &mut LisFound) -> u8
     }
 }
 
+/// Ends a reader; its block is the caller's again.
+#[unsafe(no_mangle)]
+pub extern "C" fn lis_reader_end(s: LisReader)
+    ensures* { sem 𝓛 (room_at desk_row s.at) }
+{
+    let LisReader { at } = s;
+    let_go_reader(unsafe { (at as *mut ReaderDesk).read() });
+}
+
 impl ReaderDesk {
     fn read(&mut self, piece: &[u8], out: &mut LisFound) -> usize
         ensures { (left : Option Begun) → HasLeft self.old.reader left →
@@ -139,44 +173,6 @@ impl ReaderDesk {
         }
         piece.len().saturating_sub(behind.len())
     }
-}
-
-/// Ends a reader; its block is the caller's again.
-#[unsafe(no_mangle)]
-pub extern "C" fn lis_reader_end(s: LisReader)
-    ensures* { sem 𝓛 (room_at desk_row s.at) }
-{
-    let LisReader { at } = s;
-    let_go_reader(unsafe { (at as *mut ReaderDesk).read() });
-}
-
-/// Makes a reader at the start of a stream in a block of the caller's.
-#[unsafe(no_mangle)]
-pub unsafe extern "C" fn lis_reader_init(alloc: Global, at: *mut u8)
-    requires* { sem 𝓛 (room_at desk_row at) }
-    ensures* { sem 𝓛 (IsNewReader at) }
-{
-    (at as *mut ReaderDesk).write(ReaderDesk::new(alloc));
-}
-
-const READER_SIZE: usize = size_of::<ReaderDesk>();
-
-const READER_ALIGN: usize = align_of::<ReaderDesk>();
-
-/// The number of bytes of a reader's block.
-#[unsafe(no_mangle)]
-pub extern "C" fn lis_reader_size() -> usize
-    ensures { result ≡ type_size desk_row }
-{
-    READER_SIZE
-}
-
-/// What the address of a reader's block is a multiple of.
-#[unsafe(no_mangle)]
-pub extern "C" fn lis_reader_align() -> usize
-    ensures { result ≡ type_align desk_row }
-{
-    READER_ALIGN
 }
 
 /// How many bytes stand before the first CR; 1 where it stands first.
@@ -248,6 +244,16 @@ fn reason_code(reason: Reason) -> u8
     }
 }
 
+/// The place of the byte that no text may hold; 0 where none is at fault.
+fn place_of(reason: Reason) -> usize
+    ensures { result ≡ place_of reason }
+{
+    match reason {
+        Reason::BadRecord(fault) => record_place(fault),
+        _ => 0,
+    }
+}
+
 /// The status of a text that is no record, or the letter of a record without a parent; 0 for any other reason.
 fn detail_of(reason: Reason) -> u8
     ensures { result ≡ detail_of reason }
@@ -255,16 +261,6 @@ fn detail_of(reason: Reason) -> u8
     match reason {
         Reason::BadRecord(fault) => record_status(fault),
         Reason::NoParent(kind) => kind.letter(),
-        _ => 0,
-    }
-}
-
-/// The place of the byte that no text may hold; 0 where none is at fault.
-fn place_of(reason: Reason) -> usize
-    ensures { result ≡ place_of reason }
-{
-    match reason {
-        Reason::BadRecord(fault) => record_place(fault),
         _ => 0,
     }
 }

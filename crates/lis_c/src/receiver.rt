@@ -53,6 +53,31 @@ impl LisReceiver {
     }
 }
 
+/// The number of bytes of a receiver's block.
+#[unsafe(no_mangle)]
+pub extern "C" fn lis_receiver_size() -> usize
+    ensures { result ≡ type_size desk_row }
+{
+    size_of::<ReceiverDesk>()
+}
+
+/// What the address of a receiver's block is a multiple of.
+#[unsafe(no_mangle)]
+pub extern "C" fn lis_receiver_align() -> usize
+    ensures { result ≡ type_align desk_row }
+{
+    align_of::<ReceiverDesk>()
+}
+
+/// Makes a receiver, neutral and ready, in a block of the caller's.
+#[unsafe(no_mangle)]
+pub unsafe extern "C" fn lis_receiver_init(alloc: Global, at: *mut u8)
+    requires* { sem 𝓛 (room_at desk_row at) }
+    ensures* { sem 𝓛 (IsNewReceiver at) }
+{
+    (at as *mut ReceiverDesk).write(ReceiverDesk::new(alloc));
+}
+
 /// Hears one byte. Only where a frame would be accepted whose text is longer than the spare room may memory be
 /// refused, note 11; the frame is then answered NAK and not taken.
 #[unsafe(no_mangle)]
@@ -201,6 +226,15 @@ pub extern "C" fn lis_receiver_text(s: &mut LisReceiver, out: &mut [u8]) -> u8
     status::OK
 }
 
+/// Ends a receiver; its block is the caller's again.
+#[unsafe(no_mangle)]
+pub extern "C" fn lis_receiver_end(s: LisReceiver)
+    ensures* { sem 𝓛 (room_at desk_row s.at) }
+{
+    let LisReceiver { at } = s;
+    let_go_receiver(unsafe { (at as *mut ReceiverDesk).read() });
+}
+
 impl ReceiverDesk {
     fn byte(&mut self, byte: u8, out: &mut LisStep)
         ensures step { (r : ReceiverState) → IsIn 240 self.old.receiver r → IsNotOutOfMemory out.new
@@ -233,42 +267,4 @@ impl ReceiverDesk {
         let step = self.receiver.timer();
         self.tell(step, out);
     }
-}
-
-/// Ends a receiver; its block is the caller's again.
-#[unsafe(no_mangle)]
-pub extern "C" fn lis_receiver_end(s: LisReceiver)
-    ensures* { sem 𝓛 (room_at desk_row s.at) }
-{
-    let LisReceiver { at } = s;
-    let_go_receiver(unsafe { (at as *mut ReceiverDesk).read() });
-}
-
-/// Makes a receiver, neutral and ready, in a block of the caller's.
-#[unsafe(no_mangle)]
-pub unsafe extern "C" fn lis_receiver_init(alloc: Global, at: *mut u8)
-    requires* { sem 𝓛 (room_at desk_row at) }
-    ensures* { sem 𝓛 (IsNewReceiver at) }
-{
-    (at as *mut ReceiverDesk).write(ReceiverDesk::new(alloc));
-}
-
-const RECEIVER_SIZE: usize = size_of::<ReceiverDesk>();
-
-const RECEIVER_ALIGN: usize = align_of::<ReceiverDesk>();
-
-/// The number of bytes of a receiver's block.
-#[unsafe(no_mangle)]
-pub extern "C" fn lis_receiver_size() -> usize
-    ensures { result ≡ type_size desk_row }
-{
-    RECEIVER_SIZE
-}
-
-/// What the address of a receiver's block is a multiple of.
-#[unsafe(no_mangle)]
-pub extern "C" fn lis_receiver_align() -> usize
-    ensures { result ≡ type_align desk_row }
-{
-    RECEIVER_ALIGN
 }

@@ -1,6 +1,7 @@
 //! Records for programs in C, read where they stand (LIS02-A2, Delimiters). No call takes memory.
 
-ghost use Rattle.std.specs.Prelude.{◌≡◌, ◌≢◌, ◌<◌, length, take, None, Some, IfSome, IfNone, MatchOption};
+ghost use Rattle.std.specs.Prelude.{◌≡◌, ◌≢◌, ◌<◌, length, take, None, Some, Ok, Err};
+ghost use Rattle.std.specs.Prelude.{IfOk, IfErr, IfSome, IfNone, MatchOption, MatchResult};
 ghost use Rattle.std.specs.Option.{option_to_list};
 ghost use Rattle.lis_c.specs.Records.{IsPart, TellsRecordFault, TellsRecord, delimiters_in, part_at, plain};
 ghost use Rattle.lis_c.specs.Records.{record_place, record_status, symbol_bytes};
@@ -10,11 +11,15 @@ ghost use Rattle.lis_field.specs.Delimiters.{DelimiterBytes, IsDelimiters};
 ghost use Rattle.lis_field.specs.Shape.{RecordContent};
 ghost use Rattle.lis_record.specs.declared.faults.RecordFault.{RecordFault};
 ghost use Rattle.lis_record.specs.Faults.{header_fault, record_fault};
+ghost use Rattle.lis_record.specs.Lent.{lent};
 ghost use Rattle.lis_record.specs.Relation.{IsRecord};
 
 use crate::status;
-use lis_field::{Delimiters, Sym};
-use lis_record::{LentComponent, LentRecord, LentSymbols, RecordFault, lend_header, lend_record};
+use lis_field::{DelimiterFault, Delimiters, Sym};
+use lis_record::{
+    DelimiterPartFault, LentComponent, LentRecord, LentSymbols, RecordFault, lend_header,
+    lend_record,
+};
 
 /// The delimiters of a message, in the order of its header.
 #[repr(C)]
@@ -77,13 +82,7 @@ pub extern "C" fn lis_record_read(
         → record_fault (delimiters_in delimiters.now) text.now ≡ Some fault → TellsRecordFault fault result out.new }
     ensures delimiters { (IsDelimiters (delimiters_in delimiters.now) → ⊥) → result ≡ BAD_DELIMITERS }
 {
-    out.letter = 0;
-    out.fields = 0;
-    out.place = 0;
-    let Some(known) = known(delimiters) else {
-        return status::BAD_DELIMITERS;
-    };
-    match lend_record(&known, text) {
+    match record_under(delimiters, text) {
         Ok(entry) => tell(&entry, out),
         Err(fault) => refuse(fault, out),
     }
@@ -131,28 +130,41 @@ pub extern "C" fn lis_record_part(
     ensures delimiters { (IsDelimiters (delimiters_in delimiters.now) → ⊥) → result ≡ BAD_DELIMITERS }
 {
     *size = 0;
-    let Some(known) = known(delimiters) else {
-        return status::BAD_DELIMITERS;
-    };
-    match lend_record(&known, text) {
+    match record_under(delimiters, text) {
         Ok(entry) => copy_part(&entry, field, repeat, component, out, size),
         Err(fault) => record_status(fault),
     }
 }
 
 /// The delimiters that four bytes are.
-pub(crate) fn known(delimiters: &LisDelimiters) -> Option<Delimiters>
-    ensures some { IfSome result (λ known. (known ≡ delimiters_in delimiters.now) × IsDelimiters known) }
-    ensures none { IfNone result (IsDelimiters (delimiters_in delimiters.now) → ⊥) }
+pub(crate) fn known(delimiters: &LisDelimiters) -> Result<Delimiters, DelimiterFault>
+    ensures found { IfOk result (λ known. (known ≡ delimiters_in delimiters.now) × IsDelimiters known) }
+    ensures none { IfErr result (λ _. IsDelimiters (delimiters_in delimiters.now) → ⊥) }
 {
-    match Delimiters::new(
+    Delimiters::new(
         delimiters.field,
         delimiters.repeat,
         delimiters.component,
         delimiters.escape,
-    ) {
-        Ok(known) => Some(known),
-        Err(_) => None,
+    )
+}
+
+/// The record, other than a header, that a text is under these delimiters.
+fn record_under<'a>(
+    delimiters: &LisDelimiters,
+    text: &'a [u8],
+) -> Result<LentRecord<'a>, RecordFault>
+    ensures only { (content : RecordContent) → IsDelimiters (delimiters_in delimiters.now)
+        → IsRecord (delimiters_in delimiters.now) text.now content → content.kind ≢ kinds.H
+        → result ≡ Ok (lent (delimiters_in delimiters.now) content) }
+    ensures fault { (fault : RecordFault) → IsDelimiters (delimiters_in delimiters.now)
+        → record_fault (delimiters_in delimiters.now) text.now ≡ Some fault → result ≡ Err fault }
+    ensures delimiters { (IsDelimiters (delimiters_in delimiters.now) → ⊥)
+        → MatchResult result (λ _. ⊥) (λ fault. record_status fault ≡ BAD_DELIMITERS) }
+{
+    match known(delimiters) {
+        Ok(known) => lend_record(&known, text),
+        Err(fault) => Err(RecordFault::DelimiterPart(DelimiterPartFault::Fault(fault))),
     }
 }
 

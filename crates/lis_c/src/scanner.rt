@@ -47,6 +47,31 @@ impl LisScanner {
     }
 }
 
+/// The number of bytes of a scanner's block.
+#[unsafe(no_mangle)]
+pub extern "C" fn lis_scanner_size() -> usize
+    ensures { result ≡ type_size desk_row }
+{
+    size_of::<ScannerDesk>()
+}
+
+/// What the address of a scanner's block is a multiple of.
+#[unsafe(no_mangle)]
+pub extern "C" fn lis_scanner_align() -> usize
+    ensures { result ≡ type_align desk_row }
+{
+    align_of::<ScannerDesk>()
+}
+
+/// Makes a scanner that has read no byte in a block of the caller's.
+#[unsafe(no_mangle)]
+pub unsafe extern "C" fn lis_scanner_init(alloc: Global, at: *mut u8)
+    requires* { sem 𝓛 (room_at desk_row at) }
+    ensures* { sem 𝓛 (IsNewScanner at) }
+{
+    (at as *mut ScannerDesk).write(ScannerDesk::new(alloc));
+}
+
 /// Reads one byte, and tells the signal that it gives.
 #[unsafe(no_mangle)]
 pub extern "C" fn lis_scanner_push(s: &mut LisScanner, byte: u8, out: &mut LisSignal)
@@ -80,33 +105,4 @@ pub extern "C" fn lis_scanner_end(s: LisScanner)
 {
     let LisScanner { at } = s;
     let_go_scanner(unsafe { (at as *mut ScannerDesk).read() });
-}
-
-/// Makes a scanner that has read no byte in a block of the caller's.
-#[unsafe(no_mangle)]
-pub unsafe extern "C" fn lis_scanner_init(alloc: Global, at: *mut u8)
-    requires* { sem 𝓛 (room_at desk_row at) }
-    ensures* { sem 𝓛 (IsNewScanner at) }
-{
-    (at as *mut ScannerDesk).write(ScannerDesk::new(alloc));
-}
-
-const SCANNER_SIZE: usize = size_of::<ScannerDesk>();
-
-const SCANNER_ALIGN: usize = align_of::<ScannerDesk>();
-
-/// The number of bytes of a scanner's block.
-#[unsafe(no_mangle)]
-pub extern "C" fn lis_scanner_size() -> usize
-    ensures { result ≡ type_size desk_row }
-{
-    SCANNER_SIZE
-}
-
-/// What the address of a scanner's block is a multiple of.
-#[unsafe(no_mangle)]
-pub extern "C" fn lis_scanner_align() -> usize
-    ensures { result ≡ type_align desk_row }
-{
-    SCANNER_ALIGN
 }

@@ -53,6 +53,31 @@ impl LisSender {
     }
 }
 
+/// The number of bytes of a sender's block.
+#[unsafe(no_mangle)]
+pub extern "C" fn lis_sender_size() -> usize
+    ensures { result ≡ type_size desk_row }
+{
+    size_of::<SenderDesk>()
+}
+
+/// What the address of a sender's block is a multiple of.
+#[unsafe(no_mangle)]
+pub extern "C" fn lis_sender_align() -> usize
+    ensures { result ≡ type_align desk_row }
+{
+    align_of::<SenderDesk>()
+}
+
+/// Makes a sender that was never started in a block of the caller's.
+#[unsafe(no_mangle)]
+pub unsafe extern "C" fn lis_sender_init(alloc: Global, at: *mut u8)
+    requires* { sem 𝓛 (room_at desk_row at) }
+    ensures* { sem 𝓛 (IsNewSender at) }
+{
+    (at as *mut SenderDesk).write(SenderDesk::new(alloc));
+}
+
 /// Puts a copy of a text to the next session: `OK`, `FULL` where there are as many as a session has, or
 /// `OUT_OF_MEMORY`. Where it isn't `OK` nothing has changed. Whether it is a link text is told by `lis_sender_start`.
 #[unsafe(no_mangle)]
@@ -227,33 +252,4 @@ pub extern "C" fn lis_sender_end(s: LisSender)
 {
     let LisSender { at } = s;
     let_go_sender(unsafe { (at as *mut SenderDesk).read() });
-}
-
-/// Makes a sender that was never started in a block of the caller's.
-#[unsafe(no_mangle)]
-pub unsafe extern "C" fn lis_sender_init(alloc: Global, at: *mut u8)
-    requires* { sem 𝓛 (room_at desk_row at) }
-    ensures* { sem 𝓛 (IsNewSender at) }
-{
-    (at as *mut SenderDesk).write(SenderDesk::new(alloc));
-}
-
-const SENDER_SIZE: usize = size_of::<SenderDesk>();
-
-const SENDER_ALIGN: usize = align_of::<SenderDesk>();
-
-/// The number of bytes of a sender's block.
-#[unsafe(no_mangle)]
-pub extern "C" fn lis_sender_size() -> usize
-    ensures { result ≡ type_size desk_row }
-{
-    SENDER_SIZE
-}
-
-/// What the address of a sender's block is a multiple of.
-#[unsafe(no_mangle)]
-pub extern "C" fn lis_sender_align() -> usize
-    ensures { result ≡ type_align desk_row }
-{
-    SENDER_ALIGN
 }

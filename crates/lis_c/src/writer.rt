@@ -50,6 +50,31 @@ impl LisWriter {
     }
 }
 
+/// The number of bytes of a writer's block.
+#[unsafe(no_mangle)]
+pub extern "C" fn lis_writer_size() -> usize
+    ensures { result ≡ type_size desk_row }
+{
+    size_of::<WriterDesk>()
+}
+
+/// What the address of a writer's block is a multiple of.
+#[unsafe(no_mangle)]
+pub extern "C" fn lis_writer_align() -> usize
+    ensures { result ≡ type_align desk_row }
+{
+    align_of::<WriterDesk>()
+}
+
+/// Makes a writer outside a message, with the usual delimiters, in a block of the caller's.
+#[unsafe(no_mangle)]
+pub unsafe extern "C" fn lis_writer_init(alloc: Global, at: *mut u8)
+    requires* { sem 𝓛 (room_at desk_row at) }
+    ensures* { sem 𝓛 (IsNewWriter at) }
+{
+    (at as *mut WriterDesk).write(WriterDesk::new(alloc));
+}
+
 /// Lets go of all that was written, and begins with these delimiters: `OK`, or `BAD_DELIMITERS`, and then nothing has
 /// changed.
 #[unsafe(no_mangle)]
@@ -65,11 +90,11 @@ pub extern "C" fn lis_writer_start(s: &mut LisWriter, delimiters: &LisDelimiters
         (result ≡ BAD_DELIMITERS) × (s.new.state ≡ s.old.state) }
 {
     match known(delimiters) {
-        Some(known) => {
+        Ok(known) => {
             s.lend().start(known);
             status::OK
         }
-        None => status::BAD_DELIMITERS,
+        Err(_) => status::BAD_DELIMITERS,
     }
 }
 
@@ -162,33 +187,4 @@ pub extern "C" fn lis_writer_end(s: LisWriter)
 {
     let LisWriter { at } = s;
     let_go_writer(unsafe { (at as *mut WriterDesk).read() });
-}
-
-/// Makes a writer outside a message, with the usual delimiters, in a block of the caller's.
-#[unsafe(no_mangle)]
-pub unsafe extern "C" fn lis_writer_init(alloc: Global, at: *mut u8)
-    requires* { sem 𝓛 (room_at desk_row at) }
-    ensures* { sem 𝓛 (IsNewWriter at) }
-{
-    (at as *mut WriterDesk).write(WriterDesk::new(alloc));
-}
-
-const WRITER_SIZE: usize = size_of::<WriterDesk>();
-
-const WRITER_ALIGN: usize = align_of::<WriterDesk>();
-
-/// The number of bytes of a writer's block.
-#[unsafe(no_mangle)]
-pub extern "C" fn lis_writer_size() -> usize
-    ensures { result ≡ type_size desk_row }
-{
-    WRITER_SIZE
-}
-
-/// What the address of a writer's block is a multiple of.
-#[unsafe(no_mangle)]
-pub extern "C" fn lis_writer_align() -> usize
-    ensures { result ≡ type_align desk_row }
-{
-    WRITER_ALIGN
 }

@@ -1,25 +1,17 @@
-use Rattle.std.proofs.Common.{subst, sym}
 use Rattle.lis_record.specs.Lent.{lent}
-use Rattle.lis_record.specs.Relation.{IsRecord}
-use Rattle.lis_c.specs.Records.{IsPart, part_at}
-use Rattle.lis_c.proofs.RecordLaws.{found_is, no_fault}
+use Rattle.lis_c.specs.Records.{IsPart, delimiters_in, part_at}
+use Rattle.lis_c.proofs.RecordLaws.{no_fault, of_found}
 use Rattle.lis_c.proofs.records.lis_record_part.Goals as goal
 
 pub returns-in-Ok-clause-part : goal.returns-in-Ok-clause-part
 returns-in-Ok-clause-part c content is_d is_record not_h =
-    let known = c.in-Some.ensures.some in
-    let under = subst (λ d. IsRecord d c.args.text.now content) (sym known.0) is_record in
-    let same =
-    found_is c.lend_record.result c.in-Ok.entry (lent c.in-Some.known content) c.in-Ok.is
-    (c.lend_record.ensures.only content under not_h) in
-    subst
+    of_found c.record_under.result c.in-Ok.entry (lent (delimiters_in c.args.delimiters.now) content) c.in-Ok.is
+    (c.record_under.ensures.only content is_d is_record not_h)
     (λ e. IsPart (part_at e.content c.args.field c.args.repeat c.args.component) c.copy_part.result
     c.copy_part.new.out c.copy_part.new.size)
-    same c.copy_part.ensures
+    c.copy_part.ensures
 
 pub returns-in-Err-clause-part : goal.returns-in-Err-clause-part
 returns-in-Err-clause-part c content is_d is_record not_h =
-    let known = c.in-Some.ensures.some in
-    let under = subst (λ d. IsRecord d c.args.text.now content) (sym known.0) is_record in
-    absurd (no_fault c.lend_record.result c.in-Err.fault (lent c.in-Some.known content) c.in-Err.is
-    (c.lend_record.ensures.only content under not_h))
+    absurd (no_fault c.record_under.result c.in-Err.fault (lent (delimiters_in c.args.delimiters.now) content)
+    c.in-Err.is (c.record_under.ensures.only content is_d is_record not_h))
