@@ -155,12 +155,12 @@ is_closing kinds.L = inl refl
 is_closing k = inr (λ e. cc)
 
 -- what a record completes
-pub completed : (left : Option Begun) (texts : List (List ℕ)) → AreLeft texts left
+pub completing : (left : Option Begun) (texts : List (List ℕ)) → AreLeft texts left
     → (text : List ℕ) (entry : Lent RecordContent) → ComesNext left text entry
     → (message : Option MessageTree) × Completes left entry message
-completed left texts are text entry (header l good is kind) =
+completing left texts are text entry (header l good is kind) =
     (None, λ e. let clash : kinds.H ≡ kinds.L = sym kind ∙ e in cc)
-completed left texts are text entry (inner b l d is placed) =
+completing left texts are text entry (inner b l d is placed) =
     let begun : AreBegun texts b = subst (AreLeft texts) l are in
     let here : IsRecord b.delimiters text entry.content =
     subst (λ (x : DelimiterBytes). IsRecord x text entry.content) d is in
@@ -205,9 +205,9 @@ cases : {X : Type 0} (o : Option X) → (o ≡ None) ⊎ ((x : X) × (o ≡ Some
 cases None = inl refl
 cases (Some x) = inr (x, refl)
 
-with_more : (stream : List ℕ) (messages xs : List MessageTree) → IsReadFrom stream (messages ++ xs)
+fewer_read : (stream : List ℕ) (messages xs : List MessageTree) → IsReadFrom stream (messages ++ xs)
     → IsReadFrom stream messages
-with_more stream messages xs (more, inl cut) = (
+fewer_read stream messages xs (more, inl cut) = (
   xs ++ more,
   inl (
     cut.0,
@@ -216,7 +216,7 @@ with_more stream messages xs (more, inl cut) = (
         cut.2,
   ),
 )
-with_more stream messages xs (more, inr stop) = (
+fewer_read stream messages xs (more, inr stop) = (
   xs ++ more,
   inr (stop.0, subst (λ (ms : List MessageTree). IsRefused stream ms stop.0) (append_assoc messages xs more) stop.1),
 )
@@ -250,11 +250,11 @@ goes_on (b ∷ more) front messages left held c =
       | inl same ↦ elim (cases (refusal left held)) [
         | inl none ↦
             let can = can_take left c.texts c.begun held none in
-            let whole = completed left c.texts c.begun held can.entry can.comes in
+            let whole = completing left c.texts c.begun held can.entry can.comes in
             let next = cut_taken front messages left held can.entry whole.0 c can.comes whole.1 in
             subst (λ (x : ℕ). IsReadFrom (front ++ x ∷ more) messages) (sym same.1)
             (moved front 13 more messages
-            (with_more ((front ++ 13 ∷ []) ++ more) messages (option_to_list whole.0)
+            (fewer_read ((front ++ 13 ∷ []) ++ more) messages (option_to_list whole.0)
             (goes_on more (front ++ 13 ∷ []) (messages ++ option_to_list whole.0)
             (left_after left can.entry can.entry.content.kind) [] next)))
         | inr why ↦

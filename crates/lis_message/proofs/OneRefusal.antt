@@ -14,13 +14,13 @@ use Rattle.lis_message.proofs.Reading.{run_split, step_lacks}
 use Rattle.lis_message.proofs.Refusals.{read_short, read_unrefused}
 
 -- one list of lines goes on with the rest of the other
-record GoesOn (xs ys : List (List ℕ)) (r s : List ℕ) : Type 0 where
+record LinesGoOn (xs ys : List (List ℕ)) (r s : List ℕ) : Type 0 where
   more : List (List ℕ)
   lines : ys ≡ xs ++ more
   rest : r ≡ ended more ++ s
 
-goes_on_cons : (x y : List ℕ) (xs ys : List (List ℕ)) (r s : List ℕ) → x ≡ y → GoesOn xs ys r s
-    → GoesOn (x ∷ xs) (y ∷ ys) r s
+goes_on_cons : (x y : List ℕ) (xs ys : List (List ℕ)) (r s : List ℕ) → x ≡ y → LinesGoOn xs ys r s
+    → LinesGoOn (x ∷ xs) (y ∷ ys) r s
 goes_on_cons x y xs ys r s e g = record {
   more = g.more;
   lines = ap (λ (l : List (List ℕ)). y ∷ l) g.lines ∙ ap (λ (t : List ℕ). t ∷ (xs ++ g.more)) (sym e);
@@ -28,14 +28,14 @@ goes_on_cons x y xs ys r s e g = record {
 }
 
 compared : (xs ys : List (List ℕ)) (r s : List ℕ) → AllLack xs → AllLack ys → ended xs ++ r ≡ ended ys ++ s
-    → GoesOn xs ys r s ⊎ GoesOn ys xs s r
+    → LinesGoOn xs ys r s ⊎ LinesGoOn ys xs s r
 compared [] ys r s lx ly e = inl (record { more = ys; lines = refl; rest = e })
 compared (x ∷ xs) [] r s lx ly e = inr (record { more = x ∷ xs; lines = refl; rest = sym e })
 compared (x ∷ xs) (y ∷ ys) r s lx ly e =
     let both = line_one x y (ended xs ++ r) (ended ys ++ s) lx.0 ly.0
     (sym (ended_cons x xs r) ∙ e ∙ ended_cons y ys s) in
-    ⊎_elim (λ (g : GoesOn xs ys r s). inl (goes_on_cons x y xs ys r s both.0 g))
-    (λ (g : GoesOn ys xs s r). inr (goes_on_cons y x ys xs s r (sym both.0) g))
+    ⊎_elim (λ (g : LinesGoOn xs ys r s). inl (goes_on_cons x y xs ys r s both.0 g))
+    (λ (g : LinesGoOn ys xs s r). inr (goes_on_cons y x ys xs s r (sym both.0) g))
     (compared xs ys r s lx.1 ly.1 both.1)
 
 abbrev IsStop : Option Begun → List ℕ → List ℕ → Reason → Type 0
@@ -89,7 +89,7 @@ settle m n f g l k t a u b (z ∷ zs) lt lu s r p q e run =
 -- where one refusal's records go on with those of the other
 ahead : (stream : List ℕ) (m n : List MessageTree) (f g : MessageFault) (a : IsRefused stream m f)
     (b : IsRefused stream n g)
-    → GoesOn (all_texts a.cut.groups ++ a.cut.texts) (all_texts b.cut.groups ++ b.cut.texts) (a.text ++ a.more)
+    → LinesGoOn (all_texts a.cut.groups ++ a.cut.texts) (all_texts b.cut.groups ++ b.cut.texts) (a.text ++ a.more)
     (b.text ++ b.more) → (m ≡ n) × (f ≡ g)
 ahead stream m n f g a b goes =
     let xs = all_texts a.cut.groups ++ a.cut.texts in
@@ -118,7 +118,7 @@ refused_one stream m n f g a b =
     (cut_lines b.front n b.left [] b.cut ∙ append-nil (ended ys)) in
     let lack_a = run_lacks start xs (record { messages = m; left = a.left }) (cut_runs a.front m a.left [] a.cut) in
     let lack_b = run_lacks start ys (record { messages = n; left = b.left }) (cut_runs b.front n b.left [] b.cut) in
-    ⊎_elim (λ (g' : GoesOn xs ys (a.text ++ a.more) (b.text ++ b.more)). ahead stream m n f g a b g')
-    (λ (g' : GoesOn ys xs (b.text ++ b.more) (a.text ++ a.more)). let back = ahead stream n m g f b a g' in
+    ⊎_elim (λ (g' : LinesGoOn xs ys (a.text ++ a.more) (b.text ++ b.more)). ahead stream m n f g a b g')
+    (λ (g' : LinesGoOn ys xs (b.text ++ b.more) (a.text ++ a.more)). let back = ahead stream n m g f b a g' in
     (sym back.0, sym back.1))
     (compared xs ys (a.text ++ a.more) (b.text ++ b.more) lack_a lack_b (sym lines_a ∙ lines_b))

@@ -11,6 +11,7 @@ use Rattle.lis_record.proofs.RecordTexts.{IsRecord-one}
 use Rattle.lis_tree.specs.inside.Begun.{Begun, level_of}
 use Rattle.lis_tree.specs.Level.{Level, outside, closed, next_level}
 use Rattle.lis_tree.specs.Level.{level_after, misplaced, StandsFrom, kinds_of}
+use Rattle.lis_message.specs.inside.Taking.{begun_with}
 use Rattle.lis_message.specs.Stream.{ended, AreMessage, AreLeft, IsCut, LacksReturn}
 use Rattle.lis_tree.specs.Tree.{MessageTree, IsTree, flatten, group_records}
 use Rattle.lis_tree.proofs.Flatten.{flatten_one}
@@ -22,9 +23,6 @@ use Rattle.lis_message.proofs.Lines.{AllLack, text_lacks, lines_one, ended_appen
 pub record State : Type 0 where
   pub messages : List MessageTree
   pub left : Option Begun
-
-abbrev pub begun_with : DelimiterBytes → List RecordContent → Option Begun
-begun_with d rs = Some (record { delimiters = d; records = rs })
 
 -- a header is read
 pub record Heads (messages : List MessageTree) (text : List ℕ) (next : State) : Type 0 where
@@ -47,7 +45,7 @@ pub data Continues (messages : List MessageTree) (begun : Begun) (r : RecordCont
       → next ≡ record { messages = messages ++ m ∷ []; left = None } → Continues messages begun r next
 
 -- another record is read
-pub record Adds (messages : List MessageTree) (begun : Begun) (text : List ℕ) (next : State) : Type 0 where
+pub record AddsRecord (messages : List MessageTree) (begun : Begun) (text : List ℕ) (next : State) : Type 0 where
   pub entry : RecordContent
   pub is : IsRecord begun.delimiters text entry
   pub good : IsDelimiters begun.delimiters
@@ -57,7 +55,7 @@ pub record Adds (messages : List MessageTree) (begun : Begun) (text : List ℕ) 
 
 abbrev pub StepFrom : List MessageTree → Option Begun → List ℕ → State → Type 0
 StepFrom messages None text next = Heads messages text next
-StepFrom messages (Some begun) text next = Adds messages begun text next
+StepFrom messages (Some begun) text next = AddsRecord messages begun text next
 
 abbrev pub Step : State → List ℕ → State → Type 0
 Step s text next = StepFrom s.messages s.left text next
@@ -110,8 +108,8 @@ continues_one ms begun r a b (whole k m is marks records e) (whole l n is' marks
     e ∙ ap (λ (x : MessageTree). record { messages = ms ++ x ∷ []; left = None })
     (flatten_one m n is is' (marks ∙ sym marks') (records ∙ sym records')) ∙ sym f
 
-adds_one : (ms : List MessageTree) (begun : Begun) (t : List ℕ) (a b : State) → Adds ms begun t a → Adds ms begun t b
-    → a ≡ b
+adds_one : (ms : List MessageTree) (begun : Begun) (t : List ℕ) (a b : State) → AddsRecord ms begun t a
+    → AddsRecord ms begun t b → a ≡ b
 adds_one ms begun t a b h g =
     let same : h.entry ≡ g.entry = IsRecord-one begun.delimiters g.good t h.entry g.entry h.is g.is in
     continues_one ms begun g.entry a b (subst (λ r. Continues ms begun r a) same h.continues) g.continues

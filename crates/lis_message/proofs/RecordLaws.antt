@@ -11,7 +11,7 @@ use Rattle.lis_message.specs.Records.{Reads, ReadsOn, ReadsRecord, Refuses, unen
 use Rattle.lis_message.specs.Stream.{IsCut, IsRefused, IsRefusedText}
 use Rattle.lis_message.specs.inside.Taking.{ComesNext, Completes, header, inner, left_after}
 use Rattle.lis_message.proofs.Cuts.{cut_hold, cut_taken}
-use Rattle.lis_message.proofs.EveryStream.{completed}
+use Rattle.lis_message.proofs.EveryStream.{completing}
 use Rattle.lis_message.proofs.Stopping.{refused_line, refused_long, starved}
 use Rattle.lis_record.specs.declared.texts.TheConstants.{RECORD_LIMIT}
 use Rattle.lis_record.specs.Lent.{Lent}
@@ -134,7 +134,7 @@ pub reads_record : (before after : RecordsState) (stream : List ℕ) (messages :
     × IsReadUpTo stream bytes behind (messages ++ option_to_list message)
     (left_after left entry entry.content.kind) after.held
 reads_record before after stream messages left bytes behind entry c r =
-    let whole = completed left c.texts c.begun (before.held ++ r.text) entry r.comes in (
+    let whole = completing left c.texts c.begun (before.held ++ r.text) entry r.comes in (
       whole.0,
       whole.1,
       (

@@ -73,13 +73,13 @@ long_held : (t more h : List ℕ) → t ++ more ≡ h → length t ≤ length h
 long_held t more h e = omega (arith, length-append t more, ap length e)
 
 -- the state that a cut's texts lead to, with the texts behind them
-follows : (front : List ℕ) (ms : List MessageTree) (left : Option Begun) (cut : IsCut front ms left [])
+tail_follows : (front : List ℕ) (ms : List MessageTree) (left : Option Begun) (cut : IsCut front ms left [])
     (stream : List ℕ) (others : List MessageTree) (rest : Option Begun) (held : List ℕ)
     (c : IsCut stream others rest held)
     → (tail : List ℕ) → stream ≡ front ++ tail
     → (zs : List (List ℕ)) × (tail ≡ ended zs ++ held)
     × Run (record { messages = ms; left = left }) zs (record { messages = others; left = rest })
-follows front ms left cut stream others rest held c tail e =
+tail_follows front ms left cut stream others rest held c tail e =
     let xs = all_texts cut.groups ++ cut.texts in
     let ys = all_texts c.groups ++ c.texts in
     let here : State = record { messages = ms; left = left } in
@@ -124,7 +124,7 @@ refused_text here end zs held text more reason l h is e run =
 pub refused_uncut : (stream : List ℕ) (messages others : List MessageTree) (fault : MessageFault)
     (left : Option Begun) (held : List ℕ) → IsRefused stream messages fault → IsCut stream others left held → ⊥
 refused_uncut stream messages others fault left held r c =
-    let behind = follows r.front messages r.left r.cut stream others left held c (r.text ++ r.more)
+    let behind = tail_follows r.front messages r.left r.cut stream others left held c (r.text ++ r.more)
     (r.whole ∙ append_assoc r.front r.text r.more) in
     let here : State = record { messages = messages; left = r.left } in
     let end : State = record { messages = others; left = left } in

@@ -52,9 +52,9 @@ byte_in [] more byte all = All-head (λ b. is_text_byte b ≡ true) byte more al
 byte_in (x ∷ front) more byte all =
     byte_in front more byte (All-tail (λ b. is_text_byte b ≡ true) x (front ++ byte ∷ more) all)
 
-refused_at : (left : Option Begun) (text front more : List ℕ) (byte : ℕ) → text ≡ front ++ byte ∷ more
+byte_refused : (left : Option Begun) (text front more : List ℕ) (byte : ℕ) → text ≡ front ++ byte ∷ more
     → is_text_byte byte ≡ false → IsRecordRefused left text
-refused_at left text front more byte whole bad =
+byte_refused left text front more byte whole bad =
     elim (cases_lt record_limit (length text)) [
       | inl long ↦ (reasons.RecordTooLong, inl (refl, long))
       | inr short ↦ by (refusal left text) refl (omega arith)
@@ -110,7 +110,7 @@ bad_line left bytes front rest text behind end byte found taken left_over all ot
     ap (λ (l : List ℕ). l ++ byte ∷ rest) taken ∙ ap (λ (l : List ℕ). take end bytes ++ l) (sym left_over)
     ∙ take-append-drop end bytes ∙ whole in
     let at = before_return front rest text behind byte other (text_lacks front all) parts in
-    refused_at left text front at.0 byte at.1 (bad_at end bytes rest byte found (sym left_over))
+    byte_refused left text front at.0 byte at.1 (bad_at end bytes rest byte found (sym left_over))
 
 -- It is a CR: then the line before it is the first.
 pub ended_line : (left : Option Begun) (bytes front rest text behind : List ℕ) (end byte : ℕ) (reason : Reason)

@@ -69,8 +69,8 @@ drop_front zero xs ys h = refl
 drop_front (suc n) [] ys h = absurd (omega arith)
 drop_front (suc n) (x ∷ xs) ys h = drop_front n xs ys (omega arith)
 
-next_place : (place whole : ℕ) → capped (capped (place + 1) + whole) ≡ capped (place + suc whole)
-next_place place whole = omega arith
+place_behind : (place whole : ℕ) → capped (capped (place + 1) + whole) ≡ capped (place + suc whole)
+place_behind place whole = omega arith
 
 -- ---- one record after another
 
@@ -84,7 +84,7 @@ stopped_step d r rs place skip old mid new fits first found (write_faults.Io cou
     let all : front_of d (r ∷ rs) (suc s.0) count ≡ written d r ++ front =
     append_assoc (written d r) (records_bytes d (take s.0 rs)) (first_bytes d count (drop s.0 rs)) in (
       suc s.0,
-      s.1 ∙ next_place place s.0,
+      s.1 ∙ place_behind place s.0,
       omega arith,
       s.3,
       omega (arith, ap length all, length-append (written d r) front),

@@ -13,8 +13,8 @@ pub use fault::MessageWriteFault;
 pub use lis_record::{Delimiters, Kind, LentRecord, Record, RecordFault, WriteFault};
 pub use lis_text::{LinkText, List, Texts};
 pub use lis_tree::{
-    Group, Message, MessageFault, Noted, Order, Patient, PlacedResult, Query, Reason, Records,
-    ResultEntry, Results,
+    Branch, Group, Message, MessageFault, Noted, Order, Patient, PlacedResult, Query, Reason,
+    Records, ResultEntry, Results,
 };
 pub use reader::{Fed, MessageReader, Messages, read_messages};
 pub use records::{Found, RecordReader};

@@ -35,9 +35,8 @@ with_order order results =
       notes = [];
       groups =
           groups.Patient (record {
-            head = entry kinds.P (codes "|1");
-            notes = [];
-            orders = record { head = entry kinds.O order; notes = []; results = results } ∷ [];
+            top = record { head = entry kinds.P (codes "|1"); notes = [] };
+            below = record { top = record { head = entry kinds.O order; notes = [] }; below = results } ∷ [];
           }) ∷ [];
       closing = entry kinds.L (codes "|1|N");
     }

@@ -3,28 +3,29 @@ use Rattle.std.proofs.Common.{◌≡◌, Bool, true, false, List, [], ◌∷◌,
 use Rattle.std.specs.List.{AllByRecursion, flat_map}
 use Rattle.lis_field.specs.declared.kinds.Kind.{Kind}
 use Rattle.lis_field.specs.declared.kinds.Kind.TheVariants as kinds
-use Rattle.lis_field.specs.Delimiters.{DelimiterBytes}
 use Rattle.lis_field.specs.Shape.{RecordContent}
-use Rattle.lis_tree.specs.Nodes.{Noted, OrderTree, PatientTree}
+use Rattle.lis_tree.specs.Nodes.{Branch, Noted, OrderTree, PatientTree}
 use Rattle.lis_tree.specs.declared.tree.Group.{Group}
 use Rattle.lis_tree.specs.declared.tree.Group.TheVariants as groups
 use Rattle.lis_tree.specs.Tree.{MessageTree, noted_records, order_records, patient_records, group_records, flatten}
-use Rattle.lis_tree.specs.Tree.{IsNote, AreNotes, IsNoted, IsOrder, IsPatient, IsGroup, IsTree}
+use Rattle.lis_tree.specs.Tree.{IsBranch, IsNote, AreNotes, IsNoted, IsOrder, IsPatient, IsGroup, IsTree}
+use Rattle.lis_tree.specs.Tree.{branch_records}
+use Rattle.lis_tree.specs.inside.Front.{message_tree}
 
 -- each record's kind passes a test
 abbrev Pass : (Kind → Bool) → List RecordContent → Type 0
 Pass p rs = AllByRecursion (λ r. p r.kind ≡ true) rs
 
 -- the list is empty, or its first record's kind fails the test
-abbrev Stops : (Kind → Bool) → List RecordContent → Type 0
-Stops p [] = Unit {0}
-Stops p (r ∷ rs) = p r.kind ≡ false
+abbrev HeadFails : (Kind → Bool) → List RecordContent → Type 0
+HeadFails p [] = Unit {0}
+HeadFails p (r ∷ rs) = p r.kind ≡ false
 
 not_both : (b : Bool) → b ≡ true → b ≡ false → ⊥
 not_both b t f = let e : true ≡ false = sym t ∙ f in cc
 
 -- two lists that begin with records that pass, up to one that fails, begin alike
-span_one : (p : Kind → Bool) (xs ys r s : List RecordContent) → Pass p xs → Pass p ys → Stops p r → Stops p s
+span_one : (p : Kind → Bool) (xs ys r s : List RecordContent) → Pass p xs → Pass p ys → HeadFails p r → HeadFails p s
     → xs ++ r ≡ ys ++ s → (xs ≡ ys) × (r ≡ s)
 span_one p [] [] r s ax ay sr ss e = (refl, e)
 span_one p [] (y ∷ ys) [] s ax ay sr ss e = absurd cc
@@ -49,10 +50,10 @@ record IsPiece (p : Kind → Bool) (records : List RecordContent) : Type 0 where
 
 module _ {X : Type 0} (p : Kind → Bool) (f : X → List RecordContent) (Is : X → Type 0)
     (piece : (x : X) → Is x → IsPiece p (f x)) (one : (x y : X) → Is x → Is y → f x ≡ f y → x ≡ y) where
-  pieces_stop : (xs : List X) → AllByRecursion Is xs → Stops p (flat_map f xs)
+  pieces_stop : (xs : List X) → AllByRecursion Is xs → HeadFails p (flat_map f xs)
   pieces_stop [] a = tt
   pieces_stop (x ∷ xs) a =
-      let h = piece x a.0 in subst (λ l. Stops p (l ++ flat_map f xs)) (sym h.whole) h.fails
+      let h = piece x a.0 in subst (λ l. HeadFails p (l ++ flat_map f xs)) (sym h.whole) h.fails
 
   starts : (x : X) (rest : List RecordContent) (is : Is x)
       → f x ++ rest ≡ (piece x is).head ∷ ((piece x is).tail ++ rest)
@@ -93,23 +94,27 @@ abbrev below_group : Kind → Bool
 below_group kinds.O = true
 below_group k = below_order k
 
-note_passes : (k : Kind) → IsNote k → (in_noted k ≡ true) × (below_order k ≡ true) × (below_group k ≡ true)
-note_passes kinds.C n = (refl, refl, refl)
-note_passes kinds.M n = (refl, refl, refl)
-note_passes kinds.S n = (refl, refl, refl)
-note_passes k n = absurd n
+-- a note passes
+abbrev TakesNotes : (Kind → Bool) → Type 0
+TakesNotes p = (k : Kind) → IsNote k → p k ≡ true
 
-notes_noted : (rs : List RecordContent) → AreNotes rs → Pass in_noted rs
-notes_noted [] a = tt
-notes_noted (r ∷ rs) a = ((note_passes r.kind a.0).0, notes_noted rs a.1)
+noted_takes : TakesNotes in_noted
+noted_takes kinds.C n = refl
+noted_takes kinds.M n = refl
+noted_takes kinds.S n = refl
+noted_takes k n = absurd n
 
-notes_order : (rs : List RecordContent) → AreNotes rs → Pass below_order rs
-notes_order [] a = tt
-notes_order (r ∷ rs) a = ((note_passes r.kind a.0).1, notes_order rs a.1)
+order_takes : TakesNotes below_order
+order_takes kinds.R n = refl
+order_takes k n = noted_takes k n
 
-notes_group : (rs : List RecordContent) → AreNotes rs → Pass below_group rs
-notes_group [] a = tt
-notes_group (r ∷ rs) a = ((note_passes r.kind a.0).2, notes_group rs a.1)
+group_takes : TakesNotes below_group
+group_takes kinds.O n = refl
+group_takes k n = order_takes k n
+
+notes_pass : (p : Kind → Bool) → TakesNotes p → (rs : List RecordContent) → AreNotes rs → Pass p rs
+notes_pass p takes [] a = tt
+notes_pass p takes (r ∷ rs) a = (takes r.kind a.0, notes_pass p takes rs a.1)
 
 pass_append : (p : Kind → Bool) (xs ys : List RecordContent) → Pass p xs → Pass p ys → Pass p (xs ++ ys)
 pass_append p [] ys a b = b
@@ -118,16 +123,27 @@ pass_append p (x ∷ xs) ys a b = (a.0, pass_append p xs ys a.1 b)
 kind_as : (p : Kind → Bool) (r : RecordContent) (k : Kind) (b : Bool) → r.kind ≡ k → p k ≡ b → p r.kind ≡ b
 kind_as p r k b e h = ap p e ∙ h
 
+-- where each node's records pass, all do
+all_pass : {X : Type 0} (p : Kind → Bool) (f : X → List RecordContent) (Is : X → Type 0)
+    → ((x : X) → Is x → Pass p (f x)) → (xs : List X) → AllByRecursion Is xs → Pass p (flat_map f xs)
+all_pass p f Is passes [] a = tt
+all_pass p f Is passes (x ∷ xs) a =
+    pass_append p (f x) (flat_map f xs) (passes x a.0) (all_pass p f Is passes xs a.1)
+
 -- ---- results
 
-result_piece : (n : Noted) → IsNoted kinds.R n → IsPiece in_noted (noted_records n)
-result_piece n is = record {
+noted_pass : (p : Kind → Bool) → TakesNotes p → (k : Kind) → p k ≡ true → (n : Noted) → IsNoted k n
+    → Pass p (noted_records n)
+noted_pass p takes k passes n is = (kind_as p n.head k true is.head passes, notes_pass p takes n.notes is.notes)
+
+noted_piece : (p : Kind → Bool) → TakesNotes p → (k : Kind) → p k ≡ false → (n : Noted) → IsNoted k n
+    → IsPiece p (noted_records n)
+noted_piece p takes k fails n is = record {
   head = n.head;
   tail = n.notes;
   whole = refl;
-  fails =
-      kind_as in_noted n.head kinds.R false is.head refl;
-  passes = notes_noted n.notes is.notes;
+  fails = kind_as p n.head k false is.head fails;
+  passes = notes_pass p takes n.notes is.notes;
 }
 
 noted_one : (k : Kind) (a b : Noted) → IsNoted k a → IsNoted k b → noted_records a ≡ noted_records b → a ≡ b
@@ -139,98 +155,79 @@ noted_one k a b ia ib e =
 
 results_one : (xs ys : List Noted) → AllByRecursion (IsNoted kinds.R) xs → AllByRecursion (IsNoted kinds.R) ys
     → flat_map noted_records xs ≡ flat_map noted_records ys → xs ≡ ys
-results_one = pieces_one in_noted noted_records (IsNoted kinds.R) result_piece (noted_one kinds.R)
+results_one = pieces_one in_noted noted_records (IsNoted kinds.R) (noted_piece in_noted noted_takes kinds.R refl)
+    (noted_one kinds.R)
 
-results_stop : (xs : List Noted) → AllByRecursion (IsNoted kinds.R) xs → Stops in_noted (flat_map noted_records xs)
-results_stop = pieces_stop in_noted noted_records (IsNoted kinds.R) result_piece (noted_one kinds.R)
+results_stop : (xs : List Noted) → AllByRecursion (IsNoted kinds.R) xs → HeadFails in_noted (flat_map noted_records xs)
+results_stop = pieces_stop in_noted noted_records (IsNoted kinds.R) (noted_piece in_noted noted_takes kinds.R refl)
+    (noted_one kinds.R)
 
-results_pass : (xs : List Noted) → AllByRecursion (IsNoted kinds.R) xs → Pass below_order (flat_map noted_records xs)
-results_pass [] a = tt
-results_pass (x ∷ xs) a =
-    pass_append below_order (noted_records x) (flat_map noted_records xs)
-    (kind_as below_order x.head kinds.R true a.0.head refl, notes_order x.notes a.0.notes)
-    (results_pass xs a.1)
+results_pass : (p : Kind → Bool) → TakesNotes p → p kinds.R ≡ true → (xs : List Noted)
+    → AllByRecursion (IsNoted kinds.R) xs → Pass p (flat_map noted_records xs)
+results_pass p takes passes = all_pass p noted_records (IsNoted kinds.R) (noted_pass p takes kinds.R passes)
 
-results_group : (xs : List Noted) → AllByRecursion (IsNoted kinds.R) xs → Pass below_group (flat_map noted_records xs)
-results_group [] a = tt
-results_group (x ∷ xs) a =
-    pass_append below_group (noted_records x) (flat_map noted_records xs)
-    (kind_as below_group x.head kinds.R true a.0.head refl, notes_group x.notes a.0.notes)
-    (results_group xs a.1)
+-- ---- branches
+
+module _ {X : Type 0} (f : X → List RecordContent) (Is : X → Type 0) (k : Kind) where
+  branch_piece : (p : Kind → Bool) → TakesNotes p → p k ≡ false
+      → ((xs : List X) → AllByRecursion Is xs → Pass p (flat_map f xs)) → (b : Branch X) → IsBranch k Is b
+      → IsPiece p (branch_records f b)
+  branch_piece p takes fails below b is = record {
+    head = b.top.head;
+    tail = b.top.notes ++ flat_map f b.below;
+    whole = refl;
+    fails = kind_as p b.top.head k false is.top.head fails;
+    passes = pass_append p b.top.notes (flat_map f b.below) (notes_pass p takes b.top.notes is.top.notes)
+        (below b.below is.below);
+  }
+
+  branch_one : ((xs : List X) → AllByRecursion Is xs → HeadFails in_noted (flat_map f xs))
+      → ((xs ys : List X) → AllByRecursion Is xs → AllByRecursion Is ys → flat_map f xs ≡ flat_map f ys → xs ≡ ys)
+      → (a b : Branch X) → IsBranch k Is a → IsBranch k Is b → branch_records f a ≡ branch_records f b → a ≡ b
+  branch_one stop one a b ia ib e =
+      let heads : a.top.head ≡ b.top.head = cc in
+      let behind : a.top.notes ++ flat_map f a.below ≡ b.top.notes ++ flat_map f b.below = cc in
+      let both = span_one in_noted a.top.notes b.top.notes (flat_map f a.below) (flat_map f b.below)
+      (notes_pass in_noted noted_takes a.top.notes ia.top.notes)
+      (notes_pass in_noted noted_takes b.top.notes ib.top.notes) (stop a.below ia.below) (stop b.below ib.below)
+      behind in
+      let below = one a.below b.below ia.below ib.below both.1 in
+      let make : RecordContent → List RecordContent → List X → Branch X =
+      λ h n l. record { top = record { head = h; notes = n }; below = l } in
+      ap (λ h. make h a.top.notes a.below) heads ∙ ap (λ n. make b.top.head n a.below) both.0
+      ∙ ap (make b.top.head b.top.notes) below
 
 -- ---- orders
 
 order_piece : (o : OrderTree) → IsOrder o → IsPiece below_order (order_records o)
-order_piece o is = record {
-  head = o.head;
-  tail = o.notes ++ flat_map noted_records o.results;
-  whole = refl;
-  fails = kind_as below_order o.head kinds.O false is.head refl;
-  passes = pass_append below_order o.notes (flat_map noted_records o.results) (notes_order o.notes is.notes)
-      (results_pass o.results is.results);
-}
+order_piece = branch_piece noted_records (IsNoted kinds.R) kinds.O below_order order_takes refl
+    (results_pass below_order order_takes refl)
 
 order_one : (a b : OrderTree) → IsOrder a → IsOrder b → order_records a ≡ order_records b → a ≡ b
-order_one a b ia ib e =
-    let heads : a.head ≡ b.head = cc in
-    let behind : a.notes ++ flat_map noted_records a.results ≡ b.notes ++ flat_map noted_records b.results = cc in
-    let both = span_one in_noted a.notes b.notes (flat_map noted_records a.results) (flat_map noted_records b.results)
-    (notes_noted a.notes ia.notes) (notes_noted b.notes ib.notes) (results_stop a.results ia.results)
-    (results_stop b.results ib.results) behind in
-    let results = results_one a.results b.results ia.results ib.results both.1 in
-    let make : RecordContent → List RecordContent → List Noted → OrderTree =
-    λ h n r. record { head = h; notes = n; results = r } in
-    ap (λ h. make h a.notes a.results) heads ∙ ap (λ n. make b.head n a.results) both.0
-    ∙ ap (make b.head b.notes) results
+order_one = branch_one noted_records (IsNoted kinds.R) kinds.O results_stop results_one
 
 orders_one : (xs ys : List OrderTree) → AllByRecursion IsOrder xs → AllByRecursion IsOrder ys
     → flat_map order_records xs ≡ flat_map order_records ys → xs ≡ ys
 orders_one = pieces_one below_order order_records IsOrder order_piece order_one
 
-order_stops : (xs : List OrderTree) → AllByRecursion IsOrder xs → Stops in_noted (flat_map order_records xs)
-order_stops [] a = tt
-order_stops (x ∷ xs) a = kind_as in_noted x.head kinds.O false a.0.head refl
+orders_stop : (xs : List OrderTree) → AllByRecursion IsOrder xs → HeadFails in_noted (flat_map order_records xs)
+orders_stop [] a = tt
+orders_stop (x ∷ xs) a = kind_as in_noted x.top.head kinds.O false a.0.top.head refl
 
 orders_pass : (xs : List OrderTree) → AllByRecursion IsOrder xs → Pass below_group (flat_map order_records xs)
-orders_pass [] a = tt
-orders_pass (x ∷ xs) a =
-    pass_append below_group (order_records x) (flat_map order_records xs)
-    (pass_append below_group (x.head ∷ x.notes) (flat_map noted_records x.results)
-    (kind_as below_group x.head kinds.O true a.0.head refl, notes_group x.notes a.0.notes)
-    (results_group x.results a.0.results))
-    (orders_pass xs a.1)
+orders_pass = all_pass below_group order_records IsOrder (λ o is. pass_append below_group (noted_records o.top)
+    (flat_map noted_records o.below) (noted_pass below_group group_takes kinds.O refl o.top is.top)
+    (results_pass below_group group_takes refl o.below is.below))
 
 -- ---- groups
 
 group_piece : (g : Group) → IsGroup g → IsPiece below_group (group_records g)
-group_piece (groups.Patient p) is = record {
-  head = p.head;
-  tail = p.notes ++ flat_map order_records p.orders;
-  whole = refl;
-  fails = kind_as below_group p.head kinds.P false is.head refl;
-  passes = pass_append below_group p.notes (flat_map order_records p.orders) (notes_group p.notes is.notes)
-      (orders_pass p.orders is.orders);
-}
-group_piece (groups.Query q) is = record {
-  head = q.head;
-  tail = q.notes;
-  whole = refl;
-  fails =
-      kind_as below_group q.head kinds.Q false is.head refl;
-  passes = notes_group q.notes is.notes;
-}
+group_piece (groups.Patient p) is =
+    branch_piece order_records IsOrder kinds.P below_group group_takes refl orders_pass p is
+group_piece (groups.Query q) is = noted_piece below_group group_takes kinds.Q refl q is
 
 patient_one : (a b : PatientTree) → IsPatient a → IsPatient b → patient_records a ≡ patient_records b → a ≡ b
-patient_one a b ia ib e =
-    let heads : a.head ≡ b.head = cc in
-    let behind : a.notes ++ flat_map order_records a.orders ≡ b.notes ++ flat_map order_records b.orders = cc in
-    let both = span_one in_noted a.notes b.notes (flat_map order_records a.orders) (flat_map order_records b.orders)
-    (notes_noted a.notes ia.notes) (notes_noted b.notes ib.notes) (order_stops a.orders ia.orders)
-    (order_stops b.orders ib.orders) behind in
-    let orders = orders_one a.orders b.orders ia.orders ib.orders both.1 in
-    let make : RecordContent → List RecordContent → List OrderTree → PatientTree =
-    λ h n r. record { head = h; notes = n; orders = r } in
-    ap (λ h. make h a.notes a.orders) heads ∙ ap (λ n. make b.head n a.orders) both.0 ∙ ap (make b.head b.notes) orders
+patient_one = branch_one order_records IsOrder kinds.P orders_stop orders_one
 
 different_kinds : (a b : RecordContent) → a ≡ b → a.kind ≡ kinds.P → b.kind ≡ kinds.Q → ⊥
 different_kinds a b e p q = let k : kinds.P ≡ kinds.Q = sym p ∙ ap (λ (r : RecordContent). r.kind) e ∙ q in cc
@@ -238,18 +235,18 @@ different_kinds a b e p q = let k : kinds.P ≡ kinds.Q = sym p ∙ ap (λ (r : 
 group_one : (a b : Group) → IsGroup a → IsGroup b → group_records a ≡ group_records b → a ≡ b
 group_one (groups.Patient p) (groups.Patient q) ia ib e = ap groups.Patient (patient_one p q ia ib e)
 group_one (groups.Query p) (groups.Query q) ia ib e = ap groups.Query (noted_one kinds.Q p q ia ib e)
-group_one (groups.Patient p) (groups.Query q) ia ib e = let h : p.head ≡ q.head = cc in
-    absurd (different_kinds p.head q.head h ia.head ib.head)
-group_one (groups.Query p) (groups.Patient q) ia ib e = let h : q.head ≡ p.head = cc in
-    absurd (different_kinds q.head p.head h ib.head ia.head)
+group_one (groups.Patient p) (groups.Query q) ia ib e = let h : p.top.head ≡ q.head = cc in
+    absurd (different_kinds p.top.head q.head h ia.top.head ib.head)
+group_one (groups.Query p) (groups.Patient q) ia ib e = let h : q.top.head ≡ p.head = cc in
+    absurd (different_kinds q.top.head p.head h ib.top.head ia.head)
 
 groups_one : (xs ys : List Group) → AllByRecursion IsGroup xs → AllByRecursion IsGroup ys
     → flat_map group_records xs ≡ flat_map group_records ys → xs ≡ ys
 groups_one = pieces_one below_group group_records IsGroup group_piece group_one
 
-groups_stop : (xs : List Group) → AllByRecursion IsGroup xs → Stops in_noted (flat_map group_records xs)
+groups_stop : (xs : List Group) → AllByRecursion IsGroup xs → HeadFails in_noted (flat_map group_records xs)
 groups_stop [] a = tt
-groups_stop (groups.Patient p ∷ xs) a = kind_as in_noted p.head kinds.P false a.0.head refl
+groups_stop (groups.Patient p ∷ xs) a = kind_as in_noted p.top.head kinds.P false a.0.top.head refl
 groups_stop (groups.Query q ∷ xs) a = kind_as in_noted q.head kinds.Q false a.0.head refl
 
 -- ---- messages
@@ -267,24 +264,21 @@ snoc_one (a ∷ xs) (b ∷ ys) x y e =
     let both = snoc_one xs ys x y tails in
     (let one : xs ≡ ys = both.0 in cc, both.1)
 
+-- a message without its closing record
+abbrev pub front_tree : MessageTree → Branch Group
+front_tree m = record { top = record { head = m.header; notes = m.notes }; below = m.groups }
+
+pub front_is : (m : MessageTree) → IsTree m → IsBranch kinds.H IsGroup (front_tree m)
+front_is m is = record { top = record { head = is.header; notes = is.notes }; below = is.groups }
+
 -- the records of a message and its delimiters determine it
 pub flatten_one : (a b : MessageTree) → IsTree a → IsTree b → a.delimiters ≡ b.delimiters → flatten a ≡ flatten b
     → a ≡ b
 flatten_one a b ia ib marks e =
-    let ends = snoc_one ((a.header ∷ a.notes) ++ flat_map group_records a.groups)
-    ((b.header ∷ b.notes) ++ flat_map group_records b.groups) a.closing b.closing e in
-    let front : a.header ∷ (a.notes ++ flat_map group_records a.groups) ≡ b.header
-    ∷ (b.notes ++ flat_map group_records b.groups) = ends.0 in
-    let heads : a.header ≡ b.header = cc in
-    let behind : a.notes ++ flat_map group_records a.groups ≡ b.notes ++ flat_map group_records b.groups = cc in
-    let both = span_one in_noted a.notes b.notes (flat_map group_records a.groups) (flat_map group_records b.groups)
-    (notes_noted a.notes ia.notes) (notes_noted b.notes ib.notes) (groups_stop a.groups ia.groups)
-    (groups_stop b.groups ib.groups) behind in
-    let groups = groups_one a.groups b.groups ia.groups ib.groups both.1 in
-    let make : DelimiterBytes → RecordContent → List RecordContent → List Group → RecordContent → MessageTree =
-    λ d h n g c. record { delimiters = d; header = h; notes = n; groups = g; closing = c } in
-    ap (λ d. make d a.header a.notes a.groups a.closing) marks
-    ∙ ap (λ h. make b.delimiters h a.notes a.groups a.closing) heads
-    ∙ ap (λ n. make b.delimiters b.header n a.groups a.closing) both.0
-    ∙ ap (λ g. make b.delimiters b.header b.notes g a.closing) groups
-    ∙ ap (make b.delimiters b.header b.notes b.groups) ends.1
+    let ends = snoc_one (branch_records group_records (front_tree a)) (branch_records group_records (front_tree b))
+    a.closing b.closing e in
+    let fronts = branch_one group_records IsGroup kinds.H groups_stop groups_one (front_tree a) (front_tree b)
+    (front_is a ia) (front_is b ib) ends.0 in
+    ap (λ d. message_tree d (front_tree a) a.closing) marks
+    ∙ ap (λ f. message_tree b.delimiters f a.closing) fronts
+    ∙ ap (message_tree b.delimiters (front_tree b)) ends.1

@@ -5,8 +5,9 @@ use Rattle.lis_field.specs.declared.kinds.Kind.{Kind}
 use Rattle.lis_field.specs.declared.kinds.Kind.TheVariants as kinds
 use Rattle.lis_field.specs.Shape.{RecordContent}
 use Rattle.lis_tree.specs.declared.fault.Reason.TheVariants as reasons
-use Rattle.lis_tree.specs.Nodes.{Noted, OrderTree, PatientTree}
-use Rattle.lis_tree.specs.inside.Front.{FrontTree}
+use Rattle.lis_tree.specs.Nodes.{Branch, Noted, OrderTree, PatientTree}
+use Rattle.lis_tree.specs.inside.Front.{IsFront, front_records}
+use Rattle.lis_tree.proofs.Flatten.{front_is, front_tree}
 use Rattle.lis_tree.specs.declared.tree.Group.{Group}
 use Rattle.lis_tree.specs.declared.tree.Group.TheVariants as groups
 use Rattle.lis_tree.specs.declared.spine.Spine.{Spine}
@@ -15,7 +16,7 @@ use Rattle.lis_tree.specs.Level.{Level, outside, in_header, in_patient, in_order
 use Rattle.lis_tree.specs.Level.{level_after, misplaced, StandsFrom, kinds_of}
 use Rattle.lis_tree.specs.Tree.{MessageTree, noted_records, order_records, patient_records, group_records, IsNote}
 use Rattle.lis_tree.specs.Tree.{AreNotes, IsNoted, IsOrder, IsPatient, IsGroup, IsTree}
-use Rattle.lis_tree.specs.inside.Spine.{front_records, last_records, open_records, spine_records, spine_level, IsFront}
+use Rattle.lis_tree.specs.inside.Spine.{last_records, open_records, spine_records, spine_level}
 use Rattle.lis_tree.specs.inside.Spine.{IsLast, IsSpine}
 
 -- a run of kinds that all stand, and where it leads
@@ -115,9 +116,8 @@ results_lead (r ∷ rs) a =
 pub order_leads : (l : Level) (o : OrderTree) → IsOrder o → misplaced l kinds.O ≡ None
     → LeadsBy l (order_records o) in_order
 order_leads l o is placed =
-    leads_then l in_order in_order (o.head ∷ o.notes) (flat_map noted_records o.results)
-    (head_leads l o.head o.notes kinds.O in_order is.head placed refl order is.notes)
-    (results_lead o.results is.results)
+    leads_then l in_order in_order (noted_records o.top) (flat_map noted_records o.below)
+    (noted_leads l o.top kinds.O in_order is.top placed refl order) (results_lead o.below is.below)
 
 -- right under a patient, or after one of its orders
 pub data IsUnderPatient : Level → Type 0 where
@@ -143,11 +143,11 @@ orders_lead l (o ∷ os) u a =
 pub patient_leads : (l : Level) (p : PatientTree) → IsPatient p → misplaced l kinds.P ≡ None → (to : Level)
     × IsUnderPatient to × LeadsBy l (patient_records p) to
 patient_leads l p is placed =
-    let rest = orders_lead in_patient p.orders first is.orders in (
+    let rest = orders_lead in_patient p.below first is.below in (
       rest.0,
       rest.1,
-      leads_then l in_patient rest.0 (p.head ∷ p.notes) (flat_map order_records p.orders)
-          (head_leads l p.head p.notes kinds.P in_patient is.head placed refl patient is.notes) rest.2,
+      leads_then l in_patient rest.0 (noted_records p.top) (flat_map order_records p.below)
+          (noted_leads l p.top kinds.P in_patient is.top placed refl patient) rest.2,
     )
 
 inside_under : (l : Level) → IsUnderPatient l → IsInside l
@@ -177,13 +177,13 @@ groups_lead l (g ∷ gs) i a =
     let rest = groups_lead here.0 gs here.1 a.1 in
     (rest.0, rest.1, leads_then l here.0 rest.0 (group_records g) (flat_map group_records gs) here.2 rest.2)
 
-pub front_leads : (f : FrontTree) → IsFront f → (to : Level) × IsInside to × LeadsBy outside (front_records f) to
+pub front_leads : (f : Branch Group) → IsFront f → (to : Level) × IsInside to × LeadsBy outside (front_records f) to
 front_leads f is =
-    let rest = groups_lead in_header f.groups header is.groups in (
+    let rest = groups_lead in_header f.below header is.below in (
       rest.0,
       rest.1,
-      leads_then outside in_header rest.0 (f.header ∷ f.notes) (flat_map group_records f.groups)
-          (head_leads outside f.header f.notes kinds.H in_header is.header refl refl header is.notes) rest.2,
+      leads_then outside in_header rest.0 (noted_records f.top) (flat_map group_records f.below)
+          (noted_leads outside f.top kinds.H in_header is.top refl refl header) rest.2,
     )
 
 last_leads : (o : OrderTree) (last : Option Noted) → IsLast o last → LeadsBy in_order (last_records last) in_order
@@ -199,15 +199,14 @@ spine_leads (spines.Query f item) is =
     (noted_leads front.0 item kinds.Q in_query is.1 (inside_takes front.0 front.1).1 refl query)
 spine_leads (spines.Patient f p None) is =
     let front = front_leads f is.0 in
-    let bare : patient_records p ≡ p.head ∷ p.notes =
-    ap (λ (os : List OrderTree). (p.head ∷ p.notes) ++ flat_map order_records os) is.2
-    ∙ append-nil (p.head ∷ p.notes) in
+    let bare : patient_records p ≡ noted_records p.top =
+    ap (λ (os : List OrderTree). noted_records p.top ++ flat_map order_records os) is.2
+    ∙ append-nil (noted_records p.top) in
     subst (λ (rs : List RecordContent). LeadsBy outside rs in_patient)
     (sym (append-nil (front_records f ++ patient_records p)
     ∙ ap (λ (rs : List RecordContent). front_records f ++ rs) bare))
-    (leads_then outside front.0 in_patient (front_records f) (p.head ∷ p.notes) front.2
-    (head_leads front.0 p.head p.notes kinds.P in_patient is.1.head (inside_takes front.0 front.1).0 refl patient
-    is.1.notes))
+    (leads_then outside front.0 in_patient (front_records f) (noted_records p.top) front.2
+    (noted_leads front.0 p.top kinds.P in_patient is.1.top (inside_takes front.0 front.1).0 refl patient))
 spine_leads (spines.Patient f p (Some o)) is =
     let front = front_leads f is.0 in
     let above = patient_leads front.0 p is.1 (inside_takes front.0 front.1).0 in
@@ -219,14 +218,8 @@ spine_leads (spines.Patient f p (Some o)) is =
 
 -- the records of a whole message stand, and lead to its end
 pub tree_leads : (m : MessageTree) → IsTree m → (to : Level) × IsInside to
-    × LeadsBy outside ((m.header ∷ m.notes) ++ flat_map group_records m.groups) to
-tree_leads m is =
-    let rest = groups_lead in_header m.groups header is.groups in (
-      rest.0,
-      rest.1,
-      leads_then outside in_header rest.0 (m.header ∷ m.notes) (flat_map group_records m.groups)
-          (head_leads outside m.header m.notes kinds.H in_header is.header refl refl header is.notes) rest.2,
-    )
+    × LeadsBy outside (front_records (front_tree m)) to
+tree_leads m is = front_leads (front_tree m) (front_is m is)
 
 -- ---- one record more
 

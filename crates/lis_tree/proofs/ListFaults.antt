@@ -83,8 +83,8 @@ misplaced_fault d records begun r rest later fault s is why place = inl (record 
   place = place ∙ ap (λ n. capped (n + 1)) (sym (kinds_length begun.records));
 })
 
-closes : (l : Level) (k : Kind) → k ≡ kinds.L → next_level l k ≡ closed
-closes l k e = ap (next_level l) e
+closing_level : (l : Level) (k : Kind) → k ≡ kinds.L → next_level l k ≡ closed
+closing_level l k e = ap (next_level l) e
 
 -- a record behind the closing one
 pub extra_fault : (d : DelimiterBytes) (records : List RecordContent) (begun : Begun) (closing extra : RecordContent)
@@ -96,7 +96,7 @@ pub extra_fault : (d : DelimiterBytes) (records : List RecordContent) (begun : B
 extra_fault d records begun closing extra rest later fault s is kind placed why place =
     let all = begun.records ++ closing ∷ [] in
     let level : level_after outside (kinds_of all) ≡ closed =
-    level_more begun.records closing ∙ closes (level_of (Some begun)) closing.kind kind in
+    level_more begun.records closing ∙ closing_level (level_of (Some begun)) closing.kind kind in
     inl (record {
       before = kinds_of all;
       kind = extra.kind;
@@ -133,7 +133,7 @@ tree_kinds m is =
     ∙ (inside_takes leads.0 leads.1).2 in (
       stands_more front m.closing leads.2.stands placed,
       level_more front m.closing
-          ∙ closes (level_after outside (kinds_of front)) m.closing.kind is.closing,
+          ∙ closing_level (level_after outside (kinds_of front)) m.closing.kind is.closing,
     )
 
 faultless : (m : MessageTree) → IsTree m → (fault : MessageFault) → IsListFault (kinds_of (flatten m)) fault → ⊥
@@ -154,9 +154,9 @@ only_memory records fault why m is e =
     (faultless m is fault (subst (λ rs. IsListFault (kinds_of rs) fault) (sym e) w))) why
 
 -- a first record that is no header
-pub first_fault : (records : List RecordContent) (r : RecordContent) (rest : List RecordContent) → records ≡ r ∷ rest
+pub header_fault : (records : List RecordContent) (r : RecordContent) (rest : List RecordContent) → records ≡ r ∷ rest
     → r.kind ≢ kinds.H → IsListFault (kinds_of records) (record { place = 1; reason = reasons.NotHeader })
-first_fault records r rest e other =
+header_fault records r rest e other =
     inl (record {
       before = [];
       kind = r.kind;

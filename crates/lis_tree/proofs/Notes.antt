@@ -5,13 +5,16 @@ use Rattle.std.proofs.lemmas.List.{append-nil}
 use Rattle.lis_field.specs.declared.kinds.Kind.{Kind}
 use Rattle.lis_field.specs.declared.kinds.Kind.TheVariants as kinds
 use Rattle.lis_field.specs.Shape.{RecordContent}
-use Rattle.lis_tree.specs.Nodes.{Noted, OrderTree, PatientTree}
+use Rattle.lis_tree.specs.Nodes.{Branch, Noted, OrderTree, PatientTree}
 use Rattle.lis_tree.specs.declared.tree.Group.{Group}
 use Rattle.lis_tree.specs.declared.tree.Group.TheVariants as groups
-use Rattle.lis_tree.specs.Notes.{Placed, placed_notes, placed_noted, placed_order, placed_patient, placed_group}
+use Rattle.lis_tree.specs.Notes.{Placed, placed_branch, placed_notes, placed_noted, placed_order, placed_patient}
+use Rattle.lis_tree.specs.Notes.{placed_group}
 use Rattle.lis_tree.specs.Notes.{placed, IsLastHead, IsNotedOn}
+use Rattle.lis_tree.proofs.Flatten.{front_is, front_tree}
 use Rattle.lis_tree.specs.Tree.{MessageTree, noted_records, order_records, patient_records, group_records, flatten}
-use Rattle.lis_tree.specs.Tree.{IsNote, AreNotes, IsNoted, IsOrder, IsPatient, IsGroup, IsTree}
+use Rattle.lis_tree.specs.Tree.{IsBranch, IsNote, AreNotes, IsNoted, IsOrder, IsPatient, IsGroup, IsTree}
+use Rattle.lis_tree.specs.Tree.{branch_records}
 
 -- what stands behind some records is noted as it should be
 abbrev AreNotedOn : List RecordContent → List Placed → Type 0
@@ -76,18 +79,18 @@ noted_noted : (k : Kind) → (IsNote k → ⊥) → (n : Noted) → IsNoted k n 
     → AreNotedOn before (placed_noted n)
 noted_noted k never n is = head_noted n.head n.notes (no_note n.head k never is.head) is.notes
 
+branch_noted : {X : Type 0} (f : X → List Placed) (Is : X → Type 0)
+    (one : (x : X) → Is x → (before : List RecordContent) → AreNotedOn before (f x)) (k : Kind) → (IsNote k → ⊥)
+    → (b : Branch X) → IsBranch k Is b → (before : List RecordContent) → AreNotedOn before (placed_branch f b)
+branch_noted f Is one k never b is before =
+    both_noted before (placed_noted b.top) (flat_map f b.below) (noted_noted k never b.top is.top before)
+    (all_noted f Is one b.below is.below (before ++ contents (placed_noted b.top)))
+
 order_noted : (o : OrderTree) → IsOrder o → (before : List RecordContent) → AreNotedOn before (placed_order o)
-order_noted o is before =
-    both_noted before (placed_notes o.head o.notes) (flat_map placed_noted o.results)
-    (head_noted o.head o.notes (no_note o.head kinds.O (λ n. n) is.head) is.notes before)
-    (all_noted placed_noted (IsNoted kinds.R) (noted_noted kinds.R (λ n. n)) o.results is.results
-    (before ++ contents (placed_notes o.head o.notes)))
+order_noted = branch_noted placed_noted (IsNoted kinds.R) (noted_noted kinds.R (λ n. n)) kinds.O (λ n. n)
 
 patient_noted : (p : PatientTree) → IsPatient p → (before : List RecordContent) → AreNotedOn before (placed_patient p)
-patient_noted p is before =
-    both_noted before (placed_notes p.head p.notes) (flat_map placed_order p.orders)
-    (head_noted p.head p.notes (no_note p.head kinds.P (λ n. n) is.head) is.notes before)
-    (all_noted placed_order IsOrder order_noted p.orders is.orders (before ++ contents (placed_notes p.head p.notes)))
+patient_noted = branch_noted placed_order IsOrder order_noted kinds.P (λ n. n)
 
 group_noted : (g : Group) → IsGroup g → (before : List RecordContent) → AreNotedOn before (placed_group g)
 group_noted (groups.Patient p) is = patient_noted p is
@@ -95,13 +98,10 @@ group_noted (groups.Query q) is = noted_noted kinds.Q (λ n. n) q is
 
 tree_noted : (m : MessageTree) → IsTree m → AreNotedOn [] (placed m)
 tree_noted m is =
-    let header = placed_notes m.header m.notes in
-    let groups = flat_map placed_group m.groups in
-    both_noted [] (header ++ groups) (placed_notes m.closing [])
-    (both_noted [] header groups
-    (head_noted m.header m.notes (no_note m.header kinds.H (λ n. n) is.header) is.notes [])
-    (all_noted placed_group IsGroup group_noted m.groups is.groups (contents header)))
-    (head_noted m.closing [] (no_note m.closing kinds.L (λ n. n) is.closing) tt (contents (header ++ groups)))
+    let front = placed_branch placed_group (front_tree m) in
+    both_noted [] front (placed_notes m.closing [])
+    (branch_noted placed_group IsGroup group_noted kinds.H (λ n. n) (front_tree m) (front_is m is) [])
+    (head_noted m.closing [] (no_note m.closing kinds.L (λ n. n) is.closing) tt (contents front))
 
 at_place : (start : List RecordContent) (ps before behind : List Placed) (p : Placed) → AreNotedOn start ps
     → ps ≡ before ++ p ∷ behind → IsNotedOn (start ++ contents before) p.content p.note_on
@@ -140,17 +140,18 @@ contents_notes head (n ∷ ns) = ap (λ (l : List RecordContent). head ∷ n ∷
 contents_noted : (n : Noted) → contents (placed_noted n) ≡ noted_records n
 contents_noted n = contents_notes n.head n.notes
 
+contents_branch : {X : Type 0} (f : X → List Placed) (g : X → List RecordContent)
+    (one : (x : X) → contents (f x) ≡ g x) (b : Branch X) → contents (placed_branch f b) ≡ branch_records g b
+contents_branch f g one b =
+    contents_append (placed_noted b.top) (flat_map f b.below)
+    ∙ ap (λ l. l ++ contents (flat_map f b.below)) (contents_noted b.top)
+    ∙ ap (λ l. noted_records b.top ++ l) (contents_flat f g one b.below)
+
 contents_order : (o : OrderTree) → contents (placed_order o) ≡ order_records o
-contents_order o =
-    contents_append (placed_notes o.head o.notes) (flat_map placed_noted o.results)
-    ∙ ap (λ l. l ++ contents (flat_map placed_noted o.results)) (contents_notes o.head o.notes)
-    ∙ ap (λ l. (o.head ∷ o.notes) ++ l) (contents_flat placed_noted noted_records contents_noted o.results)
+contents_order = contents_branch placed_noted noted_records contents_noted
 
 contents_patient : (p : PatientTree) → contents (placed_patient p) ≡ patient_records p
-contents_patient p =
-    contents_append (placed_notes p.head p.notes) (flat_map placed_order p.orders)
-    ∙ ap (λ l. l ++ contents (flat_map placed_order p.orders)) (contents_notes p.head p.notes)
-    ∙ ap (λ l. (p.head ∷ p.notes) ++ l) (contents_flat placed_order order_records contents_order p.orders)
+contents_patient = contents_branch placed_order order_records contents_order
 
 contents_group : (g : Group) → contents (placed_group g) ≡ group_records g
 contents_group (groups.Patient p) = contents_patient p
@@ -158,10 +159,5 @@ contents_group (groups.Query q) = contents_noted q
 
 pub placed_flatten : (m : MessageTree) → contents (placed m) ≡ flatten m
 placed_flatten m =
-    let header = placed_notes m.header m.notes in
-    let groups = flat_map placed_group m.groups in
-    contents_append (header ++ groups) (placed_notes m.closing [])
-    ∙ ap (λ l. l ++ m.closing ∷ [])
-    (contents_append header groups
-    ∙ ap (λ l. l ++ contents groups) (contents_notes m.header m.notes)
-    ∙ ap (λ l. (m.header ∷ m.notes) ++ l) (contents_flat placed_group group_records contents_group m.groups))
+    contents_append (placed_branch placed_group (front_tree m)) (placed_notes m.closing [])
+    ∙ ap (λ l. l ++ m.closing ∷ []) (contents_branch placed_group group_records contents_group (front_tree m))

@@ -15,17 +15,17 @@ use Rattle.lis_tree.proofs.Viable.{from_viable, viable_from, parent_from, place_
 
 -- ---- a message is closed exactly behind its closing record
 
-closes : (l : Level) (k : Kind) → l ≢ closed → next_level l k ≡ closed → k ≡ kinds.L
-closes l kinds.L u e = refl
-closes l kinds.H u e = absurd cc
-closes l kinds.P u e = absurd cc
-closes l kinds.O u e = absurd cc
-closes l kinds.Q u e = absurd cc
-closes l k u e = absurd (u e)
+closing_kind : (l : Level) (k : Kind) → l ≢ closed → next_level l k ≡ closed → k ≡ kinds.L
+closing_kind l kinds.L u e = refl
+closing_kind l kinds.H u e = absurd cc
+closing_kind l kinds.P u e = absurd cc
+closing_kind l kinds.O u e = absurd cc
+closing_kind l kinds.Q u e = absurd cc
+closing_kind l k u e = absurd (u e)
 
 closed_last : (l : Level) (ks : List Kind) → StandsFrom l ks → l ≢ closed → level_after l ks ≡ closed → IsClosed ks
 closed_last l [] s u e = absurd (u e)
-closed_last l (k ∷ []) s u e = ([], ap (λ j. j ∷ []) (closes l k u e))
+closed_last l (k ∷ []) s u e = ([], ap (λ j. j ∷ []) (closing_kind l k u e))
 closed_last l (k ∷ j ∷ ks) s u e =
     let rest =
     closed_last (next_level l k) (j ∷ ks) s.1 (λ c. nothing_closed j (subst (λ m. misplaced m j ≡ None) c s.1.0)) e in

@@ -11,7 +11,7 @@ use Rattle.lis_tree.specs.declared.tree.Group.TheVariants as groups
 use Rattle.lis_tree.specs.Results.{told_of, patient_behind, order_behind, results_among, result_record, under_order}
 use Rattle.lis_tree.specs.Results.{order_results, group_results, results_of}
 use Rattle.lis_tree.specs.Tree.{MessageTree, IsTree, IsNote, AreNotes, IsNoted, IsOrder, IsGroup, flatten}
-use Rattle.lis_tree.specs.Tree.{noted_records, order_records, group_records}
+use Rattle.lis_tree.specs.Tree.{noted_records, order_records, patient_records, group_records}
 
 skip_note : (p o : Option RecordContent) (r : RecordContent) (k : Kind) → IsNote k → (told_of p o r k ≡ [])
     × (patient_behind p r k ≡ p) × (order_behind o r k ≡ o)
@@ -33,34 +33,40 @@ behind_notes p o (r ∷ notes) rest (h, hs) =
     let s = skip_note p o r r.kind h in
     rw (s.0, s.1, s.2) (behind_notes p o notes rest hs)
 
+-- a record of this kind with its notes
+behind_noted : (p o : Option RecordContent) (n : Noted) (rest : List RecordContent) (k : Kind) → IsNoted k n
+    → results_among p o (noted_records n ++ rest)
+    ≡ told_of p o n.head k ++ results_among (patient_behind p n.head k) (order_behind o n.head k) rest
+behind_noted p o n rest k is =
+    behind_one p o n.head (n.notes ++ rest) k is.head
+    ∙ ap (λ told. told_of p o n.head k ++ told)
+    (behind_notes (patient_behind p n.head k) (order_behind o n.head k) n.notes rest is.notes)
+
 of_entries : (p : PatientTree) (o : OrderTree) (es : List Noted) (rest : List RecordContent)
     → AllByRecursion (IsNoted kinds.R) es
-    → results_among (Some p.head) (Some o.head) (flat_map noted_records es ++ rest)
-    ≡ map result_record (under_order p o es) ++ results_among (Some p.head) (Some o.head) rest
+    → results_among (Some p.top.head) (Some o.top.head) (flat_map noted_records es ++ rest)
+    ≡ map result_record (under_order p o es) ++ results_among (Some p.top.head) (Some o.top.head) rest
 of_entries p o [] rest h = refl
 of_entries p o (e ∷ es) rest (h, hs) =
-    ap (results_among (Some p.head) (Some o.head)) (append_assoc (e.head ∷ e.notes) (flat_map noted_records es) rest)
-    ∙ behind_one (Some p.head) (Some o.head) e.head (e.notes ++ (flat_map noted_records es ++ rest)) kinds.R h.head
-    ∙ ap (λ told. result_record (record { patient = p; order = o; entry = e }) ∷ told)
-    (behind_notes (Some p.head) (Some o.head) e.notes (flat_map noted_records es ++ rest) h.notes
-    ∙ of_entries p o es rest hs)
+    ap (results_among (Some p.top.head) (Some o.top.head))
+    (append_assoc (noted_records e) (flat_map noted_records es) rest)
+    ∙ behind_noted (Some p.top.head) (Some o.top.head) e (flat_map noted_records es ++ rest) kinds.R h
+    ∙ ap (λ told. result_record (record { patient = p; order = o; entry = e }) ∷ told) (of_entries p o es rest hs)
 
 of_orders : (p : PatientTree) (before : Option RecordContent) (os : List OrderTree) (rest : List RecordContent)
     → AllByRecursion IsOrder os
-    → ((o : Option RecordContent) → results_among (Some p.head) o rest ≡ results_among None None rest)
-    → results_among (Some p.head) before (flat_map order_records os ++ rest)
+    → ((o : Option RecordContent) → results_among (Some p.top.head) o rest ≡ results_among None None rest)
+    → results_among (Some p.top.head) before (flat_map order_records os ++ rest)
     ≡ map result_record (flat_map (order_results p) os) ++ results_among None None rest
 of_orders p before [] rest h same = same before
 of_orders p before (o ∷ os) rest (h, hs) same =
     let others = flat_map order_records os in
-    let entries = flat_map noted_records o.results in
-    let place : (order_records o ++ others) ++ rest ≡ o.head ∷ (o.notes ++ (entries ++ (others ++ rest))) =
-    append_assoc (order_records o) others rest ∙ append_assoc (o.head ∷ o.notes) entries (others ++ rest) in
-    ap (results_among (Some p.head) before) place
-    ∙ behind_one (Some p.head) before o.head (o.notes ++ (entries ++ (others ++ rest))) kinds.O h.head
-    ∙ behind_notes (Some p.head) (Some o.head) o.notes (entries ++ (others ++ rest)) h.notes
-    ∙ of_entries p o o.results (others ++ rest) h.results
-    ∙ ap (λ told. map result_record (order_results p o) ++ told) (of_orders p (Some o.head) os rest hs same)
+    let entries = flat_map noted_records o.below in
+    ap (results_among (Some p.top.head) before) (append_assoc (order_records o) others rest
+    ∙ append_assoc (noted_records o.top) entries (others ++ rest))
+    ∙ behind_noted (Some p.top.head) before o.top (entries ++ (others ++ rest)) kinds.O h.top
+    ∙ of_entries p o o.below (others ++ rest) h.below
+    ∙ ap (λ told. map result_record (order_results p o) ++ told) (of_orders p (Some o.top.head) os rest hs same)
     ∙ sym (append_assoc (map result_record (order_results p o)) (map result_record (flat_map (order_results p) os))
     (results_among None None rest))
     ∙ ap (λ told. told ++ results_among None None rest)
@@ -73,24 +79,20 @@ of_groups : (p o : Option RecordContent) (gs : List Group) (closing : RecordCont
 of_groups p o [] closing end h = behind_one p o closing [] kinds.L end
 of_groups p o (groups.Patient q ∷ gs) closing end (h, hs) =
     let others = flat_map group_records gs in
-    let orders = flat_map order_records q.orders in
+    let orders = flat_map order_records q.below in
     let rest = others ++ closing ∷ [] in
-    let place : (group_records (groups.Patient q) ++ others) ++ closing ∷ [] ≡ q.head ∷ (q.notes ++ (orders ++ rest)) =
-    append_assoc (group_records (groups.Patient q)) others (closing ∷ [])
-    ∙ append_assoc (q.head ∷ q.notes) orders rest in
-    ap (results_among p o) place
-    ∙ behind_one p o q.head (q.notes ++ (orders ++ rest)) kinds.P h.head
-    ∙ behind_notes (Some q.head) None q.notes (orders ++ rest) h.notes
-    ∙ of_orders q None q.orders rest h.orders (λ b. of_groups (Some q.head) b gs closing end hs
+    ap (results_among p o) (append_assoc (patient_records q) others (closing ∷ [])
+    ∙ append_assoc (noted_records q.top) orders rest)
+    ∙ behind_noted p o q.top (orders ++ rest) kinds.P h.top
+    ∙ of_orders q None q.below rest h.below (λ b. of_groups (Some q.top.head) b gs closing end hs
     ∙ sym (of_groups None None gs closing end hs))
-    ∙ ap (λ told. map result_record (flat_map (order_results q) q.orders) ++ told)
+    ∙ ap (λ told. map result_record (flat_map (order_results q) q.below) ++ told)
     (of_groups None None gs closing end hs)
-    ∙ sym (map-append result_record (flat_map (order_results q) q.orders) (flat_map group_results gs))
+    ∙ sym (map-append result_record (flat_map (order_results q) q.below) (flat_map group_results gs))
 of_groups p o (groups.Query q ∷ gs) closing end (h, hs) =
     let others = flat_map group_records gs in
-    ap (results_among p o) (append_assoc (q.head ∷ q.notes) others (closing ∷ []))
-    ∙ behind_one p o q.head (q.notes ++ (others ++ closing ∷ [])) kinds.Q h.head
-    ∙ behind_notes None None q.notes (others ++ closing ∷ []) h.notes
+    ap (results_among p o) (append_assoc (noted_records q) others (closing ∷ []))
+    ∙ behind_noted p o q (others ++ closing ∷ []) kinds.Q h
     ∙ of_groups None None gs closing end hs
 
 pub results_are_told : (m : MessageTree) → IsTree m

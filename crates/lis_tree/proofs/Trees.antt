@@ -90,12 +90,12 @@ order_parsed : (level : Level) (r : RecordContent) (rs : List RecordContent) →
 order_parsed level r rs kind has p = record {
   notes = [];
   results = [];
-  orders = record { head = r; notes = p.notes; results = p.results } ∷ p.orders;
+  orders = record { top = record { head = r; notes = p.notes }; below = p.results } ∷ p.orders;
   groups = p.groups;
   whole = ap (λ (l : List RecordContent). r ∷ l) p.whole;
   are_notes = tt;
   are_results = tt;
-  are_orders = (record { head = kind; notes = p.are_notes; results = p.are_results }, p.are_orders);
+  are_orders = (record { top = record { head = kind; notes = p.are_notes }; below = p.are_results }, p.are_orders);
   are_groups = p.are_groups;
   lacks_results = no_results level;
   lacks_orders = has _;
@@ -107,7 +107,7 @@ patient_parsed level r rs kind p = record {
   notes = [];
   results = [];
   orders = [];
-  groups = groups.Patient (record { head = r; notes = p.notes; orders = p.orders }) ∷ p.groups;
+  groups = groups.Patient (record { top = record { head = r; notes = p.notes }; below = p.orders }) ∷ p.groups;
   whole =
       ap (λ (l : List RecordContent). r ∷ l) (p.whole
       ∙ ap (λ (results : List Noted). p.notes ++ flat_map noted_records results ++ flat_map order_records p.orders
@@ -117,7 +117,7 @@ patient_parsed level r rs kind p = record {
   are_notes = tt;
   are_results = tt;
   are_orders = tt;
-  are_groups = (record { head = kind; notes = p.are_notes; orders = p.are_orders }, p.are_groups);
+  are_groups = (record { top = record { head = kind; notes = p.are_notes }; below = p.are_orders }, p.are_groups);
   lacks_results = no_results level;
   lacks_orders = no_orders level;
 }

@@ -7,14 +7,15 @@ pub record Noted : Type 0 where
   pub head : RecordContent
   pub notes : List RecordContent
 
+-- a record with its notes, and what stands below it
+pub record Branch (A : Type 0) : Type 0 where
+  pub top : Noted
+  pub below : List A
+
 -- an order with its results
-pub record OrderTree : Type 0 where
-  pub head : RecordContent
-  pub notes : List RecordContent
-  pub results : List Noted
+abbrev pub OrderTree : Type 0
+OrderTree = Branch Noted
 
 -- a patient with the orders
-pub record PatientTree : Type 0 where
-  pub head : RecordContent
-  pub notes : List RecordContent
-  pub orders : List OrderTree
+abbrev pub PatientTree : Type 0
+PatientTree = Branch OrderTree

@@ -2,7 +2,7 @@
 use Rattle.std.specs.Prelude.{◌≡◌, List, [], ◌∷◌, ◌++◌, Option, Some, None, map}
 use Rattle.std.specs.List.{flat_map}
 use Rattle.lis_field.specs.Shape.{RecordContent}
-use Rattle.lis_tree.specs.Nodes.{Noted, OrderTree, PatientTree}
+use Rattle.lis_tree.specs.Nodes.{Branch, Noted, OrderTree, PatientTree}
 use Rattle.lis_tree.specs.declared.tree.Group.{Group}
 use Rattle.lis_tree.specs.declared.tree.Group.TheVariants as groups
 use Rattle.lis_tree.specs.Tree.{MessageTree, IsNote, AreNotes}
@@ -20,11 +20,14 @@ placed_notes head notes = record { content = head; note_on = None }
 abbrev pub placed_noted : Noted → List Placed
 placed_noted n = placed_notes n.head n.notes
 
+abbrev pub placed_branch : {A : Type 0} → (A → List Placed) → Branch A → List Placed
+placed_branch placed_below b = placed_noted b.top ++ flat_map placed_below b.below
+
 abbrev pub placed_order : OrderTree → List Placed
-placed_order o = placed_notes o.head o.notes ++ flat_map placed_noted o.results
+placed_order = placed_branch placed_noted
 
 abbrev pub placed_patient : PatientTree → List Placed
-placed_patient p = placed_notes p.head p.notes ++ flat_map placed_order p.orders
+placed_patient = placed_branch placed_order
 
 abbrev pub placed_group : Group → List Placed
 placed_group (groups.Patient p) = placed_patient p

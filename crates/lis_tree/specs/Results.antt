@@ -19,10 +19,10 @@ abbrev pub under_order : PatientTree → OrderTree → List Noted → List Resul
 under_order p o entries = map (λ entry. record { patient = p; order = o; entry = entry }) entries
 
 abbrev pub order_results : PatientTree → OrderTree → List ResultNode
-order_results p o = under_order p o o.results
+order_results p o = under_order p o o.below
 
 abbrev pub group_results : Group → List ResultNode
-group_results (groups.Patient p) = flat_map (order_results p) p.orders
+group_results (groups.Patient p) = flat_map (order_results p) p.below
 group_results (groups.Query q) = []
 
 abbrev pub results_of : MessageTree → List ResultNode
@@ -85,4 +85,4 @@ results_among patient order (r ∷ records) =
 
 -- the records of a result in the tree
 abbrev pub result_record : ResultNode → ResultRecord
-result_record n = record { patient = Some n.patient.head; order = Some n.order.head; entry = n.entry.head }
+result_record n = record { patient = Some n.patient.top.head; order = Some n.order.top.head; entry = n.entry.head }

@@ -5,7 +5,7 @@ use Rattle.lis_field.specs.declared.kinds.Kind.{Kind}
 use Rattle.lis_field.specs.declared.kinds.Kind.TheVariants as kinds
 use Rattle.lis_field.specs.Shape.{RecordContent, IsRecordShape}
 use Rattle.lis_field.specs.Delimiters.{DelimiterBytes, IsDelimiters}
-use Rattle.lis_tree.specs.Nodes.{Noted, OrderTree, PatientTree}
+use Rattle.lis_tree.specs.Nodes.{Branch, Noted, OrderTree, PatientTree}
 use Rattle.lis_tree.specs.declared.tree.Group.{Group}
 use Rattle.lis_tree.specs.declared.tree.Group.TheVariants as groups
 
@@ -21,11 +21,15 @@ pub record MessageTree : Type 0 where
 abbrev pub noted_records : Noted → List RecordContent
 noted_records n = n.head ∷ n.notes
 
+-- a record with its notes, and the records of all that stands below it
+abbrev pub branch_records : {A : Type 0} → (A → List RecordContent) → Branch A → List RecordContent
+branch_records records_of b = noted_records b.top ++ flat_map records_of b.below
+
 abbrev pub order_records : OrderTree → List RecordContent
-order_records o = (o.head ∷ o.notes) ++ flat_map noted_records o.results
+order_records = branch_records noted_records
 
 abbrev pub patient_records : PatientTree → List RecordContent
-patient_records p = (p.head ∷ p.notes) ++ flat_map order_records p.orders
+patient_records = branch_records order_records
 
 abbrev pub group_records : Group → List RecordContent
 group_records (groups.Patient p) = patient_records p
@@ -50,15 +54,15 @@ pub record IsNoted (kind : Kind) (n : Noted) : Type 0 where
   pub head : n.head.kind ≡ kind
   pub notes : AreNotes n.notes
 
-pub record IsOrder (o : OrderTree) : Type 0 where
-  pub head : o.head.kind ≡ kinds.O
-  pub notes : AreNotes o.notes
-  pub results : AllByRecursion (IsNoted kinds.R) o.results
+pub record IsBranch {A : Type 0} (kind : Kind) (Is : A → Type 0) (b : Branch A) : Type 0 where
+  pub top : IsNoted kind b.top
+  pub below : AllByRecursion Is b.below
 
-pub record IsPatient (p : PatientTree) : Type 0 where
-  pub head : p.head.kind ≡ kinds.P
-  pub notes : AreNotes p.notes
-  pub orders : AllByRecursion IsOrder p.orders
+abbrev pub IsOrder : OrderTree → Type 0
+IsOrder = IsBranch kinds.O (IsNoted kinds.R)
+
+abbrev pub IsPatient : PatientTree → Type 0
+IsPatient = IsBranch kinds.P IsOrder
 
 abbrev pub IsGroup : Group → Type 0
 IsGroup (groups.Patient p) = IsPatient p

@@ -23,5 +23,5 @@ pub use numbering::{Finding, Findings, Numbering, findings};
 pub use open::OpenMessage;
 pub use results::{PlacedResult, Results};
 pub use standing::Standing;
-pub use tree::{Group, Noted, Order, Patient, Query, ResultEntry};
+pub use tree::{Branch, Group, Noted, Order, Patient, Query, ResultEntry};
 pub use walk::Walk;

@@ -9,13 +9,33 @@ use std::alloc::{AllocError, Global};
 /// A list of records.
 pub type Records = List<Record>;
 
+/// What can be had once more, with memory of its own.
+pub trait Copied: Drop {
+    /// The same once more.
+    fn copied(&self, alloc: Global) -> Result<Self, AllocError>
+        ensures { IfOk result (λ item. item ≡ self.now) };
+}
+
+impl Copied for Record {
+    fn copied(&self, alloc: Global) -> Result<Self, AllocError> {
+        self.copy(alloc)
+    }
+}
+
+/// The same items once more, each with memory of its own.
+pub(crate) fn copy_list<T: Copied>(alloc: Global, items: &List<T>) -> Result<List<T>, AllocError>
+    ensures { IfOk result (λ list. list ≡ items.now) }
+{
+    let mut list = List::new(alloc);
+    for item in items.as_slice() {
+        list.push(item.copied(alloc)?)?;
+    }
+    Ok(list)
+}
+
 /// The same records once more, each with memory of its own.
 pub fn copy_records(alloc: Global, records: &Records) -> Result<Records, AllocError>
     ensures { IfOk result (λ list. list ≡ records.now) }
 {
-    let mut list = Records::new(alloc);
-    for entry in records.as_slice() {
-        list.push(entry.copy(alloc)?)?;
-    }
-    Ok(list)
+    copy_list(alloc, records)
 }

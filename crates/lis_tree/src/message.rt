@@ -4,18 +4,18 @@ ghost use Rattle.lis_field.specs.declared.kinds.Kind.TheVariants as kinds;
 ghost use Rattle.lis_tree.specs.declared.fault.Reason.TheVariants as reasons;
 ghost use Rattle.lis_tree.specs.Level.{misplaced, closed, kinds_of};
 ghost use Rattle.lis_tree.specs.ListFaults.{IsListFault};
+ghost use Rattle.lis_tree.specs.inside.Front.{message_tree};
 ghost use Rattle.lis_text.specs.Capped.{capped};
 ghost use Rattle.lis_tree.specs.Results.{results_left, results_of};
 ghost use Rattle.lis_tree.specs.Tree.{MessageTree, IsTree, flatten};
 
 use crate::fault::{MessageFault, Reason};
-use crate::lists::{Records, copy_records};
+use crate::lists::Records;
 use crate::open::OpenMessage;
 use crate::results::Results;
-use crate::tree::Group;
+use crate::tree::{Branch, Group};
 use crate::walk::{Walk, count};
 use lis_record::{Delimiters, Kind, Record};
-use lis_text::List;
 use std::alloc::{AllocError, Global};
 use std::marker::Model;
 use std::mem::drop;
@@ -24,69 +24,36 @@ use std::mem::drop;
 #[derive(Debug, PartialEq, Eq, Drop)]
 pub struct Message {
     delimiters: Delimiters,
-    header: Record,
-    notes: Records,
-    groups: List<Group>,
+    front: Branch<Group>,
     closing: Record,
 }
 
 impl Model for Message {
     ghost use Rattle.lis_tree.specs.Tree.{MessageTree, IsTree};
+    ghost use Rattle.lis_tree.specs.inside.Front.{message_tree};
 
     ghost Value = { MessageTree };
 
-    ghost view = { λ m. record {
-      delimiters = m.delimiters;
-      header = m.header;
-      notes = m.notes;
-      groups = m.groups;
-      closing =
-          m.closing;
-    } };
+    ghost view = { λ m. message_tree m.delimiters m.front m.closing };
 
-    ghost invariant = { λ m. IsTree
-        (record {
-          delimiters = m.delimiters;
-          header = m.header;
-          notes = m.notes;
-          groups = m.groups;
-          closing =
-              m.closing;
-        }) };
+    ghost invariant = { λ m. IsTree (message_tree m.delimiters m.front m.closing) };
 
     ghost inverse = { λ m. record {
       delimiters = m.delimiters;
-      header = m.header;
-      notes = m.notes;
-      groups = m.groups;
-      closing =
-          m.closing;
+      front = record { top = record { head = m.header; notes = m.notes }; below = m.groups };
+      closing = m.closing;
     } };
 }
 
 impl Message {
-    pub(crate) fn new(
-        delimiters: Delimiters,
-        header: Record,
-        notes: Records,
-        groups: List<Group>,
-        closing: Record,
-    ) -> Self
-        requires { IsTree
-            (record { delimiters = delimiters; header = header; notes = notes; groups = groups; closing = closing }) }
-        ensures { result ≡ record {
-          delimiters = delimiters;
-          header = header;
-          notes = notes;
-          groups = groups;
-          closing = closing;
-        } }
+    /// The message whose header, notes and groups these are.
+    pub(crate) fn new(delimiters: Delimiters, front: Branch<Group>, closing: Record) -> Self
+        requires { IsTree (message_tree delimiters front closing) }
+        ensures { result ≡ message_tree delimiters front closing }
     {
         Message {
             delimiters,
-            header,
-            notes,
-            groups,
+            front,
             closing,
         }
     }
@@ -154,15 +121,9 @@ impl Message {
         ensures { IfOk result (λ message. message ≡ self.now) }
     {
         let delimiters = self.delimiters();
-        let mut groups = List::new(alloc);
-        for group in self.groups() {
-            groups.push(group.copy(alloc)?)?;
-        }
         Ok(Message::new(
             delimiters,
-            self.header.copy(alloc)?,
-            copy_records(alloc, &self.notes)?,
-            groups,
+            self.front.copy(alloc)?,
             self.closing.copy(alloc)?,
         ))
     }
@@ -186,21 +147,21 @@ impl Message {
     pub fn header(&self) -> &Record
         ensures { result.now ≡ self.now.header }
     {
-        &self.header
+        self.front.head()
     }
 
     /// The notes on the header.
     pub fn notes(&self) -> &Records
         ensures { result.now ≡ self.now.notes }
     {
-        &self.notes
+        self.front.notes()
     }
 
     /// The patients and queries, in order.
     pub fn groups(&self) -> &[Group]
         ensures { result.now ≡ self.now.groups }
     {
-        self.groups.as_slice()
+        self.front.below()
     }
 
     /// How many records there are; it stays at the greatest number.

@@ -128,6 +128,6 @@ impl OpenMessage {
         } = self;
         let _ = closing.kind();
         let front = whole_front(alloc, spine)?;
-        Ok(front.into_message(delimiters, closing))
+        Ok(Message::new(delimiters, front, closing))
     }
 }

@@ -7,85 +7,19 @@ ghost use Rattle.lis_field.specs.declared.kinds.Kind.TheVariants as kinds;
 ghost use Rattle.lis_tree.specs.Level.{misplaced};
 ghost use Rattle.lis_tree.specs.Tree.{noted_records, order_records, patient_records, group_records, IsNote, IsNoted};
 ghost use Rattle.lis_tree.specs.Tree.{IsOrder, IsPatient, IsGroup, IsTree};
-ghost use Rattle.lis_tree.specs.inside.Spine.{front_records, spine_records, spine_level, IsFront, IsSpine};
+ghost use Rattle.lis_tree.specs.inside.Front.{IsFront, front_records};
+ghost use Rattle.lis_tree.specs.inside.Spine.{spine_records, spine_level, IsSpine};
 ghost use Rattle.lis_tree.specs.inside.Spine.{below_records, open_records, IsBelow, IsOpenOrder};
 ghost use Rattle.lis_tree.specs.inside.Standing.{standing_level};
 
-use crate::lists::Records;
-use crate::message::Message;
 use crate::standing::Standing;
-use crate::tree::{Group, Noted, Order, Patient};
-use lis_record::{Delimiters, Kind, Record};
-use lis_text::List;
+use crate::tree::{Branch, Group, Noted, Order, Patient};
+use lis_record::{Kind, Record};
 use std::alloc::{AllocError, Global};
-use std::marker::Model;
 use std::mem::{self, drop};
 
 /// The header with its notes, and the groups that are whole.
-#[derive(Drop)]
-pub(crate) struct Front {
-    header: Record,
-    notes: Records,
-    groups: List<Group>,
-}
-
-impl Model for Front {
-    ghost use Rattle.lis_tree.specs.inside.Front.{FrontTree};
-
-    ghost Value = { FrontTree };
-
-    ghost view = { λ f. record { header = f.header; notes = f.notes; groups = f.groups } };
-}
-
-impl Front {
-    fn new(alloc: Global, item: Noted) -> Self
-        ensures { result ≡ record { header = item.head; notes = item.notes; groups = [] } }
-    {
-        let (header, notes) = item.into_parts();
-        Front {
-            header,
-            notes,
-            groups: List::new(alloc),
-        }
-    }
-
-    fn push_group(&mut self, group: Group) -> Result<(), AllocError>
-        ensures { OnOk result (self.new
-            ≡ record { header = self.old.header; notes = self.old.notes; groups = self.old.groups ++ group ∷ [] }) }
-    {
-        match self.groups.push(group) {
-            Ok(()) => Ok(()),
-            Err(_) => Err(AllocError),
-        }
-    }
-
-    /// The message that the closing record makes of it.
-    pub(crate) fn into_message(self, delimiters: Delimiters, closing: Record) -> Message
-        requires { IsTree
-            (record {
-              delimiters = delimiters;
-              header = self.header;
-              notes = self.notes;
-              groups = self.groups;
-              closing = closing;
-            }) }
-        ensures { result ≡ record {
-          delimiters = delimiters;
-          header = self.header;
-          notes = self.notes;
-          groups =
-              self.groups;
-          closing = closing;
-        } }
-    {
-        let Front {
-            header,
-            notes,
-            groups,
-        } = self;
-        Message::new(delimiters, header, notes, groups, closing)
-    }
-}
+pub(crate) type Front = Branch<Group>;
 
 /// An order that still grows: what is whole of it, and the result that the next note belongs to.
 #[derive(Drop)]
@@ -102,58 +36,6 @@ pub(crate) enum Spine {
     Patient(Front, Patient, Option<OpenOrder>),
 }
 
-/// The order with one more result.
-#[inline(always)]
-fn close_result(mut order: Order, item: Noted) -> Result<Order, AllocError>
-    ensures records { IfOk result (λ o. order_records o ≡ order_records order ++ noted_records item) }
-    ensures shape { IfOk result (λ o. IsOrder order → IsNoted kinds.R item → IsOrder o) }
-{
-    match order.push(item) {
-        Ok(()) => Ok(order),
-        Err(_) => Err(AllocError),
-    }
-}
-
-/// The patient with one more order.
-#[inline(always)]
-fn close_order(mut patient: Patient, order: Order) -> Result<Patient, AllocError>
-    ensures records { IfOk result (λ p. patient_records p ≡ patient_records patient ++ order_records order) }
-    ensures shape { IfOk result (λ p. IsPatient patient → IsOrder order → IsPatient p) }
-{
-    match patient.push(order) {
-        Ok(()) => Ok(patient),
-        Err(_) => Err(AllocError),
-    }
-}
-
-/// The front with one more group.
-#[inline(always)]
-fn close_group(mut front: Front, group: Group) -> Result<Front, AllocError>
-    ensures records { IfOk result (λ f. front_records f ≡ front_records front ++ group_records group) }
-    ensures shape { IfOk result (λ f. IsFront front → IsGroup group → IsFront f) }
-{
-    front.push_group(group)?;
-    Ok(front)
-}
-
-/// The order that a record alone is.
-#[inline(always)]
-fn order_of(alloc: Global, head: Record) -> Order
-    ensures value { result ≡ record { head = head; notes = []; results = [] } }
-    ensures shape { head.kind ≡ kinds.O → IsOrder result }
-{
-    Order::new(head, Records::new(alloc), List::new(alloc))
-}
-
-/// The patient that a record alone is.
-#[inline(always)]
-fn patient_of(alloc: Global, head: Record) -> Patient
-    ensures value { result ≡ record { head = head; notes = []; orders = [] } }
-    ensures shape { head.kind ≡ kinds.P → IsPatient result }
-{
-    Patient::new(head, Records::new(alloc), List::new(alloc))
-}
-
 /// The order with all that stands below it.
 #[tactic(auto, using(crate::proofs::Appends::appends))]
 #[inline(always)]
@@ -164,22 +46,22 @@ fn whole_order(growing: OpenOrder) -> Result<Order, AllocError>
     let OpenOrder { order, last } = growing;
     match last {
         None => Ok(order),
-        Some(item) => close_result(order, item),
+        Some(item) => order.with(item),
     }
 }
 
 /// The patient with all that stands below.
 #[tactic(auto, using(crate::proofs::Appends::appends))]
 #[inline(always)]
-fn whole_patient(patient: Patient, below: Option<OpenOrder>) -> Result<Patient, AllocError>
+fn whole_patient(mut patient: Patient, below: Option<OpenOrder>) -> Result<Patient, AllocError>
     ensures records { IfOk result (λ p. patient_records p ≡ patient_records patient ++ below_records below) }
     ensures shape { IfOk result (λ p. IsPatient patient → IsBelow patient below → IsPatient p) }
 {
     match below {
         None => Ok(patient),
         Some(growing) => {
-            let order = whole_order(growing)?;
-            close_order(patient, order)
+            patient.push(whole_order(growing)?)?;
+            Ok(patient)
         }
     }
 }
@@ -193,10 +75,10 @@ pub(crate) fn whole_front(alloc: Global, spine: Spine) -> Result<Front, AllocErr
 {
     match spine {
         Spine::Header(item) => Ok(Front::new(alloc, item)),
-        Spine::Query(front, item) => close_group(front, Group::Query(item)),
+        Spine::Query(front, item) => front.with(Group::Query(item)),
         Spine::Patient(front, patient, below) => {
             let patient = whole_patient(patient, below)?;
-            close_group(front, Group::Patient(patient))
+            front.with(Group::Patient(patient))
         }
     }
 }
@@ -251,10 +133,7 @@ fn push_result(alloc: Global, growing: &mut OpenOrder, head: Record) -> Result<(
     let Some(whole) = growing.last.replace(Noted::new(alloc, head)) else {
         return Ok(());
     };
-    match growing.order.push(whole) {
-        Ok(()) => Ok(()),
-        Err(_) => Err(AllocError),
-    }
+    growing.order.push(whole)
 }
 
 /// Moves the last order into its patient, and puts the next in its place.
@@ -272,17 +151,14 @@ fn push_order(
         → IsPatient patient.new × IsBelow patient.new below.new) }
 {
     let next = OpenOrder {
-        order: order_of(alloc, head),
+        order: Order::new(alloc, Noted::new(alloc, head)),
         last: None,
     };
     let Some(before) = below.replace(next) else {
         return Ok(());
     };
     let whole = whole_order(before)?;
-    match patient.push(whole) {
-        Ok(()) => Ok(()),
-        Err(_) => Err(AllocError),
-    }
+    patient.push(whole)
 }
 
 /// Moves the last patient into the front, and puts the next in the place.
@@ -300,9 +176,9 @@ fn push_patient(
     ensures shape { OnOk result (IsFront front.old → IsPatient patient.old → IsBelow patient.old below.old
         → head.kind ≡ kinds.P → IsFront front.new × IsPatient patient.new × IsBelow patient.new below.new) }
 {
-    let before = mem::replace(patient, patient_of(alloc, head));
+    let before = mem::replace(patient, Patient::new(alloc, Noted::new(alloc, head)));
     let whole = whole_patient(before, below.take())?;
-    front.push_group(Group::Patient(whole))
+    front.push(Group::Patient(whole))
 }
 
 /// Moves the last query into the front, and puts the next in its place.
@@ -320,7 +196,7 @@ fn push_query(
         → IsFront front.new × IsNoted kinds.Q item.new) }
 {
     let whole = mem::replace(item, Noted::new(alloc, head));
-    front.push_group(Group::Query(whole))
+    front.push(Group::Query(whole))
 }
 
 /// Adds a patient or a query, and moves all that stands before it.
@@ -336,7 +212,7 @@ fn push_moved(alloc: Global, spine: &mut Spine, kind: Kind, entry: Record) -> Re
     let front = whole_front(alloc, before)?;
     let after = match kind {
         Kind::Q => Spine::Query(front, Noted::new(alloc, entry)),
-        _ => Spine::Patient(front, patient_of(alloc, entry), None),
+        _ => Spine::Patient(front, Patient::new(alloc, Noted::new(alloc, entry)), None),
     };
     drop(mem::replace(spine, after));
     Ok(())

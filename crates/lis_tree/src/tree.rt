@@ -2,10 +2,13 @@
 
 ghost use Rattle.std.specs.Prelude.{◌≡◌, IfOk};
 
+mod branch;
 mod noted;
 mod order;
 mod patient;
 
+use crate::lists::Copied;
+pub use branch::Branch;
 pub use noted::{Noted, Query, ResultEntry};
 pub use order::Order;
 pub use patient::Patient;
@@ -27,5 +30,11 @@ impl Group {
             Group::Patient(patient) => Group::Patient(patient.copy(alloc)?),
             Group::Query(query) => Group::Query(query.copy(alloc)?),
         })
+    }
+}
+
+impl Copied for Group {
+    fn copied(&self, alloc: Global) -> Result<Self, AllocError> {
+        self.copy(alloc)
     }
 }

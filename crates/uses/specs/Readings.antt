@@ -14,7 +14,7 @@ pub data IsPlainOrEmpty (field : Option Repeats) (bytes : List ℕ) : Type 0 whe
 
 -- the sample stands in field 3 of the order, the value and its units in fields 4 and 5 of the result
 pub record IsReading (node : ResultNode) (reading : Reading) : Type 0 where
-  pub sample : IsPlainOrEmpty (field_at node.order.head 3) reading.sample.items
+  pub sample : IsPlainOrEmpty (field_at node.order.top.head 3) reading.sample.items
   pub value : IsPlainOrEmpty (field_at node.entry.head 4) reading.value.items
   pub units : IsPlainOrEmpty (field_at node.entry.head 5) reading.units.items
 

@@ -1,19 +1,15 @@
 -- A message that isn't whole yet: its records in order, and where the next one will stand.
-use Rattle.std.specs.Prelude.{◌≡◌, List, [], ◌∷◌, ◌++◌, Option, Some, None}
-use Rattle.std.specs.List.{flat_map, AllByRecursion}
+use Rattle.std.specs.Prelude.{◌≡◌, List, [], ◌++◌, Option, Some, None}
 use Rattle.lis_field.specs.declared.kinds.Kind.TheVariants as kinds
 use Rattle.lis_field.specs.Shape.{RecordContent}
 use Rattle.lis_tree.specs.Nodes.{Noted, OrderTree, PatientTree}
-use Rattle.lis_tree.specs.inside.Front.{FrontTree}
+use Rattle.lis_tree.specs.inside.Front.{IsFront, front_records}
 use Rattle.lis_tree.specs.declared.spine.OpenOrder.{OpenOrder}
-use Rattle.lis_tree.specs.Tree.{noted_records, order_records, patient_records, group_records, AreNotes, IsNoted}
-use Rattle.lis_tree.specs.Tree.{IsOrder, IsPatient, IsGroup}
+use Rattle.lis_tree.specs.Tree.{noted_records, order_records, patient_records, IsNoted}
+use Rattle.lis_tree.specs.Tree.{IsOrder, IsPatient}
 use Rattle.lis_tree.specs.Level.{Level, in_header, in_patient, in_order, in_query}
 use Rattle.lis_tree.specs.declared.spine.Spine.{Spine}
 use Rattle.lis_tree.specs.declared.spine.Spine.TheVariants as spines
-
-abbrev pub front_records : FrontTree → List RecordContent
-front_records f = (f.header ∷ f.notes) ++ flat_map group_records f.groups
 
 -- the result that grows last
 abbrev pub last_records : Option Noted → List RecordContent
@@ -43,14 +39,9 @@ spine_level (spines.Query front item) = in_query
 spine_level (spines.Patient front patient None) = in_patient
 spine_level (spines.Patient front patient (Some order)) = in_order
 
-pub record IsFront (f : FrontTree) : Type 0 where
-  pub header : f.header.kind ≡ kinds.H
-  pub notes : AreNotes f.notes
-  pub groups : AllByRecursion IsGroup f.groups
-
 -- a result that grows is the last of its order, which has none before its first
 abbrev pub IsLast : OrderTree → Option Noted → Type 0
-IsLast order None = order.results ≡ []
+IsLast order None = order.below ≡ []
 IsLast order (Some item) = IsNoted kinds.R item
 
 abbrev pub IsOpenOrder : OpenOrder → Type 0
@@ -58,7 +49,7 @@ IsOpenOrder o = IsOrder o.order × IsLast o.order o.last
 
 -- an order that grows is the last of its patient, who has none before the first
 abbrev pub IsBelow : PatientTree → Option OpenOrder → Type 0
-IsBelow patient None = patient.orders ≡ []
+IsBelow patient None = patient.below ≡ []
 IsBelow patient (Some o) = IsOpenOrder o
 
 -- each head is of the kind of its place, and each note is a note

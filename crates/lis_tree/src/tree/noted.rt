@@ -1,6 +1,6 @@
 ghost use Rattle.std.specs.Prelude.{◌≡◌, ◌++◌, ◌∷◌, [], IfOk, OnOk};
 
-use crate::lists::{Records, copy_records};
+use crate::lists::{Copied, Records, copy_list};
 use lis_record::Record;
 use std::alloc::{AllocError, Global};
 use std::marker::Model;
@@ -49,14 +49,6 @@ impl Noted {
         }
     }
 
-    /// The record, and the notes on it.
-    pub(crate) fn into_parts(self) -> (Record, Records)
-        ensures { result ≡ (self.head, self.notes) }
-    {
-        let Noted { head, notes } = self;
-        (head, notes)
-    }
-
     /// The record.
     pub fn head(&self) -> &Record
         ensures { result.now ≡ self.now.head }
@@ -77,7 +69,13 @@ impl Noted {
     {
         Ok(Noted {
             head: self.head.copy(alloc)?,
-            notes: copy_records(alloc, &self.notes)?,
+            notes: copy_list(alloc, &self.notes)?,
         })
+    }
+}
+
+impl Copied for Noted {
+    fn copied(&self, alloc: Global) -> Result<Self, AllocError> {
+        self.copy(alloc)
     }
 }

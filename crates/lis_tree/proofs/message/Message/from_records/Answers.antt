@@ -4,7 +4,7 @@ use Rattle.lis_tree.specs.declared.fault.Reason.TheVariants as reasons
 use Rattle.lis_tree.specs.Level.{misplaced}
 use Rattle.lis_tree.specs.inside.Begun.{level_of}
 use Rattle.lis_tree.proofs.ListFaults.{close_told, closed_records, so_far_more, misplaced_fault, unclosed_fault}
-use Rattle.lis_tree.proofs.ListFaults.{first_fault, only_memory}
+use Rattle.lis_tree.proofs.ListFaults.{header_fault, only_memory}
 use Rattle.lis_tree.proofs.Flatten.{flatten_one}
 use Rattle.std.specs.Vec.Iter.{into_iter_items}
 use Rattle.lis_tree.proofs.message.Message.from_records.Goals as goal
@@ -12,7 +12,7 @@ use Rattle.lis_tree.proofs.message.Message.from_records.Goals as goal
 pub returns-in_default-kind : goal.returns-in_default-kind
 returns-in_default-kind c =
     let whole = sym (c.into_iter-rest.ensures.rest ∙ c.into_vec.ensures) ∙ c.in-Some.ensures.items in
-    let why = first_fault c.args.records c.in-Some.header (into_iter_items c.next.new.self) whole
+    let why = header_fault c.args.records c.in-Some.header (into_iter_items c.next.new.self) whole
     (λ h. c.in_default-kind.not-H (c.kind.ensures.kind ∙ h)) in
     record {
       delimiters = tt;

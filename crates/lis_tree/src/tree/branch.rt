@@ -1,0 +1,109 @@
+ghost use Rattle.std.specs.Prelude.{◌≡◌, ◌++◌, ◌∷◌, [], IfOk, OnOk};
+
+use super::noted::Noted;
+use crate::lists::{Copied, Records, copy_list};
+use lis_record::Record;
+use lis_text::List;
+use std::alloc::{AllocError, Global};
+use std::marker::Model;
+
+/// A record with its notes, and what stands below it.
+#[derive(Debug, PartialEq, Eq, Drop)]
+pub struct Branch<T> {
+    top: Noted,
+    below: List<T>,
+}
+
+impl<T> Model for Branch<T> {
+    ghost use Rattle.lis_tree.specs.Nodes.{Branch as BranchTree};
+
+    ghost Value = { BranchTree T };
+
+    ghost view = { λ b. record { top = b.top; below = b.below } };
+
+    ghost inverse = { λ b. record { top = b.top; below = b.below } };
+}
+
+impl<T> Branch<T> {
+    /// The record with its notes, and nothing below it.
+    pub(crate) fn new(alloc: Global, top: Noted) -> Self
+        ensures { result ≡ record { top = top; below = [] } }
+    {
+        Branch {
+            top,
+            below: List::new(alloc),
+        }
+    }
+
+    /// Adds a note at the end.
+    pub(crate) fn push_note(&mut self, note: Record) -> Result<(), AllocError>
+        ensures { OnOk result (self.new ≡ record {
+          top = record { head = self.old.top.head; notes = self.old.top.notes ++ note ∷ [] };
+          below = self.old.below;
+        }) }
+    {
+        self.top.push(note)
+    }
+
+    /// The O record of an order, the P record of a patient.
+    pub fn head(&self) -> &Record
+        ensures { result.now ≡ self.now.top.head }
+    {
+        self.top.head()
+    }
+
+    /// The notes on it.
+    pub fn notes(&self) -> &Records
+        ensures { result.now ≡ self.now.top.notes }
+    {
+        self.top.notes()
+    }
+
+    /// What stands below it, in order.
+    pub fn below(&self) -> &[T]
+        ensures { result.now ≡ self.now.below }
+    {
+        self.below.as_slice()
+    }
+}
+
+impl<T: Drop> Branch<T> {
+    /// Adds one more below it, at the end.
+    pub(crate) fn push(&mut self, item: T) -> Result<(), AllocError>
+        ensures { OnOk result (self.new ≡ record { top = self.old.top; below = self.old.below ++ item ∷ [] }) }
+    {
+        match self.below.push(item) {
+            Ok(()) => Ok(()),
+            Err(_) => Err(AllocError),
+        }
+    }
+
+    /// The same with one more below it, at the end.
+    #[inline(always)]
+    pub(crate) fn with(mut self, item: T) -> Result<Self, AllocError>
+        ensures { IfOk result (λ branch. branch ≡ record { top = self.top; below = self.below ++ item ∷ [] }) }
+    {
+        match self.push(item) {
+            Ok(()) => Ok(self),
+            Err(AllocError) => Err(AllocError),
+        }
+    }
+}
+
+impl<T: Copied> Branch<T> {
+    /// The same order or patient once more, with memory of its own.
+    pub fn copy(&self, alloc: Global) -> Result<Self, AllocError>
+        ensures { IfOk result (λ branch. branch ≡ self.now) }
+    {
+        Ok(Branch {
+            top: self.top.copy(alloc)?,
+            below: copy_list(alloc, &self.below)?,
+        })
+    }
+}
+
+impl<T: Copied> Copied for Branch<T> {
+    fn copied(&self, alloc: Global) -> Result<Self, AllocError> {
+        self.copy(alloc)
+    }
+}
