@@ -1,6 +1,7 @@
 -- Findings and records, and how many there are.
-use Rattle.std.proofs.Common.{◌≡◌, ℕ, ◌+◌, ◌<◌, ◌≤◌, ◌^◌, Bool, true, false, List, [], ◌∷◌, ◌++◌, Option, length}
-use Rattle.std.proofs.Common.{codes, decimal, sym, ◌∙◌, ap, arith, append-nil, append_assoc, length-append, nat_lt}
+use Rattle.std.proofs.Common.{◌≡◌, ℕ, ◌+◌, ◌<◌, ◌≤◌, ◌^◌, Bool, true, false, List, [], ◌∷◌, ◌++◌, Option}
+use Rattle.std.proofs.Common.{None, Some, length, refl}
+use Rattle.std.proofs.Common.{sym, ◌∙◌, ap, arith, append-nil, append_assoc, length-append, nat_lt}
 use Rattle.std.proofs.Common.{not, ◌&&◌, if◌then◌else◌}
 use Rattle.std.proofs.lemmas.Grind.{flat_map-append}
 use Rattle.std.specs.List.{flat_map}
@@ -17,8 +18,12 @@ use Rattle.lis_tree.specs.Numbers.{expected_number, field_number, is_number, is_
 use Rattle.lis_text.specs.Capped.{capped}
 use Rattle.lis_tree.specs.Tree.{MessageTree, flatten}
 use Rattle.lis_tool.specs.Check.{IsChecking, check_writes, finding_count, finding_line, message_line, record_line}
-use Rattle.lis_tool.specs.Check.{record_lines}
-use Rattle.lis_tool.specs.Messages.{record_count, whole_begun, with_record}
+use Rattle.lis_tool.specs.Check.{record_lines, refused_line, sums_line}
+use Rattle.lis_tool.specs.declared.report.Refused.{Refused}
+use Rattle.lis_tool.specs.declared.report.Report.{Report}
+use Rattle.lis_tool.specs.inside.Parts.{text_if_any}
+use Rattle.lis_tool.specs.Messages.{record_count, report_after, whole_begun, with_record}
+use Rattle.lis_tree.specs.declared.fault.MessageFault.{MessageFault}
 use Rattle.lis_tool.proofs.MessageLaws.{record_count-append}
 
 one_at_most : (b : Bool) (f : Finding) → length (let fs : List Finding = if b then f ∷ [] else [] in fs) ≤ 1
@@ -108,12 +113,20 @@ pub check_text :
     (records findings : List ℕ) (numbering : Numbering) (found told before : ℕ) (messages : List MessageTree)
     (m : MessageTree)
     → IsChecking records findings numbering found told messages (whole_begun m)
-    → message_line before ++ (records ++ findings)
+    → message_line before ++ records ++ findings
     ≡ message_line before ++ record_lines 1 (flatten m) ++ flat_map finding_line (findings_of m)
 check_text records findings numbering found told before messages m is =
-    ap (λ (l : List ℕ). message_line before ++ (l ++ findings)) is.record_lines_are
-    ∙ ap (λ (l : List ℕ). message_line before ++ (record_lines 1 (flatten m) ++ l)) is.finding_lines_are
-    ∙ sym (append_assoc (message_line before) (record_lines 1 (flatten m)) (flat_map finding_line (findings_of m)))
+    ap (λ (l : List ℕ). message_line before ++ l ++ findings) is.record_lines_are
+    ∙ ap (λ (l : List ℕ). message_line before ++ record_lines 1 (flatten m) ++ l) is.finding_lines_are
+
+-- the line of what a report refuses, and the sums behind it, are the last lines
+pub check_last :
+    (report : Report) (before told : ℕ) (messages : List MessageTree) (fault : Option MessageFault)
+    → report ≡ report_after check_writes messages fault → before ≡ length messages → told ≡ finding_count messages
+    → text_if_any (λ (it : Refused). refused_line it.message it.fault) report.refused ++ sums_line before told
+    ≡ check_writes.last messages fault
+check_last report before told messages None is counted found = rw (is, counted, found) refl
+check_last report before told messages (Some fault) is counted found = rw (is, counted, found) refl
 
 -- the findings of one more message are told
 pub told_more :

@@ -3,6 +3,7 @@ use Rattle.std.proofs.Common.{◌≡◌, ℕ, ◌+◌, ◌≤◌, ◌<◌, ◌^�
 use Rattle.std.proofs.Common.{None, Some, Ok, Err, is_err, length, take, drop, refl, sym, ◌∙◌, ap, subst, arith}
 use Rattle.std.proofs.Common.{append-nil, append_assoc, length-append, take_all, if◌then◌else◌}
 use Rattle.std.proofs.lemmas.Bool.{eqb-true, ltb-true}
+use Rattle.std.specs.Prelude.{⊤}
 use Rattle.std.specs.declared.result.Result.{Result}
 use Rattle.lis_text.specs.Control.{LF}
 use Rattle.lis_frame.specs.Stream.{stream_with}
@@ -15,10 +16,11 @@ use Rattle.lis_capture.specs.Capture.{version_of, with_said}
 use Rattle.lis_capture.specs.Reader.{HasRead, Known, Reading, found_lines, is_long, known_of}
 use Rattle.lis_capture.proofs.CaptureLemmas.{capture-ended, capture-long, capture-refused, capture-within, has_end}
 use Rattle.lis_tool.specs.declared.fault.ToolFault.{ToolFault}
-use Rattle.lis_tool.specs.declared.fault.ToolFault.TheVariants.{CaptureLine, OutOfMemory}
+use Rattle.lis_tool.specs.declared.fault.ToolFault.TheVariants.{CaptureLine}
 use Rattle.lis_tool.specs.declared.machine.Halt.{Halt}
 use Rattle.lis_tool.specs.declared.report.Report.{Report}
-use Rattle.lis_tool.specs.LineOutcome.{IsLined, LineEnds, Writes, capture_outcome, lines_outcome, lines_text}
+use Rattle.lis_tool.specs.declared.machine.Turn.TheVariants.{Off}
+use Rattle.lis_tool.specs.LineOutcome.{IsLined, LineEnds, LineSteps, Writes, capture_outcome, lines_outcome, lines_text}
 use Rattle.lis_tool.specs.Outcome.{Outcome, whole}
 use Rattle.lis_tool.specs.Output.{Gathered, Out, most_counted}
 use Rattle.lis_tool.specs.inside.Steps.{Ends, Fails, Halts, Puts}
@@ -214,16 +216,23 @@ at_end_of w stands reader old here before after past text [] bytes at none =
 at_end_of w stands reader old here before after past text (b ∷ rest) bytes at none = cc
 
 module _
-    (w : Writes) (stands : List Line → Type 0) (reader next : Reading) (old here : Out) (before after : ℕ)
-    (past text rest bytes : List ℕ)
-    (at : IsAt w stands reader old here before after past text rest bytes) (count : ℕ) (result : Found)
-    (found_is : capture (stream_with at.read (take count rest)) false
-    ≡ found_lines (capture at.read false) result next.known.line)
-    (has_read : HasRead next (stream_with at.read (take count rest))) where
+    {w : Writes} {stands : List Line → Type 0} {reader next : Reading} {old here : Out} {before after : ℕ}
+    {past text rest bytes : List ℕ} (at : IsAt w stands reader old here before after past text rest bytes)
+    (count : ℕ) (result : Found)
+    (reads : (read : List ℕ) → HasRead reader read → HasRead next (stream_with read (take count rest)))
+    (finds : (read : List ℕ) → HasRead reader read → capture (stream_with read (take count rest)) false
+    ≡ found_lines (capture read false) result next.known.line) where
+  has_read : HasRead next (stream_with at.read (take count rest))
+  has_read = reads at.read at.has_read
+
+  found_is : capture (stream_with at.read (take count rest)) false
+      ≡ found_lines (capture at.read false) result next.known.line
+  found_is = finds at.read at.has_read
+
   all_is : stream_with (stream_with at.read (take count rest)) (drop count rest) ≡ stream_with [] (past ++ bytes)
   all_is = front_stream count at.read rest ∙ at.joined
 
-  pub few_there : length (stream_with at.read (take count rest)) + length (drop count rest) < 2 ^ 44
+  few_there : length (stream_with at.read (take count rest)) + length (drop count rest) < 2 ^ 44
   few_there =
       let same = ap length (front_stream count at.read rest) in
       omega (
@@ -326,7 +335,7 @@ module _
         ≡ record { lines = next.known.line ∷ (capture at.read false).lines; refused = false }
     said_there = found_is ∙ ap (λ (f : Found). found_lines (capture at.read false) f next.known.line) line_found
 
-    pub line_number : (next.known.number ≡ length (capture at.read false).lines + 1) × (next.known.number < 2 ^ 44)
+    line_number : (next.known.number ≡ length (capture at.read false).lines + 1) × (next.known.number < 2 ^ 44)
     line_number =
         let few : length (capture at.read false).lines + 1 < 2 ^ 44 =
         omega (
@@ -341,14 +350,21 @@ module _
         ap (λ (k : Known). k.number) has_read.known_is ∙ ap (λ (r : Lines). (known_of r).number) said_there in
         (omega (arith, known, few), omega (arith, known, few))
 
-    module _ (c : Out) where
+    -- what is known of a line by its number
+    pub by_number :
+        {P : List Line → Type 0} → ((lines : List Line) → stands lines → next.known.number ≡ length lines + 1
+        → next.known.number < 2 ^ 44 → P lines)
+        → P (capture at.read false).lines
+    by_number known = known (capture at.read false).lines at.stood line_number.0 line_number.1
+
+    module _ {c : Out} where
       -- the line was taken
       pub line_taken :
-          (now : List Line → Type 0) (last : ℕ) → Gathered here c after (Ok last)
+          {now : List Line → Type 0} {last : ℕ} → Gathered here c after (Ok last)
           (w.line (capture at.read false).lines next.known.line)
           → now (next.known.line ∷ (capture at.read false).lines)
           → IsAt w now next old c before last past text (drop count rest) bytes
-      line_taken now last put stood =
+      line_taken {now} {last} put stood =
           record {
             read = stream_with at.read (take count rest);
             has_read = has_read;
@@ -366,13 +382,12 @@ module _
 
       -- memory was refused in the line
       pub line_starved :
-          (memory : Bool) (halt : Halt) (more left : List ℕ) → halt.result ≡ Err OutOfMemory → memory ≡ true
-          → w.line (capture at.read false).lines next.known.line ≡ more ++ left
-          → Gathered here c after (Ok halt.written) more
+          {memory : Bool} (halt : Halt)
+          → LineSteps memory ⊤ here c after (w.line (capture at.read false).lines next.known.line) (Ok (Off halt))
           → Puts (λ all. Halts memory (λ o. o ≡ capture_outcome w (stream_with [] (past ++ bytes)) false) all
           halt.result × (is_err halt.result ≡ true))
           old c before halt.written text
-      line_starved memory halt more left result_is wants joined put =
+      line_starved {memory} halt (result_is, wants, more, left, joined, put) =
           let tail = begins (next.known.line ∷ (capture at.read false).lines) said_there in
           let r = capture (stream_with [] (past ++ bytes)) false in
           record {
@@ -426,17 +441,23 @@ module _
 -- ---- at the end of the input
 
 module _
-    (w : Writes) (stands : List Line → Type 0) (reader next : Reading) (past text : List ℕ)
-    (lined : IsLined w stands reader past text)
-    (few : length past < 2 ^ 44) (result : Found)
-    (found_is : capture (stream_with [] past) true
-    ≡ found_lines (capture (stream_with [] past) false) result next.known.line)
-    (known_is : next.known ≡ known_of (capture (stream_with [] past) true)) where
+    {w : Writes} {stands : List Line → Type 0} {reader : Reading} {past text : List ℕ}
+    (lined : IsLined w stands reader past text) (few : length past < 2 ^ 44) (next : Reading) (result : Found)
+    (knows : (read : List ℕ) → HasRead reader read → next.known ≡ known_of (capture read true))
+    (finds : (read : List ℕ) → HasRead reader read
+    → capture read true ≡ found_lines (capture read false) result next.known.line) where
+  known_is : next.known ≡ known_of (capture (stream_with [] past) true)
+  known_is = knows (stream_with [] past) lined.has_read
+
+  last_is : capture (stream_with [] past) true
+      ≡ found_lines (capture (stream_with [] past) false) result next.known.line
+  last_is = finds (stream_with [] past) lined.has_read
+
   few_lines : length (capture (stream_with [] past) true).lines
       + one_refused (capture (stream_with [] past) true).refused < 2 ^ 44
   few_lines = omega (arith, few, lines-few (stream_with [] past) true, stream-length [] past)
 
-  pub few_before : length (capture (stream_with [] past) false).lines < 2 ^ 44
+  few_before : length (capture (stream_with [] past) false).lines < 2 ^ 44
   few_before = omega (arith, few, lines-few (stream_with [] past) false, stream-length [] past)
 
   outcome_here : (read : Lines) → capture (stream_with [] past) true ≡ read
@@ -485,28 +506,28 @@ module _
   pub nothing_ended :
       (memory : Bool) (old c : Out) (before : ℕ) (ended : Result Halt ToolFault) → result ≡ found.Nothing
       → before ≤ most_counted
-      → LineEnds (w.report (capture (stream_with [] past) false).lines) old c before
-      (w.last (capture (stream_with [] past) false).lines) ended
+      → ((lines : List Line) → stands lines → length lines < 2 ^ 44
+      → LineEnds (w.report lines) old c before (w.last lines) ended)
       → Ends memory (λ o. o ≡ capture_outcome w (stream_with [] past) true) old c before text ended
   nothing_ended memory old c before ended nothing fits ends =
       let read = capture (stream_with [] past) false in
       let same : capture (stream_with [] past) true ≡ record { lines = read.lines; refused = false } =
-      found_is ∙ ap (λ (f : Found). found_lines read f next.known.line) nothing
+      last_is ∙ ap (λ (f : Found). found_lines read f next.known.line) nothing
       ∙ ap (λ (b : Bool). let r : Lines = record { lines = read.lines; refused = b } in r) lined.fine in
       closes_behind memory read.lines same old old c before before [] (gathered_nothing old before fits)
-      (append-nil text ∙ lined.text_is) ended ends
+      (append-nil text ∙ lined.text_is) ended (ends read.lines lined.stood few_before)
 
   -- the last line is refused
   pub refused_ended :
-      (memory : Bool) (old : Out) (before : ℕ) (halt : Halt) → result ≡ found.Refused → before ≤ most_counted
+      (memory : Bool) {old : Out} {before : ℕ} (halt : Halt) → result ≡ found.Refused → before ≤ most_counted
       → halt.written ≡ before
       → halt.result ≡ Err (CaptureLine next.known.number)
       → Puts (λ all. Halts memory (λ o. o ≡ capture_outcome w (stream_with [] past) true) all halt.result) old old
       before halt.written text
-  refused_ended memory old before halt refused fits written_is result_is =
+  refused_ended memory {old} {before} halt refused fits written_is result_is =
       let lines = (capture (stream_with [] past) false).lines in
       let is : capture (stream_with [] past) true ≡ record { lines = lines; refused = true } =
-      found_is ∙ ap (λ (f : Found). found_lines (capture (stream_with [] past) false) f next.known.line) refused in
+      last_is ∙ ap (λ (f : Found). found_lines (capture (stream_with [] past) false) f next.known.line) refused in
       let outcome_is = outcome_here (record { lines = lines; refused = true }) is in
       let small : length lines + 1 < 2 ^ 44 = subst (λ (r : Lines). length r.lines + one_refused r.refused < 2 ^ 44)
       is few_lines in
@@ -531,10 +552,10 @@ module _
   module _ (line_found : result ≡ found.Line) where
     said_last : capture (stream_with [] past) true
         ≡ record { lines = next.known.line ∷ (capture (stream_with [] past) false).lines; refused = false }
-    said_last = found_is ∙ ap (λ (f : Found). found_lines (capture (stream_with [] past) false) f next.known.line)
+    said_last = last_is ∙ ap (λ (f : Found). found_lines (capture (stream_with [] past) false) f next.known.line)
         line_found
 
-    pub last_number : (next.known.number ≡ length (capture (stream_with [] past) false).lines + 1)
+    last_number : (next.known.number ≡ length (capture (stream_with [] past) false).lines + 1)
         × (next.known.number < 2 ^ 44)
     last_number =
         let small : length (next.known.line ∷ (capture (stream_with [] past) false).lines) + 0 < 2 ^ 44 =
@@ -544,6 +565,13 @@ module _
         ap (λ (k : Known). k.number) known_is ∙ ap (λ (r : Lines). (known_of r).number) said_last in
         (omega (arith, known, small), omega (arith, known, small))
 
+    -- what is known of it by its number
+    pub by_last_number :
+        {P : List Line → Type 0} → ((lines : List Line) → stands lines → next.known.number ≡ length lines + 1
+        → next.known.number < 2 ^ 44 → P lines)
+        → P (capture (stream_with [] past) false).lines
+    by_last_number known = known (capture (stream_with [] past) false).lines lined.stood last_number.0 last_number.1
+
     text_with : text ++ w.line (capture (stream_with [] past) false).lines next.known.line
         ≡ lines_text w (next.known.line ∷ (capture (stream_with [] past) false).lines)
     text_with = ap (λ (t : List ℕ). t ++ w.line (capture (stream_with [] past) false).lines next.known.line)
@@ -551,15 +579,18 @@ module _
 
     -- it was taken
     pub last_taken :
-        (memory : Bool) (old here c : Out) (before after : ℕ) (ended : Result Halt ToolFault)
+        {now : List Line → Type 0} (memory : Bool) (old here c : Out) (before after : ℕ)
+        (ended : Result Halt ToolFault)
+        → ((lines : List Line) → now lines → length lines < 2 ^ 44
+        → LineEnds (w.report lines) here c after (w.last lines) ended)
         → Gathered old here before (Ok after) (w.line (capture (stream_with [] past) false).lines next.known.line)
-        → LineEnds (w.report (next.known.line ∷ (capture (stream_with [] past) false).lines)) here c after
-        (w.last (next.known.line ∷ (capture (stream_with [] past) false).lines)) ended
+        × now (next.known.line ∷ (capture (stream_with [] past) false).lines)
         → Ends memory (λ o. o ≡ capture_outcome w (stream_with [] past) true) old c before text ended
-    last_taken memory old here c before after ended put ends =
-        closes_behind memory (next.known.line ∷ (capture (stream_with [] past) false).lines) said_last old here c
-        before after
-        (w.line (capture (stream_with [] past) false).lines next.known.line) put text_with ended ends
+    last_taken memory old here c before after ended ends (put, stood) =
+        let lines = next.known.line ∷ (capture (stream_with [] past) false).lines in
+        closes_behind memory lines said_last old here c before after
+        (w.line (capture (stream_with [] past) false).lines next.known.line) put text_with ended
+        (ends lines stood (omega (arith, last_number.0, last_number.1)))
 
     whole_with :
         (capture_outcome w (stream_with [] past) true).text
@@ -573,13 +604,12 @@ module _
 
     -- memory was refused in it
     pub last_starved :
-        (memory : Bool) (old here : Out) (before : ℕ) (halt : Halt) (more left : List ℕ)
-        → halt.result ≡ Err OutOfMemory → memory ≡ true
-        → w.line (capture (stream_with [] past) false).lines next.known.line ≡ more ++ left
-        → Gathered old here before (Ok halt.written) more
+        {memory : Bool} {old here : Out} {before : ℕ} (halt : Halt)
+        → LineSteps memory ⊤ old here before (w.line (capture (stream_with [] past) false).lines next.known.line)
+        (Ok (Off halt))
         → Puts (λ all. Halts memory (λ o. o ≡ capture_outcome w (stream_with [] past) true) all halt.result) old here
         before halt.written text
-    last_starved memory old here before halt more left result_is wants joined put =
+    last_starved {memory} {old = old} {here} {before} halt (result_is, wants, more, left, joined, put) =
         record {
           more = more;
           put = put;
@@ -596,10 +626,10 @@ module _
 
     -- the sink failed in it
     pub last_failed :
-        (old here : Out) (before : ℕ) (fault : ToolFault)
+        {old here : Out} {before : ℕ} (fault : ToolFault)
         → Gathered old here before (Err fault) (w.line (capture (stream_with [] past) false).lines next.known.line)
         → Fails (λ o. o ≡ capture_outcome w (stream_with [] past) true) old here before text fault
-    last_failed old here before fault put =
+    last_failed fault put =
         record {
           outcome = capture_outcome w (stream_with [] past) true;
           meant = refl;

@@ -1,11 +1,14 @@
 -- A capture that is played line by line.
 use Rattle.std.proofs.Common.{◌≡◌, ◌≢◌, ℕ, ◌+◌, ◌≤◌, ◌==◌, Bool, true, false, not, List, [], ◌∷◌, ◌++◌, Option, None}
-use Rattle.std.proofs.Common.{Some, Ok, Err, length, refl, sym, ◌∙◌, ap, subst, arith, nat_lt, IfOk, if◌then◌else◌}
+use Rattle.std.proofs.Common.{Some, Ok, Err, length, refl, sym, ◌∙◌, ap, subst, arith, nat_lt, IfOk}
+use Rattle.std.proofs.Common.{if◌then◌else◌, codes, ◌<◌, ◌^◌}
 use Rattle.std.proofs.lemmas.Bool.Decides.{nat_tests}
 use Rattle.std.specs.Option.{option_to_list}
 use Rattle.std.specs.Str.{bytes_eq}
 use Rattle.lis_capture.specs.declared.line.Line.{Line}
-use Rattle.lis_capture.specs.declared.line.Line.TheVariants.{FromAnalyzer, FromComputer}
+use Rattle.lis_capture.specs.declared.line.Line.TheVariants.{Empty, FromAnalyzer, FromComputer, Restart, SetReady}
+use Rattle.lis_capture.specs.declared.line.Line.TheVariants.{Timer, Version}
+use Rattle.std.specs.Prelude.{⊤}
 use Rattle.lis_link.specs.inside.Kept.{Kept}
 use Rattle.lis_link.specs.Receiver.{ReceiverState, on_byte}
 use Rattle.lis_link.specs.inside.Stands.{IsIn}
@@ -27,7 +30,7 @@ use Rattle.lis_tool.proofs.GatherLaws.{gathered_nothing}
 use Rattle.lis_tool.specs.inside.Playing.{IsHearing, IsPlaying, playing_writes, text_parts}
 use Rattle.lis_tool.specs.Replay.{Played, all_differences, compared_line, count_with, difference_count, differs_at}
 use Rattle.lis_tool.specs.Replay.{handed, having_heard, played, played_line, replay_line, replay_writes, replies}
-use Rattle.lis_tool.specs.Replay.{status_of}
+use Rattle.lis_tool.specs.Replay.{difference_line, left_line, status_of}
 use Rattle.lis_tool.specs.Replay.{text_count, texts_at}
 
 by_differs : (t : Bool) (n k : ℕ) → n ≤ k → (if t then n + 1 else n) ≤ k + 1
@@ -108,11 +111,31 @@ played_computer account limit kept collected left count differences now lines by
     }
 
 -- a line that hands out no text and isn't compared
-pub record IsSilent (limit : ℕ) (line : Line) : Type 0 where
+record IsSilent (limit : ℕ) (line : Line) : Type 0 where
   pub no_texts : (p : Played) → texts_at limit line p ≡ []
   pub no_difference : (p : Played) → differs_at line p ≡ false
   pub keeps : (p : Played) → (played_line limit line p).replies ≡ p.replies
   pub writes_none : (number : ℕ) (p : Played) → replay_line limit number line p ≡ []
+
+-- such is each by which nothing is sent
+abbrev pub SendsNothing : Line → Type 0
+SendsNothing (FromAnalyzer bytes) = ⊥
+SendsNothing (FromComputer bytes) = ⊥
+SendsNothing line = ⊤
+
+silent : (limit : ℕ) (line : Line) → SendsNothing line → IsSilent limit line
+silent limit Empty sends =
+    record { no_texts = λ p. refl; no_difference = λ p. refl; keeps = λ p. refl; writes_none = λ n p. refl }
+silent limit Version sends =
+    record { no_texts = λ p. refl; no_difference = λ p. refl; keeps = λ p. refl; writes_none = λ n p. refl }
+silent limit Timer sends =
+    record { no_texts = λ p. refl; no_difference = λ p. refl; keeps = λ p. refl; writes_none = λ n p. refl }
+silent limit Restart sends =
+    record { no_texts = λ p. refl; no_difference = λ p. refl; keeps = λ p. refl; writes_none = λ n p. refl }
+silent limit (SetReady readiness) sends =
+    record { no_texts = λ p. refl; no_difference = λ p. refl; keeps = λ p. refl; writes_none = λ n p. refl }
+silent limit (FromAnalyzer bytes) sends = absurd sends
+silent limit (FromComputer bytes) sends = absurd sends
 
 silent_text : (account : Account) (limit : ℕ) (lines : List Line) (line : Line) → IsSilent limit line
     → (playing_writes account limit).line lines line ≡ []
@@ -122,28 +145,28 @@ silent_text Texts limit lines line silent = ap (λ (texts : List (List ℕ)). fl
 
 -- it was taken
 pub played_silent :
-    (account : Account) (limit : ℕ) (kept new : Kept) (collected : List ℕ) (count differences : ℕ) (lines : List Line)
-    (line : Line)
-    (a : Out) (before : ℕ) → IsSilent limit line → before ≤ most_counted
+    {account : Account} {limit : ℕ} {kept : Kept} {collected : List ℕ} {count differences : ℕ} {lines : List Line}
+    (line : Line) (new : Kept) (a : Out) (before : ℕ) → SendsNothing line → before ≤ most_counted
     → IsPlaying account limit kept collected count differences lines
     → IsIn limit new (played limit (line ∷ lines)).receiver
     → Gathered a a before (Ok before) ((playing_writes account limit).line lines line)
     × IsPlaying account limit new collected count differences (line ∷ lines)
-played_silent account limit kept new collected count differences lines line a before silent fits playing is_in =
+played_silent {account} {limit} {lines = lines} line new a before sends fits playing is_in =
     let p = played limit lines in
-    let none = ap (λ (texts : List (List ℕ)). length texts) (silent.no_texts p) in (
-      subst (λ (t : List ℕ). Gathered a a before (Ok before) t) (sym (silent_text account limit lines line silent))
+    let quiet = silent limit line sends in
+    let none = ap (λ (texts : List (List ℕ)). length texts) (quiet.no_texts p) in (
+      subst (λ (t : List ℕ). Gathered a a before (Ok before) t) (sym (silent_text account limit lines line quiet))
           (gathered_nothing a before fits),
       record {
         hearing = record {
           receiver_is = is_in;
-          replies_are = λ compared. playing.hearing.replies_are compared ∙ sym (silent.keeps p);
+          replies_are = λ compared. playing.hearing.replies_are compared ∙ sym (quiet.keeps p);
           texts_are = omega (arith, playing.hearing.texts_are, none);
         };
         differences_are = λ compared.
             playing.differences_are compared
             ∙ ap (λ (differs : Bool). if differs then difference_count limit lines + 1
-            else difference_count limit lines) (sym (silent.no_difference p));
+            else difference_count limit lines) (sym (quiet.no_difference p));
         few = omega (arith, playing.few, none);
       },
     )
@@ -154,6 +177,30 @@ counted_left [] count = refl
 counted_left (b ∷ left) count =
     let some : (length (b ∷ left) == 0) ≡ false = grind (arith, nat_tests) in
     ap (λ (none : Bool). if none then count else count + 1) some
+
+pub all_counted :
+    (limit : ℕ) (lines : List Line) (left : List ℕ) (differences counted : ℕ) → length lines < 2 ^ 44
+    → left ≡ (played limit lines).replies → differences ≡ difference_count limit lines
+    → ((count : ℕ) → differences ≡ count → count < 2 ^ 63
+    → counted ≡ (if length left == 0 then count else count + 1))
+    → counted ≡ all_differences limit lines
+all_counted limit lines left differences counted few left_is is counts =
+    rw left_is at (counts (difference_count limit lines) is (omega (arith, difference_count-few limit lines, few)))
+    ∙ counted_left (played limit lines).replies (difference_count limit lines)
+
+-- the line of what is left
+left_text : (left : List ℕ) → (if length left == 0 then [] else difference_line (codes "end") [] left) ≡ left_line left
+left_text [] = refl
+left_text (b ∷ left) =
+    let some : (length (b ∷ left) == 0) ≡ false = grind (arith, nat_tests) in
+    ap (λ (none : Bool). if none then [] else difference_line (codes "end") [] (b ∷ left)) some
+
+pub left_gathered :
+    (a b : Out) (before : ℕ) (r : Result ℕ ToolFault) (left replies : List ℕ) → left ≡ replies
+    → Gathered a b before r (if length left == 0 then [] else difference_line (codes "end") [] left)
+    → Gathered a b before r (left_line replies)
+left_gathered a b before r left replies is gathered =
+    subst (λ (t : List ℕ). Gathered a b before r t) (left_text left ∙ ap left_line is) gathered
 
 pub is_lines : (account : Account) → account ≢ Texts → account ≡ Lines
 is_lines Lines other = refl

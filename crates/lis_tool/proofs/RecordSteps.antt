@@ -330,6 +330,25 @@ read_few w stands reader count past text reading few =
           reading.messages,
     )
 
+-- the step over the bytes in which it stands
+pub refused_over :
+    {w : MessageWrites} {stands : List MessageTree → Option Begun → Type 0} {before now : RecordsState} {count : ℕ}
+    {past bytes behind text : List ℕ} {fault : MessageFault} (a b : Out) (written : ℕ) (result : Result Halt ToolFault)
+    → ((messages : List MessageTree) (left : Option Begun) (stream told : List ℕ) → stands messages left
+    → count ≡ length messages → length messages < 2 ^ 44 → told ≡ messages_text w 0 messages
+    → StopsReading stream messages fault → RefusesBy w stream a b written told result)
+    → (reading : IsReadingMessages w stands before count past text) → Refuses before now reading.left bytes behind fault
+    → length past + length bytes < 2 ^ 44
+    → (front : List ℕ) × (bytes ≡ front ++ behind) × RefusesBy w (past ++ bytes) a b written text result
+refused_over {w} {stands} {before} {now} {count} {past} {bytes} {behind} {text} {fault} a b written result refuses
+    reading r few =
+    let short = read_few w stands before count past text reading (omega (arith, few)) in (
+      [],
+      sym r.none_read,
+      refuses reading.messages reading.left (past ++ bytes) text reading.stood reading.count_is short reading.text_is
+          (refused_why w stands before now count past bytes behind text fault reading r),
+    )
+
 -- ---- one step behind another
 
 puts_behind :
@@ -389,14 +408,20 @@ steps_then w here stands past bytes done rest behind text a b c before middle re
 
 -- the same, where a step is known over what is left, whatever was read before
 pub steps_on :
-    (w : MessageWrites) (here stands : List ℕ → List ℕ → Type 0) (past bytes rest behind text : List ℕ) (a b c : Out)
-    (before middle : ℕ) (result : Result Turn ToolFault)
-    → ((read told : List ℕ) → here read told → length read + length rest < 2 ^ 44
-    → StepsOver w stands read rest behind b c middle told result)
-    → (done : List ℕ) × (bytes ≡ done ++ rest) × Puts (here (past ++ done)) a b before middle text
-    → length past + length bytes < 2 ^ 44 → StepsOver w stands past bytes behind a c before text result
-steps_on w here stands past bytes rest behind text a b c before middle result step (done, whole, so_far) few =
-    steps_then w here stands past bytes done rest behind text a b c before middle result whole so_far
+    {w : MessageWrites} {here : List MessageTree → Option Begun → Type 0} {before : RecordsState} {count : ℕ}
+    {bytes rest behind text : List ℕ} {a b : Out} {written middle : ℕ}
+    (stands : List MessageTree → Option Begun → Type 0) (now : RecordsState) (more : ℕ) (past : List ℕ) (c : Out)
+    (result : Result Turn ToolFault)
+    → ((read told : List ℕ) → IsReadingMessages w here before count read told → length read + length rest < 2 ^ 44
+    → StepsOver w (IsReadingMessages w stands now more) read rest behind b c middle told result)
+    → (done : List ℕ) × (bytes ≡ done ++ rest)
+    × Puts (IsReadingMessages w here before count (past ++ done)) a b written middle text
+    → length past + length bytes < 2 ^ 44
+    → StepsOver w (IsReadingMessages w stands now more) past bytes behind a c written text result
+steps_on {w} {here} {before} {count} {bytes} {rest} {behind} {text} {a} {b} {written} {middle} stands now more past c
+    result step (done, whole, so_far) few =
+    steps_then w (IsReadingMessages w here before count) (IsReadingMessages w stands now more) past bytes done rest
+    behind text a b c written middle result whole so_far
     (step (past ++ done) (text ++ so_far.more) so_far.behind
     (omega (arith, few, ap length whole, length-append past done, length-append done rest)))
 

@@ -14,7 +14,7 @@ use Rattle.lis_tool.specs.declared.report.Report.{Report}
 use Rattle.lis_tool.specs.declared.machine.Halt.{Halt}
 use Rattle.lis_tool.specs.Outcome.{Outcome, whole, going}
 use Rattle.lis_tool.specs.Output.{Gathered, Out, PartWentOut, Put, WentOut, out}
-use Rattle.lis_tool.specs.Runs.{IsOver, WroteOutcome, Ran, StopsBy}
+use Rattle.lis_tool.specs.Runs.{EachGave, IsOver, WroteOutcome, Ran, StopsBy}
 use Rattle.lis_tool.specs.inside.Steps.{Halts, Fails, Puts, IsEarly, IsTold}
 use Rattle.lis_tool.proofs.GatherLaws.{gathered_sent, gathered_settled, gathered_then}
 use Rattle.lis_tool.proofs.PutLaws.{part_then, put_stops}
@@ -350,6 +350,92 @@ waited false count none ready = absurd (nothing (ready refl))
 pub failed_waited : (may_wait : Bool) → (may_wait ≡ false → ⊥) → may_wait ≡ true
 failed_waited true ready = refl
 failed_waited false ready = absurd (ready refl)
+
+-- ---- how a run ends, behind what was read so far
+
+module _
+    {stands : List ℕ → List ℕ → Type 0} {left_old left a b : Option (List ℕ)} {waits : List ℕ} {written turn : ℕ}
+    (s : IsSoFar stands left_old left a b waits written turn) where
+  -- each read but the last gave a byte
+  pub gave : (left_new : Option (List ℕ)) (more : List ℕ) {made : ℕ} → Consumes left left_new more → made ≤ turn + 1
+      → EachGave left_old left_new made
+  gave left_new more read bound = (
+    s.bytes ++ more,
+    consumes_then left_old left left_new s.bytes more s.read read,
+    omega (arith, s.each_gave, bound, length-append s.bytes more),
+  )
+
+  -- these are all the bytes that were read, and what came of those before the last read is gathered
+  pub record IsRead (given : List ℕ) (told_end ended : Bool) (left_new c : Option (List ℕ)) (there : List ℕ) (after : ℕ)
+      : Type 0 where
+    pub read : Consumes left_old left_new given
+    pub ended_is : ended ≡ told_end
+    pub wrote : Gathered (out a []) (out c there) 0 (Ok after) s.text
+
+  module _
+      {count : ℕ} {ended : Bool} {left_new : Option (List ℕ)} (ys : List ℕ) {c : Option (List ℕ)} {there : List ℕ}
+      {after : ℕ} (gives : Consumes left left_new (take count ys))
+      (tells : IsTrue ended ↔ (◌≡◌ {A = Result ℕ Failed} (Ok count) (Ok 0)))
+      (settled : Gathered (out b waits) (out c there) written (Ok after) []) where
+    -- the last read told the end, so that nothing waits
+    pub read_end :
+        {may_wait : Bool} → count ≡ 0 → (may_wait ≡ true → there ≡ []) → (may_wait ≡ false → 0 < count)
+        → IsRead s.bytes true ended left_new c [] after
+    read_end {may_wait} none empty ready =
+        record {
+          read = consumes_end left_old left left_new s.bytes ys count s.read gives none;
+          ended_is = is_end ended count none tells;
+          wrote =
+              rw (empty (waited may_wait count none ready)) at
+              (so_far_settled a (out b waits) (out c there) written after s.text s.wrote settled);
+        }
+
+    -- it gave more
+    pub read_more : (more : List ℕ) → more ≡ take count ys → (count ≡ 0 → ⊥)
+        → IsRead (s.bytes ++ more) false ended left_new c there after
+    read_more more is some =
+        record {
+          read = consumes_then left_old left left_new s.bytes more s.read
+              (subst (λ (l : List ℕ). Consumes left left_new l) (sym is) gives);
+          ended_is = no_end ended count some tells;
+          wrote = so_far_settled a (out b waits) (out c there) written after s.text s.wrote settled;
+        }
+
+  module _ (memory : Bool) (means : List ℕ → Bool → Outcome → Type 0) where
+    -- what waits could not go out
+    pub unsent_ran :
+        {ended : Bool} {c : Option (List ℕ)} (fault : ToolFault) → ended ≡ false → means s.bytes false (going s.text)
+        → PartWentOut b c written fault waits → Ran memory means left_old left a c ended (Err fault)
+    unsent_ran {ended} {c} fault goes_on meant part =
+        told_ran memory means s.bytes ended left_old left a c (Err fault) s.read
+        (subst (λ (e : Bool). Told memory means s.bytes e a c (Err fault)) (sym goes_on)
+        (so_far_unsent memory means s.bytes false a b waits c written fault s.text meant s.wrote part))
+
+    module _
+        {given : List ℕ} {told_end ended : Bool} {left_new c : Option (List ℕ)} {there : List ℕ} {after : ℕ}
+        (is : IsRead given told_end ended left_new c there after) where
+      -- the last step halted the run
+      pub halts_ran :
+          {holds : List ℕ → Type 0} {d e : Option (List ℕ)} (failed : Bool) (halt : Halt)
+          (result : Result Report ToolFault)
+          (puts : Puts holds (out c there) (out d []) after halt.written s.text)
+          → Halts memory (means given told_end) (s.text ++ puts.more) halt.result → Keeps d e
+          → IsTold halt result failed
+          → Ran memory means left_old left_new a e ended result
+      halts_ran {holds} {d} {e} failed halt result puts halts kept told =
+          told_ran memory means given ended left_old left_new a e result is.read
+          (subst (λ (t : Bool). Told memory means given t a e result) (sym is.ended_is)
+          (step_halts memory means given told_end a failed c there d e after s.text halt result is.wrote holds puts
+          halts kept told))
+
+      -- the sink failed in it
+      pub fails_ran :
+          {d : Out} (fault : ToolFault) → Fails (means given told_end) (out c there) d after s.text fault
+          → Ran memory means left_old left_new a d.taken ended (Err fault)
+      fails_ran {d} fault fails =
+          told_ran memory means given ended left_old left_new a d.taken (Err fault) is.read
+          (subst (λ (t : Bool). Told memory means given t a d.taken (Err fault)) (sym is.ended_is)
+          (fails_told memory means given told_end a c there d after s.text fault is.wrote fails))
 
 -- ---- a page
 

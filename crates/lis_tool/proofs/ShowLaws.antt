@@ -12,9 +12,10 @@ use Rattle.lis_tool.specs.declared.fault.ToolFault.{ToolFault}
 use Rattle.lis_tool.specs.declared.fault.ToolFault.TheVariants.{CaptureLine, Read, Write, OutOfMemory, TooManyReads}
 use Rattle.lis_tool.specs.declared.report.Report.{Report}
 use Rattle.lis_tool.specs.Outcome.{Outcome, at_end, whole}
+use Rattle.lis_tool.specs.inside.Parts.{text_if_any}
 use Rattle.lis_tool.specs.Output.{WentOut}
 use Rattle.lis_tool.specs.Runs.{Ran, Shown, WroteOutcome, WroteText}
-use Rattle.lis_tool.specs.Show.{Shows, clean, frame_line, lent_line, show, signal_line, signal_lines}
+use Rattle.lis_tool.specs.Show.{Shows, clean, frame_line, show, signal_line, signal_lines}
 use Rattle.lis_link.proofs.HearingLaws.{stream_with-append}
 
 -- the line of a byte's signal, and then the lines of what follows
@@ -45,7 +46,8 @@ pub no_lines : (limit : ℕ) (past bytes : List ℕ) → length bytes ≡ 0
 no_lines limit past [] none = refl
 no_lines limit past (b ∷ bytes) none = cc
 
-lent-lines : (limit : ℕ) (o : Option FrameContent) → signal_lines (lent_signals {limit = limit} o) ≡ lent_line o
+lent-lines : (limit : ℕ) (o : Option FrameContent)
+    → signal_lines (lent_signals {limit = limit} o) ≡ text_if_any frame_line o
 lent-lines limit None = refl
 lent-lines limit (Some frame) = append-nil (frame_line frame)
 
@@ -53,7 +55,7 @@ lent-lines limit (Some frame) = append-nil (frame_line frame)
 pub front_lines :
     (limit n : ℕ) (past bytes : List ℕ) (o : Option FrameContent)
     → signals_after limit past (take n bytes) ≡ lent_signals o →
-    signal_lines (signals_after limit past bytes) ≡ lent_line o
+    signal_lines (signals_after limit past bytes) ≡ text_if_any frame_line o
     ++ signal_lines (signals_after limit (stream_with past (take n bytes)) (drop n bytes))
 front_lines limit n past bytes o is =
     let both = rw (take-append-drop n bytes) at (lines-append limit past (take n bytes) (drop n bytes)) in

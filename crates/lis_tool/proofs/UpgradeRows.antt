@@ -15,29 +15,14 @@ first_version = codes "\n> 05\r\n< 06\n> 0231487C5c5e260d0345350d0a\n\n< 15\nT\n
 first_version_upgraded : List ℕ
 first_version_upgraded = codes "capture 2\n\n> 05\n< 06\n> 0231487c5c5e260d0345350d0a\n\n< 15\nT\n> 04\n"
 
-written : upgrade first_version ≡ first_version_upgraded
-unfolding first_version first_version_upgraded decode_pairs encode_with
-written = refl
-
-written_again : upgrade first_version_upgraded ≡ first_version_upgraded
-unfolding first_version_upgraded decode_pairs encode_with
-written_again = refl
-
-played_before : replay 240 first_version ≡ codes "text 4 6\ndifference 6 15 06\ntexts 1 differences 1\n"
-unfolding first_version decode_pairs encode_with digits signal_after open_stretch stretch_fault
-played_before = refl
-
-played_after : replay 240 first_version_upgraded ≡ codes "text 5 6\ndifference 7 15 06\ntexts 1 differences 1\n"
-unfolding first_version_upgraded decode_pairs encode_with digits signal_after open_stretch stretch_fault
-played_after = refl
-
-its_texts : texts 240 first_version ≡ codes "H|\\^&\r"
-unfolding first_version decode_pairs encode_with digits signal_after open_stretch stretch_fault
-its_texts = refl
-
-its_texts_after : texts 240 first_version_upgraded ≡ codes "H|\\^&\r"
-unfolding first_version_upgraded decode_pairs encode_with digits signal_after open_stretch stretch_fault
-its_texts_after = refl
+-- written, and written again; what is played of it, before and after; and the texts
+first_is :
+    (upgrade first_version ≡ first_version_upgraded) × (upgrade first_version_upgraded ≡ first_version_upgraded)
+    × (replay 240 first_version ≡ codes "text 4 6\ndifference 6 15 06\ntexts 1 differences 1\n")
+    × (replay 240 first_version_upgraded ≡ codes "text 5 6\ndifference 7 15 06\ntexts 1 differences 1\n")
+    × (texts 240 first_version ≡ codes "H|\\^&\r") × (texts 240 first_version_upgraded ≡ codes "H|\\^&\r")
+unfolding first_version first_version_upgraded decode_pairs encode_with digits signal_after open_stretch stretch_fault
+first_is = (refl, refl, refl, refl, refl, refl)
 
 -- a capture of version 2 keeps its lines and their numbers
 second_version : List ℕ
@@ -46,22 +31,17 @@ second_version = codes "capture 2\r\nS contending\r\n> 05\r\n< 06"
 second_version_upgraded : List ℕ
 second_version_upgraded = codes "capture 2\nS contending\n> 05\n< 06\n"
 
-kept : upgrade second_version ≡ second_version_upgraded
-unfolding second_version second_version_upgraded decode_pairs encode_with
-kept = refl
-
-played_as_before : replay 240 second_version ≡ codes "difference 4 06 05\ntexts 0 differences 1\n"
-unfolding second_version decode_pairs encode_with digits signal_after open_stretch stretch_fault
-played_as_before = refl
-
-played_the_same : replay 240 second_version_upgraded ≡ codes "difference 4 06 05\ntexts 0 differences 1\n"
-unfolding second_version_upgraded decode_pairs encode_with digits signal_after open_stretch stretch_fault
-played_the_same = refl
+second_is :
+    (upgrade second_version ≡ second_version_upgraded)
+    × (replay 240 second_version ≡ codes "difference 4 06 05\ntexts 0 differences 1\n")
+    × (replay 240 second_version_upgraded ≡ codes "difference 4 06 05\ntexts 0 differences 1\n")
+unfolding second_version second_version_upgraded decode_pairs encode_with digits signal_after open_stretch stretch_fault
+second_is = (refl, refl, refl)
 
 no_line : upgrade [] ≡ codes "capture 2\n"
 no_line = refl
 
 -- lines before a refused one are written
-half_a_byte : upgrade (codes "> 05\n> 0\n> 04\n") ≡ codes "capture 2\n> 05\n"
+half_a_byte_ends : upgrade (codes "> 05\n> 0\n> 04\n") ≡ codes "capture 2\n> 05\n"
 unfolding decode_pairs encode_with
-half_a_byte = refl
+half_a_byte_ends = refl

@@ -2,21 +2,19 @@
 
 ghost use Rattle.std.specs.Prelude.{◌≡◌, ◌^◌, ◌<◌, ◌≤◌, ◌++◌, [], List, None, OnOk, true, false, is_err, length, IfOk};
 ghost use Rattle.lis_tool.specs.Check.{IsChecking, check_writes, finding_count, finding_line, message_line};
-ghost use Rattle.lis_tool.specs.Check.{record_line};
-ghost use Rattle.lis_tool.specs.Check.{refused_part, sums_line};
+ghost use Rattle.lis_tool.specs.Check.{record_line, refused_line};
 ghost use Rattle.lis_tool.specs.MessageRuns.{MessagesRan};
 ghost use Rattle.lis_tool.specs.Messages.{report_after};
-ghost use Rattle.lis_tool.specs.Output.{Gathered, out};
 ghost use Rattle.lis_tool.specs.Runs.{EachGave, IsFresh, StopsBy};
 ghost use Rattle.lis_tree.specs.Tree.{MessageTree};
 
 use crate::fault::ToolFault;
-use crate::gather::{append_number, gather, make_room};
+use crate::gather::{append_number, make_room};
 use crate::held_text::HeldText;
 use crate::machine::{Halt, run};
 use crate::messages::{MessageMachine, Messages};
-use crate::parts::{Part, gather_parts};
-use crate::report::{Report, printed_reason};
+use crate::report::{Refused, Report, printed_reason};
+use crate::tell::{Counts, Part, Tell};
 use lis_capture::Page;
 use lis_field::Kind;
 use lis_message::{LentRecord, MessageFault};
@@ -104,8 +102,9 @@ impl MessageMachine for Check {
         before: u64,
     ) -> Result<u64, ToolFault> {
         let number = before.saturating_add(1);
-        let (records, findings) = (self.records.as_slice(), self.findings.as_slice());
-        let result = gather_message(sink, page, written, number, records, findings);
+        let records = Part::Text(self.records.as_slice());
+        let findings = Part::Text(self.findings.as_slice());
+        let result = ((FirstLine { number }, records), findings).tell(sink, page, written);
         self.told = self.told.saturating_add(self.found);
         self.found = 0;
         self.records.clear();
@@ -122,77 +121,39 @@ impl MessageMachine for Check {
         before: u64,
         fault: Option<MessageFault>,
     ) -> Result<Halt, ToolFault> {
-        match gather_last(sink, page, written, before, fault, self.told) {
+        let sums = Counts {
+            word: b"messages ",
+            count: before,
+            other_word: b" findings ",
+            other_count: self.told,
+        };
+        let report = Report::behind(before, self.told > 0, fault);
+        match (report.refused, sums).tell(sink, page, written) {
             Ok(written) => Ok(Halt {
                 written,
-                result: Ok(report_of(before, fault, self.told)),
+                result: Ok(report),
             }),
             Err(fault) => Err(fault),
         }
     }
 }
 
-/// Gathers the lines of the message of this number: the first, those of its records and those of its findings.
-#[inline(always)]
-fn gather_message<W: Sink>(
-    sink: &mut W,
-    page: &mut Page,
-    written: u64,
+/// The first line of the message of this number.
+#[derive(Clone, Copy)]
+struct FirstLine {
     number: u64,
-    records: &[u8],
-    findings: &[u8],
-) -> Result<u64, ToolFault>
-    requires { W.failed sink.old ≡ false }
-    ensures gathered { Gathered (out (W.taken sink.old) page.old) (out (W.taken sink.new) page.new) written result
-        (message_line number ++ (records.now ++ findings.now)) }
-    ensures failed { W.failed sink.new ≡ is_err result }
-{
-    let after = match gather_first(sink, page, written, number) {
-        Ok(after) => after,
-        Err(fault) => return Err(fault),
-    };
-    match gather(sink, page, after, records) {
-        Ok(after) => gather(sink, page, after, findings),
-        Err(fault) => Err(fault),
-    }
 }
 
-/// Gathers the first line of the message of this number.
-#[inline(always)]
-fn gather_first<W: Sink>(
-    sink: &mut W,
-    page: &mut Page,
-    written: u64,
-    number: u64,
-) -> Result<u64, ToolFault>
-    requires { W.failed sink.old ≡ false }
-    ensures gathered { Gathered (out (W.taken sink.old) page.old) (out (W.taken sink.new) page.new) written result
-        (message_line number) }
-    ensures failed { W.failed sink.new ≡ is_err result }
-{
-    match make_room(sink, page, written, FIRST_ROOM) {
-        Ok(after) => {
-            page.append(b"message ");
-            append_number(page, number);
-            page.append(b"\n");
-            Ok(after)
-        }
-        Err(fault) => Err(fault),
-    }
-}
+impl Tell for FirstLine {
+    ghost text = { λ line. message_line line.number };
 
-/// The report behind so many messages with so many findings.
-fn report_of(before: u64, fault: Option<MessageFault>, findings: u64) -> Report
-    ensures { (messages : List MessageTree) → before ≡ length messages → length messages < 2 ^ 44
-        → findings ≡ finding_count messages →
-        result ≡ report_after check_writes messages fault }
-{
-    match fault {
-        None => Report {
-            status: if findings > 0 { 1 } else { 0 },
-            refused: None,
-        },
-        Some(fault) => Report::of_refusal(before, fault),
+    #[inline(always)]
+    fn tell<W: Sink>(&self, sink: &mut W, page: &mut Page, written: u64) -> Result<u64, ToolFault> {
+        let after = make_room(sink, page, written, FIRST_ROOM)?;
+        page.append(b"message ");
+        append_number(page, self.number);
+        page.append(b"\n");
+        Ok(after)
     }
 }
 
@@ -209,6 +170,7 @@ fn add_record(lines: &mut HeldText, place: u64, kind: Kind, fields: u64) -> Resu
 
 /// The same, where both numbers have one or two digits, as most have: all is added at once.
 #[inline(always)]
+#[tactic(auto, using(crate::proofs::Digits::one_digit, crate::proofs::Digits::two_digits))]
 fn add_short(lines: &mut HeldText, place: u8, kind: Kind, fields: u8) -> Result<(), AllocError>
     requires place { place < 100 }
     requires fields { fields < 100 }
@@ -245,60 +207,20 @@ fn add_finding(lines: &mut HeldText, finding: Finding) -> Result<(), AllocError>
     add_record(lines, finding.place, finding.kind, finding.expected)
 }
 
-/// Gathers the last lines, behind so many messages.
-fn gather_last<W: Sink>(
-    sink: &mut W,
-    page: &mut Page,
-    written: u64,
-    before: u64,
-    fault: Option<MessageFault>,
-    findings: u64,
-) -> Result<u64, ToolFault>
-    requires { W.failed sink.old ≡ false }
-    ensures gathered { before < 2 ^ 44 →
-        Gathered (out (W.taken sink.old) page.old) (out (W.taken sink.new) page.new) written result
-        (refused_part before fault ++ sums_line before findings) }
-    ensures failed { W.failed sink.new ≡ is_err result }
-{
-    let after = match gather_refusal(sink, page, written, before, fault) {
-        Ok(after) => after,
-        Err(fault) => return Err(fault),
-    };
-    let parts = [
-        Part::Text(b"messages "),
-        Part::Number(before),
-        Part::Text(b" findings "),
-        Part::Number(findings),
-        Part::Text(b"\n"),
-    ];
-    gather_parts(sink, page, after, &parts)
-}
+/// The line of a refusal.
+impl Tell for Refused {
+    ghost text = { λ it. refused_line it.message it.fault };
 
-/// Gathers the line of a refusal, where there is one.
-fn gather_refusal<W: Sink>(
-    sink: &mut W,
-    page: &mut Page,
-    written: u64,
-    before: u64,
-    fault: Option<MessageFault>,
-) -> Result<u64, ToolFault>
-    requires { W.failed sink.old ≡ false }
-    ensures gathered { before < 2 ^ 44 →
-        Gathered (out (W.taken sink.old) page.old) (out (W.taken sink.new) page.new) written result
-        (refused_part before fault) }
-    ensures failed { W.failed sink.new ≡ is_err result }
-{
-    let Some(fault) = fault else {
-        return Ok(written);
-    };
-    let parts = [
-        Part::Text(b"refused "),
-        Part::Number(before.saturating_add(1)),
-        Part::Text(b" "),
-        Part::Number(fault.place),
-        Part::Text(b" "),
-        Part::Text(printed_reason(fault.reason).as_bytes()),
-        Part::Text(b"\n"),
-    ];
-    gather_parts(sink, page, written, &parts)
+    fn tell<W: Sink>(&self, sink: &mut W, page: &mut Page, written: u64) -> Result<u64, ToolFault> {
+        let parts = [
+            Part::Text(b"refused "),
+            Part::Number(self.message),
+            Part::Text(b" "),
+            Part::Number(self.fault.place),
+            Part::Text(b" "),
+            Part::Text(printed_reason(self.fault.reason).as_bytes()),
+            Part::Text(b"\n"),
+        ];
+        parts.as_slice().tell(sink, page, written)
+    }
 }

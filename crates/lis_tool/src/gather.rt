@@ -17,7 +17,7 @@ use lis_port::{Failed, Sink, Source, read_sent};
 const CHUNK: usize = 1024;
 
 /// The room for a number in decimal digits.
-const NUMBER_ROOM: usize = 40;
+pub(crate) const NUMBER_ROOM: usize = 40;
 
 /// Puts out the page, behind `written` bytes of this run, and lets go of it.
 // It is seldom called, and within the loops of its callers it would take their registers.
@@ -125,51 +125,6 @@ pub(crate) fn make_room<W: Sink>(
     put_page(sink, page, written)
 }
 
-/// Gathers a text. One that there is no room for goes out by itself.
-#[inline(always)]
-pub(crate) fn gather<W: Sink>(
-    sink: &mut W,
-    page: &mut Page,
-    written: u64,
-    text: &[u8],
-) -> Result<u64, ToolFault>
-    requires { W.failed sink.old ≡ false }
-    ensures gathered { Gathered (out (W.taken sink.old) page.old) (out (W.taken sink.new) page.new) written result
-        text.now }
-    ensures failed { W.failed sink.new ≡ is_err result }
-{
-    if text.len() <= page.room() {
-        page.append(text);
-        return Ok(written);
-    }
-    match put_page(sink, page, written) {
-        Ok(after) => put(sink, after, text),
-        Err(fault) => Err(fault),
-    }
-}
-
-/// Gathers a number in decimal digits.
-#[inline(always)]
-pub(crate) fn gather_number<W: Sink>(
-    sink: &mut W,
-    page: &mut Page,
-    written: u64,
-    number: u64,
-) -> Result<u64, ToolFault>
-    requires { W.failed sink.old ≡ false }
-    ensures gathered { Gathered (out (W.taken sink.old) page.old) (out (W.taken sink.new) page.new) written result
-        (decimal number) }
-    ensures failed { W.failed sink.new ≡ is_err result }
-{
-    match make_room(sink, page, written, NUMBER_ROOM) {
-        Ok(after) => {
-            append_number(page, number);
-            Ok(after)
-        }
-        Err(fault) => Err(fault),
-    }
-}
-
 /// Puts a number in decimal digits behind the page.
 #[inline(always)]
 pub(crate) fn append_number(page: &mut Page, number: u64)
@@ -221,11 +176,7 @@ fn gather_chunk<W: Sink>(
         (encode_lower bytes.now) }
     ensures failed { W.failed sink.new ≡ is_err result }
 {
-    match make_room(sink, page, written, 2 * bytes.len()) {
-        Ok(after) => {
-            page.append_digits(bytes);
-            Ok(after)
-        }
-        Err(fault) => Err(fault),
-    }
+    let after = make_room(sink, page, written, 2 * bytes.len())?;
+    page.append_digits(bytes);
+    Ok(after)
 }

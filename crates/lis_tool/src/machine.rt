@@ -89,6 +89,7 @@ pub trait Machine: Drop {
 /// Feeds a machine with what a source gives, to its end, by at most `reads` calls of read. All text goes
 /// out before each that may wait for bytes, so that no line waits with it, and where the run ends.
 #[inline(never)]
+#[tactic(auto, using(crate::proofs::RunLaws::gave))]
 pub fn run<M: Machine, R: Source, W: Sink>(
     machine: M,
     source: &mut R,

@@ -11,16 +11,16 @@ ghost use Rattle.lis_link.specs.inside.Stands.{IsIn};
 ghost use Rattle.lis_tool.specs.declared.playing.Account.{Account as AccountOf};
 ghost use Rattle.lis_tool.specs.declared.playing.Account.TheVariants as accounts;
 ghost use Rattle.lis_tool.specs.LineOutcome.{LineEnds, LineSteps};
-ghost use Rattle.lis_tool.specs.Output.{Gathered, out};
+ghost use Rattle.lis_tool.specs.Output.{out};
 ghost use Rattle.lis_tool.specs.inside.Playing.{IsHearing, IsPlaying, Took, playing_writes, text_parts};
 ghost use Rattle.lis_tool.specs.Replay.{handed, having_heard, replay_writes, replies, status_of};
 
 use crate::fault::ToolFault;
-use crate::gather::gather;
 use crate::lines::LineMachine;
 use crate::machine::{Halt, Turn};
-use crate::replay::{gather_compared, gather_counts, gather_left, gather_text_line};
+use crate::replay::{TextLine, gather_difference};
 use crate::report::Report;
+use crate::tell::{Counts, Part, Tell};
 use lis_capture::{Line, LineReader, MOST_BYTES, Page};
 use lis_link::{Hearing, Note, ReceiverOf, Step};
 use lis_port::Sink;
@@ -164,7 +164,13 @@ impl<const N: usize, T: Teller> Playing<N, T> {
             return Ok(Turn::Off(starved(written)));
         }
         self.texts = self.texts.saturating_add(count_of(&message));
-        let told = gather_message(sink, page, written, self.teller.account(), number, &message);
+        let account = self.teller.account();
+        let told = HandedOut {
+            account,
+            number,
+            message: &message,
+        }
+        .tell(sink, page, written);
         self.reuse(message);
         match told {
             Ok(after) => Ok(Turn::On(after)),
@@ -229,7 +235,8 @@ impl<const N: usize, T: Teller> Playing<N, T> {
         let got = self.replies.as_slice();
         let same = bytes == got;
         let differences = counted(self.differences, same);
-        let after = match gather_compared(sink, page, written, number, bytes, got, same) {
+        let place = Part::Number(number);
+        let after = match gather_difference(sink, page, written, place, bytes, got, same) {
             Ok(after) => after,
             Err(fault) => return Err(fault),
         };
@@ -250,15 +257,23 @@ impl<const N: usize, T: Teller> Playing<N, T> {
         ensures failed { W.failed sink.new ≡ is_err result }
     {
         let left = self.replies.as_slice();
-        let after = match gather_left(sink, page, written, left) {
+        let same = left.is_empty();
+        let place = Part::Text(b"end");
+        let after = match gather_difference(sink, page, written, place, &[], left, same) {
             Ok(after) => after,
             Err(fault) => return Err(fault),
         };
-        let differences = counted(self.differences, left.is_empty());
-        match gather_counts(sink, page, after, self.texts, differences) {
+        let differences = counted(self.differences, same);
+        let counts = Counts {
+            word: b"texts ",
+            count: self.texts,
+            other_word: b" differences ",
+            other_count: differences,
+        };
+        match counts.tell(sink, page, after) {
             Ok(written) => Ok(Halt {
                 written,
-                result: Ok(report_of(differences)),
+                result: Ok(Report::of(differences > 0)),
             }),
             Err(fault) => Err(fault),
         }
@@ -316,10 +331,7 @@ impl<const N: usize, T: Teller> LineMachine for Playing<N, T> {
         match self.teller.account() {
             Account::Texts => Ok(Halt {
                 written,
-                result: Ok(Report {
-                    status: 0,
-                    refused: None,
-                }),
+                result: Ok(Report::of(false)),
             }),
             Account::Lines => self.close(sink, page, written),
         }
@@ -347,27 +359,27 @@ fn count_of(message: &Option<LinkText>) -> u64
     }
 }
 
-/// Gathers what is told of a text, if there is one.
-#[inline(always)]
-fn gather_message<W: Sink>(
-    sink: &mut W,
-    page: &mut Page,
-    written: u64,
+/// A text that the receiver hands out at the line of this number, if it hands one out.
+#[derive(Clone, Copy)]
+struct HandedOut<'a> {
     account: Account,
     number: u64,
-    message: &Option<LinkText>,
-) -> Result<u64, ToolFault>
-    requires { W.failed sink.old ≡ false }
-    ensures gathered { Gathered (out (W.taken sink.old) page.old) (out (W.taken sink.new) page.new) written result
-        (text_parts account number (option_to_list message.now)) }
-    ensures failed { W.failed sink.new ≡ is_err result }
-{
-    match message {
-        None => Ok(written),
-        Some(text) => match account {
-            Account::Lines => gather_text_line(sink, page, written, number, text.as_slice()),
-            Account::Texts => gather(sink, page, written, text.as_slice()),
-        },
+    message: &'a Option<LinkText>,
+}
+
+impl Tell for HandedOut<'_> {
+    ghost text = { λ it. text_parts it.account it.number (option_to_list it.message.now) };
+
+    #[inline(always)]
+    fn tell<W: Sink>(&self, sink: &mut W, page: &mut Page, written: u64) -> Result<u64, ToolFault> {
+        let Some(text) = self.message else {
+            return Ok(written);
+        };
+        let (number, text) = (self.number, text.as_slice());
+        match self.account {
+            Account::Lines => TextLine { number, text }.tell(sink, page, written),
+            Account::Texts => Part::Text(text).tell(sink, page, written),
+        }
     }
 }
 
@@ -379,14 +391,4 @@ fn counted(differences: u64, same: bool) -> u64
         return differences;
     }
     differences.saturating_add(1)
-}
-
-/// 1 where there is a difference.
-fn report_of(differences: u64) -> Report
-    ensures { result ≡ status_of differences }
-{
-    Report {
-        status: if differences > 0 { 1 } else { 0 },
-        refused: None,
-    }
 }

@@ -1,23 +1,20 @@
 //! The command `replay`: what a receiver answers to the analyzer's bytes of a capture, beside the computer's.
 
-ghost use Rattle.std.specs.Prelude.{◌≡◌, ◌+◌, ◌≤◌, ◌++◌, ℕ, List, false, true, is_err, length, IfOk};
-ghost use Rattle.std.specs.Str.{bytes_eq};
+ghost use Rattle.std.specs.Prelude.{◌≡◌, ◌≤◌, [], true, false, is_err, if◌then◌else◌, IfOk};
 ghost use Rattle.lis_frame.specs.Limit.{IsLimit};
-ghost use Rattle.lis_capture.specs.declared.page.TheConstants.{PAGE_ROOM};
 ghost use Rattle.lis_tool.specs.CaptureRuns.{CaptureRan};
-ghost use Rattle.lis_tool.specs.Output.{Gathered, out};
 ghost use Rattle.lis_tool.specs.inside.Parts.{part_text};
-ghost use Rattle.lis_tool.specs.Replay.{compared_line, counts_line, difference_line, digits_or_dash, left_line};
-ghost use Rattle.lis_tool.specs.Replay.{replay_writes, text_line};
+ghost use Rattle.lis_tool.specs.Output.{Gathered, out};
+ghost use Rattle.lis_tool.specs.Replay.{difference_line, digits_or_dash, replay_writes, text_line};
 ghost use Rattle.lis_tool.specs.Runs.{EachGave, IsFresh, Stops};
 
 use crate::fault::ToolFault;
 use crate::gather::{append_number, make_room};
 use crate::lines::Lines;
 use crate::machine::run;
-use crate::parts::{Part, gather_parts};
 use crate::playing::{InLines, Playing};
 use crate::report::Report;
+use crate::tell::{Part, Tell};
 use lis_capture::Page;
 use lis_port::{Sink, Source};
 use std::alloc::Global;
@@ -73,119 +70,46 @@ pub fn run_replay<R: Source, W: Sink>(
     run_replay_of::<240, R, W>(alloc, source, sink, reads)
 }
 
-/// Gathers the line of a text.
-pub(crate) fn gather_text_line<W: Sink>(
-    sink: &mut W,
-    page: &mut Page,
-    written: u64,
-    number: u64,
-    text: &[u8],
-) -> Result<u64, ToolFault>
-    requires { W.failed sink.old ≡ false }
-    ensures gathered { Gathered (out (W.taken sink.old) page.old) (out (W.taken sink.new) page.new) written result
-        (text_line number text.now) }
-    ensures failed { W.failed sink.new ≡ is_err result }
-{
-    match make_room(sink, page, written, TEXT_LINE_ROOM) {
-        Ok(after) => {
-            append_text_line(page, number, text.len() as u64);
-            Ok(after)
-        }
-        Err(fault) => Err(fault),
+/// The line of a text.
+#[derive(Clone, Copy)]
+pub(crate) struct TextLine<'a> {
+    pub(crate) number: u64,
+    pub(crate) text: &'a [u8],
+}
+
+impl Tell for TextLine<'_> {
+    ghost text = { λ line. text_line line.number line.text.now };
+
+    fn tell<W: Sink>(&self, sink: &mut W, page: &mut Page, written: u64) -> Result<u64, ToolFault> {
+        let after = make_room(sink, page, written, TEXT_LINE_ROOM)?;
+        page.append(b"text ");
+        append_number(page, self.number);
+        page.append(b" ");
+        append_number(page, self.text.len() as u64);
+        page.append(b"\n");
+        Ok(after)
     }
 }
 
-/// Puts the line of a text of so many bytes behind the page.
+/// Gathers the line of a difference between what the computer sent and the replies; none where both are the same.
 #[inline(always)]
-fn append_text_line(page: &mut Page, number: u64, len: u64)
-    requires { length page.old + TEXT_LINE_ROOM ≤ PAGE_ROOM }
-    ensures { (text : List ℕ) → len ≡ length text → page.new ≡ page.old ++ text_line number text }
-{
-    page.append(b"text ");
-    append_number(page, number);
-    page.append(b" ");
-    append_number(page, len);
-    page.append(b"\n");
-}
-
-/// Gathers the difference of the computer's bytes and the replies, where there is one; `same` tells that there is none.
-#[inline(always)]
-pub(crate) fn gather_compared<'x, W: Sink>(
-    sink: &mut W,
-    page: &mut Page,
-    written: u64,
-    number: u64,
-    want: &'x [u8],
-    got: &'x [u8],
-    same: bool,
-) -> Result<u64, ToolFault>
-    requires working { W.failed sink.old ≡ false }
-    requires same { same ≡ bytes_eq want.now got.now }
-    ensures gathered { Gathered (out (W.taken sink.old) page.old) (out (W.taken sink.new) page.new) written result
-        (compared_line number want.now got.now) }
-    ensures failed { W.failed sink.new ≡ is_err result }
-{
-    if same {
-        return Ok(written);
-    }
-    gather_difference(sink, page, written, Part::Number(number), want, got)
-}
-
-/// Gathers the difference at the end, where replies are left.
-pub(crate) fn gather_left<W: Sink>(
-    sink: &mut W,
-    page: &mut Page,
-    written: u64,
-    left: &[u8],
-) -> Result<u64, ToolFault>
-    requires { W.failed sink.old ≡ false }
-    ensures gathered { Gathered (out (W.taken sink.old) page.old) (out (W.taken sink.new) page.new) written result
-        (left_line left.now) }
-    ensures failed { W.failed sink.new ≡ is_err result }
-{
-    if left.is_empty() {
-        return Ok(written);
-    }
-    gather_difference(sink, page, written, Part::Text(b"end"), &[], left)
-}
-
-/// Gathers the last line.
-pub(crate) fn gather_counts<W: Sink>(
-    sink: &mut W,
-    page: &mut Page,
-    written: u64,
-    texts: u64,
-    differences: u64,
-) -> Result<u64, ToolFault>
-    requires { W.failed sink.old ≡ false }
-    ensures gathered { Gathered (out (W.taken sink.old) page.old) (out (W.taken sink.new) page.new) written result
-        (counts_line texts differences) }
-    ensures failed { W.failed sink.new ≡ is_err result }
-{
-    let parts = [
-        Part::Text(b"texts "),
-        Part::Number(texts),
-        Part::Text(b" differences "),
-        Part::Number(differences),
-        Part::Text(b"\n"),
-    ];
-    gather_parts(sink, page, written, &parts)
-}
-
-/// Gathers the line of a difference.
-fn gather_difference<'x, W: Sink>(
+pub(crate) fn gather_difference<'x, W: Sink>(
     sink: &mut W,
     page: &mut Page,
     written: u64,
     place: Part<'x>,
     want: &'x [u8],
     got: &'x [u8],
+    same: bool,
 ) -> Result<u64, ToolFault>
     requires { W.failed sink.old ≡ false }
     ensures gathered { Gathered (out (W.taken sink.old) page.old) (out (W.taken sink.new) page.new) written result
-        (difference_line (part_text place.entry) want.now got.now) }
+        (if same then [] else difference_line (part_text place.entry) want.now got.now) }
     ensures failed { W.failed sink.new ≡ is_err result }
 {
+    if same {
+        return Ok(written);
+    }
     let parts = [
         Part::Text(b"difference "),
         place,
@@ -195,7 +119,7 @@ fn gather_difference<'x, W: Sink>(
         or_dash(got),
         Part::Text(b"\n"),
     ];
-    gather_parts(sink, page, written, &parts)
+    parts.as_slice().tell(sink, page, written)
 }
 
 /// The digits of bytes, or a dash for no byte.

@@ -1,7 +1,9 @@
 //! How a run ended.
 
-ghost use Rattle.std.specs.Prelude.{◌≡◌, ◌+◌, ◌^◌, ◌<◌, Some};
+ghost use Rattle.std.specs.Prelude.{◌≡◌, ◌^◌, ◌<◌, List, None, if◌then◌else◌, length};
 ghost use Rattle.lis_tool.specs.Codes.{printed_reason};
+ghost use Rattle.lis_tool.specs.Messages.{MessageWrites, report_after};
+ghost use Rattle.lis_tree.specs.Tree.{MessageTree};
 
 use lis_message::{MessageFault, Reason, RecordFault};
 use std::fmt;
@@ -32,14 +34,25 @@ pub struct Report {
 }
 
 impl Report {
-    /// The report of a record that is refused behind so many messages.
-    pub(crate) fn of_refusal(before: u64, fault: MessageFault) -> Report
-        ensures { before < 2 ^ 44 → result ≡ record {
-          status = 1;
-          refused = Some
-              (record { message = before + 1; fault = fault });
-        } }
+    /// The report of a run that read its input to the end, by whether it found something to look at.
+    pub(crate) fn of(found: bool) -> Report
+        ensures { result ≡ record { status = if found then 1 else 0; refused = None } }
     {
+        Report {
+            status: if found { 1 } else { 0 },
+            refused: None,
+        }
+    }
+
+    /// The same of a run over so many messages, where none or this is refused behind them.
+    pub(crate) fn behind(before: u64, found: bool, fault: Option<MessageFault>) -> Report
+        ensures { (w : MessageWrites) (messages : List MessageTree) → before ≡ length messages
+            → length messages < 2 ^ 44 → (if found then 1 else 0) ≡ w.status messages
+            → result ≡ report_after w messages fault }
+    {
+        let Some(fault) = fault else {
+            return Report::of(found);
+        };
         let message = before.saturating_add(1);
         Report {
             status: 1,

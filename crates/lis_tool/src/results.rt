@@ -11,11 +11,11 @@ ghost use Rattle.lis_tool.specs.Runs.{EachGave, IsFresh, StopsBy};
 ghost use Rattle.lis_tree.specs.Tree.{MessageTree};
 
 use crate::fault::ToolFault;
-use crate::gather::gather;
 use crate::held_text::HeldText;
 use crate::machine::{Halt, run};
 use crate::messages::{MessageMachine, Messages};
 use crate::report::Report;
+use crate::tell::{Part, Tell};
 use lis_capture::Page;
 use lis_field::Kind;
 use lis_message::{LentRecord, MessageFault};
@@ -93,7 +93,7 @@ impl MessageMachine for Results {
         written: u64,
         _before: u64,
     ) -> Result<u64, ToolFault> {
-        let result = gather(sink, page, written, self.lines.as_slice());
+        let result = Part::Text(self.lines.as_slice()).tell(sink, page, written);
         self.lines.clear();
         self.sample.clear();
         result
@@ -109,22 +109,8 @@ impl MessageMachine for Results {
     ) -> Result<Halt, ToolFault> {
         Ok(Halt {
             written,
-            result: Ok(report_of(before, fault)),
+            result: Ok(Report::behind(before, false, fault)),
         })
-    }
-}
-
-/// The report behind so many messages.
-fn report_of(before: u64, fault: Option<MessageFault>) -> Report
-    ensures { (messages : List MessageTree) → before ≡ length messages → length messages < 2 ^ 44
-        → result ≡ report_after results_writes messages fault }
-{
-    match fault {
-        None => Report {
-            status: 0,
-            refused: None,
-        },
-        Some(fault) => Report::of_refusal(before, fault),
     }
 }
 

@@ -8,15 +8,17 @@ ghost use Rattle.lis_frame.specs.Stream.{signal_after, signals_after, stream_wit
 ghost use Rattle.lis_capture.specs.declared.page.TheConstants.{PAGE_ROOM};
 ghost use Rattle.lis_tool.specs.Output.{Gathered, most_counted, out};
 ghost use Rattle.lis_tool.specs.Runs.{EachGave, IsFresh, Ran, Shown, Stops};
-ghost use Rattle.lis_tool.specs.Show.{bad_line, digits_part, frame_line, frame_start, heard_line, lent_line, Shows};
+ghost use Rattle.lis_tool.specs.Show.{bad_line, digits_part, frame_line, frame_start, heard_line, Shows};
 ghost use Rattle.lis_tool.specs.Show.{show, signal_lines};
 ghost use Rattle.lis_tool.specs.Outcome.{going};
+ghost use Rattle.lis_tool.specs.inside.Parts.{part_text, text_if_any};
 ghost use Rattle.std.proofs.Common.{ap};
 
 use crate::fault::ToolFault;
-use crate::gather::{append_number, gather, gather_digits, make_room};
+use crate::gather::{append_number, make_room};
 use crate::machine::{Halt, Machine, Turn, run};
 use crate::report::Report;
+use crate::tell::{Part, Tell};
 use lis_capture::Page;
 use lis_frame::{FrameFault, Heard, LentFrame, ScannerOf};
 use lis_port::{Sink, Source};
@@ -123,10 +125,7 @@ impl<const N: usize> Machine for Show<N> {
     ) -> Result<Halt, ToolFault> {
         Ok(Halt {
             written,
-            result: Ok(Report {
-                status: 0,
-                refused: None,
-            }),
+            result: Ok(Report::of(false)),
         })
     }
 
@@ -159,12 +158,32 @@ fn show_bytes<const N: usize, W: Sink>(
             after = show_byte(scanner, sink, page, after, *byte)?;
             rest = left;
         } else {
-            after = gather_lent(sink, page, after, frame)?;
+            after = tell_lent(sink, page, after, frame)?;
             let (_, behind) = rest.split_at(taken);
             rest = behind;
         }
     }
     Ok(after)
+}
+
+/// Gathers the line of a frame, where there is one.
+// By value: told as an option that is lent, each would be put into memory to be looked at, also where there is none.
+#[inline(always)]
+fn tell_lent<W: Sink>(
+    sink: &mut W,
+    page: &mut Page,
+    written: u64,
+    frame: Option<LentFrame<'_>>,
+) -> Result<u64, ToolFault>
+    requires { W.failed sink.old ≡ false }
+    ensures gathered { Gathered (out (W.taken sink.old) page.old) (out (W.taken sink.new) page.new) written result
+        (text_if_any frame_line frame.entry) }
+    ensures failed { W.failed sink.new ≡ is_err result }
+{
+    match frame {
+        None => Ok(written),
+        Some(frame) => frame.tell(sink, page, written),
+    }
 }
 
 /// Gathers the line of the signal that one more byte gives, if it gives one.
@@ -185,115 +204,49 @@ fn show_byte<const N: usize, W: Sink>(
 {
     let result = match scanner.told(byte) {
         None => Ok(written),
-        Some(heard) => gather_heard(sink, page, written, &heard),
+        Some(heard) => heard.tell(sink, page, written),
     };
     scanner.take(byte);
     result
 }
 
-/// Gathers the line of a signal.
-fn gather_heard<W: Sink>(
-    sink: &mut W,
-    page: &mut Page,
-    written: u64,
-    heard: &Heard<'_>,
-) -> Result<u64, ToolFault>
-    requires { W.failed sink.old ≡ false }
-    ensures gathered { Gathered (out (W.taken sink.old) page.old) (out (W.taken sink.new) page.new) written result
-        (heard_line heard.now) }
-    ensures failed { W.failed sink.new ≡ is_err result }
-{
-    match heard {
-        Heard::Enq => gather(sink, page, written, b"ENQ\n"),
-        Heard::Eot => gather(sink, page, written, b"EOT\n"),
-        Heard::Good(frame) => gather_frame(sink, page, written, frame),
-        Heard::Bad(fault) => gather_bad(sink, page, written, *fault),
-    }
-}
+/// The line of a signal.
+impl Tell for Heard<'_> {
+    ghost text = { heard_line };
 
-/// Gathers the line of a frame, where there is one.
-#[inline(always)]
-fn gather_lent<W: Sink>(
-    sink: &mut W,
-    page: &mut Page,
-    written: u64,
-    frame: Option<LentFrame<'_>>,
-) -> Result<u64, ToolFault>
-    requires { W.failed sink.old ≡ false }
-    ensures gathered { Gathered (out (W.taken sink.old) page.old) (out (W.taken sink.new) page.new) written result
-        (lent_line frame.entry) }
-    ensures failed { W.failed sink.new ≡ is_err result }
-{
-    match frame {
-        None => Ok(written),
-        Some(frame) => gather_frame(sink, page, written, &frame),
-    }
-}
-
-/// Gathers the line of a frame.
-fn gather_frame<W: Sink>(
-    sink: &mut W,
-    page: &mut Page,
-    written: u64,
-    frame: &LentFrame<'_>,
-) -> Result<u64, ToolFault>
-    requires { W.failed sink.old ≡ false }
-    ensures gathered { Gathered (out (W.taken sink.old) page.old) (out (W.taken sink.new) page.new) written result
-        (frame_line frame.now) }
-    ensures failed { W.failed sink.new ≡ is_err result }
-{
-    let text = frame.text();
-    let started = match gather_start(sink, page, written, frame) {
-        Ok(after) => after,
-        Err(fault) => return Err(fault),
-    };
-    match gather_bytes(sink, page, started, text) {
-        Ok(after) => gather(sink, page, after, b"\n"),
-        Err(fault) => Err(fault),
-    }
-}
-
-/// Gathers the line of a frame as far as the length of its text.
-#[inline(always)]
-fn gather_start<W: Sink>(
-    sink: &mut W,
-    page: &mut Page,
-    written: u64,
-    frame: &LentFrame<'_>,
-) -> Result<u64, ToolFault>
-    requires { W.failed sink.old ≡ false }
-    ensures gathered { Gathered (out (W.taken sink.old) page.old) (out (W.taken sink.new) page.new) written result
-        (frame_start frame.now.number frame.now.last ++ decimal (length frame.now.text)) }
-    ensures failed { W.failed sink.new ≡ is_err result }
-{
-    match make_room(sink, page, written, FRAME_ROOM) {
-        Ok(after) => {
-            start_frame(page, frame.number(), frame.is_last(), frame.text().len());
-            Ok(after)
+    fn tell<W: Sink>(&self, sink: &mut W, page: &mut Page, written: u64) -> Result<u64, ToolFault> {
+        match self {
+            Heard::Enq => Part::Text(b"ENQ\n").tell(sink, page, written),
+            Heard::Eot => Part::Text(b"EOT\n").tell(sink, page, written),
+            Heard::Good(frame) => frame.tell(sink, page, written),
+            Heard::Bad(fault) => fault.tell(sink, page, written),
         }
-        Err(fault) => Err(fault),
     }
 }
 
-/// Gathers a space and the digits of bytes, where there are any.
-#[inline(always)]
-fn gather_bytes<W: Sink>(
-    sink: &mut W,
-    page: &mut Page,
-    written: u64,
-    bytes: &[u8],
-) -> Result<u64, ToolFault>
-    requires { W.failed sink.old ≡ false }
-    ensures gathered { Gathered (out (W.taken sink.old) page.old) (out (W.taken sink.new) page.new) written result
-        (digits_part bytes.now) }
-    ensures failed { W.failed sink.new ≡ is_err result }
-{
-    if bytes.is_empty() {
-        return Ok(written);
+/// The line of a frame.
+impl Tell for LentFrame<'_> {
+    ghost text = { frame_line };
+
+    fn tell<W: Sink>(&self, sink: &mut W, page: &mut Page, written: u64) -> Result<u64, ToolFault> {
+        let digits = digits_part(self.text());
+        ((FrameStart(self), digits), Part::Text(b"\n")).tell(sink, page, written)
     }
-    match gather(sink, page, written, b" ") {
-        Ok(after) => gather_digits(sink, page, after, bytes),
-        Err(fault) => Err(fault),
+}
+
+/// The line of a frame as far as the length of its text.
+#[derive(Clone, Copy)]
+struct FrameStart<'a>(&'a LentFrame<'a>);
+
+impl Tell for FrameStart<'_> {
+    ghost text = { λ start. frame_start start.0.now.number start.0.now.last ++ decimal (length start.0.now.text) };
+
+    #[inline(always)]
+    fn tell<W: Sink>(&self, sink: &mut W, page: &mut Page, written: u64) -> Result<u64, ToolFault> {
+        let FrameStart(frame) = self;
+        let after = make_room(sink, page, written, FRAME_ROOM)?;
+        start_frame(page, frame.number(), frame.is_last(), frame.text().len());
+        Ok(after)
     }
 }
 
@@ -301,8 +254,7 @@ fn gather_bytes<W: Sink>(
 #[inline(always)]
 fn start_frame(page: &mut Page, number: u8, last: bool, count: usize)
     requires { length page.old + FRAME_ROOM ≤ PAGE_ROOM }
-    ensures value { page.new ≡ page.old ++ (frame_start number last ++ decimal count) }
-    ensures short { length page.new < length page.old + FRAME_ROOM }
+    ensures { page.new ≡ page.old ++ (frame_start number last ++ decimal count) }
 {
     page.append(b"frame ");
     append_number(page, number as u64);
@@ -314,46 +266,34 @@ fn start_frame(page: &mut Page, number: u8, last: bool, count: usize)
     append_number(page, count as u64);
 }
 
-/// Gathers the line of a bad frame.
-fn gather_bad<W: Sink>(
-    sink: &mut W,
-    page: &mut Page,
-    written: u64,
-    fault: FrameFault,
-) -> Result<u64, ToolFault>
-    requires { W.failed sink.old ≡ false }
-    ensures gathered { Gathered (out (W.taken sink.old) page.old) (out (W.taken sink.new) page.new) written result
-        (bad_line fault) }
-    ensures failed { W.failed sink.new ≡ is_err result }
+/// A space and the digits of bytes, where there are any.
+#[inline(always)]
+fn digits_part(bytes: &[u8]) -> Option<(Part<'_>, Part<'_>)>
+    ensures { text_if_any (λ both. part_text both.0 ++ part_text both.1) result ≡ digits_part bytes.now }
 {
-    match fault {
-        FrameFault::TooLong => gather(sink, page, written, b"bad F1\n"),
-        FrameFault::Shape => gather(sink, page, written, b"bad F2\n"),
-        FrameFault::Number => gather(sink, page, written, b"bad F3\n"),
-        FrameFault::Text(place) => gather_bad_text(sink, page, written, place),
-        FrameFault::Sum => gather(sink, page, written, b"bad F5\n"),
+    if bytes.is_empty() {
+        return None;
     }
+    Some((Part::Text(b" "), Part::Digits(bytes)))
 }
 
-/// Gathers the line of a frame with a forbidden byte at this place of its text.
-fn gather_bad_text<W: Sink>(
-    sink: &mut W,
-    page: &mut Page,
-    written: u64,
-    place: usize,
-) -> Result<u64, ToolFault>
-    requires { W.failed sink.old ≡ false }
-    ensures gathered { Gathered (out (W.taken sink.old) page.old) (out (W.taken sink.new) page.new) written result
-        (bad_line (FrameFault.Text place)) }
-    ensures failed { W.failed sink.new ≡ is_err result }
-{
-    match make_room(sink, page, written, FRAME_ROOM) {
-        Ok(after) => {
-            page.append(b"bad F4 ");
-            append_number(page, place as u64);
-            page.append(b"\n");
-            Ok(after)
+/// The line of a bad frame.
+impl Tell for FrameFault {
+    ghost text = { bad_line };
+
+    fn tell<W: Sink>(&self, sink: &mut W, page: &mut Page, written: u64) -> Result<u64, ToolFault> {
+        match self {
+            FrameFault::TooLong => Part::Text(b"bad F1\n").tell(sink, page, written),
+            FrameFault::Shape => Part::Text(b"bad F2\n").tell(sink, page, written),
+            FrameFault::Number => Part::Text(b"bad F3\n").tell(sink, page, written),
+            FrameFault::Text(place) => {
+                let after = make_room(sink, page, written, FRAME_ROOM)?;
+                page.append(b"bad F4 ");
+                append_number(page, *place as u64);
+                page.append(b"\n");
+                Ok(after)
+            }
+            FrameFault::Sum => Part::Text(b"bad F5\n").tell(sink, page, written),
         }
-        Err(fault) => Err(fault),
     }
 }

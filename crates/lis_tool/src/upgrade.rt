@@ -4,15 +4,16 @@ ghost use Rattle.std.specs.Prelude.{◌≡◌, ◌≤◌, ◌++◌, [], List, tr
 ghost use Rattle.lis_capture.specs.declared.line.Line.{Line as LineContent};
 ghost use Rattle.lis_capture.specs.Spelling.{line_spelling};
 ghost use Rattle.lis_tool.specs.CaptureRuns.{CaptureRan};
-ghost use Rattle.lis_tool.specs.Output.{Gathered, out};
+ghost use Rattle.lis_tool.specs.inside.Parts.{part_text, text_if_any};
 ghost use Rattle.lis_tool.specs.Runs.{EachGave, IsFresh, Stops};
 ghost use Rattle.lis_tool.specs.Upgrade.{is_begun, opening, upgrade_writes, written_line};
 
 use crate::fault::ToolFault;
-use crate::gather::{gather, make_room};
+use crate::gather::make_room;
 use crate::lines::{LineMachine, Lines};
 use crate::machine::{Halt, Turn, run};
 use crate::report::Report;
+use crate::tell::{Part, Tell};
 use lis_capture::{LONGEST_SPELLING, Line, LineReader, MOST_BYTES, Page};
 use lis_port::{Sink, Source};
 
@@ -72,87 +73,47 @@ impl LineMachine for Upgrade {
         line: &Line<'a>,
         _room: &'a mut [u8; MOST_BYTES],
     ) -> Result<Turn, ToolFault> {
-        let after = match gather_opening(sink, page, written, self.begun) {
-            Ok(after) => after,
-            Err(fault) => return Err(fault),
-        };
+        let opening = opening_behind(self.begun);
         self.begun = true;
-        match gather_line(sink, page, after, line) {
+        match (opening, line).tell(sink, page, written) {
             Ok(after) => Ok(Turn::On(after)),
             Err(fault) => Err(fault),
         }
     }
 
     fn end<W: Sink>(self, sink: &mut W, page: &mut Page, written: u64) -> Result<Halt, ToolFault> {
-        match gather_opening(sink, page, written, self.begun) {
+        match opening_behind(self.begun).tell(sink, page, written) {
             Ok(written) => Ok(Halt {
                 written,
-                result: Ok(Report {
-                    status: 0,
-                    refused: None,
-                }),
+                result: Ok(Report::of(false)),
             }),
             Err(fault) => Err(fault),
         }
     }
 }
 
-/// Gathers the line of the version, where no line was read before.
+/// The line of the version, where no line was read before.
 #[inline(always)]
-fn gather_opening<W: Sink>(
-    sink: &mut W,
-    page: &mut Page,
-    written: u64,
-    begun: bool,
-) -> Result<u64, ToolFault>
-    requires { W.failed sink.old ≡ false }
-    ensures gathered { (lines : List LineContent) → begun ≡ is_begun lines →
-        Gathered (out (W.taken sink.old) page.old) (out (W.taken sink.new) page.new) written result (opening lines) }
-    ensures failed { W.failed sink.new ≡ is_err result }
+fn opening_behind(begun: bool) -> Option<Part<'static>>
+    ensures { (lines : List LineContent) → begun ≡ is_begun lines → text_if_any part_text result ≡ opening lines }
 {
     if begun {
-        return Ok(written);
+        return None;
     }
-    gather(sink, page, written, b"capture 2\n")
+    Some(Part::Text(b"capture 2\n"))
 }
 
-/// Gathers a line; the version stands in front alone.
-#[inline(always)]
-fn gather_line<W: Sink>(
-    sink: &mut W,
-    page: &mut Page,
-    written: u64,
-    line: &Line<'_>,
-) -> Result<u64, ToolFault>
-    requires { W.failed sink.old ≡ false }
-    ensures gathered { Gathered (out (W.taken sink.old) page.old) (out (W.taken sink.new) page.new) written result
-        (written_line line.now) }
-    ensures failed { W.failed sink.new ≡ is_err result }
-{
-    match line {
-        Line::Version => Ok(written),
-        _ => gather_spelling(sink, page, written, line),
-    }
-}
+/// The text of a line; the version stands in front alone.
+impl Tell for Line<'_> {
+    ghost text = { written_line };
 
-/// Gathers the text of a line.
-#[inline(always)]
-fn gather_spelling<W: Sink>(
-    sink: &mut W,
-    page: &mut Page,
-    written: u64,
-    line: &Line<'_>,
-) -> Result<u64, ToolFault>
-    requires { W.failed sink.old ≡ false }
-    ensures gathered { Gathered (out (W.taken sink.old) page.old) (out (W.taken sink.new) page.new) written result
-        (line_spelling line.now) }
-    ensures failed { W.failed sink.new ≡ is_err result }
-{
-    match make_room(sink, page, written, LONGEST_SPELLING) {
-        Ok(after) => {
-            page.append_line(line);
-            Ok(after)
+    #[inline(always)]
+    fn tell<W: Sink>(&self, sink: &mut W, page: &mut Page, written: u64) -> Result<u64, ToolFault> {
+        if let Line::Version = self {
+            return Ok(written);
         }
-        Err(fault) => Err(fault),
+        let after = make_room(sink, page, written, LONGEST_SPELLING)?;
+        page.append_line(self);
+        Ok(after)
     }
 }

@@ -2,7 +2,8 @@ use Rattle.std.proofs.Common.{[], ◌∷◌, Ok, Err, take, drop, ◌∙◌, ari
 use Rattle.std.proofs.lemmas.Result.{err_from_is_err_and}
 use Rattle.lis_frame.specs.Scanner.{StandsFor}
 use Rattle.lis_frame.specs.Stream.{signal_after, signals_after, stream_with, with_signal}
-use Rattle.lis_tool.specs.Show.{lent_line, signal_lines}
+use Rattle.lis_tool.specs.Show.{frame_line, signal_lines}
+use Rattle.lis_tool.specs.inside.Parts.{text_if_any}
 use Rattle.lis_tool.specs.Output.{out}
 use Rattle.lis_tool.proofs.GatherLaws.{gathered_then, gathered_stops, gathered_none}
 use Rattle.lis_tool.proofs.ShowLaws.{signal_lines-with, no_lines, front_lines, front_stream}
@@ -51,7 +52,7 @@ loop-byte-preserved g c =
             λ new r p.
                 point.3 new r
                 (rw (front_lines g.row.N n point.0 rest frame (c.scan-taken.ensures.signal point.0 point.1))
-                (gathered_then _ _ _ _ c.in_ok-after-2.after r (lent_line frame)
+                (gathered_then _ _ _ _ c.in_ok-after-2.after r (text_if_any frame_line frame)
                 (signal_lines (signals_after g.row.N there (drop n rest)))
                 c.in_ok-after-2.ensures.gathered (rw c.split_at.ensures.back at p))),
           );
@@ -84,11 +85,11 @@ returns-in_err-after-2-clause-gathered g c = λ past stands.
     let frame = c.scan-taken.result.1 in
     let rest = c.loop-byte.rest.now in
     rw (p.1, p.2)
-    (point.3 (out (g.W.Sink.taken c.gather_lent.new.sink) c.gather_lent.new.page) (Err c.in_err-after-2.field-0.0)
+    (point.3 (out (g.W.Sink.taken c.tell_lent.new.sink) c.tell_lent.new.page) (Err c.in_err-after-2.field-0.0)
     (rw (front_lines g.row.N n point.0 rest frame (c.scan-taken.ensures.signal point.0 point.1))
     (gathered_stops (out (g.W.Sink.taken c.loop-byte.sink) c.loop-byte.page)
-    (out (g.W.Sink.taken c.gather_lent.new.sink) c.gather_lent.new.page)
-    c.loop-byte.after c.in_err-after-2.field-0.0 (lent_line frame) _ c.in_err-after-2.ensures.gathered)))
+    (out (g.W.Sink.taken c.tell_lent.new.sink) c.tell_lent.new.page)
+    c.loop-byte.after c.in_err-after-2.field-0.0 (text_if_any frame_line frame) _ c.in_err-after-2.ensures.gathered)))
 
 pub returns-clause-gathered : goal.returns-clause-gathered
 returns-clause-gathered g c = λ past stands.

@@ -18,11 +18,11 @@ returns-clause-gathered g c = λ messages message is counted few.
           messages (message ∷ []),
     ) in
     subst (λ (t : List ℕ). Gathered (out (g.W.Sink.taken c.args.sink.now) c.args.page.now)
-    (out (g.W.Sink.taken c.gather_message-result.new.sink) c.gather_message-result.new.page)
-    c.args.written c.gather_message-result.result t)
+    (out (g.W.Sink.taken c.tell-result.new.sink) c.tell-result.new.page)
+    c.args.written c.tell-result.result t)
     (check_text self.records.bytes.items self.findings.bytes.items self.numbering self.found self.told
     (length messages + 1) messages message is)
-    (rw (c.as_slice-records.ensures, c.as_slice-findings.ensures, number) at c.gather_message-result.ensures.gathered)
+    (rw (c.as_slice.ensures, c.as_slice-2.ensures, number) at c.tell-result.ensures.gathered)
 
 pub returns-clause-stood : goal.returns-clause-stood
 returns-clause-stood g c = λ messages message is few.

@@ -1,8 +1,7 @@
-use Rattle.std.proofs.Common.{◌≡◌, ◌≤◌, false, length, arith}
+use Rattle.std.proofs.Common.{◌≡◌, ◌≤◌, length, arith}
 use Rattle.std.proofs.lemmas.Bool.Decides.{nat_tests}
-use Rattle.lis_capture.specs.Capture.{capture}
 use Rattle.lis_tool.specs.Output.{most_counted}
-use Rattle.lis_tool.proofs.LineLaws.{at_end_of, at_start, line_failed, line_number, line_starved, line_taken}
+use Rattle.lis_tool.proofs.LineLaws.{at_end_of, at_start, by_number, line_failed, line_starved, line_taken}
 use Rattle.lis_tool.proofs.LineLaws.{nothing_found, refused_found}
 use Rattle.lis_tool.proofs.lines.LinesMachine.feed.Goals as goal
 
@@ -17,74 +16,42 @@ loop-rest-init g c =
 
 pub returns-in-Nothing-clause-steps : goal.returns-in-Nothing-clause-steps
 returns-in-Nothing-clause-steps g c = λ past text lined few.
-    let at = c.loop-rest.invariant.at past text lined few in
-    nothing_found g.C.LineMachine.writes _ _ c.read-count.new.self _ _ c.args.written c.loop-rest.after past text
-    c.loop-rest.rest.now c.args.bytes.now at
-    c.read-count.result.0 c.read-count.result.1 (c.read-count.ensures.found at.read at.has_read)
-    (c.read-count.ensures.after at.read at.has_read)
-    c.in-Nothing.is (c.read-count.ensures.all c.in-Nothing.is)
+    let read = c.read-count.ensures in
+    nothing_found (c.loop-rest.invariant.at past text lined few) _ _ read.after read.found c.in-Nothing.is
+    (read.all c.in-Nothing.is)
 
 pub returns-in-Refused-clause-steps : goal.returns-in-Refused-clause-steps
 returns-in-Refused-clause-steps g c = λ past text lined few.
-    let at = c.loop-rest.invariant.at past text lined few in
-    refused_found g.C.LineMachine.writes _ _ c.read-count.new.self _ _ c.args.written c.loop-rest.after past text
-    c.loop-rest.rest.now c.args.bytes.now at
-    c.read-count.result.0 c.read-count.result.1 (c.read-count.ensures.found at.read at.has_read)
-    (c.read-count.ensures.after at.read at.has_read)
-    g.C.LineMachine.takes_memory c.refused.result c.in-Refused.is c.refused.ensures.written c.refused.ensures.result
+    let read = c.read-count.ensures in
+    refused_found (c.loop-rest.invariant.at past text lined few) _ _ read.after read.found
+    g.C.LineMachine.takes_memory c.refused.result c.in-Refused.is
+    c.refused.ensures.written c.refused.ensures.result
 
 pub loop-rest-preserved : goal.loop-rest-preserved
 loop-rest-preserved g c = record {
   working = c.in-Ok-On.ensures.failed;
   at = λ past text lined few.
+      let read = c.read-count.ensures in
       let at = c.loop-rest.invariant.at past text lined few in
-      let number =
-      line_number g.C.LineMachine.writes _ _ c.read-count.new.self _ _ c.args.written c.loop-rest.after past text
-      c.loop-rest.rest.now c.args.bytes.now at
-      c.read-count.result.0 c.read-count.result.1 (c.read-count.ensures.found at.read at.has_read)
-      (c.read-count.ensures.after at.read at.has_read)
-      c.in-Line.is in
-      let steps = rw c.in-Ok-On.field-0-is at (c.in-Ok-On.ensures.steps (capture at.read false).lines at.stood
-      number.0 number.1) in
+      let steps = rw c.in-Ok-On.field-0-is at
+      (by_number at _ _ read.after read.found c.in-Line.is c.in-Ok-On.ensures.steps) in
       rw (c.in-Ok-On.ensures.reader, c.split_at.ensures.back)
-      (line_taken g.C.LineMachine.writes _ _ c.read-count.new.self _ _ c.args.written c.loop-rest.after past text
-      c.loop-rest.rest.now c.args.bytes.now at
-      c.read-count.result.0 c.read-count.result.1 (c.read-count.ensures.found at.read at.has_read)
-      (c.read-count.ensures.after at.read at.has_read)
-      c.in-Line.is _ _ c.in-Ok-On.next steps.0 steps.1);
+      (line_taken at _ _ read.after read.found c.in-Line.is steps.0 steps.1);
 }
 
 pub returns-in-Ok-Off-clause-steps : goal.returns-in-Ok-Off-clause-steps
 returns-in-Ok-Off-clause-steps g c = λ past text lined few.
+    let read = c.read-count.ensures in
     let at = c.loop-rest.invariant.at past text lined few in
-    let number =
-    line_number g.C.LineMachine.writes _ _ c.read-count.new.self _ _ c.args.written c.loop-rest.after past text
-    c.loop-rest.rest.now c.args.bytes.now at
-    c.read-count.result.0 c.read-count.result.1 (c.read-count.ensures.found at.read at.has_read)
-    (c.read-count.ensures.after at.read at.has_read)
-    c.in-Line.is in
-    let steps = rw c.in-Ok-Off.field-0-is at (c.in-Ok-Off.ensures.steps (capture at.read false).lines at.stood
-    number.0 number.1) in
-    line_starved g.C.LineMachine.writes _ _ c.read-count.new.self _ _ c.args.written c.loop-rest.after past text
-    c.loop-rest.rest.now c.args.bytes.now at
-    c.read-count.result.0 c.read-count.result.1 (c.read-count.ensures.found at.read at.has_read)
-    (c.read-count.ensures.after at.read at.has_read)
-    c.in-Line.is _ g.C.LineMachine.takes_memory c.in-Ok-Off.halt steps.2 steps.3 steps.0 steps.1 steps.4 steps.5
+    line_starved at _ _ read.after read.found c.in-Line.is c.in-Ok-Off.halt
+    (rw c.in-Ok-Off.field-0-is at (by_number at _ _ read.after read.found c.in-Line.is c.in-Ok-Off.ensures.steps))
 
 pub returns-in-Err-clause-steps : goal.returns-in-Err-clause-steps
 returns-in-Err-clause-steps g c = λ past text lined few.
+    let read = c.read-count.ensures in
     let at = c.loop-rest.invariant.at past text lined few in
-    let number =
-    line_number g.C.LineMachine.writes _ _ c.read-count.new.self _ _ c.args.written c.loop-rest.after past text
-    c.loop-rest.rest.now c.args.bytes.now at
-    c.read-count.result.0 c.read-count.result.1 (c.read-count.ensures.found at.read at.has_read)
-    (c.read-count.ensures.after at.read at.has_read)
-    c.in-Line.is in
-    line_failed g.C.LineMachine.writes _ _ c.read-count.new.self _ _ c.args.written c.loop-rest.after past text
-    c.loop-rest.rest.now c.args.bytes.now at
-    c.read-count.result.0 c.read-count.result.1 (c.read-count.ensures.found at.read at.has_read)
-    (c.read-count.ensures.after at.read at.has_read)
-    c.in-Line.is _ c.in-Err.fault (c.in-Err.ensures.steps (capture at.read false).lines at.stood number.0 number.1)
+    line_failed at _ _ read.after read.found c.in-Line.is c.in-Err.fault
+    (by_number at _ _ read.after read.found c.in-Line.is c.in-Err.ensures.steps)
 
 pub returns-clause-steps : goal.returns-clause-steps
 returns-clause-steps g c = λ past text lined few.

@@ -1,7 +1,7 @@
-use Rattle.std.proofs.Common.{◌<◌, ◌^◌, ◌++◌, [], length, sym, arith}
+use Rattle.std.proofs.Common.{Err, Ok, arith}
 use Rattle.lis_message.proofs.RecordLaws.{cut_told}
 use Rattle.lis_tool.specs.Messages.{turn_after}
-use Rattle.lis_tool.proofs.RecordSteps.{held_steps, read_few, record_steps, refused_why}
+use Rattle.lis_tool.proofs.RecordSteps.{held_steps, record_steps, refused_over}
 use Rattle.lis_tool.proofs.messages.Messages.read_next.Goals as goal
 
 pub returns-in-Nothing-clause-steps : goal.returns-in-Nothing-clause-steps
@@ -14,37 +14,13 @@ returns-in-Nothing-clause-steps g c = λ past text reading few.
 
 pub returns-in-Ok-clause-steps : goal.returns-in-Ok-clause-steps
 returns-in-Ok-clause-steps g c = λ past text reading few.
-    let w = g.C.MessageMachine.writes in
-    let told = c.args.self.now.told in
-    let stands = g.C.MessageMachine.stands told.command in
-    let refused = rw c.in-Refused.is at (c.read-found.ensures.read reading.left reading.has) in
-    let short : length past < 2 ^ 44 = omega (arith, few) in (
-      [],
-      sym refused.none_read,
-      c.in-Ok.ensures.refuses reading.messages reading.left (past ++ c.args.bytes.now) text reading.stood
-          reading.count_is
-          (read_few w stands c.args.self.now.reader told.count past text reading short) reading.text_is
-          (refused_why w stands c.args.self.now.reader c.read-found.new.self told.count past c.args.bytes.now
-          c.read-found.result.0.now text
-          c.in-Refused.fault reading refused),
-    )
+    refused_over _ _ c.args.written (Ok c.in-Ok.halt) c.in-Ok.ensures.refuses reading
+    (rw c.in-Refused.is at (c.read-found.ensures.read reading.left reading.has)) few
 
 pub returns-in-Err-clause-steps : goal.returns-in-Err-clause-steps
 returns-in-Err-clause-steps g c = λ past text reading few.
-    let w = g.C.MessageMachine.writes in
-    let told = c.args.self.now.told in
-    let stands = g.C.MessageMachine.stands told.command in
-    let refused = rw c.in-Refused.is at (c.read-found.ensures.read reading.left reading.has) in
-    let short : length past < 2 ^ 44 = omega (arith, few) in (
-      [],
-      sym refused.none_read,
-      c.in-Err.ensures.refuses reading.messages reading.left (past ++ c.args.bytes.now) text reading.stood
-          reading.count_is
-          (read_few w stands c.args.self.now.reader told.count past text reading short) reading.text_is
-          (refused_why w stands c.args.self.now.reader c.read-found.new.self told.count past c.args.bytes.now
-          c.read-found.result.0.now text
-          c.in-Refused.fault reading refused),
-    )
+    refused_over _ _ c.args.written (Err c.in-Err.fault) c.in-Err.ensures.refuses reading
+    (rw c.in-Refused.is at (c.read-found.ensures.read reading.left reading.has)) few
 
 pub returns-in-Record-clause-steps : goal.returns-in-Record-clause-steps
 returns-in-Record-clause-steps g c = λ past text reading few.

@@ -23,78 +23,53 @@ loop-rest-init g c = record {
   );
 }
 
+-- ---- the record stands whole in the bytes
+
 pub loop-rest-preserved-in-Some : goal.loop-rest-preserved-in-Some
 loop-rest-preserved-in-Some g c = record {
   working = rw c.in-Ok-Some.is at c.in-Some.ensures.failed;
   goes_on = λ past text reading few.
-      let so_far = c.loop-rest.invariant.goes_on past text reading few in
-      let then = IsReadingMessages g.C.MessageMachine.writes
-      (g.C.MessageMachine.stands c.take_whole.new.self.told.command) c.take_whole.new.self.reader
-      c.take_whole.new.self.told.count in
-      let all =
-      steps_on g.C.MessageMachine.writes _ then past _ _ _ text _ _ _ _ _ _ c.in-Some.ensures.steps so_far few in
+      let all = steps_on _ _ _ past _ _ c.in-Some.ensures.steps (c.loop-rest.invariant.goes_on past text reading
+      few) few in
       rw (c.in-Ok-Some.is ∙ ap Ok (rw c.in-Ok-Some.is at c.in-Ok-Some.field-0-is)) at all;
 }
 
 pub returns-in-Ok-None-clause-steps : goal.returns-in-Ok-None-clause-steps
 returns-in-Ok-None-clause-steps g c = λ past text reading few.
-    let so_far = c.loop-rest.invariant.goes_on past text reading few in
-    let then = IsReadingMessages g.C.MessageMachine.writes
-    (g.C.MessageMachine.stands c.take_whole.new.self.told.command) c.take_whole.new.self.reader
-    c.take_whole.new.self.told.count in
-    let all =
-    steps_on g.C.MessageMachine.writes _ then past _ _ _ text _ _ _ _ _ _ c.in-Some.ensures.steps so_far few in
+    let all = steps_on _ _ _ past _ _ c.in-Some.ensures.steps (c.loop-rest.invariant.goes_on past text reading few)
+    few in
     let off = rw (c.in-Ok-None.is ∙ ap Ok (rw c.in-Ok-None.is at c.in-Ok-None.field-0-is)) at all in
     rw c.starved.ensures off.2
 
 pub returns-in-Err-clause-steps : goal.returns-in-Err-clause-steps
 returns-in-Err-clause-steps g c = λ past text reading few.
-    let so_far = c.loop-rest.invariant.goes_on past text reading few in
-    let then = IsReadingMessages g.C.MessageMachine.writes
-    (g.C.MessageMachine.stands c.take_whole.new.self.told.command) c.take_whole.new.self.reader
-    c.take_whole.new.self.told.count in
-    let all =
-    steps_on g.C.MessageMachine.writes _ then past _ _ _ text _ _ _ _ _ _ c.in-Some.ensures.steps so_far few in
-    let failed = rw c.in-Err.is at all in failed.2
+    (rw c.in-Err.is at
+    (steps_on _ _ _ past _ _ c.in-Some.ensures.steps (c.loop-rest.invariant.goes_on past text reading few) few)).2
+
+-- ---- it does not, and what was left is as before
 
 pub loop-rest-preserved : goal.loop-rest-preserved
 loop-rest-preserved g c = record {
   working = rw c.in-Ok-On.is at c.read_next-turn.ensures.failed;
   goes_on = λ past text reading few.
       let same = c.in_default.ensures.none in
-      let so_far = c.loop-rest.invariant.goes_on past text reading few in
-      let here = rw (sym same.0, sym same.1, sym same.2) at so_far in
-      let then = IsReadingMessages g.C.MessageMachine.writes
-      (g.C.MessageMachine.stands c.read_next-turn.new.self.told.command) c.read_next-turn.new.self.reader
-      c.read_next-turn.new.self.told.count in
-      let all =
-      steps_on g.C.MessageMachine.writes _ then past _ _ _ text _ _ _ _ _ _ c.read_next-turn.ensures.steps here few in
-      rw (c.in-Ok-On.is ∙ ap Ok (rw c.in-Ok-On.is at c.in-Ok-On.field-0-is)) at all;
+      let here = rw (sym same.0, sym same.1, sym same.2) at (c.loop-rest.invariant.goes_on past text reading few) in
+      rw (c.in-Ok-On.is ∙ ap Ok (rw c.in-Ok-On.is at c.in-Ok-On.field-0-is)) at
+      (steps_on _ _ _ past _ _ c.read_next-turn.ensures.steps here few);
 }
 
 pub returns-in-Ok-Off-clause-steps : goal.returns-in-Ok-Off-clause-steps
 returns-in-Ok-Off-clause-steps g c = λ past text reading few.
     let same = c.in_default.ensures.none in
-    let so_far = c.loop-rest.invariant.goes_on past text reading few in
-    let here = rw (sym same.0, sym same.1, sym same.2) at so_far in
-    let then = IsReadingMessages g.C.MessageMachine.writes
-    (g.C.MessageMachine.stands c.read_next-turn.new.self.told.command) c.read_next-turn.new.self.reader
-    c.read_next-turn.new.self.told.count in
-    let all =
-    steps_on g.C.MessageMachine.writes _ then past _ _ _ text _ _ _ _ _ _ c.read_next-turn.ensures.steps here few in
-    let off = rw (c.in-Ok-Off.is ∙ ap Ok (rw c.in-Ok-Off.is at c.in-Ok-Off.field-0-is)) at all in off.2
+    let here = rw (sym same.0, sym same.1, sym same.2) at (c.loop-rest.invariant.goes_on past text reading few) in
+    let all = steps_on _ _ _ past _ _ c.read_next-turn.ensures.steps here few in
+    (rw (c.in-Ok-Off.is ∙ ap Ok (rw c.in-Ok-Off.is at c.in-Ok-Off.field-0-is)) at all).2
 
 pub returns-in-Err-turn-clause-steps : goal.returns-in-Err-turn-clause-steps
 returns-in-Err-turn-clause-steps g c = λ past text reading few.
     let same = c.in_default.ensures.none in
-    let so_far = c.loop-rest.invariant.goes_on past text reading few in
-    let here = rw (sym same.0, sym same.1, sym same.2) at so_far in
-    let then = IsReadingMessages g.C.MessageMachine.writes
-    (g.C.MessageMachine.stands c.read_next-turn.new.self.told.command) c.read_next-turn.new.self.reader
-    c.read_next-turn.new.self.told.count in
-    let all =
-    steps_on g.C.MessageMachine.writes _ then past _ _ _ text _ _ _ _ _ _ c.read_next-turn.ensures.steps here few in
-    let failed = rw c.in-Err-turn.is at all in failed.2
+    let here = rw (sym same.0, sym same.1, sym same.2) at (c.loop-rest.invariant.goes_on past text reading few) in
+    (rw c.in-Err-turn.is at (steps_on _ _ _ past _ _ c.read_next-turn.ensures.steps here few)).2
 
 pub returns-clause-steps : goal.returns-clause-steps
 returns-clause-steps g c = λ past text reading few.

@@ -9,10 +9,10 @@ pub returns-clause-steps : goal.returns-clause-steps
 returns-clause-steps g c = λ lines playing number few.
     let compared : g.T.Teller.account ≡ Lines = sym c.account.ensures
     ∙ is_lines c.account.result c.in_default.not-Texts in
-    let put = rw (number, c.as_slice-got.ensures.value, playing.hearing.replies_are compared)
+    let put = rw (c.eq-same.ensures, number, c.as_slice-got.ensures.value, playing.hearing.replies_are compared)
     at c.in-Ok.ensures.gathered in (
       subst (λ (t : List ℕ). Gathered (out (g.W.Sink.taken c.args.sink.now) c.args.page.now)
-          (out (g.W.Sink.taken c.gather_compared.new.sink) c.gather_compared.new.page) c.args.written
+          (out (g.W.Sink.taken c.gather_difference.new.sink) c.gather_difference.new.page) c.args.written
           (Ok c.in-Ok.after) t)
           (compared_text g.T.Teller.account g.row.N lines c.args.bytes.now compared) put,
       played_computer g.T.Teller.account g.row.N _ c.args.self.now.replies.items c.clear.new.self.items

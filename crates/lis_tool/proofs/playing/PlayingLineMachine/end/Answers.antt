@@ -6,7 +6,8 @@ use Rattle.lis_tool.proofs.playing.PlayingLineMachine.end.Goals as goal
 pub returns-in-Texts-clause-ends : goal.returns-in-Texts-clause-ends
 returns-in-Texts-clause-ends g c = λ lines playing few.
     let fits : c.args.written ≤ most_counted = omega arith in
-    texts_end g.T.Teller.account g.row.N lines _ c.args.written (sym c.account.ensures ∙ c.in-Texts.is) fits
+    rw c.of.ensures
+    (texts_end g.T.Teller.account g.row.N lines _ c.args.written (sym c.account.ensures ∙ c.in-Texts.is) fits)
 
 pub returns-in-Lines-clause-ends : goal.returns-in-Lines-clause-ends
 returns-in-Lines-clause-ends g c = λ lines playing few.

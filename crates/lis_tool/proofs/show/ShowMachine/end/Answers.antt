@@ -13,8 +13,7 @@ returns-clause-ends g c = λ past text stood few.
       behind = (
         record { text = show g.row.N past; closing = []; halt = Some (Ok clean) },
         refl,
-        refl,
-        ap
-            (λ l. l ++ []) (sym stood.0),
+        ap (λ r. Some (Ok r)) (sym c.of.ensures),
+        ap (λ l. l ++ []) (sym stood.0),
       );
     }

@@ -1,10 +1,10 @@
 use Rattle.std.proofs.Common.{◌≡◌, ◌+◌, ◌<◌, ◌≤◌, ◌∷◌, ◌++◌, [], ℕ, List, Ok, Err, drop, drop-cons, get_or, add-one}
 use Rattle.std.proofs.Common.{length, length-drop, arith, refl}
-use Rattle.lis_tool.specs.declared.parts.Part.{Part}
+use Rattle.lis_tool.specs.declared.tell.Part.{Part}
 use Rattle.lis_tool.specs.inside.Parts.{part_text, parts_text}
 use Rattle.lis_tool.specs.Output.{out}
 use Rattle.lis_tool.proofs.GatherLaws.{gathered_then, gathered_stops, gathered_none}
-use Rattle.lis_tool.proofs.parts.gather_parts.Goals as goal
+use Rattle.lis_tool.proofs.tell.RefSlicePartTell.tell.Goals as goal
 
 parts_at : (parts : List Part) (i : ℕ) (d : Part) → i < length parts
     → parts_text (drop i parts) ≡ part_text (get_or parts i d) ++ parts_text (drop (i + 1) parts)
@@ -19,7 +19,7 @@ no_parts parts i past = none (drop i parts) (omega (arith, length-drop i parts))
 
 pub loop-part-preserved : goal.loop-part-preserved
 loop-part-preserved g c =
-    let at = parts_at c.args.parts.now c.loop-part.part-index _ c.loop-part-test.true in
+    let at = parts_at c.args.self.now.now c.loop-part.part-index _ c.loop-part-test.true in
     record {
       fits = omega (arith, c.in-Ok.ensures.gathered.2.counted);
       working = c.in-Ok.ensures.failed;
@@ -30,16 +30,16 @@ loop-part-preserved g c =
 
 pub returns-in-Err-clause-gathered : goal.returns-in-Err-clause-gathered
 returns-in-Err-clause-gathered g c =
-    let at = parts_at c.args.parts.now c.loop-part.part-index _ c.loop-part-test.true in
-    c.loop-part.invariant.goes_on (out (g.W.Sink.taken c.gather_part.new.sink) c.gather_part.new.page)
+    let at = parts_at c.args.self.now.now c.loop-part.part-index _ c.loop-part-test.true in
+    c.loop-part.invariant.goes_on (out (g.W.Sink.taken c.tell.new.sink) c.tell.new.page)
     (Err c.in-Err.fault)
     (rw at
     (gathered_stops (out (g.W.Sink.taken c.loop-part.sink) c.loop-part.page)
-    (out (g.W.Sink.taken c.gather_part.new.sink) c.gather_part.new.page)
+    (out (g.W.Sink.taken c.tell.new.sink) c.tell.new.page)
     c.loop-part.after c.in-Err.fault _ _ c.in-Err.ensures.gathered))
 
 pub returns-clause-gathered : goal.returns-clause-gathered
 returns-clause-gathered g c =
     c.loop-part.invariant.goes_on (out (g.W.Sink.taken c.loop-part.sink) c.loop-part.page) (Ok c.loop-part.after)
     (gathered_none _ c.loop-part.after _ c.loop-part.invariant.fits
-    (no_parts c.args.parts.now c.loop-part.part-index (omega (arith, c.loop-part-test.false))))
+    (no_parts c.args.self.now.now c.loop-part.part-index (omega (arith, c.loop-part-test.false))))

@@ -3,7 +3,7 @@ use Rattle.std.specs.declared.result.Result.{Result}
 use Rattle.lis_tool.specs.declared.fault.ToolFault.{ToolFault}
 use Rattle.lis_tool.specs.Output.{Gathered, Out, most_counted, out}
 use Rattle.lis_tool.specs.inside.Parts.{parts_text}
-use Rattle.lis_tool.proofs.parts.gather_parts.Given as goal
+use Rattle.lis_tool.proofs.tell.RefSlicePartTell.tell.Given as goal
 
 -- whatever puts the rest out from here puts all out from the start
 abbrev pub invariant-loop-part : goal.invariant-loop-part
@@ -12,6 +12,6 @@ invariant-loop-part g l = record {
   working : g.W.Sink.failed l.sink ≡ false;
   goes_on :
       (new : Out) (r : Result ℕ ToolFault) →
-      Gathered (out (g.W.Sink.taken l.sink) l.page) new l.after r (parts_text (drop l.part-index l.parts))
-      → Gathered (out (g.W.Sink.taken l.fn.sink) l.fn.page) new l.written r (parts_text l.parts);
+      Gathered (out (g.W.Sink.taken l.sink) l.page) new l.after r (parts_text (drop l.part-index l.fn.self.now))
+      → Gathered (out (g.W.Sink.taken l.fn.sink) l.fn.page) new l.written r (parts_text l.fn.self.now);
 }

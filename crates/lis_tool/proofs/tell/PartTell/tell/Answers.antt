@@ -1,15 +1,15 @@
 use Rattle.std.proofs.Common.{[], Ok}
 use Rattle.lis_tool.specs.Output.{out}
 use Rattle.lis_tool.proofs.GatherLaws.{gathered_out, gathered_put, gathered_then}
-use Rattle.lis_tool.proofs.gather.gather.Goals as goal
+use Rattle.lis_tool.proofs.tell.PartTell.tell.Goals as goal
 
 pub returns-in-Ok-clause-gathered : goal.returns-in-Ok-clause-gathered
 returns-in-Ok-clause-gathered g c =
     let old = g.W.Sink.taken c.args.sink.now in
     let middle = g.W.Sink.taken c.put_page.new.sink in
     let new = g.W.Sink.taken c.put.new.sink in
-    rw c.put_page.ensures.empty
+    rw (c.in-Text.is, c.put_page.ensures.empty)
     (gathered_then (out old c.args.page.now) (out middle []) (out new []) c.args.written c.in-Ok.after c.put.result []
-    c.args.text.now
+    c.in-Text.text.now
     (gathered_out old middle c.args.page.now c.args.written (Ok c.in-Ok.after) c.in-Ok.ensures.put)
-    (gathered_put middle new c.in-Ok.after c.put.result c.args.text.now c.put.ensures.put))
+    (gathered_put middle new c.in-Ok.after c.put.result c.in-Text.text.now c.put.ensures.put))
