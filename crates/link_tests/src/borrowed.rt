@@ -33,22 +33,22 @@ fn start_busy<'a>(rt: &impl Abort, sender: &mut BorrowingSender<'a>, borrowed: B
     assert!(rt; sender.start_fault(&borrowed) == None);
     assert!(rt; sender.start(borrowed).is_ok_and(|emit| emit == EmitOf::Enq));
     assert!(rt; sender.reply(NAK) == EmitOf::Nothing);
-    assert_eq!(rt; sender.phase(), Phase::Busy);
+    assert!(rt; sender.phase() == Phase::Busy);
     assert!(rt; sender.timer() == EmitOf::Enq);
 }
 
 /// Fails where these aren't the next frames: one without a text, one of 240 letters A, and one of a letter A.
 fn assert_frames(rt: &impl Abort, sender: &mut BorrowingSender<'_>) {
     let frame = bytes_of(rt, sender.reply(ACK));
-    assert_eq!(rt; frame.as_slice(), b"\x021\x0334\r\n".as_slice());
+    assert!(rt; frame.as_slice() == b"\x021\x0334\r\n".as_slice());
     let frame = bytes_of(rt, sender.reply(ACK));
     assert!(rt;
         frame.as_slice().starts_with(b"\x022AAAA") && frame.as_slice().ends_with(b"AAAA\x1739\r\n")
     );
     let again = bytes_of(rt, sender.reply(NAK));
-    assert_eq!(rt; again.as_slice(), frame.as_slice());
+    assert!(rt; again.as_slice() == frame.as_slice());
     let frame = bytes_of(rt, sender.reply(ACK));
-    assert_eq!(rt; frame.as_slice(), b"\x023A\x0377\r\n".as_slice());
+    assert!(rt; frame.as_slice() == b"\x023A\x0377\r\n".as_slice());
 }
 
 #[test]
@@ -59,12 +59,9 @@ fn texts_are_sent_from_where_they_are(rt: HostRuntime) {
     let mut sender = BorrowingSender::new();
     start_busy(&rt, &mut sender, BorrowedTexts::new(&texts));
     assert_frames(&rt, &mut sender);
-    assert_eq!(rt; sender.acknowledged(), 2);
+    assert!(rt; sender.acknowledged() == 2);
     assert!(rt; sender.reply(ACK) == EmitOf::Eot);
-    assert_eq!(rt;
-        (sender.acknowledged(), sender.outcome()),
-        (3, Some(Outcome::Done))
-    );
+    assert!(rt; (sender.acknowledged(), sender.outcome()) == (3, Some(Outcome::Done)));
 }
 
 #[test]
@@ -75,12 +72,9 @@ fn borrowed_texts_go_in_longer_frames(rt: HostRuntime) {
     assert!(rt; sender.start(BorrowedTexts::new(&texts)).is_ok());
     let frame = frame_of(&rt, sender.reply(ACK));
     let bytes = frame_bytes_of::<63993, 64000>(&frame);
-    assert_eq!(rt;
-        (bytes.len(), bytes.as_slice().ends_with(b"\x0365\r\n")),
-        (248, true)
-    );
+    assert!(rt; (bytes.len(), bytes.as_slice().ends_with(b"\x0365\r\n")) == (248, true));
     sender.restart();
-    assert_eq!(rt; sender.outcome(), Some(Outcome::Restarted));
+    assert!(rt; sender.outcome() == Some(Outcome::Restarted));
 }
 
 /// What is wrong with the start of a session with these texts, and how many of them come back.
@@ -97,20 +91,16 @@ fn borrowed_texts_are_refused_as_others_are(rt: HostRuntime) {
     let bad = [b"A".as_slice(), b"B\x02".as_slice()];
     let good = [b"A".as_slice()];
     let mut sender = BorrowingSender::new();
-    assert_eq!(rt;
-        refusal(&mut sender, BorrowedTexts::new(&[])),
-        Some((StartFault::NoText, 0))
-    );
+    assert!(rt; refusal(&mut sender, BorrowedTexts::new(&[])) == Some((StartFault::NoText, 0)));
     let fault = TextFault::Forbidden(1);
-    assert_eq!(rt;
-        refusal(&mut sender, BorrowedTexts::new(&bad)),
-        Some((StartFault::BadText { index: 1, fault }, 2))
+    assert!(rt;
+        refusal(&mut sender, BorrowedTexts::new(&bad))
+            == Some((StartFault::BadText { index: 1, fault }, 2))
     );
-    assert_eq!(rt; refusal(&mut sender, BorrowedTexts::new(&good)), None);
+    assert!(rt; refusal(&mut sender, BorrowedTexts::new(&good)) == None);
     assert!(rt; sender.reply(ENQ) == EmitOf::Nothing);
-    assert_eq!(rt;
-        refusal(&mut sender, BorrowedTexts::new(&good)),
-        Some((StartFault::InSession, 1))
+    assert!(rt;
+        refusal(&mut sender, BorrowedTexts::new(&good)) == Some((StartFault::InSession, 1))
     );
 }
 
@@ -123,8 +113,8 @@ fn told<T: SessionTexts>(texts: &T) -> (usize, Option<&[u8]>, Option<&[u8]>) {
 fn texts_are_told_by_place(rt: HostRuntime) -> Result<(), Fail> {
     let slices = [b"A".as_slice(), b"BC".as_slice()];
     let want = (2, Some(b"BC".as_slice()), None);
-    assert_eq!(rt; told(&BorrowedTexts::new(&slices)), want);
+    assert!(rt; told(&BorrowedTexts::new(&slices)) == want);
     let owned = Texts::from_slices(rt.alloc(), &slices)?;
-    assert_eq!(rt; told(&owned), want);
+    assert!(rt; told(&owned) == want);
     Ok(())
 }

@@ -30,27 +30,27 @@ fn texts_are_at_most_65536(rt: HostRuntime) -> Result<(), Fail> {
     assert!(rt; texts.is_empty());
     fill(&rt, rt.alloc(), &mut texts, MOST_TEXTS);
     let are_there = (texts.get(65_535).is_some(), texts.get(65_536).is_some());
-    assert_eq!(rt; (texts.len(), are_there), (65_536, (true, false)));
-    assert_eq!(rt; refused_length(&mut texts, three), Some(3));
-    assert_eq!(rt; texts.as_slice().len(), 65_536);
+    assert!(rt; (texts.len(), are_there) == (65_536, (true, false)));
+    assert!(rt; refused_length(&mut texts, three) == Some(3));
+    assert!(rt; texts.as_slice().len() == 65_536);
     Ok(())
 }
 
 #[test]
 fn a_link_text_is_tested_for_its_length_first(rt: HostRuntime) -> Result<(), Fail> {
     let long = letters(rt.alloc(), 1_048_577)?;
-    assert_eq!(rt; check_text(long.as_slice()), Err(TextFault::TooLong));
+    assert!(rt; check_text(long.as_slice()) == Err(TextFault::TooLong));
     let (most, _) = long.as_slice().split_at(1_048_576);
     let told = (check_text(most), check_text(b"A\n"));
-    assert_eq!(rt; told, (Ok(()), Err(TextFault::Forbidden(1))));
+    assert!(rt; told == (Ok(()), Err(TextFault::Forbidden(1))));
     Ok(())
 }
 
 /// Fails where texts aren't these.
 fn assert_texts(rt: &impl Abort, texts: &Texts, slices: &[&[u8]]) {
-    assert_eq!(rt; texts.len(), slices.len());
+    assert!(rt; texts.len() == slices.len());
     for (text, slice) in texts.as_slice().iter().zip(slices) {
-        assert_eq!(rt; text.as_slice(), *slice);
+        assert!(rt; text.as_slice() == *slice);
     }
 }
 
@@ -64,6 +64,6 @@ fn texts_are_made_of_slices_and_copied(rt: HostRuntime) -> Result<(), Fail> {
     drop(copy);
     let is_empty = Texts::new(rt.alloc()) == texts;
     drop(texts);
-    assert_eq!(rt; (is_same, is_empty), (true, false));
+    assert!(rt; (is_same, is_empty) == (true, false));
     Ok(())
 }

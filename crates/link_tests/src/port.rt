@@ -22,7 +22,7 @@ fn assert_reads<S: Source>(rt: &impl Abort, source: &mut S, buffer: &mut [u8], c
     ensures unfailed { S.failed source.new ≡ false }
     ensures made { S.made source.new ≡ S.made source.old + 1 }
 {
-    assert_eq!(rt; source.read(buffer), Ok(count));
+    assert!(rt; source.read(buffer) == Ok(count));
 }
 
 // Fails where a sink takes another number of bytes. It hasn't failed then, and may be written to again.
@@ -31,21 +31,21 @@ fn assert_writes<S: Sink>(rt: &impl Abort, sink: &mut S, bytes: &[u8], count: us
     requires some { 0 < length bytes.now }
     ensures unfailed { S.failed sink.new ≡ false }
 {
-    assert_eq!(rt; sink.write(bytes), Ok(count));
+    assert!(rt; sink.write(bytes) == Ok(count));
 }
 
 #[test]
 fn a_cut_source_gives_its_steps_and_then_the_end(rt: HostRuntime) {
     let mut source = Cut::new(&HEADER_FRAME, 5, Then::End);
     let mut buffer = [0; 8];
-    assert_eq!(rt; (source.made(), source.ended()), (0, false));
+    assert!(rt; (source.made(), source.ended()) == (0, false));
     assert_reads(&rt, &mut source, &mut buffer, 5);
-    assert_eq!(rt; buffer, [0x02, 0x31, 0x48, 0x7c, 0x5c, 0, 0, 0]);
+    assert!(rt; buffer == [0x02, 0x31, 0x48, 0x7c, 0x5c, 0, 0, 0]);
     assert_reads(&rt, &mut source, &mut buffer, 5);
     assert_reads(&rt, &mut source, &mut buffer, 3);
     assert_reads(&rt, &mut source, &mut buffer, 0);
     let told = (source.ended(), source.failed(), source.made());
-    assert_eq!(rt; told, (true, false, 4));
+    assert!(rt; told == (true, false, 4));
 }
 
 #[test]
@@ -53,11 +53,11 @@ fn a_cut_source_fails_or_goes_on_behind_its_bytes(rt: HostRuntime) {
     let mut buffer = [0; 8];
     let mut failing = Cut::new(b"ab", 5, Then::Fail);
     assert_reads(&rt, &mut failing, &mut buffer, 2);
-    assert_eq!(rt; failing.read(&mut buffer), Err(Failed));
-    assert_eq!(rt; (failing.failed(), failing.ended()), (true, false));
+    assert!(rt; failing.read(&mut buffer) == Err(Failed));
+    assert!(rt; (failing.failed(), failing.ended()) == (true, false));
     let mut again = Cut::new(b"", 5, Then::Again(5));
     assert_reads(&rt, &mut again, &mut buffer, 1);
-    assert_eq!(rt; (again.read(&mut buffer), buffer[0]), (Ok(1), 5));
+    assert!(rt; (again.read(&mut buffer), buffer[0]) == (Ok(1), 5));
 }
 
 #[test]
@@ -66,16 +66,16 @@ fn a_slow_sink_takes_its_steps_and_then_fails(rt: HostRuntime) {
     assert_writes(&rt, &mut sink, b"abc", 1);
     assert!(rt; !sink.failed());
     assert_writes(&rt, &mut sink, b"abc", 1);
-    assert_eq!(rt; sink.write(b"abc"), Err(Failed));
-    assert_eq!(rt; (sink.failed(), sink.took()), (true, b"aa".as_slice()));
+    assert!(rt; sink.write(b"abc") == Err(Failed));
+    assert!(rt; (sink.failed(), sink.took()) == (true, b"aa".as_slice()));
 }
 
 #[test]
 fn a_slow_sink_holds_nothing_back(rt: HostRuntime) {
     let mut sink = Slow::new(1, 1);
     assert_writes(&rt, &mut sink, b"ab", 1);
-    assert_eq!(rt; sink.flush(), Ok(()));
-    assert_eq!(rt; (sink.failed(), sink.took()), (false, b"a".as_slice()));
+    assert!(rt; sink.flush() == Ok(()));
+    assert!(rt; (sink.failed(), sink.took()) == (false, b"a".as_slice()));
 }
 
 #[test]
@@ -83,12 +83,12 @@ fn bytes_in_memory_are_given_as_far_as_there_is_room(rt: HostRuntime) {
     let mut source = InMemory::new(b"abcde");
     let mut buffer = [0; 3];
     assert_reads(&rt, &mut source, &mut buffer, 3);
-    assert_eq!(rt; buffer, [b'a', b'b', b'c']);
+    assert!(rt; buffer == [b'a', b'b', b'c']);
     assert_reads(&rt, &mut source, &mut buffer, 2);
-    assert_eq!(rt; (buffer, source.ended()), ([b'd', b'e', b'c'], false));
+    assert!(rt; (buffer, source.ended()) == ([b'd', b'e', b'c'], false));
     assert_reads(&rt, &mut source, &mut buffer, 0);
     let told = (source.ended(), source.may_wait(), source.failed());
-    assert_eq!(rt; (told, source.made()), ((true, true, false), 3));
+    assert!(rt; (told, source.made()) == ((true, true, false), 3));
 }
 
 #[test]
@@ -96,7 +96,7 @@ fn a_discarding_sink_takes_everything(rt: HostRuntime) {
     let mut sink = Discard;
     assert_writes(&rt, &mut sink, b"abc", 3);
     assert_writes(&rt, &mut sink, &[0; 4096], 4096);
-    assert_eq!(rt; sink.flush(), Ok(()));
+    assert!(rt; sink.flush() == Ok(()));
     assert!(rt; !sink.failed());
 }
 
@@ -108,9 +108,9 @@ fn a_buffered_sink_sends_at_a_flush(rt: HostRuntime) -> Result<(), Fail> {
     let writer = sink.into_inner();
     assert!(rt; writer.get_ref().is_empty());
     let mut sink = Buffered::new(writer);
-    assert_eq!(rt; sink.flush(), Ok(()));
+    assert!(rt; sink.flush() == Ok(()));
     assert!(rt; !sink.failed());
-    assert_eq!(rt; sink.into_inner().get_ref().as_slice(), b"abc".as_slice());
+    assert!(rt; sink.into_inner().get_ref().as_slice() == b"abc".as_slice());
     Ok(())
 }
 
@@ -121,7 +121,7 @@ fn assert_flush_fails<S: Sink + Drop>(rt: &impl Abort, sink: S)
     let mut sink = sink;
     assert_writes(rt, &mut sink, b"abc", 3);
     assert!(rt; !sink.failed());
-    assert_eq!(rt; sink.flush(), Err(Failed));
+    assert!(rt; sink.flush() == Err(Failed));
     assert!(rt; sink.failed());
 }
 
@@ -155,15 +155,12 @@ fn an_interrupted_write_is_an_error_as_any_other(rt: HostRuntime) {
     let mut writer = Once::new(Vec::new(rt.alloc()));
     let wrote = writer.write(b"abc").map_err(|error| error.kind());
     let flushed = writer.flush().map_err(|error| error.kind());
-    assert_eq!(rt; (wrote, flushed), (Ok(3), Ok(())));
+    assert!(rt; (wrote, flushed) == (Ok(3), Ok(())));
 
     let mut writer = Once::new(Interrupted);
     let wrote = writer.write(b"abc").map_err(|error| error.kind());
     let flushed = writer.flush().map_err(|error| error.kind());
-    assert_eq!(rt;
-        (wrote, flushed),
-        (Err(ErrorKind::Other), Err(ErrorKind::Other))
-    );
+    assert!(rt; (wrote, flushed) == (Err(ErrorKind::Other), Err(ErrorKind::Other)));
 }
 
 // A reader whose second call is interrupted.
@@ -172,9 +169,9 @@ fn assert_read_once(rt: &impl Abort) {
     let mut source = Reading::new(Faltering::new(b"abcdef".as_slice(), 1, ErrorKind::Interrupted));
     assert_reads(rt, &mut source, &mut buffer, 2);
     if !source.failed() {
-        assert_eq!(rt; source.read(&mut buffer), Err(Failed));
+        assert!(rt; source.read(&mut buffer) == Err(Failed));
     }
-    assert_eq!(rt; source.into_inner().calls(), 2);
+    assert!(rt; source.into_inner().calls() == 2);
 }
 
 #[test]
@@ -182,8 +179,8 @@ fn an_interrupted_read_is_not_made_again(rt: HostRuntime) -> Result<(), Fail> {
     assert_read_once(&rt);
     let reader = Faltering::new(b"abcdef".as_slice(), 0, ErrorKind::Interrupted);
     let mut source = ReadAhead::new(BufReader::with_capacity(rt.alloc(), 4, reader)?);
-    assert_eq!(rt; source.read(&mut [0; 2]), Err(Failed));
-    assert_eq!(rt; source.into_inner().get_ref().calls(), 1);
+    assert!(rt; source.read(&mut [0; 2]) == Err(Failed));
+    assert!(rt; source.into_inner().get_ref().calls() == 1);
     Ok(())
 }
 
@@ -192,16 +189,16 @@ fn assert_written_once(rt: &impl Abort, alloc: Global) {
     let mut sink = Writing::new(Faltering::new(Vec::new(alloc), 1, ErrorKind::Interrupted));
     assert_writes(rt, &mut sink, b"abc", 3);
     if !sink.failed() {
-        assert_eq!(rt; sink.write(b"def"), Err(Failed));
+        assert!(rt; sink.write(b"def") == Err(Failed));
     }
-    assert_eq!(rt; sink.into_inner().calls(), 2);
+    assert!(rt; sink.into_inner().calls() == 2);
 }
 
 // A writer whose flush is interrupted.
 fn assert_flushed_once(rt: &impl Abort, alloc: Global) {
     let mut sink = Writing::new(Faltering::new(Vec::new(alloc), 0, ErrorKind::Interrupted));
-    assert_eq!(rt; sink.flush(), Err(Failed));
-    assert_eq!(rt; sink.into_inner().calls(), 1);
+    assert!(rt; sink.flush() == Err(Failed));
+    assert!(rt; sink.into_inner().calls() == 1);
 }
 
 #[test]
@@ -211,10 +208,10 @@ fn an_interrupted_write_is_not_made_again(rt: HostRuntime) -> Result<(), Fail> {
     assert_flushed_once(&rt, alloc);
     let mut writer = Faltering::new(Vec::new(alloc), 0, ErrorKind::Interrupted);
     let mut sink = Buffered::new(BufWriter::with_capacity(alloc, 1, Once::new(&mut writer))?);
-    assert_eq!(rt; sink.write(b"abc"), Err(Failed));
+    assert!(rt; sink.write(b"abc") == Err(Failed));
     // Dropped, the buffer would write what it holds.
     mem::forget(sink);
-    assert_eq!(rt; writer.calls(), 1);
+    assert!(rt; writer.calls() == 1);
     Ok(())
 }
 
@@ -223,12 +220,12 @@ fn assert_reader_serves(rt: &impl Abort) {
     let mut buffer = [0; 8];
     let mut source = Reading::new(HEADER_FRAME.as_slice());
     assert_reads(rt, &mut source, &mut buffer, 8);
-    assert_eq!(rt; (source.ended(), source.made()), (false, 1));
+    assert!(rt; (source.ended(), source.made()) == (false, 1));
     let behind: &[u8] = &[0x03, 0x45, 0x35, 0x0d, 0x0a];
-    assert_eq!(rt; source.into_inner(), behind);
+    assert!(rt; source.into_inner() == behind);
     let mut nothing = Reading::new(b"".as_slice());
     assert_reads(rt, &mut nothing, &mut buffer, 0);
-    assert_eq!(rt; (nothing.ended(), nothing.failed()), (true, false));
+    assert!(rt; (nothing.ended(), nothing.failed()) == (true, false));
 }
 
 // A writer that takes all, and one that is full.
@@ -236,11 +233,11 @@ fn assert_writer_serves(rt: &impl Abort, alloc: Global) {
     let mut sink = Writing::new(Vec::new(alloc));
     assert_writes(rt, &mut sink, b"abc", 3);
     assert!(rt; !sink.failed());
-    assert_eq!(rt; sink.into_inner().as_slice(), b"abc".as_slice());
+    assert!(rt; sink.into_inner().as_slice() == b"abc".as_slice());
     let mut full_buffer = [0; 2];
     let mut full = Writing::new(full_buffer.as_mut_slice());
     assert_writes(rt, &mut full, b"abc", 2);
-    assert_eq!(rt; full.write(b"c"), Err(Failed));
+    assert!(rt; full.write(b"c") == Err(Failed));
     assert!(rt; full.failed());
 }
 
@@ -257,13 +254,13 @@ fn a_source_that_reads_ahead_knows_what_is_there(rt: HostRuntime) -> Result<(), 
     let mut buffer = [0; 3];
     assert!(rt; source.may_wait());
     assert_reads(&rt, &mut source, &mut buffer, 3);
-    assert_eq!(rt; (buffer, source.may_wait()), (*b"abc", false));
+    assert!(rt; (buffer, source.may_wait()) == (*b"abc", false));
     assert_reads(&rt, &mut source, &mut buffer, 1);
-    assert_eq!(rt; (buffer[0], source.may_wait()), (b'd', true));
+    assert!(rt; (buffer[0], source.may_wait()) == (b'd', true));
     assert_reads(&rt, &mut source, &mut buffer, 2);
     assert_reads(&rt, &mut source, &mut buffer, 0);
     let told = (source.ended(), source.failed(), source.made());
-    assert_eq!(rt; told, (true, false, 4));
+    assert!(rt; told == (true, false, 4));
     assert!(rt; source.into_inner().buffer().is_empty());
     Ok(())
 }
@@ -274,6 +271,6 @@ fn a_read_behind_a_sink_gives_what_the_source_gives(rt: HostRuntime) {
     let sink = Slow::new(1, 1);
     let mut buffer = [0; 4];
     assert!(rt; source.may_wait());
-    assert_eq!(rt; read_sent(&mut source, &sink, &mut buffer), Ok(1));
-    assert_eq!(rt; (buffer[0], source.made()), (b'a', 1));
+    assert!(rt; read_sent(&mut source, &sink, &mut buffer) == Ok(1));
+    assert!(rt; (buffer[0], source.made()) == (b'a', 1));
 }

@@ -27,7 +27,7 @@ fn opened(alloc: Global) -> Receiver {
 /// Fails where the last byte of a frame doesn't hand out this text, which is given back.
 fn assert_given_back(rt: &impl Abort, receiver: &mut Receiver, want: &[u8]) {
     let text = receiver.byte(0x0a).message.expect(rt, "a text");
-    assert_eq!(rt; text.as_slice(), want);
+    assert!(rt; text.as_slice() == want);
     receiver.reuse(text);
 }
 
@@ -35,10 +35,10 @@ fn assert_given_back(rt: &impl Abort, receiver: &mut Receiver, want: &[u8]) {
 fn a_text_that_is_given_back_is_gone(rt: HostRuntime) {
     let mut receiver = opened(rt.alloc());
     let accepted = (Some(0x06), Note::Accepted(1), None);
-    assert_eq!(rt; last_step(&mut receiver, b"\x021A\x1789\r\n"), accepted);
+    assert!(rt; last_step(&mut receiver, b"\x021A\x1789\r\n") == accepted);
     let _ = last_step(&mut receiver, b"\x022A\x0376\r");
     assert_given_back(&rt, &mut receiver, b"AA");
-    assert_eq!(rt; (receiver.held(), receiver.accepted()), (0, 2));
+    assert!(rt; (receiver.held(), receiver.accepted()) == (0, 2));
     let _ = last_step(&mut receiver, b"\x023A\x0377\r");
     assert_given_back(&rt, &mut receiver, b"A");
 }
@@ -82,8 +82,8 @@ fn assert_answered(
     want: (Option<u8>, Note, Option<usize>),
     held: u64,
 ) {
-    assert_eq!(rt; last_step(receiver, bytes), want);
-    assert_eq!(rt; receiver.held(), held);
+    assert!(rt; last_step(receiver, bytes) == want);
+    assert!(rt; receiver.held() == held);
 }
 
 #[test]
@@ -91,15 +91,15 @@ fn the_held_text_has_a_limit(rt: HostRuntime) -> Result<(), Fail> {
     let mut receiver = opened(rt.alloc());
     receiver.reserve(1_048_576)?;
     let filled = fill(&mut receiver, 4369);
-    assert_eq!(rt; filled, (Some(0x06), Note::Accepted(1), None));
-    assert_eq!(rt; receiver.held(), 1_048_560);
+    assert!(rt; filled == (Some(0x06), Note::Accepted(1), None));
+    assert!(rt; receiver.held() == 1_048_560);
     let sixteen = b"\x022AAAAAAAAAAAAAAAA\x1759\r\n";
     let accepted = (Some(0x06), Note::Accepted(2), None);
     assert_answered(&rt, &mut receiver, sixteen, accepted, 1_048_576);
     let too_long = (Some(0x15), Note::TooLong, None);
     assert_answered(&rt, &mut receiver, b"\x023A\x178B\r\n", too_long, 1_048_576);
     let whole = (Some(0x06), Note::Accepted(3), Some(1_048_576));
-    assert_eq!(rt; last_step(&mut receiver, b"\x023\x0336\r\n"), whole);
+    assert!(rt; last_step(&mut receiver, b"\x023\x0336\r\n") == whole);
     Ok(())
 }
 
@@ -128,10 +128,7 @@ fn assert_heard<const N: usize>(
     let _ = receiver.byte(0x05);
     let heard = receiver.bytes(bytes);
     let told = heard.step.message.map(|text| text.len());
-    assert_eq!(rt;
-        (heard.count, heard.step.note, told),
-        (bytes.len(), note, length)
-    );
+    assert!(rt; (heard.count, heard.step.note, told) == (bytes.len(), note, length));
 }
 
 #[test]
@@ -140,11 +137,11 @@ fn the_longest_frame_is_taken_at_once(rt: HostRuntime) -> Result<(), Fail> {
     let good = Note::Accepted(1);
     // 240 letters A, the digit 1 and ETX have the sum 0x24, and 63,993 have 0x6D.
     let short = frame_of_letters(alloc, 240, b"24")?;
-    assert_eq!(rt; short.len(), 247);
+    assert!(rt; short.len() == 247);
     assert_heard::<63_993>(&rt, alloc, short.as_slice(), good, Some(240));
     assert_heard::<240>(&rt, alloc, short.as_slice(), good, Some(240));
     let long = frame_of_letters(alloc, 63_993, b"6D")?;
-    assert_eq!(rt; long.len(), 64_000);
+    assert!(rt; long.len() == 64_000);
     assert_heard::<63_993>(&rt, alloc, long.as_slice(), good, Some(63_993));
     let bad = Note::Refused(FrameFault::TooLong);
     assert_heard::<240>(&rt, alloc, long.as_slice(), bad, None);

@@ -92,8 +92,8 @@ fn assert_cut(
     long: (Option<Told>, usize),
 ) {
     for place in 0..stream.len() {
-        assert_eq!(rt; cut_at::<240>(stream, place), usual);
-        assert_eq!(rt; cut_at::<63_993>(stream, place), long);
+        assert!(rt; cut_at::<240>(stream, place) == usual);
+        assert!(rt; cut_at::<63_993>(stream, place) == long);
     }
 }
 

@@ -33,13 +33,10 @@ fn assert_frames(
     wanted: &[(usize, &[u8])],
 ) -> Result<(), Fail> {
     let frames: FramesOf<63993> = frames_of(alloc, count)?;
-    assert_eq!(rt; frames.len(), wanted.len());
+    assert!(rt; frames.len() == wanted.len());
     for (place, (length, end)) in wanted.iter().enumerate() {
         let bytes = frame_bytes_of::<63993, 64000>(frames.get(place).expect(rt, "a frame"));
-        assert_eq!(rt;
-            (bytes.len(), bytes.as_slice().ends_with(end)),
-            (*length, true)
-        );
+        assert!(rt; (bytes.len(), bytes.as_slice().ends_with(end)) == (*length, true));
     }
     Ok(())
 }
@@ -57,7 +54,7 @@ fn longer_frames_hold_more(rt: HostRuntime) -> Result<(), Fail> {
 fn second_frame(rt: &impl Abort, alloc: Global) -> Result<Frame, Fail> {
     let text = letters(alloc, 241)?;
     check_text(text.as_slice())?;
-    assert_eq!(rt; text.len(), 241);
+    assert!(rt; text.len() == 241);
     Ok(split_at(text.as_slice(), 240, 2))
 }
 
@@ -66,8 +63,8 @@ const SECOND: &[u8] = b"\x022A\x0376\r\n";
 #[test]
 fn a_piece_is_taken_at_its_offset(rt: HostRuntime) -> Result<(), Fail> {
     let second = second_frame(&rt, rt.alloc())?;
-    assert_eq!(rt; frame_bytes(&second).as_slice(), SECOND);
-    assert_eq!(rt; (next_number(6), next_number(7)), (7, 0));
+    assert!(rt; frame_bytes(&second).as_slice() == SECOND);
+    assert!(rt; (next_number(6), next_number(7)) == (7, 0));
     Ok(())
 }
 
@@ -84,8 +81,8 @@ fn assert_put<const N: usize>(
     requires moves { 1 ≤ most }
 {
     let mut sink = Slow::new(room, most);
-    assert_eq!(rt; put_frame(&mut sink, frame), put);
-    assert_eq!(rt; sink.took(), took);
+    assert!(rt; put_frame(&mut sink, frame) == put);
+    assert!(rt; sink.took() == took);
 }
 
 #[test]

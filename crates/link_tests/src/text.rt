@@ -19,7 +19,7 @@ fn the_first_forbidden_byte_is_found_in_a_long_text(rt: HostRuntime) {
         (&text[..21], None),
         (&text[5..], Some(16)),
     ] {
-        assert_eq!(rt; first_forbidden(part), place);
+        assert!(rt; first_forbidden(part) == place);
     }
 }
 
@@ -37,7 +37,7 @@ fn a_text_is_summed_up_to_its_end(rt: HostRuntime) {
         (&large, (None, 64)),
     ];
     for (text, want) in told {
-        assert_eq!(rt; text_and_sum(text), want);
+        assert!(rt; text_and_sum(text) == want);
     }
-    assert_eq!(rt; sum_of(b"H|\\^&|||Analyzer"), 94);
+    assert!(rt; sum_of(b"H|\\^&|||Analyzer") == 94);
 }
