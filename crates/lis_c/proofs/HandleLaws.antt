@@ -66,12 +66,19 @@ pub record Handle : Type 2 where
   pub make : Ptr → row.Denot → type.D
   pub made : (p : Ptr) (w : row.Denot) → ◌≡◌ {A = Ptr × row.Denot} (at (make p w), state (make p w)) (p, w)
 
--- a handle by its type, what lies behind it, and how it is taken apart and made
-abbrev pub handle : (type : Owning) (row : RattleType) → Laws row → (at : type.D → Ptr) (state : type.D → row.Denot)
-    (make : Ptr → row.Denot → type.D)
-    → ((p : Ptr) (w : row.Denot) → ◌≡◌ {A = Ptr × row.Denot} (at (make p w), state (make p w)) (p, w)) → Handle
-handle type row laws at state make made =
-    record { type = type; row = row; laws = laws; at = at; state = state; make = make; made = made }
+-- a handle by its type, the laws of what lies behind it, and how it is taken apart and made
+abbrev pub handle : (type : Owning) {row : RattleType} → Laws row → (parts : type.D → Ptr × row.Denot)
+    (make : Ptr → row.Denot → type.D) → ((p : Ptr) (w : row.Denot) → parts (make p w) ≡ (p, w)) → Handle
+handle type {row = row} laws parts make made =
+    record {
+      type = type;
+      row = row;
+      laws = laws;
+      at = λ h. (parts h).0;
+      state = λ h. (parts h).1;
+      make = make;
+      made = made;
+    }
 
 module _ (E : Handle) where
   -- its type: a pointer for a field, and what lies at it is owned beside it

@@ -1,38 +1,28 @@
 -- The handles that C holds.
 use Rattle.lis_c.proofs.HandleLaws.{Handle, handle}
-use Rattle.lis_c.proofs.desk.ScannerDesk.TheLaws as scanner_laws
-use Rattle.lis_c.specs.contracts.desk.ScannerDesk as scanner_desk
-use Rattle.lis_c.specs.contracts.scanner.LisScanner as scanner_type
-use Rattle.lis_c.proofs.desk.SenderDesk.TheLaws as sender_laws
-use Rattle.lis_c.specs.contracts.desk.SenderDesk as sender_desk
-use Rattle.lis_c.specs.contracts.sender.LisSender as sender_type
-use Rattle.lis_c.proofs.desk.ReceiverDesk.TheLaws as receiver_laws
-use Rattle.lis_c.specs.contracts.desk.ReceiverDesk as receiver_desk
-use Rattle.lis_c.specs.contracts.receiver.LisReceiver as receiver_type
-use Rattle.lis_c.proofs.desk.ReaderDesk.TheLaws as reader_laws
-use Rattle.lis_c.specs.contracts.desk.ReaderDesk as reader_desk
-use Rattle.lis_c.specs.contracts.reader.LisReader as reader_type
-use Rattle.lis_c.proofs.draft.WriterDesk.TheLaws as writer_laws
-use Rattle.lis_c.specs.contracts.draft.WriterDesk as writer_desk
-use Rattle.lis_c.specs.contracts.writer.LisWriter as writer_type
+use Rattle.lis_c.proofs.desk.ScannerDesk.TheLaws.{the_row_laws as scanner_laws}
+use Rattle.lis_c.specs.contracts.scanner.LisScanner.{the_type as scanner_type}
+use Rattle.lis_c.proofs.desk.SenderDesk.TheLaws.{the_row_laws as sender_laws}
+use Rattle.lis_c.specs.contracts.sender.LisSender.{the_type as sender_type}
+use Rattle.lis_c.proofs.desk.ReceiverDesk.TheLaws.{the_row_laws as receiver_laws}
+use Rattle.lis_c.specs.contracts.receiver.LisReceiver.{the_type as receiver_type}
+use Rattle.lis_c.proofs.desk.ReaderDesk.TheLaws.{the_row_laws as reader_laws}
+use Rattle.lis_c.specs.contracts.reader.LisReader.{the_type as reader_type}
+use Rattle.lis_c.proofs.draft.WriterDesk.TheLaws.{the_row_laws as writer_laws}
+use Rattle.lis_c.specs.contracts.writer.LisWriter.{the_type as writer_type}
 use Rattle.std.specs.Prelude.{refl}
 
 abbrev pub scanner : Handle
-scanner = handle scanner_type.the_type scanner_desk.the_row scanner_laws.the_row_laws (λ h. h.at) (λ h. h.state)
-    (λ p w. record { at = p; state = w }) (λ p w. refl)
+scanner = handle scanner_type scanner_laws (λ h. (h.at, h.state)) (λ p w. record { at = p; state = w }) (λ p w. refl)
 
 abbrev pub sender : Handle
-sender = handle sender_type.the_type sender_desk.the_row sender_laws.the_row_laws (λ h. h.at) (λ h. h.state)
-    (λ p w. record { at = p; state = w }) (λ p w. refl)
+sender = handle sender_type sender_laws (λ h. (h.at, h.state)) (λ p w. record { at = p; state = w }) (λ p w. refl)
 
 abbrev pub receiver : Handle
-receiver = handle receiver_type.the_type receiver_desk.the_row receiver_laws.the_row_laws (λ h. h.at) (λ h. h.state)
-    (λ p w. record { at = p; state = w }) (λ p w. refl)
+receiver = handle receiver_type receiver_laws (λ h. (h.at, h.state)) (λ p w. record { at = p; state = w }) (λ p w. refl)
 
 abbrev pub reader : Handle
-reader = handle reader_type.the_type reader_desk.the_row reader_laws.the_row_laws (λ h. h.at) (λ h. h.state)
-    (λ p w. record { at = p; state = w }) (λ p w. refl)
+reader = handle reader_type reader_laws (λ h. (h.at, h.state)) (λ p w. record { at = p; state = w }) (λ p w. refl)
 
 abbrev pub writer : Handle
-writer = handle writer_type.the_type writer_desk.the_row writer_laws.the_row_laws (λ h. h.at) (λ h. h.state)
-    (λ p w. record { at = p; state = w }) (λ p w. refl)
+writer = handle writer_type writer_laws (λ h. (h.at, h.state)) (λ p w. record { at = p; state = w }) (λ p w. refl)

@@ -1,11 +1,11 @@
 //! What stands in the caller's blocks, behind the pointers.
 
-ghost use Rattle.std.specs.Prelude.{◌≡◌, ◌≢◌, ◌++◌, ◌∷◌, [], length, None, Some, MatchResult};
+ghost use Rattle.std.specs.Prelude.{◌≡◌, ◌≢◌, ◌++◌, ◌∷◌, [], length, None, Some, MatchResult, take};
 ghost use Rattle.lis_c.specs.Codes.{note_code, note_detail, note_place};
 ghost use Rattle.lis_c.specs.Status.{AddStatus, OK};
-ghost use Rattle.lis_c.specs.Steps.{TellsStep};
+ghost use Rattle.lis_c.specs.Steps.{IsNotOutOfMemory, IsOutOfMemory, MakesStep, TellsRefusedFrame, TellsStep};
 ghost use Rattle.lis_frame.specs.Scanner.{StandsFor};
-ghost use Rattle.lis_link.specs.Receiver.{ReceiverState, new_receiver};
+ghost use Rattle.lis_link.specs.Receiver.{ReceiverState, new_receiver, on_byte, on_bytes, on_receiver_timer, with_heard};
 ghost use Rattle.lis_link.specs.Sender.{new_sender, start_fault, started};
 ghost use Rattle.lis_link.specs.inside.Stands.{IsIn};
 ghost use Rattle.lis_link.specs.declared.sender.EmitOf.TheVariants as Emits;
@@ -15,7 +15,7 @@ use crate::lent::{DeskTexts, LentTexts};
 use crate::out::{LisStep, fault_code, fault_place};
 use crate::status;
 use lis_frame::Scanner;
-use lis_link::{Emit, Note, Receiver, SenderOver, StartFault, StartRefusedOf, Step};
+use lis_link::{Emit, Hearing, Note, Receiver, SenderOver, StartFault, StartRefusedOf, Step};
 use lis_message::RecordReader;
 use lis_text::{LinkText, List, MOST_TEXTS, Texts};
 use std::alloc::Global;
@@ -184,6 +184,41 @@ impl ReceiverDesk {
                 self.receiver.reuse(before);
             }
         }
+    }
+
+    /// Hears one byte, and tells the step.
+    pub(crate) fn byte(&mut self, byte: u8, out: &mut LisStep)
+        ensures step { (r : ReceiverState) → IsIn 240 self.old.receiver r → IsNotOutOfMemory out.new
+            → MakesStep (on_byte 240 byte r) self.old out.new self.new }
+        ensures refused { (r : ReceiverState) → IsIn 240 self.old.receiver r → IsOutOfMemory out.new
+            → TellsRefusedFrame (on_byte 240 byte r) (record r { past = byte ∷ r.past }) self.old out.new self.new }
+    {
+        let step = self.receiver.byte(byte);
+        self.tell(step, out);
+    }
+
+    /// Hears bytes up to the first that means something, tells the step, and answers how many it heard.
+    pub(crate) fn hear(&mut self, bytes: &[u8], out: &mut LisStep) -> usize
+        ensures count { (r : ReceiverState) → IsIn 240 self.old.receiver r →
+            result ≡ (on_bytes 240 bytes.now r).count }
+        ensures step { (r : ReceiverState) → IsIn 240 self.old.receiver r → IsNotOutOfMemory out.new
+            → MakesStep (on_bytes 240 bytes.now r).step self.old out.new self.new }
+        ensures refused { (r : ReceiverState) → IsIn 240 self.old.receiver r → IsOutOfMemory out.new
+            → TellsRefusedFrame (on_bytes 240 bytes.now r).step (with_heard (take result bytes.now) r) self.old out.new
+            self.new }
+    {
+        let Hearing { count, step } = self.receiver.bytes(bytes);
+        self.tell(step, out);
+        count
+    }
+
+    /// The receiver's timer runs out.
+    pub(crate) fn timer(&mut self, out: &mut LisStep)
+        ensures { (r : ReceiverState) → IsIn 240 self.old.receiver r →
+            MakesStep (on_receiver_timer r) self.old out.new self.new }
+    {
+        let step = self.receiver.timer();
+        self.tell(step, out);
     }
 }
 

@@ -1,10 +1,13 @@
-//! Where an answer is put: structs of the caller's, each of one size, so that no length is owed.
+//! Where an answer is put: structs of the caller's, each of one size, so that no length is owed, and a buffer.
 
-ghost use Rattle.std.specs.Prelude.{◌≡◌, ◌≤◌, length, take};
+ghost use Rattle.std.specs.Prelude.{◌≡◌, ◌≢◌, ◌≤◌, length, take};
 ghost use Rattle.lis_c.specs.Codes.{fault_code, fault_place};
 ghost use Rattle.lis_c.specs.Emitted.{emitted_bytes};
+ghost use Rattle.lis_c.specs.Records.{IsCopied};
 ghost use Rattle.lis_c.specs.Signals.{TellsSignal};
+ghost use Rattle.lis_c.specs.Status.{OK, copy_status};
 
+use crate::status;
 use lis_frame::{FrameFault, Signal, SignalOf, frame_bytes};
 use lis_link::{Emit, EmitOf};
 use lis_text::{ENQ, EOT, NAK};
@@ -125,4 +128,20 @@ pub(crate) fn tell_signal(signal: Option<Signal>, out: &mut LisSignal)
             out.place = fault_place(fault);
         }
     }
+}
+
+/// Copies a text to the front of a buffer, and tells how many bytes it has: `OK`, or `TOO_SHORT`, and nothing is copied,
+/// where it is longer than the buffer.
+pub(crate) fn copy_text(text: &[u8], out: &mut [u8], size: &mut usize) -> u8
+    ensures status { result ≡ copy_status (length out.old) (length text.now) }
+    ensures copied { IsCopied text.now result out.new size.new }
+    ensures refused { result ≢ OK → out.new ≡ out.old }
+{
+    *size = 0;
+    if text.len() > out.len() {
+        return status::TOO_SHORT;
+    }
+    out[..text.len()].copy_from_slice(text);
+    *size = text.len();
+    status::OK
 }

@@ -16,9 +16,9 @@ ghost use Rattle.std.specs.Mem.{type_size};
 ghost use Rattle.std.specs.Ptr.{room_at};
 
 use crate::desk::{ReceiverDesk, let_go_receiver};
-use crate::out::LisStep;
+use crate::out::{LisStep, copy_text};
 use crate::status;
-use lis_link::{Hearing, Readiness};
+use lis_link::Readiness;
 use lis_text::LONGEST_TEXT;
 use std::alloc::Global;
 use std::marker::Model;
@@ -217,13 +217,8 @@ pub extern "C" fn lis_receiver_text(s: &mut LisReceiver, out: &mut [u8]) -> u8
     ensures refused { result ≢ OK → out.new ≡ out.old }
     ensures same { s.new.state ≡ s.old.state }
 {
-    let desk = s.lend();
-    let text = desk.text.as_slice();
-    if text.len() > out.len() {
-        return status::TOO_SHORT;
-    }
-    out[..text.len()].copy_from_slice(text);
-    status::OK
+    let mut size = 0;
+    copy_text(s.lend().text.as_slice(), out, &mut size)
 }
 
 /// Ends a receiver; its block is the caller's again.
@@ -233,38 +228,4 @@ pub extern "C" fn lis_receiver_end(s: LisReceiver)
 {
     let LisReceiver { at } = s;
     let_go_receiver(unsafe { (at as *mut ReceiverDesk).read() });
-}
-
-impl ReceiverDesk {
-    fn byte(&mut self, byte: u8, out: &mut LisStep)
-        ensures step { (r : ReceiverState) → IsIn 240 self.old.receiver r → IsNotOutOfMemory out.new
-            → MakesStep (on_byte 240 byte r) self.old out.new self.new }
-        ensures refused { (r : ReceiverState) → IsIn 240 self.old.receiver r → IsOutOfMemory out.new
-            → TellsRefusedFrame (on_byte 240 byte r) (record r { past = byte ∷ r.past }) self.old out.new self.new }
-    {
-        let step = self.receiver.byte(byte);
-        self.tell(step, out);
-    }
-
-    fn hear(&mut self, bytes: &[u8], out: &mut LisStep) -> usize
-        ensures count { (r : ReceiverState) → IsIn 240 self.old.receiver r →
-            result ≡ (on_bytes 240 bytes.now r).count }
-        ensures step { (r : ReceiverState) → IsIn 240 self.old.receiver r → IsNotOutOfMemory out.new
-            → MakesStep (on_bytes 240 bytes.now r).step self.old out.new self.new }
-        ensures refused { (r : ReceiverState) → IsIn 240 self.old.receiver r → IsOutOfMemory out.new
-            → TellsRefusedFrame (on_bytes 240 bytes.now r).step (with_heard (take result bytes.now) r) self.old out.new
-            self.new }
-    {
-        let Hearing { count, step } = self.receiver.bytes(bytes);
-        self.tell(step, out);
-        count
-    }
-
-    fn timer(&mut self, out: &mut LisStep)
-        ensures { (r : ReceiverState) → IsIn 240 self.old.receiver r →
-            MakesStep (on_receiver_timer r) self.old out.new self.new }
-    {
-        let step = self.receiver.timer();
-        self.tell(step, out);
-    }
 }

@@ -14,6 +14,7 @@ ghost use Rattle.std.specs.Mem.{type_size};
 ghost use Rattle.std.specs.Ptr.{room_at};
 
 use crate::draft::{WriterDesk, let_go_writer};
+use crate::out::copy_text;
 use crate::records::{LisDelimiters, known};
 use crate::status;
 use lis_field::Kind;
@@ -171,13 +172,7 @@ pub extern "C" fn lis_writer_text(
     let Some(text) = s.lend().texts.get(place) else {
         return status::ABSENT;
     };
-    let text = text.as_slice();
-    if text.len() > out.len() {
-        return status::TOO_SHORT;
-    }
-    out[..text.len()].copy_from_slice(text);
-    *size = text.len();
-    status::OK
+    copy_text(text.as_slice(), out, size)
 }
 
 /// Ends a writer; its block is the caller's again.
