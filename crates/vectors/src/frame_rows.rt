@@ -3,7 +3,7 @@
 ghost use Rattle.lis_frame.specs.Limit.{IsLimit};
 
 use crate::answer::Answer;
-use crate::words::{Trouble, bytes_of, link_text_of, size_of_word};
+use crate::words::{Call, Trouble, bytes_of, link_text_of, size_of_word};
 use lis_frame::{
     FrameFault, FrameOf, Heard, LentFrame, ScannerOf, Signal, SignalOf, TextOf, frame_bytes_of,
     read_frame_of, split_all_of,
@@ -15,40 +15,30 @@ use std::alloc::{AllocError, Global};
 const FRAME_ROOM: usize = 64_000;
 
 /// Answers a call on frames.
-pub(crate) fn frame_call<const N: usize>(
-    alloc: Global,
-    call: &str,
-    words: &[&str],
-    answer: &mut Answer,
-) -> Result<(), Trouble>
+pub(crate) fn frame_call<const N: usize>(call: Call<'_>, answer: &mut Answer) -> Result<(), Trouble>
     requires { IsLimit N }
 {
-    match (call, words) {
-        ("read", [stretch]) => read::<N>(bytes_of(alloc, stretch)?.as_slice(), answer),
+    match (call.name, call.words) {
+        ("read", [stretch]) => read::<N>(bytes_of(call.alloc, stretch)?.as_slice(), answer),
         ("make", [number, end, text]) => {
-            let text = bytes_of(alloc, text)?;
+            let text = bytes_of(call.alloc, text)?;
             make::<N>(size_of_word(number)?, *end, text.as_slice(), answer)
         }
         ("scan", [place, bytes]) => {
-            let bytes = bytes_of(alloc, bytes)?;
-            scan::<N>(alloc, size_of_word(place)?, bytes.as_slice(), answer)
+            let bytes = bytes_of(call.alloc, bytes)?;
+            scan::<N>(call.alloc, size_of_word(place)?, bytes.as_slice(), answer)
         }
         _ => Err(Trouble::NoCall),
     }
 }
 
 /// Answers a call on the texts that frames carry.
-pub(crate) fn text_call<const N: usize>(
-    alloc: Global,
-    call: &str,
-    words: &[&str],
-    answer: &mut Answer,
-) -> Result<(), Trouble>
+pub(crate) fn text_call<const N: usize>(call: Call<'_>, answer: &mut Answer) -> Result<(), Trouble>
     requires { IsLimit N }
 {
-    match (call, words) {
+    match (call.name, call.words) {
         ("check", [text]) => {
-            let text = link_text_of(alloc, text)?;
+            let text = link_text_of(call.alloc, text)?;
             match check_text(text.as_slice()) {
                 Ok(()) => answer.word("ok")?,
                 Err(fault) => {
@@ -60,7 +50,7 @@ pub(crate) fn text_call<const N: usize>(
         }
         ("split", [first, text]) => {
             let first = size_of_word(first)?;
-            let text = link_text_of(alloc, text)?;
+            let text = link_text_of(call.alloc, text)?;
             if first > 7 {
                 return Err(Trouble::NoCall);
             }
@@ -69,7 +59,7 @@ pub(crate) fn text_call<const N: usize>(
                 put_text_fault(fault, answer)?;
                 return Ok(());
             }
-            let frames = split_all_of::<N>(alloc, text.as_slice(), first as u8)?;
+            let frames = split_all_of::<N>(call.alloc, text.as_slice(), first as u8)?;
             for frame in frames.as_slice() {
                 answer.part()?;
                 put_frame(frame, answer)?;
@@ -132,13 +122,13 @@ fn scan<const N: usize>(
     requires { IsLimit N }
 {
     let (front, rest) = bytes.split_at(fork.min(bytes.len()));
-    let mut scanner = ScannerOf::<N>::new();
-    push_all(&mut scanner, front, 0, answer)?;
-    let mut copy = scanner.copy();
+    let mut course = Course::<N>::new();
+    course.push_all(front, answer)?;
+    let mut copy = course.copy();
     let mut pushed = Answer::new(alloc);
-    push_all(&mut scanner, rest, front.len(), &mut pushed)?;
+    course.push_all(rest, &mut pushed)?;
     let mut scanned = Answer::new(alloc);
-    scan_all(&mut copy, rest, front.len(), &mut scanned)?;
+    copy.scan_all(rest, &mut scanned)?;
     if pushed.line() != scanned.line() {
         answer.word("the copy differs: ")?;
         answer.text(scanned.line())?;
@@ -152,69 +142,86 @@ fn scan<const N: usize>(
     Ok(())
 }
 
-fn push_all<const N: usize>(
-    scanner: &mut ScannerOf<N>,
-    bytes: &[u8],
-    before: usize,
-    answer: &mut Answer,
-) -> Result<(), AllocError>
-    requires { IsLimit N }
-{
-    for (place, byte) in bytes.iter().enumerate() {
-        match scanner.push(*byte) {
-            None => {}
-            Some(SignalOf::Enq) => put_place(before.saturating_add(place), "=ENQ", answer)?,
-            Some(SignalOf::Eot) => put_place(before.saturating_add(place), "=EOT", answer)?,
-            Some(SignalOf::Good(frame)) => {
-                put_place(before.saturating_add(place), "=frame:", answer)?;
-                put_frame(&frame, answer)?;
-            }
-            Some(SignalOf::Bad(fault)) => {
-                put_place(before.saturating_add(place), "=bad:", answer)?;
-                put_frame_fault(fault, answer)?;
-            }
-        }
-    }
-    Ok(())
+/// A scanner, and how many bytes it has read.
+#[derive(Drop)]
+struct Course<const N: usize> {
+    scanner: ScannerOf<N>,
+    read: usize,
 }
 
-fn scan_all<const N: usize>(
-    scanner: &mut ScannerOf<N>,
-    bytes: &[u8],
-    before: usize,
-    answer: &mut Answer,
-) -> Result<(), AllocError>
-    requires { IsLimit N }
-{
-    let mut rest = bytes;
-    let mut read = before;
-    for _ in 0..bytes.len() {
-        let (count, frame) = scanner.scan(rest);
-        if let Some(frame) = frame {
-            put_place(
-                read.saturating_add(count).saturating_sub(1),
-                "=frame:",
-                answer,
-            )?;
-            put_lent(&frame, answer)?;
+impl<const N: usize> Course<N> {
+    /// A scanner that has read no byte.
+    fn new() -> Self
+        requires { IsLimit N }
+    {
+        Course {
+            scanner: ScannerOf::new(),
+            read: 0,
         }
-        let (_, behind) = rest.split_at(count);
-        read = read.saturating_add(count);
-        rest = behind;
-        if count > 0 {
-            continue;
-        }
-        let Some((byte, behind)) = rest.split_first() else {
-            return Ok(());
-        };
-        if let Some(heard) = scanner.told(*byte) {
-            put_heard(&heard, read, answer)?;
-        }
-        scanner.take(*byte);
-        read = read.saturating_add(1);
-        rest = behind;
     }
-    Ok(())
+
+    /// A scanner that has read the same.
+    fn copy(&self) -> Self
+        requires { IsLimit N }
+    {
+        Course {
+            scanner: self.scanner.copy(),
+            read: self.read,
+        }
+    }
+
+    /// Reads bytes one by one, and puts their signals.
+    fn push_all(&mut self, bytes: &[u8], answer: &mut Answer) -> Result<(), AllocError>
+        requires { IsLimit N }
+    {
+        for byte in bytes {
+            match self.scanner.push(*byte) {
+                None => {}
+                Some(SignalOf::Enq) => put_place(self.read, "=ENQ", answer)?,
+                Some(SignalOf::Eot) => put_place(self.read, "=EOT", answer)?,
+                Some(SignalOf::Good(frame)) => {
+                    put_place(self.read, "=frame:", answer)?;
+                    put_frame(&frame, answer)?;
+                }
+                Some(SignalOf::Bad(fault)) => {
+                    put_place(self.read, "=bad:", answer)?;
+                    put_frame_fault(fault, answer)?;
+                }
+            }
+            self.read = self.read.saturating_add(1);
+        }
+        Ok(())
+    }
+
+    /// Reads bytes in runs, as far as they give no signal but a frame's, and puts their signals.
+    fn scan_all(&mut self, bytes: &[u8], answer: &mut Answer) -> Result<(), AllocError>
+        requires { IsLimit N }
+    {
+        let mut rest = bytes;
+        for _ in 0..bytes.len() {
+            let (count, frame) = self.scanner.scan(rest);
+            let (_, behind) = rest.split_at(count);
+            self.read = self.read.saturating_add(count);
+            rest = behind;
+            if let Some(frame) = frame {
+                put_place(self.read.saturating_sub(1), "=frame:", answer)?;
+                put_lent(&frame, answer)?;
+            }
+            if count > 0 {
+                continue;
+            }
+            let Some((byte, behind)) = rest.split_first() else {
+                return Ok(());
+            };
+            if let Some(heard) = self.scanner.told(*byte) {
+                put_heard(&heard, self.read, answer)?;
+            }
+            self.scanner.take(*byte);
+            self.read = self.read.saturating_add(1);
+            rest = behind;
+        }
+        Ok(())
+    }
 }
 
 fn put_heard(heard: &Heard<'_>, place: usize, answer: &mut Answer) -> Result<(), AllocError> {

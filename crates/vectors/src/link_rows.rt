@@ -5,28 +5,23 @@ ghost use Rattle.lis_frame.specs.Limit.{IsLimit};
 use crate::answer::Answer;
 use crate::frame_rows::put_frame;
 use crate::sender_rows::put_outcome;
-use crate::words::{Trouble, byte_of, link_text_of, texts_of};
+use crate::words::{Call, Trouble, byte_of, link_text_of, texts_of};
 use lis_frame::FramesOf;
 use lis_world::{Event, Events, SessionOf, play_of};
 use std::alloc::{AllocError, Global};
 
 /// Answers a call on a link.
-pub(crate) fn link_call<const N: usize>(
-    alloc: Global,
-    call: &str,
-    words: &[&str],
-    answer: &mut Answer,
-) -> Result<(), Trouble>
+pub(crate) fn link_call<const N: usize>(call: Call<'_>, answer: &mut Answer) -> Result<(), Trouble>
     requires { IsLimit N }
 {
-    if call != "play" {
+    if call.name != "play" {
         return Err(Trouble::NoCall);
     }
-    let mut events = Events::new(alloc);
-    for word in words {
-        events.push(event_of(alloc, *word)?)?;
+    let mut events = Events::new(call.alloc);
+    for word in call.words {
+        events.push(event_of(call.alloc, *word)?)?;
     }
-    let Ok(history) = play_of::<N>(alloc, events) else {
+    let Ok(history) = play_of::<N>(call.alloc, events) else {
         return Err(Trouble::OutOfMemory);
     };
     answer.number("sessions=", history.len() as u64)?;

@@ -7,8 +7,8 @@ use crate::spelling::{put_delimiters, put_kind, put_record};
 use crate::words::Trouble;
 use crate::writing_rows::{put_write_fault, put_wrote};
 use lis_message::{
-    Group, Message, MessageFault, MessageWriteFault, Order, Patient, Reason, Records, TextsFault,
-    message_texts, write_message,
+    Group, Message, MessageFault, MessageWriteFault, Order, Patient, Reason, Record, Records,
+    TextsFault, message_texts, write_message,
 };
 use lis_port::Slow;
 use lis_tree::findings;
@@ -59,16 +59,12 @@ fn put_findings(alloc: Global, message: &Message, answer: &mut Answer) -> Result
 
 /// Puts a tree: `*` before each note, brackets round each patient, query, order and result.
 fn put_tree(message: &Message, answer: &mut Answer) -> Result<(), AllocError> {
-    put_record(message.header(), answer)?;
-    put_notes(message.notes(), answer)?;
+    put_with_notes(message.header(), message.notes(), answer)?;
     for group in message.groups() {
         answer.text("[")?;
         match group {
             Group::Patient(patient) => put_patient(patient, answer)?,
-            Group::Query(query) => {
-                put_record(query.head(), answer)?;
-                put_notes(query.notes(), answer)?;
-            }
+            Group::Query(query) => put_with_notes(query.head(), query.notes(), answer)?,
         }
         answer.text("]")?;
     }
@@ -76,8 +72,7 @@ fn put_tree(message: &Message, answer: &mut Answer) -> Result<(), AllocError> {
 }
 
 fn put_patient(patient: &Patient, answer: &mut Answer) -> Result<(), AllocError> {
-    put_record(patient.head(), answer)?;
-    put_notes(patient.notes(), answer)?;
+    put_with_notes(patient.head(), patient.notes(), answer)?;
     for order in patient.orders() {
         answer.text("[")?;
         put_order(order, answer)?;
@@ -87,18 +82,17 @@ fn put_patient(patient: &Patient, answer: &mut Answer) -> Result<(), AllocError>
 }
 
 fn put_order(order: &Order, answer: &mut Answer) -> Result<(), AllocError> {
-    put_record(order.head(), answer)?;
-    put_notes(order.notes(), answer)?;
+    put_with_notes(order.head(), order.notes(), answer)?;
     for entry in order.results() {
         answer.text("[")?;
-        put_record(entry.head(), answer)?;
-        put_notes(entry.notes(), answer)?;
+        put_with_notes(entry.head(), entry.notes(), answer)?;
         answer.text("]")?;
     }
     Ok(())
 }
 
-fn put_notes(notes: &Records, answer: &mut Answer) -> Result<(), AllocError> {
+fn put_with_notes(head: &Record, notes: &Records, answer: &mut Answer) -> Result<(), AllocError> {
+    put_record(head, answer)?;
     for note in notes.as_slice() {
         answer.text("*")?;
         put_record(note, answer)?;

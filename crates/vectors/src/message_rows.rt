@@ -5,7 +5,7 @@ use crate::message_parts::{put_fault, put_message, put_place_fault};
 use crate::narrow::narrow_of;
 use crate::resuming::write_on;
 use crate::spelling::{delimiters_of, record_of};
-use crate::words::{Trouble, bytes_of, number_of};
+use crate::words::{Call, Trouble, bytes_of, number_of};
 use lis_message::{Fed, Message, MessageReader, Messages, Records, read_messages};
 use std::alloc::Global;
 use std::mem::{drop, replace};
@@ -27,67 +27,31 @@ impl Reading {
     }
 
     /// Answers a call on messages.
-    pub(crate) fn call(
-        &mut self,
-        alloc: Global,
-        call: &str,
-        words: &[&str],
-        answer: &mut Answer,
-    ) -> Result<(), Trouble> {
-        if call == "build" {
-            return self.build(alloc, words, answer);
-        }
-        if call == "write" {
-            return self.write(alloc, words, answer);
-        }
-        match words {
-            [] => self.call_alone(alloc, call, answer),
-            [bytes] => self.call_bytes(alloc, call, bytes_of(alloc, *bytes)?.as_slice(), answer),
+    pub(crate) fn call(&mut self, call: Call<'_>, answer: &mut Answer) -> Result<(), Trouble> {
+        match (call.name, call.words) {
+            ("new", []) => {
+                drop(replace(&mut self.reader, Some(MessageReader::new(call.alloc))));
+                answer.word("ok")?;
+                Ok(())
+            }
+            ("feed", [piece]) => self.feed(call.alloc, piece, answer),
+            ("finish", []) => self.finish(answer),
+            ("read", [bytes]) => {
+                let fed = read_messages(call.alloc, bytes_of(call.alloc, bytes)?.as_slice());
+                self.put_fed(call.alloc, fed, answer)
+            }
+            ("build", _) => self.build(call, answer),
+            ("write", _) => self.write(call, answer),
             _ => Err(Trouble::NoCall),
         }
     }
 
-    /// Answers a call of one word.
-    fn call_alone(
-        &mut self,
-        alloc: Global,
-        call: &str,
-        answer: &mut Answer,
-    ) -> Result<(), Trouble> {
-        if call == "new" {
-            drop(replace(&mut self.reader, Some(MessageReader::new(alloc))));
-            answer.word("ok")?;
-            return Ok(());
-        }
-        if call == "finish" {
-            return self.finish(answer);
-        }
-        Err(Trouble::NoCall)
-    }
-
-    /// Answers a call with bytes.
-    fn call_bytes(
-        &mut self,
-        alloc: Global,
-        call: &str,
-        bytes: &[u8],
-        answer: &mut Answer,
-    ) -> Result<(), Trouble> {
-        if call == "feed" {
-            return self.feed(alloc, bytes, answer);
-        }
-        if call == "read" {
-            let fed = read_messages(alloc, bytes);
-            return self.put_fed(alloc, fed, answer);
-        }
-        Err(Trouble::NoCall)
-    }
-
-    fn feed(&mut self, alloc: Global, piece: &[u8], answer: &mut Answer) -> Result<(), Trouble> {
+    fn feed(&mut self, alloc: Global, piece: &str, answer: &mut Answer) -> Result<(), Trouble> {
+        let piece = bytes_of(alloc, piece)?;
         let Some(reader) = &mut self.reader else {
             return Err(Trouble::NoCall);
         };
-        let fed = reader.feed(piece);
+        let fed = reader.feed(piece.as_slice());
         let held = reader.held();
         self.put_fed(alloc, fed, answer)?;
         answer.number(" held=", held)?;
@@ -108,14 +72,14 @@ impl Reading {
         Ok(())
     }
 
-    fn build(&mut self, alloc: Global, words: &[&str], answer: &mut Answer) -> Result<(), Trouble> {
-        let [delimiters, words @ ..] = words else {
+    fn build(&mut self, call: Call<'_>, answer: &mut Answer) -> Result<(), Trouble> {
+        let [delimiters, words @ ..] = call.words else {
             return Err(Trouble::NoCall);
         };
-        let delimiters = delimiters_of(alloc, *delimiters)?;
-        match Message::from_records(alloc, delimiters, records_of(alloc, words)?) {
+        let delimiters = delimiters_of(call.alloc, *delimiters)?;
+        match Message::from_records(call.alloc, delimiters, records_of(call.alloc, words)?) {
             Ok(message) => {
-                put_message(alloc, &message, answer)?;
+                put_message(call.alloc, &message, answer)?;
                 self.message = Some(message);
             }
             Err(fault) => {
@@ -126,15 +90,15 @@ impl Reading {
         Ok(())
     }
 
-    fn write(&mut self, alloc: Global, words: &[&str], answer: &mut Answer) -> Result<(), Trouble> {
-        let [room, step, place, skip] = words else {
+    fn write(&self, call: Call<'_>, answer: &mut Answer) -> Result<(), Trouble> {
+        let [room, step, place, skip] = call.words else {
             return Err(Trouble::NoCall);
         };
         let narrow = narrow_of(*room, *step)?;
         let (place, skip) = (number_of(*place)?, number_of(*skip)?);
         match &self.message {
             None => Err(Trouble::NoCall),
-            Some(message) => write_on(alloc, message, narrow, place, skip, answer),
+            Some(message) => write_on(call.alloc, message, narrow, place, skip, answer),
         }
     }
 

@@ -4,52 +4,80 @@ ghost use Rattle.lis_frame.specs.Limit.{IsLimit};
 
 use crate::answer::Answer;
 use crate::frame_rows::put_frame_fault;
-use crate::words::{Trouble, bytes_of, number_of};
+use crate::state::Ends;
+use crate::words::{Call, Trouble, bytes_of, number_of};
 use lis_link::{Note, Readiness, ReceiverOf, Step};
 use lis_text::LONGEST_TEXT;
-use std::alloc::{AllocError, Global};
+use std::alloc::AllocError;
 
-/// Answers a call on a receiver: its steps that aren't quiet, and then its state. One receiver hears bytes one by one,
-/// the other at once; they must answer the same.
-pub(crate) fn receiver_call<const N: usize>(
-    alloc: Global,
-    receiver: &mut ReceiverOf<N>,
-    other: &mut ReceiverOf<N>,
-    call: &str,
-    words: &[&str],
-    answer: &mut Answer,
-) -> Result<(), Trouble>
-    requires { IsLimit N }
-{
-    let mut again = Answer::new(alloc);
-    if let ("bytes", [bytes]) = (call, words) {
-        let bytes = bytes_of(alloc, bytes)?;
-        hear_each(receiver, bytes.as_slice(), answer)?;
-        hear_all(other, bytes.as_slice(), &mut again)?;
-    } else {
-        event(alloc, receiver, call, words, answer)?;
-        event(alloc, other, call, words, &mut again)?;
+impl<const N: usize> Ends<N> {
+    /// Answers a call on the receiver: its steps that aren't quiet, and then its state. One receiver hears bytes one by
+    /// one, the other at once; they must answer the same.
+    pub(crate) fn receiver_call(
+        &mut self,
+        call: Call<'_>,
+        answer: &mut Answer,
+    ) -> Result<(), Trouble>
+        requires { IsLimit N }
+    {
+        let mut again = Answer::new(call.alloc);
+        if let ("bytes", [bytes]) = (call.name, call.words) {
+            let bytes = bytes_of(call.alloc, bytes)?;
+            self.hear_each(bytes.as_slice(), answer)?;
+            self.hear_all(bytes.as_slice(), &mut again)?;
+        } else {
+            event(&mut self.receiver, call, answer)?;
+            event(&mut self.other_receiver, call, &mut again)?;
+        }
+        put_state(&self.receiver, answer)?;
+        put_state(&self.other_receiver, &mut again)?;
+        if answer.line() != again.line() {
+            answer.word("at once: ")?;
+            answer.text(again.line())?;
+        }
+        Ok(())
     }
-    put_state(receiver, answer)?;
-    put_state(other, &mut again)?;
-    if answer.line() != again.line() {
-        answer.word("at once: ")?;
-        answer.text(again.line())?;
+
+    /// The receiver hears bytes one by one.
+    fn hear_each(&mut self, bytes: &[u8], answer: &mut Answer) -> Result<(), AllocError>
+        requires { IsLimit N }
+    {
+        for (place, byte) in bytes.iter().enumerate() {
+            put_step(place, &self.receiver.byte(*byte), answer)?;
+        }
+        Ok(())
     }
-    Ok(())
+
+    /// The other receiver hears them at once.
+    fn hear_all(&mut self, bytes: &[u8], answer: &mut Answer) -> Result<(), AllocError>
+        requires { IsLimit N }
+    {
+        let mut rest = bytes;
+        let mut heard = 0usize;
+        for _ in 0..bytes.len() {
+            if rest.is_empty() {
+                return Ok(());
+            }
+            let hearing = self.other_receiver.bytes(rest);
+            let (_, behind) = rest.split_at(hearing.count);
+            heard = heard.saturating_add(hearing.count);
+            put_step(heard.saturating_sub(1), &hearing.step, answer)?;
+            rest = behind;
+        }
+        Ok(())
+    }
 }
 
+/// What happens to a receiver beside bytes.
 fn event<const N: usize>(
-    alloc: Global,
     receiver: &mut ReceiverOf<N>,
-    call: &str,
-    words: &[&str],
+    call: Call<'_>,
     answer: &mut Answer,
 ) -> Result<(), Trouble>
     requires { IsLimit N }
 {
-    match (call, words) {
-        ("new", []) => *receiver = ReceiverOf::new(alloc),
+    match (call.name, call.words) {
+        ("new", []) => *receiver = ReceiverOf::new(call.alloc),
         ("timer", []) => put_step(0, &receiver.timer(), answer)?,
         ("restart", []) => receiver.restart(),
         ("ready", ["ready"]) => receiver.set_ready(Readiness::Ready),
@@ -68,41 +96,6 @@ fn event<const N: usize>(
             }
         }
         _ => return Err(Trouble::NoCall),
-    }
-    Ok(())
-}
-
-fn hear_each<const N: usize>(
-    receiver: &mut ReceiverOf<N>,
-    bytes: &[u8],
-    answer: &mut Answer,
-) -> Result<(), AllocError>
-    requires { IsLimit N }
-{
-    for (place, byte) in bytes.iter().enumerate() {
-        put_step(place, &receiver.byte(*byte), answer)?;
-    }
-    Ok(())
-}
-
-fn hear_all<const N: usize>(
-    receiver: &mut ReceiverOf<N>,
-    bytes: &[u8],
-    answer: &mut Answer,
-) -> Result<(), AllocError>
-    requires { IsLimit N }
-{
-    let mut rest = bytes;
-    let mut heard = 0usize;
-    for _ in 0..bytes.len() {
-        if rest.is_empty() {
-            return Ok(());
-        }
-        let hearing = receiver.bytes(rest);
-        let (_, behind) = rest.split_at(hearing.count);
-        heard = heard.saturating_add(hearing.count);
-        put_step(heard.saturating_sub(1), &hearing.step, answer)?;
-        rest = behind;
     }
     Ok(())
 }

@@ -3,46 +3,31 @@
 use crate::answer::Answer;
 use crate::narrow::narrow_of;
 use crate::spelling::{delimiters_of, put_delimiters, put_record, record_of};
-use crate::words::{Trouble, bytes_of, number_of, size_of_word};
+use crate::words::{Call, Trouble, bytes_of, number_of};
 use crate::writing_rows::{write_fields, write_whole_and_part};
 use lis_record::{
     DelimiterFault, DelimiterPartFault, Delimiters, RecordFault, read_header, read_record,
 };
-use std::alloc::{AllocError, Global};
+use std::alloc::AllocError;
 
 /// Answers a call on records.
-pub(crate) fn record_call(
-    alloc: Global,
-    call: &str,
-    words: &[&str],
-    answer: &mut Answer,
-) -> Result<(), Trouble> {
-    if call == "delimiters" {
-        return delimiters(alloc, words, answer);
+pub(crate) fn record_call(call: Call<'_>, answer: &mut Answer) -> Result<(), Trouble> {
+    match call.name {
+        "delimiters" => delimiters(call, answer),
+        "header" => header(call, answer),
+        "read" => read(call, answer),
+        "write" => write(call, answer),
+        "write_field" => fields(call, true, answer),
+        "put_field" => fields(call, false, answer),
+        _ => Err(Trouble::NoCall),
     }
-    if call == "header" {
-        return header(alloc, words, answer);
-    }
-    if call == "read" {
-        return read(alloc, words, answer);
-    }
-    if call == "write" {
-        return write(alloc, words, answer);
-    }
-    if call == "write_field" {
-        return fields(alloc, words, true, answer);
-    }
-    if call == "put_field" {
-        return fields(alloc, words, false, answer);
-    }
-    Err(Trouble::NoCall)
 }
 
-fn delimiters(alloc: Global, words: &[&str], answer: &mut Answer) -> Result<(), Trouble> {
-    let [word] = words else {
+fn delimiters(call: Call<'_>, answer: &mut Answer) -> Result<(), Trouble> {
+    let [word] = call.words else {
         return Err(Trouble::NoCall);
     };
-    let bytes = bytes_of(alloc, *word)?;
+    let bytes = bytes_of(call.alloc, *word)?;
     let [field, repeat, component, escape] = bytes.as_slice() else {
         return Err(Trouble::NoCall);
     };
@@ -56,11 +41,11 @@ fn delimiters(alloc: Global, words: &[&str], answer: &mut Answer) -> Result<(), 
     Ok(())
 }
 
-fn header(alloc: Global, words: &[&str], answer: &mut Answer) -> Result<(), Trouble> {
-    let [text] = words else {
+fn header(call: Call<'_>, answer: &mut Answer) -> Result<(), Trouble> {
+    let [text] = call.words else {
         return Err(Trouble::NoCall);
     };
-    match read_header(alloc, bytes_of(alloc, *text)?.as_slice()) {
+    match read_header(call.alloc, bytes_of(call.alloc, *text)?.as_slice()) {
         Ok((delimiters, entry)) => {
             put_delimiters(delimiters, answer)?;
             answer.part()?;
@@ -71,42 +56,47 @@ fn header(alloc: Global, words: &[&str], answer: &mut Answer) -> Result<(), Trou
     Ok(())
 }
 
-fn read(alloc: Global, words: &[&str], answer: &mut Answer) -> Result<(), Trouble> {
-    let [delimiters, text] = words else {
+fn read(call: Call<'_>, answer: &mut Answer) -> Result<(), Trouble> {
+    let [delimiters, text] = call.words else {
         return Err(Trouble::NoCall);
     };
-    let delimiters = delimiters_of(alloc, *delimiters)?;
-    match read_record(alloc, &delimiters, bytes_of(alloc, *text)?.as_slice()) {
+    let delimiters = delimiters_of(call.alloc, *delimiters)?;
+    match read_record(
+        call.alloc,
+        &delimiters,
+        bytes_of(call.alloc, *text)?.as_slice(),
+    ) {
         Ok(entry) => put_record(&entry, answer)?,
         Err(fault) => put_refusal(fault, answer)?,
     }
     Ok(())
 }
 
-fn write(alloc: Global, words: &[&str], answer: &mut Answer) -> Result<(), Trouble> {
-    let [delimiters, entry, room, step, skip] = words else {
+fn write(call: Call<'_>, answer: &mut Answer) -> Result<(), Trouble> {
+    let [delimiters, entry, room, step, skip] = call.words else {
         return Err(Trouble::NoCall);
     };
-    let delimiters = delimiters_of(alloc, *delimiters)?;
+    let delimiters = delimiters_of(call.alloc, *delimiters)?;
     let narrow = narrow_of(*room, *step)?;
     let skip = number_of(*skip)?;
-    write_whole_and_part(delimiters, &record_of(alloc, *entry)?, narrow, skip, answer)
+    write_whole_and_part(
+        delimiters,
+        &record_of(call.alloc, *entry)?,
+        narrow,
+        skip,
+        answer,
+    )
 }
 
-fn fields(
-    alloc: Global,
-    words: &[&str],
-    limited: bool,
-    answer: &mut Answer,
-) -> Result<(), Trouble> {
-    let [delimiters, entry, room, step] = words else {
+fn fields(call: Call<'_>, limited: bool, answer: &mut Answer) -> Result<(), Trouble> {
+    let [delimiters, entry, room, step] = call.words else {
         return Err(Trouble::NoCall);
     };
-    let delimiters = delimiters_of(alloc, *delimiters)?;
+    let delimiters = delimiters_of(call.alloc, *delimiters)?;
     let narrow = narrow_of(*room, *step)?;
     write_fields(
         delimiters,
-        &record_of(alloc, *entry)?,
+        &record_of(call.alloc, *entry)?,
         narrow,
         limited,
         answer,

@@ -1,7 +1,7 @@
 //! Writing a message on behind sinks that failed.
 
-ghost use Rattle.std.specs.Prelude.{◌≡◌, ◌≤◌, ◌-◌, length, drop, IfOk, IfSome};
-ghost use Rattle.lis_message.specs.Writing.{first_length};
+ghost use Rattle.std.specs.Prelude.{◌≡◌, ◌≤◌, ◌-◌, length, drop, IfErr};
+ghost use Rattle.lis_message.specs.Writing.{CanResume, first_length};
 ghost use Rattle.lis_tree.specs.Tree.{flatten};
 
 use crate::answer::Answer;
@@ -17,6 +17,16 @@ use std::alloc::Global;
 
 /// How many sinks a message is written to at most.
 const MOST_SINKS: u32 = 100_000;
+
+/// What is left to write of a message: from the record at a place on, without the first `skip` bytes of that one.
+#[derive(Clone, Copy)]
+struct Rest<'a> {
+    message: &'a Message,
+    place: u64,
+    skip: u64,
+    ghost in_message: { (1 ≤ place) × (place ≤ length (flatten message.now))
+        × (skip ≤ first_length message.now.delimiters (drop (place - 1) (flatten message.now))) },
+}
 
 /// Writes a message from a place on, without the first bytes of that record, to as many narrow sinks as it takes; it
 /// stops where a sink took nothing. What stands before goes to a sink that is full there.
@@ -38,21 +48,12 @@ pub(crate) fn write_on(
     }
     let mut front = Slow::new(before, WIDE);
     let wrote = write_message(&mut front, message);
-    let Err(
-        MessageWriteFault {
-            place,
-            fault: WriteFault::Io(count),
-        },
-    ) = wrote
-    else {
+    let Some(rest) = rest_of(message, wrote) else {
         answer.part()?;
         put_message_wrote(wrote, &[], answer)?;
         return Ok(());
     };
-    if place == u64::MAX {
-        return Err(Trouble::NoCall);
-    }
-    write_rest(message, narrow, place, count, answer)
+    write_rest(rest, narrow, answer)
 }
 
 /// How many bytes stand before a place of a message, with so many of that record.
@@ -72,57 +73,46 @@ fn bytes_before(texts: &Texts, place: u64, skip: u64) -> Result<usize, Trouble> 
     Err(Trouble::NoCall)
 }
 
-fn write_rest(
-    message: &Message,
-    narrow: Narrow,
-    place: u64,
-    skip: u64,
-    answer: &mut Answer,
-) -> Result<(), Trouble>
-    requires first { 1 ≤ place }
-    requires last { place ≤ length (flatten message.now) }
-    requires skip { skip ≤ first_length message.now.delimiters (drop (place - 1) (flatten message.now)) }
+/// What is left of a message where its writing ended; nothing where no sink failed.
+fn rest_of(message: &Message, wrote: Result<(), MessageWriteFault>) -> Option<Rest<'_>>
+    requires { IfErr wrote (λ fault. CanResume message.now fault.place fault.fault) }
 {
-    let (mut at, mut passed) = (place, skip);
+    let Err(MessageWriteFault { place, fault }) = wrote else {
+        return None;
+    };
+    match fault {
+        WriteFault::Io(skip) if place < u64::MAX => Some(Rest {
+            message,
+            place,
+            skip,
+        }),
+        _ => None,
+    }
+}
+
+fn write_rest(rest: Rest<'_>, narrow: Narrow, answer: &mut Answer) -> Result<(), Trouble> {
+    let mut left = rest;
     for _ in 0..MOST_SINKS {
-        let Some((next, more)) = write_part(message, narrow, at, passed, answer)? else {
-            return Ok(());
-        };
-        (at, passed) = (next, more);
+        match write_part(left, narrow, answer)? {
+            Some(rest) => left = rest,
+            None => return Ok(()),
+        }
     }
     Err(Trouble::NoCall)
 }
 
-/// Writes on to one narrow sink; where it took something and failed, where the rest begins.
-fn write_part(
-    message: &Message,
+/// Writes on to one narrow sink; what is left where that took something and failed.
+fn write_part<'a>(
+    rest: Rest<'a>,
     narrow: Narrow,
-    place: u64,
-    skip: u64,
     answer: &mut Answer,
-) -> Result<Option<(u64, u64)>, Trouble>
-    requires first { 1 ≤ place }
-    requires last { place ≤ length (flatten message.now) }
-    requires skip { skip ≤ first_length message.now.delimiters (drop (place - 1) (flatten message.now)) }
-    ensures { IfOk result (λ rest. IfSome rest (λ at. (1 ≤ at.0) × (at.0 ≤ length (flatten message.now))
-        × (at.1 ≤ first_length message.now.delimiters (drop (at.0 - 1) (flatten message.now))))) }
-{
+) -> Result<Option<Rest<'a>>, Trouble> {
     let mut sink = narrow.sink();
-    let wrote = write_message_from(&mut sink, message, place, skip);
+    let wrote = write_message_from(&mut sink, rest.message, rest.place, rest.skip);
     answer.part()?;
     put_message_wrote(wrote, sink.took(), answer)?;
-    match wrote {
-        Err(
-            MessageWriteFault {
-                place,
-                fault: WriteFault::Io(count),
-            },
-        ) => {
-            if place == u64::MAX || sink.took().is_empty() {
-                return Ok(None);
-            }
-            Ok(Some((place, count)))
-        }
-        _ => Ok(None),
+    if sink.took().is_empty() {
+        return Ok(None);
     }
+    Ok(rest_of(rest.message, wrote))
 }

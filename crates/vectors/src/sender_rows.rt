@@ -4,37 +4,34 @@ ghost use Rattle.lis_frame.specs.Limit.{IsLimit};
 
 use crate::answer::Answer;
 use crate::frame_rows::{put_frame, put_text_fault};
-use crate::words::{Trouble, byte_of, texts_of};
+use crate::state::Ends;
+use crate::words::{Call, Trouble, byte_of, texts_of};
 use lis_link::{EmitOf, Outcome, Phase, SenderOf, StartFault};
-use std::alloc::{AllocError, Global};
+use std::alloc::AllocError;
 
-/// Answers a call on a sender: what it emits, and then where it stands.
-pub(crate) fn sender_call<const N: usize>(
-    alloc: Global,
-    sender: &mut SenderOf<N>,
-    call: &str,
-    words: &[&str],
-    answer: &mut Answer,
-) -> Result<(), Trouble>
-    requires { IsLimit N }
-{
-    match (call, words) {
-        ("new", []) => *sender = SenderOf::new(),
-        ("start", [texts]) => match sender.start(texts_of(alloc, texts)?) {
-            Ok(emit) => put_emit(&emit, answer)?,
-            Err(refused) => {
-                answer.word("refused:")?;
-                put_start_fault(refused.fault, answer)?;
-                answer.texts(":", refused.texts.as_slice())?;
-            }
-        },
-        ("reply", [byte]) => put_emit(&sender.reply(byte_of(byte)?), answer)?,
-        ("timer", []) => put_emit(&sender.timer(), answer)?,
-        ("restart", []) => sender.restart(),
-        _ => return Err(Trouble::NoCall),
+impl<const N: usize> Ends<N> {
+    /// Answers a call on the sender: what it emits, and then where it stands.
+    pub(crate) fn sender_call(&mut self, call: Call<'_>, answer: &mut Answer) -> Result<(), Trouble>
+        requires { IsLimit N }
+    {
+        match (call.name, call.words) {
+            ("new", []) => self.sender = SenderOf::new(),
+            ("start", [texts]) => match self.sender.start(texts_of(call.alloc, texts)?) {
+                Ok(emit) => put_emit(&emit, answer)?,
+                Err(refused) => {
+                    answer.word("refused:")?;
+                    put_start_fault(refused.fault, answer)?;
+                    answer.texts(":", refused.texts.as_slice())?;
+                }
+            },
+            ("reply", [byte]) => put_emit(&self.sender.reply(byte_of(byte)?), answer)?,
+            ("timer", []) => put_emit(&self.sender.timer(), answer)?,
+            ("restart", []) => self.sender.restart(),
+            _ => return Err(Trouble::NoCall),
+        }
+        put_state(&self.sender, answer)?;
+        Ok(())
     }
-    put_state(sender, answer)?;
-    Ok(())
 }
 
 fn put_emit<const N: usize>(emit: &EmitOf<N>, answer: &mut Answer) -> Result<(), AllocError>

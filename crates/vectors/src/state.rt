@@ -6,10 +6,8 @@ use crate::answer::Answer;
 use crate::frame_rows::{frame_call, text_call};
 use crate::link_rows::link_call;
 use crate::message_rows::Reading;
-use crate::receiver_rows::receiver_call;
 use crate::record_rows::record_call;
-use crate::sender_rows::sender_call;
-use crate::words::Trouble;
+use crate::words::{Call, Trouble};
 use lis_link::{ReceiverOf, SenderOf};
 use std::alloc::Global;
 
@@ -18,12 +16,12 @@ const USUAL: usize = 240;
 
 const LONGEST: usize = 63_993;
 
-/// The two ends of a link of one limit.
+/// The two ends of a link of one limit. Two receivers hear the same.
 #[derive(Drop)]
-struct Ends<const N: usize> {
-    sender: SenderOf<N>,
-    receiver: ReceiverOf<N>,
-    other_receiver: ReceiverOf<N>,
+pub(crate) struct Ends<const N: usize> {
+    pub(crate) sender: SenderOf<N>,
+    pub(crate) receiver: ReceiverOf<N>,
+    pub(crate) other_receiver: ReceiverOf<N>,
 }
 
 impl<const N: usize> Ends<N> {
@@ -38,31 +36,15 @@ impl<const N: usize> Ends<N> {
     }
 
     /// Answers a call that has a limit.
-    fn call(
-        &mut self,
-        alloc: Global,
-        subject: &str,
-        call: &str,
-        words: &[&str],
-        answer: &mut Answer,
-    ) -> Result<(), Trouble>
+    fn call(&mut self, subject: &str, call: Call<'_>, answer: &mut Answer) -> Result<(), Trouble>
         requires { IsLimit N }
     {
         match subject {
-            "frame" => frame_call::<N>(alloc, call, words, answer),
-            "text" => text_call::<N>(alloc, call, words, answer),
-            "sender" => sender_call(alloc, &mut self.sender, call, words, answer),
-            "receiver" => {
-                receiver_call(
-                    alloc,
-                    &mut self.receiver,
-                    &mut self.other_receiver,
-                    call,
-                    words,
-                    answer,
-                )
-            }
-            "link" => link_call::<N>(alloc, call, words, answer),
+            "frame" => frame_call::<N>(call, answer),
+            "text" => text_call::<N>(call, answer),
+            "sender" => self.sender_call(call, answer),
+            "receiver" => self.receiver_call(call, answer),
+            "link" => link_call::<N>(call, answer),
             _ => Err(Trouble::NoCall),
         }
     }
@@ -106,16 +88,17 @@ impl State {
         let Some((subject, call)) = name.split_once('.') else {
             return self.limit(*name, words, answer);
         };
-        if subject == "record" {
-            return record_call(self.alloc, call, words, answer);
+        let call = Call {
+            alloc: self.alloc,
+            name: call,
+            words,
+        };
+        match subject {
+            "record" => record_call(call, answer),
+            "message" => self.reading.call(call, answer),
+            _ if self.is_long => self.long.call(subject, call, answer),
+            _ => self.usual.call(subject, call, answer),
         }
-        if subject == "message" {
-            return self.reading.call(self.alloc, call, words, answer);
-        }
-        if self.is_long {
-            return self.long.call(self.alloc, subject, call, words, answer);
-        }
-        self.usual.call(self.alloc, subject, call, words, answer)
     }
 
     /// The limit of frames from here on.

@@ -1,4 +1,4 @@
-//! Reading the words of a call: numbers, bytes, texts.
+//! A call, and reading its words: numbers, bytes, texts.
 
 use hex::FromHexError;
 use lis_text::{LinkText, Texts};
@@ -11,6 +11,14 @@ pub(crate) enum Trouble {
     NoCall,
     /// Memory was refused.
     OutOfMemory,
+}
+
+/// A call: its name, its words, and where what they tell takes memory.
+#[derive(Clone, Copy)]
+pub(crate) struct Call<'a> {
+    pub(crate) alloc: Global,
+    pub(crate) name: &'a str,
+    pub(crate) words: &'a [&'a str],
 }
 
 impl From<AllocError> for Trouble {
