@@ -4,7 +4,7 @@ use crate::answer::Answer;
 use crate::narrow::narrow_of;
 use crate::spelling::{delimiters_of, put_delimiters, put_record, record_of};
 use crate::words::{Call, Trouble, bytes_of, number_of};
-use crate::writing_rows::{write_fields, write_whole_and_part};
+use crate::writing_rows::Writing;
 use lis_record::{
     DelimiterFault, DelimiterPartFault, Delimiters, RecordFault, read_header, read_record,
 };
@@ -16,10 +16,7 @@ pub(crate) fn record_call(call: Call<'_>, answer: &mut Answer) -> Result<(), Tro
         "delimiters" => delimiters(call, answer),
         "header" => header(call, answer),
         "read" => read(call, answer),
-        "write" => write(call, answer),
-        "write_field" => fields(call, true, answer),
-        "put_field" => fields(call, false, answer),
-        _ => Err(Trouble::NoCall),
+        _ => write(call, answer),
     }
 }
 
@@ -72,35 +69,22 @@ fn read(call: Call<'_>, answer: &mut Answer) -> Result<(), Trouble> {
     Ok(())
 }
 
+/// Answers a call that writes a record, whole and in part, or each of its fields.
 fn write(call: Call<'_>, answer: &mut Answer) -> Result<(), Trouble> {
-    let [delimiters, entry, room, step, skip] = call.words else {
+    let [delimiters, entry, room, step, words @ ..] = call.words else {
         return Err(Trouble::NoCall);
     };
-    let delimiters = delimiters_of(call.alloc, *delimiters)?;
-    let narrow = narrow_of(*room, *step)?;
-    let skip = number_of(*skip)?;
-    write_whole_and_part(
-        delimiters,
-        &record_of(call.alloc, *entry)?,
-        narrow,
-        skip,
-        answer,
-    )
-}
-
-fn fields(call: Call<'_>, limited: bool, answer: &mut Answer) -> Result<(), Trouble> {
-    let [delimiters, entry, room, step] = call.words else {
-        return Err(Trouble::NoCall);
+    let writing = Writing {
+        delimiters: delimiters_of(call.alloc, *delimiters)?,
+        entry: record_of(call.alloc, *entry)?,
+        narrow: narrow_of(*room, *step)?,
     };
-    let delimiters = delimiters_of(call.alloc, *delimiters)?;
-    let narrow = narrow_of(*room, *step)?;
-    write_fields(
-        delimiters,
-        &record_of(call.alloc, *entry)?,
-        narrow,
-        limited,
-        answer,
-    )
+    match (call.name, words) {
+        ("write", [skip]) => writing.whole_and_part(number_of(skip)?, answer),
+        ("write_field", []) => writing.fields(true, answer),
+        ("put_field", []) => writing.fields(false, answer),
+        _ => Err(Trouble::NoCall),
+    }
 }
 
 /// Puts that a text is no record, and why.

@@ -24,53 +24,52 @@ fn length_of(delimiters: Delimiters, entry: &Record) -> u64
     }
 }
 
-/// Tests a record, writes it to a wide sink and, without the first bytes, to a narrow one; where that fails, the rest
-/// to a wide one.
-pub(crate) fn write_whole_and_part(
-    delimiters: Delimiters,
-    entry: &Record,
-    narrow: Narrow,
-    skip: u64,
-    answer: &mut Answer,
-) -> Result<(), Trouble> {
-    answer.word("check=")?;
-    put_result(check_record(&delimiters, entry), answer)?;
-    let mut whole = Slow::new(WIDE, WIDE);
-    let wrote = write_record(&mut whole, &delimiters, entry);
-    answer.word("whole=")?;
-    put_wrote(wrote, whole.took(), answer)?;
-    let skip = skip.min(length_of(delimiters, entry));
-    let mut part = narrow.sink();
-    let wrote = write_record_from(&mut part, &delimiters, entry, skip);
-    answer.word("part=")?;
-    put_wrote(wrote, part.took(), answer)?;
-    if let Err(WriteFault::Io(count)) = wrote {
-        let mut rest = Slow::new(WIDE, WIDE);
-        let wrote = write_record_from(&mut rest, &delimiters, entry, count);
-        answer.word("then=")?;
-        put_wrote(wrote, rest.took(), answer)?;
-    }
-    Ok(())
+/// A record that is to be written under delimiters, and a sink that fails.
+#[derive(Drop)]
+pub(crate) struct Writing {
+    pub(crate) delimiters: Delimiters,
+    pub(crate) entry: Record,
+    pub(crate) narrow: Narrow,
 }
 
-/// Writes each field of a record, to a wide sink and to a narrow one; `limited` by `write_field`.
-pub(crate) fn write_fields(
-    delimiters: Delimiters,
-    entry: &Record,
-    narrow: Narrow,
-    limited: bool,
-    answer: &mut Answer,
-) -> Result<(), Trouble> {
-    if entry.fields().is_empty() {
-        answer.word("none")?;
+impl Writing {
+    /// Tests the record, writes it to a wide sink and, without the first bytes, to a narrow one; where that fails, the
+    /// rest to a wide one.
+    pub(crate) fn whole_and_part(&self, skip: u64, answer: &mut Answer) -> Result<(), Trouble> {
+        answer.word("check=")?;
+        put_result(check_record(&self.delimiters, &self.entry), answer)?;
+        let mut whole = Slow::new(WIDE, WIDE);
+        let wrote = write_record(&mut whole, &self.delimiters, &self.entry);
+        answer.word("whole=")?;
+        put_wrote(wrote, whole.took(), answer)?;
+        let skip = skip.min(length_of(self.delimiters, &self.entry));
+        let mut part = self.narrow.sink();
+        let wrote = write_record_from(&mut part, &self.delimiters, &self.entry, skip);
+        answer.word("part=")?;
+        put_wrote(wrote, part.took(), answer)?;
+        if let Err(WriteFault::Io(count)) = wrote {
+            let mut rest = Slow::new(WIDE, WIDE);
+            let wrote = write_record_from(&mut rest, &self.delimiters, &self.entry, count);
+            answer.word("then=")?;
+            put_wrote(wrote, rest.took(), answer)?;
+        }
+        Ok(())
     }
-    for field in entry.fields() {
-        answer.part()?;
-        write_one_field(delimiters, field, Slow::new(WIDE, WIDE), limited, answer)?;
-        answer.text("/")?;
-        write_one_field(delimiters, field, narrow.sink(), limited, answer)?;
+
+    /// Writes each field of the record, to a wide sink and to a narrow one; `limited` by `write_field`.
+    pub(crate) fn fields(&self, limited: bool, answer: &mut Answer) -> Result<(), Trouble> {
+        if self.entry.fields().is_empty() {
+            answer.word("none")?;
+        }
+        for field in self.entry.fields() {
+            answer.part()?;
+            let wide = Slow::new(WIDE, WIDE);
+            write_one_field(self.delimiters, field, wide, limited, answer)?;
+            answer.text("/")?;
+            write_one_field(self.delimiters, field, self.narrow.sink(), limited, answer)?;
+        }
+        Ok(())
     }
-    Ok(())
 }
 
 fn write_one_field(
