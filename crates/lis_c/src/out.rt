@@ -130,8 +130,8 @@ pub(crate) fn tell_signal(signal: Option<Signal>, out: &mut LisSignal)
     }
 }
 
-/// Copies a text to the front of a buffer, and tells how many bytes it has: `OK`, or `TOO_SHORT`, and nothing is copied,
-/// where it is longer than the buffer.
+/// Copies a text to the front of a buffer, and tells how many bytes it has: `OK`, or `TOO_SHORT`, and nothing is
+/// copied, where it is longer than the buffer.
 pub(crate) fn copy_text(text: &[u8], out: &mut [u8], size: &mut usize) -> u8
     ensures status { result ≡ copy_status (length out.old) (length text.now) }
     ensures copied { IsCopied text.now result out.new size.new }
