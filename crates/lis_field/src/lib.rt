@@ -18,6 +18,7 @@ pub use component::Component;
 pub use delimiting::{DelimiterFault, Delimiters};
 pub use field::Field;
 pub use kinds::Kind;
+pub use parts::{Part, Parts};
 pub use records::Record;
 pub use repeat::Repeat;
 pub use symbols::Sym;

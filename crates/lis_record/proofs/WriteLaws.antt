@@ -2,7 +2,7 @@
 use Rattle.std.proofs.Common.{◌≡◌, ℕ, ◌+◌, ◌-◌, ◌<◌, ◌≤◌, Bool, true, false, cond, ltb, List, [], ◌∷◌, length, take}
 use Rattle.std.proofs.Common.{drop, Option, Some, None, option_map, Result, Ok, Err, refl, sym, ap, ◌∙◌, subst}
 use Rattle.std.proofs.Common.{length-append, arith, inl, inr, zero-add, zero-le}
-use Rattle.std.specs.Prelude.{◌↔◌}
+use Rattle.std.specs.Prelude.{◌↔◌, ◌≢◌, not}
 use Rattle.std.proofs.lemmas.Bool.{cases_lt, lt-ltb}
 use Rattle.std.proofs.lemmas.List.{drop-take, length-drop}
 use Rattle.std.specs.Option.{option_or}
@@ -182,6 +182,44 @@ Wrote-any refusal bytes old new (Err (write_faults.CharNotText number)) weaker n
     let e : None ≡ Some (write_faults.CharNotText number) = sym weak ∙ h.0 in cc
 Wrote-any refusal bytes old new (Err write_faults.TooLong) weaker none weak short h =
     let e : None ≡ Some write_faults.TooLong = sym weak ∙ h.0 in cc
+
+-- what was put of bytes that aren't refused for their length is what is written of them
+fits_unless_long : (bytes : List ℕ) → long_fault bytes ≢ Some write_faults.TooLong → length bytes ≤ record_limit
+fits_unless_long bytes short =
+    elim (cases_lt record_limit (length bytes)) [
+      | inl past ↦ absurd (short (long_fault-past bytes past))
+      | inr within ↦ within
+    ]
+
+Wrote-put : (refusal : Option WriteFault) (bytes : List ℕ) (old new : Option (List ℕ)) (r : Result Unit WriteFault)
+    → option_or refusal (long_fault bytes) ≢ Some write_faults.TooLong → WroteAny refusal bytes old new r
+    → Wrote (option_or refusal (long_fault bytes)) 0 bytes old new r
+Wrote-put None bytes old new r short h =
+    let fits = fits_unless_long bytes short in
+    Wrote-any (long_fault bytes) bytes old new r None (long_fault-within bytes fits) refl fits h
+Wrote-put (Some fault) bytes old new (Ok tt) short h = let e : Some fault ≡ None = h.0 in cc
+Wrote-put (Some fault) bytes old new (Err (write_faults.Io told)) short h = let e : Some fault ≡ None = h.0 in cc
+Wrote-put (Some fault) bytes old new (Err (write_faults.CharNotText number)) short h = h
+Wrote-put (Some fault) bytes old new (Err write_faults.TooLong) short h = h
+
+pub Wrote-field : (d : DelimiterBytes) (repeats : Repeats) (old new : Option (List ℕ)) (r : Result Unit WriteFault)
+    → field_fault d repeats ≢ Some write_faults.TooLong
+    → WroteAny (field_char_fault repeats) (spelled_field d repeats) old new r
+    → Wrote (field_fault d repeats) 0 (spelled_field d repeats) old new r
+unfolding field_fault
+Wrote-field d repeats old new r short h =
+    Wrote-put (field_char_fault repeats) (spelled_field d repeats) old new r short h
+
+-- the test of a field's length tells whether it is refused for that
+pub too_long_told : (within : Bool) (d : DelimiterBytes) (repeats : Repeats) (whole : List ℕ)
+    → is_text_field repeats ≡ true → (within ≡ true ↔ length whole ≤ record_limit) → whole ≡ spelled_field d repeats
+    → not within ≡ true ↔ field_fault d repeats ≡ Some write_faults.TooLong
+too_long_told true d repeats whole text tells same = (
+  λ long. cc,
+  λ long. let none = field_fault-none d repeats text (within_true true whole _ tells same refl) in cc,
+)
+too_long_told false d repeats whole text tells same =
+    (λ _. field_fault-long d repeats text (within_false false whole _ tells same refl), λ _. refl)
 
 -- bytes that are equal to those that were written
 pub WroteAny-same : (bytes text : List ℕ) (old new : Option (List ℕ)) (r : Result Unit WriteFault) → bytes ≡ text

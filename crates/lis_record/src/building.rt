@@ -4,12 +4,12 @@ ghost use Rattle.std.specs.Prelude.{◌≡◌, ◌<◌, ◌≤◌, ◌-◌, ◌+
 ghost use Rattle.std.specs.Prelude.{length, map, replicate, take};
 ghost use Rattle.lis_record.specs.inside.FrontReading.{components_of, fields_of, parts_behind, parts_of, repeats_of};
 ghost use Rattle.lis_record.specs.inside.FrontReading.{BeginsWith, ComponentFront, EndsWith, TakesField};
-ghost use Rattle.lis_record.specs.inside.FrontReading.{IsPlainText, symbols_of};
+ghost use Rattle.lis_record.specs.inside.FrontReading.{IsPaddedBy, IsPlainText, symbols_of};
 ghost use Rattle.lis_record.specs.Relation.{Lacks};
 
 use crate::escapes::{read_component, read_short_component};
 use crate::search::{bits_of, field_end, first_stop, near_end, place_of};
-use crate::texts::{count_parts, first_part};
+use crate::texts::{PaddedText, count_parts, first_part};
 use lis_field::{Component, Delimiters, Field, Kind, Record, Repeat};
 use std::alloc::{AllocError, Global};
 use std::simd::prelude::*;
@@ -102,14 +102,14 @@ fn is_free(bytes: &[u8], count: usize, mark: u8) -> bool
 }
 
 // Where the component ends that a field's text begins with, and whether its bytes are known to be its symbols; none
-// where no component delimiter or the end is found within sixteen bytes. The text is given twice, once with more behind
-// it or nothing, so that sixteen bytes can be looked at.
+// where no component delimiter or the end is found within sixteen bytes.
 #[inline(always)]
-fn component_front(delimiters: Delimiters, text: &[u8], padded: &[u8]) -> Option<(usize, bool)>
-    requires { BeginsWith padded.now text.now }
-    ensures front { IfSome result (λ found. ComponentFront delimiters text.now found.0 found.1) }
-    ensures room { IfSome result (λ found. 16 ≤ length padded.now) }
+fn component_front(delimiters: Delimiters, given: PaddedText<'_, '_>) -> Option<(usize, bool)>
+    requires { BeginsWith given.padded.now given.text.now }
+    ensures front { IfSome result (λ found. ComponentFront delimiters given.entry.text.now found.0 found.1) }
+    ensures room { IfSome result (λ found. 16 ≤ length given.entry.padded.now) }
 {
+    let PaddedText { text, padded } = given;
     // Beside the delimiters no other byte ends it.
     let Some(stop) = first_stop(delimiters, delimiters.component(), padded) else {
         return None;
@@ -129,15 +129,15 @@ fn component_front(delimiters: Delimiters, text: &[u8], padded: &[u8]) -> Option
 fn first_front(
     alloc: Global,
     delimiters: Delimiters,
-    text: &[u8],
-    padded: &[u8],
+    given: PaddedText<'_, '_>,
     front: (usize, bool),
 ) -> Result<Repeat, AllocError>
-    requires room { 16 ≤ length padded.now }
-    requires begins { BeginsWith padded.now text.now }
-    requires front { ComponentFront delimiters text.now front.0 front.1 }
-    ensures { IfOk result (λ repeat. repeat ≡ symbols_of delimiters (take front.0 text.now) ∷ []) }
+    requires room { 16 ≤ length given.padded.now }
+    requires begins { BeginsWith given.padded.now given.text.now }
+    requires front { ComponentFront delimiters given.text.now front.0 front.1 }
+    ensures { IfOk result (λ repeat. repeat ≡ symbols_of delimiters (take front.0 given.entry.text.now) ∷ []) }
 {
+    let PaddedText { text, padded } = given;
     let (end, is_plain) = front;
     let near = text.len().min(16).max(1);
     let marks = bits_of(padded, delimiters.component()) << (64 - near);
@@ -159,14 +159,14 @@ fn push_front(
     alloc: Global,
     delimiters: Delimiters,
     repeat: &mut Repeat,
-    text: &[u8],
-    padded: &[u8],
+    given: PaddedText<'_, '_>,
     front: (usize, bool),
 ) -> Result<(), AllocError>
-    requires begins { BeginsWith padded.now text.now }
-    requires front { ComponentFront delimiters text.now front.0 front.1 }
-    ensures { OnOk result (repeat.new ≡ repeat.old ++ symbols_of delimiters (take front.0 text.now) ∷ []) }
+    requires begins { BeginsWith given.padded.now given.text.now }
+    requires front { ComponentFront delimiters given.text.now front.0 front.1 }
+    ensures { OnOk result (repeat.new ≡ repeat.old ++ symbols_of delimiters (take front.0 given.entry.text.now) ∷ []) }
 {
+    let PaddedText { text, padded } = given;
     let (end, is_plain) = front;
     if is_plain {
         repeat.push(Component::from_front(alloc, padded, end)?)?;
@@ -178,31 +178,35 @@ fn push_front(
 }
 
 // Reads a field of one repeat and short components component by component, each looked at once; any other field by its
-// delimiters. The text is given twice, as above.
+// delimiters.
 #[inline(always)]
 fn read_parted(
     alloc: Global,
     delimiters: Delimiters,
-    text: &[u8],
-    padded: &[u8],
+    given: PaddedText<'_, '_>,
 ) -> Result<Field, AllocError>
-    requires { BeginsWith padded.now text.now }
-    ensures { IfOk result (λ field. field ≡ repeats_of delimiters text.now) }
+    requires { BeginsWith given.padded.now given.text.now }
+    ensures { IfOk result (λ field. field ≡ repeats_of delimiters given.entry.text.now) }
 {
-    let Some(front) = component_front(delimiters, text, padded) else {
+    let PaddedText { text, padded } = given;
+    let Some(front) = component_front(delimiters, given) else {
         return read_field(alloc, delimiters, text);
     };
     // A component delimiter is no repeat delimiter, since delimiters are apart.
     let _ = delimiters.field();
-    let mut repeat = first_front(alloc, delimiters, text, padded, front)?;
+    let mut repeat = first_front(alloc, delimiters, given, front)?;
     let (_, mut rest) = text.split_at(front.0);
     let (_, mut window) = padded.split_at(front.0);
     while let Some((_delimiter, more)) = rest.split_first() {
         let (_, behind) = window.split_at(1);
-        let Some(front) = component_front(delimiters, more, behind) else {
+        let next = PaddedText {
+            text: more,
+            padded: behind,
+        };
+        let Some(front) = component_front(delimiters, next) else {
             return read_field(alloc, delimiters, text);
         };
-        push_front(alloc, delimiters, &mut repeat, more, behind, front)?;
+        push_front(alloc, delimiters, &mut repeat, next, front)?;
         let (_, others) = more.split_at(front.0);
         let (_, further) = behind.split_at(front.0);
         rest = others;
@@ -270,15 +274,15 @@ fn padded_end(text: &[u8], mark: u8) -> [u8; 32]
     padded
 }
 
-// What stands before the first delimiter, and the rest from that delimiter on. The text is given twice, once with
-// delimiters behind it or none, so that sixteen bytes can be looked at.
+// What stands before the first delimiter of a text that is padded by that, and the rest from that delimiter on.
 #[inline(always)]
-fn first_padded<'a>(text: &'a [u8], padded: &[u8], delimiter: u8) -> (&'a [u8], &'a [u8])
-    requires { (count : ℕ) × (padded.now ≡ text.now ++ replicate count delimiter) }
-    ensures parts { parts_of delimiter text.now ≡ result.0.now ∷ parts_behind delimiter result.1.now }
-    ensures shorter { length result.1.now ≤ length text.now }
-    ensures joined { text.now ≡ result.0.now ++ result.1.now }
+fn first_padded<'a>(given: PaddedText<'a, '_>, delimiter: u8) -> (&'a [u8], &'a [u8])
+    requires { IsPaddedBy delimiter given.text.now given.padded.now }
+    ensures parts { parts_of delimiter given.entry.text.now ≡ result.0.now ∷ parts_behind delimiter result.1.now }
+    ensures shorter { length result.1.now ≤ length given.entry.text.now }
+    ensures joined { given.entry.text.now ≡ result.0.now ++ result.1.now }
 {
+    let PaddedText { text, padded } = given;
     let Some(end) = near_end(padded, delimiter) else {
         return first_part(text, delimiter);
     };
@@ -292,38 +296,39 @@ fn push_other<'a>(
     alloc: Global,
     delimiters: Delimiters,
     entry: &mut Record,
-    text: &'a [u8],
-    padded: &[u8],
+    given: PaddedText<'a, '_>,
 ) -> Result<&'a [u8], AllocError>
-    requires { (count : ℕ) × (padded.now ≡ text.now ++ replicate count delimiters.field) }
-    ensures { IfOk result (λ rest. TakesField delimiters entry.old entry.new text.now rest.now) }
+    requires { IsPaddedBy delimiters.field given.text.now given.padded.now }
+    ensures { IfOk result (λ rest. TakesField delimiters entry.old entry.new given.entry.text.now rest.now) }
 {
+    let PaddedText { text, padded } = given;
     if let Some(end) = field_end(delimiters, delimiters.component(), padded) {
         let (part, rest) = text.split_at(end);
-        let component = read_short_component(alloc, delimiters, part, padded)?;
+        let front = PaddedText { text: part, padded };
+        let component = read_short_component(alloc, delimiters, front)?;
         entry.push(Field::new(alloc, Repeat::new(alloc, component)?)?)?;
         return Ok(rest);
     }
-    let (part, rest) = first_padded(text, padded, delimiters.field());
-    entry.push(read_parted(alloc, delimiters, part, padded)?)?;
+    let (part, rest) = first_padded(given, delimiters.field());
+    let front = PaddedText { text: part, padded };
+    entry.push(read_parted(alloc, delimiters, front)?)?;
     Ok(rest)
 }
 
-// Adds the field that a text begins with to a record, and answers what follows from the next field delimiter on. The
-// text is given twice, once with field delimiters behind it or none, so that sixteen bytes can be looked at.
+// Adds the field that a text begins with to a record, and answers what follows from the next field delimiter on.
 #[inline(always)]
 fn push_next<'a>(
     alloc: Global,
     delimiters: Delimiters,
     entry: &mut Record,
-    text: &'a [u8],
-    padded: &[u8],
+    given: PaddedText<'a, '_>,
 ) -> Result<&'a [u8], AllocError>
-    requires { (count : ℕ) × (padded.now ≡ text.now ++ replicate count delimiters.field) }
-    ensures { IfOk result (λ rest. TakesField delimiters entry.old entry.new text.now rest.now) }
+    requires { IsPaddedBy delimiters.field given.text.now given.padded.now }
+    ensures { IfOk result (λ rest. TakesField delimiters entry.old entry.new given.entry.text.now rest.now) }
 {
+    let PaddedText { text, padded } = given;
     let Some(end) = field_end(delimiters, delimiters.escape(), padded) else {
-        return push_other(alloc, delimiters, entry, text, padded);
+        return push_other(alloc, delimiters, entry, given);
     };
     // Many fields are empty, at the same places of most records of a kind.
     if end == 0 {
@@ -354,11 +359,16 @@ pub(crate) fn read_fields(
         if more.len() < 16 {
             break;
         }
-        rest = push_next(alloc, delimiters, &mut record, more, more)?;
+        let next = PaddedText {
+            text: more,
+            padded: more,
+        };
+        rest = push_next(alloc, delimiters, &mut record, next)?;
     }
     while let Some((_last_delimiter, last)) = rest.split_first() {
         let (_, padded) = end.split_at(16 - last.len());
-        rest = push_next(alloc, delimiters, &mut record, last, padded)?;
+        let next = PaddedText { text: last, padded };
+        rest = push_next(alloc, delimiters, &mut record, next)?;
     }
     Ok(record)
 }

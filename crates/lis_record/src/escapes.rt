@@ -10,6 +10,7 @@ ghost use Rattle.lis_record.specs.inside.FrontReading.{ArePairs, BeginsWith, dig
 ghost use Rattle.lis_record.specs.Relation.{Lacks};
 
 use crate::search::{bits_of, place_of};
+use crate::texts::PaddedText;
 use lis_field::{Component, Delimiters, Sym};
 use std::alloc::{AllocError, Global};
 use std::marker::Model;
@@ -225,15 +226,15 @@ pub(crate) fn read_component(
     Ok(component)
 }
 
-// How many of a text's first sixteen bytes stand before an escape byte. The text is given twice, once with more behind
-// it or nothing, so that sixteen bytes can be looked at.
+// How many of a text's first sixteen bytes stand before an escape byte.
 #[inline(always)]
-fn plain_front(delimiters: Delimiters, text: &[u8], padded: &[u8]) -> usize
-    requires room { 16 ≤ length padded.now }
-    requires begins { BeginsWith padded.now text.now }
-    ensures within { result ≤ length text.now }
-    ensures plain { Lacks delimiters.escape (take result text.now) }
+fn plain_front(delimiters: Delimiters, given: PaddedText<'_, '_>) -> usize
+    requires room { 16 ≤ length given.padded.now }
+    requires begins { BeginsWith given.padded.now given.text.now }
+    ensures within { result ≤ length given.entry.text.now }
+    ensures plain { Lacks delimiters.escape (take result given.entry.text.now) }
 {
+    let PaddedText { text, padded } = given;
     let bits = bits_of(padded, delimiters.escape());
     if bits == 0 {
         return text.len().min(16);
@@ -241,21 +242,20 @@ fn plain_front(delimiters: Delimiters, text: &[u8], padded: &[u8]) -> usize
     text.len().min(bits.trailing_zeros() as usize)
 }
 
-// Reads a component from its front, the bytes before its first escape byte at once. The text is given twice, as above.
+// Reads a component from its front, the bytes before its first escape byte at once.
 #[inline(never)]
 pub(crate) fn read_short_component(
     alloc: Global,
     delimiters: Delimiters,
-    text: &[u8],
-    padded: &[u8],
+    given: PaddedText<'_, '_>,
 ) -> Result<Component, AllocError>
-    requires room { 16 ≤ length padded.now }
-    requires begins { BeginsWith padded.now text.now }
-    ensures { IfOk result (λ component. component ≡ symbols_of delimiters text.now) }
+    requires room { 16 ≤ length given.padded.now }
+    requires begins { BeginsWith given.padded.now given.text.now }
+    ensures { IfOk result (λ component. component ≡ symbols_of delimiters given.entry.text.now) }
 {
-    let plain = plain_front(delimiters, text, padded);
-    let mut component = Component::from_front(alloc, padded, plain)?;
-    let (_, rest) = text.split_at(plain);
+    let plain = plain_front(delimiters, given);
+    let mut component = Component::from_front(alloc, given.padded, plain)?;
+    let (_, rest) = given.text.split_at(plain);
     push_symbols(&mut component, delimiters, rest)?;
     Ok(component)
 }

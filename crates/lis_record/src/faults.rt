@@ -54,3 +54,6 @@ pub enum WriteFault {
     #[error("the sink failed after {0} bytes")]
     Io(u64),
 }
+
+/// What a call that writes answers.
+pub type WriteResult = Result<(), WriteFault>;

@@ -2,11 +2,12 @@
 
 ghost use Rattle.std.specs.Prelude.{◌≡◌, ◌≢◌, ◌<◌, ◌≤◌, ◌++◌, ◌∷◌, ◌↔◌, [], IfNone, IfOk, IfSome, IsFalse, IsTrue};
 ghost use Rattle.std.specs.Prelude.{List, MatchOption, OnOk, Some, ℕ};
-ghost use Rattle.std.specs.Prelude.{drop, length, option_map, slice_get};
-ghost use Rattle.std.specs.Prelude.{false, take};
+ghost use Rattle.std.specs.Prelude.{⊤, drop, false, length, map, option_map, slice_get, take};
+ghost use Rattle.std.specs.Option.{option_copied};
+ghost use Rattle.lis_field.specs.Delimiters.{DelimiterBytes};
 ghost use Rattle.lis_field.specs.Shape.{field_at, plain_field};
 ghost use Rattle.lis_field.specs.declared.kinds.Kind.{Kind as KindOf};
-ghost use Rattle.lis_record.specs.inside.FrontReading.{components_of, fields_of, repeats_of, symbols_of};
+ghost use Rattle.lis_record.specs.inside.FrontReading.{components_of, fields_of, parts_of, repeats_of, symbols_of};
 ghost use Rattle.lis_record.specs.inside.Remaining.{more_fields};
 ghost use Rattle.lis_record.specs.Lent.{front_length, lent, record_in};
 ghost use Rattle.lis_record.specs.Relation.{Lacks, LacksDelimiters};
@@ -17,16 +18,16 @@ use crate::building::{is_plain, read_field, read_fields};
 use crate::chunk::Chunk;
 use crate::cursor::Spelling;
 use crate::escapes::LentSymbols;
-use crate::faults::WriteFault;
+use crate::faults::{WriteFault, WriteResult};
 use crate::lent_cursor::LentCursor;
 use crate::respelling::{add_behind, add_respelled};
 use crate::search::{front_marks, place_of};
 use crate::texts::{count_parts, first_marked, part_at, part_behind, split_parts};
 use crate::writing::send;
-use lis_field::{Delimiters, Field, Kind, Record};
+use lis_field::{Component, Delimiters, Field, Kind, Record, Repeat};
 use lis_port::{Sink, write_all};
 use std::alloc::{AllocError, Global};
-use std::marker::Model;
+use std::marker::{Model, PhantomData};
 
 /// A component that stands in a text.
 #[derive(Drop)]
@@ -46,6 +47,14 @@ impl<'a> Model for LentComponent<'a> {
 }
 
 impl<'a> LentComponent<'a> {
+    // The component that this text is.
+    #[inline(always)]
+    fn of_text(delimiters: Delimiters, text: &'a [u8]) -> Self
+        ensures { result ≡ lent delimiters (symbols_of delimiters text.now) }
+    {
+        LentComponent { delimiters, text }
+    }
+
     /// The symbols, to be taken one after another.
     pub fn symbols(&self) -> LentSymbols<'a>
         ensures { result ≡ self.now.content }
@@ -54,84 +63,120 @@ impl<'a> LentComponent<'a> {
     }
 }
 
-/// A repeat that stands in a text.
+/// What stands in a list of parts that stands in a text: a component in a repeat, and a repeat in a field.
+pub trait LentPart: Drop {
+    // The part that a text tells.
+    ghost told: { DelimiterBytes → List ℕ → Self };
+
+    // What stands between two such parts.
+    ghost mark: { DelimiterBytes → ℕ };
+
+    // What is known of the text of a list of them.
+    ghost known: { DelimiterBytes → List ℕ → Type 0 };
+
+    /// The delimiter between two such parts.
+    fn delimiter(delimiters: Delimiters) -> u8
+        ensures { result ≡ mark delimiters };
+}
+
+impl LentPart for Component {
+    ghost told = { symbols_of };
+
+    ghost mark = { λ d. d.component };
+
+    ghost known = { λ d text. ⊤ };
+
+    #[inline(always)]
+    fn delimiter(delimiters: Delimiters) -> u8 {
+        delimiters.component()
+    }
+}
+
+impl LentPart for Repeat {
+    ghost told = { components_of };
+
+    ghost mark = { λ d. d.repeat };
+
+    ghost known = { λ d text. Lacks d.field text };
+
+    #[inline(always)]
+    fn delimiter(delimiters: Delimiters) -> u8 {
+        delimiters.repeat()
+    }
+}
+
+/// A list of parts that stands in a text.
 #[derive(Drop)]
-pub struct LentRepeat<'a> {
+pub struct LentParts<'a, P: LentPart> {
     delimiters: Delimiters,
     text: &'a [u8],
+    parts: PhantomData<P>,
 }
 
-impl<'a> Model for LentRepeat<'a> {
-    ghost use Rattle.lis_field.specs.Shape.{Components};
-    ghost use Rattle.lis_record.specs.inside.FrontReading.{components_of};
+/// A repeat that stands in a text.
+pub type LentRepeat<'a> = LentParts<'a, Component>;
+
+/// A field that stands in a text.
+pub type LentField<'a> = LentParts<'a, Repeat>;
+
+impl<'a, P: LentPart> Model for LentParts<'a, P> {
+    ghost use Rattle.std.specs.Prelude.{List, map};
+    ghost use Rattle.lis_record.specs.inside.FrontReading.{parts_of};
     ghost use Rattle.lis_record.specs.Lent.{Lent, lent};
 
-    ghost Value = { Lent Components };
+    ghost Value = { Lent (List P) };
 
-    ghost view = { λ r. lent r.delimiters (components_of r.delimiters r.text.now) };
+    ghost view = { λ l. lent l.delimiters (map (P.told l.delimiters) (parts_of (P.mark l.delimiters) l.text.now)) };
+
+    ghost invariant = { λ l. P.known l.delimiters l.text.now };
 }
 
-impl<'a> LentRepeat<'a> {
-    /// The number of components.
+impl<'a, P: LentPart> LentParts<'a, P> {
+    // The list that this text is.
+    #[inline(always)]
+    fn of_text(delimiters: Delimiters, text: &'a [u8]) -> Self
+        requires { P.known delimiters text.now }
+        ensures { result ≡ lent delimiters (map (P.told delimiters) (parts_of (P.mark delimiters) text.now)) }
+    {
+        LentParts {
+            delimiters,
+            text,
+            parts: PhantomData,
+        }
+    }
+
+    /// The number of components of a repeat, or of repeats of a field.
     pub fn len(&self) -> usize
         ensures { result ≡ length self.now.content }
     {
-        count_parts(self.text, self.delimiters.component())
+        count_parts(self.text, P::delimiter(self.delimiters))
     }
 
+    // The text of the part at a place, from 0.
+    fn part(&self, place: usize) -> Option<&'a [u8]>
+        ensures { option_map (P.told self.now.delimiters) (option_copied result) ≡ slice_get self.now.content place }
+    {
+        part_at(self.text, P::delimiter(self.delimiters), place)
+    }
+}
+
+impl<'a> LentParts<'a, Component> {
     /// The component at a place, from 0.
     pub fn component(&self, place: usize) -> Option<LentComponent<'a>>
         ensures { result ≡ option_map (lent self.now.delimiters) (slice_get self.now.content place) }
     {
-        let Some(text) = part_at(self.text, self.delimiters.component(), place) else {
-            return None;
-        };
-        Some(LentComponent {
-            delimiters: self.delimiters,
-            text,
-        })
+        let text = self.part(place)?;
+        Some(LentComponent::of_text(self.delimiters, text))
     }
 }
 
-/// A field that stands in a text.
-#[derive(Drop)]
-pub struct LentField<'a> {
-    delimiters: Delimiters,
-    text: &'a [u8],
-}
-
-impl<'a> Model for LentField<'a> {
-    ghost use Rattle.lis_field.specs.Shape.{Repeats};
-    ghost use Rattle.lis_record.specs.inside.FrontReading.{repeats_of};
-    ghost use Rattle.lis_record.specs.Lent.{Lent, lent};
-    ghost use Rattle.lis_record.specs.Relation.{Lacks};
-
-    ghost Value = { Lent Repeats };
-
-    ghost view = { λ f. lent f.delimiters (repeats_of f.delimiters f.text.now) };
-
-    ghost invariant = { λ f. Lacks f.delimiters.field f.text.now };
-}
-
-impl<'a> LentField<'a> {
-    /// The number of repeats.
-    pub fn len(&self) -> usize
-        ensures { result ≡ length self.now.content }
-    {
-        count_parts(self.text, self.delimiters.repeat())
-    }
-
+impl<'a> LentParts<'a, Repeat> {
     /// The repeat at a place, from 0.
     pub fn repeat(&self, place: usize) -> Option<LentRepeat<'a>>
         ensures { result ≡ option_map (lent self.now.delimiters) (slice_get self.now.content place) }
     {
-        let Some(text) = part_at(self.text, self.delimiters.repeat(), place) else {
-            return None;
-        };
-        Some(LentRepeat {
-            delimiters: self.delimiters,
-            text,
-        })
+        let text = self.part(place)?;
+        Some(LentRepeat::of_text(self.delimiters, text))
     }
 
     /// The characters of a field that is one component of them, none of them a delimiter; none of any other field.
@@ -172,7 +217,7 @@ impl<'a> LentField<'a> {
     ///
     /// On `Io(count)` the sink failed, and the first `count` bytes are out; the count stops at
     /// 18,446,744,073,709,551,615. There is no other fault.
-    pub fn put<W: Sink>(&self, sink: &mut W) -> Result<(), WriteFault>
+    pub fn put<W: Sink>(&self, sink: &mut W) -> WriteResult
         requires { W.failed sink.old ≡ false }
         ensures wrote { WroteAny None (spelled_field self.now.delimiters self.now.content)
             (W.taken sink.old) (W.taken sink.new) result }
@@ -191,7 +236,7 @@ impl<'a> LentField<'a> {
 }
 
 // Writes the spelling of a field's symbols.
-fn put_symbols<W: Sink>(sink: &mut W, delimiters: Delimiters, text: &[u8]) -> Result<(), WriteFault>
+fn put_symbols<W: Sink>(sink: &mut W, delimiters: Delimiters, text: &[u8]) -> WriteResult
     requires { W.failed sink.old ≡ false }
     ensures wrote { WroteAny None (spelled_field delimiters (repeats_of delimiters text.now))
         (W.taken sink.old) (W.taken sink.new) result }
@@ -239,10 +284,7 @@ impl<'a> LentFields<'a> {
         let (text, rest, marks) = first_marked(behind, self.delimiters.field(), self.marks >> 1);
         self.text = rest;
         self.marks = marks;
-        Some(LentField {
-            delimiters: self.delimiters,
-            text,
-        })
+        Some(LentField::of_text(self.delimiters, text))
     }
 
     /// Takes so many fields and adds them to a text by their spelling, each behind a field delimiter; false where there
@@ -381,10 +423,7 @@ impl<'a> LentRecord<'a> {
         let Some(text) = part_behind(self.fields, self.delimiters.field(), place) else {
             return None;
         };
-        Some(LentField {
-            delimiters: self.delimiters,
-            text,
-        })
+        Some(LentField::of_text(self.delimiters, text))
     }
 
     /// The fields, to be taken one after another: each is found where the one before it ends.

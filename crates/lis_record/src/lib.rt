@@ -17,8 +17,8 @@ mod texts;
 mod writing;
 
 pub use escapes::LentSymbols;
-pub use faults::{DelimiterPartFault, RecordFault, WriteFault};
-pub use lent::{LentComponent, LentField, LentFields, LentRecord, LentRepeat};
+pub use faults::{DelimiterPartFault, RecordFault, WriteFault, WriteResult};
+pub use lent::{LentComponent, LentField, LentFields, LentPart, LentParts, LentRecord, LentRepeat};
 pub use lis_field::{Component, DelimiterFault, Delimiters, Field, Kind, Record, Repeat, Sym};
 pub use pieces::FieldSpelling;
 pub use reading::{

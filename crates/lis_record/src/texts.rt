@@ -11,6 +11,13 @@ use crate::search::{count_of, place_of};
 /// The most bytes that a record has, without its CR.
 pub const RECORD_LIMIT: usize = 65_536;
 
+// A text, and the same with more behind it or nothing, so that sixteen bytes can be looked at.
+#[derive(Clone, Copy)]
+pub(crate) struct PaddedText<'a, 'b> {
+    pub(crate) text: &'a [u8],
+    pub(crate) padded: &'b [u8],
+}
+
 // What stands before the first delimiter, and the rest from that delimiter on.
 #[inline(always)]
 pub(crate) fn first_part(text: &[u8], delimiter: u8) -> (&[u8], &[u8])

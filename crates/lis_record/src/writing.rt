@@ -7,11 +7,12 @@ ghost use Rattle.lis_record.specs.Faults.{is_text_component, is_text_field, is_t
 ghost use Rattle.lis_record.specs.Relation.{IsRecord, declared_part};
 ghost use Rattle.lis_field.specs.Shape.{IsRecordShape, first_number};
 ghost use Rattle.lis_record.specs.Spelling.{spelled, spelled_field, written};
+ghost use Rattle.lis_record.specs.declared.faults.WriteFault.TheVariants as write_faults;
 ghost use Rattle.lis_record.specs.Writing.{SentOn, Wrote, WroteAny, is_io};
 
 use crate::chunk::Chunk;
 use crate::cursor::{Cursor, Spelling};
-use crate::faults::WriteFault;
+use crate::faults::{WriteFault, WriteResult};
 use crate::search::is_text_byte;
 use crate::texts::RECORD_LIMIT;
 use lis_field::{Component, Delimiters, Field, Kind, Record, Repeat, Sym};
@@ -25,7 +26,7 @@ pub(crate) fn send<W: Sink, S: Spelling>(
     cursor: &mut S,
     left: usize,
     passed: u64,
-) -> Result<(), WriteFault>
+) -> WriteResult
     requires open_sink { W.failed sink.old ≡ false }
     requires within { left ≤ length chunk.old }
     requires filled { length chunk.old ≡ 0 → S.left cursor.old ≡ [] }
@@ -95,25 +96,19 @@ fn is_text_symbol(symbol: &Sym) -> bool
 fn is_text_component(component: &Component) -> bool
     ensures { result ≡ is_text_component component.now }
 {
-    component
-        .symbols()
-        .iter()
-        .all(|symbol| is_text_symbol(symbol))
+    component.symbols().iter().all(is_text_symbol)
 }
 
 fn is_text_repeat(repeat: &Repeat) -> bool
     ensures { result ≡ is_text_repeat repeat.now }
 {
-    repeat
-        .components()
-        .iter()
-        .all(|component| is_text_component(component))
+    repeat.components().iter().all(is_text_component)
 }
 
 fn is_text_field(field: &Field) -> bool
     ensures { result ≡ is_text_field field.now }
 {
-    field.repeats().iter().all(|repeat| is_text_repeat(repeat))
+    field.repeats().iter().all(is_text_repeat)
 }
 
 // The place of the first field with a character that is no text byte.
@@ -185,7 +180,7 @@ fn push_declared(chunk: &mut Chunk, delimiters: Delimiters, kind: Kind)
 ///
 /// `CharNotText(number)`, where the field of that number is the first with a `Char` that is no text byte;
 /// else `TooLong`, where the spelling has over 65,536 bytes. Never `Io`.
-pub fn check_record(delimiters: &Delimiters, entry: &Record) -> Result<(), WriteFault>
+pub fn check_record(delimiters: &Delimiters, entry: &Record) -> WriteResult
     ensures fault { MatchResult result
         (λ _. check_fault delimiters.now entry.now ≡ None)
         (λ fault. check_fault delimiters.now entry.now ≡ Some fault) }
@@ -230,7 +225,7 @@ pub fn write_record_from<W: Sink>(
     delimiters: &Delimiters,
     entry: &Record,
     skip: u64,
-) -> Result<(), WriteFault>
+) -> WriteResult
     requires open_sink { W.failed sink.old ≡ false }
     requires skip { skip ≤ length (written delimiters.now entry.now) }
     ensures wrote { Wrote (check_fault delimiters.now entry.now) skip (written delimiters.now entry.now)
@@ -250,11 +245,7 @@ pub fn write_record_from<W: Sink>(
 ///
 /// `CharNotText` and `TooLong` are those of `check_record`, and then nothing was written. On `Io(count)` the
 /// sink failed, and the first `count` bytes of the spelling and CR are out. Nothing is tried again.
-pub fn write_record<W: Sink>(
-    sink: &mut W,
-    delimiters: &Delimiters,
-    entry: &Record,
-) -> Result<(), WriteFault>
+pub fn write_record<W: Sink>(sink: &mut W, delimiters: &Delimiters, entry: &Record) -> WriteResult
     requires { W.failed sink.old ≡ false }
     ensures wrote { Wrote (check_fault delimiters.now entry.now) 0 (written delimiters.now entry.now)
         (W.taken sink.old) (W.taken sink.new) result }
@@ -267,11 +258,7 @@ pub fn write_record<W: Sink>(
 ///
 /// `CharNotText(0)`, where it has a `Char` that is no text byte: then nothing was written. On `Io(count)` the
 /// sink failed, and the first `count` bytes are out; the count stops at 18,446,744,073,709,551,615.
-pub fn put_field<W: Sink>(
-    sink: &mut W,
-    delimiters: &Delimiters,
-    field: &Field,
-) -> Result<(), WriteFault>
+pub fn put_field<W: Sink>(sink: &mut W, delimiters: &Delimiters, field: &Field) -> WriteResult
     requires { W.failed sink.old ≡ false }
     ensures wrote { WroteAny (field_char_fault field.now) (spelled_field delimiters.now field.now)
         (W.taken sink.old) (W.taken sink.new) result }
@@ -285,26 +272,29 @@ pub fn put_field<W: Sink>(
     send(sink, &mut chunk, &mut cursor, 0, 0)
 }
 
+// Whether a field is refused for the length of its spelling alone.
+fn is_too_long(delimiters: Delimiters, field: &Field) -> bool
+    ensures { IsTrue result ↔ (field_fault delimiters field.now ≡ Some write_faults.TooLong) }
+{
+    if !is_text_field(field) {
+        return false;
+    }
+    let mut chunk = Chunk::new();
+    let mut cursor = begin_field(&mut chunk, delimiters, field);
+    !is_within(&mut chunk, &mut cursor, RECORD_LIMIT)
+}
+
 /// Writes a field's spelling alone to a sink that has not failed.
 ///
 /// `CharNotText(0)`, where it has a `Char` that is no text byte; else `TooLong`, where the spelling has over
 /// 65,536 bytes: then nothing was written. On `Io(count)` the sink failed, and the first `count` bytes are out.
-pub fn write_field<W: Sink>(
-    sink: &mut W,
-    delimiters: &Delimiters,
-    field: &Field,
-) -> Result<(), WriteFault>
+pub fn write_field<W: Sink>(sink: &mut W, delimiters: &Delimiters, field: &Field) -> WriteResult
     requires { W.failed sink.old ≡ false }
     ensures wrote { Wrote (field_fault delimiters.now field.now) 0 (spelled_field delimiters.now field.now)
         (W.taken sink.old) (W.taken sink.new) result }
     ensures failed { W.failed sink.new ≡ is_io result }
 {
-    if !is_text_field(field) {
-        return Err(WriteFault::CharNotText(0));
-    }
-    let mut chunk = Chunk::new();
-    let mut cursor = begin_field(&mut chunk, *delimiters, field);
-    if !is_within(&mut chunk, &mut cursor, RECORD_LIMIT) {
+    if is_too_long(*delimiters, field) {
         return Err(WriteFault::TooLong);
     }
     put_field(sink, delimiters, field)

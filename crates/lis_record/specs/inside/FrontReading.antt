@@ -1,7 +1,7 @@
 -- Reading a text from its front, once: the same symbols, components, repeats and fields as the relation has.
 use Rattle.lis_field.specs.declared.kinds.Kind.{Kind}
 use Rattle.std.specs.Prelude.{◌≡◌, ◌≢◌, ◌≤◌, ℕ, zero, suc, ◌+◌, ◌==◌, nat_lt, cond, if◌then◌else◌, List, [], ◌∷◌, ◌++◌}
-use Rattle.std.specs.Prelude.{Bool, ◌||◌, map, take, drop, length, Option, Some, None, option_map, is_some, unwrap_or}
+use Rattle.std.specs.Prelude.{Bool, ◌||◌, map, take, drop, replicate, length, Option, Some, None, option_map, is_some, unwrap_or}
 use Rattle.std.specs.Prelude.{IsTrue}
 use Rattle.std.specs.List.{flat_map, position_or_len, slice_split}
 use Rattle.lis_field.specs.declared.symbols.Sym.{Sym}
@@ -71,6 +71,10 @@ EndsWith text last = (front : List ℕ) × (text ≡ front ++ last)
 -- a text begins with another
 abbrev pub BeginsWith : List ℕ → List ℕ → Type 0
 BeginsWith text front = (more : List ℕ) × (text ≡ front ++ more)
+
+-- a text with so many of a byte behind it, or none
+abbrev pub IsPaddedBy : ℕ → List ℕ → List ℕ → Type 0
+IsPaddedBy byte text padded = (count : ℕ) × (padded ≡ text ++ replicate count byte)
 
 -- the fields of what follows a record's letter, or a header's delimiters
 abbrev pub fields_of : DelimiterBytes → List ℕ → Fields

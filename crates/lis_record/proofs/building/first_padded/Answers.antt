@@ -11,4 +11,4 @@ returns-clause-parts c =
     let begins = begins_padded c.requires.0 c.requires.1 c.in-Some.ensures.bound c.in-Some.ensures.first in
     rw (c.split_at.ensures.front, c.split_at.ensures.back)
     (begins.parts
-    ∙ ap (λ (l : List ℕ). l ∷ parts_behind c.args.delimiter (drop c.in-Some.end c.args.text.now)) begins.same)
+    ∙ ap (λ (l : List ℕ). l ∷ parts_behind c.args.delimiter (drop c.in-Some.end c.args.given.text.now)) begins.same)

@@ -9,17 +9,17 @@ split_at-requires c = (begins_padded c.requires.0 c.requires.1 c.in-Some.ensures
 
 pub returns : goal.returns
 returns c =
-    let plain = stop-plain c.args.delimiters c.args.padded.now c.in-Some.end
+    let plain = stop-plain c.args.delimiters c.args.given.padded.now c.in-Some.end
     (rw c.escape.ensures at c.in-Some.ensures.found) in
     takes_padded c.requires.0 c.requires.1 c.in-Some.ensures.bound c.in-Some.ensures.first
     (c.in_ok-from_front.ensures ∙ sym plain) c.in_ok-push-2.ensures.ok c.split_at.ensures.back
 
 pub returns-then-end-eq0 : goal.returns-then-end-eq0
 returns-then-end-eq0 c =
-    let plain = stop-plain c.args.delimiters c.args.padded.now c.in-Some.end
+    let plain = stop-plain c.args.delimiters c.args.given.padded.now c.in-Some.end
     (rw c.escape.ensures at c.in-Some.ensures.found) in
     let empty = c.in_ok-new.ensures.ok
     ∙ ap (λ (r : Components). r ∷ []) (c.in_ok-empty.ensures.ok ∙ ap (λ (s : Symbols). s ∷ []) c.new.ensures) in
-    let none = ap (λ (n : ℕ). plain_field (take n c.args.padded.now)) c.if-end-eq0.true in
+    let none = ap (λ (n : ℕ). plain_field (take n c.args.given.padded.now)) c.if-end-eq0.true in
     takes_padded c.requires.0 c.requires.1 c.in-Some.ensures.bound c.in-Some.ensures.first (empty ∙ sym (plain ∙ none))
     c.in_ok-push.ensures.ok (rw c.if-end-eq0.true refl)

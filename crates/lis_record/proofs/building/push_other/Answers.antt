@@ -15,6 +15,6 @@ returns-in-Some c =
     let symbols = c.in_ok-component.ensures ∙ ap (symbols_of d) (c.split_at.ensures.front ∙ sym begins.same) in
     let field = c.in_ok-new-2.ensures.ok ∙ ap (λ (r : Components). r ∷ []) c.in_ok-new.ensures.ok
     ∙ ap (λ (s : Symbols). (s ∷ []) ∷ []) symbols
-    ∙ sym (stop-single d c.component.result c.args.padded.now c.in-Some.end c.in-Some.ensures.found) in
+    ∙ sym (stop-single d c.component.result c.args.given.padded.now c.in-Some.end c.in-Some.ensures.found) in
     takes_padded c.requires.0 c.requires.1 c.in-Some.ensures.bound c.in-Some.ensures.first field c.in_ok-push.ensures.ok
     c.split_at.ensures.back

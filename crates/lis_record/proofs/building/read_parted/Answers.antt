@@ -6,7 +6,7 @@ use Rattle.lis_record.proofs.building.read_parted.Goals as goal
 pub loop-delimiter-preserved : goal.loop-delimiter-preserved
 loop-delimiter-preserved c =
     let front = c.in-Some-component_front.front in
-    parted_next c.args.delimiters c.args.text.now c.loop-delimiter.repeat c.loop-delimiter.rest.now
+    parted_next c.args.delimiters c.args.given.text.now c.loop-delimiter.repeat c.loop-delimiter.rest.now
     c.loop-delimiter.window.now c.loop-delimiter.invariant c.in-Some-split_first._delimiter.now
     c.in-Some-split_first.more.now c.split_at-in-Some-split_first.result.1.now
     c.split_at-in-Some-split_first-2.result.1.now c.split_at-in-Some-split_first-3.result.1.now front.0 front.1
@@ -17,6 +17,6 @@ loop-delimiter-preserved c =
 pub returns : goal.returns
 returns c =
     c.in_ok-new.ensures.ok
-    ∙ sym (parted_whole c.args.delimiters c.args.text.now c.loop-delimiter.repeat c.loop-delimiter.rest.now
+    ∙ sym (parted_whole c.args.delimiters c.args.given.text.now c.loop-delimiter.repeat c.loop-delimiter.rest.now
     c.loop-delimiter.window.now c.loop-delimiter.invariant (nil_from_length c.loop-delimiter.rest.now
     c.in_default-split_first.ensures.cases))

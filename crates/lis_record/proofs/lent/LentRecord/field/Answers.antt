@@ -1,11 +1,11 @@
-use Rattle.std.proofs.Common.{ap, ◌∙◌, option_map}
-use Rattle.lis_field.specs.Shape.{RecordContent, field_at}
+use Rattle.std.proofs.Common.{Some, ap, ◌∙◌, option_map}
+use Rattle.lis_field.specs.Shape.{RecordContent, Repeats, field_at}
 use Rattle.lis_record.specs.Lent.{Lent, lent}
 use Rattle.lis_record.proofs.LentTexts.{Lacks-part, field_found}
 use Rattle.lis_record.proofs.lent.LentRecord.field.Goals as goal
 
-pub invariant_of-result : goal.invariant_of-result
-invariant_of-result c =
+pub of_text-requires : goal.of_text-requires
+of_text-requires c =
     let i = c.self.inside in
     Lacks-part i.delimiters.field c.in-Some.place i.fields.now c.in-Some-part_behind.text.now
     (rw c.field.ensures.byte at c.in-Some-part_behind.ensures)
@@ -13,7 +13,8 @@ invariant_of-result c =
 pub returns : goal.returns
 returns c =
     let i = c.self.inside in
-    field_found i.delimiters i.kind i.fields.now c.in-Some-part_behind.text.now c.args.number c.in-Some.place
+    ap (λ (f : Lent Repeats). Some f) c.of_text.ensures
+    ∙ field_found i.delimiters i.kind i.fields.now c.in-Some-part_behind.text.now c.args.number c.in-Some.place
     c.first_number.result
     c.first_number.ensures.number c.in-Some.ensures.0 c.in-Some.ensures.1
     (rw c.field.ensures.byte at c.in-Some-part_behind.ensures)

@@ -4,7 +4,7 @@ use Rattle.lis_record.specs.Lent.{Lent}
 use Rattle.lis_record.specs.Relation.{LacksDelimiters}
 use Rattle.lis_record.proofs.FieldTexts.{plain_read}
 use Rattle.lis_record.proofs.PlainFields.{plain_found}
-use Rattle.lis_record.proofs.lent.LentField.only_component.Goals as goal
+use Rattle.lis_record.proofs.lent.LentParts+Repeat.only_component.Goals as goal
 
 pub returns-else-is_plain-clause-other : goal.returns-else-is_plain-clause-other
 returns-else-is_plain-clause-other c = λ bytes free is.

@@ -3,7 +3,7 @@ use Rattle.lis_field.specs.Shape.{Repeats}
 use Rattle.lis_record.specs.Lent.{Lent}
 use Rattle.lis_record.specs.Spelling.{spelled_field}
 use Rattle.lis_record.proofs.Respelled.{field_respelled}
-use Rattle.lis_record.proofs.lent.LentField.add_to.Goals as goal
+use Rattle.lis_record.proofs.lent.LentParts+Repeat.add_to.Goals as goal
 
 pub returns : goal.returns
 returns c =

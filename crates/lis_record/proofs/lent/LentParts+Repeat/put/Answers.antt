@@ -6,7 +6,7 @@ use Rattle.lis_record.specs.Spelling.{spelled_field}
 use Rattle.lis_record.proofs.LentTexts.{Lacks-position, is_some_none}
 use Rattle.lis_record.proofs.Respelled.{field_as_is}
 use Rattle.lis_record.proofs.WriteLaws.{WroteAny-same}
-use Rattle.lis_record.proofs.lent.LentField.put.Goals as goal
+use Rattle.lis_record.proofs.lent.LentParts+Repeat.put.Goals as goal
 
 pub returns-in-Ok-clause-wrote : goal.returns-in-Ok-clause-wrote
 returns-in-Ok-clause-wrote g c =
