@@ -11,7 +11,7 @@ use Rattle.lis_field.specs.declared.kinds.Kind.TheVariants as kinds
 use Rattle.lis_field.specs.declared.symbols.Sym.{Sym}
 use Rattle.lis_field.specs.Shape.{RecordContent, Symbols, field_at}
 use Rattle.lis_tree.specs.declared.numbering.Finding.{Finding}
-use Rattle.lis_tree.specs.Findings.{finding_on, findings_from, kinds_back}
+use Rattle.lis_tree.specs.Findings.{finding_of, finding_on, findings_from, kinds_back}
 use Rattle.lis_tree.specs.Numbers.{symbol_digit, digits_from, digits_number, expected_number, field_number, is_number}
 use Rattle.lis_tree.specs.Numbers.{is_numbered}
 use Rattle.lis_text.specs.Capped.{capped}
@@ -56,7 +56,7 @@ pub finding_unnumbered : (earlier : List Kind) (n : ℕ) (r : RecordContent) →
     → finding_on earlier n r ≡ []
 finding_unnumbered earlier n r e =
     ap (λ b. if b && not (is_number (field_number (field_at r 2)) (capped (expected_number r.kind earlier)))
-    then record { place = capped n; kind = r.kind; expected = capped (expected_number r.kind earlier) } ∷ [] else []) e
+    then finding_of earlier n r ∷ [] else []) e
 
 neither : {X : Type 0} (b : Bool) (x : X) → (if b && not true then x ∷ [] else []) ≡ []
 neither true x = refl
@@ -66,29 +66,14 @@ pub finding_right : (earlier : List Kind) (n : ℕ) (r : RecordContent)
     → is_number (field_number (field_at r 2)) (capped (expected_number r.kind earlier)) ≡ true
     → finding_on earlier n r ≡ []
 finding_right earlier n r e =
-    let finding : Finding = record {
-      place = capped n;
-      kind = r.kind;
-      expected =
-          capped (expected_number r.kind earlier);
-    } in
+    let finding = finding_of earlier n r in
     ap (λ b. if is_numbered r.kind && not b then finding ∷ [] else []) e ∙ neither (is_numbered r.kind) finding
 
 pub finding_wrong : (earlier : List Kind) (n : ℕ) (r : RecordContent) → is_numbered r.kind ≡ true
     → is_number (field_number (field_at r 2)) (capped (expected_number r.kind earlier)) ≡ false
-    → finding_on earlier n r ≡ record {
-      place = capped n;
-      kind = r.kind;
-      expected =
-          capped (expected_number r.kind earlier);
-    } ∷ []
+    → finding_on earlier n r ≡ finding_of earlier n r ∷ []
 finding_wrong earlier n r numbered e =
-    let finding : Finding = record {
-      place = capped n;
-      kind = r.kind;
-      expected =
-          capped (expected_number r.kind earlier);
-    } in
+    let finding = finding_of earlier n r in
     let num : Option ℕ = field_number (field_at r 2) in
     ap (λ b. if b && not (is_number num (capped (expected_number r.kind earlier))) then finding ∷ [] else []) numbered
     ∙ ap (λ b. if true && not b then finding ∷ [] else []) e

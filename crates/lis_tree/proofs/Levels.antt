@@ -66,20 +66,11 @@ pub data IsInside : Level → Type 0 where
   query : IsInside in_query
 
 note_stands : (l : Level) (k : Kind) → IsInside l → IsNote k → (misplaced l k ≡ None) × (next_level l k ≡ l)
-note_stands in_header kinds.C i n = (refl, refl)
-note_stands in_header kinds.M i n = (refl, refl)
-note_stands in_header kinds.S i n = (refl, refl)
-note_stands in_patient kinds.C i n = (refl, refl)
-note_stands in_patient kinds.M i n = (refl, refl)
-note_stands in_patient kinds.S i n = (refl, refl)
-note_stands in_order kinds.C i n = (refl, refl)
-note_stands in_order kinds.M i n = (refl, refl)
-note_stands in_order kinds.S i n = (refl, refl)
-note_stands in_query kinds.C i n = (refl, refl)
-note_stands in_query kinds.M i n = (refl, refl)
-note_stands in_query kinds.S i n = (refl, refl)
 note_stands outside k i n = elim i [ ]
 note_stands closed k i n = elim i [ ]
+note_stands l kinds.C i n = (refl, refl)
+note_stands l kinds.M i n = (refl, refl)
+note_stands l kinds.S i n = (refl, refl)
 note_stands l k i n = absurd n
 
 pub notes_lead : (l : Level) (notes : List RecordContent) → IsInside l → AreNotes notes → LeadsBy l notes l

@@ -10,7 +10,7 @@ use Rattle.lis_tree.specs.Hierarchy.{last_of, is_group, is_group_or_order, HasPa
 use Rattle.lis_tree.specs.Level.{Level, outside, in_header, in_patient, in_order, in_query, closed, next_level}
 use Rattle.lis_tree.specs.Level.{level_after, misplaced, StandsFrom}
 use Rattle.lis_tree.proofs.Levels.{level_append, stands_append, stands_back, stands_front, header_first, next_begun}
-use Rattle.lis_tree.proofs.Levels.{nothing_closed, other_kind, unclosed_first}
+use Rattle.lis_tree.proofs.Levels.{next_unclosed, nothing_closed, other_kind, unclosed_first}
 
 -- whether an order, or a result, stands at a place
 abbrev takes_order : Level → Bool
@@ -145,18 +145,8 @@ place_from ks kinds.R s u h p =
     takes_then_result (level_after in_header ks) (result_told in_header ks s (λ e. cc) u
     ∙ ap (λ o. order_or o false) (sym (option_or_none (last_of is_group_or_order ks)) ∙ p))
 place_from ks kinds.H s u h p = absurd (h refl)
-place_from ks kinds.P s u h p = inside_free (level_after in_header ks) kinds.P (begun_after in_header ks (λ e. cc)) u
-    h (λ e. cc) (λ e. cc)
-place_from ks kinds.C s u h p = inside_free (level_after in_header ks) kinds.C (begun_after in_header ks (λ e. cc)) u
-    h (λ e. cc) (λ e. cc)
-place_from ks kinds.Q s u h p = inside_free (level_after in_header ks) kinds.Q (begun_after in_header ks (λ e. cc)) u
-    h (λ e. cc) (λ e. cc)
-place_from ks kinds.M s u h p = inside_free (level_after in_header ks) kinds.M (begun_after in_header ks (λ e. cc)) u
-    h (λ e. cc) (λ e. cc)
-place_from ks kinds.S s u h p = inside_free (level_after in_header ks) kinds.S (begun_after in_header ks (λ e. cc)) u
-    h (λ e. cc) (λ e. cc)
-place_from ks kinds.L s u h p = inside_free (level_after in_header ks) kinds.L (begun_after in_header ks (λ e. cc)) u
-    h (λ e. cc) (λ e. cc)
+place_from ks k s u h p = inside_free (level_after in_header ks) k (begun_after in_header ks (λ e. cc)) u h (λ e. cc)
+    (λ e. cc)
 
 no_header : (l : Level) (ks : List Kind) → l ≢ outside → StandsFrom l ks → AllByRecursion (λ j. j ≢ kinds.H) ks
 no_header l [] o s = tt
@@ -197,14 +187,6 @@ viable_from ks s = record {
   parents = λ before behind k e. parents_stand before behind k (subst (StandsFrom outside) e s);
 }
 
-stays_open : (l : Level) (k : Kind) → l ≢ closed → k ≢ kinds.L → next_level l k ≢ closed
-stays_open l kinds.R u o e = u e
-stays_open l kinds.C u o e = u e
-stays_open l kinds.M u o e = u e
-stays_open l kinds.S u o e = u e
-stays_open l kinds.L u o e = o refl
-stays_open l k u o e = cc
-
 module _ (whole : List Kind) (viable : IsViable whole) where
   not_last : (before : List Kind) (k i : Kind) (rest : List Kind) → whole ≡ before ++ k ∷ i ∷ rest → k ≢ kinds.L
   not_last before k i rest e l =
@@ -222,7 +204,7 @@ module _ (whole : List Kind) (viable : IsViable whole) where
       level_append in_header done (k ∷ []) in
       let more = stands_append in_header done (k ∷ []) s (placed, tt) in
       let still : level_after in_header (done ++ k ∷ []) ≢ closed =
-      subst (λ l. l ≢ closed) (sym goes) (stays_open (level_after in_header done) k u
+      subst (λ l. l ≢ closed) (sym goes) (next_unclosed (level_after in_header done) k u
       (not_last (kinds.H ∷ done) k i rest e)) in
       let below = rest_from (done ++ k ∷ []) (i ∷ rest)
       (e ∙ ap (λ l. kinds.H ∷ l) (sym (append_assoc done (k ∷ []) (i ∷ rest)))) more still h.1 in

@@ -8,11 +8,16 @@ use Rattle.lis_tree.specs.Numbers.{CountsOf, expected_number, field_number, is_n
 use Rattle.lis_text.specs.Capped.{capped}
 use Rattle.lis_tree.specs.Tree.{MessageTree, flatten}
 
+-- what is told of a record whose number is wrong
+abbrev pub finding_of : List Kind → ℕ → RecordContent → Finding
+finding_of earlier place r =
+    record { place = capped place; kind = r.kind; expected = capped (expected_number r.kind earlier) }
+
 -- the finding on a record, if there is one
 abbrev pub finding_on : List Kind → ℕ → RecordContent → List Finding
 finding_on earlier place r =
     if is_numbered r.kind && not (is_number (field_number (field_at r 2)) (capped (expected_number r.kind earlier)))
-    then record { place = capped place; kind = r.kind; expected = capped (expected_number r.kind earlier) } ∷ [] else []
+    then finding_of earlier place r ∷ [] else []
 
 abbrev pub findings_from : List Kind → ℕ → List RecordContent → List Finding
 findings_from earlier place [] = []
@@ -32,7 +37,5 @@ kinds_back earlier (r ∷ records) = kinds_back (r.kind ∷ earlier) records
 
 -- These records were examined, and the next one comes behind them.
 pub record HasNumbered (numbering : Numbering) (records : List RecordContent) : Type 0 where
-  pub counts : CountsOf (kinds_back [] records) numbering.counts.patients numbering.counts.queries
-      numbering.counts.orders
-      numbering.counts.results numbering.counts.comments
+  pub counts : CountsOf (kinds_back [] records) numbering.counts
   pub counted : numbering.count ≡ capped (length records)

@@ -7,6 +7,7 @@ use Rattle.lis_field.specs.declared.kinds.Kind.TheVariants as kinds
 use Rattle.lis_field.specs.declared.symbols.Sym.{Sym}
 use Rattle.lis_field.specs.declared.symbols.Sym.TheVariants.{Char}
 use Rattle.lis_field.specs.Shape.{Repeats, Symbols}
+use Rattle.lis_tree.specs.declared.numbering.Counts.{Counts}
 use Rattle.lis_text.specs.Capped.{capped}
 
 -- whether records of this kind carry a number that is examined: not headers, manufacturer and scientific records
@@ -76,9 +77,9 @@ is_number (Some m) n = m == n
 -- ---- counting while the records pass
 
 -- the counts of each kind behind its parent
-pub record CountsOf (earlier : List Kind) (patients queries orders results comments : ℕ) : Type 0 where
-  pub patients_are : patients ≡ capped (siblings kinds.P earlier)
-  pub queries_are : queries ≡ capped (siblings kinds.Q earlier)
-  pub orders_are : orders ≡ capped (siblings kinds.O earlier)
-  pub results_are : results ≡ capped (siblings kinds.R earlier)
-  pub comments_are : comments ≡ capped (siblings kinds.C earlier)
+pub record CountsOf (earlier : List Kind) (counts : Counts) : Type 0 where
+  pub patients_are : counts.patients ≡ capped (siblings kinds.P earlier)
+  pub queries_are : counts.queries ≡ capped (siblings kinds.Q earlier)
+  pub orders_are : counts.orders ≡ capped (siblings kinds.O earlier)
+  pub results_are : counts.results ≡ capped (siblings kinds.R earlier)
+  pub comments_are : counts.comments ≡ capped (siblings kinds.C earlier)

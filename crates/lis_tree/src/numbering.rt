@@ -39,9 +39,21 @@ struct Counts {
     comments: u64,
 }
 
+/// Counts one more of a record that has comments of its own, and answers how many there are.
+#[inline(always)]
+fn one_more(count: &mut u64, comments: &mut u64) -> u64
+    ensures answer { result ≡ count.new }
+    ensures counted { count.new ≡ capped (count.old + 1) }
+    ensures anew { comments.new ≡ 0 }
+{
+    *count = count.saturating_add(1);
+    *comments = 0;
+    *count
+}
+
 impl Counts {
     fn none() -> Self
-        ensures { CountsOf [] result.patients result.queries result.orders result.results result.comments }
+        ensures { CountsOf [] result }
     {
         Counts {
             patients: 0,
@@ -55,13 +67,9 @@ impl Counts {
     /// Counts a record of this kind, and answers the number that it should have.
     #[inline(always)]
     fn count(&mut self, kind: Kind) -> u64
-        ensures expected { (earlier : Listed KindOf) → CountsOf earlier self.old.patients self.old.queries
-            self.old.orders self.old.results self.old.comments
+        ensures expected { (earlier : Listed KindOf) → CountsOf earlier self.old
             → kind ≢ kinds.H → kind ≢ kinds.M → kind ≢ kinds.S → result ≡ capped (expected_number kind earlier) }
-        ensures counted { (earlier : Listed KindOf) → CountsOf earlier self.old.patients self.old.queries
-            self.old.orders self.old.results self.old.comments
-            → CountsOf (kind ∷ earlier) self.new.patients self.new.queries self.new.orders self.new.results
-            self.new.comments }
+        ensures counted { (earlier : Listed KindOf) → CountsOf earlier self.old → CountsOf (kind ∷ earlier) self.new }
     {
         match kind {
             Kind::H => {
@@ -71,27 +79,15 @@ impl Counts {
                 1
             }
             Kind::P => {
-                self.patients = self.patients.saturating_add(1);
                 self.orders = 0;
-                self.comments = 0;
-                self.patients
+                one_more(&mut self.patients, &mut self.comments)
             }
-            Kind::Q => {
-                self.queries = self.queries.saturating_add(1);
-                self.comments = 0;
-                self.queries
-            }
+            Kind::Q => one_more(&mut self.queries, &mut self.comments),
             Kind::O => {
-                self.orders = self.orders.saturating_add(1);
                 self.results = 0;
-                self.comments = 0;
-                self.orders
+                one_more(&mut self.orders, &mut self.comments)
             }
-            Kind::R => {
-                self.results = self.results.saturating_add(1);
-                self.comments = 0;
-                self.results
-            }
+            Kind::R => one_more(&mut self.results, &mut self.comments),
             Kind::C => {
                 self.comments = self.comments.saturating_add(1);
                 self.comments

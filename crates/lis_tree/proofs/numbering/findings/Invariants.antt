@@ -9,7 +9,7 @@ use Rattle.lis_tree.proofs.numbering.findings.Given as goal
 abbrev pub invariant-loop-entry : goal.invariant-loop-entry
 invariant-loop-entry l =
     (earlier : List Kind) × (n : ℕ) × (l.place ≡ capped n)
-    × CountsOf earlier l.counts.patients l.counts.queries l.counts.orders l.counts.results l.counts.comments
+    × CountsOf earlier l.counts
     × (findings_of l.message ≡ l.found ++ findings_from earlier n l.walk)
 
 abbrev pub decreases-loop-entry : goal.decreases-loop-entry

@@ -20,10 +20,9 @@ returns-clause-found c = λ records has.
 pub returns-clause-numbered : goal.returns-clause-numbered
 returns-clause-numbered c = λ records has.
     let r = c.args.entry.now.content in
-    let next = c.count-expected.new.self in
     record {
       counts =
-          subst (λ (ks : List Kind). CountsOf ks next.patients next.queries next.orders next.results next.comments)
+          subst (λ (ks : List Kind). CountsOf ks c.count-expected.new.self)
           (ap (λ (k : Kind). k ∷ kinds_back [] records) c.kind-kind.ensures ∙ sym (kinds_back-more [] records r))
           (c.count-expected.ensures.counted (kinds_back [] records) has.counts);
       counted = omega (arith, has.counted, c.saturating_add-self.ensures, length-append records (r ∷ []));
