@@ -2,6 +2,8 @@
 //! refused comes back, the list is as before, and the same call again is answered in full. `tests/refusals` refuses
 //! each growth.
 
+ghost use Rattle.std.specs.Mem.{FitsInMemory};
+
 use lis_field::*;
 use lis_text::*;
 use std::alloc::{AllocError, Global};
@@ -92,26 +94,51 @@ fn a_text_that_is_refused_comes_back(rt: HostRuntime) -> Result<(), Fail> {
     Ok(())
 }
 
-/// A component of one letter; memory that is refused is asked for once more, here and below.
-fn component_of(alloc: Global, letter: u8) -> Result<Component, Fail> {
-    let mut component = Component::new(alloc);
-    if let Err(refused) = component.push(Sym::Char(letter)) {
-        component.push(refused.value)?;
-    }
-    Ok(component)
+/// What a list of one or more holds here: a part that is made of one letter, and tells it. Memory that is refused is asked
+/// for once more, here and below.
+trait Lettered: Part {
+    fn of_letter(alloc: Global, letter: u8) -> Result<Self, Fail>;
+
+    /// The letter of a part that holds nothing else.
+    fn letter(&self) -> Option<u8>;
 }
 
-/// A repeat of one such component.
-fn repeat_of(alloc: Global, letter: u8) -> Result<Repeat, Fail> {
-    match Repeat::new(alloc, component_of(alloc, letter)?) {
-        Ok(repeat) => Ok(repeat),
-        Err(refused) => Ok(Repeat::new(alloc, refused.value)?),
+impl Lettered for Component {
+    fn of_letter(alloc: Global, letter: u8) -> Result<Self, Fail> {
+        let mut component = Component::new(alloc);
+        if let Err(refused) = component.push(Sym::Char(letter)) {
+            component.push(refused.value)?;
+        }
+        Ok(component)
+    }
+
+    fn letter(&self) -> Option<u8> {
+        match self.symbols() {
+            [Sym::Char(letter)] => Some(*letter),
+            _ => None,
+        }
     }
 }
 
-/// A field of one such repeat.
+impl Lettered for Repeat {
+    fn of_letter(alloc: Global, letter: u8) -> Result<Self, Fail> {
+        match Repeat::new(alloc, Component::of_letter(alloc, letter)?) {
+            Ok(repeat) => Ok(repeat),
+            Err(refused) => Ok(Repeat::new(alloc, refused.value)?),
+        }
+    }
+
+    fn letter(&self) -> Option<u8> {
+        match self.components() {
+            [component] => component.letter(),
+            _ => None,
+        }
+    }
+}
+
+/// A field of one repeat of one letter.
 fn field_of(alloc: Global, letter: u8) -> Result<Field, Fail> {
-    match Field::new(alloc, repeat_of(alloc, letter)?) {
+    match Field::new(alloc, Repeat::of_letter(alloc, letter)?) {
         Ok(field) => Ok(field),
         Err(refused) => Ok(Field::new(alloc, refused.value)?),
     }
@@ -126,26 +153,10 @@ fn record_of(alloc: Global, letter: u8) -> Result<Record, Fail> {
     Ok(record)
 }
 
-/// The letter of a component that has no other symbol.
-fn letter_of(component: &Component) -> Option<u8> {
-    match component.symbols() {
-        [Sym::Char(letter)] => Some(*letter),
-        _ => None,
-    }
-}
-
-/// The letter of a repeat that has no other component.
-fn letter_of_repeat(repeat: &Repeat) -> Option<u8> {
-    match repeat.components() {
-        [component] => letter_of(component),
-        _ => None,
-    }
-}
-
 /// The letter of a field that has no other repeat.
 fn letter_of_field(field: &Field) -> Option<u8> {
     match field.repeats() {
-        [repeat] => letter_of_repeat(repeat),
+        [repeat] => repeat.letter(),
         _ => None,
     }
 }
@@ -181,82 +192,60 @@ fn a_symbol_that_is_refused_comes_back(rt: HostRuntime) -> Result<(), Fail> {
     Ok(())
 }
 
-/// Pushes a component of one letter, and once more where it comes back.
-fn push_component(
+/// Pushes a part of one letter, and once more where it comes back.
+fn push_part<P: Lettered>(
     rt: &impl Abort,
-    repeat: &mut Repeat,
-    component: Component,
+    parts: &mut Parts<P>,
+    part: P,
     letter: u8,
-) -> Result<(), Fail> {
-    let before = repeat.len();
-    if let Err(refused) = repeat.push(component) {
+) -> Result<(), Fail>
+    requires { FitsInMemory P.row }
+{
+    let before = parts.len();
+    if let Err(refused) = parts.push(part) {
         assert_eq!(rt;
-            (letter_of(&refused.value), repeat.len()),
+            (refused.value.letter(), parts.len()),
             (Some(letter), before)
         );
-        repeat.push(refused.value)?;
+        parts.push(refused.value)?;
     }
     Ok(())
 }
 
-/// Pushes components of the letters B to I.
-fn push_components(rt: &impl Abort, alloc: Global, repeat: &mut Repeat) -> Result<(), Fail> {
+/// Pushes parts of the letters B to I.
+fn push_parts<P: Lettered>(rt: &impl Abort, alloc: Global, parts: &mut Parts<P>) -> Result<(), Fail>
+    requires { FitsInMemory P.row }
+{
     for letter in b"BCDEFGHI" {
-        push_component(rt, repeat, component_of(alloc, *letter)?, *letter)?;
+        push_part(rt, parts, P::of_letter(alloc, *letter)?, *letter)?;
     }
     Ok(())
 }
 
-/// Fails where the components aren't those of the letters A to I.
-fn assert_components(rt: &impl Abort, repeat: &Repeat) {
-    assert_eq!(rt; repeat.len(), 9);
+/// Fails where the parts aren't those of the letters A to I.
+fn assert_parts<P: Lettered>(rt: &impl Abort, parts: &Parts<P>)
+    requires { FitsInMemory P.row }
+{
+    assert_eq!(rt; parts.len(), 9);
     for (place, letter) in b"ABCDEFGHI".iter().enumerate() {
-        assert_eq!(rt; repeat.get(place).and_then(letter_of), Some(*letter));
+        let found = parts.get(place).and_then(|part| part.letter());
+        assert_eq!(rt; found, Some(*letter));
     }
 }
 
 #[test]
 fn a_component_that_is_refused_comes_back(rt: HostRuntime) -> Result<(), Fail> {
-    let mut repeat = repeat_of(rt.alloc(), b'A')?;
-    push_components(&rt, rt.alloc(), &mut repeat)?;
-    assert_components(&rt, &repeat);
+    let mut repeat = Repeat::of_letter(rt.alloc(), b'A')?;
+    push_parts(&rt, rt.alloc(), &mut repeat)?;
+    assert_parts(&rt, &repeat);
     Ok(())
-}
-
-/// Pushes a repeat of one letter, and once more where it comes back.
-fn push_repeat(rt: &impl Abort, field: &mut Field, repeat: Repeat, letter: u8) -> Result<(), Fail> {
-    let before = field.len();
-    if let Err(refused) = field.push(repeat) {
-        assert_eq!(rt;
-            (letter_of_repeat(&refused.value), field.len()),
-            (Some(letter), before)
-        );
-        field.push(refused.value)?;
-    }
-    Ok(())
-}
-
-/// Pushes repeats of the letters B to I.
-fn push_repeats(rt: &impl Abort, alloc: Global, field: &mut Field) -> Result<(), Fail> {
-    for letter in b"BCDEFGHI" {
-        push_repeat(rt, field, repeat_of(alloc, *letter)?, *letter)?;
-    }
-    Ok(())
-}
-
-/// Fails where the repeats aren't those of the letters A to I.
-fn assert_repeats(rt: &impl Abort, field: &Field) {
-    assert_eq!(rt; field.len(), 9);
-    for (place, letter) in b"ABCDEFGHI".iter().enumerate() {
-        assert_eq!(rt; field.get(place).and_then(letter_of_repeat), Some(*letter));
-    }
 }
 
 #[test]
 fn a_repeat_that_is_refused_comes_back(rt: HostRuntime) -> Result<(), Fail> {
     let mut field = field_of(rt.alloc(), b'A')?;
-    push_repeats(&rt, rt.alloc(), &mut field)?;
-    assert_repeats(&rt, &field);
+    push_parts(&rt, rt.alloc(), &mut field)?;
+    assert_parts(&rt, &field);
     Ok(())
 }
 
