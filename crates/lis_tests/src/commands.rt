@@ -19,11 +19,8 @@ fn each_line_is_sent_on_before_the_next_read(rt: HostRuntime) -> Result<(), Fail
     let alloc = rt.alloc();
     let mut source = Cut::new(&HEADER, 4096, Then::Fail);
     let mut sink = Buffered::new(BufWriter::with_capacity(alloc, 100, Vec::new(alloc))?);
-    assert_eq!(rt;
-        run_show(&mut source, &mut sink, 1000),
-        Err(ToolFault::Read)
-    );
-    assert_eq!(rt; sink.into_inner().get_ref().as_slice(), HEADER_LINE);
+    assert!(rt; run_show(&mut source, &mut sink, 1000) == Err(ToolFault::Read));
+    assert!(rt; sink.into_inner().get_ref().as_slice() == HEADER_LINE);
     Ok(())
 }
 
@@ -35,7 +32,7 @@ fn a_sink_that_can_not_send_on_ends_the_run(rt: HostRuntime) -> Result<(), Fail>
     let mut sink = Buffered::new(writer);
     let ended = run_show(&mut source, &mut sink, 1000);
     let want = Err(ToolFault::Write { written: 4 });
-    assert_eq!(rt; (ended, source.made()), (want, 1));
+    assert!(rt; (ended, source.made()) == (want, 1));
     Ok(())
 }
 
@@ -46,8 +43,8 @@ fn assert_one_read(rt: &impl Abort) {
     let mut sink = Slow::new(100, 100);
     let ended = run_show(&mut source, &mut sink, 1000);
     let calls = source.into_inner().calls();
-    assert_eq!(rt; (ended, calls), (Err(ToolFault::Read), 2));
-    assert_eq!(rt; sink.took(), b"ENQ\nEOT\n".as_slice());
+    assert!(rt; (ended, calls) == (Err(ToolFault::Read), 2));
+    assert!(rt; sink.took() == b"ENQ\nEOT\n".as_slice());
 }
 
 /// A run whose first write is interrupted: the sink is flushed before the read, and then written to.
@@ -57,7 +54,7 @@ fn assert_one_write(rt: &impl Abort, alloc: Global) {
     let ended = run_show(&mut source, &mut sink, 1000);
     let calls = sink.into_inner().calls();
     let want = Err(ToolFault::Write { written: 0 });
-    assert_eq!(rt; (ended, source.made(), calls), (want, 1, 2));
+    assert!(rt; (ended, source.made(), calls) == (want, 1, 2));
 }
 
 #[test]
@@ -71,13 +68,13 @@ fn a_sink_that_fails_has_taken_the_front_of_a_line(rt: HostRuntime) {
     for room in 0..27usize {
         let mut source = Cut::new(&HEADER, 4096, Then::End);
         let mut sink = Slow::new(room, 4096);
-        assert_eq!(rt;
-            run_show(&mut source, &mut sink, 1000),
-            Err(ToolFault::Write {
-                written: room as u64
-            })
+        assert!(rt;
+            run_show(&mut source, &mut sink, 1000)
+                == Err(ToolFault::Write {
+                    written: room as u64
+                })
         );
-        assert_eq!(rt; Some(sink.took()), HEADER_LINE.get(..room));
+        assert!(rt; Some(sink.took()) == HEADER_LINE.get(..room));
     }
 }
 
@@ -92,8 +89,8 @@ fn assert_shown(
 ) {
     let mut source = Cut::new(bytes, 1, then);
     let mut sink = Slow::new(100, 100);
-    assert_eq!(rt; run_show(&mut source, &mut sink, reads), ended);
-    assert_eq!(rt; sink.took(), took);
+    assert!(rt; run_show(&mut source, &mut sink, reads) == ended);
+    assert!(rt; sink.took() == took);
 }
 
 #[test]
@@ -124,7 +121,7 @@ fn assert_named(
     told: &[(&[&str], Option<Command>)],
 ) -> Result<(), Fail> {
     for (words, want) in told {
-        assert_eq!(rt; named(alloc, words)?, *want);
+        assert!(rt; named(alloc, words)? == *want);
     }
     Ok(())
 }
@@ -178,7 +175,7 @@ fn each_fault_has_its_line(rt: HostRuntime) -> Result<(), Fail> {
         (ToolFault::TooManyReads, "lislink: K5"),
     ] {
         let line = format!(in rt.alloc(); "{fault}")?;
-        assert_eq!(rt; line.as_str(), want);
+        assert!(rt; line.as_str() == want);
     }
     Ok(())
 }

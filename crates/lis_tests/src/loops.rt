@@ -73,7 +73,7 @@ fn assert_sent(
     let texts = Texts::from_slices(alloc, &[b"A".as_slice()])?;
     let mut line = Scripted::new(alloc, events);
     assert!(rt; send_texts(&mut line, texts) == Ok(Some(outcome)));
-    assert_eq!(rt; (line.sent.as_slice(), line.seconds.as_slice()), told);
+    assert!(rt; (line.sent.as_slice(), line.seconds.as_slice()) == told);
     Ok(())
 }
 
@@ -116,7 +116,7 @@ fn assert_next(
     want: Option<&[u8]>,
 ) {
     let text = next_text(line, receiver);
-    assert_eq!(rt; text.as_ref().map(|text| text.as_slice()), want);
+    assert!(rt; text.as_ref().map(|text| text.as_slice()) == want);
 }
 
 #[test]
@@ -128,7 +128,7 @@ fn a_text_is_received(rt: HostRuntime) -> Result<(), Fail> {
     assert_next(&rt, &mut line, &mut receiver, None);
     drop(receiver);
     let told = ([ACK, ACK].as_slice(), [30, 30].as_slice());
-    assert_eq!(rt; (line.sent.as_slice(), line.seconds.as_slice()), told);
+    assert!(rt; (line.sent.as_slice(), line.seconds.as_slice()) == told);
     Ok(())
 }
 
@@ -139,8 +139,8 @@ const RESULT: &[u8] = b"H|\\^&\rP|1\rO|1|S7\rR|1|^^^GLU|5.4|mmol/L\rL|1|N\r";
 fn assert_written(rt: &impl Abort, message: &Message) {
     let mut first = Slow::new(20, 7);
     let mut second = Slow::new(100, 100);
-    assert_eq!(rt; write_to_both(&mut first, &mut second, message), Ok(()));
-    assert_eq!(rt; (first.took(), second.took()), RESULT.split_at(20));
+    assert!(rt; write_to_both(&mut first, &mut second, message) == Ok(()));
+    assert!(rt; (first.took(), second.took()) == RESULT.split_at(20));
 }
 
 /// Fails where the only reading of a message is another.
@@ -150,7 +150,7 @@ fn assert_reading(rt: &impl Abort, found: &[Reading]) {
     };
     let told = [&reading.sample, &reading.value, &reading.units].map(|text| text.as_slice());
     let want: [&[u8]; 3] = [b"S7", b"5.4", b"mmol/L"];
-    assert_eq!(rt; told, want);
+    assert!(rt; told == want);
 }
 
 /// How many texts there are in a message of one result.
@@ -162,26 +162,23 @@ fn count_texts(alloc: Global) -> Result<usize, Fail> {
 #[test]
 fn a_message_is_built_written_and_read(rt: HostRuntime) -> Result<(), Fail> {
     let alloc = rt.alloc();
-    assert_eq!(rt; count_texts(alloc)?, 5);
+    assert!(rt; count_texts(alloc)? == 5);
     let message = result_message(alloc, b"S7", b"5.4")?;
     assert_written(&rt, &message);
     let found = readings(alloc, &message);
     drop(message);
     assert_reading(&rt, found?.as_slice());
     let (front, rest) = RESULT.split_at(20);
-    assert_eq!(rt; count_results(alloc, &[front, rest]), Ok(1));
+    assert!(rt; count_results(alloc, &[front, rest]) == Ok(1));
     Ok(())
 }
 
 #[test]
 fn a_capture_is_checked(rt: HostRuntime) {
     let session = b"> 05\n< 06\n> 0231410337350d0a\n< 06\n> 04\n";
-    assert_eq!(rt; is_as_played(rt.alloc(), session), Ok(true));
+    assert!(rt; is_as_played(rt.alloc(), session) == Ok(true));
     let refused = b"> 05\n< 06\n> 0231410337350d0a\n< 15\n> 04\n";
-    assert_eq!(rt; is_as_played(rt.alloc(), refused), Ok(false));
+    assert!(rt; is_as_played(rt.alloc(), refused) == Ok(false));
     let unread = b"> 05\n< 06\n> 0\n< 06\n";
-    assert_eq!(rt;
-        is_as_played(rt.alloc(), unread),
-        Err(ToolFault::CaptureLine { line: 3 })
-    );
+    assert!(rt; is_as_played(rt.alloc(), unread) == Err(ToolFault::CaptureLine { line: 3 }));
 }

@@ -41,16 +41,13 @@ fn a_refusal_ends_the_run_before_the_next_read(rt: HostRuntime) {
     let mut source = Cut::new(REFUSED, 4096, Then::Fail);
     let mut sink = Slow::new(1000, 7);
     let ended = run_check(rt.alloc(), &mut source, &mut sink, 1000);
-    assert_eq!(rt;
-        (ended, source.made()),
-        (refused(2, 1, Reason::NotHeader), 1)
-    );
-    assert_eq!(rt; sink.took(), REFUSED_CHECKED);
+    assert!(rt; (ended, source.made()) == (refused(2, 1, Reason::NotHeader), 1));
+    assert!(rt; sink.took() == REFUSED_CHECKED);
     let mut source = Cut::new(REFUSED, 3, Then::End);
     let mut sink = Slow::new(1000, 1);
     let ended = run_results(rt.alloc(), &mut source, &mut sink, 1000);
-    assert_eq!(rt; ended, refused(2, 1, Reason::NotHeader));
-    assert_eq!(rt; sink.took(), RESULT);
+    assert!(rt; ended == refused(2, 1, Reason::NotHeader));
+    assert!(rt; sink.took() == RESULT);
 }
 
 #[test]
@@ -58,8 +55,8 @@ fn whole_messages_are_told_before_a_source_fails(rt: HostRuntime) {
     let mut source = Cut::new(PANEL, 4096, Then::Fail);
     let mut sink = Slow::new(1000, 1000);
     let ended = run_check(rt.alloc(), &mut source, &mut sink, 1000);
-    assert_eq!(rt; ended, Err(ToolFault::Read));
-    assert_eq!(rt; sink.took(), CHECKED);
+    assert!(rt; ended == Err(ToolFault::Read));
+    assert!(rt; sink.took() == CHECKED);
 }
 
 /// Fails where `check` ends otherwise with so many reads of letters A, or writes something else.
@@ -72,8 +69,8 @@ fn assert_letters(
 ) {
     let mut source = Cut::new(b"", 1, Then::Again(b'A'));
     let mut sink = Slow::new(100, 100);
-    assert_eq!(rt; run_check(alloc, &mut source, &mut sink, reads), ended);
-    assert_eq!(rt; sink.took(), took);
+    assert!(rt; run_check(alloc, &mut source, &mut sink, reads) == ended);
+    assert!(rt; sink.took() == took);
 }
 
 #[test]
@@ -92,9 +89,6 @@ fn a_refusal_has_its_line(rt: HostRuntime) -> Result<(), Fail> {
         reason: Reason::BadRecord(RecordFault::Byte(4)),
     };
     let refused = Refused { message: 2, fault };
-    assert_eq!(rt;
-        format!(in rt.alloc(); "{refused}")?.as_str(),
-        "refused 2 3 G1 C4"
-    );
+    assert!(rt; format!(in rt.alloc(); "{refused}")?.as_str() == "refused 2 3 G1 C4");
     Ok(())
 }

@@ -27,24 +27,24 @@ fn delimiters_are_four_distinct_punctuation_bytes(rt: HostRuntime) {
         Err(DelimiterFault::Repeated(2)),
         Err(DelimiterFault::NotPunctuation(3)),
     ];
-    assert_eq!(rt; made, want);
+    assert!(rt; made == want);
     let bytes = [
         usual.field(),
         usual.repeat(),
         usual.component(),
         usual.escape(),
     ];
-    assert_eq!(rt; bytes, *b"|\\^&");
+    assert!(rt; bytes == *b"|\\^&");
 }
 
 #[test]
 fn a_letter_names_a_kind(rt: HostRuntime) {
     for (letter, kind) in [(b'H', Kind::H), (b'q', Kind::Q), (b'S', Kind::S)] {
         let told = (Kind::of_letter(letter), kind.letter());
-        assert_eq!(rt; told, (Some(kind), letter.to_ascii_uppercase()));
+        assert!(rt; told == (Some(kind), letter.to_ascii_uppercase()));
     }
     let numbers = (Kind::H.first_number(), Kind::P.first_number());
-    assert_eq!(rt; (Kind::of_letter(b'X'), numbers), (None, (3, 2)));
+    assert!(rt; (Kind::of_letter(b'X'), numbers) == (None, (3, 2)));
 }
 
 // A repeat of one component, with these characters.
@@ -82,14 +82,11 @@ fn record_of_one(alloc: Global) -> Result<Record, Fail> {
 fn assert_two_repeats(rt: &impl Abort, field: &Field) {
     let repeat = field.get(1).expect(rt, "a second repeat");
     let component = repeat.get(1).expect(rt, "a second component");
-    assert_eq!(rt; (field.len(), field.repeats().len()), (2, 2));
-    assert_eq!(rt; (repeat.len(), repeat.components().len()), (2, 2));
-    assert_eq!(rt;
-        (component.len(), component.get(1)),
-        (2, Some(&Sym::Char(b'd')))
-    );
+    assert!(rt; (field.len(), field.repeats().len()) == (2, 2));
+    assert!(rt; (repeat.len(), repeat.components().len()) == (2, 2));
+    assert!(rt; (component.len(), component.get(1)) == (2, Some(&Sym::Char(b'd'))));
     let want = [Sym::Char(b'c'), Sym::Char(b'd')];
-    assert_eq!(rt; component.symbols(), want.as_slice());
+    assert!(rt; component.symbols() == want.as_slice());
 }
 
 #[test]
@@ -99,18 +96,18 @@ fn a_record_is_made_of_its_parts(rt: HostRuntime) -> Result<(), Fail> {
     let has_others = record.field(1).is_some() || record.field(3).is_some();
     assert_two_repeats(&rt, record.field(2).expect(&rt, "field 2"));
     drop(record);
-    assert_eq!(rt; told, (Kind::C, 1, 1));
+    assert!(rt; told == (Kind::C, 1, 1));
     assert!(rt; !has_others);
     Ok(())
 }
 
 // Fails where the repeats of a field are others than of one component each, as long as these texts.
 fn assert_lengths(rt: &impl Abort, field: &Field, texts: &[&[u8]]) {
-    assert_eq!(rt; field.len(), texts.len());
+    assert!(rt; field.len() == texts.len());
     for (place, text) in texts.iter().enumerate() {
         let repeat = field.get(place).expect(rt, "a repeat");
         let component = repeat.get(0).expect(rt, "a component");
-        assert_eq!(rt; component.len(), text.len());
+        assert!(rt; component.len() == text.len());
     }
     assert!(rt; field.get(texts.len()).is_none());
 }
@@ -129,11 +126,11 @@ fn a_field_has_any_number_of_repeats_from_one(rt: HostRuntime) -> Result<(), Fai
 // A field of one symbol, which takes memory before it is used.
 fn marked_field(rt: &impl Abort, alloc: Global) -> Result<Field, Fail> {
     let mut component = Component::with_capacity(alloc, 2)?;
-    assert_eq!(rt; component.len(), 0);
+    assert!(rt; component.len() == 0);
     component.push(Sym::On)?;
-    assert_eq!(rt; component.get(0), Some(&Sym::On));
+    assert!(rt; component.get(0) == Some(&Sym::On));
     let repeat = Repeat::with_capacity(alloc, component, 3)?;
-    assert_eq!(rt; repeat.len(), 1);
+    assert!(rt; repeat.len() == 1);
     Ok(Field::new(alloc, repeat)?)
 }
 
@@ -144,7 +141,7 @@ fn memory_is_taken_before_it_is_used(rt: HostRuntime) -> Result<(), Fail> {
     record.push(marked_field(&rt, rt.alloc())?)?;
     let length = record.len();
     drop(record);
-    assert_eq!(rt; (before, length), ((Kind::O, 0), 1));
+    assert!(rt; (before, length) == ((Kind::O, 0), 1));
     Ok(())
 }
 
@@ -154,13 +151,12 @@ fn a_component_holds_few_symbols_and_many(rt: HostRuntime) -> Result<(), Fail> {
     let letters = b"abcdefghijklmnopqrstuvwxyz".as_slice();
     for (count, last) in [(1, b'a'), (15, b'o'), (16, b'p'), (26, b'z')] {
         let component = component_of(rt.alloc(), &letters[..count])?;
-        assert_eq!(rt;
+        assert!(rt;
             (
                 component.len(),
                 component.get(count - 1),
                 component.get(count)
-            ),
-            (count, Some(&Sym::Char(last)), None)
+            ) == (count, Some(&Sym::Char(last)), None)
         );
     }
     Ok(())
@@ -176,10 +172,10 @@ fn assert_front(
 ) -> Result<(), Fail> {
     let component = Component::from_front(alloc, text, count)?;
     let bytes = component.to_text(alloc)?.expect(rt, "a text");
-    assert_eq!(rt; bytes.as_slice(), want);
+    assert!(rt; bytes.as_slice() == want);
     let field = Field::from_front(alloc, text, count)?;
     let bytes = field.to_text(alloc)?.expect(rt, "a text");
-    assert_eq!(rt; bytes.as_slice(), want);
+    assert!(rt; bytes.as_slice() == want);
     Ok(())
 }
 
@@ -214,7 +210,7 @@ fn is_copied(rt: &impl Abort, alloc: Global, entry: &Record) -> Result<bool, All
 fn assert_text(rt: &impl Abort, alloc: Global, entry: &Record, want: &[u8]) -> Result<(), Fail> {
     let field = entry.field(3).expect(rt, "field 3");
     let text = field.to_text(alloc)?.expect(rt, "a text");
-    assert_eq!(rt; text.as_slice(), want);
+    assert!(rt; text.as_slice() == want);
     Ok(())
 }
 
@@ -227,7 +223,7 @@ fn a_record_is_made_of_texts_and_copied(rt: HostRuntime) -> Result<(), Fail> {
     let copied = is_copied(&rt, alloc, &entry);
     let is_empty = Record::new(alloc, Kind::R) == entry;
     drop(entry);
-    assert_eq!(rt; (number, copied, is_empty), (2, Ok(true), false));
+    assert!(rt; (number, copied, is_empty) == (2, Ok(true), false));
     has_text?;
     assert_no_text(&rt, alloc)
 }

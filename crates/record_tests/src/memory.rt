@@ -22,7 +22,7 @@ fn letters(alloc: Global, count: usize) -> Result<LinkText, AllocError> {
 /// Grows a text by these bytes. Where memory is refused, the text is as before, and it is asked for once more.
 fn grow(rt: &impl Abort, text: &mut LinkText, before: &[u8], more: &[u8]) -> Result<(), Fail> {
     if text.extend(more).is_err() {
-        assert_eq!(rt; text.as_slice(), before);
+        assert!(rt; text.as_slice() == before);
         text.extend(more)?;
     }
     Ok(())
@@ -33,9 +33,9 @@ fn a_text_that_cannot_grow_is_as_before(rt: HostRuntime) -> Result<(), Fail> {
     let mut text = LinkText::new(rt.alloc());
     grow(&rt, &mut text, b"", b"AB")?;
     grow(&rt, &mut text, b"AB", &[0x43; 100])?;
-    assert_eq!(rt; text.len(), 102);
+    assert!(rt; text.len() == 102);
     let (front, behind) = text.as_slice().split_at(2);
-    assert_eq!(rt; (front, behind), (b"AB".as_slice(), [0x43; 100].as_slice()));
+    assert!(rt; (front, behind) == (b"AB".as_slice(), [0x43; 100].as_slice()));
     Ok(())
 }
 
@@ -43,7 +43,7 @@ fn a_text_that_cannot_grow_is_as_before(rt: HostRuntime) -> Result<(), Fail> {
 fn push_byte(rt: &impl Abort, text: &mut LinkText, byte: u8) -> Result<(), Fail> {
     let before = text.len();
     if let Err(refused) = text.push(byte) {
-        assert_eq!(rt; (refused.value, text.len()), (byte, before));
+        assert!(rt; (refused.value, text.len()) == (byte, before));
         text.push(byte)?;
     }
     Ok(())
@@ -55,7 +55,7 @@ fn an_item_that_is_refused_comes_back(rt: HostRuntime) -> Result<(), Fail> {
     for byte in 0x41..=0x5a {
         push_byte(&rt, &mut text, byte)?;
     }
-    assert_eq!(rt; text.as_slice(), b"ABCDEFGHIJKLMNOPQRSTUVWXYZ".as_slice());
+    assert!(rt; text.as_slice() == b"ABCDEFGHIJKLMNOPQRSTUVWXYZ".as_slice());
     Ok(())
 }
 
@@ -66,7 +66,7 @@ fn push_text(rt: &impl Abort, texts: &mut Texts, text: LinkText) {
     match texts.push(text) {
         Ok(()) => {}
         Err(TextRefused::OutOfMemory(back)) => {
-            assert_eq!(rt; (back.len(), texts.len()), (length, before));
+            assert!(rt; (back.len(), texts.len()) == (length, before));
             assert!(rt; texts.push(back).is_ok());
         }
         Err(TextRefused::Full(_)) => panic!(rt; "nine texts are not too many"),
@@ -77,7 +77,7 @@ fn push_text(rt: &impl Abort, texts: &mut Texts, text: LinkText) {
 fn push_texts(rt: &impl Abort, alloc: Global, texts: &mut Texts) -> Result<(), Fail> {
     for length in 1..=9usize {
         let text = letters(alloc, length)?;
-        assert_eq!(rt; text.len(), length);
+        assert!(rt; text.len() == length);
         push_text(rt, texts, text);
     }
     Ok(())
@@ -87,16 +87,17 @@ fn push_texts(rt: &impl Abort, alloc: Global, texts: &mut Texts) -> Result<(), F
 fn a_text_that_is_refused_comes_back(rt: HostRuntime) -> Result<(), Fail> {
     let mut texts = Texts::new(rt.alloc());
     push_texts(&rt, rt.alloc(), &mut texts)?;
-    assert_eq!(rt; texts.len(), 9);
+    assert!(rt; texts.len() == 9);
     for (place, text) in texts.as_slice().iter().enumerate() {
-        assert_eq!(rt; text.len(), place.saturating_add(1));
+        assert!(rt; text.len() == place.saturating_add(1));
     }
     Ok(())
 }
 
-/// What a list of one or more holds here: a part that is made of one letter, and tells it. Memory that is refused is asked
-/// for once more, here and below.
+/// What a list of one or more holds here: a part that one letter makes. Memory that is refused is asked for once more,
+/// here and below.
 trait Lettered: Part {
+    /// The part of this letter.
     fn of_letter(alloc: Global, letter: u8) -> Result<Self, Fail>;
 
     /// The letter of a part that holds nothing else.
@@ -173,7 +174,7 @@ fn letter_of_record(record: &Record) -> Option<u8> {
 fn push_symbol(rt: &impl Abort, component: &mut Component, byte: u8) -> Result<(), Fail> {
     let before = component.len();
     if let Err(refused) = component.push(Sym::Char(byte)) {
-        assert_eq!(rt; (refused.value, component.len()), (Sym::Char(byte), before));
+        assert!(rt; (refused.value, component.len()) == (Sym::Char(byte), before));
         component.push(refused.value)?;
     }
     Ok(())
@@ -185,9 +186,9 @@ fn a_symbol_that_is_refused_comes_back(rt: HostRuntime) -> Result<(), Fail> {
     for byte in 0x41..=0x5a {
         push_symbol(&rt, &mut component, byte)?;
     }
-    assert_eq!(rt; component.len(), 26);
+    assert!(rt; component.len() == 26);
     for (place, letter) in b"ABCDEFGHIJKLMNOPQRSTUVWXYZ".iter().enumerate() {
-        assert_eq!(rt; component.get(place), Some(&Sym::Char(*letter)));
+        assert!(rt; component.get(place) == Some(&Sym::Char(*letter)));
     }
     Ok(())
 }
@@ -203,10 +204,7 @@ fn push_part<P: Lettered>(
 {
     let before = parts.len();
     if let Err(refused) = parts.push(part) {
-        assert_eq!(rt;
-            (refused.value.letter(), parts.len()),
-            (Some(letter), before)
-        );
+        assert!(rt; (refused.value.letter(), parts.len()) == (Some(letter), before));
         parts.push(refused.value)?;
     }
     Ok(())
@@ -226,10 +224,10 @@ fn push_parts<P: Lettered>(rt: &impl Abort, alloc: Global, parts: &mut Parts<P>)
 fn assert_parts<P: Lettered>(rt: &impl Abort, parts: &Parts<P>)
     requires { FitsInMemory P.row }
 {
-    assert_eq!(rt; parts.len(), 9);
+    assert!(rt; parts.len() == 9);
     for (place, letter) in b"ABCDEFGHI".iter().enumerate() {
         let found = parts.get(place).and_then(|part| part.letter());
-        assert_eq!(rt; found, Some(*letter));
+        assert!(rt; found == Some(*letter));
     }
 }
 
@@ -253,10 +251,7 @@ fn a_repeat_that_is_refused_comes_back(rt: HostRuntime) -> Result<(), Fail> {
 fn push_field(rt: &impl Abort, record: &mut Record, field: Field, letter: u8) -> Result<(), Fail> {
     let before = record.len();
     if let Err(refused) = record.push(field) {
-        assert_eq!(rt;
-            (letter_of_field(&refused.value), record.len()),
-            (Some(letter), before)
-        );
+        assert!(rt; (letter_of_field(&refused.value), record.len()) == (Some(letter), before));
         record.push(refused.value)?;
     }
     Ok(())
@@ -272,10 +267,10 @@ fn push_fields(rt: &impl Abort, alloc: Global, record: &mut Record) -> Result<()
 
 /// Fails where the fields aren't those of the letters A to I.
 fn assert_fields(rt: &impl Abort, record: &Record) {
-    assert_eq!(rt; (record.kind(), record.len()), (Kind::C, 9));
+    assert!(rt; (record.kind(), record.len()) == (Kind::C, 9));
     for (number, letter) in b"ABCDEFGHI".iter().enumerate() {
         let field = record.field(number.saturating_add(2));
-        assert_eq!(rt; field.and_then(letter_of_field), Some(*letter));
+        assert!(rt; field.and_then(letter_of_field) == Some(*letter));
     }
 }
 
@@ -296,10 +291,7 @@ fn push_record(
 ) -> Result<(), Fail> {
     let before = records.len();
     if let Err(refused) = records.push(record) {
-        assert_eq!(rt;
-            (letter_of_record(&refused.value), records.len()),
-            (Some(letter), before)
-        );
+        assert!(rt; (letter_of_record(&refused.value), records.len()) == (Some(letter), before));
         records.push(refused.value)?;
     }
     Ok(())
@@ -315,12 +307,9 @@ fn push_records(rt: &impl Abort, alloc: Global, records: &mut List<Record>) -> R
 
 /// Fails where the records aren't those of the letters A to I.
 fn assert_records(rt: &impl Abort, records: &List<Record>) {
-    assert_eq!(rt; records.len(), 9);
+    assert!(rt; records.len() == 9);
     for (place, letter) in b"ABCDEFGHI".iter().enumerate() {
-        assert_eq!(rt;
-            records.get(place).and_then(letter_of_record),
-            Some(*letter)
-        );
+        assert!(rt; records.get(place).and_then(letter_of_record) == Some(*letter));
     }
 }
 

@@ -71,11 +71,8 @@ fn kept_digits_are_written_in_lower_case(rt: HostRuntime) -> Result<(), Fail> {
         line.append(b"\n");
         let digits = &DIGITS[..2 * pairs];
         let kept = written(LineReader::keeping_digits(), digits);
-        assert_eq!(rt; kept.as_slice(), line.as_slice());
-        assert_eq!(rt;
-            written(LineReader::new(), digits).as_slice(),
-            line.as_slice()
-        );
+        assert!(rt; kept.as_slice() == line.as_slice());
+        assert!(rt; written(LineReader::new(), digits).as_slice() == line.as_slice());
     }
     Ok(())
 }

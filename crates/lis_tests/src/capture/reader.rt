@@ -36,8 +36,8 @@ fn letters(line: &Line) -> Option<usize> {
 /// Fails where a new reader finds something else in these bytes than a line of 2,047 letters A behind so many of them.
 fn assert_letters(rt: &impl Abort, reader: LineReader, bytes: &[u8]) {
     let mut reader = reader;
-    assert_eq!(rt; reader.read(bytes), (4097, Found::Line));
-    assert_eq!(rt; (letters(&reader.line()), reader.number()), (Some(2047), 1));
+    assert!(rt; reader.read(bytes) == (4097, Found::Line));
+    assert!(rt; (letters(&reader.line()), reader.number()) == (Some(2047), 1));
 }
 
 #[test]
@@ -45,7 +45,7 @@ fn the_return_of_a_line_is_one_of_its_bytes(rt: HostRuntime) {
     let mut line = long_line();
     let mut reader = LineReader::new();
     let found = reader.read(&line);
-    assert_eq!(rt; (found, reader.number()), ((4098, Found::Refused), 1));
+    assert!(rt; (found, reader.number()) == ((4098, Found::Refused), 1));
     line[4096] = b'\n';
     assert_letters(&rt, LineReader::new(), &line);
     assert_letters(&rt, LineReader::keeping_digits(), &line);
@@ -58,11 +58,11 @@ fn a_byte_too_many_is_refused_at_once(rt: HostRuntime) {
     let mut reader = LineReader::new();
     let found = [reader.read(front), reader.read(b"\r")];
     let want = [(4096, Found::Nothing), (1, Found::Refused)];
-    assert_eq!(rt; (found, reader.number()), (want, 1));
+    assert!(rt; (found, reader.number()) == (want, 1));
     let mut unended = LineReader::new();
     let found = (unended.read(front), unended.finish());
     let want = ((4096, Found::Nothing), Found::Line);
-    assert_eq!(rt; (found, letters(&unended.line())), (want, Some(2047)));
+    assert!(rt; (found, letters(&unended.line())) == (want, Some(2047)));
 }
 
 #[test]
@@ -83,31 +83,25 @@ fn a_last_line_may_lack_its_end(rt: HostRuntime) {
 #[test]
 fn behind_a_refused_line_nothing_is_read(rt: HostRuntime) {
     let mut reader = LineReader::new();
-    assert_eq!(rt;
-        (reader.number(), reader.version()),
-        (0, CaptureVersion::Untold)
-    );
+    assert!(rt; (reader.number(), reader.version()) == (0, CaptureVersion::Untold));
     for (bytes, found, number) in [
         (b"> 41\n> 4z\nT\n".as_slice(), (5, Found::Line), 1),
         (b"> 4z\nT\n", (5, Found::Refused), 2),
         (b"T\n", (0, Found::Refused), 2),
     ] {
-        assert_eq!(rt; (reader.read(bytes), reader.number()), (found, number));
-        assert_eq!(rt; letters(&reader.line()), Some(1));
+        assert!(rt; (reader.read(bytes), reader.number()) == (found, number));
+        assert!(rt; letters(&reader.line()) == Some(1));
     }
     let told = (reader.finish(), reader.version());
-    assert_eq!(rt; told, (Found::Refused, CaptureVersion::First));
+    assert!(rt; told == (Found::Refused, CaptureVersion::First));
 }
 
 #[test]
 fn the_first_line_tells_the_version(rt: HostRuntime) {
     let mut reader = LineReader::new();
     let found = (reader.read(b"capture 2\n"), reader.version());
-    assert_eq!(rt; found, ((10, Found::Line), CaptureVersion::Second));
-    assert_eq!(rt;
-        (reader.read(b"R\n"), reader.number()),
-        ((2, Found::Line), 2)
-    );
+    assert!(rt; found == ((10, Found::Line), CaptureVersion::Second));
+    assert!(rt; (reader.read(b"R\n"), reader.number()) == ((2, Found::Line), 2));
     assert!(rt; matches!(reader.line(), Line::Restart));
-    assert_eq!(rt; reader.finish(), Found::Nothing);
+    assert!(rt; reader.finish() == Found::Nothing);
 }
