@@ -2,6 +2,7 @@
 use Rattle.std.proofs.Common.{◌≡◌, ℕ, ◌+◌, Bool, true, false, List, [], Option, None, Some, Ok, Err, length, refl}
 use Rattle.std.proofs.Common.{◌∙◌, ap, subst, IfOk}
 use Rattle.std.specs.declared.result.Result.{Result}
+use Rattle.std.specs.Io.KnownBytes.{Appends}
 use Rattle.lis_frame.specs.Stream.{stream_with}
 use Rattle.lis_capture.specs.declared.line.Line.{Line}
 use Rattle.lis_capture.specs.Capture.{capture}
@@ -9,11 +10,23 @@ use Rattle.lis_tool.specs.declared.fault.ToolFault.{ToolFault}
 use Rattle.lis_tool.specs.declared.fault.ToolFault.TheVariants.{CaptureLine, Read, Write, OutOfMemory, TooManyReads}
 use Rattle.lis_tool.specs.declared.report.Report.{Report}
 use Rattle.lis_tool.specs.CaptureRuns.{CaptureRan, LineAnswer}
-use Rattle.lis_tool.specs.LineOutcome.{Writes, capture_outcome, lines_outcome}
+use Rattle.lis_tool.specs.LineOutcome.{Writes, capture_outcome, lines_outcome, lines_text}
 use Rattle.lis_tool.specs.Outcome.{Outcome}
-use Rattle.lis_tool.specs.Runs.{Ran, WroteOutcome}
+use Rattle.lis_tool.specs.Runs.{RanOver, Seen, WroteOutcome}
 
 module _ (memory : Bool) (w : Writes) (old new : Option (List ℕ)) where
+  -- a run that lines do not halt has none refused, and their text went out
+  read_on : (refused ended : Bool) (lines : List Line)
+      → ((lines_outcome w refused ended lines).halt ≡ None)
+      × Appends old new (lines_outcome w refused ended lines).text
+      → (refused ≡ false) × Appends old new (lines_text w lines)
+  read_on true ended lines wrote = absurd (halts wrote.0)
+    where
+      halts : ◌≡◌ {A = Option (Result Report ToolFault)} (Some (Err (CaptureLine (length lines + 1)))) None → ⊥
+      halts is = cc
+  read_on false true lines wrote = (refl, wrote.1)
+  read_on false false lines wrote = (refl, wrote.1)
+
   answer : (refused ended : Bool) (lines : List Line) (result : Result Report ToolFault)
       → WroteOutcome memory result (lines_outcome w refused ended lines) old new
       → LineAnswer memory w (record { lines = lines; refused = refused }) ended result old new
@@ -45,18 +58,8 @@ module _ (memory : Bool) (w : Writes) (old new : Option (List ℕ)) where
     where
       no_halt : ◌≡◌ {A = Option (Result Report ToolFault)} None (Some (Err (CaptureLine line))) → ⊥
       no_halt is = cc
-  answer true ended lines (Err Read) wrote = absurd (halts wrote.0)
-    where
-      halts : ◌≡◌ {A = Option (Result Report ToolFault)} (Some (Err (CaptureLine (length lines + 1)))) None → ⊥
-      halts is = cc
-  answer false true lines (Err Read) wrote = (refl, wrote.1)
-  answer false false lines (Err Read) wrote = (refl, wrote.1)
-  answer true ended lines (Err TooManyReads) wrote = absurd (halts wrote.0)
-    where
-      halts : ◌≡◌ {A = Option (Result Report ToolFault)} (Some (Err (CaptureLine (length lines + 1)))) None → ⊥
-      halts is = cc
-  answer false true lines (Err TooManyReads) wrote = (refl, wrote.1)
-  answer false false lines (Err TooManyReads) wrote = (refl, wrote.1)
+  answer refused ended lines (Err Read) wrote = read_on refused ended lines wrote
+  answer refused ended lines (Err TooManyReads) wrote = read_on refused ended lines wrote
   answer refused ended lines (Err (Write written)) wrote = wrote
   answer true ended lines (Err OutOfMemory) wrote = wrote
   answer false true lines (Err OutOfMemory) wrote = wrote
@@ -67,27 +70,24 @@ pub capture_ran :
     (memory : Bool) (w : Writes) (means : List ℕ → Bool → Outcome → Type 0)
     → ((bytes : List ℕ) (ended : Bool) (o : Outcome) → means bytes ended o
     → o ≡ capture_outcome w (stream_with [] bytes) ended)
-    → (left_old left_new taken_old taken_new : Option (List ℕ)) (ended : Bool) (result : Result Report ToolFault)
-    → Ran memory means left_old left_new taken_old taken_new ended result
-    → CaptureRan memory w left_old left_new taken_old taken_new ended result
-capture_ran memory w means is left_old left_new taken_old taken_new ended result ran =
-    let read = capture (stream_with [] ran.given) ended in
+    → (old new : Seen) (result : Result Report ToolFault) → RanOver memory means old new result
+    → CaptureRan memory w old new result
+capture_ran memory w means is old new result ran =
+    let read = capture (stream_with [] ran.given) new.ended in
     record {
       given = ran.given;
       read = ran.read;
       answer =
-          answer memory w taken_old taken_new read.refused ended read.lines result
-          (subst (λ (o : Outcome). WroteOutcome memory result o taken_old taken_new)
-          (is ran.given ended ran.outcome ran.meant) ran.wrote);
+          answer memory w old.taken new.taken read.refused new.ended read.lines result
+          (subst (λ (o : Outcome). WroteOutcome memory result o old.taken new.taken)
+          (is ran.given new.ended ran.outcome ran.meant) ran.wrote);
     }
 
 -- the status of a command that never tells of anything to look at
 pub report_status :
-    {memory : Bool} (w : Writes) (left_old left_new taken_old taken_new : Option (List ℕ)) (ended : Bool)
-    (result : Result Report ToolFault)
+    {memory : Bool} (w : Writes) {old new : Seen} (result : Result Report ToolFault)
     → ((lines : List Line) → (w.report lines).status ≡ 0)
-    → CaptureRan memory w left_old left_new taken_old taken_new ended result
-    → IfOk result (λ report. report.status ≡ 0)
-report_status w left_old left_new taken_old taken_new ended (Ok report) clean ran =
-    ap (λ (r : Report). r.status) ran.answer.2 ∙ clean (capture (stream_with [] ran.given) ended).lines
-report_status w left_old left_new taken_old taken_new ended (Err fault) clean ran = tt
+    → CaptureRan memory w old new result → IfOk result (λ report. report.status ≡ 0)
+report_status w {old} {new} (Ok report) clean ran =
+    ap (λ (r : Report). r.status) ran.answer.2 ∙ clean (capture (stream_with [] ran.given) new.ended).lines
+report_status w (Err fault) clean ran = tt

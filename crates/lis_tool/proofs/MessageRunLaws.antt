@@ -19,7 +19,7 @@ use Rattle.lis_tool.specs.Messages.{Comes, IsStarved, MessageWrites, HasOutcome,
 use Rattle.lis_tool.specs.Messages.{messages_text, whole_outcome, refused, report_after}
 use Rattle.lis_tool.specs.Outcome.{Outcome, going, whole}
 use Rattle.lis_tool.specs.Output.{WentOut}
-use Rattle.lis_tool.specs.Runs.{Ran, WroteOutcome}
+use Rattle.lis_tool.specs.Runs.{RanOver, Seen, WroteOutcome}
 use Rattle.lis_tool.proofs.MessageLaws.{cut_whole, messages_text-append, nothing_left}
 
 -- ---- a front of the bytes, and all of them
@@ -186,20 +186,18 @@ module _ (w : MessageWrites) (given : List ℕ) (ended : Bool) (old new : Option
 
 -- a run whose outcome is that of messages
 pub messages_ran :
-    (w : MessageWrites) (left_old left_new taken_old taken_new : Option (List ℕ)) (ended : Bool)
-    (result : Result Report ToolFault)
-    → Ran true (Comes w) left_old left_new taken_old taken_new ended result
-    → MessagesRan w left_old left_new taken_old taken_new ended result
-messages_ran w left_old left_new taken_old taken_new ended result ran =
+    (w : MessageWrites) (old new : Seen) (result : Result Report ToolFault) → RanOver true (Comes w) old new result
+    → MessagesRan w old new result
+messages_ran w old new result ran =
     record {
       given = ran.given;
       read = ran.read;
       answer = by ran.meant;
     }
   where
-    by : Comes w ran.given ended ran.outcome → MessageAnswer w ran.given ended result taken_old taken_new
-    by (inl reads) = of_reads w ran.given ended taken_old taken_new ran.outcome reads result ran.wrote
-    by (inr starved) = of_starved w ran.given ended taken_old taken_new ran.outcome starved result ran.wrote
+    by : Comes w ran.given new.ended ran.outcome → MessageAnswer w ran.given new.ended result old.taken new.taken
+    by (inl reads) = of_reads w ran.given new.ended old.taken new.taken ran.outcome reads result ran.wrote
+    by (inr starved) = of_starved w ran.given new.ended old.taken new.taken ran.outcome starved result ran.wrote
 
 -- ---- the status
 
@@ -229,8 +227,8 @@ module _ (w : MessageWrites) (few : (messages : List MessageTree) → w.status m
       (subst (λ (x : Outcome). x.halt ≡ Some (Ok report)) same halt)) (after_few messages None)
 
   pub messages_status :
-      (left_old left_new taken_old taken_new : Option (List ℕ)) (ended : Bool) (result : Result Report ToolFault)
-      → MessagesRan w left_old left_new taken_old taken_new ended result → IfOk result (λ report. report.status ≤ 1)
-  messages_status left_old left_new taken_old taken_new ended (Ok report) ran =
-      reads_few ran.given ended ran.answer.0 report ran.answer.1 ran.answer.2
-  messages_status left_old left_new taken_old taken_new ended (Err fault) ran = tt
+      {old new : Seen} (result : Result Report ToolFault) → MessagesRan w old new result
+      → IfOk result (λ report. report.status ≤ 1)
+  messages_status {old} {new} (Ok report) ran =
+      reads_few ran.given new.ended ran.answer.0 report ran.answer.1 ran.answer.2
+  messages_status (Err fault) ran = tt

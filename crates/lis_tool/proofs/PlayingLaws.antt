@@ -26,11 +26,12 @@ use Rattle.lis_tool.specs.declared.playing.Account.{Account}
 use Rattle.lis_tool.specs.declared.playing.Account.TheVariants.{Lines, Texts}
 use Rattle.std.specs.List.{flat_map}
 use Rattle.lis_tool.specs.Output.{Gathered, Out, most_counted}
-use Rattle.lis_tool.proofs.GatherLaws.{gathered_nothing}
+use Rattle.lis_tool.specs.Runs.{Seen}
+use Rattle.lis_tool.proofs.GatherLaws.{gathered_nothing, gathered_then}
 use Rattle.lis_tool.specs.inside.Playing.{IsHearing, IsPlaying, playing_writes, text_parts}
 use Rattle.lis_tool.specs.Replay.{Played, all_differences, compared_line, count_with, difference_count, differs_at}
 use Rattle.lis_tool.specs.Replay.{handed, having_heard, played, played_line, replay_line, replay_writes, replies}
-use Rattle.lis_tool.specs.Replay.{difference_line, left_line, status_of}
+use Rattle.lis_tool.specs.Replay.{counts_line, difference_line, left_line, status_of}
 use Rattle.lis_tool.specs.Replay.{text_count, texts_at}
 
 by_differs : (t : Bool) (n k : ℕ) → n ≤ k → (if t then n + 1 else n) ≤ k + 1
@@ -202,6 +203,38 @@ pub left_gathered :
 left_gathered a b before r left replies is gathered =
     subst (λ (t : List ℕ). Gathered a b before r t) (left_text left ∙ ap left_line is) gathered
 
+-- what is left behind these lines, and the count of differences with that
+pub record IsLeft (limit : ℕ) (lines : List Line) (left : List ℕ) (counted : ℕ) : Type 0 where
+  pub left_is : left ≡ (played limit lines).replies
+  pub counted_is : counted ≡ all_differences limit lines
+
+pub is_left :
+    {account : Account} {limit : ℕ} {kept : Kept} {collected : List ℕ} {count differences : ℕ} {lines : List Line}
+    {left : List ℕ} {counted : ℕ} → IsPlaying account limit kept collected count differences lines → account ≡ Lines
+    → length lines < 2 ^ 44 → left ≡ collected
+    → ((count : ℕ) → differences ≡ count → count < 2 ^ 63
+    → counted ≡ (if length left == 0 then count else count + 1))
+    → IsLeft limit lines left counted
+is_left playing compared few is counts =
+    let left_is = is ∙ playing.hearing.replies_are compared in
+    record {
+      left_is = left_is;
+      counted_is = all_counted _ _ _ _ _ few left_is (playing.differences_are compared) counts;
+    }
+
+-- the closing lines: that of what is left, and that of the counts
+pub closed :
+    (limit : ℕ) (lines : List Line) (a : Out) {b : Out} (c : Out) {before after : ℕ} (r : Result ℕ ToolFault)
+    {left : List ℕ}
+    → left ≡ (played limit lines).replies
+    → Gathered a b before (Ok after) (if length left == 0 then [] else difference_line (codes "end") [] left)
+    → Gathered b c after r (counts_line (text_count limit lines) (all_differences limit lines))
+    → Gathered a c before r ((replay_writes limit).last lines)
+closed limit lines a {b} c {before} {after} r is left counts =
+    gathered_then a b c before after r (left_line (played limit lines).replies)
+    (counts_line (text_count limit lines) (all_differences limit lines))
+    (left_gathered a b before (Ok after) _ _ is left) counts
+
 pub is_lines : (account : Account) → account ≢ Texts → account ≡ Lines
 is_lines Lines other = refl
 is_lines Texts other = absurd (other refl)
@@ -274,11 +307,9 @@ status-few differences = by (nat_lt 0 differences)
     by false = omega arith
 
 pub replay_status :
-    (limit : ℕ) (left_old left_new taken_old taken_new : Option (List ℕ)) (ended : Bool)
-    (result : Result Report ToolFault)
-    → CaptureRan true (replay_writes limit) left_old left_new taken_old taken_new ended result
-    → IfOk result (λ report. report.status ≤ 1)
-replay_status limit left_old left_new taken_old taken_new ended (Ok report) ran =
+    (limit : ℕ) {old new : Seen} (result : Result Report ToolFault)
+    → CaptureRan true (replay_writes limit) old new result → IfOk result (λ report. report.status ≤ 1)
+replay_status limit {old} {new} (Ok report) ran =
     subst (λ (r : Report). r.status ≤ 1) (sym ran.answer.2)
-    (status-few (all_differences limit (capture (stream_with [] ran.given) ended).lines))
-replay_status limit left_old left_new taken_old taken_new ended (Err fault) ran = tt
+    (status-few (all_differences limit (capture (stream_with [] ran.given) new.ended).lines))
+replay_status limit (Err fault) ran = tt

@@ -185,9 +185,9 @@ module _ (w : MessageWrites) (after : List MessageTree → Option Begun → Type
       }
 
 pub record_steps :
-    (w : MessageWrites) (stands after : List MessageTree → Option Begun → Type 0) (before now : RecordsState)
-    (count more : ℕ)
-    (past bytes behind text : List ℕ) (entry : Lent RecordContent) (a b : Out) (written : ℕ)
+    {w : MessageWrites} {stands : List MessageTree → Option Begun → Type 0}
+    (after : List MessageTree → Option Begun → Type 0) {before now : RecordsState} {count : ℕ} (more : ℕ)
+    {past bytes behind text : List ℕ} {entry : Lent RecordContent} (a b : Out) (written : ℕ)
     (result : Result Turn ToolFault)
     → length past + length bytes < 2 ^ 44 → (reading : IsReadingMessages w stands before count past text)
     → ReadsRecord before now reading.left bytes behind entry
@@ -200,7 +200,8 @@ pub record_steps :
     × (more ≡ length (messages ++ option_to_list message)))
     a b written (messages_text w (length messages) (option_to_list message)) result)
     → StepsOver w (IsReadingMessages w after now more) past bytes behind a b written text result
-record_steps w stands after before now count more past bytes behind text entry a b written result few reading r takes =
+record_steps {w} {stands} after {before} {now} {count} more {past} {bytes} {behind} {text} {entry} a b written result
+    few reading r takes =
     let found = reads_record before now past reading.messages reading.left bytes behind entry reading.cut r in
     let all = reading.messages ++ option_to_list found.0 in
     let front = found.2.0 in

@@ -45,18 +45,18 @@ telling_by d records r lines sample lines' sample' lines_are adds = (
 )
 
 pub telling_on :
-    (left : Option Begun) (text : List ℕ) (entry : Lent RecordContent) (lines sample lines' sample' : List ℕ)
+    {left : Option Begun} {text : List ℕ} {entry : Lent RecordContent} (lines : List ℕ) {sample lines' sample' : List ℕ}
     → IsTelling lines sample left → ComesNext left text entry
     → ((named : Option Repeats) → sample ≡ field_text entry.delimiters named
     → (lines' ≡ lines ++ result_line_of entry.delimiters named entry.content entry.content.kind)
     × (sample' ≡ field_text entry.delimiters (sample_after named entry.content entry.content.kind)))
     → IsTelling lines' sample' (with_record left entry)
-telling_on None text entry lines sample lines' sample' is comes adds =
+telling_on {left = None} {text} {entry} lines {sample} {lines'} {sample'} is comes adds =
     let step = adds None is.1 in
     telling_by entry.delimiters [] entry.content lines sample lines' sample' is.0
     (record { line = step.0; sample_is = step.1 })
-telling_on (Some begun) text entry lines sample lines' sample' is (header l good rec kind) adds = absurd cc
-telling_on (Some begun) text entry lines sample lines' sample' is (inner b l d rec placed) adds =
+telling_on {left = Some begun} lines is (header l good rec kind) adds = absurd cc
+telling_on {left = Some begun} {text} {entry} lines {sample} {lines'} {sample'} is (inner b l d rec placed) adds =
     let one : b ≡ begun = same b begun l in
     let marks : begun.delimiters ≡ entry.delimiters = ap (λ (x : Begun). x.delimiters) (sym one) ∙ sym d in
     let step = adds (sample_behind None begun.records)

@@ -14,7 +14,7 @@ use Rattle.lis_tool.specs.declared.report.Report.{Report}
 use Rattle.lis_tool.specs.Outcome.{Outcome, at_end, whole}
 use Rattle.lis_tool.specs.inside.Parts.{text_if_any}
 use Rattle.lis_tool.specs.Output.{WentOut}
-use Rattle.lis_tool.specs.Runs.{Ran, Shown, WroteOutcome, WroteText}
+use Rattle.lis_tool.specs.Runs.{RanOver, Seen, Shown, WroteOutcome, WroteText}
 use Rattle.lis_tool.specs.Show.{Shows, clean, frame_line, show, signal_line, signal_lines}
 use Rattle.lis_link.proofs.HearingLaws.{stream_with-append}
 
@@ -79,11 +79,9 @@ shown_more limit past more text is =
 
 -- what a run that shows tells of the text of the bytes
 pub shown_ran :
-    (limit : ℕ) (left_old left_new taken_old taken_new : Option (List ℕ)) (ended : Bool)
-    (result : Result Report ToolFault)
-    → Ran false (Shows limit) left_old left_new taken_old taken_new ended result
-    → Shown (show limit) left_old left_new taken_old taken_new result
-shown_ran limit left_old left_new taken_old taken_new ended result ran =
+    (limit : ℕ) (old new : Seen) (result : Result Report ToolFault) → RanOver false (Shows limit) old new result
+    → Shown (show limit) old new result
+shown_ran limit old new result ran =
     record { given = ran.given; read = ran.read; wrote = text_of result ran.wrote }
   where
     text_is : ran.outcome.text ≡ show limit ran.given
@@ -92,15 +90,15 @@ shown_ran limit left_old left_new taken_old taken_new ended result ran =
     whole_is : whole ran.outcome ≡ show limit ran.given
     whole_is = ap whole ran.meant ∙ append-nil (show limit ran.given)
 
-    text_of : (r : Result Report ToolFault) → WroteOutcome false r ran.outcome taken_old taken_new
-        → WroteText taken_old taken_new r (show limit ran.given)
-    text_of (Ok report) wrote = subst (λ (t : List ℕ). Appends taken_old taken_new t) whole_is wrote.1
-    text_of (Err Read) wrote = subst (λ (t : List ℕ). Appends taken_old taken_new t) text_is wrote.1
-    text_of (Err TooManyReads) wrote = subst (λ (t : List ℕ). Appends taken_old taken_new t) text_is wrote.1
+    text_of : (r : Result Report ToolFault) → WroteOutcome false r ran.outcome old.taken new.taken
+        → WroteText old.taken new.taken r (show limit ran.given)
+    text_of (Ok report) wrote = subst (λ (t : List ℕ). Appends old.taken new.taken t) whole_is wrote.1
+    text_of (Err Read) wrote = subst (λ (t : List ℕ). Appends old.taken new.taken t) text_is wrote.1
+    text_of (Err TooManyReads) wrote = subst (λ (t : List ℕ). Appends old.taken new.taken t) text_is wrote.1
     text_of (Err (Write written)) wrote =
-        (wrote.0, subst (λ (t : List ℕ). WentOut taken_old taken_new 0 written t wrote.0) whole_is wrote.1)
+        (wrote.0, subst (λ (t : List ℕ). WentOut old.taken new.taken 0 written t wrote.0) whole_is wrote.1)
     text_of (Err (CaptureLine line)) wrote = absurd
-        (no_line ended (sym (ap (λ (o : Outcome). o.halt) ran.meant) ∙ wrote.0))
+        (no_line new.ended (sym (ap (λ (o : Outcome). o.halt) ran.meant) ∙ wrote.0))
       where
         no_line : (e : Bool) → at_end e clean ≡ Some (Err (CaptureLine line)) → ⊥
         no_line true is = cc
@@ -112,14 +110,12 @@ shown_ran limit left_old left_new taken_old taken_new ended result ran =
 
 -- and of its status
 pub shown_status :
-    (limit : ℕ) (left_old left_new taken_old taken_new : Option (List ℕ)) (ended : Bool)
-    (result : Result Report ToolFault)
-    → Ran false (Shows limit) left_old left_new taken_old taken_new ended result
+    (limit : ℕ) (old new : Seen) (result : Result Report ToolFault) → RanOver false (Shows limit) old new result
     → IfOk result (λ report. report.status ≡ 0)
-shown_status limit left_old left_new taken_old taken_new ended (Ok report) ran =
-    status_of ended (sym (ap (λ (o : Outcome). o.halt) ran.meant) ∙ ran.wrote.0)
+shown_status limit old new (Ok report) ran =
+    status_of new.ended (sym (ap (λ (o : Outcome). o.halt) ran.meant) ∙ ran.wrote.0)
   where
     status_of : (e : Bool) → at_end e clean ≡ Some (Ok report) → report.status ≡ 0
     status_of true is = cc
     status_of false is = cc
-shown_status limit left_old left_new taken_old taken_new ended (Err fault) ran = tt
+shown_status limit old new (Err fault) ran = tt

@@ -5,8 +5,7 @@ use Rattle.lis_frame.specs.Stream.{stream_with}
 use Rattle.lis_capture.specs.declared.line.CaptureVersion.{CaptureVersion}
 use Rattle.lis_capture.specs.declared.line.CaptureVersion.TheVariants.{Untold, First, Second}
 use Rattle.lis_capture.specs.declared.line.Line.{Line}
-use Rattle.lis_capture.specs.declared.line.Line.TheVariants.{Empty, FromAnalyzer, FromComputer, Timer, Restart}
-use Rattle.lis_capture.specs.declared.line.Line.TheVariants.{SetReady, Version}
+use Rattle.lis_capture.specs.declared.line.Line.TheVariants.{Version}
 use Rattle.lis_capture.specs.Capture.{Lines, lines_of, version_of}
 use Rattle.lis_capture.specs.Spelling.{added_spelling, upgraded, upgraded_lines}
 use Rattle.lis_capture.proofs.SpellingLemmas.{AreRead-read_lines, capture-upgraded, upgraded-upgraded_lines}
@@ -17,26 +16,16 @@ use Rattle.lis_tool.specs.LineOutcome.{Writes, capture_outcome, lines_outcome, l
 use Rattle.lis_tool.specs.Outcome.{Outcome, whole}
 use Rattle.lis_tool.specs.Replay.{difference_count, played, played_line, replay_writes_from, text_count, texts}
 use Rattle.lis_tool.specs.Replay.{texts_writes}
-use Rattle.lis_tool.specs.Upgrade.{opening, upgrade, upgrade_writes, written_line}
+use Rattle.lis_tool.specs.Upgrade.{opening, upgrade, upgrade_writes}
 
 -- ---- what `upgrade` writes
-
-written-added : (line : Line) → written_line line ≡ added_spelling line
-written-added Empty = refl
-written-added (FromAnalyzer bytes) = refl
-written-added (FromComputer bytes) = refl
-written-added Timer = refl
-written-added Restart = refl
-written-added (SetReady readiness) = refl
-written-added Version = refl
 
 written-upgraded : (lines : List Line) → lines_text upgrade_writes lines ++ opening lines ≡ upgraded lines
 written-upgraded [] = refl
 written-upgraded (line ∷ lines) =
-    append-nil (lines_text upgrade_writes lines ++ (opening lines ++ written_line line))
-    ∙ sym (append_assoc (lines_text upgrade_writes lines) (opening lines) (written_line line))
-    ∙ ap (λ (t : List ℕ). t ++ written_line line) (written-upgraded lines)
-    ∙ ap (λ (t : List ℕ). upgraded lines ++ t) (written-added line)
+    append-nil (lines_text upgrade_writes lines ++ (opening lines ++ added_spelling line))
+    ∙ sym (append_assoc (lines_text upgrade_writes lines) (opening lines) (added_spelling line))
+    ∙ ap (λ (t : List ℕ). t ++ added_spelling line) (written-upgraded lines)
 
 -- ---- what is played of lines behind that of the version
 

@@ -10,6 +10,7 @@ use Rattle.lis_tool.specs.declared.report.Report.{Report}
 use Rattle.lis_tool.specs.LineOutcome.{Writes, lines_outcome, lines_text}
 use Rattle.lis_tool.specs.Outcome.{whole}
 use Rattle.lis_tool.specs.Output.{WentOut}
+use Rattle.lis_tool.specs.Runs.{Seen}
 
 -- A report is answered only where the input was read to its end and no line is refused; then the text of all lines
 -- and the closing lines went out. The number of a line is answered only where it is the first that is refused; then
@@ -36,8 +37,8 @@ LineAnswer takes_memory w read ended (Err OutOfMemory) old new =
 
 -- all the bytes that were read, and the answer by their lines
 pub record CaptureRan
-    (takes_memory : Bool) (w : Writes) (left_old left_new taken_old taken_new : Option (List ℕ)) (ended : Bool)
-    (result : Result Report ToolFault) : Type 0 where
+    (takes_memory : Bool) (w : Writes) (old new : Seen) (result : Result Report ToolFault) : Type 0 where
   pub given : List ℕ
-  pub read : Consumes left_old left_new given
-  pub answer : LineAnswer takes_memory w (capture (stream_with [] given) ended) ended result taken_old taken_new
+  pub read : Consumes old.left new.left given
+  pub answer :
+      LineAnswer takes_memory w (capture (stream_with [] given) new.ended) new.ended result old.taken new.taken

@@ -8,6 +8,7 @@ use Rattle.lis_tool.specs.declared.report.Report.{Report}
 use Rattle.lis_tool.specs.Messages.{MessageWrites, HasOutcome}
 use Rattle.lis_tool.specs.Outcome.{Outcome, whole}
 use Rattle.lis_tool.specs.Output.{WentOut}
+use Rattle.lis_tool.specs.Runs.{Seen}
 
 -- A report is that of the bytes, and all of their text went out, with the closing lines. Where the source failed or
 -- was read too often no record is refused, and the text of the whole messages went out. Where the sink failed as much
@@ -28,9 +29,7 @@ MessageAnswer w given ended (Err OutOfMemory) old new =
 MessageAnswer w given ended (Err (CaptureLine line)) old new = ⊥
 
 -- all the bytes that were read, and the answer by their messages
-pub record MessagesRan
-    (w : MessageWrites) (left_old left_new taken_old taken_new : Option (List ℕ)) (ended : Bool)
-    (result : Result Report ToolFault) : Type 0 where
+pub record MessagesRan (w : MessageWrites) (old new : Seen) (result : Result Report ToolFault) : Type 0 where
   pub given : List ℕ
-  pub read : Consumes left_old left_new given
-  pub answer : MessageAnswer w given ended result taken_old taken_new
+  pub read : Consumes old.left new.left given
+  pub answer : MessageAnswer w given new.ended result old.taken new.taken

@@ -16,6 +16,20 @@ pub record IsFresh (made : ℕ) (ended source_failed sink_failed : Bool) : Type 
   pub not_failed : source_failed ≡ false
   pub working : sink_failed ≡ false
 
+-- What is known of a source and a sink: what the source has left, the reads made, and whether it told the end or
+-- failed; what the sink took and sent on, and whether it failed.
+pub record Seen : Type 0 where
+  pub left : Option (List ℕ)
+  pub made : ℕ
+  pub ended : Bool
+  pub source_failed : Bool
+  pub taken : Option (List ℕ)
+  pub sent : Option (List ℕ)
+  pub sink_failed : Bool
+
+abbrev pub AreFresh : Seen → Type 0
+AreFresh seen = IsFresh seen.made seen.ended seen.source_failed seen.sink_failed
+
 -- what went out of an outcome's text: with a report all of it; where a line is refused, or the source failed or was
 -- read too often, all but the closing lines; where the sink failed as much as is told; and where memory was refused a
 -- part without the closing lines
@@ -40,6 +54,11 @@ pub record Ran
   pub outcome : Outcome
   pub meant : means given ended outcome
   pub wrote : WroteOutcome takes_memory result outcome taken_old taken_new
+
+abbrev pub RanOver : (takes_memory : Bool) (means : List ℕ → Bool → Outcome → Type 0) (old new : Seen)
+    → Result Report ToolFault → Type 0
+RanOver takes_memory means old new result =
+    Ran takes_memory means old.left new.left old.taken new.taken new.ended result
 
 -- A report is answered where the source told the end. A command that may refuse a record answers before that too, but
 -- only where it did.
@@ -85,16 +104,16 @@ pub record StopsBy
   pub all_read : ended ≡ true → IsAtEnd left
   pub bounded : made ≤ reads
 
--- the same of a command that never refuses a record: a report is answered only where the source told the end
-abbrev pub Stops :
-    (closes : Bool) → Result Report ToolFault → Option (List ℕ) → (ended source_failed : Bool) → (made : ℕ)
-    → (taken sent : Option (List ℕ)) → (sink_failed : Bool) → (reads : ℕ) → Type 0
-Stops closes result left ended source_failed made taken sent sink_failed reads =
-    StopsBy false closes result left ended source_failed made taken sent sink_failed reads
-
 -- each read but the last gave a byte at least: so more reads than were allowed come of a long input alone
 abbrev pub EachGave : Option (List ℕ) → Option (List ℕ) → (made : ℕ) → Type 0
 EachGave left_old left_new made = (given : List ℕ) × Consumes left_old left_new given × (made ≤ length given + 1)
+
+-- how a run stops by what was known of the source and the sink before it and is known behind it
+pub record Stops (refuses closes : Bool) (old new : Seen) (reads : ℕ) (result : Result Report ToolFault) : Type 0 where
+  pub stops :
+      StopsBy refuses closes result new.left new.ended new.source_failed new.made new.taken new.sent new.sink_failed
+      reads
+  pub each_gave : EachGave old.left new.left new.made
 
 -- what went out for the bytes that were read, by a command that never refuses a line nor wants memory: all of their
 -- text, or as much as is told where the sink failed
@@ -107,8 +126,7 @@ WroteText old new (Err (CaptureLine line)) text = ⊥
 WroteText old new (Err OutOfMemory) text = ⊥
 
 -- the bytes that were read, and what went out for them
-pub record Shown (text_of : List ℕ → List ℕ) (left_old left_new taken_old taken_new : Option (List ℕ))
-    (result : Result Report ToolFault) : Type 0 where
+pub record Shown (text_of : List ℕ → List ℕ) (old new : Seen) (result : Result Report ToolFault) : Type 0 where
   pub given : List ℕ
-  pub read : Consumes left_old left_new given
-  pub wrote : WroteText taken_old taken_new result (text_of given)
+  pub read : Consumes old.left new.left given
+  pub wrote : WroteText old.taken new.taken result (text_of given)

@@ -3,15 +3,10 @@ use Rattle.std.specs.Prelude.{ℕ, Bool, List, [], ◌∷◌, ◌++◌, true, fa
 use Rattle.lis_frame.specs.Stream.{stream_with}
 use Rattle.lis_capture.specs.declared.line.Line.{Line}
 use Rattle.lis_capture.specs.declared.line.Line.TheVariants.{Version}
-use Rattle.lis_capture.specs.Spelling.{line_spelling}
+use Rattle.lis_capture.specs.Spelling.{added_spelling, line_spelling}
 use Rattle.lis_tool.specs.LineOutcome.{Writes, capture_outcome}
 use Rattle.lis_tool.specs.Outcome.{whole}
 use Rattle.lis_tool.specs.Show.{clean}
-
--- a line as it is written; the version stands in front alone
-abbrev pub written_line : Line → List ℕ
-written_line Version = []
-written_line line = line_spelling line
 
 -- the version stands before the first line, and alone where there is none
 abbrev pub opening : List Line → List ℕ
@@ -20,7 +15,7 @@ opening (line ∷ lines) = []
 
 abbrev pub upgrade_writes : Writes
 upgrade_writes =
-    record { line = λ lines line. opening lines ++ written_line line; last = opening; report = λ lines. clean }
+    record { line = λ lines line. opening lines ++ added_spelling line; last = opening; report = λ lines. clean }
 
 -- all that is written of a capture
 abbrev pub upgrade : List ℕ → List ℕ

@@ -5,20 +5,20 @@ ghost use Rattle.lis_tool.specs.Check.{IsChecking, check_writes, finding_count, 
 ghost use Rattle.lis_tool.specs.Check.{record_line, refused_line};
 ghost use Rattle.lis_tool.specs.MessageRuns.{MessagesRan};
 ghost use Rattle.lis_tool.specs.Messages.{report_after};
-ghost use Rattle.lis_tool.specs.Runs.{EachGave, IsFresh, StopsBy};
+ghost use Rattle.lis_tool.specs.Runs.{AreFresh, Stops};
 ghost use Rattle.lis_tree.specs.Tree.{MessageTree};
 
 use crate::fault::ToolFault;
 use crate::gather::{append_number, make_room};
 use crate::held_text::HeldText;
-use crate::machine::{Halt, run};
-use crate::messages::{MessageMachine, Messages};
-use crate::report::{Refused, Report, printed_reason};
+use crate::messages::{Closing, MessageMachine, run_messages};
+use crate::ports::SourceFor;
+use crate::report::{Ended, Refused, Report, printed_reason};
 use crate::tell::{Counts, Part, Tell};
 use lis_capture::Page;
 use lis_field::Kind;
 use lis_message::{LentRecord, MessageFault};
-use lis_port::{Sink, Source};
+use lis_port::Sink;
 use lis_tree::{Finding, Numbering};
 use std::alloc::{AllocError, Global};
 
@@ -30,21 +30,18 @@ const FIRST_ROOM: usize = 60;
 /// and the reason; and a last line with the sums. The status is 1 where there is a finding or a refusal.
 ///
 /// The source was never read, and neither it nor the sink has failed.
-pub fn run_check<R: Source, W: Sink>(
+pub fn run_check<R: SourceFor<W>, W: Sink>(
     alloc: Global,
     source: &mut R,
     sink: &mut W,
     reads: u32,
-) -> Result<Report, ToolFault>
-    requires { IsFresh (R.made source.old) (R.ended source.old) (R.failed source.old) (W.failed sink.old) }
-    ensures ran { MessagesRan check_writes (R.left source.old) (R.left source.new) (W.taken sink.old)
-        (W.taken sink.new) (R.ended source.new) result }
-    ensures stops { StopsBy true true result (R.left source.new) (R.ended source.new) (R.failed source.new)
-        (R.made source.new) (W.taken sink.new) (W.sent sink.new) (W.failed sink.new) reads }
-    ensures each_gave { EachGave (R.left source.old) (R.left source.new) (R.made source.new) }
+) -> Ended
+    requires { AreFresh (R.seen source.old sink.old) }
+    ensures ran { MessagesRan check_writes (R.seen source.old sink.old) (R.seen source.new sink.new) result }
+    ensures stops { Stops true true (R.seen source.old sink.old) (R.seen source.new sink.new) reads result }
     ensures status { IfOk result (λ report. report.status ≤ 1) }
 {
-    run(Messages::new(alloc, Check::new(alloc)), source, sink, reads)
+    run_messages(alloc, Check::new(alloc), source, sink, reads)
 }
 
 /// What waits of a message that isn't whole: the lines of its records, and those of its findings.
@@ -113,14 +110,7 @@ impl MessageMachine for Check {
         result
     }
 
-    fn end<W: Sink>(
-        &self,
-        sink: &mut W,
-        page: &mut Page,
-        written: u64,
-        before: u64,
-        fault: Option<MessageFault>,
-    ) -> Result<Halt, ToolFault> {
+    fn closing(&self, before: u64, fault: Option<MessageFault>) -> Closing {
         let sums = Counts {
             word: b"messages ",
             count: before,
@@ -128,12 +118,9 @@ impl MessageMachine for Check {
             other_count: self.told,
         };
         let report = Report::behind(before, self.told > 0, fault);
-        match (report.refused, sums).tell(sink, page, written) {
-            Ok(written) => Ok(Halt {
-                written,
-                result: Ok(report),
-            }),
-            Err(fault) => Err(fault),
+        Closing {
+            report,
+            lines: (report.refused, Some(sums)),
         }
     }
 }

@@ -14,7 +14,7 @@ use lis_capture::Page;
 use lis_port::{Failed, Sink, Source, read_sent};
 
 /// The bytes that are turned into digits at a time.
-const CHUNK: usize = 1024;
+pub(crate) const CHUNK: usize = 1024;
 
 /// The room for a number in decimal digits.
 pub(crate) const NUMBER_ROOM: usize = 40;
@@ -136,35 +136,9 @@ pub(crate) fn append_number(page: &mut Page, number: u64)
     page.append(buffer.format(number).as_bytes());
 }
 
-/// Gathers the pairs of hexadecimal digits of bytes.
+/// Gathers the pairs of hexadecimal digits of a chunk of bytes.
 #[inline(always)]
-pub(crate) fn gather_digits<W: Sink>(
-    sink: &mut W,
-    page: &mut Page,
-    written: u64,
-    bytes: &[u8],
-) -> Result<u64, ToolFault>
-    requires { W.failed sink.old ≡ false }
-    ensures gathered { Gathered (out (W.taken sink.old) page.old) (out (W.taken sink.new) page.new) written result
-        (encode_lower bytes.now) }
-    ensures failed { W.failed sink.new ≡ is_err result }
-{
-    let mut rest = bytes;
-    let mut after = written;
-    while rest.len() > CHUNK {
-        let (front, left) = rest.split_at(CHUNK);
-        match gather_chunk(sink, page, after, front) {
-            Ok(next) => after = next,
-            Err(fault) => return Err(fault),
-        }
-        rest = left;
-    }
-    gather_chunk(sink, page, after, rest)
-}
-
-/// The same of a chunk of them.
-#[inline(always)]
-fn gather_chunk<W: Sink>(
+pub(crate) fn gather_chunk<W: Sink>(
     sink: &mut W,
     page: &mut Page,
     written: u64,

@@ -5,13 +5,17 @@ ghost use Rattle.lis_frame.specs.Stream.{stream_with};
 ghost use Rattle.lis_capture.specs.declared.line.Line.{Line as LineContent};
 ghost use Rattle.lis_capture.specs.Capture.{capture};
 ghost use Rattle.lis_capture.specs.Reader.{HasRead};
+ghost use Rattle.lis_tool.specs.CaptureRuns.{CaptureRan};
 ghost use Rattle.lis_tool.specs.LineOutcome.{IsLined, LineEnds, LineSteps, Writes, capture_outcome, lines_outcome};
 ghost use Rattle.lis_tool.specs.Outcome.{going};
 ghost use Rattle.lis_tool.specs.Output.{out};
+ghost use Rattle.lis_tool.specs.Runs.{AreFresh, Stops};
 ghost use Rattle.std.proofs.Common.{ap, sym, ◌∙◌};
 
 use crate::fault::ToolFault;
 use crate::machine::{Halt, Machine, Turn};
+use crate::ports::SourceFor;
+use crate::report::Ended;
 use lis_capture::{Found, Line, LineReader, MOST_BYTES, Page};
 use lis_port::Sink;
 
@@ -56,6 +60,21 @@ pub trait LineMachine: Drop {
             LineEnds (writes.report lines) (out (W.taken sink.old) page.old) (out (W.taken sink.new) page.new) written
             (writes.last lines) result }
         ensures failed { W.failed sink.new ≡ is_err result };
+}
+
+/// Runs a command over a capture: it takes the lines of what the source gives, by at most `reads` calls of read.
+pub(crate) fn run_lines<C: LineMachine, R: SourceFor<W>, W: Sink>(
+    command: C,
+    source: &mut R,
+    sink: &mut W,
+    reads: u32,
+) -> Ended
+    requires new { C.stands command [] }
+    requires fresh { AreFresh (R.seen source.old sink.old) }
+    ensures ran { CaptureRan C.takes_memory C.writes (R.seen source.old sink.old) (R.seen source.new sink.new) result }
+    ensures stops { Stops false true (R.seen source.old sink.old) (R.seen source.new sink.new) reads result }
+{
+    source.run(sink, Lines::new(command), reads)
 }
 
 /// A command over the lines of a capture, as one over its bytes.

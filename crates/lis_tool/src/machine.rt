@@ -13,7 +13,7 @@ ghost use Rattle.lis_tool.specs.declared.machine.Turn.TheVariants.{Off};
 use crate::fault::ToolFault;
 use crate::gather::{put_page, read_settled, send_page, send_page_before_a_wait};
 use crate::output::send;
-use crate::report::Report;
+use crate::report::Ended;
 use lis_capture::Page;
 use lis_port::{Failed, Sink, Source};
 
@@ -24,7 +24,7 @@ const ROOM: usize = 4096;
 #[derive(Clone, Copy)]
 pub struct Halt {
     pub written: u64,
-    pub result: Result<Report, ToolFault>,
+    pub result: Ended,
 }
 
 /// What becomes of a run after a step: it goes on, behind so many bytes, or halts.
@@ -95,7 +95,7 @@ pub fn run<M: Machine, R: Source, W: Sink>(
     source: &mut R,
     sink: &mut W,
     reads: u32,
-) -> Result<Report, ToolFault>
+) -> Ended
     requires new { M.stands machine [] [] }
     requires fresh { IsFresh (R.made source.old) (R.ended source.old) (R.failed source.old) (W.failed sink.old) }
     ensures ran { Ran M.takes_memory M.means (R.left source.old) (R.left source.new) (W.taken sink.old)
@@ -196,7 +196,7 @@ fn end_page<M: Machine, W: Sink>(
 }
 
 /// Sends on what went out, where the last step may have written, and answers how the run ended.
-fn halted<W: Sink>(sink: &mut W, halt: Halt, wrote: bool) -> Result<Report, ToolFault>
+fn halted<W: Sink>(sink: &mut W, halt: Halt, wrote: bool) -> Ended
     requires { W.failed sink.old ≡ false }
     ensures taken { Keeps (W.taken sink.old) (W.taken sink.new) }
     ensures told { IsTold halt result (W.failed sink.new) }

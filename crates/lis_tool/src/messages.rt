@@ -6,15 +6,20 @@ ghost use Rattle.std.specs.Option.{option_to_list};
 ghost use Rattle.lis_message.specs.Feeding.{StopsReading};
 ghost use Rattle.lis_message.specs.inside.Taking.{ComesNext, Completes, left_after, records_of};
 ghost use Rattle.lis_tool.specs.LineOutcome.{LineEnds, LineSteps};
+ghost use Rattle.lis_tool.specs.MessageRuns.{MessagesRan};
 ghost use Rattle.lis_tool.specs.Messages.{Comes, IsReadingMessages, IsShorter, MessageWrites, RefusesBy, StepsOver};
 ghost use Rattle.lis_tool.specs.Messages.{messages_text, reads_on, record_count, report_after, turn_after};
 ghost use Rattle.lis_tool.specs.Messages.{whole_begun, with_record};
 ghost use Rattle.lis_tool.specs.Output.{Gathered, out};
+ghost use Rattle.lis_tool.specs.Runs.{AreFresh, Stops};
 ghost use Rattle.lis_tree.specs.inside.Begun.{Begun};
 ghost use Rattle.lis_tree.specs.Tree.{MessageTree};
 
 use crate::fault::ToolFault;
 use crate::machine::{Halt, Machine, Turn};
+use crate::ports::SourceFor;
+use crate::report::{Ended, Refused, Report};
+use crate::tell::{Counts, Tell};
 use lis_capture::Page;
 use lis_field::Kind;
 use lis_message::{Found, LentRecord, MessageFault, Reason, RecordReader};
@@ -56,23 +61,36 @@ pub trait MessageMachine: Drop {
             record_count (messages ++ message ∷ []) < 2 ^ 44 → stands self.new (messages ++ message ∷ []) None }
         ensures failed { W.failed sink.new ≡ is_err result };
 
-    /// Takes the end behind so many messages: a record that is refused, or the end of the input.
-    fn end<W: Sink>(
-        &self,
-        sink: &mut W,
-        page: &mut Page,
-        written: u64,
-        before: u64,
-        fault: Option<MessageFault>,
-    ) -> Result<Halt, ToolFault>
-        requires { W.failed sink.old ≡ false }
-        ensures ends { (messages : List MessageTree) (left : Option Begun) → stands self.now messages left
-            → before ≡ length messages →
-            length messages < 2 ^ 44 →
-            LineEnds (report_after writes messages fault) (out (W.taken sink.old) page.old)
-            (out (W.taken sink.new) page.new) written
-            (writes.last messages fault) result }
-        ensures failed { W.failed sink.new ≡ is_err result };
+    /// What closes the run behind so many messages, at a record that is refused or at the end of the input.
+    fn closing(&self, before: u64, fault: Option<MessageFault>) -> Closing
+        ensures report { (messages : List MessageTree) (left : Option Begun) → stands self.now messages left
+            → before ≡ length messages → length messages < 2 ^ 44 → result.report ≡ report_after writes messages fault }
+        ensures lines { (messages : List MessageTree) (left : Option Begun) → stands self.now messages left
+            → before ≡ length messages → length messages < 2 ^ 44 →
+            ⟦<(Option<Refused>, Option<Counts>) as Tell>⟧.text result.lines ≡ writes.last messages fault };
+}
+
+/// What closes a run over record text: its report, and the lines that are written before it is answered.
+#[derive(Clone, Copy)]
+pub struct Closing {
+    pub(crate) report: Report,
+    pub(crate) lines: (Option<Refused>, Option<Counts>),
+}
+
+/// Runs a command over record text: it takes the messages of what the source gives, by at most `reads` calls of read.
+pub(crate) fn run_messages<C: MessageMachine, R: SourceFor<W>, W: Sink>(
+    alloc: Global,
+    command: C,
+    source: &mut R,
+    sink: &mut W,
+    reads: u32,
+) -> Ended
+    requires new { C.stands command [] None }
+    requires fresh { AreFresh (R.seen source.old sink.old) }
+    ensures ran { MessagesRan C.writes (R.seen source.old sink.old) (R.seen source.new sink.new) result }
+    ensures stops { Stops true true (R.seen source.old sink.old) (R.seen source.new sink.new) reads result }
+{
+    source.run(sink, Messages::new(alloc, command), reads)
 }
 
 /// A command, and how many messages it wrote.
@@ -121,7 +139,34 @@ impl<C: MessageMachine> Counted<C> {
         }
     }
 
-    /// The command takes the end at a record that is refused, or memory is.
+    /// The run ends behind the messages that the command wrote, at a record that is refused or at the end of the
+    /// input.
+    fn end<W: Sink>(
+        &self,
+        sink: &mut W,
+        page: &mut Page,
+        written: u64,
+        fault: Option<MessageFault>,
+    ) -> Result<Halt, ToolFault>
+        requires { W.failed sink.old ≡ false }
+        ensures ends { (messages : List MessageTree) (left : Option Begun)
+            → C.stands self.now.command messages left → self.now.count ≡ length messages → length messages < 2 ^ 44 →
+            LineEnds (report_after C.writes messages fault) (out (W.taken sink.old) page.old)
+            (out (W.taken sink.new) page.new) written
+            (C.writes.last messages fault) result }
+        ensures failed { W.failed sink.new ≡ is_err result }
+    {
+        let Closing { report, lines } = self.command.closing(self.count, fault);
+        match lines.tell(sink, page, written) {
+            Ok(written) => Ok(Halt {
+                written,
+                result: Ok(report),
+            }),
+            Err(fault) => Err(fault),
+        }
+    }
+
+    /// The run ends at a record that is refused, or memory is.
     #[inline(never)]
     fn refuse<W: Sink>(
         &self,
@@ -146,7 +191,7 @@ impl<C: MessageMachine> Counted<C> {
             });
         }
         let fault = Some(fault);
-        self.command.end(sink, page, written, self.count, fault)
+        self.end(sink, page, written, fault)
     }
 }
 
@@ -312,10 +357,9 @@ impl<C: MessageMachine> Machine for Messages<C> {
 
     fn end<W: Sink>(self, sink: &mut W, page: &mut Page, written: u64) -> Result<Halt, ToolFault> {
         let Messages { told, reader } = self;
-        let Counted { command, count } = told;
         match reader.finish() {
-            Ok(()) => command.end(sink, page, written, count, None),
-            Err(fault) => command.end(sink, page, written, count, Some(fault)),
+            Ok(()) => told.end(sink, page, written, None),
+            Err(fault) => told.end(sink, page, written, Some(fault)),
         }
     }
 

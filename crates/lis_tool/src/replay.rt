@@ -6,17 +6,17 @@ ghost use Rattle.lis_tool.specs.CaptureRuns.{CaptureRan};
 ghost use Rattle.lis_tool.specs.inside.Parts.{part_text};
 ghost use Rattle.lis_tool.specs.Output.{Gathered, out};
 ghost use Rattle.lis_tool.specs.Replay.{difference_line, digits_or_dash, replay_writes, text_line};
-ghost use Rattle.lis_tool.specs.Runs.{EachGave, IsFresh, Stops};
+ghost use Rattle.lis_tool.specs.Runs.{AreFresh, Stops};
 
 use crate::fault::ToolFault;
 use crate::gather::{append_number, make_room};
-use crate::lines::Lines;
-use crate::machine::run;
+use crate::lines::run_lines;
 use crate::playing::{InLines, Playing};
-use crate::report::Report;
+use crate::ports::SourceFor;
+use crate::report::Ended;
 use crate::tell::{Part, Tell};
 use lis_capture::Page;
-use lis_port::{Sink, Source};
+use lis_port::Sink;
 use std::alloc::Global;
 
 /// The room for the line of a text: its words and two numbers.
@@ -27,44 +27,34 @@ const TEXT_LINE_ROOM: usize = 100;
 /// out and each difference, and a last one their counts; the status is 1 where there is a difference.
 ///
 /// The source was never read, and neither it nor the sink has failed.
-pub fn run_replay_of<const N: usize, R: Source, W: Sink>(
+pub fn run_replay_of<const N: usize, R: SourceFor<W>, W: Sink>(
     alloc: Global,
     source: &mut R,
     sink: &mut W,
     reads: u32,
-) -> Result<Report, ToolFault>
+) -> Ended
     requires limit { IsLimit N }
-    requires fresh { IsFresh (R.made source.old) (R.ended source.old) (R.failed source.old) (W.failed sink.old) }
-    ensures ran { CaptureRan true (replay_writes N) (R.left source.old) (R.left source.new) (W.taken sink.old)
-        (W.taken sink.new) (R.ended source.new) result }
-    ensures stops { Stops true result (R.left source.new) (R.ended source.new) (R.failed source.new)
-        (R.made source.new) (W.taken sink.new) (W.sent sink.new) (W.failed sink.new) reads }
-    ensures each_gave { EachGave (R.left source.old) (R.left source.new) (R.made source.new) }
+    requires fresh { AreFresh (R.seen source.old sink.old) }
+    ensures ran { CaptureRan true (replay_writes N) (R.seen source.old sink.old) (R.seen source.new sink.new) result }
+    ensures stops { Stops false true (R.seen source.old sink.old) (R.seen source.new sink.new) reads result }
     ensures status { IfOk result (λ report. report.status ≤ 1) }
 {
-    run(
-        Lines::new(Playing::<N, InLines>::new(alloc, InLines)),
-        source,
-        sink,
-        reads,
-    )
+    let playing = Playing::<N, InLines>::new(alloc, InLines);
+    run_lines(playing, source, sink, reads)
 }
 
 /// The same with the usual limit of 240 bytes.
 ///
 /// The source was never read, and neither it nor the sink has failed.
-pub fn run_replay<R: Source, W: Sink>(
+pub fn run_replay<R: SourceFor<W>, W: Sink>(
     alloc: Global,
     source: &mut R,
     sink: &mut W,
     reads: u32,
-) -> Result<Report, ToolFault>
-    requires { IsFresh (R.made source.old) (R.ended source.old) (R.failed source.old) (W.failed sink.old) }
-    ensures ran { CaptureRan true (replay_writes 240) (R.left source.old) (R.left source.new) (W.taken sink.old)
-        (W.taken sink.new) (R.ended source.new) result }
-    ensures stops { Stops true result (R.left source.new) (R.ended source.new) (R.failed source.new)
-        (R.made source.new) (W.taken sink.new) (W.sent sink.new) (W.failed sink.new) reads }
-    ensures each_gave { EachGave (R.left source.old) (R.left source.new) (R.made source.new) }
+) -> Ended
+    requires { AreFresh (R.seen source.old sink.old) }
+    ensures ran { CaptureRan true (replay_writes 240) (R.seen source.old sink.old) (R.seen source.new sink.new) result }
+    ensures stops { Stops false true (R.seen source.old sink.old) (R.seen source.new sink.new) reads result }
     ensures status { IfOk result (λ report. report.status ≤ 1) }
 {
     run_replay_of::<240, R, W>(alloc, source, sink, reads)

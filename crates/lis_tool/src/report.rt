@@ -5,6 +5,7 @@ ghost use Rattle.lis_tool.specs.Codes.{printed_reason};
 ghost use Rattle.lis_tool.specs.Messages.{MessageWrites, report_after};
 ghost use Rattle.lis_tree.specs.Tree.{MessageTree};
 
+use crate::fault::ToolFault;
 use lis_message::{MessageFault, Reason, RecordFault};
 use std::fmt;
 
@@ -32,6 +33,9 @@ pub struct Report {
     /// What was refused; none for a command that takes no records.
     pub refused: Option<Refused>,
 }
+
+/// How a run ended: with its report, or by a fault.
+pub type Ended = Result<Report, ToolFault>;
 
 impl Report {
     /// The report of a run that read its input to the end, by whether it found something to look at.

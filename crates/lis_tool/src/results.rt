@@ -7,19 +7,19 @@ ghost use Rattle.lis_tool.specs.MessageRuns.{MessagesRan};
 ghost use Rattle.lis_tool.specs.Messages.{report_after};
 ghost use Rattle.lis_tool.specs.Results.{IsTelling, field_text, fields_behind, result_line, results_writes};
 ghost use Rattle.lis_tool.specs.Results.{told_fields};
-ghost use Rattle.lis_tool.specs.Runs.{EachGave, IsFresh, StopsBy};
+ghost use Rattle.lis_tool.specs.Runs.{AreFresh, Stops};
 ghost use Rattle.lis_tree.specs.Tree.{MessageTree};
 
 use crate::fault::ToolFault;
 use crate::held_text::HeldText;
-use crate::machine::{Halt, run};
-use crate::messages::{MessageMachine, Messages};
-use crate::report::Report;
+use crate::messages::{Closing, MessageMachine, run_messages};
+use crate::ports::SourceFor;
+use crate::report::{Ended, Report};
 use crate::tell::{Part, Tell};
 use lis_capture::Page;
 use lis_field::Kind;
 use lis_message::{LentRecord, MessageFault};
-use lis_port::{Sink, Source};
+use lis_port::Sink;
 use std::alloc::{AllocError, Global};
 
 /// Reads record text and writes a line for each result record: field 3 of its order, and its own fields 3 to 7 and 9,
@@ -27,26 +27,18 @@ use std::alloc::{AllocError, Global};
 /// message; the lines of the whole messages before it are written.
 ///
 /// The source was never read, and neither it nor the sink has failed.
-pub fn run_results<R: Source, W: Sink>(
+pub fn run_results<R: SourceFor<W>, W: Sink>(
     alloc: Global,
     source: &mut R,
     sink: &mut W,
     reads: u32,
-) -> Result<Report, ToolFault>
-    requires { IsFresh (R.made source.old) (R.ended source.old) (R.failed source.old) (W.failed sink.old) }
-    ensures ran { MessagesRan results_writes (R.left source.old) (R.left source.new) (W.taken sink.old)
-        (W.taken sink.new) (R.ended source.new) result }
-    ensures stops { StopsBy true true result (R.left source.new) (R.ended source.new) (R.failed source.new)
-        (R.made source.new) (W.taken sink.new) (W.sent sink.new) (W.failed sink.new) reads }
-    ensures each_gave { EachGave (R.left source.old) (R.left source.new) (R.made source.new) }
+) -> Ended
+    requires { AreFresh (R.seen source.old sink.old) }
+    ensures ran { MessagesRan results_writes (R.seen source.old sink.old) (R.seen source.new sink.new) result }
+    ensures stops { Stops true true (R.seen source.old sink.old) (R.seen source.new sink.new) reads result }
     ensures status { IfOk result (λ report. report.status ≤ 1) }
 {
-    run(
-        Messages::new(alloc, Results::new(alloc)),
-        source,
-        sink,
-        reads,
-    )
+    run_messages(alloc, Results::new(alloc), source, sink, reads)
 }
 
 /// What waits of a message that isn't whole: the lines of its results, and the sample that its last order names.
@@ -99,18 +91,11 @@ impl MessageMachine for Results {
         result
     }
 
-    fn end<W: Sink>(
-        &self,
-        _sink: &mut W,
-        _page: &mut Page,
-        written: u64,
-        before: u64,
-        fault: Option<MessageFault>,
-    ) -> Result<Halt, ToolFault> {
-        Ok(Halt {
-            written,
-            result: Ok(Report::behind(before, false, fault)),
-        })
+    fn closing(&self, before: u64, fault: Option<MessageFault>) -> Closing {
+        Closing {
+            report: Report::behind(before, false, fault),
+            lines: (None, None),
+        }
     }
 }
 

@@ -2,18 +2,18 @@
 
 ghost use Rattle.std.specs.Prelude.{◌≡◌, ◌≤◌, false, IfOk};
 ghost use Rattle.lis_tool.specs.Commands.{CommandRan, closes, refuses};
-ghost use Rattle.lis_tool.specs.Runs.{EachGave, IsFresh, StopsBy};
+ghost use Rattle.lis_tool.specs.Runs.{AreFresh, Stops};
 
 use crate::check::run_check;
 use crate::commands::Command;
-use crate::fault::ToolFault;
+use crate::ports::SourceFor;
 use crate::replay::{run_replay, run_replay_of};
-use crate::report::Report;
+use crate::report::Ended;
 use crate::results::run_results;
 use crate::show::{run_show, run_show_of};
 use crate::texts::{run_texts, run_texts_of};
 use crate::upgrade::run_upgrade;
-use lis_port::{Sink, Source};
+use lis_port::Sink;
 use std::alloc::Global;
 
 /// Runs a command from the source to the sink, by at most `reads` calls of read; with `long` for
@@ -21,19 +21,17 @@ use std::alloc::Global;
 /// function.
 ///
 /// The source was never read, and neither it nor the sink has failed.
-pub fn run_command<R: Source, W: Sink>(
+pub fn run_command<R: SourceFor<W>, W: Sink>(
     alloc: Global,
     command: Command,
     source: &mut R,
     sink: &mut W,
     reads: u32,
-) -> Result<Report, ToolFault>
-    requires { IsFresh (R.made source.old) (R.ended source.old) (R.failed source.old) (W.failed sink.old) }
-    ensures ran { CommandRan command (R.left source.old) (R.left source.new) (W.taken sink.old) (W.taken sink.new)
-        (R.ended source.new) result }
-    ensures stops { StopsBy (refuses command) (closes command) result (R.left source.new) (R.ended source.new)
-        (R.failed source.new) (R.made source.new) (W.taken sink.new) (W.sent sink.new) (W.failed sink.new) reads }
-    ensures each_gave { EachGave (R.left source.old) (R.left source.new) (R.made source.new) }
+) -> Ended
+    requires { AreFresh (R.seen source.old sink.old) }
+    ensures ran { CommandRan command (R.seen source.old sink.old) (R.seen source.new sink.new) result }
+    ensures stops { Stops (refuses command) (closes command) (R.seen source.old sink.old) (R.seen source.new sink.new)
+        reads result }
     ensures status { IfOk result (λ report. report.status ≤ 1) }
 {
     match command {
@@ -42,13 +40,9 @@ pub fn run_command<R: Source, W: Sink>(
         Command::Check => run_check(alloc, source, sink, reads),
         Command::Results => run_results(alloc, source, sink, reads),
         Command::Replay { long: false } => run_replay(alloc, source, sink, reads),
-        Command::Replay { long: true } => {
-            run_replay_of::<63_993, R, W>(alloc, source, sink, reads)
-        }
+        Command::Replay { long: true } => run_replay_of::<63_993, R, W>(alloc, source, sink, reads),
         Command::Texts { long: false } => run_texts(alloc, source, sink, reads),
-        Command::Texts { long: true } => {
-            run_texts_of::<63_993, R, W>(alloc, source, sink, reads)
-        }
+        Command::Texts { long: true } => run_texts_of::<63_993, R, W>(alloc, source, sink, reads),
         Command::Upgrade => run_upgrade(source, sink, reads),
     }
 }

@@ -7,7 +7,7 @@ ghost use Rattle.lis_frame.specs.Scanner.{StandsFor};
 ghost use Rattle.lis_frame.specs.Stream.{signal_after, signals_after, stream_with, with_signal};
 ghost use Rattle.lis_capture.specs.declared.page.TheConstants.{PAGE_ROOM};
 ghost use Rattle.lis_tool.specs.Output.{Gathered, most_counted, out};
-ghost use Rattle.lis_tool.specs.Runs.{EachGave, IsFresh, Ran, Shown, Stops};
+ghost use Rattle.lis_tool.specs.Runs.{AreFresh, RanOver, Shown, Stops};
 ghost use Rattle.lis_tool.specs.Show.{bad_line, digits_part, frame_line, frame_start, heard_line, Shows};
 ghost use Rattle.lis_tool.specs.Show.{show, signal_lines};
 ghost use Rattle.lis_tool.specs.Outcome.{going};
@@ -16,12 +16,13 @@ ghost use Rattle.std.proofs.Common.{ap};
 
 use crate::fault::ToolFault;
 use crate::gather::{append_number, make_room};
-use crate::machine::{Halt, Machine, Turn, run};
-use crate::report::Report;
+use crate::machine::{Halt, Machine, Turn};
+use crate::ports::SourceFor;
+use crate::report::{Ended, Report};
 use crate::tell::{Part, Tell};
 use lis_capture::Page;
 use lis_frame::{FrameFault, Heard, LentFrame, ScannerOf};
-use lis_port::{Sink, Source};
+use lis_port::Sink;
 
 /// The room that the beginning of a frame's line has: as far as the length of its text, and a space.
 const FRAME_ROOM: usize = 100;
@@ -33,41 +34,29 @@ const FRAME_ROOM: usize = 100;
 /// much of it as is told.
 ///
 /// The source was never read, and neither it nor the sink has failed.
-pub fn run_show_of<const N: usize, R: Source, W: Sink>(
+pub fn run_show_of<const N: usize, R: SourceFor<W>, W: Sink>(
     source: &mut R,
     sink: &mut W,
     reads: u32,
-) -> Result<Report, ToolFault>
+) -> Ended
     requires limit { IsLimit N }
-    requires fresh { IsFresh (R.made source.old) (R.ended source.old) (R.failed source.old) (W.failed sink.old) }
-    ensures ran { Ran false (Shows N) (R.left source.old) (R.left source.new) (W.taken sink.old) (W.taken sink.new)
-        (R.ended source.new) result }
-    ensures stops { Stops false result (R.left source.new) (R.ended source.new) (R.failed source.new)
-        (R.made source.new) (W.taken sink.new) (W.sent sink.new) (W.failed sink.new) reads }
-    ensures each_gave { EachGave (R.left source.old) (R.left source.new) (R.made source.new) }
-    ensures shown { Shown (show N) (R.left source.old) (R.left source.new) (W.taken sink.old) (W.taken sink.new)
-        result }
+    requires fresh { AreFresh (R.seen source.old sink.old) }
+    ensures ran { RanOver false (Shows N) (R.seen source.old sink.old) (R.seen source.new sink.new) result }
+    ensures stops { Stops false false (R.seen source.old sink.old) (R.seen source.new sink.new) reads result }
+    ensures shown { Shown (show N) (R.seen source.old sink.old) (R.seen source.new sink.new) result }
     ensures status { IfOk result (λ report. report.status ≡ 0) }
 {
-    run(Show::<N>::new(), source, sink, reads)
+    source.run(sink, Show::<N>::new(), reads)
 }
 
 /// The same with the usual limit.
 ///
 /// The source was never read, and neither it nor the sink has failed.
-pub fn run_show<R: Source, W: Sink>(
-    source: &mut R,
-    sink: &mut W,
-    reads: u32,
-) -> Result<Report, ToolFault>
-    requires { IsFresh (R.made source.old) (R.ended source.old) (R.failed source.old) (W.failed sink.old) }
-    ensures ran { Ran false (Shows 240) (R.left source.old) (R.left source.new) (W.taken sink.old) (W.taken sink.new)
-        (R.ended source.new) result }
-    ensures stops { Stops false result (R.left source.new) (R.ended source.new) (R.failed source.new)
-        (R.made source.new) (W.taken sink.new) (W.sent sink.new) (W.failed sink.new) reads }
-    ensures each_gave { EachGave (R.left source.old) (R.left source.new) (R.made source.new) }
-    ensures shown { Shown (show 240) (R.left source.old) (R.left source.new) (W.taken sink.old) (W.taken sink.new)
-        result }
+pub fn run_show<R: SourceFor<W>, W: Sink>(source: &mut R, sink: &mut W, reads: u32) -> Ended
+    requires { AreFresh (R.seen source.old sink.old) }
+    ensures ran { RanOver false (Shows 240) (R.seen source.old sink.old) (R.seen source.new sink.new) result }
+    ensures stops { Stops false false (R.seen source.old sink.old) (R.seen source.new sink.new) reads result }
+    ensures shown { Shown (show 240) (R.seen source.old sink.old) (R.seen source.new sink.new) result }
     ensures status { IfOk result (λ report. report.status ≡ 0) }
 {
     run_show_of::<240, R, W>(source, sink, reads)

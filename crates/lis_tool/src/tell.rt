@@ -1,11 +1,12 @@
 //! What has a text, and how it's gathered on a page.
 
 ghost use Rattle.std.specs.Prelude.{◌≡◌, ◌++◌, ◌∷◌, [], ℕ, List, codes, decimal, false, is_err};
+ghost use Rattle.hex.specs.Hex.{encode_lower};
 ghost use Rattle.lis_tool.specs.Output.{Gathered, out};
 ghost use Rattle.lis_tool.specs.inside.Parts.{joined, part_text, parts_text, text_if_any};
 
 use crate::fault::ToolFault;
-use crate::gather::{NUMBER_ROOM, append_number, gather_digits, make_room, put_page};
+use crate::gather::{CHUNK, NUMBER_ROOM, append_number, gather_chunk, make_room, put_page};
 use crate::output::put;
 use lis_capture::Page;
 use lis_port::Sink;
@@ -93,8 +94,34 @@ impl Tell for Part<'_> {
                 append_number(page, *number);
                 Ok(after)
             }
-            Part::Digits(bytes) => gather_digits(sink, page, written, bytes),
+            Part::Digits(bytes) => HexDigits { bytes: *bytes }.tell(sink, page, written),
         }
+    }
+}
+
+/// Bytes in pairs of hexadecimal digits.
+#[derive(Clone, Copy)]
+struct HexDigits<'a> {
+    bytes: &'a [u8],
+}
+
+/// A chunk of them at a time.
+impl Tell for HexDigits<'_> {
+    ghost text = { λ digits. encode_lower digits.bytes.now };
+
+    #[inline(always)]
+    fn tell<W: Sink>(&self, sink: &mut W, page: &mut Page, written: u64) -> Result<u64, ToolFault> {
+        let mut rest = self.bytes;
+        let mut after = written;
+        while rest.len() > CHUNK {
+            let (front, left) = rest.split_at(CHUNK);
+            match gather_chunk(sink, page, after, front) {
+                Ok(next) => after = next,
+                Err(fault) => return Err(fault),
+            }
+            rest = left;
+        }
+        gather_chunk(sink, page, after, rest)
     }
 }
 

@@ -2,39 +2,33 @@
 
 ghost use Rattle.std.specs.Prelude.{◌≡◌, ◌≤◌, ◌++◌, [], List, true, false, is_err, length, IfOk};
 ghost use Rattle.lis_capture.specs.declared.line.Line.{Line as LineContent};
-ghost use Rattle.lis_capture.specs.Spelling.{line_spelling};
+ghost use Rattle.lis_capture.specs.Spelling.{added_spelling};
 ghost use Rattle.lis_tool.specs.CaptureRuns.{CaptureRan};
 ghost use Rattle.lis_tool.specs.inside.Parts.{part_text, text_if_any};
-ghost use Rattle.lis_tool.specs.Runs.{EachGave, IsFresh, Stops};
-ghost use Rattle.lis_tool.specs.Upgrade.{is_begun, opening, upgrade_writes, written_line};
+ghost use Rattle.lis_tool.specs.Runs.{AreFresh, Stops};
+ghost use Rattle.lis_tool.specs.Upgrade.{is_begun, opening, upgrade_writes};
 
 use crate::fault::ToolFault;
 use crate::gather::make_room;
-use crate::lines::{LineMachine, Lines};
-use crate::machine::{Halt, Turn, run};
-use crate::report::Report;
+use crate::lines::{LineMachine, run_lines};
+use crate::machine::{Halt, Turn};
+use crate::ports::SourceFor;
+use crate::report::{Ended, Report};
 use crate::tell::{Part, Tell};
 use lis_capture::{LONGEST_SPELLING, Line, LineReader, MOST_BYTES, Page};
-use lis_port::{Sink, Source};
+use lis_port::Sink;
 
 /// Writes a capture as one of version 2: the line `capture 2`, and then each of its lines, with digits in
 /// lower case and without CR. Where a line is none, the lines before it are written. It takes no memory.
 ///
 /// The source was never read, and neither it nor the sink has failed.
-pub fn run_upgrade<R: Source, W: Sink>(
-    source: &mut R,
-    sink: &mut W,
-    reads: u32,
-) -> Result<Report, ToolFault>
-    requires { IsFresh (R.made source.old) (R.ended source.old) (R.failed source.old) (W.failed sink.old) }
-    ensures ran { CaptureRan false upgrade_writes (R.left source.old) (R.left source.new) (W.taken sink.old)
-        (W.taken sink.new) (R.ended source.new) result }
-    ensures stops { Stops true result (R.left source.new) (R.ended source.new) (R.failed source.new)
-        (R.made source.new) (W.taken sink.new) (W.sent sink.new) (W.failed sink.new) reads }
-    ensures each_gave { EachGave (R.left source.old) (R.left source.new) (R.made source.new) }
+pub fn run_upgrade<R: SourceFor<W>, W: Sink>(source: &mut R, sink: &mut W, reads: u32) -> Ended
+    requires { AreFresh (R.seen source.old sink.old) }
+    ensures ran { CaptureRan false upgrade_writes (R.seen source.old sink.old) (R.seen source.new sink.new) result }
+    ensures stops { Stops false true (R.seen source.old sink.old) (R.seen source.new sink.new) reads result }
     ensures status { IfOk result (λ report. report.status ≡ 0) }
 {
-    run(Lines::new(Upgrade::new()), source, sink, reads)
+    run_lines(Upgrade::new(), source, sink, reads)
 }
 
 /// Whether a line was read.
@@ -105,7 +99,7 @@ fn opening_behind(begun: bool) -> Option<Part<'static>>
 
 /// The text of a line; the version stands in front alone.
 impl Tell for Line<'_> {
-    ghost text = { written_line };
+    ghost text = { added_spelling };
 
     #[inline(always)]
     fn tell<W: Sink>(&self, sink: &mut W, page: &mut Page, written: u64) -> Result<u64, ToolFault> {

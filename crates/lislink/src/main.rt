@@ -5,7 +5,7 @@ ghost use Rattle.std.specs.Prelude.{◌≡◌, IfOk, OnErr};
 ghost use Rattle.std.specs.Process.{exit_status};
 
 use lis_port::{Buffered, Once, ReadAhead};
-use lis_tool::{Command, Report, ToolFault, command, run_command};
+use lis_tool::{Command, Ended, Report, ToolFault, command, run_command};
 use std::io::{self, BufReader, BufWriter};
 use std::process::ExitCode;
 use std::{env, mem};
@@ -50,7 +50,7 @@ fn tell_refused(rt: &HostRuntime, report: Report) {
 }
 
 /// The exit status for a run that ended so; why it stopped is told on standard error.
-fn told(rt: &HostRuntime, ended: Result<Report, ToolFault>) -> ExitCode
+fn told(rt: &HostRuntime, ended: Ended) -> ExitCode
     ensures report { IfOk ended (λ report. exit_status result ≡ report.status) }
     ensures fault { OnErr ended (exit_status result ≡ 3) }
 {

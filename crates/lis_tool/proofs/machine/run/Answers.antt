@@ -136,21 +136,19 @@ returns-in-Ok-Off-clause-stops g c =
     c.in-Ok-read_settled.ensures.failed (c.halted-in-Ok-Off.ensures.sent refl) (λ ended. cc)
     (omega (arith, c.in-Ok-read_settled.ensures.made, c.loop-turn.invariant.made, c.loop-turn-test.true))
 
-pub returns-in-Ok-Off-clause-each_gave : goal.returns-in-Ok-Off-clause-each_gave
-returns-in-Ok-Off-clause-each_gave g c =
-    gave c.loop-turn.invariant.so_far _ _ c.in-Ok-read_settled.ensures.bytes.0
-    (omega (arith, c.loop-turn.invariant.made, c.in-Ok-read_settled.ensures.made))
-
 pub returns-in-Err-feed_page-clause-ran : goal.returns-in-Err-feed_page-clause-ran
 returns-in-Err-feed_page-clause-ran g c =
     let s = c.loop-turn.invariant.so_far in
     let reading = c.in-Ok-read_settled.ensures in
-    let more = c.split_at.result.0.now in
-    let few : length s.bytes + length more < 2 ^ 44 = omega (arith, s.short) in
     fails_ran s g.M.Machine.takes_memory g.M.Machine.means
-    (read_more s _ reading.bytes.0 reading.ended c.in-Ok.ensures.gathered more c.split_at.ensures.front
+    (read_more s _ reading.bytes.0 reading.ended c.in-Ok.ensures.gathered _ c.split_at.ensures.front
     c.if-count-eq0.false)
-    c.in-Err-feed_page.fault (c.in-Err-feed_page.ensures.steps s.bytes s.text s.stood few)
+    c.in-Err-feed_page.fault (c.in-Err-feed_page.ensures.steps s.bytes s.text s.stood (omega (arith, s.short)))
+
+pub returns-in-Ok-Off-clause-each_gave : goal.returns-in-Ok-Off-clause-each_gave
+returns-in-Ok-Off-clause-each_gave g c =
+    gave c.loop-turn.invariant.so_far _ _ c.in-Ok-read_settled.ensures.bytes.0
+    (omega (arith, c.loop-turn.invariant.made, c.in-Ok-read_settled.ensures.made))
 
 pub returns-in-Err-feed_page-clause-each_gave : goal.returns-in-Err-feed_page-clause-each_gave
 returns-in-Err-feed_page-clause-each_gave g c =

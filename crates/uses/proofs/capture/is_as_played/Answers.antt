@@ -14,9 +14,9 @@ returns-in_err-report-clause-err c =
     let left : Option (List ℕ) = Some source.rest.now in
     let whole = c.new-source.ensures.left in
     let read = subst (λ (l : Option (List ℕ)). Consumes l left ran.given) whole ran.read in
-    let gave = subst (λ (l : Option (List ℕ)). EachGave l left source.made) whole c.in_err-report.ensures.each_gave in
+    let gave = subst (λ (l : Option (List ℕ)). EachGave l left source.made) whole stops.each_gave in
     let known =
     not_played _ c.args.capture.now ran.given left None None source.ended source.made c.in_err-report.field-0.0
-    read ran.answer stops.stopped stops.all_read gave in
+    read ran.answer stops.stops.stopped stops.stops.all_read gave in
     if_err _ _ c.from_residual.result c.from_residual.ensures.1
     (λ e gives. subst (WasNotPlayed c.args.capture.now) (sym gives) known)

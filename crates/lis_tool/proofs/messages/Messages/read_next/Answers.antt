@@ -24,25 +24,17 @@ returns-in-Err-clause-steps g c = λ past text reading few.
 
 pub returns-in-Record-clause-steps : goal.returns-in-Record-clause-steps
 returns-in-Record-clause-steps g c = λ past text reading few.
-    let told = c.args.self.now.told in
     rw c.as_turn.ensures.turn
-    (record_steps g.C.MessageMachine.writes (g.C.MessageMachine.stands told.command)
-    (g.C.MessageMachine.stands c.take.new.self.command)
-    c.args.self.now.reader c.read-found.new.self told.count c.take.new.self.count
-    past c.args.bytes.now c.read-found.result.0.now text c.in-Record.entry _ _ c.args.written
+    (record_steps (g.C.MessageMachine.stands c.take.new.self.command) c.take.new.self.count _ _ c.args.written
     (turn_after c.args.written c.take.result) few reading
     (rw c.in-Record.is at (c.read-found.ensures.read reading.left reading.has)) c.take.ensures.steps)
 
 pub returns-in-Some-clause-steps : goal.returns-in-Some-clause-steps
 returns-in-Some-clause-steps g c = λ past text reading few.
-    let told = c.args.self.now.told in
     let reads = rw c.in-Held.is at (c.read-found.ensures.read reading.left reading.has) in
     rw c.as_turn-in-Held.ensures.turn
-    (record_steps g.C.MessageMachine.writes (g.C.MessageMachine.stands told.command)
-    (g.C.MessageMachine.stands c.take-in-Held.new.self.command)
-    c.args.self.now.reader c.read-found.new.self told.count c.take-in-Held.new.self.count
-    past c.args.bytes.now c.read-found.result.0.now text c.in-Some.entry _ _ c.args.written
-    (turn_after c.args.written c.take-in-Held.result) few reading
+    (record_steps (g.C.MessageMachine.stands c.take-in-Held.new.self.command) c.take-in-Held.new.self.count _ _
+    c.args.written (turn_after c.args.written c.take-in-Held.result) few reading
     (cut_told c.args.self.now.reader c.read-found.new.self reading.left c.args.bytes.now c.read-found.result.0.now
     c.in-Some.entry reads c.in-Some.ensures)
     c.take-in-Held.ensures.steps)

@@ -12,38 +12,27 @@ where_ok (Err e) f p = tt
 
 pub returns-in-O : goal.returns-in-O
 returns-in-O c =
-    let self = c.args.self.now in
     let entry = c.args.entry.now in
     where_ok c.add_field.result
-    (λ added messages left text is comes few.
-    telling_on left text entry self.lines.bytes.items self.sample.bytes.items self.lines.bytes.items
-    c.add_field.new.self.bytes.items is comes
-    (λ named told. order_line entry.delimiters named entry.content entry.content.kind self.lines.bytes.items
-    c.add_field.new.self.bytes.items
+    (λ added messages left text is comes few. telling_on c.args.self.now.lines.bytes.items is comes
+    (λ named told. order_line entry.delimiters named entry.content entry.content.kind _ _
     (sym c.kind.ensures ∙ c.in-O.is)
     (added ∙ ap (λ (l : List ℕ). l ++ field_text entry.delimiters (field_at entry.content 3)) c.clear.ensures)))
     (rw c.again.ensures at c.add_field.ensures)
 
 pub returns-in-R : goal.returns-in-R
 returns-in-R c =
-    let self = c.args.self.now in
     let entry = c.args.entry.now in
     where_ok c.add_result.result
-    (λ added messages left text is comes few.
-    telling_on left text entry self.lines.bytes.items self.sample.bytes.items c.add_result.new.lines.bytes.items
-    self.sample.bytes.items is comes
-    (λ named told. result_added entry.delimiters named entry.content entry.content.kind self.lines.bytes.items
-    c.add_result.new.lines.bytes.items
-    self.sample.bytes.items (sym c.kind.ensures ∙ c.in-R.is) (added named (c.as_slice.ensures ∙ told)) told))
+    (λ added messages left text is comes few. telling_on c.args.self.now.lines.bytes.items is comes
+    (λ named told. result_added entry.delimiters named entry.content entry.content.kind _ _ _
+    (sym c.kind.ensures ∙ c.in-R.is) (added named (c.as_slice.ensures ∙ told)) told))
     c.add_result.ensures
 
 pub returns-in_default : goal.returns-in_default
 returns-in_default c = λ messages left text is comes few.
-    let self = c.args.self.now in
     let entry = c.args.entry.now in
-    telling_on left text entry self.lines.bytes.items self.sample.bytes.items self.lines.bytes.items
-    self.sample.bytes.items is comes
-    (λ named told. other_line entry.delimiters named entry.content entry.content.kind self.lines.bytes.items
-    self.sample.bytes.items
+    telling_on c.args.self.now.lines.bytes.items is comes
+    (λ named told. other_line entry.delimiters named entry.content entry.content.kind _ _
     (λ order. c.in_default.not-O (c.kind.ensures ∙ order)) (λ result. c.in_default.not-R (c.kind.ensures ∙ result))
     told)

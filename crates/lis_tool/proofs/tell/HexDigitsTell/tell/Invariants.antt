@@ -3,7 +3,7 @@ use Rattle.std.specs.declared.result.Result.{Result}
 use Rattle.lis_tool.specs.declared.fault.ToolFault.{ToolFault}
 use Rattle.hex.specs.Hex.{encode_lower}
 use Rattle.lis_tool.specs.Output.{Gathered, Out, out}
-use Rattle.lis_tool.proofs.gather.gather_digits.Given as goal
+use Rattle.lis_tool.proofs.tell.HexDigitsTell.tell.Given as goal
 
 -- whatever puts out the digits of the rest from here puts all out from the start
 abbrev pub invariant-loop-rest : goal.invariant-loop-rest
@@ -12,7 +12,7 @@ invariant-loop-rest g l = record {
   goes_on :
       (new : Out) (r : Result ℕ ToolFault) →
       Gathered (out (g.W.Sink.taken l.sink) l.page) new l.after r (encode_lower l.rest) →
-      Gathered (out (g.W.Sink.taken l.fn.sink) l.fn.page) new l.written r (encode_lower l.bytes);
+      Gathered (out (g.W.Sink.taken l.fn.sink) l.fn.page) new l.written r (encode_lower l.fn.self.bytes.now);
 }
 
 abbrev pub decreases-loop-rest : goal.decreases-loop-rest

@@ -3,7 +3,7 @@ use Rattle.hex.specs.Hex.{encode_lower}
 use Rattle.lis_capture.proofs.EncodeLemmas.{encode_lower-parts}
 use Rattle.lis_tool.specs.Output.{Gathered, out}
 use Rattle.lis_tool.proofs.GatherLaws.{gathered_stops, gathered_then}
-use Rattle.lis_tool.proofs.gather.gather_digits.Goals as goal
+use Rattle.lis_tool.proofs.tell.HexDigitsTell.tell.Goals as goal
 
 pub loop-rest-preserved : goal.loop-rest-preserved
 loop-rest-preserved g c =
