@@ -2,9 +2,13 @@
 import importlib.machinery
 import importlib.util
 import os
+import re
 import shutil
 import subprocess
 import sys
+
+# Where tests/archive puts the library for C, in the folder of its crate, and what stands there once it has ended.
+ARCHIVE, ARCHIVE_ENDED = "out/liblis_c.a", "out/archive.ended"
 
 
 def load(script):
@@ -26,3 +30,27 @@ def crates(rt, folder):
     os.chdir(folder)
     rt.rtlib.guarded()
     return rt.rtlib.crates_below(folder)
+
+
+class Gate:
+    """What rt ci has told so far of the crates that it proves; without a log all are proved."""
+
+    def __init__(self, log):
+        self.log = log
+
+    def told(self):
+        with open(self.log, encoding="utf-8", errors="replace") as it:
+            return it.read()
+
+    def has_proved(self, crates):
+        if not self.log or self.ended(failed="0"):
+            return True
+        proved = re.findall(r"^rt: (\w+) (?:proved$|is kept: )", self.told(), re.M)
+        return {it.name for it in crates} <= set(proved)
+
+    def ended(self, failed=r"\d+"):
+        """Whether its last line is told, with so many that failed."""
+        return bool(re.search(rf"^\d+ passed, {failed} failed$", self.told(), re.M))
+
+    def is_over(self):
+        return not self.log or self.ended()
