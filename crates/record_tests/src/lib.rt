@@ -4,7 +4,7 @@
 #![tactic(auto)]
 
 #[cfg(test)]
-mod field;
+mod faults;
 #[cfg(test)]
 mod memory;
 #[cfg(test)]
