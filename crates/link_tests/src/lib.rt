@@ -1,18 +1,18 @@
-//! Tests over the public calls of ports, texts, frames and the link: what no contract, no conformance row and no test
-//! of the programs says.
+//! Tests over the public calls of ports, texts, frames, the link and captures: what no contract, no conformance row and
+//! no test of the programs says.
 //! They stand in a crate of their own, as a crate that has tests is proved once more with them.
 #![tactic(auto)]
 
 #[cfg(test)]
 mod borrowed;
 #[cfg(test)]
+mod capture;
+#[cfg(test)]
+mod faults;
+#[cfg(test)]
 mod link_text;
 #[cfg(test)]
-mod list;
-#[cfg(test)]
 mod port;
-#[cfg(test)]
-mod receiving;
 #[cfg(test)]
 mod scanning;
 #[cfg(test)]

@@ -4,36 +4,23 @@ ghost use Rattle.lis_frame.specs.Limit.{IsLimit};
 use lis_frame::{FrameFault, Heard, ScannerOf};
 use std::process::Abort;
 
-/// What an observer writes down of a signal.
-#[derive(Debug, Clone, Copy, PartialEq, Eq)]
-enum Told {
-    Enq,
-    Eot,
-    Good {
-        number: u8,
-        last: bool,
-        length: usize,
-    },
-    Bad(FrameFault),
-}
+/// What an observer counts: the signals and the bytes of good frames' texts, beside the last fault.
+type Count = (usize, usize, Option<FrameFault>);
 
-fn heard_as(heard: &Heard<'_>) -> Told {
+/// The count behind one signal more.
+fn counted(count: Count, heard: &Heard<'_>) -> Count {
+    let (signals, bytes, fault) = count;
+    let signals = signals.saturating_add(1);
     match heard {
-        Heard::Enq => Told::Enq,
-        Heard::Eot => Told::Eot,
-        Heard::Good(frame) => Told::Good {
-            number: frame.number(),
-            last: frame.is_last(),
-            length: frame.text().len(),
-        },
-        Heard::Bad(fault) => Told::Bad(*fault),
+        Heard::Enq | Heard::Eot => (signals, bytes, fault),
+        Heard::Good(frame) => (signals, bytes.saturating_add(frame.text().len()), fault),
+        Heard::Bad(fault) => (signals, bytes, Some(*fault)),
     }
 }
 
-/// The last signal of bytes that are scanned in one piece, and how many there were.
-fn scanned<const N: usize>(scanner: &mut ScannerOf<N>, bytes: &[u8]) -> (Option<Told>, usize) {
-    let mut last = None;
-    let mut count = 0usize;
+/// The count behind bytes that are scanned in one piece.
+fn scanned<const N: usize>(scanner: &mut ScannerOf<N>, bytes: &[u8], before: Count) -> Count {
+    let mut count = before;
     let mut rest = bytes;
     // Each turn reads a byte at least.
     for _turn in 0..bytes.len() {
@@ -42,8 +29,7 @@ fn scanned<const N: usize>(scanner: &mut ScannerOf<N>, bytes: &[u8]) -> (Option<
         };
         let (read, frame) = scanner.scan(rest);
         if let Some(frame) = frame {
-            last = Some(heard_as(&Heard::Good(frame)));
-            count = count.saturating_add(1);
+            count = counted(count, &Heard::Good(frame));
         }
         if read > 0 {
             let (_, left) = rest.split_at(read);
@@ -51,13 +37,24 @@ fn scanned<const N: usize>(scanner: &mut ScannerOf<N>, bytes: &[u8]) -> (Option<
             continue;
         }
         if let Some(heard) = scanner.told(*byte) {
-            last = Some(heard_as(&heard));
-            count = count.saturating_add(1);
+            count = counted(count, &heard);
         }
         scanner.take(*byte);
         rest = behind;
     }
-    (last, count)
+    count
+}
+
+/// Fails where a new scanner tells otherwise of a stream, somewhere that it is cut in two.
+fn assert_cut<const N: usize>(rt: &impl Abort, stream: &[u8], want: Count)
+    requires { IsLimit N }
+{
+    for place in 0..stream.len() {
+        let (front, behind) = stream.split_at(place);
+        let mut scanner = ScannerOf::<N>::new();
+        let count = scanned(&mut scanner, front, (0, 0, None));
+        assert!(rt; scanned(&mut scanner, behind, count) == want);
+    }
 }
 
 /// A frame of 241 letters A, the last of its message, with number 1.
@@ -73,44 +70,13 @@ fn frame_of_241() -> [u8; 248] {
     bytes
 }
 
-/// What a new scanner tells of a stream that is cut in two.
-fn cut_at<const N: usize>(stream: &[u8], place: usize) -> (Option<Told>, usize)
-    requires limit { IsLimit N }
-    requires within { place ≤ length stream.now }
-{
-    let mut scanner = ScannerOf::<N>::new();
-    let (_, before) = scanned(&mut scanner, &stream[..place]);
-    let (last, behind) = scanned(&mut scanner, &stream[place..]);
-    (last, before.saturating_add(behind))
-}
-
-/// Fails where a stream tells otherwise somewhere that it is cut: with frames of up to 240 text bytes, and of 63,993.
-fn assert_cut(
-    rt: &impl Abort,
-    stream: &[u8],
-    usual: (Option<Told>, usize),
-    long: (Option<Told>, usize),
-) {
-    for place in 0..stream.len() {
-        assert!(rt; cut_at::<240>(stream, place) == usual);
-        assert!(rt; cut_at::<63_993>(stream, place) == long);
-    }
-}
-
 #[test]
 fn scanning_pieces_tells_what_the_stream_tells(rt: HostRuntime) {
-    let header = Told::Good {
-        number: 1,
-        last: true,
-        length: 6,
-    };
     let session = b"\x05noise\x02torn\x02\n\x021H|\\^&\r\x03e5\r\n";
-    assert_cut(&rt, session, (Some(header), 3), (Some(header), 3));
-    let long = Told::Good {
-        number: 1,
-        last: true,
-        length: 241,
-    };
-    let bad = Told::Bad(FrameFault::TooLong);
-    assert_cut(&rt, &frame_of_241(), (Some(bad), 1), (Some(long), 1));
+    let told = (3, 6, Some(FrameFault::Shape));
+    assert_cut::<240>(&rt, session, told);
+    assert_cut::<63_993>(&rt, session, told);
+    let long = frame_of_241();
+    assert_cut::<240>(&rt, &long, (1, 0, Some(FrameFault::TooLong)));
+    assert_cut::<63_993>(&rt, &long, (1, 241, None));
 }

@@ -5,7 +5,7 @@ ghost use Rattle.std.specs.Prelude.{None};
 use lis_link::{Outcome, Receiver};
 use lis_message::Message;
 use lis_port::Slow;
-use lis_text::{ACK, ENQ, EOT, NAK, Texts};
+use lis_text::{ACK, CR, ENQ, EOT, ETX, LF, NAK, STX, Texts};
 use lis_tool::ToolFault;
 use std::alloc::Global;
 use std::process::Abort;
@@ -61,75 +61,61 @@ impl Line for Scripted<'_> {
     }
 }
 
-/// Fails where a session with the text A ends otherwise on a line on which this happens, or where it sends other bytes
-/// or starts other timers.
-fn assert_sent(
-    rt: &impl Abort,
-    alloc: Global,
-    events: &[Event],
-    outcome: Outcome,
-    told: (&[u8], &[u32]),
-) -> Result<(), Fail> {
-    let texts = Texts::from_slices(alloc, &[b"A".as_slice()])?;
-    let mut line = Scripted::new(alloc, events);
-    assert!(rt; send_texts(&mut line, texts) == Ok(Some(outcome)));
+#[test]
+fn a_text_is_sent(rt: HostRuntime) -> Result<(), Fail> {
+    let texts = Texts::from_slices(rt.alloc(), &[b"A".as_slice()])?;
+    let mut line = Scripted::new(rt.alloc(), &[Event::Byte(ACK), Event::Byte(ACK)]);
+    assert!(rt; send_texts(&mut line, texts) == Ok(Some(Outcome::Done)));
+    let told = (SESSION, [15, 15].as_slice());
     assert!(rt; (line.sent.as_slice(), line.seconds.as_slice()) == told);
     Ok(())
 }
 
-#[test]
-fn a_text_is_sent(rt: HostRuntime) -> Result<(), Fail> {
-    let events = [Event::Byte(ACK), Event::Byte(ACK)];
-    let told = (SESSION, [15, 15].as_slice());
-    assert_sent(&rt, rt.alloc(), &events, Outcome::Done, told)
-}
+/// NAK, noise and the end of the wait behind NAK; ENQ and the end of the wait behind that; and no reply.
+const WAITS: [Event; 6] = [
+    Event::Byte(NAK),
+    Event::Byte(b'x'),
+    Event::Timer,
+    Event::Byte(ENQ),
+    Event::Timer,
+    Event::Timer,
+];
 
 #[test]
 fn each_wait_has_its_timer(rt: HostRuntime) -> Result<(), Fail> {
-    let events = [
-        Event::Byte(NAK),
-        Event::Byte(b'x'),
-        Event::Timer,
-        Event::Byte(ENQ),
-        Event::Timer,
-        Event::Timer,
-    ];
+    let texts = Texts::from_slices(rt.alloc(), &[b"A".as_slice()])?;
+    let mut line = Scripted::new(rt.alloc(), &WAITS);
+    assert!(rt; send_texts(&mut line, texts) == Ok(Some(Outcome::TimedOut)));
     let sent = [ENQ, ENQ, ENQ, EOT];
     let told = (sent.as_slice(), [15, 10, 15, 1, 15].as_slice());
-    assert_sent(&rt, rt.alloc(), &events, Outcome::TimedOut, told)
-}
-
-/// The bytes of a session, one event each.
-fn bytes_that_come(alloc: Global, bytes: &[u8]) -> Result<Vec<Event>, Fail> {
-    let mut events = Vec::new(alloc);
-    for byte in bytes {
-        events.push(Event::Byte(*byte))?;
-    }
-    Ok(events)
-}
-
-/// Fails where the next text isn't this one; none at the end of the session.
-fn assert_next(
-    rt: &impl Abort,
-    line: &mut Scripted<'_>,
-    receiver: &mut Receiver,
-    want: Option<&[u8]>,
-) {
-    let text = next_text(line, receiver);
-    assert!(rt; text.as_ref().map(|text| text.as_slice()) == want);
-}
-
-#[test]
-fn a_text_is_received(rt: HostRuntime) -> Result<(), Fail> {
-    let events = bytes_that_come(rt.alloc(), SESSION)?;
-    let mut line = Scripted::new(rt.alloc(), events.as_slice());
-    let mut receiver = Receiver::new(rt.alloc());
-    assert_next(&rt, &mut line, &mut receiver, Some(b"A"));
-    assert_next(&rt, &mut line, &mut receiver, None);
-    drop(receiver);
-    let told = ([ACK, ACK].as_slice(), [30, 30].as_slice());
     assert!(rt; (line.sent.as_slice(), line.seconds.as_slice()) == told);
     Ok(())
+}
+
+/// A line on which the bytes of the session come.
+const RECEIVED: [Event; 10] = [
+    Event::Byte(ENQ),
+    Event::Byte(STX),
+    Event::Byte(b'1'),
+    Event::Byte(b'A'),
+    Event::Byte(ETX),
+    Event::Byte(b'7'),
+    Event::Byte(b'5'),
+    Event::Byte(CR),
+    Event::Byte(LF),
+    Event::Byte(EOT),
+];
+
+#[test]
+fn a_text_is_received(rt: HostRuntime) {
+    let mut line = Scripted::new(rt.alloc(), &RECEIVED);
+    let mut receiver = Receiver::new(rt.alloc());
+    let text = next_text(&mut line, &mut receiver).expect(&rt, "a text");
+    let is_ended = next_text(&mut line, &mut receiver).is_none();
+    drop(receiver);
+    assert!(rt; text.as_slice() == b"A".as_slice() && is_ended);
+    let told = ([ACK, ACK].as_slice(), [30, 30].as_slice());
+    assert!(rt; (line.sent.as_slice(), line.seconds.as_slice()) == told);
 }
 
 /// The records of one result, of the sample S7.
@@ -148,21 +134,23 @@ fn assert_reading(rt: &impl Abort, found: &[Reading]) {
     let [reading] = found else {
         panic!(rt; "not one reading");
     };
-    let told = [&reading.sample, &reading.value, &reading.units].map(|text| text.as_slice());
-    let want: [&[u8]; 3] = [b"S7", b"5.4", b"mmol/L"];
-    assert!(rt; told == want);
+    let (sample, value) = (reading.sample.as_slice(), reading.value.as_slice());
+    assert!(rt; (sample, value) == (b"S7".as_slice(), b"5.4".as_slice()));
+    assert!(rt; reading.units.as_slice() == b"mmol/L".as_slice());
 }
 
-/// How many texts there are in a message of one result.
-fn count_texts(alloc: Global) -> Result<usize, Fail> {
-    let texts = result_texts(alloc, b"S7", b"5.4")?;
-    Ok(texts.len())
+#[test]
+fn a_message_has_a_text_for_each_record(rt: HostRuntime) -> Result<(), Fail> {
+    let texts = result_texts(rt.alloc(), b"S7", b"5.4")?;
+    let count = texts.len();
+    drop(texts);
+    assert!(rt; count == 5);
+    Ok(())
 }
 
 #[test]
 fn a_message_is_built_written_and_read(rt: HostRuntime) -> Result<(), Fail> {
     let alloc = rt.alloc();
-    assert!(rt; count_texts(alloc)? == 5);
     let message = result_message(alloc, b"S7", b"5.4")?;
     assert_written(&rt, &message);
     let found = readings(alloc, &message);

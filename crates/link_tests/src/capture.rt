@@ -1,0 +1,77 @@
+//! Captures whose lines are known from outside: how far each is read, however it is cut.
+
+ghost use Rattle.std.specs.Prelude.{◌≤◌};
+
+use lis_capture::*;
+
+/// The number of the last line of a capture that is read in pieces of at most `step` bytes, and whether it is refused.
+fn last_line(capture: &[u8], step: usize) -> (u64, bool)
+    requires { 1 ≤ step }
+{
+    let mut reader = LineReader::new();
+    for piece in capture.chunks(step) {
+        let mut rest = piece;
+        for _ in 0..=piece.len() {
+            let (taken, found) = reader.read(rest);
+            match found {
+                Found::Nothing => break,
+                Found::Line => {}
+                Found::Refused => return (reader.number(), true),
+            }
+            let (_, behind) = rest.split_at(taken);
+            rest = behind;
+        }
+    }
+    let is_refused = reader.finish() == Found::Refused;
+    (reader.number(), is_refused)
+}
+
+/// Captures, each with the number of the line that is refused, or of its last one.
+const CAPTURES: [(&[u8], (u64, bool)); 25] = [
+    (b"", (0, false)),
+    (b"T", (1, false)),
+    (b"T\r", (1, false)),
+    (b"T\n\r", (2, false)),
+    (b"> 05\n< 06\n\nT\n> aBcDeF09\r\n\r\nT\r\n", (7, false)),
+    (
+        b"capture 2\nS busy\n> 05\n< 15\nS ready\r\nR\nS contending\n",
+        (7, false),
+    ),
+    (b"capture 2\r\nR\r\n", (2, false)),
+    (b"R\n", (1, true)),
+    (b"capture 3\n", (1, true)),
+    (b"> 05\ncapture 2\n", (2, true)),
+    (b"\ncapture 2\n", (2, true)),
+    (b"capture 2\ncapture 2\n", (2, true)),
+    (b"capture 2\nS off\n", (2, true)),
+    (b"> 05\n< 06\nS ready\nT\n", (3, true)),
+    (b"> 05\n\n\n> 5\n> 05\n", (4, true)),
+    (b"> 05\n< 0", (2, true)),
+    (b"> \n", (1, true)),
+    (b">\n", (1, true)),
+    (b">05\n", (1, true)),
+    (b">  05\n", (1, true)),
+    (b"> 05 \n", (1, true)),
+    (b"> 0g\n", (1, true)),
+    (b"t\n", (1, true)),
+    (b"T \n", (1, true)),
+    (b"T\r\r\n", (1, true)),
+];
+
+#[test]
+fn lines_of_both_versions(rt: HostRuntime) {
+    for (capture, want) in CAPTURES {
+        for step in [1, 2, 3, 7, 4096] {
+            assert!(rt; last_line(capture, step) == want);
+        }
+    }
+}
+
+#[test]
+fn behind_a_refused_line_nothing_is_read(rt: HostRuntime) {
+    let mut reader = LineReader::new();
+    assert!(rt; reader.read(b"> 4z\nT\n") == (5, Found::Refused));
+    assert!(rt; reader.read(b"T\n") == (0, Found::Refused));
+    assert!(rt; reader.finish() == Found::Refused);
+    assert!(rt; (reader.number(), reader.version()) == (1, CaptureVersion::Untold));
+}
