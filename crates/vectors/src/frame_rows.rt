@@ -9,7 +9,8 @@ use lis_frame::{
     read_frame_of, split_all_of,
 };
 use lis_text::{TextFault, check_text};
-use std::alloc::{AllocError, Global};
+use std::alloc::Global;
+use std::mem::drop;
 
 /// Room for a frame of any limit.
 const FRAME_ROOM: usize = 64_000;
@@ -19,14 +20,19 @@ pub(crate) fn frame_call<const N: usize>(call: Call<'_>, answer: &mut Answer) ->
     requires { IsLimit N }
 {
     match (call.name, call.words) {
-        ("read", [stretch]) => read::<N>(bytes_of(call.alloc, stretch)?.as_slice(), answer),
+        ("read", [stretch]) => {
+            let stretch = bytes_of(call.alloc, stretch)?;
+            read::<N>(stretch.as_slice(), answer);
+            Ok(())
+        }
         ("make", [number, end, text]) => {
             let text = bytes_of(call.alloc, text)?;
             make::<N>(size_of_word(number)?, *end, text.as_slice(), answer)
         }
         ("scan", [place, bytes]) => {
             let bytes = bytes_of(call.alloc, bytes)?;
-            scan::<N>(call.alloc, size_of_word(place)?, bytes.as_slice(), answer)
+            scan::<N>(call.alloc, size_of_word(place)?, bytes.as_slice(), answer);
+            Ok(())
         }
         _ => Err(Trouble::NoCall),
     }
@@ -40,47 +46,58 @@ pub(crate) fn text_call<const N: usize>(call: Call<'_>, answer: &mut Answer) -> 
         ("check", [text]) => {
             let text = link_text_of(call.alloc, text)?;
             match check_text(text.as_slice()) {
-                Ok(()) => answer.word("ok")?,
-                Err(fault) => {
-                    answer.word("fault ")?;
-                    put_text_fault(fault, answer)?;
-                }
+                Ok(()) => answer.word("ok"),
+                Err(fault) => put_text_refusal(fault, answer),
             }
+            drop(text);
             Ok(())
         }
         ("split", [first, text]) => {
             let first = size_of_word(first)?;
             let text = link_text_of(call.alloc, text)?;
-            if first > 7 {
-                return Err(Trouble::NoCall);
-            }
-            if let Err(fault) = check_text(text.as_slice()) {
-                answer.word("fault ")?;
-                put_text_fault(fault, answer)?;
-                return Ok(());
-            }
-            let frames = split_all_of::<N>(call.alloc, text.as_slice(), first as u8)?;
-            for frame in frames.as_slice() {
-                answer.part()?;
-                put_frame(frame, answer)?;
-            }
-            Ok(())
+            let split = split::<N>(call.alloc, first, text.as_slice(), answer);
+            drop(text);
+            split
         }
         _ => Err(Trouble::NoCall),
     }
 }
 
-fn read<const N: usize>(stretch: &[u8], answer: &mut Answer) -> Result<(), Trouble>
+/// Puts the frames of a text, the first of this number.
+fn split<const N: usize>(
+    alloc: Global,
+    first: usize,
+    text: &[u8],
+    answer: &mut Answer,
+) -> Result<(), Trouble>
+    requires { IsLimit N }
+{
+    if first > 7 {
+        return Err(Trouble::NoCall);
+    }
+    if let Err(fault) = check_text(text) {
+        put_text_refusal(fault, answer);
+        return Ok(());
+    }
+    let frames = split_all_of::<N>(alloc, text, first as u8)?;
+    for frame in frames.as_slice() {
+        answer.part();
+        put_frame(frame, answer);
+    }
+    drop(frames);
+    Ok(())
+}
+
+fn read<const N: usize>(stretch: &[u8], answer: &mut Answer)
     requires { IsLimit N }
 {
     match read_frame_of::<N>(stretch) {
-        Ok(frame) => put_frame(&frame, answer)?,
+        Ok(frame) => put_frame(&frame, answer),
         Err(fault) => {
-            answer.word("fault ")?;
-            put_frame_fault(fault, answer)?;
+            answer.word("fault ");
+            put_frame_fault(fault, answer);
         }
     }
-    Ok(())
 }
 
 fn make<const N: usize>(
@@ -91,55 +108,56 @@ fn make<const N: usize>(
 ) -> Result<(), Trouble>
     requires { IsLimit N }
 {
-    let text = match TextOf::<N>::from_slice(text) {
-        Ok(text) => text,
-        Err(fault) => {
-            answer.word("fault ")?;
-            put_text_fault(fault, answer)?;
-            return Ok(());
-        }
-    };
-    if number > 255 {
-        return Err(Trouble::NoCall);
-    }
-    match FrameOf::new(number as u8, end == "end", text) {
-        None => answer.word("none")?,
-        Some(frame) => {
-            put_frame(&frame, answer)?;
-            answer.bytes(" ", frame_bytes_of::<N, FRAME_ROOM>(&frame).as_slice())?;
-        }
+    match TextOf::<N>::from_slice(text) {
+        Ok(_) if number > 255 => return Err(Trouble::NoCall),
+        Ok(text) => put_made(FrameOf::new(number as u8, end == "end", text), answer),
+        Err(fault) => put_text_refusal(fault, answer),
     }
     Ok(())
 }
 
+/// Puts a frame and its bytes, or that there is none.
+fn put_made<const N: usize>(made: Option<FrameOf<N>>, answer: &mut Answer)
+    requires { IsLimit N }
+{
+    match &made {
+        None => answer.word("none"),
+        Some(frame) => {
+            put_frame(frame, answer);
+            answer.bytes(" ", frame_bytes_of::<N, FRAME_ROOM>(frame).as_slice());
+        }
+    }
+    drop(made);
+}
+
 /// The signals of bytes that are pushed one by one; from a place on, a copy of the scanner reads them in runs too.
-fn scan<const N: usize>(
-    alloc: Global,
-    fork: usize,
-    bytes: &[u8],
-    answer: &mut Answer,
-) -> Result<(), Trouble>
+fn scan<const N: usize>(alloc: Global, fork: usize, bytes: &[u8], answer: &mut Answer)
     requires { IsLimit N }
 {
     let (front, rest) = bytes.split_at(fork.min(bytes.len()));
     let mut course = Course::<N>::new();
-    course.push_all(front, answer)?;
-    let mut copy = course.copy();
-    let mut pushed = Answer::new(alloc);
-    course.push_all(rest, &mut pushed)?;
-    let mut scanned = Answer::new(alloc);
-    copy.scan_all(rest, &mut scanned)?;
+    course.push_all(front, answer);
+    let copy = course.copy();
+    let pushed = course.pushed(alloc, rest);
+    let scanned = copy.scanned(alloc, rest);
+    put_signals(pushed, scanned, answer);
+}
+
+/// Puts the signals behind a fork, and those of the copy where it tells others.
+fn put_signals(pushed: Answer, scanned: Answer, answer: &mut Answer) {
     if pushed.line() != scanned.line() {
-        answer.word("the copy differs: ")?;
-        answer.text(scanned.line())?;
+        answer.word("the copy differs: ");
+        answer.answer(&scanned);
     }
-    if !pushed.line().is_empty() {
-        answer.word(pushed.line())?;
+    drop(scanned);
+    if !pushed.is_empty() {
+        answer.part();
     }
-    if answer.line().is_empty() {
-        answer.word("none")?;
+    answer.answer(&pushed);
+    drop(pushed);
+    if answer.is_empty() {
+        answer.word("none");
     }
-    Ok(())
 }
 
 /// A scanner, and how many bytes it has read.
@@ -170,31 +188,42 @@ impl<const N: usize> Course<N> {
         }
     }
 
+    /// The signals of bytes that are read one by one.
+    fn pushed(self, alloc: Global, bytes: &[u8]) -> Answer
+        requires { IsLimit N }
+    {
+        let mut course = self;
+        let mut answer = Answer::new(alloc);
+        course.push_all(bytes, &mut answer);
+        drop(course);
+        answer
+    }
+
+    /// The signals of bytes that are read in runs.
+    fn scanned(self, alloc: Global, bytes: &[u8]) -> Answer
+        requires { IsLimit N }
+    {
+        let mut course = self;
+        let mut answer = Answer::new(alloc);
+        course.scan_all(bytes, &mut answer);
+        drop(course);
+        answer
+    }
+
     /// Reads bytes one by one, and puts their signals.
-    fn push_all(&mut self, bytes: &[u8], answer: &mut Answer) -> Result<(), AllocError>
+    fn push_all(&mut self, bytes: &[u8], answer: &mut Answer)
         requires { IsLimit N }
     {
         for byte in bytes {
-            match self.scanner.push(*byte) {
-                None => {}
-                Some(SignalOf::Enq) => put_place(self.read, "=ENQ", answer)?,
-                Some(SignalOf::Eot) => put_place(self.read, "=EOT", answer)?,
-                Some(SignalOf::Good(frame)) => {
-                    put_place(self.read, "=frame:", answer)?;
-                    put_frame(&frame, answer)?;
-                }
-                Some(SignalOf::Bad(fault)) => {
-                    put_place(self.read, "=bad:", answer)?;
-                    put_frame_fault(fault, answer)?;
-                }
+            if let Some(signal) = self.scanner.push(*byte) {
+                put_signal(signal, self.read, answer);
             }
             self.read = self.read.saturating_add(1);
         }
-        Ok(())
     }
 
     /// Reads bytes in runs, as far as they give no signal but a frame's, and puts their signals.
-    fn scan_all(&mut self, bytes: &[u8], answer: &mut Answer) -> Result<(), AllocError>
+    fn scan_all(&mut self, bytes: &[u8], answer: &mut Answer)
         requires { IsLimit N }
     {
         let mut rest = bytes;
@@ -204,52 +233,66 @@ impl<const N: usize> Course<N> {
             self.read = self.read.saturating_add(count);
             rest = behind;
             if let Some(frame) = frame {
-                put_place(self.read.saturating_sub(1), "=frame:", answer)?;
-                put_lent(&frame, answer)?;
+                put_place(self.read.saturating_sub(1), "=frame:", answer);
+                put_lent(&frame, answer);
             }
             if count > 0 {
                 continue;
             }
             let Some((byte, behind)) = rest.split_first() else {
-                return Ok(());
+                return;
             };
             if let Some(heard) = self.scanner.told(*byte) {
-                put_heard(&heard, self.read, answer)?;
+                put_heard(&heard, self.read, answer);
             }
             self.scanner.take(*byte);
             self.read = self.read.saturating_add(1);
             rest = behind;
         }
-        Ok(())
     }
 }
 
-fn put_heard(heard: &Heard<'_>, place: usize, answer: &mut Answer) -> Result<(), AllocError> {
+fn put_signal<const N: usize>(signal: SignalOf<N>, place: usize, answer: &mut Answer)
+    requires { IsLimit N }
+{
+    match &signal {
+        SignalOf::Enq => put_place(place, "=ENQ", answer),
+        SignalOf::Eot => put_place(place, "=EOT", answer),
+        SignalOf::Good(frame) => {
+            put_place(place, "=frame:", answer);
+            put_frame(frame, answer);
+        }
+        SignalOf::Bad(fault) => {
+            put_place(place, "=bad:", answer);
+            put_frame_fault(*fault, answer);
+        }
+    }
+    drop(signal);
+}
+
+fn put_heard(heard: &Heard<'_>, place: usize, answer: &mut Answer) {
     match heard {
         Heard::Enq => put_place(place, "=ENQ", answer),
         Heard::Eot => put_place(place, "=EOT", answer),
         Heard::Good(frame) => {
-            put_place(place, "=frame:", answer)?;
+            put_place(place, "=frame:", answer);
             put_lent(frame, answer)
         }
         Heard::Bad(fault) => {
-            put_place(place, "=bad:", answer)?;
+            put_place(place, "=bad:", answer);
             put_frame_fault(*fault, answer)
         }
     }
 }
 
-fn put_place(place: usize, mark: &str, answer: &mut Answer) -> Result<(), AllocError> {
-    answer.part()?;
-    answer.number("", place as u64)?;
+fn put_place(place: usize, mark: &str, answer: &mut Answer) {
+    answer.part();
+    answer.number("", place as u64);
     answer.text(mark)
 }
 
 /// Puts a frame: its number, `end` or `more`, its text.
-pub(crate) fn put_frame<const N: usize>(
-    frame: &FrameOf<N>,
-    answer: &mut Answer,
-) -> Result<(), AllocError>
+pub(crate) fn put_frame<const N: usize>(frame: &FrameOf<N>, answer: &mut Answer)
     requires { IsLimit N }
 {
     put_parts(
@@ -260,17 +303,17 @@ pub(crate) fn put_frame<const N: usize>(
     )
 }
 
-fn put_lent(frame: &LentFrame<'_>, answer: &mut Answer) -> Result<(), AllocError> {
+fn put_lent(frame: &LentFrame<'_>, answer: &mut Answer) {
     put_parts(frame.number(), frame.is_last(), frame.text(), answer)
 }
 
-fn put_parts(number: u8, last: bool, text: &[u8], answer: &mut Answer) -> Result<(), AllocError> {
-    answer.number("", number as u64)?;
+fn put_parts(number: u8, last: bool, text: &[u8], answer: &mut Answer) {
+    answer.number("", number as u64);
     answer.bytes(if last { ":end:" } else { ":more:" }, text)
 }
 
 /// Puts why bytes are no frame.
-pub(crate) fn put_frame_fault(fault: FrameFault, answer: &mut Answer) -> Result<(), AllocError> {
+pub(crate) fn put_frame_fault(fault: FrameFault, answer: &mut Answer) {
     match fault {
         FrameFault::TooLong => answer.text("TooLong"),
         FrameFault::Shape => answer.text("Shape"),
@@ -280,8 +323,14 @@ pub(crate) fn put_frame_fault(fault: FrameFault, answer: &mut Answer) -> Result<
     }
 }
 
+/// Puts that bytes are no text, and why.
+fn put_text_refusal(fault: TextFault, answer: &mut Answer) {
+    answer.word("fault ");
+    put_text_fault(fault, answer);
+}
+
 /// Puts why bytes are no text.
-pub(crate) fn put_text_fault(fault: TextFault, answer: &mut Answer) -> Result<(), AllocError> {
+pub(crate) fn put_text_fault(fault: TextFault, answer: &mut Answer) {
     match fault {
         TextFault::TooLong => answer.text("TooLong"),
         TextFault::Forbidden(place) => answer.number("Forbidden.", place as u64),

@@ -8,7 +8,8 @@ use crate::sender_rows::put_outcome;
 use crate::words::{Call, Trouble, byte_of, link_text_of, texts_of};
 use lis_frame::FramesOf;
 use lis_world::{Event, Events, SessionOf, play_of};
-use std::alloc::{AllocError, Global};
+use std::alloc::Global;
+use std::mem::drop;
 
 /// Answers a call on a link.
 pub(crate) fn link_call<const N: usize>(call: Call<'_>, answer: &mut Answer) -> Result<(), Trouble>
@@ -17,30 +18,38 @@ pub(crate) fn link_call<const N: usize>(call: Call<'_>, answer: &mut Answer) -> 
     if call.name != "play" {
         return Err(Trouble::NoCall);
     }
-    let mut events = Events::new(call.alloc);
-    for word in call.words {
-        events.push(event_of(call.alloc, *word)?)?;
+    match play_of::<N>(call.alloc, events_of(call.alloc, call.words)?) {
+        Ok(history) => {
+            put_history(history.as_slice(), answer);
+            drop(history);
+            Ok(())
+        }
+        Err(_) => Err(Trouble::OutOfMemory),
     }
-    let Ok(history) = play_of::<N>(call.alloc, events) else {
-        return Err(Trouble::OutOfMemory);
-    };
-    answer.number("sessions=", history.len() as u64)?;
-    for session in history.as_slice() {
-        put_session(session, answer)?;
+}
+
+/// The events that words tell.
+fn events_of(alloc: Global, words: &[&str]) -> Result<Events, Trouble> {
+    let mut events = Events::new(alloc);
+    for word in words {
+        events.push(event_of(alloc, *word)?)?;
     }
-    Ok(())
+    Ok(events)
 }
 
 /// The event that a word tells.
 fn event_of(alloc: Global, word: &str) -> Result<Event, Trouble> {
-    if let Some((name, argument)) = word.split_once(':') {
-        return match name {
-            "Start" => Ok(Event::Start(texts_of(alloc, argument)?)),
-            "Damage" => Ok(Event::Damage(link_text_of(alloc, argument)?)),
-            "DamageReply" => Ok(Event::DamageReply(byte_of(argument)?)),
-            _ => Err(Trouble::NoCall),
-        };
+    match word.split_once(':') {
+        None => plain_event_of(word),
+        Some(("Start", texts)) => Ok(Event::Start(texts_of(alloc, texts)?)),
+        Some(("Damage", bytes)) => Ok(Event::Damage(link_text_of(alloc, bytes)?)),
+        Some(("DamageReply", byte)) => Ok(Event::DamageReply(byte_of(byte)?)),
+        Some(_) => Err(Trouble::NoCall),
     }
+}
+
+/// The event that a word without an argument tells.
+fn plain_event_of(word: &str) -> Result<Event, Trouble> {
     match word {
         "Deliver" => Ok(Event::Deliver),
         "DeliverNoRoom" => Ok(Event::DeliverNoRoom),
@@ -58,36 +67,37 @@ fn event_of(alloc: Global, word: &str) -> Result<Event, Trouble> {
     }
 }
 
-fn put_session<const N: usize>(
-    session: &SessionOf<N>,
-    answer: &mut Answer,
-) -> Result<(), AllocError>
+fn put_history<const N: usize>(history: &[SessionOf<N>], answer: &mut Answer)
     requires { IsLimit N }
 {
-    answer.texts(" session texts=", session.texts())?;
-    put_frames(" sent=", session.sent(), answer)?;
-    put_frames(" accepted=", session.accepted(), answer)?;
-    answer.number(" acknowledged=", session.acknowledged())?;
-    answer.texts(" handed=", session.handed())?;
-    put_outcome(session.outcome(), answer)
+    answer.number("sessions=", history.len() as u64);
+    for session in history {
+        put_session(session, answer);
+    }
 }
 
-fn put_frames<const N: usize>(
-    name: &str,
-    frames: &FramesOf<N>,
-    answer: &mut Answer,
-) -> Result<(), AllocError>
+fn put_session<const N: usize>(session: &SessionOf<N>, answer: &mut Answer)
     requires { IsLimit N }
 {
-    answer.text(name)?;
+    answer.texts(" session texts=", session.texts());
+    put_frames(" sent=", session.sent(), answer);
+    put_frames(" accepted=", session.accepted(), answer);
+    answer.number(" acknowledged=", session.acknowledged());
+    answer.texts(" handed=", session.handed());
+    put_outcome(session.outcome(), answer);
+}
+
+fn put_frames<const N: usize>(name: &str, frames: &FramesOf<N>, answer: &mut Answer)
+    requires { IsLimit N }
+{
+    answer.text(name);
     if frames.is_empty() {
-        return answer.text("none");
+        answer.text("none");
     }
     let mut between = "";
     for frame in frames.as_slice() {
-        answer.text(between)?;
-        put_frame(frame, answer)?;
+        answer.text(between);
+        put_frame(frame, answer);
         between = ",";
     }
-    Ok(())
 }

@@ -61,9 +61,10 @@ fn answer_line<W: Write>(
     output: &mut W,
 ) -> io::Result<()> {
     let mut answer = Answer::new(alloc);
-    match state.call(line, &mut answer) {
-        Ok(()) => writeln!(output, "{}", answer.line()),
-        Err(Trouble::NoCall) => writeln!(output, "no call"),
-        Err(Trouble::OutOfMemory) => writeln!(output, "out of memory"),
+    let called = state.call(line, &mut answer);
+    match (called, answer.line()) {
+        (Ok(()), Some(line)) => writeln!(output, "{line}"),
+        (Err(Trouble::NoCall), Some(_)) => writeln!(output, "no call"),
+        (Err(Trouble::OutOfMemory), _) | (_, None) => writeln!(output, "out of memory"),
     }
 }

@@ -4,107 +4,120 @@ use crate::answer::Answer;
 use crate::narrow::WIDE;
 use crate::record_rows::put_record_fault;
 use crate::spelling::{put_delimiters, put_kind, put_record};
-use crate::words::Trouble;
 use crate::writing_rows::{put_write_fault, put_wrote};
 use lis_message::{
     Group, Message, MessageFault, MessageWriteFault, Order, Patient, Reason, Record, Records,
     TextsFault, message_texts, write_message,
 };
 use lis_port::Slow;
-use lis_tree::findings;
-use std::alloc::{AllocError, Global};
+use lis_tree::{Finding, findings};
+use std::alloc::Global;
+use std::mem::drop;
 
 /// Puts a message: its delimiters, the number of its records, its tree, its findings, its texts, and what is written.
-pub(crate) fn put_message(
-    alloc: Global,
-    message: &Message,
-    answer: &mut Answer,
-) -> Result<(), Trouble> {
-    answer.word("message delimiters=")?;
-    put_delimiters(message.delimiters(), answer)?;
-    answer.number(" records=", message.len())?;
-    answer.text(" tree=")?;
-    put_tree(message, answer)?;
-    answer.text(" findings=")?;
-    put_findings(alloc, message, answer)?;
-    match message_texts(alloc, message) {
-        Ok(texts) => answer.texts(" texts=", texts.as_slice())?,
-        Err(fault) => {
-            answer.text(" texts=refused:")?;
-            put_texts_fault(fault, answer)?;
-        }
-    }
-    let mut sink = Slow::new(WIDE, WIDE);
-    let wrote = write_message(&mut sink, message);
-    answer.text(" written=")?;
-    put_message_wrote(wrote, sink.took(), answer)?;
-    Ok(())
+pub(crate) fn put_message(alloc: Global, message: &Message, answer: &mut Answer) {
+    answer.word("message delimiters=");
+    put_delimiters(message.delimiters(), answer);
+    answer.number(" records=", message.len());
+    answer.text(" tree=");
+    put_tree(message, answer);
+    answer.text(" findings=");
+    put_findings(alloc, message, answer);
+    answer.text(" texts=");
+    put_texts(alloc, message, answer);
+    answer.text(" written=");
+    put_written(message, answer);
 }
 
-fn put_findings(alloc: Global, message: &Message, answer: &mut Answer) -> Result<(), AllocError> {
-    let found = findings(alloc, message)?;
+/// Puts the texts of a message's records, or why it has none.
+fn put_texts(alloc: Global, message: &Message, answer: &mut Answer) {
+    match message_texts(alloc, message) {
+        Ok(texts) => {
+            answer.texts("", texts.as_slice());
+            drop(texts);
+        }
+        Err(fault) => {
+            answer.text("refused:");
+            put_texts_fault(fault, answer);
+        }
+    }
+}
+
+/// Puts what a wide sink takes of a message.
+fn put_written(message: &Message, answer: &mut Answer) {
+    let mut sink = Slow::new(WIDE, WIDE);
+    let wrote = write_message(&mut sink, message);
+    put_message_wrote(wrote, sink.took(), answer);
+    drop(sink);
+}
+
+/// Puts the findings of a message, `none` where there are none.
+fn put_findings(alloc: Global, message: &Message, answer: &mut Answer) {
+    match findings(alloc, message) {
+        Ok(found) => {
+            put_each_finding(found.as_slice(), answer);
+            drop(found);
+        }
+        Err(_) => answer.refuse(),
+    }
+}
+
+fn put_each_finding(found: &[Finding], answer: &mut Answer) {
     if found.is_empty() {
-        return answer.text("none");
+        answer.text("none");
     }
     let mut between = "";
-    for finding in found.as_slice() {
-        answer.number(between, finding.place)?;
-        answer.text(".")?;
-        put_kind(finding.kind, answer)?;
-        answer.number(".", finding.expected)?;
+    for finding in found {
+        answer.number(between, finding.place);
+        answer.text(".");
+        put_kind(finding.kind, answer);
+        answer.number(".", finding.expected);
         between = ",";
     }
-    Ok(())
 }
 
 /// Puts a tree: `*` before each note, brackets round each patient, query, order and result.
-fn put_tree(message: &Message, answer: &mut Answer) -> Result<(), AllocError> {
-    put_with_notes(message.header(), message.notes(), answer)?;
+fn put_tree(message: &Message, answer: &mut Answer) {
+    put_with_notes(message.header(), message.notes(), answer);
     for group in message.groups() {
-        answer.text("[")?;
+        answer.text("[");
         match group {
-            Group::Patient(patient) => put_patient(patient, answer)?,
-            Group::Query(query) => put_with_notes(query.head(), query.notes(), answer)?,
+            Group::Patient(patient) => put_patient(patient, answer),
+            Group::Query(query) => put_with_notes(query.head(), query.notes(), answer),
         }
-        answer.text("]")?;
+        answer.text("]");
     }
     put_record(message.closing(), answer)
 }
 
-fn put_patient(patient: &Patient, answer: &mut Answer) -> Result<(), AllocError> {
-    put_with_notes(patient.head(), patient.notes(), answer)?;
+fn put_patient(patient: &Patient, answer: &mut Answer) {
+    put_with_notes(patient.head(), patient.notes(), answer);
     for order in patient.orders() {
-        answer.text("[")?;
-        put_order(order, answer)?;
-        answer.text("]")?;
+        answer.text("[");
+        put_order(order, answer);
+        answer.text("]");
     }
-    Ok(())
 }
 
-fn put_order(order: &Order, answer: &mut Answer) -> Result<(), AllocError> {
-    put_with_notes(order.head(), order.notes(), answer)?;
+fn put_order(order: &Order, answer: &mut Answer) {
+    put_with_notes(order.head(), order.notes(), answer);
     for entry in order.results() {
-        answer.text("[")?;
-        put_with_notes(entry.head(), entry.notes(), answer)?;
-        answer.text("]")?;
+        answer.text("[");
+        put_with_notes(entry.head(), entry.notes(), answer);
+        answer.text("]");
     }
-    Ok(())
 }
 
-fn put_with_notes(head: &Record, notes: &Records, answer: &mut Answer) -> Result<(), AllocError> {
-    put_record(head, answer)?;
+fn put_with_notes(head: &Record, notes: &Records, answer: &mut Answer) {
+    put_record(head, answer);
     for note in notes.as_slice() {
-        answer.text("*")?;
-        put_record(note, answer)?;
+        answer.text("*");
+        put_record(note, answer);
     }
-    Ok(())
 }
 
 /// Puts a fault, or that there is none.
-pub(crate) fn put_fault(
-    fault: Option<MessageFault>,
-    answer: &mut Answer,
-) -> Result<(), AllocError> {
+pub(crate) fn put_fault(fault: Option<MessageFault>, answer: &mut Answer) {
     match fault {
         None => answer.text("none"),
         Some(fault) => put_place_fault(fault, answer),
@@ -112,16 +125,16 @@ pub(crate) fn put_fault(
 }
 
 /// Puts a fault: the place of its record, and the reason.
-pub(crate) fn put_place_fault(fault: MessageFault, answer: &mut Answer) -> Result<(), AllocError> {
-    answer.number("", fault.place)?;
+pub(crate) fn put_place_fault(fault: MessageFault, answer: &mut Answer) {
+    answer.number("", fault.place);
     match fault.reason {
         Reason::BadRecord(fault) => {
-            answer.text(".BadRecord.")?;
+            answer.text(".BadRecord.");
             put_record_fault(fault, answer)
         }
         Reason::NotHeader => answer.text(".NotHeader"),
         Reason::NoParent(kind) => {
-            answer.text(".NoParent.")?;
+            answer.text(".NoParent.");
             put_kind(kind, answer)
         }
         Reason::SecondHeader => answer.text(".SecondHeader"),
@@ -131,11 +144,11 @@ pub(crate) fn put_place_fault(fault: MessageFault, answer: &mut Answer) -> Resul
     }
 }
 
-fn put_texts_fault(fault: TextsFault, answer: &mut Answer) -> Result<(), AllocError> {
+fn put_texts_fault(fault: TextsFault, answer: &mut Answer) {
     match fault {
         TextsFault::BadRecord { place, fault } => {
-            answer.number("", place)?;
-            answer.text(".")?;
+            answer.number("", place);
+            answer.text(".");
             put_write_fault(fault, answer)
         }
         TextsFault::TooMany => answer.text("TooMany"),
@@ -148,12 +161,12 @@ pub(crate) fn put_message_wrote(
     wrote: Result<(), MessageWriteFault>,
     took: &[u8],
     answer: &mut Answer,
-) -> Result<(), AllocError> {
+) {
     match wrote {
         Ok(()) => put_wrote(Ok(()), took, answer),
         Err(MessageWriteFault { place, fault }) => {
-            answer.number("", place)?;
-            answer.text(".")?;
+            answer.number("", place);
+            answer.text(".");
             put_wrote(Err(fault), took, answer)
         }
     }

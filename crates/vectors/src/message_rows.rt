@@ -31,15 +31,12 @@ impl Reading {
         match (call.name, call.words) {
             ("new", []) => {
                 drop(replace(&mut self.reader, Some(MessageReader::new(call.alloc))));
-                answer.word("ok")?;
+                answer.word("ok");
                 Ok(())
             }
             ("feed", [piece]) => self.feed(call.alloc, piece, answer),
             ("finish", []) => self.finish(answer),
-            ("read", [bytes]) => {
-                let fed = read_messages(call.alloc, bytes_of(call.alloc, bytes)?.as_slice());
-                self.put_fed(call.alloc, fed, answer)
-            }
+            ("read", [bytes]) => self.read(call.alloc, bytes, answer),
             ("build", _) => self.build(call, answer),
             ("write", _) => self.write(call, answer),
             _ => Err(Trouble::NoCall),
@@ -52,9 +49,18 @@ impl Reading {
             return Err(Trouble::NoCall);
         };
         let fed = reader.feed(piece.as_slice());
+        drop(piece);
         let held = reader.held();
-        self.put_fed(alloc, fed, answer)?;
-        answer.number(" held=", held)?;
+        self.put_fed(alloc, fed, answer);
+        answer.number(" held=", held);
+        Ok(())
+    }
+
+    fn read(&mut self, alloc: Global, bytes: &str, answer: &mut Answer) -> Result<(), Trouble> {
+        let bytes = bytes_of(alloc, bytes)?;
+        let fed = read_messages(alloc, bytes.as_slice());
+        drop(bytes);
+        self.put_fed(alloc, fed, answer);
         Ok(())
     }
 
@@ -63,10 +69,10 @@ impl Reading {
             return Err(Trouble::NoCall);
         };
         match reader.finish() {
-            Ok(()) => answer.word("ok")?,
+            Ok(()) => answer.word("ok"),
             Err(fault) => {
-                answer.word("fault ")?;
-                put_place_fault(fault, answer)?;
+                answer.word("fault ");
+                put_place_fault(fault, answer);
             }
         }
         Ok(())
@@ -77,14 +83,12 @@ impl Reading {
             return Err(Trouble::NoCall);
         };
         let delimiters = delimiters_of(call.alloc, *delimiters)?;
-        match Message::from_records(call.alloc, delimiters, records_of(call.alloc, words)?) {
-            Ok(message) => {
-                put_message(call.alloc, &message, answer)?;
-                self.message = Some(message);
-            }
+        let records = records_of(call.alloc, words)?;
+        match Message::from_records(call.alloc, delimiters, records) {
+            Ok(message) => self.put_message(call.alloc, message, answer),
             Err(fault) => {
-                answer.word("fault ")?;
-                put_place_fault(fault, answer)?;
+                answer.word("fault ");
+                put_place_fault(fault, answer);
             }
         }
         Ok(())
@@ -103,27 +107,29 @@ impl Reading {
     }
 
     /// Puts what was read, and keeps the last message.
-    fn put_fed(&mut self, alloc: Global, fed: Fed, answer: &mut Answer) -> Result<(), Trouble> {
+    fn put_fed(&mut self, alloc: Global, fed: Fed, answer: &mut Answer) {
         let fault = fed.fault;
-        self.put_all(alloc, fed.messages, answer)?;
-        answer.word("fault=")?;
-        put_fault(fault, answer)?;
-        Ok(())
+        self.put_all(alloc, fed.messages, answer);
+        answer.word("fault=");
+        put_fault(fault, answer);
     }
 
     /// Puts messages, and keeps the last.
-    fn put_all(
-        &mut self,
-        alloc: Global,
-        messages: Messages,
-        answer: &mut Answer,
-    ) -> Result<(), Trouble> {
-        answer.number("messages=", messages.len() as u64)?;
+    fn put_all(&mut self, alloc: Global, messages: Messages, answer: &mut Answer) {
+        answer.number("messages=", messages.len() as u64);
         for message in messages.into_vec() {
-            put_message(alloc, &message, answer)?;
-            self.message = Some(message);
+            self.put_message(alloc, message, answer);
         }
-        Ok(())
+    }
+
+    /// Puts a message and keeps it, where the answer still has memory: a message that isn't told is not kept.
+    fn put_message(&mut self, alloc: Global, message: Message, answer: &mut Answer) {
+        put_message(alloc, &message, answer);
+        if answer.is_refused() {
+            drop(message);
+        } else {
+            drop(replace(&mut self.message, Some(message)));
+        }
     }
 }
 

@@ -6,9 +6,9 @@ use crate::answer::Answer;
 use crate::frame_rows::put_frame_fault;
 use crate::state::Ends;
 use crate::words::{Call, Trouble, bytes_of, number_of};
-use lis_link::{Note, Readiness, ReceiverOf, Step};
+use lis_link::{Hearing, Note, Readiness, ReceiverOf, Step};
 use lis_text::LONGEST_TEXT;
-use std::alloc::AllocError;
+use std::mem::{drop, replace};
 
 impl<const N: usize> Ends<N> {
     /// Answers a call on the receiver: its steps that aren't quiet, and then its state. One receiver hears bytes one by
@@ -23,48 +23,46 @@ impl<const N: usize> Ends<N> {
         let mut again = Answer::new(call.alloc);
         if let ("bytes", [bytes]) = (call.name, call.words) {
             let bytes = bytes_of(call.alloc, bytes)?;
-            self.hear_each(bytes.as_slice(), answer)?;
-            self.hear_all(bytes.as_slice(), &mut again)?;
+            self.hear_each(bytes.as_slice(), answer);
+            self.hear_all(bytes.as_slice(), &mut again);
         } else {
             event(&mut self.receiver, call, answer)?;
             event(&mut self.other_receiver, call, &mut again)?;
         }
-        put_state(&self.receiver, answer)?;
-        put_state(&self.other_receiver, &mut again)?;
+        put_state(&self.receiver, answer);
+        put_state(&self.other_receiver, &mut again);
         if answer.line() != again.line() {
-            answer.word("at once: ")?;
-            answer.text(again.line())?;
+            answer.word("at once: ");
+            answer.answer(&again);
         }
         Ok(())
     }
 
     /// The receiver hears bytes one by one.
-    fn hear_each(&mut self, bytes: &[u8], answer: &mut Answer) -> Result<(), AllocError>
+    fn hear_each(&mut self, bytes: &[u8], answer: &mut Answer)
         requires { IsLimit N }
     {
         for (place, byte) in bytes.iter().enumerate() {
-            put_step(place, &self.receiver.byte(*byte), answer)?;
+            put_step(place, self.receiver.byte(*byte), answer);
         }
-        Ok(())
     }
 
     /// The other receiver hears them at once.
-    fn hear_all(&mut self, bytes: &[u8], answer: &mut Answer) -> Result<(), AllocError>
+    fn hear_all(&mut self, bytes: &[u8], answer: &mut Answer)
         requires { IsLimit N }
     {
         let mut rest = bytes;
         let mut heard = 0usize;
         for _ in 0..bytes.len() {
             if rest.is_empty() {
-                return Ok(());
+                return;
             }
-            let hearing = self.other_receiver.bytes(rest);
-            let (_, behind) = rest.split_at(hearing.count);
-            heard = heard.saturating_add(hearing.count);
-            put_step(heard.saturating_sub(1), &hearing.step, answer)?;
+            let Hearing { count, step } = self.other_receiver.bytes(rest);
+            let (_, behind) = rest.split_at(count);
+            heard = heard.saturating_add(count);
+            put_step(heard.saturating_sub(1), step, answer);
             rest = behind;
         }
-        Ok(())
     }
 }
 
@@ -77,48 +75,70 @@ fn event<const N: usize>(
     requires { IsLimit N }
 {
     match (call.name, call.words) {
-        ("new", []) => *receiver = ReceiverOf::new(call.alloc),
-        ("timer", []) => put_step(0, &receiver.timer(), answer)?,
+        ("new", []) => drop(replace(receiver, ReceiverOf::new(call.alloc))),
+        ("timer", []) => put_step(0, receiver.timer(), answer),
         ("restart", []) => receiver.restart(),
-        ("ready", ["ready"]) => receiver.set_ready(Readiness::Ready),
-        ("ready", ["busy"]) => receiver.set_ready(Readiness::Busy),
-        ("ready", ["contending"]) => receiver.set_ready(Readiness::Contending),
+        ("ready", [word]) => receiver.set_ready(readiness_of(word)?),
         ("room", ["on"]) => receiver.set_room(true),
         ("room", ["off"]) => receiver.set_room(false),
-        ("reserve", [count]) => {
-            let count = number_of(count)?;
-            if count > LONGEST_TEXT as u64 {
-                return Err(Trouble::NoCall);
-            }
-            match receiver.reserve(count) {
-                Ok(()) => answer.word("ok")?,
-                Err(_) => return Err(Trouble::OutOfMemory),
-            }
-        }
+        ("reserve", [count]) => return reserve(receiver, number_of(count)?, answer),
         _ => return Err(Trouble::NoCall),
     }
     Ok(())
 }
 
-/// Puts a step that isn't quiet: its place, its note, its reply, and the text that is handed out.
-fn put_step(place: usize, step: &Step, answer: &mut Answer) -> Result<(), AllocError> {
-    if let (Note::Quiet, None) = (step.note, step.reply) {
-        return Ok(());
+/// How a receiver answers ENQ, by a word.
+fn readiness_of(word: &str) -> Result<Readiness, Trouble> {
+    match word {
+        "ready" => Ok(Readiness::Ready),
+        "busy" => Ok(Readiness::Busy),
+        "contending" => Ok(Readiness::Contending),
+        _ => Err(Trouble::NoCall),
     }
-    answer.part()?;
-    answer.number("", place as u64)?;
-    put_note(step.note, answer)?;
-    match step.reply {
-        Some(reply) => answer.byte(":", reply)?,
-        None => answer.text(":none")?,
-    }
-    if let Some(text) = &step.message {
-        answer.bytes(":", text.as_slice())?;
-    }
-    Ok(())
 }
 
-fn put_note(note: Note, answer: &mut Answer) -> Result<(), AllocError> {
+/// Makes room for so many bytes.
+fn reserve<const N: usize>(
+    receiver: &mut ReceiverOf<N>,
+    count: u64,
+    answer: &mut Answer,
+) -> Result<(), Trouble>
+    requires { IsLimit N }
+{
+    if count > LONGEST_TEXT as u64 {
+        return Err(Trouble::NoCall);
+    }
+    match receiver.reserve(count) {
+        Ok(()) => {
+            answer.word("ok");
+            Ok(())
+        }
+        Err(_) => Err(Trouble::OutOfMemory),
+    }
+}
+
+/// Puts a step that isn't quiet: its place, its note, its reply, and the text that is handed out.
+fn put_step(place: usize, step: Step, answer: &mut Answer) {
+    if step.note != Note::Quiet || step.reply.is_some() {
+        answer.part();
+        answer.number("", place as u64);
+        put_note(step.note, answer);
+        put_reply(step.reply, answer);
+        if let Some(text) = &step.message {
+            answer.bytes(":", text.as_slice());
+        }
+    }
+    drop(step);
+}
+
+fn put_reply(reply: Option<u8>, answer: &mut Answer) {
+    match reply {
+        Some(reply) => answer.byte(":", reply),
+        None => answer.text(":none"),
+    }
+}
+
+fn put_note(note: Note, answer: &mut Answer) {
     match note {
         Note::Quiet => answer.text("=Quiet"),
         Note::Opened => answer.text("=Opened"),
@@ -128,7 +148,7 @@ fn put_note(note: Note, answer: &mut Answer) -> Result<(), AllocError> {
         Note::Duplicate(number) => answer.number("=Duplicate.", number as u64),
         Note::OutOfTurn(number) => answer.number("=OutOfTurn.", number as u64),
         Note::Refused(fault) => {
-            answer.text("=Refused.")?;
+            answer.text("=Refused.");
             put_frame_fault(fault, answer)
         }
         Note::NoRoom => answer.text("=NoRoom"),
@@ -139,13 +159,10 @@ fn put_note(note: Note, answer: &mut Answer) -> Result<(), AllocError> {
     }
 }
 
-fn put_state<const N: usize>(
-    receiver: &ReceiverOf<N>,
-    answer: &mut Answer,
-) -> Result<(), AllocError>
+fn put_state<const N: usize>(receiver: &ReceiverOf<N>, answer: &mut Answer)
     requires { IsLimit N }
 {
-    answer.word(if receiver.is_open() { "open" } else { "shut" })?;
-    answer.number(" accepted=", receiver.accepted())?;
-    answer.number(" held=", receiver.held())
+    answer.word(if receiver.is_open() { "open" } else { "shut" });
+    answer.number(" accepted=", receiver.accepted());
+    answer.number(" held=", receiver.held());
 }

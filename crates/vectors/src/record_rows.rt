@@ -3,12 +3,12 @@
 use crate::answer::Answer;
 use crate::narrow::narrow_of;
 use crate::spelling::{delimiters_of, put_delimiters, put_record, record_of};
-use crate::words::{Call, Trouble, bytes_of, number_of};
+use crate::words::{Call, Trouble, bytes_of};
 use crate::writing_rows::Writing;
 use lis_record::{
     DelimiterFault, DelimiterPartFault, Delimiters, RecordFault, read_header, read_record,
 };
-use std::alloc::AllocError;
+use std::mem::drop;
 
 /// Answers a call on records.
 pub(crate) fn record_call(call: Call<'_>, answer: &mut Answer) -> Result<(), Trouble> {
@@ -29,10 +29,10 @@ fn delimiters(call: Call<'_>, answer: &mut Answer) -> Result<(), Trouble> {
         return Err(Trouble::NoCall);
     };
     match Delimiters::new(*field, *repeat, *component, *escape) {
-        Ok(delimiters) => put_delimiters(delimiters, answer)?,
+        Ok(delimiters) => put_delimiters(delimiters, answer),
         Err(fault) => {
-            answer.word("fault ")?;
-            put_delimiter_fault(fault, answer)?;
+            answer.word("fault ");
+            put_delimiter_fault(fault, answer);
         }
     }
     Ok(())
@@ -42,14 +42,17 @@ fn header(call: Call<'_>, answer: &mut Answer) -> Result<(), Trouble> {
     let [text] = call.words else {
         return Err(Trouble::NoCall);
     };
-    match read_header(call.alloc, bytes_of(call.alloc, *text)?.as_slice()) {
+    let text = bytes_of(call.alloc, *text)?;
+    match read_header(call.alloc, text.as_slice()) {
         Ok((delimiters, entry)) => {
-            put_delimiters(delimiters, answer)?;
-            answer.part()?;
-            put_record(&entry, answer)?;
+            put_delimiters(delimiters, answer);
+            answer.part();
+            put_record(&entry, answer);
+            drop(entry);
         }
-        Err(fault) => put_refusal(fault, answer)?,
+        Err(fault) => put_refusal(fault, answer),
     }
+    drop(text);
     Ok(())
 }
 
@@ -58,14 +61,15 @@ fn read(call: Call<'_>, answer: &mut Answer) -> Result<(), Trouble> {
         return Err(Trouble::NoCall);
     };
     let delimiters = delimiters_of(call.alloc, *delimiters)?;
-    match read_record(
-        call.alloc,
-        &delimiters,
-        bytes_of(call.alloc, *text)?.as_slice(),
-    ) {
-        Ok(entry) => put_record(&entry, answer)?,
-        Err(fault) => put_refusal(fault, answer)?,
+    let text = bytes_of(call.alloc, *text)?;
+    match read_record(call.alloc, &delimiters, text.as_slice()) {
+        Ok(entry) => {
+            put_record(&entry, answer);
+            drop(entry);
+        }
+        Err(fault) => put_refusal(fault, answer),
     }
+    drop(text);
     Ok(())
 }
 
@@ -74,26 +78,31 @@ fn write(call: Call<'_>, answer: &mut Answer) -> Result<(), Trouble> {
     let [delimiters, entry, room, step, words @ ..] = call.words else {
         return Err(Trouble::NoCall);
     };
+    let delimiters = delimiters_of(call.alloc, *delimiters)?;
+    let narrow = narrow_of(*room, *step)?;
+    let entry = record_of(call.alloc, *entry)?;
     let writing = Writing {
-        delimiters: delimiters_of(call.alloc, *delimiters)?,
-        entry: record_of(call.alloc, *entry)?,
-        narrow: narrow_of(*room, *step)?,
+        delimiters,
+        entry,
+        narrow,
     };
-    match (call.name, words) {
-        ("write", [skip]) => writing.whole_and_part(number_of(skip)?, answer),
+    let written = match (call.name, words) {
+        ("write", [skip]) => writing.whole_and_part(*skip, answer),
         ("write_field", []) => writing.fields(true, answer),
         ("put_field", []) => writing.fields(false, answer),
         _ => Err(Trouble::NoCall),
-    }
+    };
+    drop(writing);
+    written
 }
 
 /// Puts that a text is no record, and why.
-fn put_refusal(fault: RecordFault, answer: &mut Answer) -> Result<(), AllocError> {
-    answer.word("fault ")?;
+fn put_refusal(fault: RecordFault, answer: &mut Answer) {
+    answer.word("fault ");
     put_record_fault(fault, answer)
 }
 
-fn put_delimiter_fault(fault: DelimiterFault, answer: &mut Answer) -> Result<(), AllocError> {
+fn put_delimiter_fault(fault: DelimiterFault, answer: &mut Answer) {
     match fault {
         DelimiterFault::NotPunctuation(place) => answer.number("NotPunctuation.", place as u64),
         DelimiterFault::Repeated(place) => answer.number("Repeated.", place as u64),
@@ -101,13 +110,13 @@ fn put_delimiter_fault(fault: DelimiterFault, answer: &mut Answer) -> Result<(),
 }
 
 /// Puts why a text is no record.
-pub(crate) fn put_record_fault(fault: RecordFault, answer: &mut Answer) -> Result<(), AllocError> {
+pub(crate) fn put_record_fault(fault: RecordFault, answer: &mut Answer) {
     match fault {
         RecordFault::Empty => answer.text("Empty"),
         RecordFault::UnknownKind(byte) => answer.byte("UnknownKind.", byte),
         RecordFault::DelimiterPart(DelimiterPartFault::Short) => answer.text("Delimiters.Short"),
         RecordFault::DelimiterPart(DelimiterPartFault::Fault(fault)) => {
-            answer.text("Delimiters.")?;
+            answer.text("Delimiters.");
             put_delimiter_fault(fault, answer)
         }
         RecordFault::DelimiterPart(DelimiterPartFault::Trailing(byte)) => {

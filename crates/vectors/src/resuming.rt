@@ -14,6 +14,7 @@ use lis_message::{
 };
 use lis_port::Slow;
 use std::alloc::Global;
+use std::mem::drop;
 
 /// How many sinks a message is written to at most.
 const MOST_SINKS: u32 = 100_000;
@@ -38,25 +39,35 @@ pub(crate) fn write_on(
     skip: u64,
     answer: &mut Answer,
 ) -> Result<(), Trouble> {
-    let before = match message_texts(alloc, message) {
-        Ok(texts) => bytes_before(&texts, place, skip)?,
-        Err(TextsFault::BadRecord { .. }) => 0,
-        Err(_) => return Err(Trouble::OutOfMemory),
-    };
+    let before = front_of(alloc, message, place, skip)?;
     if before > WIDE {
         return Err(Trouble::NoCall);
     }
     let mut front = Slow::new(before, WIDE);
     let wrote = write_message(&mut front, message);
+    drop(front);
     let Some(rest) = rest_of(message, wrote) else {
-        answer.part()?;
-        put_message_wrote(wrote, &[], answer)?;
+        answer.part();
+        put_message_wrote(wrote, &[], answer);
         return Ok(());
     };
     write_rest(rest, narrow, answer)
 }
 
-/// How many bytes stand before a place of a message, with so many of that record.
+/// How many bytes of a message stand before a place, with so many of that record; none where it can't be written.
+fn front_of(alloc: Global, message: &Message, place: u64, skip: u64) -> Result<usize, Trouble> {
+    match message_texts(alloc, message) {
+        Ok(texts) => {
+            let before = bytes_before(&texts, place, skip);
+            drop(texts);
+            before
+        }
+        Err(TextsFault::BadRecord { .. }) => Ok(0),
+        Err(_) => Err(Trouble::OutOfMemory),
+    }
+}
+
+/// How many bytes stand before a place of texts, with so many of the one there.
 fn bytes_before(texts: &Texts, place: u64, skip: u64) -> Result<usize, Trouble> {
     let mut before = 0usize;
     let mut at = 1u64;
@@ -93,7 +104,7 @@ fn rest_of(message: &Message, wrote: Result<(), MessageWriteFault>) -> Option<Re
 fn write_rest(rest: Rest<'_>, narrow: Narrow, answer: &mut Answer) -> Result<(), Trouble> {
     let mut left = rest;
     for _ in 0..MOST_SINKS {
-        match write_part(left, narrow, answer)? {
+        match write_part(left, narrow, answer) {
             Some(rest) => left = rest,
             None => return Ok(()),
         }
@@ -102,17 +113,15 @@ fn write_rest(rest: Rest<'_>, narrow: Narrow, answer: &mut Answer) -> Result<(),
 }
 
 /// Writes on to one narrow sink; what is left where that took something and failed.
-fn write_part<'a>(
-    rest: Rest<'a>,
-    narrow: Narrow,
-    answer: &mut Answer,
-) -> Result<Option<Rest<'a>>, Trouble> {
+fn write_part<'a>(rest: Rest<'a>, narrow: Narrow, answer: &mut Answer) -> Option<Rest<'a>> {
     let mut sink = narrow.sink();
     let wrote = write_message_from(&mut sink, rest.message, rest.place, rest.skip);
-    answer.part()?;
-    put_message_wrote(wrote, sink.took(), answer)?;
-    if sink.took().is_empty() {
-        return Ok(None);
+    answer.part();
+    put_message_wrote(wrote, sink.took(), answer);
+    let is_over = sink.took().is_empty();
+    drop(sink);
+    if is_over {
+        return None;
     }
-    Ok(rest_of(rest.message, wrote))
+    rest_of(rest.message, wrote)
 }

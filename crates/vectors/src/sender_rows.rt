@@ -6,8 +6,9 @@ use crate::answer::Answer;
 use crate::frame_rows::{put_frame, put_text_fault};
 use crate::state::Ends;
 use crate::words::{Call, Trouble, byte_of, texts_of};
-use lis_link::{EmitOf, Outcome, Phase, SenderOf, StartFault};
-use std::alloc::AllocError;
+use lis_link::{EmitOf, Outcome, Phase, SenderOf, StartFault, StartRefused};
+use lis_text::Texts;
+use std::mem::{drop, replace};
 
 impl<const N: usize> Ends<N> {
     /// Answers a call on the sender: what it emits, and then where it stands.
@@ -15,53 +16,65 @@ impl<const N: usize> Ends<N> {
         requires { IsLimit N }
     {
         match (call.name, call.words) {
-            ("new", []) => self.sender = SenderOf::new(),
-            ("start", [texts]) => match self.sender.start(texts_of(call.alloc, texts)?) {
-                Ok(emit) => put_emit(&emit, answer)?,
-                Err(refused) => {
-                    answer.word("refused:")?;
-                    put_start_fault(refused.fault, answer)?;
-                    answer.texts(":", refused.texts.as_slice())?;
-                }
-            },
-            ("reply", [byte]) => put_emit(&self.sender.reply(byte_of(byte)?), answer)?,
-            ("timer", []) => put_emit(&self.sender.timer(), answer)?,
+            ("new", []) => drop(replace(&mut self.sender, SenderOf::new())),
+            ("start", [texts]) => self.start(texts_of(call.alloc, texts)?, answer),
+            ("reply", [byte]) => put_emit(self.sender.reply(byte_of(byte)?), answer),
+            ("timer", []) => put_emit(self.sender.timer(), answer),
             ("restart", []) => self.sender.restart(),
             _ => return Err(Trouble::NoCall),
         }
-        put_state(&self.sender, answer)?;
+        put_state(&self.sender, answer);
         Ok(())
+    }
+
+    /// Puts what the start of a session emits, or why it is refused.
+    fn start(&mut self, texts: Texts, answer: &mut Answer)
+        requires { IsLimit N }
+    {
+        match self.sender.start(texts) {
+            Ok(emit) => put_emit(emit, answer),
+            Err(refused) => put_start_refused(refused, answer),
+        }
     }
 }
 
-fn put_emit<const N: usize>(emit: &EmitOf<N>, answer: &mut Answer) -> Result<(), AllocError>
+/// Puts why a start is refused, and its texts.
+fn put_start_refused(refused: StartRefused, answer: &mut Answer) {
+    answer.word("refused:");
+    put_start_fault(refused.fault, answer);
+    answer.texts(":", refused.texts.as_slice());
+    drop(refused);
+}
+
+fn put_emit<const N: usize>(emit: EmitOf<N>, answer: &mut Answer)
     requires { IsLimit N }
 {
-    match emit {
+    match &emit {
         EmitOf::Nothing => answer.word("Nothing"),
         EmitOf::Enq => answer.word("Enq"),
         EmitOf::Eot => answer.word("Eot"),
         EmitOf::Nak => answer.word("Nak"),
         EmitOf::Frame(frame) => {
-            answer.word("frame:")?;
-            put_frame(frame, answer)
+            answer.word("frame:");
+            put_frame(frame, answer);
         }
     }
+    drop(emit);
 }
 
-fn put_start_fault(fault: StartFault, answer: &mut Answer) -> Result<(), AllocError> {
+fn put_start_fault(fault: StartFault, answer: &mut Answer) {
     match fault {
         StartFault::InSession => answer.text("InSession"),
         StartFault::NoText => answer.text("NoText"),
         StartFault::BadText { index, fault } => {
-            answer.number("BadText.", index as u64)?;
-            answer.text(".")?;
+            answer.number("BadText.", index as u64);
+            answer.text(".");
             put_text_fault(fault, answer)
         }
     }
 }
 
-fn put_state<const N: usize>(sender: &SenderOf<N>, answer: &mut Answer) -> Result<(), AllocError>
+fn put_state<const N: usize>(sender: &SenderOf<N>, answer: &mut Answer)
     requires { IsLimit N }
 {
     answer.word(match sender.phase() {
@@ -70,13 +83,13 @@ fn put_state<const N: usize>(sender: &SenderOf<N>, answer: &mut Answer) -> Resul
         Phase::Busy => "Busy",
         Phase::Contention => "Contention",
         Phase::AwaitReply => "AwaitReply",
-    })?;
-    answer.number(" acknowledged=", sender.acknowledged())?;
+    });
+    answer.number(" acknowledged=", sender.acknowledged());
     put_outcome(sender.outcome(), answer)
 }
 
 /// Puts how a session ended.
-pub(crate) fn put_outcome(outcome: Option<Outcome>, answer: &mut Answer) -> Result<(), AllocError> {
+pub(crate) fn put_outcome(outcome: Option<Outcome>, answer: &mut Answer) {
     answer.word(match outcome {
         None => "outcome=none",
         Some(Outcome::Done) => "outcome=Done",

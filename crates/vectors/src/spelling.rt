@@ -5,7 +5,7 @@ ghost use Rattle.std.specs.Prelude.{◌<◌, IfOk};
 use crate::answer::Answer;
 use crate::words::{Trouble, bytes_of};
 use lis_record::{Component, Delimiters, Field, Kind, Record, Repeat, Sym};
-use std::alloc::{AllocError, Global};
+use std::alloc::Global;
 
 /// The delimiters that a word of four bytes tells.
 pub(crate) fn delimiters_of(alloc: Global, word: &str) -> Result<Delimiters, Trouble> {
@@ -43,28 +43,28 @@ pub(crate) fn record_of(alloc: Global, word: &str) -> Result<Record, Trouble> {
 
 /// The field that a text tells: `;` between two repeats.
 fn field_of(alloc: Global, text: &str) -> Result<Field, Trouble> {
-    let mut field = None;
-    for part in text.split(';') {
-        let repeat = repeat_of(alloc, part)?;
-        match &mut field {
-            None => field = Some(Field::new(alloc, repeat)?),
-            Some(field) => field.push(repeat)?,
-        }
+    let mut parts = text.split(';');
+    let Some(first) = parts.next() else {
+        return Err(Trouble::NoCall);
+    };
+    let mut field = Field::new(alloc, repeat_of(alloc, first)?)?;
+    for part in parts {
+        field.push(repeat_of(alloc, part)?)?;
     }
-    field.ok_or(Trouble::NoCall)
+    Ok(field)
 }
 
 /// The repeat that a text tells: `,` between two components.
 fn repeat_of(alloc: Global, text: &str) -> Result<Repeat, Trouble> {
-    let mut repeat = None;
-    for part in text.split(',') {
-        let component = component_of(alloc, part)?;
-        match &mut repeat {
-            None => repeat = Some(Repeat::new(alloc, component)?),
-            Some(repeat) => repeat.push(component)?,
-        }
+    let mut parts = text.split(',');
+    let Some(first) = parts.next() else {
+        return Err(Trouble::NoCall);
+    };
+    let mut repeat = Repeat::new(alloc, component_of(alloc, first)?)?;
+    for part in parts {
+        repeat.push(component_of(alloc, part)?)?;
     }
-    repeat.ok_or(Trouble::NoCall)
+    Ok(repeat)
 }
 
 /// The component that a text tells: two digits a character, `~` and two digits a raw byte, `+` and `!` the start and
@@ -73,18 +73,25 @@ fn component_of(alloc: Global, text: &str) -> Result<Component, Trouble> {
     let mut component = Component::new(alloc);
     let mut rest = text.as_bytes();
     for _ in 0..text.len() {
-        let (symbol, behind) = match rest {
-            [] => return Ok(component),
-            [b'+', behind @ ..] => (Sym::On, behind),
-            [b'!', behind @ ..] => (Sym::Off, behind),
-            [b'~', high, low, behind @ ..] => (Sym::Raw(pair_of(*high, *low)?), behind),
-            [high, low, behind @ ..] => (Sym::Char(pair_of(*high, *low)?), behind),
-            _ => return Err(Trouble::NoCall),
-        };
+        if rest.is_empty() {
+            return Ok(component);
+        }
+        let (symbol, behind) = symbol_of(rest)?;
         component.push(symbol)?;
         rest = behind;
     }
     Ok(component)
+}
+
+/// The symbol that begins a text, and what stands behind it.
+fn symbol_of(text: &[u8]) -> Result<(Sym, &[u8]), Trouble> {
+    match text {
+        [b'+', behind @ ..] => Ok((Sym::On, behind)),
+        [b'!', behind @ ..] => Ok((Sym::Off, behind)),
+        [b'~', high, low, behind @ ..] => Ok((Sym::Raw(pair_of(*high, *low)?), behind)),
+        [high, low, behind @ ..] => Ok((Sym::Char(pair_of(*high, *low)?), behind)),
+        _ => Err(Trouble::NoCall),
+    }
 }
 
 /// The byte of two hexadecimal digits in lower case.
@@ -104,59 +111,44 @@ fn digit_of(byte: u8) -> Result<u8, Trouble>
 }
 
 /// Puts delimiters.
-pub(crate) fn put_delimiters(
-    delimiters: Delimiters,
-    answer: &mut Answer,
-) -> Result<(), AllocError> {
+pub(crate) fn put_delimiters(delimiters: Delimiters, answer: &mut Answer) {
     let bytes = [
         delimiters.field(),
         delimiters.repeat(),
         delimiters.component(),
         delimiters.escape(),
     ];
-    answer.bytes("", &bytes)
+    answer.bytes("", &bytes);
 }
 
 /// Puts a record.
-pub(crate) fn put_record(entry: &Record, answer: &mut Answer) -> Result<(), AllocError> {
-    put_kind(entry.kind(), answer)?;
+pub(crate) fn put_record(entry: &Record, answer: &mut Answer) {
+    put_kind(entry.kind(), answer);
     for field in entry.fields() {
         let mut before = "/";
         for repeat in field.repeats() {
             for component in repeat.components() {
-                answer.text(before)?;
-                put_component(component, answer)?;
+                answer.text(before);
+                put_component(component, answer);
                 before = ",";
             }
             before = ";";
         }
     }
-    Ok(())
 }
 
 /// Puts the letter of a kind.
-pub(crate) fn put_kind(kind: Kind, answer: &mut Answer) -> Result<(), AllocError> {
-    answer.text(match kind {
-        Kind::H => "H",
-        Kind::P => "P",
-        Kind::O => "O",
-        Kind::R => "R",
-        Kind::C => "C",
-        Kind::Q => "Q",
-        Kind::M => "M",
-        Kind::S => "S",
-        Kind::L => "L",
-    })
+pub(crate) fn put_kind(kind: Kind, answer: &mut Answer) {
+    answer.letter(kind.letter());
 }
 
-fn put_component(component: &Component, answer: &mut Answer) -> Result<(), AllocError> {
+fn put_component(component: &Component, answer: &mut Answer) {
     for symbol in component.symbols() {
         match symbol {
-            Sym::Char(byte) => answer.byte("", *byte)?,
-            Sym::Raw(byte) => answer.byte("~", *byte)?,
-            Sym::On => answer.text("+")?,
-            Sym::Off => answer.text("!")?,
+            Sym::Char(byte) => answer.byte("", *byte),
+            Sym::Raw(byte) => answer.byte("~", *byte),
+            Sym::On => answer.text("+"),
+            Sym::Off => answer.text("!"),
         }
     }
-    Ok(())
 }

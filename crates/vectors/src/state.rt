@@ -10,6 +10,7 @@ use crate::record_rows::record_call;
 use crate::words::{Call, Trouble};
 use lis_link::{ReceiverOf, SenderOf};
 use std::alloc::Global;
+use std::mem::drop;
 
 /// The usual limit on a frame's text, and the longest.
 const USUAL: usize = 240;
@@ -78,7 +79,9 @@ impl State {
             return Ok(());
         }
         let words: Vec<&str> = line.split(' ').collect(self.alloc)?;
-        self.call_words(words.as_slice(), answer)
+        let called = self.call_words(words.as_slice(), answer);
+        drop(words);
+        called
     }
 
     fn call_words(&mut self, words: &[&str], answer: &mut Answer) -> Result<(), Trouble> {
@@ -108,7 +111,7 @@ impl State {
             ("limit", ["63993"]) => true,
             _ => return Err(Trouble::NoCall),
         };
-        answer.word("ok")?;
+        answer.word("ok");
         Ok(())
     }
 }

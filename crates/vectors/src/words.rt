@@ -5,7 +5,7 @@ use lis_text::{LinkText, Texts};
 use std::alloc::{AllocError, AllocFailed, Global};
 
 /// Why a call has no answer.
-#[derive(Debug, Clone, Copy, PartialEq, Eq)]
+#[derive(Clone, Copy)]
 pub(crate) enum Trouble {
     /// The line is no call, or the call isn't possible where it stands.
     NoCall,

@@ -5,23 +5,25 @@ ghost use Rattle.lis_record.specs.Spelling.{written};
 
 use crate::answer::Answer;
 use crate::narrow::{Narrow, WIDE};
-use crate::words::Trouble;
+use crate::words::{Trouble, number_of};
 use lis_port::Slow;
 use lis_record::{
     Delimiters, Field, Record, WriteFault, check_record, put_field, write_field, write_record,
     write_record_from,
 };
-use std::alloc::AllocError;
+use std::mem::drop;
 
 /// The length of what is written for a record; none where it can't be written.
 fn length_of(delimiters: Delimiters, entry: &Record) -> u64
     ensures { result ≤ length (written delimiters entry.now) }
 {
     let mut sink = Slow::new(WIDE, WIDE);
-    match write_record(&mut sink, &delimiters, entry) {
+    let length = match write_record(&mut sink, &delimiters, entry) {
         Ok(()) => sink.took().len() as u64,
         Err(_) => 0,
-    }
+    };
+    drop(sink);
+    length
 }
 
 /// A record that is to be written under delimiters, and a sink that fails.
@@ -35,38 +37,46 @@ pub(crate) struct Writing {
 impl Writing {
     /// Tests the record, writes it to a wide sink and, without the first bytes, to a narrow one; where that fails, the
     /// rest to a wide one.
-    pub(crate) fn whole_and_part(&self, skip: u64, answer: &mut Answer) -> Result<(), Trouble> {
-        answer.word("check=")?;
-        put_result(check_record(&self.delimiters, &self.entry), answer)?;
-        let mut whole = Slow::new(WIDE, WIDE);
-        let wrote = write_record(&mut whole, &self.delimiters, &self.entry);
-        answer.word("whole=")?;
-        put_wrote(wrote, whole.took(), answer)?;
+    pub(crate) fn whole_and_part(&self, skip: &str, answer: &mut Answer) -> Result<(), Trouble> {
+        let skip = number_of(skip)?;
+        answer.word("check=");
+        put_result(check_record(&self.delimiters, &self.entry), answer);
+        answer.word("whole=");
+        self.write_from(0, answer);
         let skip = skip.min(length_of(self.delimiters, &self.entry));
         let mut part = self.narrow.sink();
         let wrote = write_record_from(&mut part, &self.delimiters, &self.entry, skip);
-        answer.word("part=")?;
-        put_wrote(wrote, part.took(), answer)?;
+        answer.word("part=");
+        put_wrote(wrote, part.took(), answer);
+        drop(part);
         if let Err(WriteFault::Io(count)) = wrote {
-            let mut rest = Slow::new(WIDE, WIDE);
-            let wrote = write_record_from(&mut rest, &self.delimiters, &self.entry, count);
-            answer.word("then=")?;
-            put_wrote(wrote, rest.took(), answer)?;
+            answer.word("then=");
+            self.write_from(count, answer);
         }
         Ok(())
+    }
+
+    /// Writes the record without its first bytes to a wide sink.
+    fn write_from(&self, skip: u64, answer: &mut Answer)
+        requires { skip ≤ length (written self.now.delimiters self.now.entry) }
+    {
+        let mut sink = Slow::new(WIDE, WIDE);
+        let wrote = write_record_from(&mut sink, &self.delimiters, &self.entry, skip);
+        put_wrote(wrote, sink.took(), answer);
+        drop(sink);
     }
 
     /// Writes each field of the record, to a wide sink and to a narrow one; `limited` by `write_field`.
     pub(crate) fn fields(&self, limited: bool, answer: &mut Answer) -> Result<(), Trouble> {
         if self.entry.fields().is_empty() {
-            answer.word("none")?;
+            answer.word("none");
         }
         for field in self.entry.fields() {
-            answer.part()?;
+            answer.part();
             let wide = Slow::new(WIDE, WIDE);
-            write_one_field(self.delimiters, field, wide, limited, answer)?;
-            answer.text("/")?;
-            write_one_field(self.delimiters, field, self.narrow.sink(), limited, answer)?;
+            write_one_field(self.delimiters, field, wide, limited, answer);
+            answer.text("/");
+            write_one_field(self.delimiters, field, self.narrow.sink(), limited, answer);
         }
         Ok(())
     }
@@ -78,7 +88,7 @@ fn write_one_field(
     sink: Slow,
     limited: bool,
     answer: &mut Answer,
-) -> Result<(), AllocError>
+)
     requires { sink.failed ≡ false }
 {
     let mut sink = sink;
@@ -87,20 +97,17 @@ fn write_one_field(
     } else {
         put_field(&mut sink, &delimiters, field)
     };
-    put_wrote(wrote, sink.took(), answer)
+    put_wrote(wrote, sink.took(), answer);
+    drop(sink);
 }
 
 /// Puts how writing ended, and what the sink took.
-pub(crate) fn put_wrote(
-    wrote: Result<(), WriteFault>,
-    took: &[u8],
-    answer: &mut Answer,
-) -> Result<(), AllocError> {
-    put_result(wrote, answer)?;
+pub(crate) fn put_wrote(wrote: Result<(), WriteFault>, took: &[u8], answer: &mut Answer) {
+    put_result(wrote, answer);
     answer.bytes(":", took)
 }
 
-fn put_result(wrote: Result<(), WriteFault>, answer: &mut Answer) -> Result<(), AllocError> {
+fn put_result(wrote: Result<(), WriteFault>, answer: &mut Answer) {
     match wrote {
         Ok(()) => answer.text("ok"),
         Err(fault) => put_write_fault(fault, answer),
@@ -108,7 +115,7 @@ fn put_result(wrote: Result<(), WriteFault>, answer: &mut Answer) -> Result<(), 
 }
 
 /// Puts why a record was not written.
-pub(crate) fn put_write_fault(fault: WriteFault, answer: &mut Answer) -> Result<(), AllocError> {
+pub(crate) fn put_write_fault(fault: WriteFault, answer: &mut Answer) {
     match fault {
         WriteFault::CharNotText(number) => answer.number("CharNotText.", number as u64),
         WriteFault::TooLong => answer.text("TooLong"),
