@@ -1,4 +1,4 @@
-"""Times the calls of the crates that lislink doesn't make by themselves, through crates/timed_calls.
+"""Times the calls of the crates that lislink doesn't make by themselves, through crates/vectors.
 
 The receiver hears a session's bytes at once, 65,536 from each read; MB/s of link bytes, reading them included. Record
 text is read whole, and its messages are made trees; MB/s of it, reading it included. Some messages are read again and
@@ -17,11 +17,11 @@ FEW = 8000
 
 
 def build(root):
-    crate = os.path.join(root, "crates/timed_calls")
+    crate = os.path.join(root, "crates/vectors")
     done = subprocess.run(["rt", "run", "--", "play", "0"], cwd=crate, stdout=subprocess.PIPE, stderr=subprocess.STDOUT)
     if done.returncode:
         raise SystemExit(done.stdout.decode())
-    return os.path.join(crate, "out/timed_calls")
+    return os.path.join(crate, "out/vectors")
 
 
 def seconds(program, words, path, answer):
@@ -31,7 +31,7 @@ def seconds(program, words, path, answer):
         run = subprocess.run([program, *words], stdin=source, stdout=subprocess.PIPE, check=True)
         ended = time.perf_counter() - start
     if int(run.stdout) != answer:
-        raise SystemExit(f"timed_calls {' '.join(words)}: {run.stdout.decode()} in place of {answer}")
+        raise SystemExit(f"vectors {' '.join(words)}: {run.stdout.decode()} in place of {answer}")
     return ended
 
 

@@ -2,6 +2,13 @@
 //!
 //! Reads a call a line from standard input and prints the answer of each a line to standard output; an empty line,
 //! which parts two cases, is answered by an empty line. `conformance/README.md` tells the calls.
+//!
+//! With words behind its name it makes calls for the benchmark to time:
+//!
+//!     vectors bytes       hears the link bytes of standard input, and tells how many texts were handed out
+//!     vectors messages    reads the record text of standard input, and tells how many messages it holds
+//!     vectors again 40    the same so many times, each time with the memory of the time before
+//!     vectors play 40     plays a session of 1,000 full frames so many times, and tells how many were accepted
 #![tactic(auto)]
 
 mod answer;
@@ -16,19 +23,36 @@ mod resuming;
 mod sender_rows;
 mod spelling;
 mod state;
+mod timed;
 mod words;
 mod writing_rows;
 
 use crate::answer::Answer;
 use crate::state::State;
+use crate::timed::make_calls;
 use crate::words::Trouble;
 use std::alloc::Global;
+use std::env;
 use std::io::{self, BufRead, BufReader, BufWriter, Write};
 use std::mem::drop;
+use std::process::ExitCode;
 
-fn main(rt: HostRuntime) -> io::Result<()> {
+fn main(rt: HostRuntime) -> io::Result<ExitCode> {
+    let words: Vec<String> = env::args(&rt)?.collect(rt.alloc())?;
+    if words.len() > 1 {
+        return Ok(make_calls(&rt, words.as_slice()));
+    }
+    drop(words);
+    answer_rows(&rt)?;
+    Ok(ExitCode::from(0))
+}
+
+/// Answers the rows of standard input. The state holds frames of the long limit, which are to take no stack from the
+/// calls that are timed.
+#[inline(never)]
+fn answer_rows(rt: &HostRuntime) -> io::Result<()> {
     let mut state = State::new(rt.alloc());
-    let ended = run(&rt, &mut state);
+    let ended = run(rt, &mut state);
     drop(state);
     ended
 }

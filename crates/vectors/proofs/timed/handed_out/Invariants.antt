@@ -1,5 +1,5 @@
 use Rattle.std.proofs.Common.{length, ◌-◌, ◌≤◌}
-use Rattle.timed_calls.proofs.handed_out.Given as goal
+use Rattle.vectors.proofs.timed.handed_out.Given as goal
 
 abbrev pub invariant-loop-place : goal.invariant-loop-place
 invariant-loop-place l = l.place ≤ length l.bytes

@@ -1,19 +1,13 @@
 //! Calls that `lislink` doesn't make by themselves, for the benchmark to time: the receiver's hearing of bytes, the
 //! reading of messages as trees, and the playing of events.
-//!
-//!     timed_calls bytes       hears the link bytes of standard input, and tells how many texts were handed out
-//!     timed_calls messages    reads the record text of standard input, and tells how many messages it holds
-//!     timed_calls again 40    the same so many times, each time with the memory of the time before
-//!     timed_calls play 40     plays a session of 1,000 full frames so many times, and tells how many were accepted
-#![tactic(auto)]
 
 use lis_link::{Outcome, Receiver};
 use lis_message::read_messages;
 use lis_text::{LinkText, Texts};
-use lis_world::{Event, Events, play};
+use lis_world::{Event, Events, Session, play};
 use std::alloc::Global;
-use std::env;
 use std::io::Read;
+use std::mem::drop;
 use std::process::ExitCode;
 
 /// How many bytes of standard input are heard at once.
@@ -25,20 +19,22 @@ const FRAMES: u64 = 1_000;
 /// What a full frame carries.
 const FULL: usize = 240;
 
-fn main(rt: HostRuntime) -> ExitCode {
-    let Ok(Ok(words)) = env::args(&rt).map(|args| args.collect::<Vec<String>>(rt.alloc())) else {
-        return ExitCode::from(3);
-    };
+/// Makes the calls that words ask for, of which the first is the program's name, and prints what they count.
+pub(crate) fn make_calls(rt: &HostRuntime, words: &[String]) -> ExitCode {
     let mut words = words.iter().skip(1).map(String::as_str);
     let told = match (words.next(), words.next()) {
         (Some("bytes"), None) => heard(rt.alloc(), &mut rt.reader()),
-        (Some("messages"), None) => in_messages(rt.alloc(), &mut rt.reader()),
-        (Some("again"), Some(rounds)) => in_messages_again(rt.alloc(), &mut rt.reader(), rounds),
-        (Some("play"), Some(rounds)) => played(rt.alloc(), rounds),
+        (Some("messages"), None) => in_messages(rt.alloc(), &mut rt.reader(), 1),
+        (Some("again"), Some(rounds)) => match rounds.parse() {
+            Ok(rounds) => in_messages(rt.alloc(), &mut rt.reader(), rounds),
+            Err(_) => None,
+        },
+        (Some("play"), Some(rounds)) => match rounds.parse() {
+            Ok(rounds) => played(rt.alloc(), rounds),
+            Err(_) => None,
+        },
         _ => {
-            let _ = eprintln!(rt;
-                "usage: timed_calls bytes | timed_calls messages | timed_calls again ROUNDS | timed_calls play ROUNDS"
-            );
+            let _ = eprintln!(rt; "usage: vectors [bytes | messages | again ROUNDS | play ROUNDS]");
             return ExitCode::from(2);
         }
     };
@@ -76,21 +72,21 @@ fn handed_out(receiver: &mut Receiver, bytes: &[u8], texts: u64) -> u64 {
     texts
 }
 
-/// The number of messages in all that is read, each made a tree; none where a read fails or a record is refused.
-fn in_messages<R: Read>(alloc: Global, reader: &mut R) -> Option<u64> {
+/// The number of messages in all that is read, in all rounds, each made a tree; none where a read fails or a record is
+/// refused.
+fn in_messages<R: Read>(alloc: Global, reader: &mut R, rounds: u32) -> Option<u64> {
     let mut bytes = Vec::new(alloc);
     reader.read_to_end(&mut bytes).ok()?;
-    messages_of(alloc, bytes.as_slice())
+    let messages = again(alloc, bytes.as_slice(), rounds);
+    drop(bytes);
+    messages
 }
 
-/// The same of all rounds.
-fn in_messages_again<R: Read>(alloc: Global, reader: &mut R, rounds: &str) -> Option<u64> {
-    let rounds: u32 = rounds.parse().ok()?;
-    let mut bytes = Vec::new(alloc);
-    reader.read_to_end(&mut bytes).ok()?;
+/// The number of messages in all rounds over a record text.
+fn again(alloc: Global, bytes: &[u8], rounds: u32) -> Option<u64> {
     let mut messages = 0u64;
     for _ in 0..rounds {
-        messages = messages.saturating_add(messages_of(alloc, bytes.as_slice())?);
+        messages = messages.saturating_add(messages_of(alloc, bytes)?);
     }
     Some(messages)
 }
@@ -98,35 +94,43 @@ fn in_messages_again<R: Read>(alloc: Global, reader: &mut R, rounds: &str) -> Op
 /// The number of messages in a record text, each made a tree; none where a record is refused.
 fn messages_of(alloc: Global, bytes: &[u8]) -> Option<u64> {
     let read = read_messages(alloc, bytes);
-    if read.fault.is_some() {
-        return None;
-    }
-    Some(read.messages.len() as u64)
+    let count = read.messages.len() as u64;
+    let is_refused = read.fault.is_some();
+    drop(read);
+    if is_refused { None } else { Some(count) }
 }
 
-/// The number of frames that were accepted in all rounds; none where memory was refused or the number isn't one.
-fn played(alloc: Global, rounds: &str) -> Option<u64> {
-    let rounds: u32 = rounds.parse().ok()?;
+/// The number of frames that were accepted in all rounds; none where memory was refused.
+fn played(alloc: Global, rounds: u32) -> Option<u64> {
     let mut frames = 0u64;
     for _ in 0..rounds {
-        let history = play(alloc, session(alloc)?).ok()?;
-        for session in history.as_slice() {
-            if session.outcome() == Some(Outcome::Done) {
-                frames = frames.saturating_add(session.accepted().len() as u64);
-            }
-        }
+        frames = frames.saturating_add(frames_of_a_session(alloc)?);
     }
     Some(frames)
 }
 
+/// The number of frames that are accepted in the session.
+fn frames_of_a_session(alloc: Global) -> Option<u64> {
+    let history = play(alloc, session(alloc)?).ok()?;
+    let frames = accepted(history.as_slice());
+    drop(history);
+    Some(frames)
+}
+
+/// The number of frames that were accepted in the sessions that came to their end.
+fn accepted(history: &[Session]) -> u64 {
+    let mut frames = 0u64;
+    for session in history {
+        if let Some(Outcome::Done) = session.outcome() {
+            frames = frames.saturating_add(session.accepted().len() as u64);
+        }
+    }
+    frames
+}
+
 /// The events of an undisturbed session of full frames.
 fn session(alloc: Global) -> Option<Events> {
-    let mut texts = Texts::new(alloc);
-    for _ in 0..FRAMES {
-        let mut text = LinkText::new(alloc);
-        text.extend(&[b'R'; FULL]).ok()?;
-        texts.push(text).ok()?;
-    }
+    let texts = full_texts(alloc)?;
     let mut events = Events::new(alloc);
     events.push(Event::Start(texts)).ok()?;
     // ENQ, the frames, and EOT, which is not answered.
@@ -136,4 +140,20 @@ fn session(alloc: Global) -> Option<Events> {
     }
     events.push(Event::Deliver).ok()?;
     Some(events)
+}
+
+/// The texts of the session.
+fn full_texts(alloc: Global) -> Option<Texts> {
+    let mut texts = Texts::new(alloc);
+    for _ in 0..FRAMES {
+        texts.push(full_text(alloc)?).ok()?;
+    }
+    Some(texts)
+}
+
+/// A text that fills a frame.
+fn full_text(alloc: Global) -> Option<LinkText> {
+    let mut text = LinkText::new(alloc);
+    text.extend(&[b'R'; FULL]).ok()?;
+    Some(text)
 }
