@@ -88,6 +88,7 @@ fn split<const N: usize>(
     Ok(())
 }
 
+/// Puts the frame that bytes are, or why they are none.
 fn read<const N: usize>(stretch: &[u8], answer: &mut Answer)
     requires { IsLimit N }
 {
@@ -100,6 +101,7 @@ fn read<const N: usize>(stretch: &[u8], answer: &mut Answer)
     }
 }
 
+/// Puts the frame of a number, an end and a text, or why the text is refused.
 fn make<const N: usize>(
     number: usize,
     end: &str,
@@ -252,6 +254,7 @@ impl<const N: usize> Course<N> {
     }
 }
 
+/// Puts a signal and the place of its last byte.
 fn put_signal<const N: usize>(signal: SignalOf<N>, place: usize, answer: &mut Answer)
     requires { IsLimit N }
 {
@@ -270,6 +273,7 @@ fn put_signal<const N: usize>(signal: SignalOf<N>, place: usize, answer: &mut An
     drop(signal);
 }
 
+/// Puts a signal that was told before its last byte was taken.
 fn put_heard(heard: &Heard<'_>, place: usize, answer: &mut Answer) {
     match heard {
         Heard::Enq => put_place(place, "=ENQ", answer),
@@ -285,6 +289,7 @@ fn put_heard(heard: &Heard<'_>, place: usize, answer: &mut Answer) {
     }
 }
 
+/// Puts a place and the mark of what is there.
 fn put_place(place: usize, mark: &str, answer: &mut Answer) {
     answer.part();
     answer.number("", place as u64);
@@ -303,10 +308,12 @@ pub(crate) fn put_frame<const N: usize>(frame: &FrameOf<N>, answer: &mut Answer)
     )
 }
 
+/// Puts a frame that is lent by the bytes that were read.
 fn put_lent(frame: &LentFrame<'_>, answer: &mut Answer) {
     put_parts(frame.number(), frame.is_last(), frame.text(), answer)
 }
 
+/// Puts the parts of a frame.
 fn put_parts(number: u8, last: bool, text: &[u8], answer: &mut Answer) {
     answer.number("", number as u64);
     answer.bytes(if last { ":end:" } else { ":more:" }, text)

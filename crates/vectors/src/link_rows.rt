@@ -67,6 +67,7 @@ fn plain_event_of(word: &str) -> Result<Event, Trouble> {
     }
 }
 
+/// Puts the sessions of a history.
 fn put_history<const N: usize>(history: &[SessionOf<N>], answer: &mut Answer)
     requires { IsLimit N }
 {
@@ -76,6 +77,7 @@ fn put_history<const N: usize>(history: &[SessionOf<N>], answer: &mut Answer)
     }
 }
 
+/// Puts what became of a session.
 fn put_session<const N: usize>(session: &SessionOf<N>, answer: &mut Answer)
     requires { IsLimit N }
 {
@@ -87,6 +89,7 @@ fn put_session<const N: usize>(session: &SessionOf<N>, answer: &mut Answer)
     put_outcome(session.outcome(), answer);
 }
 
+/// Puts frames, `none` where there are none.
 fn put_frames<const N: usize>(name: &str, frames: &FramesOf<N>, answer: &mut Answer)
     requires { IsLimit N }
 {

@@ -51,7 +51,7 @@ fn put_written(message: &Message, answer: &mut Answer) {
     drop(sink);
 }
 
-/// Puts the findings of a message, `none` where there are none.
+/// Puts the findings of a message.
 fn put_findings(alloc: Global, message: &Message, answer: &mut Answer) {
     match findings(alloc, message) {
         Ok(found) => {
@@ -62,6 +62,7 @@ fn put_findings(alloc: Global, message: &Message, answer: &mut Answer) {
     }
 }
 
+/// Puts findings, `none` where there are none.
 fn put_each_finding(found: &[Finding], answer: &mut Answer) {
     if found.is_empty() {
         answer.text("none");
@@ -90,6 +91,7 @@ fn put_tree(message: &Message, answer: &mut Answer) {
     put_record(message.closing(), answer)
 }
 
+/// Puts a patient with its notes and orders.
 fn put_patient(patient: &Patient, answer: &mut Answer) {
     put_with_notes(patient.head(), patient.notes(), answer);
     for order in patient.orders() {
@@ -99,6 +101,7 @@ fn put_patient(patient: &Patient, answer: &mut Answer) {
     }
 }
 
+/// Puts an order with its notes and results.
 fn put_order(order: &Order, answer: &mut Answer) {
     put_with_notes(order.head(), order.notes(), answer);
     for entry in order.results() {
@@ -108,6 +111,7 @@ fn put_order(order: &Order, answer: &mut Answer) {
     }
 }
 
+/// Puts a record and its notes.
 fn put_with_notes(head: &Record, notes: &Records, answer: &mut Answer) {
     put_record(head, answer);
     for note in notes.as_slice() {
@@ -144,6 +148,7 @@ pub(crate) fn put_place_fault(fault: MessageFault, answer: &mut Answer) {
     }
 }
 
+/// Puts why a message has no texts.
 fn put_texts_fault(fault: TextsFault, answer: &mut Answer) {
     match fault {
         TextsFault::BadRecord { place, fault } => {

@@ -43,6 +43,7 @@ impl Reading {
         }
     }
 
+    /// Answers what the next piece of the stream gives.
     fn feed(&mut self, alloc: Global, piece: &str, answer: &mut Answer) -> Result<(), Trouble> {
         let piece = bytes_of(alloc, piece)?;
         let Some(reader) = &mut self.reader else {
@@ -56,6 +57,7 @@ impl Reading {
         Ok(())
     }
 
+    /// Answers what a whole stream gives.
     fn read(&mut self, alloc: Global, bytes: &str, answer: &mut Answer) -> Result<(), Trouble> {
         let bytes = bytes_of(alloc, bytes)?;
         let fed = read_messages(alloc, bytes.as_slice());
@@ -64,6 +66,7 @@ impl Reading {
         Ok(())
     }
 
+    /// Answers how the stream ends.
     fn finish(&mut self, answer: &mut Answer) -> Result<(), Trouble> {
         let Some(reader) = self.reader.take() else {
             return Err(Trouble::NoCall);
@@ -78,6 +81,7 @@ impl Reading {
         Ok(())
     }
 
+    /// Answers the message of records.
     fn build(&mut self, call: Call<'_>, answer: &mut Answer) -> Result<(), Trouble> {
         let [delimiters, words @ ..] = call.words else {
             return Err(Trouble::NoCall);
@@ -94,6 +98,7 @@ impl Reading {
         Ok(())
     }
 
+    /// Answers how the last message is written to narrow sinks.
     fn write(&self, call: Call<'_>, answer: &mut Answer) -> Result<(), Trouble> {
         let [room, step, place, skip] = call.words else {
             return Err(Trouble::NoCall);

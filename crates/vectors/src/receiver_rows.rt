@@ -131,6 +131,7 @@ fn put_step(place: usize, step: Step, answer: &mut Answer) {
     drop(step);
 }
 
+/// Puts a reply, or that there is none.
 fn put_reply(reply: Option<u8>, answer: &mut Answer) {
     match reply {
         Some(reply) => answer.byte(":", reply),
@@ -138,6 +139,7 @@ fn put_reply(reply: Option<u8>, answer: &mut Answer) {
     }
 }
 
+/// Puts what a receiver notes.
 fn put_note(note: Note, answer: &mut Answer) {
     match note {
         Note::Quiet => answer.text("=Quiet"),
@@ -159,6 +161,7 @@ fn put_note(note: Note, answer: &mut Answer) {
     }
 }
 
+/// Puts where a receiver stands.
 fn put_state<const N: usize>(receiver: &ReceiverOf<N>, answer: &mut Answer)
     requires { IsLimit N }
 {

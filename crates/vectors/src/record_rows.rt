@@ -20,6 +20,7 @@ pub(crate) fn record_call(call: Call<'_>, answer: &mut Answer) -> Result<(), Tro
     }
 }
 
+/// Answers whether bytes are delimiters.
 fn delimiters(call: Call<'_>, answer: &mut Answer) -> Result<(), Trouble> {
     let [word] = call.words else {
         return Err(Trouble::NoCall);
@@ -38,6 +39,7 @@ fn delimiters(call: Call<'_>, answer: &mut Answer) -> Result<(), Trouble> {
     Ok(())
 }
 
+/// Answers what a header's text is.
 fn header(call: Call<'_>, answer: &mut Answer) -> Result<(), Trouble> {
     let [text] = call.words else {
         return Err(Trouble::NoCall);
@@ -56,6 +58,7 @@ fn header(call: Call<'_>, answer: &mut Answer) -> Result<(), Trouble> {
     Ok(())
 }
 
+/// Answers what a record's text is.
 fn read(call: Call<'_>, answer: &mut Answer) -> Result<(), Trouble> {
     let [delimiters, text] = call.words else {
         return Err(Trouble::NoCall);
@@ -102,6 +105,7 @@ fn put_refusal(fault: RecordFault, answer: &mut Answer) {
     put_record_fault(fault, answer)
 }
 
+/// Puts why bytes are no delimiters.
 fn put_delimiter_fault(fault: DelimiterFault, answer: &mut Answer) {
     match fault {
         DelimiterFault::NotPunctuation(place) => answer.number("NotPunctuation.", place as u64),

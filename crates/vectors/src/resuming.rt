@@ -101,6 +101,7 @@ fn rest_of(message: &Message, wrote: Result<(), MessageWriteFault>) -> Option<Re
     }
 }
 
+/// Writes what is left to one narrow sink behind the other.
 fn write_rest(rest: Rest<'_>, narrow: Narrow, answer: &mut Answer) -> Result<(), Trouble> {
     let mut left = rest;
     for _ in 0..MOST_SINKS {

@@ -46,6 +46,7 @@ fn put_start_refused(refused: StartRefused, answer: &mut Answer) {
     drop(refused);
 }
 
+/// Puts what a sender emits.
 fn put_emit<const N: usize>(emit: EmitOf<N>, answer: &mut Answer)
     requires { IsLimit N }
 {
@@ -62,6 +63,7 @@ fn put_emit<const N: usize>(emit: EmitOf<N>, answer: &mut Answer)
     drop(emit);
 }
 
+/// Puts why a start is refused.
 fn put_start_fault(fault: StartFault, answer: &mut Answer) {
     match fault {
         StartFault::InSession => answer.text("InSession"),
@@ -74,6 +76,7 @@ fn put_start_fault(fault: StartFault, answer: &mut Answer) {
     }
 }
 
+/// Puts where a sender stands.
 fn put_state<const N: usize>(sender: &SenderOf<N>, answer: &mut Answer)
     requires { IsLimit N }
 {

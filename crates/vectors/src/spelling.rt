@@ -142,6 +142,7 @@ pub(crate) fn put_kind(kind: Kind, answer: &mut Answer) {
     answer.letter(kind.letter());
 }
 
+/// Puts the symbols of a component.
 fn put_component(component: &Component, answer: &mut Answer) {
     for symbol in component.symbols() {
         match symbol {

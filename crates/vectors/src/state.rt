@@ -26,6 +26,7 @@ pub(crate) struct Ends<const N: usize> {
 }
 
 impl<const N: usize> Ends<N> {
+    /// Two new ends.
     fn new(alloc: Global) -> Self
         requires { IsLimit N }
     {
@@ -84,6 +85,7 @@ impl State {
         called
     }
 
+    /// Answers the words of a line, of which the first is the call.
     fn call_words(&mut self, words: &[&str], answer: &mut Answer) -> Result<(), Trouble> {
         let [name, words @ ..] = words else {
             return Err(Trouble::NoCall);

@@ -82,6 +82,7 @@ impl Writing {
     }
 }
 
+/// Writes a field to a sink, and puts how that ended.
 fn write_one_field(
     delimiters: Delimiters,
     field: &Field,
@@ -107,6 +108,7 @@ pub(crate) fn put_wrote(wrote: Result<(), WriteFault>, took: &[u8], answer: &mut
     answer.bytes(":", took)
 }
 
+/// Puts how writing ended.
 fn put_result(wrote: Result<(), WriteFault>, answer: &mut Answer) {
     match wrote {
         Ok(()) => answer.text("ok"),
