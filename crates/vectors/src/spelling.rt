@@ -6,6 +6,7 @@ use crate::answer::Answer;
 use crate::words::{Trouble, bytes_of};
 use lis_record::{Component, Delimiters, Field, Kind, Record, Repeat, Sym};
 use std::alloc::Global;
+use std::mem::drop;
 
 /// The delimiters that a word of four bytes tells.
 pub(crate) fn delimiters_of(alloc: Global, word: &str) -> Result<Delimiters, Trouble> {
@@ -43,28 +44,50 @@ pub(crate) fn record_of(alloc: Global, word: &str) -> Result<Record, Trouble> {
 
 /// The field that a text tells: `;` between two repeats.
 fn field_of(alloc: Global, text: &str) -> Result<Field, Trouble> {
-    let mut parts = text.split(';');
-    let Some(first) = parts.next() else {
-        return Err(Trouble::NoCall);
-    };
-    let mut field = Field::new(alloc, repeat_of(alloc, first)?)?;
-    for part in parts {
+    let mut field = Field::new(alloc, repeat_of(alloc, front(text, ';'))?)?;
+    match push_repeats(alloc, text, &mut field) {
+        Ok(()) => Ok(field),
+        Err(trouble) => {
+            drop(field);
+            Err(trouble)
+        }
+    }
+}
+
+/// Pushes the repeats that a text tells behind the first.
+fn push_repeats(alloc: Global, text: &str, field: &mut Field) -> Result<(), Trouble> {
+    for part in text.split(';').skip(1) {
         field.push(repeat_of(alloc, part)?)?;
     }
-    Ok(field)
+    Ok(())
 }
 
 /// The repeat that a text tells: `,` between two components.
 fn repeat_of(alloc: Global, text: &str) -> Result<Repeat, Trouble> {
-    let mut parts = text.split(',');
-    let Some(first) = parts.next() else {
-        return Err(Trouble::NoCall);
-    };
-    let mut repeat = Repeat::new(alloc, component_of(alloc, first)?)?;
-    for part in parts {
+    let mut repeat = Repeat::new(alloc, component_of(alloc, front(text, ','))?)?;
+    match push_components(alloc, text, &mut repeat) {
+        Ok(()) => Ok(repeat),
+        Err(trouble) => {
+            drop(repeat);
+            Err(trouble)
+        }
+    }
+}
+
+/// Pushes the components that a text tells behind the first.
+fn push_components(alloc: Global, text: &str, repeat: &mut Repeat) -> Result<(), Trouble> {
+    for part in text.split(',').skip(1) {
         repeat.push(component_of(alloc, part)?)?;
     }
-    Ok(repeat)
+    Ok(())
+}
+
+/// What stands before a mark, or all of the text.
+fn front(text: &str, mark: char) -> &str {
+    match text.split_once(mark) {
+        Some((front, _)) => front,
+        None => text,
+    }
 }
 
 /// The component that a text tells: two digits a character, `~` and two digits a raw byte, `+` and `!` the start and
