@@ -17,11 +17,12 @@ use Rattle.lis_tree.specs.Findings.{HasNumbered, finding_on, findings_from, find
 use Rattle.lis_tree.specs.Numbers.{expected_number, field_number, is_number, is_numbered}
 use Rattle.lis_text.specs.Capped.{capped}
 use Rattle.lis_tree.specs.Tree.{MessageTree, flatten}
+use Rattle.lis_run.specs.Codes.{refused_line}
+use Rattle.lis_run.specs.declared.report.Refused.{Refused}
+use Rattle.lis_run.specs.declared.report.Report.{Report}
+use Rattle.lis_run.specs.Parts.{text_if_any}
 use Rattle.lis_tool.specs.Check.{IsChecking, check_writes, finding_count, finding_line, message_line, record_line}
-use Rattle.lis_tool.specs.Check.{record_lines, refused_line, sums_line}
-use Rattle.lis_tool.specs.declared.report.Refused.{Refused}
-use Rattle.lis_tool.specs.declared.report.Report.{Report}
-use Rattle.lis_tool.specs.inside.Parts.{text_if_any}
+use Rattle.lis_tool.specs.Check.{record_lines, sums_line}
 use Rattle.lis_tool.specs.Messages.{record_count, report_after, whole_begun, with_record}
 use Rattle.lis_tree.specs.declared.fault.MessageFault.{MessageFault}
 use Rattle.lis_tool.proofs.MessageLaws.{record_count-append}

@@ -14,13 +14,13 @@ use Rattle.lis_tree.specs.Tree.{MessageTree, flatten}
 use Rattle.lis_message.specs.Feeding.{answer_at_end, StopsReading}
 use Rattle.lis_message.specs.Stream.{IsCut, IsRefused, AreLeft, AreMessage, ended}
 use Rattle.lis_message.specs.inside.Taking.{records_of}
-use Rattle.lis_tool.specs.declared.fault.ToolFault.{ToolFault}
-use Rattle.lis_tool.specs.declared.machine.Halt.{Halt}
-use Rattle.lis_tool.specs.LineOutcome.{LineEnds}
+use Rattle.lis_run.specs.declared.fault.ToolFault.{ToolFault}
+use Rattle.lis_run.specs.declared.machine.Halt.{Halt}
+use Rattle.lis_run.specs.LineOutcome.{LineEnds}
+use Rattle.lis_run.specs.Output.{Gathered, Out}
+use Rattle.lis_run.specs.inside.Steps.{Halts, IsEarly, Puts, Ends}
+use Rattle.lis_run.proofs.GatherLaws.{gathered_then}
 use Rattle.lis_tool.specs.Messages.{MessageWrites, Comes, messages_text, whole_outcome, record_count, report_after}
-use Rattle.lis_tool.specs.Output.{Gathered, Out}
-use Rattle.lis_tool.specs.inside.Steps.{Halts, IsEarly, Puts, Ends}
-use Rattle.lis_tool.proofs.GatherLaws.{gathered_then}
 
 -- no byte is no message
 pub cut_nothing : IsCut [] [] None []

@@ -11,15 +11,15 @@ use Rattle.lis_tree.specs.Tree.{MessageTree}
 use Rattle.lis_message.specs.Feeding.{answer_at_end}
 use Rattle.lis_message.specs.Stream.{IsCut, IsReadFrom}
 use Rattle.lis_message.proofs.EveryStream.{goes_on as reads_more}
-use Rattle.lis_tool.specs.declared.fault.ToolFault.{ToolFault}
-use Rattle.lis_tool.specs.declared.fault.ToolFault.TheVariants.{CaptureLine, Read, Write, OutOfMemory, TooManyReads}
-use Rattle.lis_tool.specs.declared.report.Report.{Report}
+use Rattle.lis_run.specs.declared.fault.ToolFault.{ToolFault}
+use Rattle.lis_run.specs.declared.fault.ToolFault.TheVariants.{CaptureLine, Read, Write, OutOfMemory, TooManyReads}
+use Rattle.lis_run.specs.declared.report.Report.{Report}
+use Rattle.lis_run.specs.Outcome.{Outcome, going, whole}
+use Rattle.lis_run.specs.Output.{WentOut}
+use Rattle.lis_run.specs.Runs.{RanOver, Seen, WroteOutcome}
 use Rattle.lis_tool.specs.MessageRuns.{MessageAnswer, MessagesRan}
 use Rattle.lis_tool.specs.Messages.{Comes, IsStarved, MessageWrites, HasOutcome, complete, cut_short, goes_on}
 use Rattle.lis_tool.specs.Messages.{messages_text, whole_outcome, refused, report_after}
-use Rattle.lis_tool.specs.Outcome.{Outcome, going, whole}
-use Rattle.lis_tool.specs.Output.{WentOut}
-use Rattle.lis_tool.specs.Runs.{RanOver, Seen, WroteOutcome}
 use Rattle.lis_tool.proofs.MessageLaws.{cut_whole, messages_text-append, nothing_left}
 
 -- ---- a front of the bytes, and all of them

@@ -20,18 +20,18 @@ use Rattle.lis_tree.specs.declared.fault.MessageFault.{MessageFault}
 use Rattle.lis_tree.specs.declared.fault.Reason.TheVariants as reasons
 use Rattle.lis_tree.specs.inside.Begun.{Begun}
 use Rattle.lis_tree.specs.Tree.{MessageTree, flatten}
-use Rattle.lis_tool.specs.declared.fault.ToolFault.{ToolFault}
-use Rattle.lis_tool.specs.declared.fault.ToolFault.TheVariants.{OutOfMemory}
-use Rattle.lis_tool.specs.declared.machine.Halt.{Halt}
-use Rattle.lis_tool.specs.declared.machine.Turn.{Turn}
-use Rattle.lis_tool.specs.declared.machine.Turn.TheVariants.{On, Off}
-use Rattle.lis_tool.specs.LineOutcome.{LineEnds, LineSteps}
+use Rattle.lis_run.specs.declared.fault.ToolFault.{ToolFault}
+use Rattle.lis_run.specs.declared.fault.ToolFault.TheVariants.{OutOfMemory}
+use Rattle.lis_run.specs.declared.machine.Halt.{Halt}
+use Rattle.lis_run.specs.declared.machine.Turn.{Turn}
+use Rattle.lis_run.specs.declared.machine.Turn.TheVariants.{On, Off}
+use Rattle.lis_run.specs.LineOutcome.{LineEnds, LineSteps}
+use Rattle.lis_run.specs.Outcome.{Outcome}
+use Rattle.lis_run.specs.Output.{Gathered, Out, most_counted}
+use Rattle.lis_run.specs.inside.Steps.{Halts, IsEarly, Puts, Steps}
+use Rattle.lis_run.proofs.GatherLaws.{gathered_nothing, gathered_then}
 use Rattle.lis_tool.specs.Messages.{Comes, IsReadingMessages, MessageWrites, RefusesBy, StepsOver, messages_text}
 use Rattle.lis_tool.specs.Messages.{whole_outcome, record_count, refused, report_after, whole_begun, with_record}
-use Rattle.lis_tool.specs.Outcome.{Outcome}
-use Rattle.lis_tool.specs.Output.{Gathered, Out, most_counted}
-use Rattle.lis_tool.specs.inside.Steps.{Halts, IsEarly, Puts, Steps}
-use Rattle.lis_tool.proofs.GatherLaws.{gathered_nothing, gathered_then}
 use Rattle.lis_tool.proofs.MessageLaws.{cut_few, ends_over, is_refused, messages_few, messages_text-append}
 use Rattle.lis_tool.proofs.MessageLaws.{refuses_over}
 use Rattle.lis_tool.proofs.MessageRunLaws.{read_behind}

@@ -11,12 +11,12 @@ use Rattle.lis_capture.specs.Spelling.{added_spelling, upgraded, upgraded_lines}
 use Rattle.lis_capture.proofs.SpellingLemmas.{AreRead-read_lines, capture-upgraded, upgraded-upgraded_lines}
 use Rattle.lis_capture.proofs.SpellingLemmas.{version_of-upgraded_lines}
 use Rattle.lis_capture.proofs.VersionLemmas.{Gains, gains-capture}
+use Rattle.lis_run.specs.LineOutcome.{Writes, capture_outcome, lines_outcome, lines_text}
+use Rattle.lis_run.specs.Outcome.{Outcome, whole}
+use Rattle.lis_run.specs.Replay.{difference_count, played, played_line, replay_writes_from, text_count, texts}
+use Rattle.lis_run.specs.Replay.{texts_writes}
+use Rattle.lis_run.specs.Upgrade.{opening, upgrade, upgrade_writes}
 use Rattle.lis_tool.specs.Laws.{UpgradedSaysTheSame, lines_in, number_upgraded, replay_from, version_in}
-use Rattle.lis_tool.specs.LineOutcome.{Writes, capture_outcome, lines_outcome, lines_text}
-use Rattle.lis_tool.specs.Outcome.{Outcome, whole}
-use Rattle.lis_tool.specs.Replay.{difference_count, played, played_line, replay_writes_from, text_count, texts}
-use Rattle.lis_tool.specs.Replay.{texts_writes}
-use Rattle.lis_tool.specs.Upgrade.{opening, upgrade, upgrade_writes}
 
 -- ---- what `upgrade` writes
 

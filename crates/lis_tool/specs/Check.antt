@@ -6,9 +6,9 @@ use Rattle.lis_field.specs.declared.kinds.Kind.{Kind}
 use Rattle.lis_field.specs.Kinds.{letter_of}
 use Rattle.lis_field.specs.Shape.{RecordContent}
 use Rattle.lis_message.specs.inside.Taking.{records_of}
-use Rattle.lis_tool.specs.Codes.{printed_reason}
+use Rattle.lis_run.specs.Codes.{refused_line}
+use Rattle.lis_run.specs.Parts.{joined}
 use Rattle.lis_tool.specs.Messages.{MessageWrites}
-use Rattle.lis_tool.specs.inside.Parts.{joined}
 use Rattle.lis_tree.specs.declared.fault.MessageFault.{MessageFault}
 use Rattle.lis_tree.specs.declared.numbering.Finding.{Finding}
 use Rattle.lis_tree.specs.declared.numbering.Numbering.{Numbering}
@@ -43,12 +43,6 @@ check_message before m = message_line (before + 1) ++ record_lines 1 (flatten m)
 abbrev pub finding_count : List MessageTree → ℕ
 finding_count [] = 0
 finding_count (m ∷ messages) = length (findings_of m) + finding_count messages
-
--- `refused M P CODE`
-abbrev pub refused_line : ℕ → MessageFault → List ℕ
-refused_line number fault =
-    joined (codes "refused " ∷ decimal number ∷ codes " " ∷ decimal fault.place ∷ codes " "
-    ∷ printed_reason fault.reason ∷ codes "\n" ∷ [])
 
 -- where a record is refused, it stands in the message behind so many
 abbrev pub refused_part : ℕ → Option MessageFault → List ℕ

@@ -10,10 +10,10 @@ use Rattle.lis_message.specs.Feeding.{ReadsWhole}
 use Rattle.lis_message.specs.Stream.{IsCut}
 use Rattle.lis_message.specs.Texts.{FitsInTexts}
 use Rattle.lis_message.specs.Writing.{message_bytes, message_texts_of}
-use Rattle.lis_tool.specs.LineOutcome.{capture_outcome}
-use Rattle.lis_tool.specs.Outcome.{Outcome}
-use Rattle.lis_tool.specs.Replay.{replay_writes_from, texts}
-use Rattle.lis_tool.specs.Upgrade.{upgrade}
+use Rattle.lis_run.specs.LineOutcome.{capture_outcome}
+use Rattle.lis_run.specs.Outcome.{Outcome}
+use Rattle.lis_run.specs.Replay.{replay_writes_from, texts}
+use Rattle.lis_run.specs.Upgrade.{upgrade}
 use Rattle.lis_tree.specs.declared.fault.MessageFault.{MessageFault}
 use Rattle.lis_tree.specs.declared.fault.Reason.TheVariants as reasons
 use Rattle.lis_tree.specs.Tree.{IsTree, MessageTree}

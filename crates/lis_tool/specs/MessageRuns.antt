@@ -2,13 +2,13 @@
 use Rattle.std.specs.Prelude.{◌≡◌, ℕ, ◌≤◌, Bool, List, length, take, Option, None, Some, Ok, Err}
 use Rattle.std.specs.declared.result.Result.{Result}
 use Rattle.std.specs.Io.KnownBytes.{Appends, Consumes}
-use Rattle.lis_tool.specs.declared.fault.ToolFault.{ToolFault}
-use Rattle.lis_tool.specs.declared.fault.ToolFault.TheVariants.{CaptureLine, Read, Write, OutOfMemory, TooManyReads}
-use Rattle.lis_tool.specs.declared.report.Report.{Report}
+use Rattle.lis_run.specs.declared.fault.ToolFault.{ToolFault}
+use Rattle.lis_run.specs.declared.fault.ToolFault.TheVariants.{CaptureLine, Read, Write, OutOfMemory, TooManyReads}
+use Rattle.lis_run.specs.declared.report.Report.{Report}
+use Rattle.lis_run.specs.Outcome.{Outcome, whole}
+use Rattle.lis_run.specs.Output.{WentOut}
+use Rattle.lis_run.specs.Runs.{Seen}
 use Rattle.lis_tool.specs.Messages.{MessageWrites, HasOutcome}
-use Rattle.lis_tool.specs.Outcome.{Outcome, whole}
-use Rattle.lis_tool.specs.Output.{WentOut}
-use Rattle.lis_tool.specs.Runs.{Seen}
 
 -- A report is that of the bytes, and all of their text went out, with the closing lines. Where the source failed or
 -- was read too often no record is refused, and the text of the whole messages went out. Where the sink failed as much

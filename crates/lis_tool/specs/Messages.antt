@@ -10,15 +10,15 @@ use Rattle.lis_message.specs.Records.{HasLeft}
 use Rattle.lis_message.specs.Stream.{IsCut, IsRefused}
 use Rattle.lis_message.specs.inside.Taking.{begun_with, records_of}
 use Rattle.lis_record.specs.Lent.{Lent}
-use Rattle.lis_tool.specs.declared.fault.ToolFault.{ToolFault}
-use Rattle.lis_tool.specs.declared.fault.ToolFault.TheVariants.{OutOfMemory}
-use Rattle.lis_tool.specs.declared.machine.Halt.{Halt}
-use Rattle.lis_tool.specs.declared.machine.Turn.{Turn}
-use Rattle.lis_tool.specs.declared.machine.Turn.TheVariants.{On, Off}
-use Rattle.lis_tool.specs.declared.report.Report.{Report}
-use Rattle.lis_tool.specs.Outcome.{Outcome, going}
-use Rattle.lis_tool.specs.Output.{Out}
-use Rattle.lis_tool.specs.inside.Steps.{Fails, Halts, IsEarly, Puts, Steps}
+use Rattle.lis_run.specs.declared.fault.ToolFault.{ToolFault}
+use Rattle.lis_run.specs.declared.fault.ToolFault.TheVariants.{OutOfMemory}
+use Rattle.lis_run.specs.declared.machine.Halt.{Halt}
+use Rattle.lis_run.specs.declared.machine.Turn.{Turn}
+use Rattle.lis_run.specs.declared.machine.Turn.TheVariants.{On, Off}
+use Rattle.lis_run.specs.declared.report.Report.{Report}
+use Rattle.lis_run.specs.Outcome.{Outcome, going}
+use Rattle.lis_run.specs.Output.{Out}
+use Rattle.lis_run.specs.inside.Steps.{Fails, Halts, IsEarly, Puts, Steps}
 use Rattle.lis_tree.specs.inside.Begun.{Begun}
 use Rattle.lis_tree.specs.declared.fault.MessageFault.{MessageFault}
 use Rattle.lis_tree.specs.Tree.{MessageTree, flatten}

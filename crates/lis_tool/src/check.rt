@@ -1,29 +1,22 @@
 //! The command `check`: messages, their records and what is to be looked at in them (LIS02-A2).
 
 ghost use Rattle.std.specs.Prelude.{◌≡◌, ◌^◌, ◌<◌, ◌≤◌, ◌++◌, [], List, None, OnOk, true, false, is_err, length, IfOk};
+ghost use Rattle.lis_run.specs.Runs.{AreFresh, Stops};
 ghost use Rattle.lis_tool.specs.Check.{IsChecking, check_writes, finding_count, finding_line, message_line};
-ghost use Rattle.lis_tool.specs.Check.{record_line, refused_line};
+ghost use Rattle.lis_tool.specs.Check.{record_line};
 ghost use Rattle.lis_tool.specs.MessageRuns.{MessagesRan};
 ghost use Rattle.lis_tool.specs.Messages.{report_after};
-ghost use Rattle.lis_tool.specs.Runs.{AreFresh, Stops};
 ghost use Rattle.lis_tree.specs.Tree.{MessageTree};
 
-use crate::fault::ToolFault;
-use crate::gather::{append_number, make_room};
 use crate::held_text::HeldText;
-use crate::messages::{Closing, MessageMachine, run_messages};
-use crate::ports::SourceFor;
-use crate::report::{Ended, Refused, Report, printed_reason};
-use crate::tell::{Counts, Part, Tell};
+use crate::messages::{Closing, MessageMachine, report_behind, run_messages};
 use lis_capture::Page;
 use lis_field::Kind;
 use lis_message::{LentRecord, MessageFault};
 use lis_port::Sink;
+use lis_run::{Counts, Ended, Part, SourceFor, Tell, ToolFault};
 use lis_tree::{Finding, Numbering};
 use std::alloc::{AllocError, Global};
-
-/// The room that the first line of a message has.
-const FIRST_ROOM: usize = 60;
 
 /// Reads record text and writes for each message its number, a line for each of its records and one for each finding on
 /// their sequence numbers; where a record is refused, or the end of the input comes before that of a message, its place
@@ -117,7 +110,7 @@ impl MessageMachine for Check {
             other_word: b" findings ",
             other_count: self.told,
         };
-        let report = Report::behind(before, self.told > 0, fault);
+        let report = report_behind(before, self.told > 0, fault);
         Closing {
             report,
             lines: (report.refused, Some(sums)),
@@ -136,11 +129,8 @@ impl Tell for FirstLine {
 
     #[inline(always)]
     fn tell<W: Sink>(&self, sink: &mut W, page: &mut Page, written: u64) -> Result<u64, ToolFault> {
-        let after = make_room(sink, page, written, FIRST_ROOM)?;
-        page.append(b"message ");
-        append_number(page, self.number);
-        page.append(b"\n");
-        Ok(after)
+        let number = (Part::Number(self.number), Part::Text(b"\n"));
+        (Part::Text(b"message "), number).tell(sink, page, written)
     }
 }
 
@@ -192,22 +182,4 @@ fn add_finding(lines: &mut HeldText, finding: Finding) -> Result<(), AllocError>
 {
     lines.add(b"finding ")?;
     add_record(lines, finding.place, finding.kind, finding.expected)
-}
-
-/// The line of a refusal.
-impl Tell for Refused {
-    ghost text = { λ it. refused_line it.message it.fault };
-
-    fn tell<W: Sink>(&self, sink: &mut W, page: &mut Page, written: u64) -> Result<u64, ToolFault> {
-        let parts = [
-            Part::Text(b"refused "),
-            Part::Number(self.message),
-            Part::Text(b" "),
-            Part::Number(self.fault.place),
-            Part::Text(b" "),
-            Part::Text(printed_reason(self.fault.reason).as_bytes()),
-            Part::Text(b"\n"),
-        ];
-        parts.as_slice().tell(sink, page, written)
-    }
 }

@@ -3,35 +3,19 @@
 
 pub mod check;
 pub mod commands;
-pub mod fault;
-mod gather;
 mod held_text;
 pub mod laws;
-pub mod lines;
-pub mod machine;
 pub mod messages;
-mod output;
-mod playing;
-pub mod ports;
-pub mod replay;
-pub mod report;
 pub mod results;
 pub mod run;
-pub mod show;
-mod tell;
-pub mod texts;
-pub mod upgrade;
 pub mod words;
 
 pub use check::run_check;
 pub use commands::Command;
-pub use fault::ToolFault;
-pub use ports::SourceFor;
-pub use replay::{run_replay, run_replay_of};
-pub use report::{Ended, Refused, Report};
+pub use lis_run::{
+    Ended, Halt, LineMachine, Lines, Machine, Refused, Report, SourceFor, ToolFault, Turn,
+    run_replay, run_replay_of, run_show, run_show_of, run_texts, run_texts_of, run_upgrade,
+};
 pub use results::run_results;
 pub use run::run_command;
-pub use show::{run_show, run_show_of};
-pub use texts::{run_texts, run_texts_of};
-pub use upgrade::run_upgrade;
 pub use words::command;

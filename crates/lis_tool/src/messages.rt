@@ -1,29 +1,25 @@
 //! Commands that take record text message by message, each record where it stands.
 
 ghost use Rattle.std.specs.Prelude.{◌≡◌, ◌+◌, ◌^◌, ◌<◌, ◌++◌, ◌∷◌, [], ℕ, List, None, Some, Option, IfNone, IfSome};
-ghost use Rattle.std.specs.Prelude.{OnOk, false, true, is_err, length, Ok};
+ghost use Rattle.std.specs.Prelude.{OnOk, false, true, if◌then◌else◌, is_err, length, Ok};
 ghost use Rattle.std.specs.Option.{option_to_list};
 ghost use Rattle.lis_message.specs.Feeding.{StopsReading};
 ghost use Rattle.lis_message.specs.inside.Taking.{ComesNext, Completes, left_after, records_of};
-ghost use Rattle.lis_tool.specs.LineOutcome.{LineEnds, LineSteps};
+ghost use Rattle.lis_run.specs.LineOutcome.{LineEnds, LineSteps};
+ghost use Rattle.lis_run.specs.Output.{Gathered, out};
+ghost use Rattle.lis_run.specs.Runs.{AreFresh, Stops};
 ghost use Rattle.lis_tool.specs.MessageRuns.{MessagesRan};
 ghost use Rattle.lis_tool.specs.Messages.{Comes, IsReadingMessages, IsShorter, MessageWrites, RefusesBy, StepsOver};
 ghost use Rattle.lis_tool.specs.Messages.{messages_text, reads_on, record_count, report_after, turn_after};
 ghost use Rattle.lis_tool.specs.Messages.{whole_begun, with_record};
-ghost use Rattle.lis_tool.specs.Output.{Gathered, out};
-ghost use Rattle.lis_tool.specs.Runs.{AreFresh, Stops};
 ghost use Rattle.lis_tree.specs.inside.Begun.{Begun};
 ghost use Rattle.lis_tree.specs.Tree.{MessageTree};
 
-use crate::fault::ToolFault;
-use crate::machine::{Halt, Machine, Turn};
-use crate::ports::SourceFor;
-use crate::report::{Ended, Refused, Report};
-use crate::tell::{Counts, Tell};
 use lis_capture::Page;
 use lis_field::Kind;
 use lis_message::{Found, LentRecord, MessageFault, Reason, RecordReader};
 use lis_port::Sink;
+use lis_run::{Counts, Ended, Halt, Machine, Refused, Report, SourceFor, Tell, ToolFault, Turn};
 use std::alloc::{AllocError, Global};
 
 /// A command that takes record text message by message. Contracts see the messages in their order, and the records of
@@ -75,6 +71,26 @@ pub trait MessageMachine: Drop {
 pub struct Closing {
     pub(crate) report: Report,
     pub(crate) lines: (Option<Refused>, Option<Counts>),
+}
+
+/// The report of a run over so many messages, where none or this is refused behind them, by whether it found something
+/// to look at.
+pub(crate) fn report_behind(before: u64, found: bool, fault: Option<MessageFault>) -> Report
+    ensures { (w : MessageWrites) (messages : List MessageTree) → before ≡ length messages
+        → length messages < 2 ^ 44 → (if found then 1 else 0) ≡ w.status messages
+        → result ≡ report_after w messages fault }
+{
+    let Some(fault) = fault else {
+        return Report {
+            status: if found { 1 } else { 0 },
+            refused: None,
+        };
+    };
+    let message = before.saturating_add(1);
+    Report {
+        status: 1,
+        refused: Some(Refused { message, fault }),
+    }
 }
 
 /// Runs a command over record text: it takes the messages of what the source gives, by at most `reads` calls of read.

@@ -3,23 +3,20 @@
 ghost use Rattle.std.specs.Prelude.{◌≡◌, ◌^◌, ◌<◌, ◌≤◌, ◌++◌, ◌∷◌, List, Option, None, OnOk, true, length, IfOk};
 ghost use Rattle.lis_field.specs.declared.kinds.Kind.TheVariants as kinds;
 ghost use Rattle.lis_field.specs.Shape.{Repeats};
+ghost use Rattle.lis_run.specs.Runs.{AreFresh, Stops};
 ghost use Rattle.lis_tool.specs.MessageRuns.{MessagesRan};
 ghost use Rattle.lis_tool.specs.Messages.{report_after};
 ghost use Rattle.lis_tool.specs.Results.{IsTelling, field_text, fields_behind, result_line, results_writes};
 ghost use Rattle.lis_tool.specs.Results.{told_fields};
-ghost use Rattle.lis_tool.specs.Runs.{AreFresh, Stops};
 ghost use Rattle.lis_tree.specs.Tree.{MessageTree};
 
-use crate::fault::ToolFault;
 use crate::held_text::HeldText;
-use crate::messages::{Closing, MessageMachine, run_messages};
-use crate::ports::SourceFor;
-use crate::report::{Ended, Report};
-use crate::tell::{Part, Tell};
+use crate::messages::{Closing, MessageMachine, report_behind, run_messages};
 use lis_capture::Page;
 use lis_field::Kind;
 use lis_message::{LentRecord, MessageFault};
 use lis_port::Sink;
+use lis_run::{Ended, Part, SourceFor, Tell, ToolFault};
 use std::alloc::{AllocError, Global};
 
 /// Reads record text and writes a line for each result record: field 3 of its order, and its own fields 3 to 7 and 9,
@@ -93,7 +90,7 @@ impl MessageMachine for Results {
 
     fn closing(&self, before: u64, fault: Option<MessageFault>) -> Closing {
         Closing {
-            report: Report::behind(before, false, fault),
+            report: report_behind(before, false, fault),
             lines: (None, None),
         }
     }

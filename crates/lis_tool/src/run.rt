@@ -1,19 +1,17 @@
 //! A command, run by its name.
 
 ghost use Rattle.std.specs.Prelude.{◌≡◌, ◌≤◌, false, IfOk};
+ghost use Rattle.lis_run.specs.Runs.{AreFresh, Stops};
 ghost use Rattle.lis_tool.specs.Commands.{CommandRan, closes, refuses};
-ghost use Rattle.lis_tool.specs.Runs.{AreFresh, Stops};
 
 use crate::check::run_check;
 use crate::commands::Command;
-use crate::ports::SourceFor;
-use crate::replay::{run_replay, run_replay_of};
-use crate::report::Ended;
 use crate::results::run_results;
-use crate::show::{run_show, run_show_of};
-use crate::texts::{run_texts, run_texts_of};
-use crate::upgrade::run_upgrade;
 use lis_port::Sink;
+use lis_run::{
+    Ended, SourceFor, run_replay, run_replay_of, run_show, run_show_of, run_texts, run_texts_of,
+    run_upgrade,
+};
 use std::alloc::Global;
 
 /// Runs a command from the source to the sink, by at most `reads` calls of read; with `long` for

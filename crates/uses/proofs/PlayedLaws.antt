@@ -7,8 +7,8 @@ use Rattle.lis_frame.specs.Stream.{stream_with}
 use Rattle.lis_link.proofs.HearingLaws.{stream_with-append}
 use Rattle.lis_capture.specs.Capture.{capture}
 use Rattle.lis_capture.proofs.CaptureLemmas.{capture-refused}
-use Rattle.lis_tool.specs.declared.fault.ToolFault.{ToolFault}
-use Rattle.lis_tool.specs.declared.fault.ToolFault.TheVariants.{CaptureLine, Read, Write, OutOfMemory, TooManyReads}
+use Rattle.lis_run.specs.declared.fault.ToolFault.{ToolFault}
+use Rattle.lis_run.specs.declared.fault.ToolFault.TheVariants.{CaptureLine, Read, Write, OutOfMemory, TooManyReads}
 use Rattle.lis_tool.specs.CaptureRuns.{LineAnswer}
 use Rattle.lis_tool.specs.LineOutcome.{Writes}
 use Rattle.lis_tool.specs.Runs.{EachGave, Stopped}

@@ -1,5 +1,5 @@
 use Rattle.std.proofs.Common.{◌≡◌, ◌+◌, ◌∷◌, ◌++◌, [], ℕ, List, length, length-append, arith, refl, subst}
-use Rattle.lis_tool.specs.Output.{Gathered, out}
+use Rattle.lis_run.specs.Output.{Gathered, out}
 use Rattle.lis_tool.proofs.CheckLaws.{check_text, told_more}
 use Rattle.lis_tool.proofs.MessageLaws.{messages_few}
 use Rattle.lis_tool.proofs.check.CheckMessageMachine.message.Goals as goal

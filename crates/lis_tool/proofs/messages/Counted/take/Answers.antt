@@ -1,5 +1,5 @@
 use Rattle.std.proofs.Common.{Ok, Err, sym, ◌∙◌, arith}
-use Rattle.lis_tool.specs.Output.{out}
+use Rattle.lis_run.specs.Output.{out}
 use Rattle.lis_tool.proofs.RecordSteps.{closing_counted, closing_stood, closing_text, open_steps}
 use Rattle.lis_tool.proofs.messages.Counted.take.Goals as goal
 

@@ -1,7 +1,7 @@
 use Rattle.std.proofs.Common.{◌≡◌, [], refl, sym, ◌∙◌, inl, None, Some, Ok, Err, append-nil, arith, true}
 use Rattle.lis_message.specs.Feeding.{answer_at_end}
+use Rattle.lis_run.proofs.GatherLaws.{gathered_nothing}
 use Rattle.lis_tool.specs.Messages.{cut_short, complete}
-use Rattle.lis_tool.proofs.GatherLaws.{gathered_nothing}
 use Rattle.lis_tool.proofs.MessageLaws.{ends_over, nothing_left, cut_whole}
 use Rattle.lis_tool.proofs.RecordSteps.{read_few}
 use Rattle.lis_tool.proofs.messages.MessagesMachine.end.Goals as goal

@@ -1,10 +1,10 @@
 use Rattle.std.proofs.Common.{◌≡◌, ◌++◌, [], ℕ, List, Ok, length, refl, sym}
 use Rattle.std.proofs.Common.{◌∙◌, ap, subst, append-nil, arith}
 use Rattle.std.proofs.lemmas.Bool.{eqb-true}
+use Rattle.lis_run.specs.Output.{out}
+use Rattle.lis_run.specs.inside.Steps.{Puts}
+use Rattle.lis_run.proofs.GatherLaws.{gathered_nothing}
 use Rattle.lis_tool.specs.Messages.{IsReadingMessages}
-use Rattle.lis_tool.specs.Output.{out}
-use Rattle.lis_tool.specs.inside.Steps.{Puts}
-use Rattle.lis_tool.proofs.GatherLaws.{gathered_nothing}
 use Rattle.lis_tool.proofs.RecordSteps.{all_read, steps_on}
 use Rattle.lis_tool.proofs.messages.MessagesMachine.feed.Goals as goal
 

@@ -1,7 +1,7 @@
 use Rattle.std.proofs.Common.{◌≡◌, ◌+◌, ◌<◌, ◌^◌, ◌++◌, ℕ, List, false, length}
+use Rattle.lis_run.specs.Output.{out}
+use Rattle.lis_run.specs.inside.Steps.{Puts}
 use Rattle.lis_tool.specs.Messages.{IsReadingMessages}
-use Rattle.lis_tool.specs.Output.{out}
-use Rattle.lis_tool.specs.inside.Steps.{Puts}
 use Rattle.lis_tool.proofs.messages.MessagesMachine.feed.Given as goal
 
 -- what is read, and what came of it

@@ -1,0 +1,99 @@
+use Rattle.std.proofs.Common.{[], ◌∷◌, Ok, Err, take, drop, ◌∙◌, arith}
+use Rattle.std.proofs.lemmas.Result.{err_from_is_err_and}
+use Rattle.lis_frame.specs.Scanner.{StandsFor}
+use Rattle.lis_frame.specs.Stream.{signal_after, signals_after, stream_with, with_signal}
+use Rattle.lis_run.specs.Show.{frame_line, signal_lines}
+use Rattle.lis_run.specs.Parts.{text_if_any}
+use Rattle.lis_run.specs.Output.{out}
+use Rattle.lis_run.proofs.GatherLaws.{gathered_then, gathered_stops, gathered_none}
+use Rattle.lis_run.proofs.ShowLaws.{signal_lines-with, no_lines, front_lines, front_stream}
+use Rattle.lis_run.proofs.show.show_bytes.Goals as goal
+
+pub loop-byte-preserved-then-taken-eq0 : goal.loop-byte-preserved-then-taken-eq0
+loop-byte-preserved-then-taken-eq0 g c =
+    let split = c.in-Some.ensures.cases.0 in
+    record {
+      fits = c.in_ok-after.ensures.count;
+      working = c.in_ok-after.ensures.failed;
+      goes_on = λ past stands.
+          let point = c.loop-byte.invariant.goes_on past stands in
+          let byte = c.in-Some.byte.now in
+          let left = c.in-Some.left.now in
+          let same : StandsFor g.row.N c.scan-taken.new.self point.0 =
+          rw c.if-taken-eq0.true at (c.scan-taken.ensures.after point.0 point.1) in (
+            byte ∷ point.0,
+            c.in_ok-after.ensures.stands point.0 same,
+            rw split at point.2,
+            λ new r p.
+                (rw split at point.3) new r
+                (rw (signal_lines-with (signal_after g.row.N point.0 byte)
+                (signals_after g.row.N (byte ∷ point.0) left))
+                (gathered_then _ _ _ _ c.in_ok-after.after r (signal_lines
+                (with_signal (signal_after g.row.N point.0 byte) []))
+                (signal_lines (signals_after g.row.N (byte ∷ point.0) left))
+                (c.in_ok-after.ensures.gathered point.0 same) p)),
+          );
+    }
+
+pub loop-byte-preserved : goal.loop-byte-preserved
+loop-byte-preserved g c =
+    let n = c.scan-taken.result.0 in
+    let frame = c.scan-taken.result.1 in
+    let rest = c.loop-byte.rest.now in
+    record {
+      fits = omega (arith, c.in_ok-after-2.ensures.gathered.2.counted);
+      working = c.in_ok-after-2.ensures.failed;
+      goes_on = λ past stands.
+          let point = c.loop-byte.invariant.goes_on past stands in
+          let there = stream_with point.0 (take n rest) in (
+            there,
+            c.scan-taken.ensures.after point.0 point.1,
+            rw c.split_at.ensures.back (front_stream n point.0 rest ∙ point.2),
+            λ new r p.
+                point.3 new r
+                (rw (front_lines g.row.N n point.0 rest frame (c.scan-taken.ensures.signal point.0 point.1))
+                (gathered_then _ _ _ _ c.in_ok-after-2.after r (text_if_any frame_line frame)
+                (signal_lines (signals_after g.row.N there (drop n rest)))
+                c.in_ok-after-2.ensures.gathered (rw c.split_at.ensures.back at p))),
+          );
+    }
+
+pub returns-in_err-after-clause-gathered : goal.returns-in_err-after-clause-gathered
+returns-in_err-after-clause-gathered g c = λ past stands.
+    let p = err_from_is_err_and c.from_residual.result c.from_residual.ensures.1 in
+    let point = c.loop-byte.invariant.goes_on past stands in
+    let split = c.in-Some.ensures.cases.0 in
+    let byte = c.in-Some.byte.now in
+    let left = c.in-Some.left.now in
+    let same : StandsFor g.row.N c.scan-taken.new.self point.0 =
+    rw c.if-taken-eq0.true at (c.scan-taken.ensures.after point.0 point.1) in
+    let there = out (g.W.Sink.taken c.show_byte.new.sink) c.show_byte.new.page in
+    rw (p.1, p.2)
+    ((rw split at point.3) there (Err c.in_err-after.field-0.0)
+    (rw (signal_lines-with (signal_after g.row.N point.0 byte) (signals_after g.row.N (byte ∷ point.0) left))
+    (gathered_stops (out (g.W.Sink.taken c.loop-byte.sink) c.loop-byte.page) there c.loop-byte.after
+    c.in_err-after.field-0.0
+    (signal_lines (with_signal (signal_after g.row.N point.0 byte) []))
+    (signal_lines (signals_after g.row.N (byte ∷ point.0) left))
+    (c.in_err-after.ensures.gathered point.0 same))))
+
+pub returns-in_err-after-2-clause-gathered : goal.returns-in_err-after-2-clause-gathered
+returns-in_err-after-2-clause-gathered g c = λ past stands.
+    let p = err_from_is_err_and c.from_residual-in_err-after-2.result c.from_residual-in_err-after-2.ensures.1 in
+    let point = c.loop-byte.invariant.goes_on past stands in
+    let n = c.scan-taken.result.0 in
+    let frame = c.scan-taken.result.1 in
+    let rest = c.loop-byte.rest.now in
+    rw (p.1, p.2)
+    (point.3 (out (g.W.Sink.taken c.tell_lent.new.sink) c.tell_lent.new.page) (Err c.in_err-after-2.field-0.0)
+    (rw (front_lines g.row.N n point.0 rest frame (c.scan-taken.ensures.signal point.0 point.1))
+    (gathered_stops (out (g.W.Sink.taken c.loop-byte.sink) c.loop-byte.page)
+    (out (g.W.Sink.taken c.tell_lent.new.sink) c.tell_lent.new.page)
+    c.loop-byte.after c.in_err-after-2.field-0.0 (text_if_any frame_line frame) _ c.in_err-after-2.ensures.gathered)))
+
+pub returns-clause-gathered : goal.returns-clause-gathered
+returns-clause-gathered g c = λ past stands.
+    let point = c.loop-byte.invariant.goes_on past stands in
+    point.3 (out (g.W.Sink.taken c.loop-byte.sink) c.loop-byte.page) (Ok c.loop-byte.after)
+    (gathered_none _ c.loop-byte.after _ c.loop-byte.invariant.fits
+    (no_lines g.row.N point.0 c.loop-byte.rest.now c.in_default.ensures.cases))

@@ -1,0 +1,66 @@
+-- What the lines of a capture come to, for a command that writes something for each. Lines are kept newest first.
+use Rattle.std.specs.Prelude.{◌≡◌, ℕ, ◌+◌, Bool, true, false, List, [], ◌∷◌, ◌++◌, length, Some, Ok, Err}
+use Rattle.std.specs.declared.result.Result.{Result}
+use Rattle.lis_frame.specs.Stream.{stream_with}
+use Rattle.lis_capture.specs.declared.line.Line.{Line}
+use Rattle.lis_capture.specs.Capture.{capture}
+use Rattle.lis_capture.specs.Reader.{HasRead, Reading}
+use Rattle.lis_run.specs.declared.fault.ToolFault.{ToolFault}
+use Rattle.lis_run.specs.declared.fault.ToolFault.TheVariants.{CaptureLine, OutOfMemory}
+use Rattle.lis_run.specs.declared.machine.Halt.{Halt}
+use Rattle.lis_run.specs.declared.machine.Turn.{Turn}
+use Rattle.lis_run.specs.declared.machine.Turn.TheVariants.{On, Off}
+use Rattle.lis_run.specs.declared.report.Report.{Report}
+use Rattle.lis_run.specs.Outcome.{Outcome, going}
+use Rattle.lis_run.specs.Output.{Gathered, Out}
+
+-- what a command writes for a line behind others, and behind the last; and how it ends
+pub record Writes : Type 0 where
+  pub line : List Line → Line → List ℕ
+  pub last : List Line → List ℕ
+  pub report : List Line → Report
+
+-- all that is written for lines
+abbrev pub lines_text : Writes → List Line → List ℕ
+lines_text w [] = []
+lines_text w (line ∷ lines) = lines_text w lines ++ w.line lines line
+
+-- what the lines come to, by whether the next one is refused and whether the input is ended: a refused line stops the
+-- run with its number, and else the end of the input does
+abbrev pub lines_outcome : Writes → (refused ended : Bool) → List Line → Outcome
+lines_outcome w true ended lines =
+    record { text = lines_text w lines; closing = []; halt = Some (Err (CaptureLine (length lines + 1))) }
+lines_outcome w false true lines = record {
+  text = lines_text w lines;
+  closing = w.last lines;
+  halt =
+      Some (Ok (w.report lines));
+}
+lines_outcome w false false lines = going (lines_text w lines)
+
+-- what bytes come to, newest first
+abbrev pub capture_outcome : Writes → List ℕ → Bool → Outcome
+capture_outcome w past ended = lines_outcome w (capture past ended).refused ended (capture past ended).lines
+
+-- ---- by steps
+
+-- what a step gathers for a line: all of its text, or a part where memory is refused or the sink fails
+abbrev pub LineSteps : (takes_memory : Bool) (stands : Type 0) → Out → Out → ℕ → List ℕ → Result Turn ToolFault → Type 0
+LineSteps takes_memory stands old new before text (Ok (On after)) = Gathered old new before (Ok after) text × stands
+LineSteps takes_memory stands old new before text (Ok (Off halt)) =
+    (halt.result ≡ Err OutOfMemory) × (takes_memory ≡ true)
+    × (more : List ℕ) × (rest : List ℕ) × (text ≡ more ++ rest) × Gathered old new before (Ok halt.written) more
+LineSteps takes_memory stands old new before text (Err fault) = Gathered old new before (Err fault) text
+
+-- and behind the last line
+abbrev pub LineEnds : Report → Out → Out → ℕ → List ℕ → Result Halt ToolFault → Type 0
+LineEnds report old new before text (Ok halt) =
+    (halt.result ≡ Ok report) × Gathered old new before (Ok halt.written) text
+LineEnds report old new before text (Err fault) = Gathered old new before (Err fault) text
+
+-- these bytes were read, no line of them is refused, and the command stands for the lines; their text is this
+pub record IsLined (w : Writes) (stands : List Line → Type 0) (reader : Reading) (bytes text : List ℕ) : Type 0 where
+  pub has_read : HasRead reader (stream_with [] bytes)
+  pub fine : (capture (stream_with [] bytes) false).refused ≡ false
+  pub stood : stands (capture (stream_with [] bytes) false).lines
+  pub text_is : text ≡ lines_text w (capture (stream_with [] bytes) false).lines

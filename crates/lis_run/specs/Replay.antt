@@ -1,0 +1,159 @@
+-- What `replay` and `texts` write of a capture: a new receiver hears what the analyzer sent, what it replies is
+-- compared with what the computer sent, and the texts that it hands out are told.
+use Rattle.std.specs.Prelude.{ℕ, ◌+◌, nat_lt, not, Bool, true, false, List, [], ◌∷◌, ◌++◌, length, codes, decimal}
+use Rattle.std.specs.Prelude.{None, if◌then◌else◌}
+use Rattle.std.specs.List.{flat_map}
+use Rattle.std.specs.Option.{option_to_list}
+use Rattle.std.specs.Str.{bytes_eq}
+use Rattle.hex.specs.Hex.{encode_lower}
+use Rattle.lis_frame.specs.Stream.{stream_with}
+use Rattle.lis_link.specs.Receiver.{ReceiverState, new_receiver, on_byte, on_receiver_timer, receiver_restarted}
+use Rattle.lis_link.specs.Receiver.{with_readiness}
+use Rattle.lis_capture.specs.declared.line.Line.{Line}
+use Rattle.lis_capture.specs.declared.line.Line.TheVariants.{Empty, FromAnalyzer, FromComputer, Timer, Restart}
+use Rattle.lis_capture.specs.declared.line.Line.TheVariants.{SetReady, Version}
+use Rattle.lis_run.specs.declared.report.Report.{Report}
+use Rattle.lis_run.specs.LineOutcome.{Writes, capture_outcome}
+use Rattle.lis_run.specs.Outcome.{whole}
+use Rattle.lis_run.specs.Parts.{joined}
+use Rattle.lis_run.specs.Show.{clean}
+
+-- ---- the receiver
+
+-- the receiver after bytes, its replies to them, and the texts that it hands out
+abbrev pub having_heard : ℕ → ReceiverState → List ℕ → ReceiverState
+having_heard limit r [] = r
+having_heard limit r (b ∷ bytes) = having_heard limit (on_byte limit b r).after bytes
+
+abbrev pub replies : ℕ → ReceiverState → List ℕ → List ℕ
+replies limit r [] = []
+replies limit r (b ∷ bytes) = option_to_list (on_byte limit b r).reply ++ replies limit (on_byte limit b r).after bytes
+
+abbrev pub handed : ℕ → ReceiverState → List ℕ → List (List ℕ)
+handed limit r [] = []
+handed limit r (b ∷ bytes) = option_to_list (on_byte limit b r).message ++ handed limit (on_byte limit b r).after bytes
+
+-- what is known behind lines: the receiver, and its replies since the last line from the computer
+pub record Played : Type 0 where
+  pub receiver : ReceiverState
+  pub replies : List ℕ
+
+-- a line of the analyzer's bytes is heard; one of the computer's ends the replies that it is compared with
+abbrev pub played_line : ℕ → Line → Played → Played
+played_line limit (FromAnalyzer bytes) p =
+    record { receiver = having_heard limit p.receiver bytes; replies = p.replies ++ replies limit p.receiver bytes }
+played_line limit (FromComputer bytes) p = record p { replies = [] }
+played_line limit Timer p = record p { receiver = (on_receiver_timer p.receiver).after }
+played_line limit Restart p = record p { receiver = receiver_restarted p.receiver }
+played_line limit (SetReady readiness) p = record p { receiver = with_readiness readiness p.receiver }
+played_line limit Empty p = p
+played_line limit Version p = p
+
+-- a new receiver, behind lines, newest first
+abbrev pub played : ℕ → List Line → Played
+played limit [] = record { receiver = new_receiver; replies = [] }
+played limit (line ∷ lines) = played_line limit line (played limit lines)
+
+-- the texts that a line hands out
+abbrev pub texts_at : ℕ → Line → Played → List (List ℕ)
+texts_at limit (FromAnalyzer bytes) p = handed limit p.receiver bytes
+texts_at limit line p = []
+
+-- whether a line from the computer differs from the replies collected
+abbrev pub differs_at : Line → Played → Bool
+differs_at (FromComputer bytes) p = not (bytes_eq bytes p.replies)
+differs_at line p = false
+
+-- ---- replay
+
+-- `text LINE LEN`
+abbrev pub text_line : ℕ → List ℕ → List ℕ
+text_line number text = joined (codes "text " ∷ decimal number ∷ codes " " ∷ decimal (length text) ∷ codes "\n" ∷ [])
+
+-- hexadecimal digits, or `-` for no byte
+abbrev pub digits_or_dash : List ℕ → List ℕ
+digits_or_dash [] = codes "-"
+digits_or_dash (b ∷ bytes) = encode_lower (b ∷ bytes)
+
+-- `difference PLACE WANT GOT`
+abbrev pub difference_line : List ℕ → List ℕ → List ℕ → List ℕ
+difference_line place want got =
+    joined (codes "difference " ∷ place ∷ codes " " ∷ digits_or_dash want ∷ codes " " ∷ digits_or_dash got
+    ∷ codes "\n" ∷ [])
+
+-- the computer's bytes beside the replies
+abbrev pub compared_line : ℕ → List ℕ → List ℕ → List ℕ
+compared_line number want got = if bytes_eq want got then [] else difference_line (decimal number) want got
+
+-- what a line of this number writes, behind what was played
+abbrev pub replay_line : ℕ → ℕ → Line → Played → List ℕ
+replay_line limit number (FromAnalyzer bytes) p = flat_map (text_line number) (handed limit p.receiver bytes)
+replay_line limit number (FromComputer bytes) p = compared_line number bytes p.replies
+replay_line limit number line p = []
+
+-- how many texts were handed out
+abbrev pub text_count : ℕ → List Line → ℕ
+text_count limit [] = 0
+text_count limit (line ∷ lines) = text_count limit lines + length (texts_at limit line (played limit lines))
+
+-- how many lines from the computer differed
+abbrev pub difference_count : ℕ → List Line → ℕ
+difference_count limit [] = 0
+difference_count limit (line ∷ lines) =
+    if differs_at line (played limit lines) then difference_count limit lines + 1 else difference_count limit lines
+
+-- replies that are left at the end differ from none
+abbrev pub left_line : List ℕ → List ℕ
+left_line [] = []
+left_line (b ∷ left) = difference_line (codes "end") [] (b ∷ left)
+
+-- the count with that difference
+abbrev pub count_with : List ℕ → ℕ → ℕ
+count_with [] count = count
+count_with (b ∷ left) count = count + 1
+
+-- `texts N differences D`
+abbrev pub counts_line : ℕ → ℕ → List ℕ
+counts_line texts differences = joined (codes "texts " ∷ decimal texts ∷ codes " differences " ∷ decimal differences
+    ∷ codes "\n" ∷ [])
+
+-- how many differences there are, with that at the end
+abbrev pub all_differences : ℕ → List Line → ℕ
+all_differences limit lines = count_with (played limit lines).replies (difference_count limit lines)
+
+-- 1 where there is a difference
+abbrev pub status_of : ℕ → Report
+status_of differences = record { status = if nat_lt 0 differences then 1 else 0; refused = None }
+
+-- what is written for each line and at the end, and the report, where the first line has this number
+abbrev pub replay_writes_from : (first : ℕ) → ℕ → Writes
+replay_writes_from first limit =
+    record {
+      line = λ lines line. replay_line limit (length lines + first) line (played limit lines);
+      last = λ lines. left_line (played limit lines).replies
+          ++ counts_line (text_count limit lines) (all_differences limit lines);
+      report = λ lines. status_of (all_differences limit lines);
+    }
+
+-- lines are numbered from 1
+abbrev pub replay_writes : ℕ → Writes
+replay_writes limit = replay_writes_from 1 limit
+
+-- all that is written of a capture
+abbrev pub replay : ℕ → List ℕ → List ℕ
+replay limit bytes = whole (capture_outcome (replay_writes limit) (stream_with [] bytes) true)
+
+-- ---- texts
+
+-- the texts as they stand, with nothing between them
+abbrev pub texts_writes : ℕ → Writes
+texts_writes limit =
+    record {
+      line = λ lines line. flat_map (λ text. text) (texts_at limit line (played limit lines));
+      last = λ lines. [];
+      report = λ lines. clean;
+    }
+
+-- all that is written of a capture
+abbrev pub texts : ℕ → List ℕ → List ℕ
+texts limit bytes = whole (capture_outcome (texts_writes limit) (stream_with [] bytes) true)

@@ -1,0 +1,27 @@
+-- What `upgrade` writes: the lines of a capture as those of version 2.
+use Rattle.std.specs.Prelude.{ℕ, Bool, List, [], ◌∷◌, ◌++◌, true, false}
+use Rattle.lis_frame.specs.Stream.{stream_with}
+use Rattle.lis_capture.specs.declared.line.Line.{Line}
+use Rattle.lis_capture.specs.declared.line.Line.TheVariants.{Version}
+use Rattle.lis_capture.specs.Spelling.{added_spelling, line_spelling}
+use Rattle.lis_run.specs.LineOutcome.{Writes, capture_outcome}
+use Rattle.lis_run.specs.Outcome.{whole}
+use Rattle.lis_run.specs.Show.{clean}
+
+-- the version stands before the first line, and alone where there is none
+abbrev pub opening : List Line → List ℕ
+opening [] = line_spelling Version
+opening (line ∷ lines) = []
+
+abbrev pub upgrade_writes : Writes
+upgrade_writes =
+    record { line = λ lines line. opening lines ++ added_spelling line; last = opening; report = λ lines. clean }
+
+-- all that is written of a capture
+abbrev pub upgrade : List ℕ → List ℕ
+upgrade bytes = whole (capture_outcome upgrade_writes (stream_with [] bytes) true)
+
+-- whether a line was there
+abbrev pub is_begun : List Line → Bool
+is_begun [] = false
+is_begun (line ∷ lines) = true

@@ -1,0 +1,199 @@
+//! Commands that take a capture line by line.
+
+ghost use Rattle.std.specs.Prelude.{◌≡◌, ◌+◌, ◌∷◌, [], ◌^◌, ◌<◌, ℕ, Bool, true, false, List, length, is_err};
+ghost use Rattle.lis_frame.specs.Stream.{stream_with};
+ghost use Rattle.lis_capture.specs.declared.line.Line.{Line as LineContent};
+ghost use Rattle.lis_capture.specs.Capture.{capture};
+ghost use Rattle.lis_capture.specs.Reader.{HasRead};
+ghost use Rattle.lis_run.specs.CaptureRuns.{CaptureRan};
+ghost use Rattle.lis_run.specs.LineOutcome.{IsLined, LineEnds, LineSteps, Writes, capture_outcome, lines_outcome};
+ghost use Rattle.lis_run.specs.Outcome.{going};
+ghost use Rattle.lis_run.specs.Output.{out};
+ghost use Rattle.lis_run.specs.Runs.{AreFresh, Stops};
+ghost use Rattle.std.proofs.Common.{ap, sym, ◌∙◌};
+
+use crate::fault::ToolFault;
+use crate::machine::{Halt, Machine, Turn};
+use crate::ports::SourceFor;
+use crate::report::Ended;
+use lis_capture::{Found, Line, LineReader, MOST_BYTES, Page};
+use lis_port::Sink;
+
+/// A command that takes a capture line by line. Contracts see the lines newest first.
+pub trait LineMachine: Drop {
+    // What it writes for a line behind others, and at the end.
+    ghost writes: { Writes };
+
+    // It stands for these lines, for which all was written.
+    ghost stands: { Self → List LineContent → Type 0 };
+
+    // Whether it may want memory.
+    ghost takes_memory: { Bool };
+
+    /// A new reader, which keeps of a line what the command takes: its bytes, or their digits.
+    fn reader() -> LineReader
+        ensures { HasRead result [] };
+
+    /// Takes the line of this number, behind `written` bytes of the run; there is room for its bytes where their digits
+    /// are kept. It halts the run only where memory is refused.
+    fn line<'a, W: Sink>(
+        &mut self,
+        sink: &mut W,
+        page: &mut Page,
+        written: u64,
+        number: u64,
+        line: &Line<'a>,
+        room: &'a mut [u8; MOST_BYTES],
+    ) -> Result<Turn, ToolFault>
+        requires { W.failed sink.old ≡ false }
+        ensures steps { (lines : List LineContent) → stands self.old lines → number ≡ length lines + 1
+            → number < 2 ^ 44 →
+            LineSteps takes_memory (stands self.new (line.now ∷ lines)) (out (W.taken sink.old) page.old)
+            (out (W.taken sink.new) page.new) written
+            (writes.line lines line.now) result }
+        ensures failed { W.failed sink.new ≡ is_err result };
+
+    /// Takes the end of the input.
+    fn end<W: Sink>(self, sink: &mut W, page: &mut Page, written: u64) -> Result<Halt, ToolFault>
+        requires { W.failed sink.old ≡ false }
+        ensures ends { (lines : List LineContent) → stands self lines → length lines < 2 ^ 44 →
+            LineEnds (writes.report lines) (out (W.taken sink.old) page.old) (out (W.taken sink.new) page.new) written
+            (writes.last lines) result }
+        ensures failed { W.failed sink.new ≡ is_err result };
+}
+
+/// Runs a command over a capture: it takes the lines of what the source gives, by at most `reads` calls of read.
+pub(crate) fn run_lines<C: LineMachine, R: SourceFor<W>, W: Sink>(
+    command: C,
+    source: &mut R,
+    sink: &mut W,
+    reads: u32,
+) -> Ended
+    requires new { C.stands command [] }
+    requires fresh { AreFresh (R.seen source.old sink.old) }
+    ensures ran { CaptureRan C.takes_memory C.writes (R.seen source.old sink.old) (R.seen source.new sink.new) result }
+    ensures stops { Stops false true (R.seen source.old sink.old) (R.seen source.new sink.new) reads result }
+{
+    source.run(sink, Lines::new(command), reads)
+}
+
+/// A command over the lines of a capture, as one over its bytes.
+#[derive(Drop)]
+pub struct Lines<C> {
+    command: C,
+    reader: LineReader,
+    room: [u8; MOST_BYTES],
+}
+
+impl<C: LineMachine> Lines<C> {
+    /// A reader at the start of a capture, with a command that was told no line.
+    pub fn new(command: C) -> Self
+        requires { C.stands command [] }
+        ensures { IsLined C.writes (C.stands result.command) result.reader [] [] }
+    {
+        Lines {
+            command,
+            reader: C::reader(),
+            room: [0; MOST_BYTES],
+        }
+    }
+
+    /// The command takes the line that was read last.
+    #[inline(always)]
+    fn take_line<W: Sink>(
+        &mut self,
+        sink: &mut W,
+        page: &mut Page,
+        written: u64,
+    ) -> Result<Turn, ToolFault>
+        requires { W.failed sink.old ≡ false }
+        ensures steps { (lines : List LineContent) → C.stands self.old.command lines
+            → self.old.reader.known.number ≡ length lines + 1 →
+            self.old.reader.known.number < 2 ^ 44 →
+            LineSteps C.takes_memory (C.stands self.new.command (self.old.reader.known.line ∷ lines))
+            (out (W.taken sink.old) page.old) (out (W.taken sink.new) page.new) written
+            (C.writes.line lines self.old.reader.known.line) result }
+        ensures reader { self.new.reader ≡ self.old.reader }
+        ensures failed { W.failed sink.new ≡ is_err result }
+    {
+        let number = self.reader.number();
+        let line = self.reader.line();
+        self.command
+            .line(sink, page, written, number, &line, &mut self.room)
+    }
+
+    /// How a run halts whose last line is refused.
+    fn refused(&self, written: u64) -> Halt
+        ensures written { result.written ≡ written }
+        ensures result { result.result ≡ Err (ToolFault.CaptureLine self.now.reader.known.number) }
+    {
+        Halt {
+            written,
+            result: Err(ToolFault::CaptureLine {
+                line: self.reader.number(),
+            }),
+        }
+    }
+}
+
+impl<C: LineMachine> Machine for Lines<C> {
+    ghost means = { λ bytes ended o. o ≡ capture_outcome C.writes (stream_with [] bytes) ended };
+
+    ghost stands = { λ m bytes text. IsLined C.writes (C.stands m.command) m.reader bytes text };
+
+    ghost takes_memory = { C.takes_memory };
+
+    ghost closes = { true };
+
+    ghost refuses = { false };
+
+    ghost goes_on = { λ m bytes text lined.
+        ap going lined.text_is
+        ∙ sym (ap (λ (refused : Bool). lines_outcome C.writes refused false
+        (capture (stream_with [] bytes) false).lines) lined.fine) };
+
+    fn feed<W: Sink>(
+        &mut self,
+        sink: &mut W,
+        page: &mut Page,
+        written: u64,
+        bytes: &[u8],
+    ) -> Result<Turn, ToolFault> {
+        let mut rest = bytes;
+        let mut after = written;
+        while !rest.is_empty() {
+            let (count, found) = self.reader.read(rest);
+            match found {
+                Found::Nothing => return Ok(Turn::On(after)),
+                Found::Refused => return Ok(Turn::Off(self.refused(after))),
+                Found::Line => match self.take_line(sink, page, after) {
+                    Ok(Turn::On(next)) => {
+                        after = next;
+                        let (_, left) = rest.split_at(count);
+                        rest = left;
+                    }
+                    Ok(Turn::Off(halt)) => return Ok(Turn::Off(halt)),
+                    Err(fault) => return Err(fault),
+                },
+            }
+        }
+        Ok(Turn::On(after))
+    }
+
+    fn end<W: Sink>(self, sink: &mut W, page: &mut Page, written: u64) -> Result<Halt, ToolFault> {
+        let mut lines = self;
+        match lines.reader.finish() {
+            Found::Nothing => lines.command.end(sink, page, written),
+            Found::Refused => Ok(lines.refused(written)),
+            Found::Line => match lines.take_line(sink, page, written) {
+                Ok(Turn::On(after)) => lines.command.end(sink, page, after),
+                Ok(Turn::Off(halt)) => Ok(halt),
+                Err(fault) => Err(fault),
+            },
+        }
+    }
+
+    fn closes(&self) -> bool {
+        true
+    }
+}

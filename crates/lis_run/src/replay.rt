@@ -1,0 +1,123 @@
+//! The command `replay`: what a receiver answers to the analyzer's bytes of a capture, beside the computer's.
+
+ghost use Rattle.std.specs.Prelude.{◌≡◌, ◌≤◌, [], true, false, is_err, if◌then◌else◌, IfOk};
+ghost use Rattle.lis_frame.specs.Limit.{IsLimit};
+ghost use Rattle.lis_run.specs.CaptureRuns.{CaptureRan};
+ghost use Rattle.lis_run.specs.Parts.{part_text};
+ghost use Rattle.lis_run.specs.Output.{Gathered, out};
+ghost use Rattle.lis_run.specs.Replay.{difference_line, digits_or_dash, replay_writes, text_line};
+ghost use Rattle.lis_run.specs.Runs.{AreFresh, Stops};
+
+use crate::fault::ToolFault;
+use crate::gather::{append_number, make_room};
+use crate::lines::run_lines;
+use crate::playing::{InLines, Playing};
+use crate::ports::SourceFor;
+use crate::report::Ended;
+use crate::tell::{Part, Tell};
+use lis_capture::Page;
+use lis_port::Sink;
+use std::alloc::Global;
+
+/// The room for the line of a text: its words and two numbers.
+const TEXT_LINE_ROOM: usize = 100;
+
+/// Plays a capture to a new receiver whose frames have at most `N` bytes of text (LIS01-A2, 6.3): it hears what the
+/// analyzer sent, and what it replies is compared with what the computer sent. A line tells each text that it hands
+/// out and each difference, and a last one their counts; the status is 1 where there is a difference.
+///
+/// The source was never read, and neither it nor the sink has failed.
+pub fn run_replay_of<const N: usize, R: SourceFor<W>, W: Sink>(
+    alloc: Global,
+    source: &mut R,
+    sink: &mut W,
+    reads: u32,
+) -> Ended
+    requires limit { IsLimit N }
+    requires fresh { AreFresh (R.seen source.old sink.old) }
+    ensures ran { CaptureRan true (replay_writes N) (R.seen source.old sink.old) (R.seen source.new sink.new) result }
+    ensures stops { Stops false true (R.seen source.old sink.old) (R.seen source.new sink.new) reads result }
+    ensures status { IfOk result (λ report. report.status ≤ 1) }
+{
+    let playing = Playing::<N, InLines>::new(alloc, InLines);
+    run_lines(playing, source, sink, reads)
+}
+
+/// The same with the usual limit of 240 bytes.
+///
+/// The source was never read, and neither it nor the sink has failed.
+pub fn run_replay<R: SourceFor<W>, W: Sink>(
+    alloc: Global,
+    source: &mut R,
+    sink: &mut W,
+    reads: u32,
+) -> Ended
+    requires { AreFresh (R.seen source.old sink.old) }
+    ensures ran { CaptureRan true (replay_writes 240) (R.seen source.old sink.old) (R.seen source.new sink.new) result }
+    ensures stops { Stops false true (R.seen source.old sink.old) (R.seen source.new sink.new) reads result }
+    ensures status { IfOk result (λ report. report.status ≤ 1) }
+{
+    run_replay_of::<240, R, W>(alloc, source, sink, reads)
+}
+
+/// The line of a text.
+#[derive(Clone, Copy)]
+pub(crate) struct TextLine<'a> {
+    pub(crate) number: u64,
+    pub(crate) text: &'a [u8],
+}
+
+impl Tell for TextLine<'_> {
+    ghost text = { λ line. text_line line.number line.text.now };
+
+    fn tell<W: Sink>(&self, sink: &mut W, page: &mut Page, written: u64) -> Result<u64, ToolFault> {
+        let after = make_room(sink, page, written, TEXT_LINE_ROOM)?;
+        page.append(b"text ");
+        append_number(page, self.number);
+        page.append(b" ");
+        append_number(page, self.text.len() as u64);
+        page.append(b"\n");
+        Ok(after)
+    }
+}
+
+/// Gathers the line of a difference between what the computer sent and the replies; none where both are the same.
+#[inline(always)]
+pub(crate) fn gather_difference<'x, W: Sink>(
+    sink: &mut W,
+    page: &mut Page,
+    written: u64,
+    place: Part<'x>,
+    want: &'x [u8],
+    got: &'x [u8],
+    same: bool,
+) -> Result<u64, ToolFault>
+    requires { W.failed sink.old ≡ false }
+    ensures gathered { Gathered (out (W.taken sink.old) page.old) (out (W.taken sink.new) page.new) written result
+        (if same then [] else difference_line (part_text place.entry) want.now got.now) }
+    ensures failed { W.failed sink.new ≡ is_err result }
+{
+    if same {
+        return Ok(written);
+    }
+    let parts = [
+        Part::Text(b"difference "),
+        place,
+        Part::Text(b" "),
+        or_dash(want),
+        Part::Text(b" "),
+        or_dash(got),
+        Part::Text(b"\n"),
+    ];
+    parts.as_slice().tell(sink, page, written)
+}
+
+/// The digits of bytes, or a dash for no byte.
+fn or_dash(bytes: &[u8]) -> Part<'_>
+    ensures { part_text result ≡ digits_or_dash bytes.now }
+{
+    if bytes.is_empty() {
+        return Part::Text(b"-");
+    }
+    Part::Digits(bytes)
+}

@@ -1,0 +1,288 @@
+//! The command `show`: a line for each signal of a stream of link bytes.
+
+ghost use Rattle.std.specs.Prelude.{◌≡◌, ◌+◌, ◌<◌, ◌≤◌, ◌++◌, ◌∷◌, [], ℕ, List, decimal, false, is_err, length, IfOk};
+ghost use Rattle.std.specs.Prelude.{OnOk};
+ghost use Rattle.lis_frame.specs.Limit.{IsLimit};
+ghost use Rattle.lis_frame.specs.Scanner.{StandsFor};
+ghost use Rattle.lis_frame.specs.Stream.{signal_after, signals_after, stream_with, with_signal};
+ghost use Rattle.lis_capture.specs.declared.page.TheConstants.{PAGE_ROOM};
+ghost use Rattle.lis_run.specs.Output.{Gathered, most_counted, out};
+ghost use Rattle.lis_run.specs.Runs.{AreFresh, RanOver, Shown, Stops};
+ghost use Rattle.lis_run.specs.Show.{bad_line, digits_part, frame_line, frame_start, heard_line, Shows};
+ghost use Rattle.lis_run.specs.Show.{show, signal_lines};
+ghost use Rattle.lis_run.specs.Outcome.{going};
+ghost use Rattle.lis_run.specs.Parts.{part_text, text_if_any};
+ghost use Rattle.std.proofs.Common.{ap};
+
+use crate::fault::ToolFault;
+use crate::gather::{append_number, make_room};
+use crate::machine::{Halt, Machine, Turn};
+use crate::ports::SourceFor;
+use crate::report::{Ended, Report};
+use crate::tell::{Part, Tell};
+use lis_capture::Page;
+use lis_frame::{FrameFault, Heard, LentFrame, ScannerOf};
+use lis_port::Sink;
+
+/// The room that the beginning of a frame's line has: as far as the length of its text, and a space.
+const FRAME_ROOM: usize = 100;
+
+/// Reads link bytes to their end and writes a line for each signal; frames have at most `N` bytes
+/// of text. At most `reads` calls of read are made. The sink is flushed before each that may wait for bytes, so
+/// that no line waits with it, and where the run ends. The faults are those of the source and the sink and
+/// too many reads; what went out by then is the text of the bytes read, and where the sink failed as
+/// much of it as is told.
+///
+/// The source was never read, and neither it nor the sink has failed.
+pub fn run_show_of<const N: usize, R: SourceFor<W>, W: Sink>(
+    source: &mut R,
+    sink: &mut W,
+    reads: u32,
+) -> Ended
+    requires limit { IsLimit N }
+    requires fresh { AreFresh (R.seen source.old sink.old) }
+    ensures ran { RanOver false (Shows N) (R.seen source.old sink.old) (R.seen source.new sink.new) result }
+    ensures stops { Stops false false (R.seen source.old sink.old) (R.seen source.new sink.new) reads result }
+    ensures shown { Shown (show N) (R.seen source.old sink.old) (R.seen source.new sink.new) result }
+    ensures status { IfOk result (λ report. report.status ≡ 0) }
+{
+    source.run(sink, Show::<N>::new(), reads)
+}
+
+/// The same with the usual limit.
+///
+/// The source was never read, and neither it nor the sink has failed.
+pub fn run_show<R: SourceFor<W>, W: Sink>(source: &mut R, sink: &mut W, reads: u32) -> Ended
+    requires { AreFresh (R.seen source.old sink.old) }
+    ensures ran { RanOver false (Shows 240) (R.seen source.old sink.old) (R.seen source.new sink.new) result }
+    ensures stops { Stops false false (R.seen source.old sink.old) (R.seen source.new sink.new) reads result }
+    ensures shown { Shown (show 240) (R.seen source.old sink.old) (R.seen source.new sink.new) result }
+    ensures status { IfOk result (λ report. report.status ≡ 0) }
+{
+    run_show_of::<240, R, W>(source, sink, reads)
+}
+
+/// The scanner of the bytes.
+#[derive(Drop)]
+struct Show<const N: usize> {
+    scanner: ScannerOf<N>,
+}
+
+impl<const N: usize> Show<N> {
+    /// A machine that has read nothing.
+    fn new() -> Self
+        requires { IsLimit N }
+        ensures { StandsFor N result.scanner [] }
+    {
+        Show {
+            scanner: ScannerOf::new(),
+        }
+    }
+}
+
+impl<const N: usize> Machine for Show<N> {
+    ghost means = { Shows N };
+
+    ghost stands = { λ m bytes text. (text ≡ show N bytes) × StandsFor N m.scanner (stream_with [] bytes) };
+
+    ghost takes_memory = { false };
+
+    ghost closes = { false };
+
+    ghost refuses = { false };
+
+    ghost goes_on = { λ m bytes text stood. ap going stood.0 };
+
+    fn feed<W: Sink>(
+        &mut self,
+        sink: &mut W,
+        page: &mut Page,
+        written: u64,
+        bytes: &[u8],
+    ) -> Result<Turn, ToolFault> {
+        match show_bytes(&mut self.scanner, sink, page, written, bytes) {
+            Ok(after) => Ok(Turn::On(after)),
+            Err(fault) => Err(fault),
+        }
+    }
+
+    fn end<W: Sink>(
+        self,
+        _sink: &mut W,
+        _page: &mut Page,
+        written: u64,
+    ) -> Result<Halt, ToolFault> {
+        Ok(Halt {
+            written,
+            result: Ok(Report::of(false)),
+        })
+    }
+
+    fn closes(&self) -> bool {
+        false
+    }
+}
+
+/// Gathers the lines of the signals that further bytes give.
+fn show_bytes<const N: usize, W: Sink>(
+    scanner: &mut ScannerOf<N>,
+    sink: &mut W,
+    page: &mut Page,
+    written: u64,
+    bytes: &[u8],
+) -> Result<u64, ToolFault>
+    requires { W.failed sink.old ≡ false }
+    ensures gathered { (past : List ℕ) → StandsFor N scanner.old past →
+        Gathered (out (W.taken sink.old) page.old) (out (W.taken sink.new) page.new) written result
+        (signal_lines (signals_after N past bytes.now)) }
+    ensures stands { OnOk result ((past : List ℕ) → StandsFor N scanner.old past →
+        StandsFor N scanner.new (stream_with past bytes.now)) }
+    ensures failed { W.failed sink.new ≡ is_err result }
+{
+    let mut rest = bytes;
+    let mut after = written;
+    while let Some((byte, left)) = rest.split_first() {
+        let (taken, frame) = scanner.scan(rest);
+        if taken == 0 {
+            after = show_byte(scanner, sink, page, after, *byte)?;
+            rest = left;
+        } else {
+            after = tell_lent(sink, page, after, frame)?;
+            let (_, behind) = rest.split_at(taken);
+            rest = behind;
+        }
+    }
+    Ok(after)
+}
+
+/// Gathers the line of a frame, where there is one.
+// By value: told as an option that is lent, each would be put into memory to be looked at, also where there is none.
+#[inline(always)]
+fn tell_lent<W: Sink>(
+    sink: &mut W,
+    page: &mut Page,
+    written: u64,
+    frame: Option<LentFrame<'_>>,
+) -> Result<u64, ToolFault>
+    requires { W.failed sink.old ≡ false }
+    ensures gathered { Gathered (out (W.taken sink.old) page.old) (out (W.taken sink.new) page.new) written result
+        (text_if_any frame_line frame.entry) }
+    ensures failed { W.failed sink.new ≡ is_err result }
+{
+    match frame {
+        None => Ok(written),
+        Some(frame) => frame.tell(sink, page, written),
+    }
+}
+
+/// Gathers the line of the signal that one more byte gives, if it gives one.
+fn show_byte<const N: usize, W: Sink>(
+    scanner: &mut ScannerOf<N>,
+    sink: &mut W,
+    page: &mut Page,
+    written: u64,
+    byte: u8,
+) -> Result<u64, ToolFault>
+    requires { W.failed sink.old ≡ false }
+    ensures gathered { (past : List ℕ) → StandsFor N scanner.old past →
+        Gathered (out (W.taken sink.old) page.old) (out (W.taken sink.new) page.new) written result
+        (signal_lines (with_signal (signal_after N past byte) [])) }
+    ensures stands { (past : List ℕ) → StandsFor N scanner.old past → StandsFor N scanner.new (byte ∷ past) }
+    ensures count { IfOk result (λ after. after ≤ most_counted) }
+    ensures failed { W.failed sink.new ≡ is_err result }
+{
+    let result = match scanner.told(byte) {
+        None => Ok(written),
+        Some(heard) => heard.tell(sink, page, written),
+    };
+    scanner.take(byte);
+    result
+}
+
+/// The line of a signal.
+impl Tell for Heard<'_> {
+    ghost text = { heard_line };
+
+    fn tell<W: Sink>(&self, sink: &mut W, page: &mut Page, written: u64) -> Result<u64, ToolFault> {
+        match self {
+            Heard::Enq => Part::Text(b"ENQ\n").tell(sink, page, written),
+            Heard::Eot => Part::Text(b"EOT\n").tell(sink, page, written),
+            Heard::Good(frame) => frame.tell(sink, page, written),
+            Heard::Bad(fault) => fault.tell(sink, page, written),
+        }
+    }
+}
+
+/// The line of a frame.
+impl Tell for LentFrame<'_> {
+    ghost text = { frame_line };
+
+    fn tell<W: Sink>(&self, sink: &mut W, page: &mut Page, written: u64) -> Result<u64, ToolFault> {
+        let digits = digits_part(self.text());
+        ((FrameStart(self), digits), Part::Text(b"\n")).tell(sink, page, written)
+    }
+}
+
+/// The line of a frame as far as the length of its text.
+#[derive(Clone, Copy)]
+struct FrameStart<'a>(&'a LentFrame<'a>);
+
+impl Tell for FrameStart<'_> {
+    ghost text = { λ start. frame_start start.0.now.number start.0.now.last ++ decimal (length start.0.now.text) };
+
+    #[inline(always)]
+    fn tell<W: Sink>(&self, sink: &mut W, page: &mut Page, written: u64) -> Result<u64, ToolFault> {
+        let FrameStart(frame) = self;
+        let after = make_room(sink, page, written, FRAME_ROOM)?;
+        start_frame(page, frame.number(), frame.is_last(), frame.text().len());
+        Ok(after)
+    }
+}
+
+/// Puts the line of a frame behind the page, as far as the length of its text.
+#[inline(always)]
+fn start_frame(page: &mut Page, number: u8, last: bool, count: usize)
+    requires { length page.old + FRAME_ROOM ≤ PAGE_ROOM }
+    ensures { page.new ≡ page.old ++ (frame_start number last ++ decimal count) }
+{
+    page.append(b"frame ");
+    append_number(page, number as u64);
+    if last {
+        page.append(b" end ");
+    } else {
+        page.append(b" more ");
+    }
+    append_number(page, count as u64);
+}
+
+/// A space and the digits of bytes, where there are any.
+#[inline(always)]
+fn digits_part(bytes: &[u8]) -> Option<(Part<'_>, Part<'_>)>
+    ensures { text_if_any (λ both. part_text both.0 ++ part_text both.1) result ≡ digits_part bytes.now }
+{
+    if bytes.is_empty() {
+        return None;
+    }
+    Some((Part::Text(b" "), Part::Digits(bytes)))
+}
+
+/// The line of a bad frame.
+impl Tell for FrameFault {
+    ghost text = { bad_line };
+
+    fn tell<W: Sink>(&self, sink: &mut W, page: &mut Page, written: u64) -> Result<u64, ToolFault> {
+        match self {
+            FrameFault::TooLong => Part::Text(b"bad F1\n").tell(sink, page, written),
+            FrameFault::Shape => Part::Text(b"bad F2\n").tell(sink, page, written),
+            FrameFault::Number => Part::Text(b"bad F3\n").tell(sink, page, written),
+            FrameFault::Text(place) => {
+                let after = make_room(sink, page, written, FRAME_ROOM)?;
+                page.append(b"bad F4 ");
+                append_number(page, *place as u64);
+                page.append(b"\n");
+                Ok(after)
+            }
+            FrameFault::Sum => Part::Text(b"bad F5\n").tell(sink, page, written),
+        }
+    }
+}

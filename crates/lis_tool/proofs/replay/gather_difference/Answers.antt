@@ -1,5 +1,0 @@
-use Rattle.lis_tool.proofs.replay.gather_difference.Goals as goal
-
-pub returns-clause-gathered : goal.returns-clause-gathered
-returns-clause-gathered g c =
-    rw c.if-same.false (rw (c.as_slice.ensures, c.or_dash.ensures, c.or_dash-2.ensures) at c.tell.ensures.gathered)

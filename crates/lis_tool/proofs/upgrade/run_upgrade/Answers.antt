@@ -1,7 +1,0 @@
-use Rattle.std.proofs.Common.{refl}
-use Rattle.lis_tool.specs.Upgrade.{upgrade_writes}
-use Rattle.lis_tool.proofs.CaptureLaws.{report_status}
-use Rattle.lis_tool.proofs.upgrade.run_upgrade.Goals as goal
-
-pub returns-clause-status : goal.returns-clause-status
-returns-clause-status g c = report_status upgrade_writes c.run_lines.result (λ lines. refl) c.run_lines.ensures.ran

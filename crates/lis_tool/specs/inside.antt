@@ -1,4 +1,0 @@
--- What stands for private fields, and what holds within loops: no promise is stated here.
-pub mod Parts
-pub mod Playing
-pub mod Steps
