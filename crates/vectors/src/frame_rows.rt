@@ -140,8 +140,8 @@ fn scan<const N: usize>(alloc: Global, fork: usize, bytes: &[u8], answer: &mut A
     let mut course = Course::<N>::new();
     course.push_all(front, answer);
     let copy = course.copy();
-    let pushed = course.pushed(alloc, rest);
-    let scanned = copy.scanned(alloc, rest);
+    let pushed = course.signals(alloc, false, rest);
+    let scanned = copy.signals(alloc, true, rest);
     put_signals(pushed, scanned, answer);
 }
 
@@ -190,24 +190,17 @@ impl<const N: usize> Course<N> {
         }
     }
 
-    /// The signals of bytes that are read one by one.
-    fn pushed(self, alloc: Global, bytes: &[u8]) -> Answer
+    /// The signals of bytes that are read in runs, or one by one.
+    fn signals(self, alloc: Global, in_runs: bool, bytes: &[u8]) -> Answer
         requires { IsLimit N }
     {
         let mut course = self;
         let mut answer = Answer::new(alloc);
-        course.push_all(bytes, &mut answer);
-        drop(course);
-        answer
-    }
-
-    /// The signals of bytes that are read in runs.
-    fn scanned(self, alloc: Global, bytes: &[u8]) -> Answer
-        requires { IsLimit N }
-    {
-        let mut course = self;
-        let mut answer = Answer::new(alloc);
-        course.scan_all(bytes, &mut answer);
+        if in_runs {
+            course.scan_all(bytes, &mut answer);
+        } else {
+            course.push_all(bytes, &mut answer);
+        }
         drop(course);
         answer
     }

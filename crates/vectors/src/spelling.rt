@@ -4,7 +4,7 @@ ghost use Rattle.std.specs.Prelude.{◌<◌, IfOk};
 
 use crate::answer::Answer;
 use crate::words::{Trouble, bytes_of};
-use lis_record::{Component, Delimiters, Field, Kind, Record, Repeat, Sym};
+use lis_field::{Component, Delimiters, Kind, Part, Parts, Record, Repeat, Sym};
 use std::alloc::Global;
 use std::mem::drop;
 
@@ -37,47 +37,57 @@ pub(crate) fn record_of(alloc: Global, word: &str) -> Result<Record, Trouble> {
         return Ok(entry);
     };
     for field in fields.split('/') {
-        entry.push(field_of(alloc, field)?)?;
+        entry.push(parts_of(alloc, field)?)?;
     }
     Ok(entry)
 }
 
-/// The field that a text tells: `;` between two repeats.
-fn field_of(alloc: Global, text: &str) -> Result<Field, Trouble> {
-    let mut field = Field::new(alloc, repeat_of(alloc, front(text, ';'))?)?;
-    match push_repeats(alloc, text, &mut field) {
-        Ok(()) => Ok(field),
+/// What a row spells with a mark between two: a repeat of a field, a component of a repeat.
+trait Spelled: Part {
+    /// The mark between two.
+    fn mark() -> char;
+
+    /// The part that a text tells.
+    fn of_text(alloc: Global, text: &str) -> Result<Self, Trouble>;
+}
+
+impl Spelled for Repeat {
+    fn mark() -> char {
+        ';'
+    }
+
+    fn of_text(alloc: Global, text: &str) -> Result<Self, Trouble> {
+        parts_of(alloc, text)
+    }
+}
+
+impl Spelled for Component {
+    fn mark() -> char {
+        ','
+    }
+
+    fn of_text(alloc: Global, text: &str) -> Result<Self, Trouble> {
+        component_of(alloc, text)
+    }
+}
+
+/// The field or repeat that a text tells.
+fn parts_of<P: Spelled>(alloc: Global, text: &str) -> Result<Parts<P>, Trouble> {
+    let first = P::of_text(alloc, front(text, P::mark()))?;
+    let mut parts = Parts::new(alloc, first)?;
+    match push_others(alloc, text, &mut parts) {
+        Ok(()) => Ok(parts),
         Err(trouble) => {
-            drop(field);
+            drop(parts);
             Err(trouble)
         }
     }
 }
 
-/// Pushes the repeats that a text tells behind the first.
-fn push_repeats(alloc: Global, text: &str, field: &mut Field) -> Result<(), Trouble> {
-    for part in text.split(';').skip(1) {
-        field.push(repeat_of(alloc, part)?)?;
-    }
-    Ok(())
-}
-
-/// The repeat that a text tells: `,` between two components.
-fn repeat_of(alloc: Global, text: &str) -> Result<Repeat, Trouble> {
-    let mut repeat = Repeat::new(alloc, component_of(alloc, front(text, ','))?)?;
-    match push_components(alloc, text, &mut repeat) {
-        Ok(()) => Ok(repeat),
-        Err(trouble) => {
-            drop(repeat);
-            Err(trouble)
-        }
-    }
-}
-
-/// Pushes the components that a text tells behind the first.
-fn push_components(alloc: Global, text: &str, repeat: &mut Repeat) -> Result<(), Trouble> {
-    for part in text.split(',').skip(1) {
-        repeat.push(component_of(alloc, part)?)?;
+/// Pushes the parts that a text tells behind the first.
+fn push_others<P: Spelled>(alloc: Global, text: &str, parts: &mut Parts<P>) -> Result<(), Trouble> {
+    for part in text.split(P::mark()).skip(1) {
+        parts.push(P::of_text(alloc, part)?)?;
     }
     Ok(())
 }
