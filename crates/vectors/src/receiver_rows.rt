@@ -146,6 +146,11 @@ fn put_note(note: Note, answer: &mut Answer) {
         Note::Opened => answer.text("=Opened"),
         Note::NotReady => answer.text("=NotReady"),
         Note::Ended => answer.text("=Ended"),
+        Note::NoRoom => answer.text("=NoRoom"),
+        Note::TooLong => answer.text("=TooLong"),
+        Note::TooMany => answer.text("=TooMany"),
+        Note::OutOfMemory => answer.text("=OutOfMemory"),
+        Note::TimedOut => answer.text("=TimedOut"),
         Note::Accepted(number) => answer.number("=Accepted.", number as u64),
         Note::Duplicate(number) => answer.number("=Duplicate.", number as u64),
         Note::OutOfTurn(number) => answer.number("=OutOfTurn.", number as u64),
@@ -153,11 +158,6 @@ fn put_note(note: Note, answer: &mut Answer) {
             answer.text("=Refused.");
             put_frame_fault(fault, answer)
         }
-        Note::NoRoom => answer.text("=NoRoom"),
-        Note::TooLong => answer.text("=TooLong"),
-        Note::TooMany => answer.text("=TooMany"),
-        Note::OutOfMemory => answer.text("=OutOfMemory"),
-        Note::TimedOut => answer.text("=TimedOut"),
     }
 }
 

@@ -6,7 +6,7 @@ use crate::spelling::{delimiters_of, put_delimiters, put_record, record_of};
 use crate::words::{Call, Trouble, bytes_of};
 use crate::writing_rows::Writing;
 use lis_record::{
-    DelimiterFault, DelimiterPartFault, Delimiters, RecordFault, read_header, read_record,
+    DelimiterFault, DelimiterPartFault, Delimiters, Record, RecordFault, read_header, read_record,
 };
 use std::mem::drop;
 
@@ -45,16 +45,16 @@ fn header(call: Call<'_>, answer: &mut Answer) -> Result<(), Trouble> {
         return Err(Trouble::NoCall);
     };
     let text = bytes_of(call.alloc, *text)?;
-    match read_header(call.alloc, text.as_slice()) {
+    let read = match read_header(call.alloc, text.as_slice()) {
         Ok((delimiters, entry)) => {
             put_delimiters(delimiters, answer);
             answer.part();
-            put_record(&entry, answer);
-            drop(entry);
+            Ok(entry)
         }
-        Err(fault) => put_refusal(fault, answer),
-    }
+        Err(fault) => Err(fault),
+    };
     drop(text);
+    put_read(read, answer);
     Ok(())
 }
 
@@ -65,15 +65,21 @@ fn read(call: Call<'_>, answer: &mut Answer) -> Result<(), Trouble> {
     };
     let delimiters = delimiters_of(call.alloc, *delimiters)?;
     let text = bytes_of(call.alloc, *text)?;
-    match read_record(call.alloc, &delimiters, text.as_slice()) {
+    let read = read_record(call.alloc, &delimiters, text.as_slice());
+    drop(text);
+    put_read(read, answer);
+    Ok(())
+}
+
+/// Puts the record that a text is, or why it is none.
+fn put_read(read: Result<Record, RecordFault>, answer: &mut Answer) {
+    match read {
         Ok(entry) => {
             put_record(&entry, answer);
             drop(entry);
         }
         Err(fault) => put_refusal(fault, answer),
     }
-    drop(text);
-    Ok(())
 }
 
 /// Answers a call that writes a record, whole and in part, or each of its fields.
