@@ -20,6 +20,7 @@ build:
 check:
 	@test -n '$(CRATE)' || { echo 'make check CRATE=name, a folder of crates/'; exit 2; }
 	cd crates/$(CRATE) && rt check --test
+	tests/edits --unedited $(CRATE)
 	tests/edits $(CRATE)
 
 demo: build

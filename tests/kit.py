@@ -7,8 +7,8 @@ import shutil
 import subprocess
 import sys
 
-# Where tests/archive puts the library for C, in the folder of its crate, and what stands there once it has ended.
-ARCHIVE, ARCHIVE_ENDED = "out/liblis_c.a", "out/archive.ended"
+# Where tests/archive puts the library for C, in the folder of its crate.
+ARCHIVE = "out/liblis_c.a"
 
 
 def load(script):
