@@ -3,10 +3,10 @@ use Rattle.std.specs.Prelude.{◌≡◌, ℕ, ◌⊎◌, Bool, true, false, List
 use Rattle.lis_field.specs.Delimiters.{DelimiterBytes}
 use Rattle.lis_field.specs.declared.kinds.Kind.{Kind}
 use Rattle.lis_field.specs.Shape.{Components, plain_component}
-use Rattle.lis_record.specs.declared.faults.WriteFault.{WriteFault}
-use Rattle.lis_record.specs.declared.faults.WriteFault.TheVariants as WriteFaults
-use Rattle.lis_record.specs.Faults.{check_fault}
-use Rattle.lis_record.specs.Spelling.{written}
+use Rattle.lis_spelling.specs.declared.faults.WriteFault.{WriteFault}
+use Rattle.lis_spelling.specs.declared.faults.WriteFault.TheVariants as WriteFaults
+use Rattle.lis_spelling.specs.WriteFaults.{check_fault}
+use Rattle.lis_spelling.specs.Spelling.{written}
 use Rattle.lis_tree.specs.declared.fault.Reason.{Reason}
 use Rattle.lis_tree.specs.declared.fault.Reason.TheVariants as Reasons
 use Rattle.lis_tree.specs.declared.standing.Standing.{Standing}

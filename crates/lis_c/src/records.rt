@@ -12,7 +12,7 @@ ghost use Rattle.lis_field.specs.Shape.{RecordContent};
 ghost use Rattle.lis_record.specs.declared.faults.RecordFault.{RecordFault};
 ghost use Rattle.lis_record.specs.Faults.{header_fault, record_fault};
 ghost use Rattle.lis_record.specs.Lent.{lent};
-ghost use Rattle.lis_record.specs.Relation.{IsRecord};
+ghost use Rattle.lis_field.specs.Relation.{IsRecord};
 
 use crate::status;
 use lis_field::{DelimiterFault, Delimiters, Sym};

@@ -1,6 +1,6 @@
 -- Tests of numbers, the first of two faults, and the first place that fails.
 use Rattle.std.proofs.Common.{◌≡◌, ◌≢◌, ℕ, ◌<◌, ◌≤◌, ◌==◌, Bool, true, false, not, ltb, ◌⊎◌, inl, inr, List, [], ◌∷◌}
-use Rattle.std.proofs.Common.{length, Option, Some, None, option_map, refl, arith, get_or}
+use Rattle.std.proofs.Common.{cond, length, Option, Some, None, option_map, refl, arith, get_or}
 use Rattle.std.specs.Option.{option_or}
 use Rattle.std.specs.List.{AllPass, position, position_or_len}
 use Rattle.std.proofs.lemmas.Bool.{cases_lt, lt-ltb}
@@ -43,6 +43,10 @@ option_or-none (Some x) p h = cc
 pub option_map-none : {X Y : Type 0} (f : X → Y) (o : Option X) → option_map f o ≡ None → o ≡ None
 option_map-none f None h = refl
 option_map-none f (Some x) h = cc
+
+pub none_cond : {X : Type 0} (b : Bool) (x : X) → cond b (Some x) None ≡ None → b ≡ false
+none_cond true x h = cc
+none_cond false x h = refl
 
 -- ---- a first place that fails
 

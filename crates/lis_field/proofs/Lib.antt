@@ -1,2 +1,3 @@
 pub mod DelimiterFaults
 pub mod FirstFaults
+pub mod KindCases

@@ -13,6 +13,7 @@ mod records;
 mod repeat;
 mod symbol_list;
 mod symbols;
+mod text_bytes;
 
 pub use component::Component;
 pub use delimiting::{DelimiterFault, Delimiters};
@@ -22,3 +23,4 @@ pub use parts::{Part, Parts};
 pub use records::Record;
 pub use repeat::Repeat;
 pub use symbols::Sym;
+pub use text_bytes::is_text_byte;

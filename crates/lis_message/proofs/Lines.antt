@@ -4,7 +4,7 @@ use Rattle.std.proofs.Common.{arith}
 use Rattle.std.specs.List.{AllByRecursion}
 use Rattle.std.proofs.lemmas.List.Elements.{recursion_from_All}
 use Rattle.std.proofs.lemmas.Grind.{flat_map-append}
-use Rattle.lis_record.specs.Text.{is_text_byte, IsRecordText}
+use Rattle.lis_field.specs.Text.{is_text_byte, IsRecordText}
 use Rattle.lis_message.specs.Stream.{line, ended, LacksReturn}
 
 -- each text lacks CR

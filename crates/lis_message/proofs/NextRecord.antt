@@ -16,7 +16,7 @@ use Rattle.lis_message.proofs.TakingLaws.{inner_refused, place_refused}
 use Rattle.lis_record.specs.declared.faults.RecordFault.{RecordFault}
 use Rattle.lis_record.specs.Faults.{record_fault}
 use Rattle.lis_record.specs.Lent.{Lent, record_in}
-use Rattle.lis_record.specs.Relation.{IsRecord}
+use Rattle.lis_field.specs.Relation.{IsRecord}
 use Rattle.lis_tree.proofs.Levels.{level_more}
 use Rattle.lis_tree.specs.declared.fault.Reason.{Reason}
 use Rattle.lis_tree.specs.declared.fault.Reason.TheVariants as reasons

@@ -5,10 +5,10 @@ use Rattle.std.specs.List.{AllByRecursion, AllZip, flat_map}
 use Rattle.std.specs.Prelude.{MatchOption, OnOk}
 use Rattle.std.proofs.lemmas.List.{append-nil}
 use Rattle.lis_field.specs.Delimiters.{DelimiterBytes, IsDelimiters}
-use Rattle.lis_record.specs.Relation.{IsRecord}
+use Rattle.lis_field.specs.Relation.{IsRecord}
 use Rattle.lis_field.specs.Shape.{RecordContent, IsRecordShape}
-use Rattle.lis_record.specs.Spelling.{spelled, written}
-use Rattle.lis_record.proofs.ReadBack.{IsRecord-spelled}
+use Rattle.lis_spelling.specs.Spelling.{spelled, written}
+use Rattle.lis_spelling.proofs.ReadBack.{IsRecord-spelled}
 use Rattle.lis_tree.specs.declared.fault.MessageFault.{MessageFault}
 use Rattle.lis_tree.specs.declared.fault.Reason.TheVariants as reasons
 use Rattle.lis_tree.specs.inside.Begun.{Begun}

@@ -13,7 +13,7 @@ use Rattle.lis_message.specs.inside.Taking.{ComesNext, Completes, header, inner,
 use Rattle.lis_message.proofs.Cuts.{cut_hold, cut_taken}
 use Rattle.lis_message.proofs.EveryStream.{completing}
 use Rattle.lis_message.proofs.Stopping.{refused_line, refused_long, starved}
-use Rattle.lis_record.specs.declared.texts.TheConstants.{RECORD_LIMIT}
+use Rattle.lis_spelling.specs.declared.writing.TheConstants.{RECORD_LIMIT}
 use Rattle.lis_record.specs.Lent.{Lent}
 use Rattle.lis_tree.specs.declared.fault.MessageFault.{MessageFault}
 use Rattle.lis_tree.specs.declared.fault.Reason.TheVariants as reasons

@@ -3,7 +3,7 @@ use Rattle.std.proofs.Common.{◌≡◌, ℕ, ◌+◌, ◌<◌, ◌≤◌, inl, 
 use Rattle.std.proofs.Common.{refl, zero, suc, sym, ◌∙◌, ap, subst, append_assoc, arith, length-take}
 use Rattle.std.specs.List.{flat_map}
 use Rattle.std.proofs.lemmas.List.{append-nil, take-append-drop}
-use Rattle.lis_record.specs.declared.texts.TheConstants.{RECORD_LIMIT}
+use Rattle.lis_spelling.specs.declared.writing.TheConstants.{RECORD_LIMIT}
 use Rattle.lis_tree.specs.declared.fault.MessageFault.{MessageFault}
 use Rattle.lis_tree.specs.declared.fault.Reason.TheVariants as reasons
 use Rattle.lis_tree.specs.inside.Begun.{Begun}

@@ -10,9 +10,9 @@ use Rattle.lis_text.specs.Text.{is_forbidden, text_fault}
 use Rattle.lis_text.specs.declared.text.TextFault.TheVariants.{TooLong, Forbidden}
 use Rattle.lis_field.specs.Delimiters.{DelimiterBytes, IsDelimiters}
 use Rattle.lis_field.specs.Shape.{RecordContent, IsRecordShape}
-use Rattle.lis_record.specs.Spelling.{spelled, written}
-use Rattle.lis_record.specs.Text.{is_text_byte}
-use Rattle.lis_record.proofs.ReadBack.{IsRecord-spelled}
+use Rattle.lis_spelling.specs.Spelling.{spelled, written}
+use Rattle.lis_field.specs.Text.{is_text_byte}
+use Rattle.lis_spelling.proofs.ReadBack.{IsRecord-spelled}
 use Rattle.lis_message.specs.Writing.{records_bytes, AreWritable}
 
 -- joined, they are the message's bytes

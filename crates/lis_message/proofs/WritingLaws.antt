@@ -7,14 +7,14 @@ use Rattle.std.specs.Option.{option_or}
 use Rattle.lis_tree.specs.Tree.{MessageTree, flatten}
 use Rattle.std.specs.Prelude.{IfErr, option_map, nat_lt, if◌then◌else◌}
 use Rattle.std.proofs.lemmas.List.{append-nil, drop-drop}
-use Rattle.lis_record.specs.declared.faults.WriteFault.{WriteFault}
-use Rattle.lis_record.specs.declared.faults.WriteFault.TheVariants as write_faults
+use Rattle.lis_spelling.specs.declared.faults.WriteFault.{WriteFault}
+use Rattle.lis_spelling.specs.declared.faults.WriteFault.TheVariants as write_faults
 use Rattle.lis_field.specs.Delimiters.{DelimiterBytes}
-use Rattle.lis_record.specs.Faults.{bad_field_number, check_fault}
-use Rattle.lis_record.specs.declared.texts.TheConstants.{RECORD_LIMIT}
+use Rattle.lis_spelling.specs.WriteFaults.{bad_field_number, check_fault}
+use Rattle.lis_spelling.specs.declared.writing.TheConstants.{RECORD_LIMIT}
 use Rattle.lis_field.specs.Shape.{RecordContent}
-use Rattle.lis_record.specs.Spelling.{spelled, written}
-use Rattle.lis_record.specs.Writing.{Wrote, is_io}
+use Rattle.lis_spelling.specs.Spelling.{spelled, written}
+use Rattle.lis_spelling.specs.Writing.{Wrote, is_io}
 use Rattle.lis_message.specs.declared.fault.MessageWriteFault.{MessageWriteFault}
 use Rattle.lis_text.specs.Capped.{capped}
 use Rattle.lis_message.specs.Writing.{records_bytes, AreWritable, CanResume, refusal_from, first_bytes, first_length}

@@ -9,7 +9,7 @@ use Rattle.lis_message.specs.inside.Kept.{RecordsState, opened_of}
 use Rattle.lis_message.specs.Stream.{IsCut, IsRefusedText, LacksReturn, refusal}
 use Rattle.lis_message.specs.inside.Taking.{ComesNext, Completes, left_after}
 use Rattle.lis_record.specs.Lent.{Lent}
-use Rattle.lis_record.specs.Text.{record_limit}
+use Rattle.lis_field.specs.Text.{record_limit}
 use Rattle.lis_tree.specs.declared.fault.MessageFault.{MessageFault}
 use Rattle.lis_tree.specs.declared.fault.Reason.{Reason}
 use Rattle.lis_tree.specs.declared.fault.Reason.TheVariants as reasons

@@ -8,7 +8,7 @@ use Rattle.lis_record.specs.declared.faults.RecordFault.TheVariants as record_fa
 use Rattle.lis_field.specs.Delimiters.{IsDelimiters}
 use Rattle.lis_record.specs.Faults.{header_fault, record_fault}
 use Rattle.lis_field.specs.Kinds.{kind_of}
-use Rattle.lis_record.specs.Relation.{IsRecord}
+use Rattle.lis_field.specs.Relation.{IsRecord}
 use Rattle.lis_tree.specs.declared.fault.MessageFault.{MessageFault}
 use Rattle.lis_tree.specs.declared.fault.Reason.{Reason}
 use Rattle.lis_tree.specs.declared.fault.Reason.TheVariants as reasons
@@ -16,7 +16,7 @@ use Rattle.lis_tree.specs.inside.Begun.{Begun, level_of}
 use Rattle.lis_tree.specs.Level.{outside, closed, kinds_of, level_after, misplaced, StandsFrom}
 use Rattle.lis_text.specs.Capped.{capped}
 use Rattle.lis_tree.specs.Tree.{MessageTree, IsTree, flatten}
-use Rattle.lis_record.specs.Text.{record_limit}
+use Rattle.lis_field.specs.Text.{record_limit}
 
 -- a text and its CR
 abbrev pub line : List ℕ → List ℕ

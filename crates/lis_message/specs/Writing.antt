@@ -3,13 +3,13 @@ use Rattle.std.specs.Prelude.{◌≡◌, ℕ, ◌+◌, ◌-◌, ◌<◌, ◌≤�
 use Rattle.std.specs.Prelude.{Option, None, Some, Result, Ok, Err}
 use Rattle.std.specs.Io.KnownBytes.{Appends, Keeps}
 use Rattle.std.specs.List.{AllByRecursion, flat_map}
-use Rattle.lis_record.specs.declared.faults.WriteFault.{WriteFault}
-use Rattle.lis_record.specs.declared.faults.WriteFault.TheVariants as write_faults
+use Rattle.lis_spelling.specs.declared.faults.WriteFault.{WriteFault}
+use Rattle.lis_spelling.specs.declared.faults.WriteFault.TheVariants as write_faults
 use Rattle.lis_field.specs.Delimiters.{DelimiterBytes}
-use Rattle.lis_record.specs.Faults.{check_fault}
+use Rattle.lis_spelling.specs.WriteFaults.{check_fault}
 use Rattle.lis_field.specs.Shape.{RecordContent}
-use Rattle.lis_record.specs.Spelling.{written}
-use Rattle.lis_record.specs.Writing.{is_io}
+use Rattle.lis_spelling.specs.Spelling.{written}
+use Rattle.lis_spelling.specs.Writing.{is_io}
 use Rattle.lis_message.specs.declared.fault.MessageWriteFault.{MessageWriteFault}
 use Rattle.lis_text.specs.Capped.{capped}
 use Rattle.lis_tree.specs.Tree.{MessageTree, flatten}

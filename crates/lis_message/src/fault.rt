@@ -1,5 +1,5 @@
 ghost use Rattle.std.specs.Prelude.{◌≡◌, ◌≢◌, ◌<◌, ℕ, MatchOption};
-ghost use Rattle.lis_record.specs.declared.faults.WriteFault.TheVariants as write_faults;
+ghost use Rattle.lis_spelling.specs.declared.faults.WriteFault.TheVariants as write_faults;
 
 use lis_record::WriteFault;
 use thiserror::Error;

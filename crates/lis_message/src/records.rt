@@ -11,9 +11,9 @@ ghost use Rattle.lis_message.specs.Records.{EndsHeld, HasLeft, IsStopped, IsReco
 ghost use Rattle.lis_message.specs.Records.{ReadsSome};
 ghost use Rattle.lis_message.specs.Stream.{LacksReturn, refusal};
 ghost use Rattle.lis_message.specs.inside.Taking.{ComesNext, front_refusal, left_after};
-ghost use Rattle.lis_record.specs.declared.texts.TheConstants.{RECORD_LIMIT};
+ghost use Rattle.lis_spelling.specs.declared.writing.TheConstants.{RECORD_LIMIT};
 ghost use Rattle.lis_record.specs.Lent.{Lent, record_in};
-ghost use Rattle.lis_record.specs.Text.{bad_byte_place};
+ghost use Rattle.lis_field.specs.Text.{bad_byte_place};
 ghost use Rattle.lis_field.specs.Shape.{RecordContent};
 ghost use Rattle.lis_tree.specs.inside.Begun.{Begun};
 ghost use Rattle.lis_tree.specs.declared.fault.Reason.TheVariants as reasons;
@@ -207,7 +207,7 @@ struct HeldBytes {
 impl Model for HeldBytes {
     ghost use Rattle.std.specs.Prelude.{◌≤◌, length};
     ghost use Rattle.lis_message.specs.inside.Kept.{Holding, holding};
-    ghost use Rattle.lis_record.specs.declared.texts.TheConstants.{RECORD_LIMIT};
+    ghost use Rattle.lis_spelling.specs.declared.writing.TheConstants.{RECORD_LIMIT};
 
     ghost Value = { Holding };
 

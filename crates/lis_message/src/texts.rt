@@ -3,8 +3,8 @@ ghost use Rattle.std.specs.Prelude.{◌≡◌, IfOk, IfErr, None, OnOk, Some, fa
 ghost use Rattle.std.specs.List.{AllByRecursion, flat_map};
 ghost use Rattle.lis_text.specs.LinkText.{longest_text};
 ghost use Rattle.lis_text.specs.Text.{text_fault};
-ghost use Rattle.lis_record.specs.Faults.{check_fault};
-ghost use Rattle.lis_record.specs.Spelling.{written};
+ghost use Rattle.lis_spelling.specs.WriteFaults.{check_fault};
+ghost use Rattle.lis_spelling.specs.Spelling.{written};
 ghost use Rattle.lis_message.specs.Texts.{FitsInTexts, HasNoTexts};
 ghost use Rattle.lis_message.specs.Writing.{AreWritable, message_bytes, message_texts_of};
 

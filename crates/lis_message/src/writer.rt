@@ -1,7 +1,7 @@
 //! Writing a message, record by record.
 ghost use Rattle.std.specs.Prelude.{◌≡◌, ◌-◌, ◌≤◌, ◌<◌, false, None, Some, Result, OnOk, IfErr, MatchResult, length};
 ghost use Rattle.std.specs.Prelude.{drop};
-ghost use Rattle.lis_record.specs.Spelling.{written};
+ghost use Rattle.lis_spelling.specs.Spelling.{written};
 ghost use Rattle.lis_message.specs.Stream.{IsMessage};
 ghost use Rattle.lis_tree.specs.Tree.{flatten};
 ghost use Rattle.lis_message.specs.Writing.{AreWritable, CanResume, WroteMessage, WroteRecords, first_length};

@@ -13,16 +13,16 @@ use Rattle.lis_field.specs.declared.symbols.Sym.TheVariants.{Char, On, Off}
 use Rattle.lis_field.specs.Delimiters.{DelimiterBytes, IsDelimiters}
 use Rattle.lis_field.specs.Shape.{Symbols}
 use Rattle.lis_field.proofs.FirstFaults.{test_false}
-use Rattle.lis_record.specs.Escapes.{escape_of, letter_symbol}
-use Rattle.lis_record.specs.Faults.{trailing_byte}
-use Rattle.lis_record.specs.Relation.{Lacks}
-use Rattle.lis_record.specs.Spelling.{letter_spelling, spelled_symbol}
-use Rattle.lis_record.specs.inside.FrontReading.{escape_at}
+use Rattle.lis_field.specs.Escapes.{escape_of, letter_symbol}
+use Rattle.lis_field.specs.Text.{trailing_byte}
+use Rattle.lis_field.specs.Relation.{Lacks}
+use Rattle.lis_spelling.specs.Spelling.{letter_spelling, spelled_symbol}
+use Rattle.lis_part.specs.inside.FrontReading.{escape_at}
 use Rattle.lis_record.specs.inside.Respelling.{respelled, respelled_after}
-use Rattle.lis_record.proofs.Components.{Lacks-letter}
-use Rattle.lis_record.proofs.FieldTexts.{Lacks-first, part_behind-mark, trailing-none}
-use Rattle.lis_record.proofs.LentTexts.{Lacks-position}
-use Rattle.lis_record.proofs.Places.{escape_at-found, parts_of-first}
+use Rattle.lis_part.proofs.Components.{Lacks-letter}
+use Rattle.lis_part.proofs.FieldTexts.{Lacks-first, part_behind-mark, trailing-none}
+use Rattle.lis_part.proofs.Places.{Lacks-position}
+use Rattle.lis_part.proofs.Places.{escape_at-found, parts_of-first}
 use Rattle.lis_record.proofs.Respelled.{respelled-escape, respelled-plain, respelled_as_is}
 
 -- ---- an escape of one letter

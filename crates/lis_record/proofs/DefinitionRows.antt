@@ -4,16 +4,17 @@ use Rattle.hex.specs.Hex.{encode_with, decode_pairs}
 use Rattle.lis_field.specs.declared.delimiting.DelimiterFault.TheVariants.{Repeated}
 use Rattle.lis_record.specs.declared.faults.DelimiterPartFault.TheVariants.{Short, Fault, Trailing}
 use Rattle.lis_record.specs.declared.faults.RecordFault.TheVariants.{Empty, UnknownKind, DelimiterPart, Byte}
-use Rattle.lis_record.specs.declared.faults.WriteFault.TheVariants.{CharNotText}
+use Rattle.lis_spelling.specs.declared.faults.WriteFault.TheVariants.{CharNotText}
 use Rattle.lis_field.specs.declared.kinds.Kind.TheVariants as kinds
 use Rattle.lis_field.specs.declared.symbols.Sym.TheVariants.{Char, Raw}
 use Rattle.lis_field.specs.Delimiters.{DelimiterBytes, delimiters_of, delimiter_fault, is_punctuation}
-use Rattle.lis_record.specs.Escapes.{escape_of}
-use Rattle.lis_record.specs.Faults.{record_text_fault, record_fault, delimiter_part_fault, header_fault, check_fault}
-use Rattle.lis_record.specs.inside.FrontReading.{escape_at, symbols_after, symbols_of}
+use Rattle.lis_field.specs.Escapes.{escape_of}
+use Rattle.lis_record.specs.Faults.{record_text_fault, record_fault, delimiter_part_fault, header_fault}
+use Rattle.lis_spelling.specs.WriteFaults.{check_fault}
+use Rattle.lis_part.specs.inside.FrontReading.{escape_at, symbols_after, symbols_of}
 use Rattle.lis_field.specs.Kinds.{kind_of}
-use Rattle.lis_record.specs.Spelling.{spelled_symbol, spelled}
-use Rattle.lis_record.specs.Text.{is_text_byte}
+use Rattle.lis_spelling.specs.Spelling.{spelled_symbol, spelled}
+use Rattle.lis_field.specs.Text.{is_text_byte}
 
 -- | \ ^ &
 usual : DelimiterBytes

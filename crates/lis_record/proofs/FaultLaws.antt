@@ -11,26 +11,22 @@ use Rattle.lis_field.specs.declared.kinds.Kind.TheVariants as kinds
 use Rattle.lis_record.specs.declared.faults.DelimiterPartFault.TheVariants.{Trailing, Short, Fault}
 use Rattle.lis_record.specs.declared.faults.RecordFault.TheVariants as record_faults
 use Rattle.lis_field.specs.Delimiters.{DelimiterBytes, IsDelimiters, delimiter_fault, delimiters_of}
-use Rattle.lis_record.specs.Faults.{delimiter_part_fault, header_fault, is_other_kind, record_fault, record_text_fault}
-use Rattle.lis_record.specs.Faults.{trailing_byte, is_header_kind}
-use Rattle.lis_record.specs.inside.FrontReading.{fields_of}
+use Rattle.lis_record.specs.Faults.{delimiter_part_fault, header_fault, is_other_kind, record_fault}
+use Rattle.lis_record.specs.Faults.{record_text_fault, is_header_kind}
+use Rattle.lis_field.specs.Text.{trailing_byte, IsRecordText, is_text_byte, bad_byte_place, record_limit}
+use Rattle.lis_part.specs.inside.FrontReading.{fields_of}
 use Rattle.lis_field.specs.Kinds.{kind_of}
-use Rattle.lis_record.specs.Relation.{AreFieldTexts, IsRecord, declared_part}
+use Rattle.lis_field.specs.Relation.{AreFieldTexts, IsRecord, declared_part}
 use Rattle.lis_field.specs.Shape.{RecordContent}
-use Rattle.lis_record.specs.Text.{IsRecordText, is_text_byte, bad_byte_place, record_limit}
 use Rattle.lis_field.proofs.FirstFaults.{AllPass-position, ltb-past, ltb_tells, option_map-none, option_or-none}
-use Rattle.lis_field.proofs.FirstFaults.{position-AllPass}
+use Rattle.lis_field.proofs.FirstFaults.{none_cond, position-AllPass}
 use Rattle.lis_field.proofs.DelimiterFaults.{IsDelimiters-delimiters_of, delimiter_fault-IsDelimiters}
-use Rattle.lis_record.proofs.KindCases.{other_kind}
+use Rattle.lis_field.proofs.KindCases.{other_kind}
 use Rattle.lis_record.proofs.RecordTexts.{AreFieldTexts-fields_of, AreFieldTexts-none}
 
 cond_none : {X : Type 0} (b : Bool) (x : X) → cond b None (Some x) ≡ None → b ≡ true
 cond_none true x h = refl
 cond_none false x h = cc
-
-pub none_cond : {X : Type 0} (b : Bool) (x : X) → cond b (Some x) None ≡ None → b ≡ false
-none_cond true x h = cc
-none_cond false x h = refl
 
 -- ---- text bytes, and not too many
 

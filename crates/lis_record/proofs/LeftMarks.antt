@@ -14,12 +14,13 @@ use Rattle.std.proofs.lemmas.Simd.{trailing_mask_l}
 use Rattle.std.proofs.lemmas.Bool.Decides.{nat_tests}
 use Rattle.lis_text.proofs.SearchLemmas.{found-chunk, found-within}
 use Rattle.lis_record.specs.inside.Marks.{AreMarks}
-use Rattle.lis_record.specs.Faults.{trailing_byte}
-use Rattle.lis_record.specs.inside.FrontReading.{parts_behind}
-use Rattle.lis_record.proofs.FieldTexts.{Passed, part_behind-mark, passed_more, taken_parts, trailing-none}
-use Rattle.lis_record.proofs.LastBits.{mask_l-drop}
+use Rattle.lis_field.specs.Text.{trailing_byte}
+use Rattle.lis_part.specs.inside.FrontReading.{parts_behind}
+use Rattle.lis_record.proofs.TakenFields.{Passed, passed_more, taken_parts}
+use Rattle.lis_part.proofs.FieldTexts.{part_behind-mark, trailing-none}
+use Rattle.lis_part.proofs.LastBits.{mask_l-drop}
 use Rattle.lis_record.proofs.Marks.{front-behind}
-use Rattle.lis_record.proofs.Places.{parts_of-first}
+use Rattle.lis_part.proofs.Places.{parts_of-first}
 
 eqb-other : (n : ℕ) → eqb (suc n) n ≡ false
 eqb-other n = grind (arith, nat_tests)

@@ -1,13 +1,10 @@
 -- Parts of a record that stand in a text, and their spelling.
-use Rattle.std.proofs.Common.{◌≡◌, ◌≢◌, ℕ, ◌-◌, ◌≤◌, ◌==◌, false, true, ltb, option_map, List, [], ◌∷◌, ◌++◌, map}
-use Rattle.std.proofs.Common.{length, Option, Some, None, slice_get, refl, sym, ap, ◌∙◌, subst, arith, append_assoc}
-use Rattle.std.proofs.Common.{inl, inr, get_or, eq-eqb}
-use Rattle.std.specs.Option.{is_some}
-use Rattle.std.specs.List.{All, position}
+use Rattle.std.proofs.Common.{◌≡◌, ◌≢◌, ℕ, ◌-◌, ◌≤◌, false, ltb, option_map, List, [], ◌∷◌, ◌++◌, map, length, Option}
+use Rattle.std.proofs.Common.{Some, None, slice_get, refl, sym, ap, ◌∙◌, subst, append_assoc, inl, inr}
+use Rattle.std.specs.List.{All}
 use Rattle.std.proofs.lemmas.Bool.Decides.{eqb_tells}
 use Rattle.std.proofs.lemmas.List.{nil_from_length}
 use Rattle.std.proofs.lemmas.List.Elements.{All-head, All-tail, All-cons, All-nil}
-use Rattle.std.proofs.lemmas.List.Sums.{fails_before_first}
 use Rattle.std.proofs.lemmas.Option.{get_or_from_slice_get, slice_get-map, slice_get_within}
 use Rattle.lis_field.specs.declared.symbols.Sym.{Sym}
 use Rattle.lis_field.specs.declared.symbols.Sym.TheVariants.{Char}
@@ -16,14 +13,14 @@ use Rattle.lis_field.specs.Shape.{Symbols, field_at, first_number}
 use Rattle.lis_field.specs.declared.kinds.Kind.{Kind}
 use Rattle.lis_field.proofs.FirstFaults.{ltb-past, test_false}
 use Rattle.lis_record.specs.Lent.{lent}
-use Rattle.lis_record.specs.inside.FrontReading.{components_of, fields_of, parts_behind, parts_of, repeats_of}
-use Rattle.lis_record.specs.inside.FrontReading.{symbols_of}
-use Rattle.lis_record.specs.Relation.{Lacks}
-use Rattle.lis_record.specs.inside.Remaining.{more_components, remaining_text}
-use Rattle.lis_record.specs.Spelling.{spelled_component, spelled_field, spelled_repeat, spelled_symbol}
-use Rattle.lis_record.proofs.Joins.{onto_first-apart, parts_of-apart}
-use Rattle.lis_record.proofs.Places.{past-position}
-use Rattle.lis_record.proofs.Steps.{field_alone, spelled_field-first, spelled_repeat-first}
+use Rattle.lis_part.specs.inside.FrontReading.{components_of, fields_of, parts_behind, parts_of, repeats_of}
+use Rattle.lis_part.specs.inside.FrontReading.{symbols_of}
+use Rattle.lis_field.specs.Relation.{Lacks}
+use Rattle.lis_spelling.specs.inside.Remaining.{more_components}
+use Rattle.lis_record.specs.inside.LentRemaining.{remaining_text}
+use Rattle.lis_spelling.specs.Spelling.{spelled_component, spelled_field, spelled_repeat, spelled_symbol}
+use Rattle.lis_part.proofs.Joins.{onto_first-apart, parts_of-apart}
+use Rattle.lis_spelling.proofs.Steps.{field_alone, spelled_field-first, spelled_repeat-first}
 
 -- ---- the parts of a text
 
@@ -103,17 +100,6 @@ module _ (d : DelimiterBytes) where
       rw (pushed, taken) (append_assoc old (spelled_symbol d symbol) (spelled_component d others))
 
 -- ---- what holds no escape byte is spelled as it stands
-
-pub is_some_none : {X : Type 0} (o : Option X) → is_some o ≡ false → o ≡ None
-is_some_none None h = refl
-is_some_none (Some x) h = cc h
-
-pub Lacks-position : (mark : ℕ) (text : List ℕ) → position (λ b. b == mark) text ≡ None → Lacks mark text
-Lacks-position mark text h = λ k e below same.
-    let past = past-position mark text h in
-    let no : (get_or text k e == mark) ≡ false = fails_before_first (λ b. b == mark) text k e (omega (arith, past)) in
-    let yes : (get_or text k e == mark) ≡ true = eq-eqb (get_or text k e) mark same in
-    cc (no, yes)
 
 module _ (d : DelimiterBytes) where
   pub char_as_is : (b : ℕ) → b ≢ d.field → b ≢ d.repeat → b ≢ d.component → b ≢ d.escape

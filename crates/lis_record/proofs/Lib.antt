@@ -1,29 +1,14 @@
-mod DefinitionRows
 pub mod AsIs
-pub mod BadBytes
-pub mod Components
+mod DefinitionRows
 pub mod FaultLaws
 pub mod FaultlessTexts
-pub mod FieldTexts
-pub mod Fronts
-pub mod Joins
-pub mod KindCases
-pub mod Lanes
-pub mod LastBits
 pub mod LeftMarks
 pub mod LentTexts
 pub mod Marks
 pub mod Opening
-pub mod PaddedTexts
-pub mod Pairs
-pub mod Places
 pub mod PlainFields
-pub mod ReadBack
 pub mod RecordTexts
 pub mod Respelled
 pub mod Runs
 pub mod Shapes
-pub mod Sinks
-pub mod Steps
-pub mod Stops
-pub mod WriteLaws
+pub mod TakenFields

@@ -11,7 +11,7 @@ use Rattle.std.proofs.lemmas.List.{drop-drop, drop-take, length-drop, length-map
 use Rattle.std.proofs.lemmas.Simd.{mask_l-lt}
 use Rattle.lis_text.proofs.SearchLemmas.{found-chunk, found-within}
 use Rattle.lis_record.specs.inside.Marks.{AreMarks}
-use Rattle.lis_record.proofs.LastBits.{mask_l-drop}
+use Rattle.lis_part.proofs.LastBits.{mask_l-drop}
 
 module _ (f : ℕ → Bool) where
   -- the bits of the first bytes, and those of the others above them

@@ -4,15 +4,16 @@ use Rattle.lis_field.specs.declared.kinds.Kind.{Kind}
 use Rattle.lis_field.specs.declared.kinds.Kind.TheVariants as kinds
 use Rattle.lis_field.specs.Delimiters.{DelimiterBytes, IsDelimiters}
 use Rattle.lis_record.specs.Faults.{delimiter_part_fault, header_fault, record_fault}
-use Rattle.lis_record.specs.inside.FrontReading.{DeclaresDelimiters, OpensHeader, OpensRecord, fields_of}
+use Rattle.lis_record.specs.inside.Opening.{DeclaresDelimiters, OpensHeader, OpensRecord}
+use Rattle.lis_part.specs.inside.FrontReading.{fields_of}
 use Rattle.lis_record.specs.Lent.{Lent, front_length, lent, record_in}
 use Rattle.lis_record.specs.declared.faults.RecordFault.{RecordFault}
-use Rattle.lis_record.specs.Relation.{IsRecord}
+use Rattle.lis_field.specs.Relation.{IsRecord}
 use Rattle.lis_field.specs.Shape.{Fields, RecordContent}
 use Rattle.lis_field.proofs.DelimiterFaults.{delimiter_fault-IsDelimiters}
 use Rattle.lis_record.proofs.FaultLaws.{IsRecord-fields_of, IsRecord-header, delimiter_part_fault-trailing}
 use Rattle.lis_record.proofs.FaultLaws.{header_fault-IsRecord, record_fault-IsRecord}
-use Rattle.lis_record.proofs.KindCases.{other_kind}
+use Rattle.lis_field.proofs.KindCases.{other_kind}
 use Rattle.lis_record.proofs.RecordTexts.{IsRecord-header_one, IsRecord-one}
 
 -- delimiters that are declared are no fault

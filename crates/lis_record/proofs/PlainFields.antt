@@ -14,14 +14,15 @@ use Rattle.lis_field.specs.Delimiters.{DelimiterBytes, IsDelimiters}
 use Rattle.lis_field.specs.declared.kinds.Kind.{Kind}
 use Rattle.lis_field.proofs.FirstFaults.{test_false}
 use Rattle.lis_field.specs.Shape.{RecordContent, Symbols, plain_component, plain_field}
-use Rattle.lis_record.specs.Escapes.{IsComponent, nothing, plain, escape, lone, escape_of, letter_symbol, raw_symbols}
+use Rattle.lis_field.specs.Escapes.{IsComponent, nothing, plain, escape, lone, escape_of, letter_symbol, raw_symbols}
 use Rattle.lis_record.specs.Lent.{Lent, lent}
-use Rattle.lis_record.specs.Relation.{Lacks, LacksDelimiters}
-use Rattle.lis_record.specs.inside.FrontReading.{IsPlainText, components_of, fields_of, parts_of}
-use Rattle.lis_record.specs.inside.FrontReading.{repeats_of, symbols_of}
-use Rattle.lis_record.proofs.Components.{IsComponent-symbols_of, option_map-some, raw_symbols-ok}
-use Rattle.lis_record.proofs.FieldTexts.{digit-apart, plain_read}
-use Rattle.lis_record.proofs.Joins.{parts_of-apart}
+use Rattle.lis_field.specs.Relation.{Lacks, LacksDelimiters}
+use Rattle.lis_part.specs.inside.FrontReading.{IsPlainText, components_of, fields_of, parts_of}
+use Rattle.lis_part.specs.inside.FrontReading.{repeats_of, symbols_of}
+use Rattle.lis_part.proofs.Components.{IsComponent-symbols_of, option_map-some, raw_symbols-ok}
+use Rattle.lis_record.proofs.TakenFields.{digit-apart}
+use Rattle.lis_part.proofs.FieldTexts.{plain_read}
+use Rattle.lis_part.proofs.Joins.{parts_of-apart}
 
 module _ (d : DelimiterBytes) where
   rest_lacks : (b : ℕ) (bs : List ℕ) → LacksDelimiters d (b ∷ bs) → LacksDelimiters d bs

@@ -7,17 +7,17 @@ use Rattle.std.specs.List.{All, flat_map, join_with_byte}
 use Rattle.lis_field.specs.declared.kinds.Kind.{Kind}
 use Rattle.lis_field.specs.declared.kinds.Kind.TheVariants as kinds
 use Rattle.lis_field.specs.Delimiters.{DelimiterBytes, IsDelimiters}
-use Rattle.lis_record.specs.inside.FrontReading.{parts_of, symbols_of, components_of, repeats_of, fields_of}
+use Rattle.lis_part.specs.inside.FrontReading.{parts_of, symbols_of, components_of, repeats_of, fields_of}
 use Rattle.lis_field.specs.Kinds.{kind_of}
-use Rattle.lis_record.specs.Relation.{AreFieldTexts, IsField, IsRecord, IsRepeat, Lacks, declared_part}
-use Rattle.lis_record.specs.Escapes.{IsComponent}
+use Rattle.lis_field.specs.Relation.{AreFieldTexts, IsField, IsRecord, IsRepeat, Lacks, declared_part}
+use Rattle.lis_field.specs.Escapes.{IsComponent}
 use Rattle.lis_field.specs.Shape.{Components, Fields, Repeats, RecordContent}
-use Rattle.lis_record.specs.Text.{IsRecordText, is_text_byte}
+use Rattle.lis_field.specs.Text.{IsRecordText, is_text_byte}
 use Rattle.std.proofs.lemmas.Bool.Decides.{nat_tests}
 use Rattle.std.proofs.lemmas.List.Elements.{All-weaker}
-use Rattle.lis_record.proofs.Components.{IsComponent-symbols_of, symbols_of-IsComponent}
-use Rattle.lis_record.proofs.Joins.{AllZip-map, map-AllZip, IsJoined-map, map-IsJoined, flat_map-join, parts_of-apart}
-use Rattle.lis_record.proofs.Joins.{parts_of-join, parts_of-some}
+use Rattle.lis_part.proofs.Components.{IsComponent-symbols_of, symbols_of-IsComponent}
+use Rattle.lis_part.proofs.Joins.{AllZip-map, map-AllZip, IsJoined-map, map-IsJoined, flat_map-join, parts_of-apart}
+use Rattle.lis_part.proofs.Joins.{parts_of-join, parts_of-some}
 
 module _ (d : DelimiterBytes) (good : IsDelimiters d) where
   pub IsRepeat-components_of : (text : List ℕ) → IsRepeat d text (components_of d text)

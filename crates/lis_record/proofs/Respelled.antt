@@ -11,14 +11,14 @@ use Rattle.lis_field.specs.declared.symbols.Sym.TheVariants.{Char}
 use Rattle.lis_field.specs.Delimiters.{DelimiterBytes, IsDelimiters, is_punctuation}
 use Rattle.lis_field.specs.Shape.{Symbols}
 use Rattle.lis_field.proofs.FirstFaults.{some_none, test_false}
-use Rattle.lis_record.specs.Relation.{Lacks}
-use Rattle.lis_record.specs.Spelling.{spelled_component, spelled_field, spelled_repeat, spelled_symbol}
-use Rattle.lis_record.specs.inside.FrontReading.{components_of, escape_at, parts_of, repeats_of, symbols_after}
-use Rattle.lis_record.specs.inside.FrontReading.{symbols_of}
-use Rattle.lis_record.specs.inside.Remaining.{more_fields}
+use Rattle.lis_field.specs.Relation.{Lacks}
+use Rattle.lis_spelling.specs.Spelling.{spelled_component, spelled_field, spelled_repeat, spelled_symbol}
+use Rattle.lis_part.specs.inside.FrontReading.{components_of, escape_at, parts_of, repeats_of, symbols_after}
+use Rattle.lis_part.specs.inside.FrontReading.{symbols_of}
+use Rattle.lis_spelling.specs.inside.Remaining.{more_fields}
 use Rattle.lis_record.specs.inside.Respelling.{respelled, respelled_after}
-use Rattle.lis_record.proofs.Components.{BegunAt-escape_at, Lacks-inside, escape_at-begun, escape_cases}
-use Rattle.lis_record.proofs.Joins.{parts_of-apart}
+use Rattle.lis_part.proofs.Components.{BegunAt-escape_at, Lacks-inside, escape_at-begun, escape_cases}
+use Rattle.lis_part.proofs.Joins.{parts_of-apart}
 use Rattle.lis_record.proofs.LentTexts.{char_as_is, parts_of-Lacks}
 
 -- ---- an escape stands on one side of a delimiter

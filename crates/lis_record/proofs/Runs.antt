@@ -7,13 +7,13 @@ use Rattle.lis_field.specs.declared.symbols.Sym.{Sym}
 use Rattle.lis_field.specs.declared.symbols.Sym.TheVariants.{Char}
 use Rattle.lis_field.specs.Delimiters.{DelimiterBytes}
 use Rattle.lis_field.specs.Shape.{Symbols}
-use Rattle.lis_record.specs.Escapes.{escape_of}
-use Rattle.lis_record.specs.Faults.{trailing_byte}
-use Rattle.lis_record.specs.Spelling.{spelled_component, spelled_symbol}
-use Rattle.lis_record.specs.inside.FrontReading.{digit_symbols, escape_at}
+use Rattle.lis_field.specs.Escapes.{escape_of}
+use Rattle.lis_field.specs.Text.{trailing_byte}
+use Rattle.lis_spelling.specs.Spelling.{spelled_component, spelled_symbol}
+use Rattle.lis_part.specs.inside.FrontReading.{digit_symbols, escape_at}
 use Rattle.lis_record.specs.inside.Respelling.{respelled, respelled_after}
-use Rattle.lis_record.proofs.FieldTexts.{trailing-none}
-use Rattle.lis_record.proofs.Places.{escape_at-found}
+use Rattle.lis_part.proofs.FieldTexts.{trailing-none}
+use Rattle.lis_part.proofs.Places.{escape_at-found}
 use Rattle.lis_record.proofs.Respelled.{respelled-escape, respelled-lone}
 
 -- what follows a first byte

@@ -13,9 +13,9 @@ use Rattle.lis_field.specs.declared.symbols.Sym.TheVariants.{Char, Raw, On, Off}
 use Rattle.lis_field.specs.Delimiters.{DelimiterBytes, IsDelimiters, is_punctuation}
 use Rattle.lis_field.specs.Shape.{AreSymbols, Components, IsFieldShape, IsRecordShape, IsRepeatShape, IsSymbol}
 use Rattle.lis_field.specs.Shape.{AreSome, RecordContent, Repeats, Symbols}
-use Rattle.lis_record.specs.Escapes.{IsComponent, escape, escape_of, letter_symbol, lone, nothing, plain, raw_symbols}
-use Rattle.lis_record.specs.Relation.{IsField, IsJoined, IsRecord, IsRepeat, declared_part}
-use Rattle.lis_record.specs.Text.{IsRecordText, is_text_byte}
+use Rattle.lis_field.specs.Escapes.{IsComponent, escape, escape_of, letter_symbol, lone, nothing, plain, raw_symbols}
+use Rattle.lis_field.specs.Relation.{IsField, IsJoined, IsRecord, IsRepeat, declared_part}
+use Rattle.lis_field.specs.Text.{IsRecordText, is_text_byte}
 
 abbrev Small : List ℕ → Type 0
 Small = AllByRecursion (λ b. b < 256)

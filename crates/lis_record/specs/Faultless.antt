@@ -3,7 +3,7 @@ use Rattle.std.specs.Prelude.{◌≡◌, ◌≢◌, ℕ, List}
 use Rattle.lis_field.specs.declared.kinds.Kind.TheVariants as kinds
 use Rattle.lis_field.specs.Delimiters.{DelimiterBytes, IsDelimiters}
 use Rattle.lis_field.specs.Shape.{RecordContent}
-use Rattle.lis_record.specs.Relation.{IsRecord}
+use Rattle.lis_field.specs.Relation.{IsRecord}
 
 -- one other than a header, under these delimiters
 pub record IsSomeRecord (d : DelimiterBytes) (text : List ℕ) : Type 0 where

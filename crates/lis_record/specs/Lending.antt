@@ -5,7 +5,7 @@ use Rattle.lis_field.specs.Delimiters.{DelimiterBytes, IsDelimiters}
 use Rattle.lis_field.specs.Shape.{RecordContent}
 use Rattle.lis_record.specs.declared.faults.RecordFault.{RecordFault}
 use Rattle.lis_record.specs.Lent.{Lent, lent}
-use Rattle.lis_record.specs.Relation.{IsRecord}
+use Rattle.lis_field.specs.Relation.{IsRecord}
 
 -- the record other than a header that a text is, under the delimiters of its message
 abbrev pub IsLentRecord : DelimiterBytes → List ℕ → Lent RecordContent → Type 0

@@ -1,10 +1,5 @@
-pub mod Escapes
 pub mod Faultless
 pub mod Faults
 pub mod Lending
 pub mod Lent
-pub mod Relation
-pub mod Spelling
-pub mod Text
-pub mod Writing
 pub mod inside

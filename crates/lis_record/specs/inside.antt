@@ -1,6 +1,5 @@
 -- What stands for private fields, and what holds within loops: no promise is stated here.
-pub mod FrontReading
+pub mod LentRemaining
 pub mod Marks
-pub mod Pieces
-pub mod Remaining
+pub mod Opening
 pub mod Respelling

@@ -1,4 +1,4 @@
-//! Why a text is no record, and why a record is not written.
+//! Why a text is no record.
 
 use lis_field::DelimiterFault;
 use thiserror::Error;
@@ -40,20 +40,3 @@ pub enum RecordFault {
     #[error("memory was refused")]
     OutOfMemory,
 }
-
-/// Why a record or a field was not written.
-#[derive(Clone, Copy, Debug, PartialEq, Eq, Error)]
-pub enum WriteFault {
-    /// The field of this number is the first with a `Char` that is no text byte; nothing was written.
-    #[error("field {0} holds a character that is no text byte")]
-    CharNotText(usize),
-    /// The spelling has over 65,536 bytes; nothing was written.
-    #[error("the record would have more than 65536 bytes")]
-    TooLong,
-    /// The sink failed after so many bytes.
-    #[error("the sink failed after {0} bytes")]
-    Io(u64),
-}
-
-/// What a call that writes answers.
-pub type WriteResult = Result<(), WriteFault>;

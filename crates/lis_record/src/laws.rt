@@ -3,10 +3,11 @@
 ghost use Rattle.std.specs.Prelude.{◌≡◌, ℕ, List, None};
 ghost use Rattle.lis_field.specs.Delimiters.{DelimiterBytes, IsDelimiters};
 ghost use Rattle.lis_record.specs.Faultless.{IsSomeHeader, IsSomeRecord};
-ghost use Rattle.lis_record.specs.Faults.{check_fault, header_fault, record_fault};
-ghost use Rattle.lis_record.specs.Relation.{IsRecord};
+ghost use Rattle.lis_spelling.specs.WriteFaults.{check_fault};
+ghost use Rattle.lis_record.specs.Faults.{header_fault, record_fault};
+ghost use Rattle.lis_field.specs.Relation.{IsRecord};
 ghost use Rattle.lis_field.specs.Shape.{IsRecordShape, RecordContent};
-ghost use Rattle.lis_record.specs.Spelling.{spelled};
+ghost use Rattle.lis_spelling.specs.Spelling.{spelled};
 ghost use Rattle.lis_field.specs.declared.kinds.Kind.TheVariants as kinds;
 
 /// A record that can be written is read back: its spelling is a text of it, and of no other record.

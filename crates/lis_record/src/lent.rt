@@ -1,31 +1,26 @@
 //! Records and their parts where they stand in a text, without memory (LIS02-A2, Delimiters).
 
 ghost use Rattle.std.specs.Prelude.{◌≡◌, ◌≢◌, ◌<◌, ◌≤◌, ◌++◌, ◌∷◌, ◌↔◌, [], IfNone, IfOk, IfSome, IsFalse, IsTrue};
-ghost use Rattle.std.specs.Prelude.{List, MatchOption, OnOk, Some, ℕ};
-ghost use Rattle.std.specs.Prelude.{⊤, drop, false, length, map, option_map, slice_get, take};
+ghost use Rattle.std.specs.Prelude.{List, MatchOption, OnOk, Some, ℕ, ⊤, drop, false, length, map, option_map};
+ghost use Rattle.std.specs.Prelude.{slice_get, take};
 ghost use Rattle.std.specs.Option.{option_copied};
 ghost use Rattle.lis_field.specs.Delimiters.{DelimiterBytes};
 ghost use Rattle.lis_field.specs.Shape.{field_at, plain_field};
-ghost use Rattle.lis_field.specs.declared.kinds.Kind.{Kind as KindOf};
-ghost use Rattle.lis_record.specs.inside.FrontReading.{components_of, fields_of, parts_of, repeats_of, symbols_of};
-ghost use Rattle.lis_record.specs.inside.Remaining.{more_fields};
+ghost use Rattle.lis_part.specs.inside.FrontReading.{components_of, fields_of, parts_of, symbols_of};
+ghost use Rattle.lis_spelling.specs.inside.Remaining.{more_fields};
 ghost use Rattle.lis_record.specs.Lent.{front_length, lent, record_in};
-ghost use Rattle.lis_record.specs.Relation.{Lacks, LacksDelimiters};
-ghost use Rattle.lis_record.specs.Spelling.{spelled_field};
-ghost use Rattle.lis_record.specs.Writing.{WroteAny, is_io};
+ghost use Rattle.lis_field.specs.Relation.{Lacks, LacksDelimiters};
+ghost use Rattle.lis_spelling.specs.Spelling.{spelled_field};
+ghost use Rattle.lis_spelling.specs.Writing.{WroteAny, is_io};
 
-use crate::building::{is_plain, read_field, read_fields};
-use crate::chunk::Chunk;
-use crate::cursor::Spelling;
-use crate::escapes::LentSymbols;
-use crate::faults::{WriteFault, WriteResult};
 use crate::lent_cursor::LentCursor;
+use crate::places::front_marks;
 use crate::respelling::{add_behind, add_respelled};
-use crate::search::{front_marks, place_of};
-use crate::texts::{count_parts, first_marked, part_at, part_behind, split_parts};
-use crate::writing::send;
+use crate::texts::{first_marked, part_at, part_behind, split_parts};
 use lis_field::{Component, Delimiters, Field, Kind, Record, Repeat};
+use lis_part::{LentSymbols, count_parts, is_plain, place_of, read_field, read_fields};
 use lis_port::{Sink, write_all};
+use lis_spelling::{WriteFault, WriteResult, put_spelling};
 use std::alloc::{AllocError, Global};
 use std::marker::{Model, PhantomData};
 
@@ -38,7 +33,7 @@ pub struct LentComponent<'a> {
 
 impl<'a> Model for LentComponent<'a> {
     ghost use Rattle.lis_field.specs.Shape.{Symbols};
-    ghost use Rattle.lis_record.specs.inside.FrontReading.{symbols_of};
+    ghost use Rattle.lis_part.specs.inside.FrontReading.{symbols_of};
     ghost use Rattle.lis_record.specs.Lent.{Lent, lent};
 
     ghost Value = { Lent Symbols };
@@ -121,7 +116,7 @@ pub type LentField<'a> = LentParts<'a, Repeat>;
 
 impl<'a, P: LentPart> Model for LentParts<'a, P> {
     ghost use Rattle.std.specs.Prelude.{List, map};
-    ghost use Rattle.lis_record.specs.inside.FrontReading.{parts_of};
+    ghost use Rattle.lis_part.specs.inside.FrontReading.{parts_of};
     ghost use Rattle.lis_record.specs.Lent.{Lent, lent};
 
     ghost Value = { Lent (List P) };
@@ -224,7 +219,7 @@ impl<'a> LentParts<'a, Repeat> {
         ensures failed { W.failed sink.new ≡ is_io result }
     {
         if place_of(self.text, self.delimiters.escape()).is_some() {
-            return put_symbols(sink, self.delimiters, self.text);
+            return put_spelling(sink, LentCursor::of_field(self.delimiters, self.text));
         }
         // Without an escape byte the field is spelled as it stands, since delimiters are apart.
         let _ = self.delimiters.field();
@@ -233,19 +228,6 @@ impl<'a> LentParts<'a, Repeat> {
             Err(count) => Err(WriteFault::Io(count as u64)),
         }
     }
-}
-
-// Writes the spelling of a field's symbols.
-fn put_symbols<W: Sink>(sink: &mut W, delimiters: Delimiters, text: &[u8]) -> WriteResult
-    requires { W.failed sink.old ≡ false }
-    ensures wrote { WroteAny None (spelled_field delimiters (repeats_of delimiters text.now))
-        (W.taken sink.old) (W.taken sink.new) result }
-    ensures failed { W.failed sink.new ≡ is_io result }
-{
-    let mut chunk = Chunk::new();
-    let mut cursor = LentCursor::of_field(delimiters, text);
-    cursor.fill(&mut chunk);
-    send(sink, &mut chunk, &mut cursor, 0, 0)
 }
 
 /// The fields of a record that stand in a text and weren't taken yet.
@@ -259,7 +241,7 @@ pub struct LentFields<'a> {
 
 impl<'a> Model for LentFields<'a> {
     ghost use Rattle.lis_field.specs.Shape.{Fields};
-    ghost use Rattle.lis_record.specs.inside.FrontReading.{fields_of};
+    ghost use Rattle.lis_part.specs.inside.FrontReading.{fields_of};
     ghost use Rattle.lis_record.specs.inside.Marks.{AreMarks};
     ghost use Rattle.lis_record.specs.Lent.{Lent, lent};
 
@@ -343,7 +325,7 @@ pub struct LentRecord<'a> {
 
 impl<'a> Model for LentRecord<'a> {
     ghost use Rattle.lis_field.specs.Shape.{RecordContent};
-    ghost use Rattle.lis_record.specs.inside.FrontReading.{fields_of};
+    ghost use Rattle.lis_part.specs.inside.FrontReading.{fields_of};
     ghost use Rattle.lis_record.specs.Lent.{Lent, lent};
 
     ghost Value = { Lent RecordContent };

@@ -1,14 +1,12 @@
 //! What is left of a lent field while it is written.
 
 ghost use Rattle.std.specs.Prelude.{◌≡◌};
-ghost use Rattle.lis_record.specs.inside.FrontReading.{repeats_of};
-ghost use Rattle.lis_record.specs.Spelling.{spelled_field};
+ghost use Rattle.lis_part.specs.inside.FrontReading.{repeats_of};
+ghost use Rattle.lis_spelling.specs.Spelling.{spelled_field};
 
-use crate::chunk::Chunk;
-use crate::cursor::Spelling;
-use crate::escapes::LentSymbols;
-use crate::texts::first_part;
 use lis_field::Delimiters;
+use lis_part::{LentSymbols, first_part};
+use lis_spelling::{Chunk, Spelling};
 use std::marker::Model;
 
 // The rest of a component, and the texts of the components behind it in its repeat and of the repeats behind
@@ -23,7 +21,7 @@ pub(crate) struct LentCursor<'a> {
 
 impl<'a> Model for LentCursor<'a> {
     ghost use Rattle.std.specs.Prelude.{ℕ, List};
-    ghost use Rattle.lis_record.specs.inside.Remaining.{remaining_text};
+    ghost use Rattle.lis_record.specs.inside.LentRemaining.{remaining_text};
 
     ghost Value = { List ℕ };
 

@@ -1,25 +1,24 @@
 //! Reading a record from its text (LIS02-A2, Delimiters, and Data Record Usage Overview).
 
-ghost use Rattle.std.specs.Prelude.{◌≡◌, ◌≢◌, IfOk, IfErr, MatchOption, MatchResult, Option, Some, None, true};
-ghost use Rattle.std.specs.Prelude.{false};
+ghost use Rattle.std.specs.Prelude.{◌≡◌, ◌≢◌, IfOk, IfErr, MatchOption, MatchResult, Option, Some, None, true, false};
 ghost use Rattle.lis_field.specs.Delimiters.{DelimiterBytes, IsDelimiters};
 ghost use Rattle.lis_record.specs.Faults.{TellsFault, delimiter_part_fault, header_fault, is_header_kind};
-ghost use Rattle.lis_record.specs.Faults.{is_other_kind, record_fault, record_text_fault, trailing_byte};
-ghost use Rattle.lis_record.specs.inside.FrontReading.{DeclaresDelimiters, OpensHeader, OpensRecord};
+ghost use Rattle.lis_record.specs.Faults.{is_other_kind, record_fault, record_text_fault};
+ghost use Rattle.lis_field.specs.Text.{trailing_byte, bad_byte_place};
+ghost use Rattle.lis_record.specs.inside.Opening.{DeclaresDelimiters, OpensHeader, OpensRecord};
 ghost use Rattle.lis_record.specs.Lending.{FindsHeader, FindsRecord, IsLentHeader, IsLentRecord};
 ghost use Rattle.lis_record.specs.Lent.{record_in};
-ghost use Rattle.lis_record.specs.Relation.{IsRecord};
+ghost use Rattle.lis_field.specs.Relation.{IsRecord};
 ghost use Rattle.lis_field.specs.Shape.{RecordContent};
 ghost use Rattle.lis_field.specs.declared.kinds.Kind.TheVariants as kinds;
 ghost use Rattle.lis_record.specs.declared.faults.RecordFault.TheVariants.{OutOfMemory};
 ghost use Rattle.lis_field.specs.Kinds.{kind_of};
-ghost use Rattle.lis_record.specs.Text.{bad_byte_place};
 
 use crate::faults::{DelimiterPartFault, RecordFault};
 use crate::lent::LentRecord;
-use crate::search::first_bad_byte;
-use crate::texts::RECORD_LIMIT;
 use lis_field::{Delimiters, Kind, Record};
+use lis_part::first_bad_byte;
+use lis_spelling::RECORD_LIMIT;
 use std::alloc::{AllocError, Global};
 
 // A byte that is no text byte, the first of which stands at `bad`, else too many bytes.

@@ -1,15 +1,14 @@
 //! The spelling of what a text tells, taken from the text run by run (LIS02-A2, Delimiters).
 
 ghost use Rattle.std.specs.Prelude.{◌≡◌, ◌<◌, ◌≤◌, ◌++◌, ◌∷◌, IfOk, IsTrue, None, OnOk, drop, length, take};
-ghost use Rattle.lis_record.specs.Faults.{trailing_byte};
-ghost use Rattle.lis_record.specs.Spelling.{spelled_component, spelled_symbol};
-ghost use Rattle.lis_record.specs.inside.FrontReading.{ArePairs, digit_symbols};
+ghost use Rattle.lis_field.specs.Text.{trailing_byte};
+ghost use Rattle.lis_spelling.specs.Spelling.{spelled_component};
+ghost use Rattle.lis_part.specs.inside.FrontReading.{ArePairs, digit_symbols};
 ghost use Rattle.lis_record.specs.inside.Respelling.{respelled};
 
-use crate::chunk::SymbolChunk;
-use crate::escapes::{escape_meaning, first_pair, letter_symbol};
-use crate::search::place_of;
 use lis_field::{Delimiters, Sym};
+use lis_part::{escape_meaning, first_pair, letter_symbol, place_of};
+use lis_spelling::add_symbol;
 use std::alloc::AllocError;
 
 // Adds the spelling of a text, in which delimiters stand as they are.
@@ -135,16 +134,6 @@ fn add_escape<'a>(
     }
     out.extend_from_slice(&[escape, b'E', escape])?;
     Ok(text)
-}
-
-// Adds a symbol's spelling.
-#[inline(always)]
-fn add_symbol(out: &mut Vec<u8>, delimiters: Delimiters, symbol: Sym) -> Result<(), AllocError>
-    ensures { OnOk result (out.new.items ≡ out.old.items ++ spelled_symbol delimiters symbol) }
-{
-    let mut chunk = SymbolChunk::new();
-    chunk.push_symbol(delimiters, symbol);
-    out.extend_from_slice(chunk.as_slice())
 }
 
 // Adds the raw bytes that pairs of digits are, each as an escape of its own.

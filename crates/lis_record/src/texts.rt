@@ -1,36 +1,15 @@
-//! The parts of a text round a delimiter (LIS02-A2, Delimiters).
+//! The parts of a text round a delimiter, some of whose places may be known (LIS02-A2, Delimiters).
 
 ghost use Rattle.std.specs.Prelude.{◌≡◌, ◌<◌, ◌≤◌, ◌∷◌, ◌++◌, IfSome, MatchOption, None, length, slice_get};
 ghost use Rattle.std.specs.Option.{option_copied};
-ghost use Rattle.lis_record.specs.Faults.{trailing_byte};
-ghost use Rattle.lis_record.specs.inside.FrontReading.{SplitsParts, parts_behind, parts_of};
-ghost use Rattle.lis_record.specs.inside.Marks.{AreMarks};
+ghost use Rattle.lis_field.specs.Text.{trailing_byte};
+ghost use Rattle.lis_record.specs.inside.Marks.{SplitsParts, AreMarks};
+ghost use Rattle.lis_part.specs.inside.FrontReading.{parts_behind, parts_of};
 
-use crate::search::{count_of, place_of};
+use lis_part::first_part;
 
-/// The most bytes that a record has, without its CR.
-pub const RECORD_LIMIT: usize = 65_536;
-
-// A text, and the same with more behind it or nothing, so that sixteen bytes can be looked at.
-#[derive(Clone, Copy)]
-pub(crate) struct PaddedText<'a, 'b> {
-    pub(crate) text: &'a [u8],
-    pub(crate) padded: &'b [u8],
-}
-
-// What stands before the first delimiter, and the rest from that delimiter on.
-#[inline(always)]
-pub(crate) fn first_part(text: &[u8], delimiter: u8) -> (&[u8], &[u8])
-    ensures parts { parts_of delimiter text.now ≡ result.0.now ∷ parts_behind delimiter result.1.now }
-    ensures shorter { length result.1.now ≤ length text.now }
-    ensures joined { text.now ≡ result.0.now ++ result.1.now }
-    ensures mark { trailing_byte delimiter result.1.now ≡ None }
-{
-    let end = place_of(text, delimiter).unwrap_or(text.len());
-    text.split_at(end)
-}
-
-// The same, where bits tell of the first places of the delimiter, or of none; and those bits of the rest.
+// What stands before the first delimiter, the rest from that delimiter on, and bits that tell of the first places of the
+// delimiter in the rest, or of none, as these do of its first places in the text.
 #[inline(always)]
 pub(crate) fn first_marked(text: &[u8], delimiter: u8, marks: u64) -> (&[u8], &[u8], u64)
     requires { AreMarks delimiter text.now marks }
@@ -138,12 +117,4 @@ fn split_unmarked(text: &[u8], delimiter: u8, count: usize) -> Option<(&[u8], &[
     }
     let (taken, _behind) = text.split_at(parts.len() - rest.len() + 1);
     Some((taken, rest, 0))
-}
-
-// The number of parts round a delimiter.
-#[inline]
-pub(crate) fn count_parts(text: &[u8], delimiter: u8) -> usize
-    ensures { result ≡ length (parts_of delimiter text.now) }
-{
-    count_of(text, delimiter) + 1
 }

@@ -9,7 +9,7 @@ use Rattle.lis_message.specs.Stream.{IsCut, IsRefused}
 use Rattle.lis_message.specs.Texts.{FitsInTexts}
 use Rattle.lis_message.specs.Writing.{IsWritable, message_bytes, message_texts_of}
 use Rattle.lis_message.proofs.WritingLaws.{all_writable}
-use Rattle.lis_record.specs.Spelling.{written}
+use Rattle.lis_spelling.specs.Spelling.{written}
 use Rattle.lis_tree.specs.inside.Begun.{Begun}
 use Rattle.lis_tree.specs.declared.fault.MessageFault.{MessageFault}
 use Rattle.lis_tree.specs.declared.fault.Reason.TheVariants as reasons

@@ -5,7 +5,7 @@ use Rattle.lis_field.specs.declared.kinds.Kind.{Kind}
 use Rattle.lis_field.specs.declared.kinds.Kind.TheVariants as kinds
 use Rattle.lis_field.specs.Delimiters.{DelimiterBytes}
 use Rattle.lis_field.specs.Shape.{Fields, RecordContent, Repeats}
-use Rattle.lis_record.specs.inside.Remaining.{more_fields}
+use Rattle.lis_spelling.specs.inside.Remaining.{more_fields}
 use Rattle.lis_message.specs.inside.Taking.{ComesNext, header, inner}
 use Rattle.lis_record.specs.Lent.{Lent}
 use Rattle.lis_tree.specs.inside.Begun.{Begun}

@@ -5,7 +5,7 @@ use Rattle.lis_field.specs.declared.kinds.Kind.{Kind}
 use Rattle.lis_field.specs.declared.kinds.Kind.TheVariants as kinds
 use Rattle.lis_field.specs.Delimiters.{DelimiterBytes}
 use Rattle.lis_field.specs.Shape.{RecordContent, Repeats, field_at}
-use Rattle.lis_record.specs.Spelling.{spelled_field}
+use Rattle.lis_spelling.specs.Spelling.{spelled_field}
 use Rattle.lis_tool.specs.Messages.{MessageWrites}
 use Rattle.lis_tree.specs.inside.Begun.{Begun}
 use Rattle.lis_tree.specs.Tree.{flatten}

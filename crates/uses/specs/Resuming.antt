@@ -3,7 +3,7 @@ use Rattle.std.specs.Prelude.{◌≡◌, ◌≢◌, ℕ, ◌<◌, List, Option, 
 use Rattle.std.specs.declared.result.Result.{Result}
 use Rattle.lis_message.specs.declared.fault.MessageWriteFault.{MessageWriteFault}
 use Rattle.lis_message.specs.Writing.{WroteMessage}
-use Rattle.lis_record.specs.declared.faults.WriteFault.TheVariants.{Io}
+use Rattle.lis_spelling.specs.declared.faults.WriteFault.TheVariants.{Io}
 use Rattle.lis_tree.specs.Tree.{MessageTree}
 
 -- The first sink takes all of it, or it is refused before any byte: the second one gets nothing. Or the first sink

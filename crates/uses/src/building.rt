@@ -2,7 +2,7 @@
 
 ghost use Rattle.std.specs.Prelude.{◌≡◌, IfErr, IfOk, map};
 ghost use Rattle.lis_field.specs.Delimiters.{usual};
-ghost use Rattle.lis_record.specs.Spelling.{written};
+ghost use Rattle.lis_spelling.specs.Spelling.{written};
 ghost use Rattle.uses.specs.Building.{HasNoResultTexts, IsMemory, IsResultMessage, glucose_record, result_records};
 
 use lis_field::{Component, Delimiters, Field, Kind, Record, Repeat};

@@ -8,7 +8,7 @@ use Rattle.lis_field.specs.Kinds.{kind_of}
 use Rattle.lis_tree.specs.declared.fault.Reason.{Reason}
 use Rattle.lis_tree.specs.declared.fault.Reason.TheVariants as reasons
 use Rattle.lis_record.specs.Lent.{Lent}
-use Rattle.lis_record.specs.Relation.{IsRecord}
+use Rattle.lis_field.specs.Relation.{IsRecord}
 use Rattle.lis_field.specs.Shape.{RecordContent}
 use Rattle.lis_tree.specs.inside.Begun.{Begun, level_of}
 use Rattle.lis_tree.specs.Level.{misplaced}

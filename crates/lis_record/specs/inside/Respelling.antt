@@ -3,8 +3,8 @@ use Rattle.std.specs.Prelude.{ℕ, zero, suc, ◌==◌, cond, List, [], ◌∷�
 use Rattle.lis_field.specs.declared.symbols.Sym.TheVariants.{Char}
 use Rattle.lis_field.specs.Delimiters.{DelimiterBytes}
 use Rattle.lis_field.specs.Shape.{Symbols}
-use Rattle.lis_record.specs.inside.FrontReading.{escape_at}
-use Rattle.lis_record.specs.Spelling.{spelled_component, spelled_symbol}
+use Rattle.lis_part.specs.inside.FrontReading.{escape_at}
+use Rattle.lis_spelling.specs.Spelling.{spelled_component, spelled_symbol}
 
 -- what an escape means, spelled, and what stands behind it; where there is none, the escape byte is itself
 abbrev pub respelled_behind : DelimiterBytes → Option (Symbols × ℕ) → (ℕ → List ℕ) → List ℕ

@@ -1,6 +1,6 @@
 use Rattle.std.proofs.Common.{◌≡◌, Ok, subst, sym}
 use Rattle.lis_record.specs.Lent.{lent}
-use Rattle.lis_record.specs.Relation.{IsRecord}
+use Rattle.lis_field.specs.Relation.{IsRecord}
 use Rattle.lis_c.proofs.records.record_under.Goals as goal
 
 pub returns-in-Ok-clause-only : goal.returns-in-Ok-clause-only

@@ -1,5 +1,5 @@
 use Rattle.std.proofs.Common.{◌≡◌, ◌++◌, map, length}
-use Rattle.lis_record.specs.Spelling.{written}
+use Rattle.lis_spelling.specs.Spelling.{written}
 use Rattle.lis_message.specs.Writing.{AreWritable}
 use Rattle.lis_message.proofs.texts.texts_of.Given as goal
 

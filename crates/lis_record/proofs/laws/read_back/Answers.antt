@@ -1,6 +1,6 @@
-use Rattle.lis_record.proofs.ReadBack.{IsRecord-spelled}
+use Rattle.lis_spelling.proofs.ReadBack.{IsRecord-spelled}
 use Rattle.lis_record.proofs.RecordTexts.{IsRecord-one}
-use Rattle.lis_record.specs.Spelling.{spelled}
+use Rattle.lis_spelling.specs.Spelling.{spelled}
 use Rattle.lis_record.proofs.laws.read_back.Goals as goal
 
 pub returns-clause-related : goal.returns-clause-related

@@ -1,11 +1,11 @@
 use Rattle.std.proofs.Common.{◌≡◌, ℕ, None, sym, ◌∙◌, ap, option_map, ◌+◌, ◌++◌, List, ◌∷◌, []}
 use Rattle.lis_field.specs.declared.symbols.Sym.TheVariants.{Char}
-use Rattle.lis_record.specs.Spelling.{spelled_symbol}
+use Rattle.lis_spelling.specs.Spelling.{spelled_symbol}
 use Rattle.lis_field.specs.Shape.{Symbols}
-use Rattle.lis_record.specs.Escapes.{escape_of}
-use Rattle.lis_record.specs.inside.FrontReading.{escape_at}
+use Rattle.lis_field.specs.Escapes.{escape_of}
+use Rattle.lis_part.specs.inside.FrontReading.{escape_at}
 use Rattle.lis_record.proofs.AsIs.{escape_spelled}
-use Rattle.lis_record.proofs.Places.{escape_at-found, escape_at-none}
+use Rattle.lis_part.proofs.Places.{escape_at-found, escape_at-none}
 use Rattle.lis_record.proofs.Runs.{escape_added, lone_added}
 use Rattle.lis_record.proofs.respelling.add_escape.Goals as goal
 use Rattle.lis_record.proofs.respelling.add_escape.Goals.{in-Some+in_default-escape_meaning, in_default}

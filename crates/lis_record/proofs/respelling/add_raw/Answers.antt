@@ -1,7 +1,7 @@
 use Rattle.std.proofs.Common.{◌++◌, List, ℕ, append-nil, ap, sym, ◌∙◌}
-use Rattle.lis_record.specs.Spelling.{spelled_component}
-use Rattle.lis_record.specs.inside.FrontReading.{digit_symbols}
-use Rattle.lis_record.proofs.Pairs.{digit_symbols-none}
+use Rattle.lis_spelling.specs.Spelling.{spelled_component}
+use Rattle.lis_part.specs.inside.FrontReading.{digit_symbols}
+use Rattle.lis_part.proofs.Pairs.{digit_symbols-none}
 use Rattle.lis_record.proofs.respelling.add_raw.Goals as goal
 
 pub returns : goal.returns

@@ -1,5 +1,5 @@
 use Rattle.std.proofs.Common.{◌++◌, List, ℕ, ap, sym, ◌∙◌}
-use Rattle.lis_record.proofs.LentTexts.{Lacks-position, is_some_none}
+use Rattle.lis_part.proofs.Places.{Lacks-position, is_some_none}
 use Rattle.lis_record.proofs.Respelled.{respelled_as_is}
 use Rattle.lis_record.proofs.respelling.add_respelled.Goals as goal
 

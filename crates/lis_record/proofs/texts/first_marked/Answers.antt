@@ -1,7 +1,7 @@
 use Rattle.std.proofs.Common.{ℕ, Option, ap, arith, length, sym, unwrap_or}
-use Rattle.lis_record.proofs.FieldTexts.{part_behind-mark}
+use Rattle.lis_part.proofs.FieldTexts.{part_behind-mark}
 use Rattle.lis_record.proofs.Marks.{marks-behind, marks-found, marks-inside}
-use Rattle.lis_record.proofs.Places.{parts_of-first}
+use Rattle.lis_part.proofs.Places.{parts_of-first}
 use Rattle.std.specs.Int.Count.{count_trailing_zeros}
 use Rattle.lis_record.proofs.texts.first_marked.Goals as goal
 

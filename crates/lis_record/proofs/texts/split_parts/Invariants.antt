@@ -1,6 +1,6 @@
 use Rattle.std.specs.Int.Count.{count_trailing_zeros}
 use Rattle.std.proofs.Common.{◌≡◌, ◌+◌, ◌<◌, ◌∷◌, ℕ, List, drop}
-use Rattle.lis_record.proofs.FieldTexts.{Passed}
+use Rattle.lis_record.proofs.TakenFields.{Passed}
 use Rattle.lis_record.proofs.LeftMarks.{Left, Next, end_is, left-next}
 use Rattle.lis_record.proofs.texts.split_parts.Given as goal
 

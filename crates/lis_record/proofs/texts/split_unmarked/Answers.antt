@@ -1,5 +1,5 @@
 use Rattle.std.proofs.Common.{◌≡◌, ◌+◌, arith}
-use Rattle.lis_record.proofs.FieldTexts.{passed_more, passed_one, passed_within, taken_parts}
+use Rattle.lis_record.proofs.TakenFields.{passed_more, passed_one, passed_within, taken_parts}
 use Rattle.lis_record.proofs.texts.split_unmarked.Goals as goal
 
 pub loop-left-init : goal.loop-left-init

@@ -1,5 +1,5 @@
 use Rattle.std.proofs.Common.{◌≡◌, ◌+◌, ◌<◌, ℕ, List}
-use Rattle.lis_record.proofs.FieldTexts.{Passed}
+use Rattle.lis_record.proofs.TakenFields.{Passed}
 use Rattle.lis_record.proofs.texts.split_unmarked.Given as goal
 
 -- some parts were passed over, and so many are left

@@ -1,9 +1,9 @@
 use Rattle.std.proofs.Common.{◌≡◌, ◌++◌, List, ℕ, ap, sym, ◌∙◌, map, take, drop}
 use Rattle.std.specs.List.{drop-map}
 use Rattle.lis_record.specs.Lent.{lent}
-use Rattle.lis_record.specs.inside.FrontReading.{fields_of, parts_behind, repeats_of}
-use Rattle.lis_record.specs.inside.Remaining.{more_fields}
-use Rattle.lis_record.proofs.FieldTexts.{fields_added}
+use Rattle.lis_part.specs.inside.FrontReading.{fields_of, parts_behind, repeats_of}
+use Rattle.lis_spelling.specs.inside.Remaining.{more_fields}
+use Rattle.lis_record.proofs.TakenFields.{fields_added}
 use Rattle.lis_record.proofs.lent.LentFields.add_next.Goals as goal
 
 pub returns-clause-added : goal.returns-clause-added

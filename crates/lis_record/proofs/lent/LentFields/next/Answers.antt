@@ -1,4 +1,4 @@
-use Rattle.lis_record.proofs.FieldTexts.{Lacks-first}
+use Rattle.lis_part.proofs.FieldTexts.{Lacks-first}
 use Rattle.lis_record.proofs.lent.LentFields.next.Goals as goal
 
 pub of_text-requires : goal.of_text-requires

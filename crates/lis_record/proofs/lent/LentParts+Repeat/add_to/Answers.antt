@@ -1,7 +1,7 @@
 use Rattle.std.proofs.Common.{◌++◌, List, ℕ, ap, sym, ◌∙◌}
 use Rattle.lis_field.specs.Shape.{Repeats}
 use Rattle.lis_record.specs.Lent.{Lent}
-use Rattle.lis_record.specs.Spelling.{spelled_field}
+use Rattle.lis_spelling.specs.Spelling.{spelled_field}
 use Rattle.lis_record.proofs.Respelled.{field_respelled}
 use Rattle.lis_record.proofs.lent.LentParts+Repeat.add_to.Goals as goal
 

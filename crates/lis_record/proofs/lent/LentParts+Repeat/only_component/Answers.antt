@@ -1,8 +1,8 @@
 use Rattle.std.proofs.Common.{sym, ◌∙◌, ap, subst}
 use Rattle.lis_field.specs.Shape.{Repeats}
 use Rattle.lis_record.specs.Lent.{Lent}
-use Rattle.lis_record.specs.Relation.{LacksDelimiters}
-use Rattle.lis_record.proofs.FieldTexts.{plain_read}
+use Rattle.lis_field.specs.Relation.{LacksDelimiters}
+use Rattle.lis_part.proofs.FieldTexts.{plain_read}
 use Rattle.lis_record.proofs.PlainFields.{plain_found}
 use Rattle.lis_record.proofs.lent.LentParts+Repeat.only_component.Goals as goal
 

@@ -1,11 +1,11 @@
 use Rattle.std.proofs.Common.{◌≡◌, ◌^◌, ◌-◌, min, Ok, Err, sym, ◌∙◌, ap, refl, arith}
 use Rattle.lis_field.specs.Shape.{Repeats}
-use Rattle.lis_record.specs.declared.faults.WriteFault.TheVariants as write_faults
+use Rattle.lis_spelling.specs.declared.faults.WriteFault.TheVariants as write_faults
 use Rattle.lis_record.specs.Lent.{Lent}
-use Rattle.lis_record.specs.Spelling.{spelled_field}
-use Rattle.lis_record.proofs.LentTexts.{Lacks-position, is_some_none}
+use Rattle.lis_spelling.specs.Spelling.{spelled_field}
+use Rattle.lis_part.proofs.Places.{Lacks-position, is_some_none}
 use Rattle.lis_record.proofs.Respelled.{field_as_is}
-use Rattle.lis_record.proofs.WriteLaws.{WroteAny-same}
+use Rattle.lis_spelling.proofs.WriteLaws.{WroteAny-same}
 use Rattle.lis_record.proofs.lent.LentParts+Repeat.put.Goals as goal
 
 pub returns-in-Ok-clause-wrote : goal.returns-in-Ok-clause-wrote

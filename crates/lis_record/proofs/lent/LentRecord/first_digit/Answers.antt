@@ -1,5 +1,5 @@
 use Rattle.std.proofs.Common.{arith, sym, ◌∙◌}
-use Rattle.lis_record.proofs.FieldTexts.{lone_lent}
+use Rattle.lis_record.proofs.TakenFields.{lone_lent}
 use Rattle.lis_record.proofs.PlainFields.{digit_behind}
 use Rattle.lis_record.proofs.lent.LentRecord.first_digit.Goals as goal
 

@@ -1,0 +1,11 @@
+pub mod BadBytes
+pub mod Components
+pub mod FieldTexts
+pub mod Fronts
+pub mod Joins
+pub mod Lanes
+pub mod LastBits
+pub mod PaddedTexts
+pub mod Pairs
+pub mod Places
+pub mod Stops

@@ -1,0 +1,25 @@
+use Rattle.std.proofs.Common.{◌∷◌, [], ℕ, ap, refl, sym, take, ◌∙◌}
+use Rattle.lis_field.specs.Shape.{Components, Symbols, plain_field}
+use Rattle.lis_part.proofs.PaddedTexts.{begins_padded, takes_padded}
+use Rattle.lis_part.proofs.Stops.{stop-plain}
+use Rattle.lis_part.proofs.building.push_next.Goals as goal
+
+pub split_at-requires : goal.split_at-requires
+split_at-requires c = (begins_padded c.requires.0 c.requires.1 c.in-Some.ensures.bound c.in-Some.ensures.first).within
+
+pub returns : goal.returns
+returns c =
+    let plain = stop-plain c.args.delimiters c.args.given.padded.now c.in-Some.end
+    (rw c.escape.ensures at c.in-Some.ensures.found) in
+    takes_padded c.requires.0 c.requires.1 c.in-Some.ensures.bound c.in-Some.ensures.first
+    (c.in_ok-from_front.ensures ∙ sym plain) c.in_ok-push-2.ensures.ok c.split_at.ensures.back
+
+pub returns-then-end-eq0 : goal.returns-then-end-eq0
+returns-then-end-eq0 c =
+    let plain = stop-plain c.args.delimiters c.args.given.padded.now c.in-Some.end
+    (rw c.escape.ensures at c.in-Some.ensures.found) in
+    let empty = c.in_ok-new.ensures.ok
+    ∙ ap (λ (r : Components). r ∷ []) (c.in_ok-empty.ensures.ok ∙ ap (λ (s : Symbols). s ∷ []) c.new.ensures) in
+    let none = ap (λ (n : ℕ). plain_field (take n c.args.given.padded.now)) c.if-end-eq0.true in
+    takes_padded c.requires.0 c.requires.1 c.in-Some.ensures.bound c.in-Some.ensures.first (empty ∙ sym (plain ∙ none))
+    c.in_ok-push.ensures.ok (rw c.if-end-eq0.true refl)

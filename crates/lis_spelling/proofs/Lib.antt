@@ -1,0 +1,4 @@
+pub mod ReadBack
+pub mod Sinks
+pub mod Steps
+pub mod WriteLaws

@@ -1,0 +1,4 @@
+pub mod Spelling
+pub mod WriteFaults
+pub mod Writing
+pub mod inside
