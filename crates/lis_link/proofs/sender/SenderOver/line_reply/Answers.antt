@@ -39,13 +39,17 @@ returns g c =
           let step = sym (line-enquiry {limit = g.row.N} c.args.byte now w.if-byte-eq-ENQ.true) in
           record {
             emit = ap (λ (s : SenderStep g.row.N). s.emit) step;
-            after = viewed ∙ ap (λ p. record now { phase = p }) w.self-is ∙ ap (λ (s : SenderStep g.row.N). s.after) step;
+            after =
+                viewed ∙ ap (λ p. record now { phase = p }) w.self-is
+                ∙ ap (λ (s : SenderStep g.row.N). s.after) step;
           }
       | else-byte-eq-ENQ w ↦
           let step =
           sym (line-other {limit = g.row.N} c.args.byte now c.if-byte-eq-ACK.false w.if-byte-eq-ENQ.false) in
           record {
             emit = ap (λ (s : SenderStep g.row.N). s.emit) step;
-            after = viewed ∙ ap (λ p. record now { phase = p }) w.self-is ∙ ap (λ (s : SenderStep g.row.N). s.after) step;
+            after =
+                viewed ∙ ap (λ p. record now { phase = p }) w.self-is
+                ∙ ap (λ (s : SenderStep g.row.N). s.after) step;
           }
     ]

@@ -35,17 +35,18 @@ send_again-requires g c = (
 
 pub returns-after-byte-eq-ENQ : goal.returns-after-byte-eq-ENQ
 returns-after-byte-eq-ENQ g c =
+    let now = c.args.self.now in
     let phase = sym c.in-Neutral.is ∙ ap (λ (s : SenderState). s.phase) c.self.view_is in
-    let step = ap (λ p. reply_in {limit = g.row.N} p c.args.byte c.args.self.now) phase in
+    let step = ap (λ p. reply_in {limit = g.row.N} p c.args.byte now) phase in
     elim c.if-byte-eq-ENQ.branch [
       | then-byte-eq-ENQ w ↦
-          let neutral = sym (neutral-enquiry {limit = g.row.N} c.args.byte c.args.self.now w.if-byte-eq-ENQ.true) ∙ step in
+          let neutral = sym (neutral-enquiry {limit = g.row.N} c.args.byte now w.if-byte-eq-ENQ.true) ∙ step in
           record {
             emit = w.result-is ∙ ap (λ (s : SenderStep g.row.N). s.emit) neutral;
             after = ap (λ (s : SenderStep g.row.N). s.after) neutral;
           }
       | else-byte-eq-ENQ w ↦
-          let neutral = sym (neutral-other {limit = g.row.N} c.args.byte c.args.self.now w.if-byte-eq-ENQ.false) ∙ step in
+          let neutral = sym (neutral-other {limit = g.row.N} c.args.byte now w.if-byte-eq-ENQ.false) ∙ step in
           record {
             emit = w.result-is ∙ ap (λ (s : SenderStep g.row.N). s.emit) neutral;
             after = ap (λ (s : SenderStep g.row.N). s.after) neutral;
@@ -54,24 +55,27 @@ returns-after-byte-eq-ENQ g c =
 
 pub returns-in-AwaitLine : goal.returns-in-AwaitLine
 returns-in-AwaitLine g c =
+    let now = c.args.self.now in
     let phase = sym c.in-AwaitLine.is ∙ ap (λ (s : SenderState). s.phase) c.self.view_is in
     record {
-      emit = c.line_reply.ensures.emit ∙ ap (λ p. (reply_in {limit = g.row.N} p c.args.byte c.args.self.now).emit) phase;
-      after = c.line_reply.ensures.after ∙ ap (λ p. (reply_in {limit = g.row.N} p c.args.byte c.args.self.now).after) phase;
+      emit = c.line_reply.ensures.emit ∙ ap (λ p. (reply_in {limit = g.row.N} p c.args.byte now).emit) phase;
+      after = c.line_reply.ensures.after ∙ ap (λ p. (reply_in {limit = g.row.N} p c.args.byte now).after) phase;
     }
 
 pub returns-in-Busy : goal.returns-in-Busy
 returns-in-Busy g c =
+    let now = c.args.self.now in
     let phase = sym c.in-Busy.is ∙ ap (λ (s : SenderState). s.phase) c.self.view_is in
     record {
-      emit = ap (λ p. (reply_in {limit = g.row.N} p c.args.byte c.args.self.now).emit) phase;
-      after = ap (λ p. (reply_in {limit = g.row.N} p c.args.byte c.args.self.now).after) phase;
+      emit = ap (λ p. (reply_in {limit = g.row.N} p c.args.byte now).emit) phase;
+      after = ap (λ p. (reply_in {limit = g.row.N} p c.args.byte now).after) phase;
     }
 
 pub returns-in-Contention : goal.returns-in-Contention
 returns-in-Contention g c =
+    let now = c.args.self.now in
     let phase = sym c.in-Contention.is ∙ ap (λ (s : SenderState). s.phase) c.self.view_is in
     record {
-      emit = ap (λ p. (reply_in {limit = g.row.N} p c.args.byte c.args.self.now).emit) phase;
-      after = ap (λ p. (reply_in {limit = g.row.N} p c.args.byte c.args.self.now).after) phase;
+      emit = ap (λ p. (reply_in {limit = g.row.N} p c.args.byte now).emit) phase;
+      after = ap (λ p. (reply_in {limit = g.row.N} p c.args.byte now).after) phase;
     }

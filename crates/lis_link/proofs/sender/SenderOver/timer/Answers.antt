@@ -27,40 +27,45 @@ ask_again-requires-in-Contention g c =
 
 pub returns-in-Neutral : goal.returns-in-Neutral
 returns-in-Neutral g c =
+    let now = c.args.self.now in
     let phase = sym c.in-Neutral.is ∙ ap (λ (s : SenderState). s.phase) c.self.view_is in
     record {
-      emit = ap (λ p. (timer_in {limit = g.row.N} p c.args.self.now).emit) phase;
-      after = ap (λ p. (timer_in {limit = g.row.N} p c.args.self.now).after) phase;
+      emit = ap (λ p. (timer_in {limit = g.row.N} p now).emit) phase;
+      after = ap (λ p. (timer_in {limit = g.row.N} p now).after) phase;
     }
 
 pub returns-in-AwaitLine : goal.returns-in-AwaitLine
 returns-in-AwaitLine g c =
+    let now = c.args.self.now in
     let phase = sym c.in-AwaitLine.is ∙ ap (λ (s : SenderState). s.phase) c.self.view_is in
     record {
-      emit = c.end.ensures.emit ∙ ap (λ p. (timer_in {limit = g.row.N} p c.args.self.now).emit) phase;
-      after = c.end.ensures.after ∙ ap (λ p. (timer_in {limit = g.row.N} p c.args.self.now).after) phase;
+      emit = c.end.ensures.emit ∙ ap (λ p. (timer_in {limit = g.row.N} p now).emit) phase;
+      after = c.end.ensures.after ∙ ap (λ p. (timer_in {limit = g.row.N} p now).after) phase;
     }
 
 pub returns-in-Busy : goal.returns-in-Busy
 returns-in-Busy g c =
+    let now = c.args.self.now in
     let phase = sym c.in-Busy.is ∙ ap (λ (s : SenderState). s.phase) c.self.view_is in
     record {
-      emit = c.ask_again.ensures.emit ∙ ap (λ p. (timer_in {limit = g.row.N} p c.args.self.now).emit) phase;
-      after = c.ask_again.ensures.after ∙ ap (λ p. (timer_in {limit = g.row.N} p c.args.self.now).after) phase;
+      emit = c.ask_again.ensures.emit ∙ ap (λ p. (timer_in {limit = g.row.N} p now).emit) phase;
+      after = c.ask_again.ensures.after ∙ ap (λ p. (timer_in {limit = g.row.N} p now).after) phase;
     }
 
 pub returns-in-Contention : goal.returns-in-Contention
 returns-in-Contention g c =
+    let now = c.args.self.now in
     let phase = sym c.in-Contention.is ∙ ap (λ (s : SenderState). s.phase) c.self.view_is in
     record {
-      emit = c.ask_again-in-Contention.ensures.emit ∙ ap (λ p. (timer_in {limit = g.row.N} p c.args.self.now).emit) phase;
-      after = c.ask_again-in-Contention.ensures.after ∙ ap (λ p. (timer_in {limit = g.row.N} p c.args.self.now).after) phase;
+      emit = c.ask_again-in-Contention.ensures.emit ∙ ap (λ p. (timer_in {limit = g.row.N} p now).emit) phase;
+      after = c.ask_again-in-Contention.ensures.after ∙ ap (λ p. (timer_in {limit = g.row.N} p now).after) phase;
     }
 
 pub returns-in-AwaitReply : goal.returns-in-AwaitReply
 returns-in-AwaitReply g c =
+    let now = c.args.self.now in
     let phase = sym c.in-AwaitReply.is ∙ ap (λ (s : SenderState). s.phase) c.self.view_is in
     record {
       emit = cc;
-      after = cc (ap (λ p. (timer_in {limit = g.row.N} p c.args.self.now).after) phase);
+      after = cc (ap (λ p. (timer_in {limit = g.row.N} p now).after) phase);
     }
