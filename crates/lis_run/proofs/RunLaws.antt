@@ -338,6 +338,50 @@ halted_stops refuses closes memory means text halt result left ended source_fail
     reads) (sym told)
     (record { stopped = ((λ c. early c refl), fine, refl); sent_on = tt; all_read = all_read; bounded = bound })
 
+-- the source told no end, so nothing need be shown of it
+pub unended : {P : Type 0} {ended : Bool} → ended ≡ false → ended ≡ true → P
+unended none is = absurd (no (sym none ∙ is))
+  where
+    no : false ≡ true → ⊥
+    no e = cc
+
+-- a fault of the sink
+abbrev pub IsWrite : ToolFault → Type 0
+IsWrite (Write written) = ⊤
+IsWrite (CaptureLine line) = ⊥
+IsWrite Read = ⊥
+IsWrite OutOfMemory = ⊥
+IsWrite TooManyReads = ⊥
+
+pub put_failed : (a b : Option (List ℕ)) (before : ℕ) (fault : ToolFault) (text : List ℕ)
+    → Put a b before (Err fault) text → IsWrite fault
+put_failed a b before (Write written) text put = tt
+put_failed a b before (CaptureLine line) text put = put
+put_failed a b before Read text put = put
+put_failed a b before OutOfMemory text put = put
+put_failed a b before TooManyReads text put = put
+
+pub part_failed : (a b : Option (List ℕ)) (before : ℕ) (fault : ToolFault) (text : List ℕ)
+    → PartWentOut a b before fault text → IsWrite fault
+part_failed a b before (Write written) text part = tt
+part_failed a b before (CaptureLine line) text part = part
+part_failed a b before Read text part = part
+part_failed a b before OutOfMemory text part = part
+part_failed a b before TooManyReads text part = part
+
+-- how a run stops whose sink failed
+pub write_stops :
+    {refuses closes : Bool} {fault : ToolFault} {left : Option (List ℕ)} {ended source_failed : Bool} {made : ℕ}
+    {taken sent : Option (List ℕ)} {sink_failed : Bool} {reads : ℕ} → IsWrite fault → (closes ≡ false → ended ≡ false)
+    → source_failed ≡ false → sink_failed ≡ true → (ended ≡ true → IsAtEnd left) → made ≤ reads
+    → StopsBy refuses closes (Err fault) left ended source_failed made taken sent sink_failed reads
+write_stops {fault = Write written} is early fine failed all_read bound =
+    record { stopped = (early, fine, failed); sent_on = tt; all_read = all_read; bounded = bound }
+write_stops {fault = CaptureLine line} is early fine failed all_read bound = absurd is
+write_stops {fault = Read} is early fine failed all_read bound = absurd is
+write_stops {fault = OutOfMemory} is early fine failed all_read bound = absurd is
+write_stops {fault = TooManyReads} is early fine failed all_read bound = absurd is
+
 -- a read that told the end waited
 pub waited : (may_wait : Bool) (count : ℕ) → count ≡ 0 → (may_wait ≡ false → 0 < count) → may_wait ≡ true
 waited true count none ready = refl

@@ -1,11 +1,11 @@
-use Rattle.std.proofs.Common.{◌≡◌, ◌+◌, ◌^◌, ◌<◌, ℕ, false, [], ◌++◌, Ok, length, ap, ◌∙◌, arith, refl}
+use Rattle.std.proofs.Common.{◌≡◌, ◌+◌, ◌^◌, ◌<◌, ℕ, false, [], ◌++◌, Ok, length, ap, ◌∙◌, arith, refl, sym}
 use Rattle.std.proofs.Common.{length-append}
 use Rattle.lis_run.specs.Outcome.{going}
 use Rattle.lis_run.specs.Output.{out}
 use Rattle.lis_run.proofs.GatherLaws.{gathered_nothing, gathered_then}
 use Rattle.lis_run.proofs.RunLaws.{consumes_none, consumes_kept, failed_not_ended, failed_waited, fails_ran, gave}
 use Rattle.lis_run.proofs.RunLaws.{halted_stops, halts_ran, no_end, read_end, read_more, so_far_out, so_far_settled}
-use Rattle.lis_run.proofs.RunLaws.{unsent_ran, well_early}
+use Rattle.lis_run.proofs.RunLaws.{put_failed, part_failed, unended, unsent_ran, well_early, write_stops}
 use Rattle.lis_run.proofs.machine.run.Goals as goal
 
 pub loop-turn-init : goal.loop-turn-init
@@ -64,6 +64,17 @@ returns-in-Err-clause-ran g c =
     unsent_ran s g.M.Machine.takes_memory g.M.Machine.means c.in-Err.fault c.loop-turn.invariant.not_ended
     (g.met.M.Machine.goes_on _ _ _ s.stood) c.in-Err.ensures.err
 
+pub returns-in-Err-clause-stops : goal.returns-in-Err-clause-stops
+returns-in-Err-clause-stops g c =
+    let is = c.loop-turn.invariant in
+    write_stops (part_failed _ _ _ _ _ c.in-Err.ensures.err) (λ closes. is.not_ended) is.not_failed
+    c.in-Err.ensures.failed (unended is.not_ended) (omega (arith, is.made, c.loop-turn-test.true))
+
+pub returns-in-Err-clause-each_gave : goal.returns-in-Err-clause-each_gave
+returns-in-Err-clause-each_gave g c =
+    let s = c.loop-turn.invariant.so_far in
+    (s.bytes, s.read, omega (arith, s.each_gave, c.loop-turn.invariant.made))
+
 -- ---- the read failed
 
 pub returns-in-Err-read_settled-clause-ran : goal.returns-in-Err-read_settled-clause-ran
@@ -81,6 +92,26 @@ returns-in-Err-read_settled-clause-ran g c =
         so_far_out _ _ _ c.in-Ok.after s.text wrote (c.in-Ok.ensures.empty (failed_waited _ reading.ready)),
       );
     }
+
+pub returns-in-Err-read_settled-clause-stops : goal.returns-in-Err-read_settled-clause-stops
+returns-in-Err-read_settled-clause-stops g c =
+    let reading = c.in-Err-read_settled.ensures in
+    let going = failed_not_ended _ reading.ended in
+    record {
+      stopped = (going, reading.failed, c.in-Ok.ensures.failed);
+      sent_on = c.in-Ok.ensures.sent (failed_waited _ reading.ready);
+      all_read = unended going;
+      bounded = omega (arith, reading.made, c.loop-turn.invariant.made, c.loop-turn-test.true);
+    }
+
+pub returns-in-Err-read_settled-clause-each_gave : goal.returns-in-Err-read_settled-clause-each_gave
+returns-in-Err-read_settled-clause-each_gave g c =
+    let s = c.loop-turn.invariant.so_far in
+    let reading = c.in-Err-read_settled.ensures in (
+      s.bytes,
+      consumes_kept _ _ _ s.bytes s.read reading.bytes,
+      omega (arith, s.each_gave, c.loop-turn.invariant.made, reading.made),
+    )
 
 -- ---- it told the end
 
@@ -103,6 +134,26 @@ returns-in-Err-end_page-clause-ran g c =
     reading.ready)
     c.in-Err-end_page.fault
     (c.in-Err-end_page.ensures.ends s.bytes s.text s.stood (omega (arith, s.short)))
+
+pub returns-in-Err-end_page-clause-stops : goal.returns-in-Err-end_page-clause-stops
+returns-in-Err-end_page-clause-stops g c =
+    let s = c.loop-turn.invariant.so_far in
+    let reading = c.in-Ok-read_settled.ensures in
+    let fails = c.in-Err-end_page.ensures.ends s.bytes s.text s.stood (omega (arith, s.short)) in
+    write_stops (put_failed _ _ _ _ _ fails.put) (λ closes. unended refl (sym (c.in-Err-end_page.ensures.silent closes).0))
+    reading.failed c.in-Err-end_page.ensures.failed
+    (λ ended. reading.bytes.1 c.if-count-eq0.true (omega (arith, c.read_settled.auto.buffer)))
+    (omega (arith, reading.made, c.loop-turn.invariant.made, c.loop-turn-test.true))
+
+pub returns-in-Ok-end_page-clause-each_gave : goal.returns-in-Ok-end_page-clause-each_gave
+returns-in-Ok-end_page-clause-each_gave g c =
+    gave c.loop-turn.invariant.so_far _ _ c.in-Ok-read_settled.ensures.bytes.0
+    (omega (arith, c.loop-turn.invariant.made, c.in-Ok-read_settled.ensures.made))
+
+pub returns-in-Err-end_page-clause-each_gave : goal.returns-in-Err-end_page-clause-each_gave
+returns-in-Err-end_page-clause-each_gave g c =
+    gave c.loop-turn.invariant.so_far _ _ c.in-Ok-read_settled.ensures.bytes.0
+    (omega (arith, c.loop-turn.invariant.made, c.in-Ok-read_settled.ensures.made))
 
 -- ---- it gave more
 
@@ -145,6 +196,15 @@ returns-in-Err-feed_page-clause-ran g c =
     c.if-count-eq0.false)
     c.in-Err-feed_page.fault (c.in-Err-feed_page.ensures.steps s.bytes s.text s.stood (omega (arith, s.short)))
 
+pub returns-in-Err-feed_page-clause-stops : goal.returns-in-Err-feed_page-clause-stops
+returns-in-Err-feed_page-clause-stops g c =
+    let s = c.loop-turn.invariant.so_far in
+    let reading = c.in-Ok-read_settled.ensures in
+    let fails = c.in-Err-feed_page.ensures.steps s.bytes s.text s.stood (omega (arith, s.short)) in
+    let going = no_end _ c.in-Ok-read_settled.count c.if-count-eq0.false reading.ended in
+    write_stops (put_failed _ _ _ _ _ fails.put) (λ closes. going) reading.failed c.in-Err-feed_page.ensures.failed
+    (unended going) (omega (arith, reading.made, c.loop-turn.invariant.made, c.loop-turn-test.true))
+
 pub returns-in-Ok-Off-clause-each_gave : goal.returns-in-Ok-Off-clause-each_gave
 returns-in-Ok-Off-clause-each_gave g c =
     gave c.loop-turn.invariant.so_far _ _ c.in-Ok-read_settled.ensures.bytes.0
@@ -162,3 +222,14 @@ returns-clause-ran g c =
     let s = c.loop-turn.invariant.so_far in
     unsent_ran s g.M.Machine.takes_memory g.M.Machine.means c.in-Err-send_page.fault c.loop-turn.invariant.not_ended
     (g.met.M.Machine.goes_on _ _ _ s.stood) c.in-Err-send_page.ensures.err
+
+pub returns-clause-stops : goal.returns-clause-stops
+returns-clause-stops g c =
+    let is = c.loop-turn.invariant in
+    write_stops (part_failed _ _ _ _ _ c.in-Err-send_page.ensures.err) (λ closes. is.not_ended) is.not_failed
+    c.in-Err-send_page.ensures.failed (unended is.not_ended) (omega (arith, is.made))
+
+pub returns-clause-each_gave : goal.returns-clause-each_gave
+returns-clause-each_gave g c =
+    let s = c.loop-turn.invariant.so_far in
+    (s.bytes, s.read, omega (arith, s.each_gave, c.loop-turn.invariant.made))
