@@ -2,6 +2,7 @@ pub mod Appends
 pub mod Counting
 pub mod DefinitionRows
 pub mod Flatten
+pub mod Growing
 pub mod Levels
 pub mod ListFaults
 pub mod Notes
@@ -9,3 +10,4 @@ pub mod Refusing
 pub mod ResultLaws
 pub mod Trees
 pub mod Viable
+pub mod Walking

@@ -162,7 +162,6 @@ fn push_order(
 }
 
 /// Moves the last patient into the front, and puts the next in the place.
-#[tactic(auto, using(crate::proofs::Appends::appends))]
 #[inline(never)]
 fn push_patient(
     alloc: Global,
@@ -182,7 +181,6 @@ fn push_patient(
 }
 
 /// Moves the last query into the front, and puts the next in its place.
-#[tactic(auto, using(crate::proofs::Appends::appends))]
 #[inline(never)]
 fn push_query(
     alloc: Global,

@@ -1,0 +1,43 @@
+-- What is left of a walk, before its next record and behind it.
+use Rattle.std.proofs.Common.{◌≡◌, List, ◌∷◌, [], Option, None, append-nil, refl}
+use Rattle.lis_field.specs.Shape.{RecordContent}
+use Rattle.lis_tree.specs.Nodes.{Noted, OrderTree, PatientTree}
+use Rattle.lis_tree.specs.declared.tree.Group.{Group}
+use Rattle.lis_tree.specs.declared.tree.Group.TheVariants as groups
+use Rattle.lis_tree.specs.inside.Walk.{walk_records}
+
+-- before the next record, where its head was told
+module _
+    (head : Option RecordContent) (notes : List RecordContent) (results : List Noted) (orders : List OrderTree)
+    (below : List Group) (closing : Option RecordContent) (no_head : head ≡ None) where
+  abbrev left : List RecordContent
+  left = walk_records head notes results orders below closing
+
+  pub note_next : (note : RecordContent) (rest : List RecordContent) → notes ≡ note ∷ rest
+      → left ≡ note ∷ walk_records head rest results orders below closing
+  note_next note rest is = rw (no_head, is) refl
+
+  -- the next record is the head of a node, and its notes come behind it
+  module _ (no_notes : notes ≡ []) (next : RecordContent) (more : List RecordContent) where
+    pub result_next : (entry : Noted) (rest : List Noted) → results ≡ entry ∷ rest → next ≡ entry.head
+        → more ≡ entry.notes → left ≡ next ∷ walk_records head more rest orders below closing
+    result_next entry rest is head_is notes_are = rw (no_head, no_notes, is, head_is, notes_are) refl
+
+    pub order_next : (order : OrderTree) (rest : List OrderTree) (entries : List Noted) → results ≡ []
+        → orders ≡ order ∷ rest → next ≡ order.top.head → more ≡ order.top.notes → entries ≡ order.below
+        → left ≡ next ∷ walk_records head more entries rest below closing
+    order_next order rest entries none is head_is notes_are entries_are =
+        rw (no_head, no_notes, none, is, head_is, notes_are, entries_are) refl
+
+    pub patient_next : (patient : PatientTree) (rest : List Group) (new : List OrderTree) → results ≡ [] → orders ≡ []
+        → below ≡ groups.Patient patient ∷ rest → next ≡ patient.top.head → more ≡ patient.top.notes
+        → new ≡ patient.below → left ≡ next ∷ walk_records head more results new rest closing
+    patient_next patient rest new none no_orders is head_is notes_are orders_are =
+        rw (no_head, no_notes, none, no_orders, is, head_is, notes_are, orders_are, append-nil) refl
+
+    pub query_next : (query : Noted) (rest : List Group) → results ≡ [] → orders ≡ []
+        → below ≡ groups.Query query ∷ rest → next ≡ query.head → more ≡ query.notes
+        → left ≡ next ∷ walk_records head more results orders rest closing
+    query_next query rest none no_orders is head_is notes_are =
+        rw (no_head, no_notes, none, no_orders, is, head_is, notes_are, append-nil query.notes, append-nil query.notes)
+        refl
