@@ -15,6 +15,18 @@ pub gathered_behind :
     → Gathered (out a waits) (out a (waits ++ text)) before (Ok before) text
 gathered_behind a waits text before fits = ([], refl, put_nothing a before fits)
 
+-- a text that is put behind what waits, once there is room for it
+pub gathered_in_room :
+    (a : Out) (b : Option (List ℕ)) (waits page text : List ℕ) (before after : ℕ)
+    → Gathered a (out b waits) before (Ok after) [] → page ≡ waits ++ text
+    → Gathered a (out b page) before (Ok after) text
+gathered_in_room a b waits page text before after (more, is, put) behind = (
+  more,
+  ap (λ (t : List ℕ). t ++ text) (sym (append-nil a.waits) ∙ is) ∙ append_assoc more waits text
+      ∙ ap (λ (t : List ℕ). more ++ t) (sym behind),
+  put,
+)
+
 -- a text that goes out where none waits
 pub gathered_put :
     (a b : Option (List ℕ)) (before : ℕ) (r : Result ℕ ToolFault) (text : List ℕ) → Put a b before r text

@@ -150,7 +150,10 @@ pub(crate) fn gather_chunk<W: Sink>(
         (encode_lower bytes.now) }
     ensures failed { W.failed sink.new ≡ is_err result }
 {
-    let after = make_room(sink, page, written, 2 * bytes.len())?;
+    let after = match make_room(sink, page, written, 2 * bytes.len()) {
+        Ok(after) => after,
+        Err(fault) => return Err(fault),
+    };
     page.append_digits(bytes);
     Ok(after)
 }

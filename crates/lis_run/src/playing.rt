@@ -246,11 +246,11 @@ impl<const N: usize, T: Teller> Playing<N, T> {
     }
 
     /// Gathers the closing lines of `replay`.
-    fn close<W: Sink>(self, sink: &mut W, page: &mut Page, written: u64) -> Result<Halt, ToolFault>
+    fn close<W: Sink>(&self, sink: &mut W, page: &mut Page, written: u64) -> Result<Halt, ToolFault>
         requires working { W.failed sink.old ≡ false }
         requires lines { T.account ≡ accounts.Lines }
         ensures ends { (lines : List LineContent) →
-            IsPlaying T.account N self.receiver self.replies.items self.texts self.differences lines →
+            IsPlaying T.account N self.now.receiver self.now.replies.items self.now.texts self.now.differences lines →
             length lines < 2 ^ 44 →
             LineEnds ((replay_writes N).report lines) (out (W.taken sink.old) page.old)
             (out (W.taken sink.new) page.new) written ((replay_writes N).last lines) result }

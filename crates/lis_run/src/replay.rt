@@ -71,7 +71,10 @@ impl Tell for TextLine<'_> {
     ghost text = { λ line. text_line line.number line.text.now };
 
     fn tell<W: Sink>(&self, sink: &mut W, page: &mut Page, written: u64) -> Result<u64, ToolFault> {
-        let after = make_room(sink, page, written, TEXT_LINE_ROOM)?;
+        let after = match make_room(sink, page, written, TEXT_LINE_ROOM) {
+            Ok(after) => after,
+            Err(fault) => return Err(fault),
+        };
         page.append(b"text ");
         append_number(page, self.number);
         page.append(b" ");

@@ -233,7 +233,10 @@ impl Tell for FrameStart<'_> {
     #[inline(always)]
     fn tell<W: Sink>(&self, sink: &mut W, page: &mut Page, written: u64) -> Result<u64, ToolFault> {
         let FrameStart(frame) = self;
-        let after = make_room(sink, page, written, FRAME_ROOM)?;
+        let after = match make_room(sink, page, written, FRAME_ROOM) {
+            Ok(after) => after,
+            Err(fault) => return Err(fault),
+        };
         start_frame(page, frame.number(), frame.is_last(), frame.text().len());
         Ok(after)
     }
@@ -276,7 +279,10 @@ impl Tell for FrameFault {
             FrameFault::Shape => Part::Text(b"bad F2\n").tell(sink, page, written),
             FrameFault::Number => Part::Text(b"bad F3\n").tell(sink, page, written),
             FrameFault::Text(place) => {
-                let after = make_room(sink, page, written, FRAME_ROOM)?;
+                let after = match make_room(sink, page, written, FRAME_ROOM) {
+                    Ok(after) => after,
+                    Err(fault) => return Err(fault),
+                };
                 page.append(b"bad F4 ");
                 append_number(page, *place as u64);
                 page.append(b"\n");

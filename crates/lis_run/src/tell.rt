@@ -90,7 +90,10 @@ impl Tell for Part<'_> {
                 }
             }
             Part::Number(number) => {
-                let after = make_room(sink, page, written, NUMBER_ROOM)?;
+                let after = match make_room(sink, page, written, NUMBER_ROOM) {
+                    Ok(after) => after,
+                    Err(fault) => return Err(fault),
+                };
                 append_number(page, *number);
                 Ok(after)
             }

@@ -106,7 +106,10 @@ impl Tell for Line<'_> {
         if let Line::Version = self {
             return Ok(written);
         }
-        let after = make_room(sink, page, written, LONGEST_SPELLING)?;
+        let after = match make_room(sink, page, written, LONGEST_SPELLING) {
+            Ok(after) => after,
+            Err(fault) => return Err(fault),
+        };
         page.append_line(self);
         Ok(after)
     }

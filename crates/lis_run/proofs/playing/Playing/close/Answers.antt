@@ -26,8 +26,8 @@ returns-in-Ok-tell-clause-ends g c = λ lines playing few.
           (rw (left.counted_is, playing.hearing.texts_are) at c.in-Ok-tell.ensures.gathered),
     )
 
-pub returns-clause-ends : goal.returns-clause-ends
-returns-clause-ends g c = λ lines playing few.
+pub returns-in-Err-tell-clause-ends : goal.returns-in-Err-tell-clause-ends
+returns-in-Err-tell-clause-ends g c = λ lines playing few.
     let left = is_left playing c.requires.lines few c.as_slice-left.ensures.value
     (rw c.is_empty-same.ensures at c.counted-differences.ensures) in
     closed g.row.N lines (out (g.W.Sink.taken c.args.sink.now) c.args.page.now)

@@ -9,7 +9,7 @@ returns-in-Texts-clause-ends g c = λ lines playing few.
     rw c.of.ensures
     (texts_end g.T.Teller.account g.row.N lines _ c.args.written (sym c.account.ensures ∙ c.in-Texts.is) fits)
 
-pub returns-in-Lines-clause-ends : goal.returns-in-Lines-clause-ends
-returns-in-Lines-clause-ends g c = λ lines playing few.
+pub returns-clause-ends : goal.returns-clause-ends
+returns-clause-ends g c = λ lines playing few.
     lines_end g.T.Teller.account g.row.N lines _ _ c.args.written c.close.result (sym c.account.ensures ∙ c.in-Lines.is)
     (c.close.ensures.ends lines playing few)

@@ -1,0 +1,16 @@
+use Rattle.std.proofs.Common.{append_assoc}
+use Rattle.lis_run.specs.Output.{out}
+use Rattle.lis_run.proofs.GatherLaws.{gathered_in_room}
+use Rattle.lis_run.proofs.replay.TextLineTell.tell.Goals as goal
+
+pub returns-clause-gathered : goal.returns-clause-gathered
+returns-clause-gathered g c =
+    gathered_in_room (out (g.W.Sink.taken c.args.sink.now) c.args.page.now) (g.W.Sink.taken c.make_room.new.sink)
+    c.make_room.new.page c.append-3.new.self _ c.args.written c.in-Ok.after c.in-Ok.ensures.gathered
+    (rw (
+      c.append-3.ensures,
+      c.append_number-2.ensures.value,
+      c.append-2.ensures,
+      c.append_number.ensures.value,
+      c.append.ensures,
+    ) (simp append_assoc))
