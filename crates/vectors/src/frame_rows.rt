@@ -23,15 +23,21 @@ pub(crate) fn frame_call<const N: usize>(call: Call<'_>, answer: &mut Answer) ->
         ("read", [stretch]) => {
             let stretch = bytes_of(call.alloc, stretch)?;
             read::<N>(stretch.as_slice(), answer);
+            drop(stretch);
             Ok(())
         }
         ("make", [number, end, text]) => {
+            let number = size_of_word(number)?;
             let text = bytes_of(call.alloc, text)?;
-            make::<N>(size_of_word(number)?, *end, text.as_slice(), answer)
+            let made = make::<N>(number, *end, text.as_slice(), answer);
+            drop(text);
+            made
         }
         ("scan", [place, bytes]) => {
+            let place = size_of_word(place)?;
             let bytes = bytes_of(call.alloc, bytes)?;
-            scan::<N>(call.alloc, size_of_word(place)?, bytes.as_slice(), answer);
+            scan::<N>(call.alloc, place, bytes.as_slice(), answer);
+            drop(bytes);
             Ok(())
         }
         _ => Err(Trouble::NoCall),

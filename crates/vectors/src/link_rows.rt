@@ -41,10 +41,17 @@ fn events_of(alloc: Global, words: &[&str]) -> Result<Events, Trouble> {
 fn event_of(alloc: Global, word: &str) -> Result<Event, Trouble> {
     match word.split_once(':') {
         None => plain_event_of(word),
-        Some(("Start", texts)) => Ok(Event::Start(texts_of(alloc, texts)?)),
-        Some(("Damage", bytes)) => Ok(Event::Damage(link_text_of(alloc, bytes)?)),
-        Some(("DamageReply", byte)) => Ok(Event::DamageReply(byte_of(byte)?)),
-        Some(_) => Err(Trouble::NoCall),
+        Some((name, told)) => telling_event_of(alloc, name, told),
+    }
+}
+
+/// The event that a name and an argument tell.
+fn telling_event_of(alloc: Global, name: &str, told: &str) -> Result<Event, Trouble> {
+    match name {
+        "Start" => Ok(Event::Start(texts_of(alloc, told)?)),
+        "Damage" => Ok(Event::Damage(link_text_of(alloc, told)?)),
+        "DamageReply" => Ok(Event::DamageReply(byte_of(told)?)),
+        _ => Err(Trouble::NoCall),
     }
 }
 

@@ -29,7 +29,7 @@ mod writing_rows;
 
 use crate::answer::Answer;
 use crate::state::State;
-use crate::timed::make_calls;
+use crate::timed::{Asked, asked_by, make_calls};
 use crate::words::Trouble;
 use std::alloc::Global;
 use std::env;
@@ -39,12 +39,13 @@ use std::process::ExitCode;
 
 fn main(rt: HostRuntime) -> io::Result<ExitCode> {
     let words: Vec<String> = env::args(&rt)?.collect(rt.alloc())?;
-    if words.len() > 1 {
-        return Ok(make_calls(&rt, words.as_slice()));
-    }
+    let asked = asked_by(words.as_slice());
     drop(words);
-    answer_rows(&rt)?;
-    Ok(ExitCode::from(0))
+    if let Some(Asked::Rows) = asked {
+        answer_rows(&rt)?;
+        return Ok(ExitCode::from(0));
+    }
+    Ok(make_calls(&rt, asked))
 }
 
 /// Answers the rows of standard input. The state holds frames of the long limit, which are to take no stack from the
@@ -86,9 +87,16 @@ fn answer_line<W: Write>(
 ) -> io::Result<()> {
     let mut answer = Answer::new(alloc);
     let called = state.call(line, &mut answer);
-    match (called, answer.line()) {
-        (Ok(()), Some(line)) => writeln!(output, "{line}"),
-        (Err(Trouble::NoCall), Some(_)) => writeln!(output, "no call"),
-        (Err(Trouble::OutOfMemory), _) | (_, None) => writeln!(output, "out of memory"),
+    let written = writeln!(output, "{}", told(called, answer.line()));
+    drop(answer);
+    written
+}
+
+/// The line that tells what became of a call, of which the answer has this line.
+fn told(called: Result<(), Trouble>, line: Option<&str>) -> &str {
+    match (called, line) {
+        (Ok(()), Some(line)) => line,
+        (Err(Trouble::NoCall), Some(_)) => "no call",
+        (Err(Trouble::OutOfMemory), _) | (_, None) => "out of memory",
     }
 }

@@ -25,6 +25,7 @@ impl<const N: usize> Ends<N> {
             let bytes = bytes_of(call.alloc, bytes)?;
             self.hear_each(bytes.as_slice(), answer);
             self.hear_all(bytes.as_slice(), &mut again);
+            drop(bytes);
         } else {
             event(&mut self.receiver, call, answer)?;
             event(&mut self.other_receiver, call, &mut again)?;
@@ -35,6 +36,7 @@ impl<const N: usize> Ends<N> {
             answer.word("at once: ");
             answer.answer(&again);
         }
+        drop(again);
         Ok(())
     }
 

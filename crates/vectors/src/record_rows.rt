@@ -2,12 +2,13 @@
 
 use crate::answer::Answer;
 use crate::narrow::narrow_of;
-use crate::spelling::{delimiters_of, put_delimiters, put_record, record_of};
+use crate::spelling::{delimiters_of, put_delimiters, put_record, read_delimiters, record_of};
 use crate::words::{Call, Trouble, bytes_of};
 use crate::writing_rows::Writing;
 use lis_record::{
-    DelimiterFault, DelimiterPartFault, Delimiters, Record, RecordFault, read_header, read_record,
+    DelimiterFault, DelimiterPartFault, Record, RecordFault, read_header, read_record,
 };
+use std::alloc::Global;
 use std::mem::drop;
 
 /// Answers a call on records.
@@ -25,11 +26,7 @@ fn delimiters(call: Call<'_>, answer: &mut Answer) -> Result<(), Trouble> {
     let [word] = call.words else {
         return Err(Trouble::NoCall);
     };
-    let bytes = bytes_of(call.alloc, *word)?;
-    let [field, repeat, component, escape] = bytes.as_slice() else {
-        return Err(Trouble::NoCall);
-    };
-    match Delimiters::new(*field, *repeat, *component, *escape) {
+    match read_delimiters(call.alloc, *word)? {
         Ok(delimiters) => put_delimiters(delimiters, answer),
         Err(fault) => {
             answer.word("fault ");
@@ -87,14 +84,8 @@ fn write(call: Call<'_>, answer: &mut Answer) -> Result<(), Trouble> {
     let [delimiters, entry, room, step, words @ ..] = call.words else {
         return Err(Trouble::NoCall);
     };
-    let delimiters = delimiters_of(call.alloc, *delimiters)?;
-    let narrow = narrow_of(*room, *step)?;
-    let entry = record_of(call.alloc, *entry)?;
-    let writing = Writing {
-        delimiters,
-        entry,
-        narrow,
-    };
+    let sink = (*room, *step);
+    let writing = writing_of(call.alloc, *delimiters, sink, *entry)?;
     let written = match (call.name, words) {
         ("write", [skip]) => writing.whole_and_part(*skip, answer),
         ("write_field", []) => writing.fields(true, answer),
@@ -103,6 +94,20 @@ fn write(call: Call<'_>, answer: &mut Answer) -> Result<(), Trouble> {
     };
     drop(writing);
     written
+}
+
+/// The record that is to be written, by the words that tell its delimiters, the sink and itself.
+fn writing_of(
+    alloc: Global,
+    delimiters: &str,
+    (room, step): (&str, &str),
+    entry: &str,
+) -> Result<Writing, Trouble> {
+    Ok(Writing {
+        delimiters: delimiters_of(alloc, delimiters)?,
+        narrow: narrow_of(room, step)?,
+        entry: record_of(alloc, entry)?,
+    })
 }
 
 /// Puts that a text is no record, and why.

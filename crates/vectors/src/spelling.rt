@@ -4,20 +4,32 @@ ghost use Rattle.std.specs.Prelude.{◌<◌, IfOk};
 
 use crate::answer::Answer;
 use crate::words::{Trouble, bytes_of};
-use lis_field::{Component, Delimiters, Kind, Part, Parts, Record, Repeat, Sym};
+use lis_field::{Component, DelimiterFault, Delimiters, Kind, Part, Parts, Record, Repeat, Sym};
 use std::alloc::Global;
 use std::mem::drop;
 
 /// The delimiters that a word of four bytes tells.
 pub(crate) fn delimiters_of(alloc: Global, word: &str) -> Result<Delimiters, Trouble> {
-    let bytes = bytes_of(alloc, word)?;
-    let [field, repeat, component, escape] = bytes.as_slice() else {
-        return Err(Trouble::NoCall);
-    };
-    match Delimiters::new(*field, *repeat, *component, *escape) {
+    match read_delimiters(alloc, word)? {
         Ok(delimiters) => Ok(delimiters),
         Err(_) => Err(Trouble::NoCall),
     }
+}
+
+/// The delimiters that a word of four bytes tells, or why they are none.
+pub(crate) fn read_delimiters(
+    alloc: Global,
+    word: &str,
+) -> Result<Result<Delimiters, DelimiterFault>, Trouble> {
+    let bytes = bytes_of(alloc, word)?;
+    let read = match bytes.as_slice() {
+        [field, repeat, component, escape] => {
+            Ok(Delimiters::new(*field, *repeat, *component, *escape))
+        }
+        _ => Err(Trouble::NoCall),
+    };
+    drop(bytes);
+    read
 }
 
 /// The record that a word tells: its letter, and `/` before each field.
@@ -104,16 +116,27 @@ fn front(text: &str, mark: char) -> &str {
 /// the end of highlighting.
 fn component_of(alloc: Global, text: &str) -> Result<Component, Trouble> {
     let mut component = Component::new(alloc);
-    let mut rest = text.as_bytes();
+    match push_symbols(text.as_bytes(), &mut component) {
+        Ok(()) => Ok(component),
+        Err(trouble) => {
+            drop(component);
+            Err(trouble)
+        }
+    }
+}
+
+/// Pushes the symbols that a text tells.
+fn push_symbols(text: &[u8], component: &mut Component) -> Result<(), Trouble> {
+    let mut rest = text;
     for _ in 0..text.len() {
         if rest.is_empty() {
-            return Ok(component);
+            return Ok(());
         }
         let (symbol, behind) = symbol_of(rest)?;
         component.push(symbol)?;
         rest = behind;
     }
-    Ok(component)
+    Ok(())
 }
 
 /// The symbol that begins a text, and what stands behind it.

@@ -90,14 +90,22 @@ impl State {
         let [name, words @ ..] = words else {
             return Err(Trouble::NoCall);
         };
-        let Some((subject, call)) = name.split_once('.') else {
-            return self.limit(*name, words, answer);
-        };
-        let call = Call {
-            alloc: self.alloc,
-            name: call,
-            words,
-        };
+        match name.split_once('.') {
+            None => self.limit(*name, words, answer),
+            Some((subject, name)) => {
+                let alloc = self.alloc;
+                self.call_subject(subject, Call { alloc, name, words }, answer)
+            }
+        }
+    }
+
+    /// Answers a call on a subject.
+    fn call_subject(
+        &mut self,
+        subject: &str,
+        call: Call<'_>,
+        answer: &mut Answer,
+    ) -> Result<(), Trouble> {
         match subject {
             "record" => record_call(call, answer),
             "message" => self.reading.call(call, answer),

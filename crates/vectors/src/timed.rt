@@ -19,26 +19,66 @@ const FRAMES: u64 = 1_000;
 /// What a full frame carries.
 const FULL: usize = 240;
 
-/// Makes the calls that words ask for, of which the first is the program's name, and prints what they count.
-pub(crate) fn make_calls(rt: &HostRuntime, words: &[String]) -> ExitCode {
-    let mut words = words.iter().skip(1).map(String::as_str);
-    let told = match (words.next(), words.next()) {
-        (Some("bytes"), None) => heard(rt.alloc(), &mut rt.reader()),
-        (Some("messages"), None) => in_messages(rt.alloc(), &mut rt.reader(), 1),
-        (Some("again"), Some(rounds)) => match rounds.parse() {
-            Ok(rounds) => in_messages(rt.alloc(), &mut rt.reader(), rounds),
-            Err(_) => None,
-        },
-        (Some("play"), Some(rounds)) => match rounds.parse() {
-            Ok(rounds) => played(rt.alloc(), rounds),
-            Err(_) => None,
-        },
-        _ => {
-            let _ = eprintln!(rt; "usage: vectors [bytes | messages | again ROUNDS | play ROUNDS]");
-            return ExitCode::from(2);
+/// What the words behind the program's name ask for.
+#[derive(Clone, Copy)]
+pub(crate) enum Asked {
+    /// The answers of rows.
+    Rows,
+    /// The hearing of link bytes.
+    Bytes,
+    /// The reading of messages, so many times.
+    Messages(u32),
+    /// The playing of a session, so many times.
+    Play(u32),
+}
+
+/// What words ask for, of which the first is the program's name; none where they ask for nothing that is known.
+pub(crate) fn asked_by(words: &[String]) -> Option<Asked> {
+    match words {
+        [] | [_] => Some(Asked::Rows),
+        [_, what] => asked_once(what.as_str()),
+        [_, what, rounds] => asked_again(what.as_str(), rounds.as_str()),
+        _ => None,
+    }
+}
+
+/// What a word alone asks for.
+fn asked_once(what: &str) -> Option<Asked> {
+    match what {
+        "bytes" => Some(Asked::Bytes),
+        "messages" => Some(Asked::Messages(1)),
+        _ => None,
+    }
+}
+
+/// What a word and a number of rounds ask for.
+fn asked_again(what: &str, rounds: &str) -> Option<Asked> {
+    let rounds = rounds.parse().ok()?;
+    match what {
+        "again" => Some(Asked::Messages(rounds)),
+        "play" => Some(Asked::Play(rounds)),
+        _ => None,
+    }
+}
+
+/// Makes the calls that were asked for, and prints what they count.
+pub(crate) fn make_calls(rt: &HostRuntime, asked: Option<Asked>) -> ExitCode {
+    match asked {
+        Some(Asked::Bytes) => tell(rt, heard(rt.alloc(), &mut rt.reader())),
+        Some(Asked::Messages(rounds)) => {
+            tell(rt, in_messages(rt.alloc(), &mut rt.reader(), rounds))
         }
-    };
-    match told {
+        Some(Asked::Play(rounds)) => tell(rt, played(rt.alloc(), rounds)),
+        Some(Asked::Rows) | None => {
+            let _ = eprintln!(rt; "usage: vectors [bytes | messages | again ROUNDS | play ROUNDS]");
+            ExitCode::from(2)
+        }
+    }
+}
+
+/// Prints a count, and tells by the status whether there was one.
+fn tell(rt: &HostRuntime, count: Option<u64>) -> ExitCode {
+    match count {
         Some(count) if println!(rt; "{count}").is_ok() => ExitCode::from(0),
         _ => ExitCode::from(3),
     }

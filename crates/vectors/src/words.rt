@@ -3,6 +3,7 @@
 use hex::FromHexError;
 use lis_text::{LinkText, Texts};
 use std::alloc::{AllocError, AllocFailed, Global};
+use std::mem::drop;
 
 /// Why a call has no answer.
 #[derive(Clone, Copy)]
@@ -81,10 +82,30 @@ pub(crate) fn texts_of(alloc: Global, word: &str) -> Result<Texts, Trouble> {
     if word == "none" {
         return Ok(texts);
     }
-    for text in word.split(',') {
-        if texts.push(link_text_of(alloc, text)?).is_err() {
-            return Err(Trouble::OutOfMemory);
+    match push_texts(alloc, word, &mut texts) {
+        Ok(()) => Ok(texts),
+        Err(trouble) => {
+            drop(texts);
+            Err(trouble)
         }
     }
-    Ok(texts)
+}
+
+/// Pushes the texts of a word that tells some.
+fn push_texts(alloc: Global, word: &str, texts: &mut Texts) -> Result<(), Trouble> {
+    for text in word.split(',') {
+        push_text(texts, link_text_of(alloc, text)?)?;
+    }
+    Ok(())
+}
+
+/// Pushes a text.
+fn push_text(texts: &mut Texts, text: LinkText) -> Result<(), Trouble> {
+    match texts.push(text) {
+        Ok(()) => Ok(()),
+        Err(refused) => {
+            drop(refused);
+            Err(Trouble::OutOfMemory)
+        }
+    }
 }
