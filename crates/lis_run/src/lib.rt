@@ -20,7 +20,7 @@ pub use lines::{LineMachine, Lines};
 pub use machine::{Halt, Machine, Turn, run};
 pub use ports::SourceFor;
 pub use replay::{run_replay, run_replay_of};
-pub use report::{Ended, Refused, Report};
+pub use report::{Ended, Refused, Report, status_of};
 pub use show::{run_show, run_show_of};
 pub use tell::{Counts, Part, Tell};
 pub use texts::{run_texts, run_texts_of};

@@ -1,6 +1,6 @@
 //! How a run ended.
 
-ghost use Rattle.std.specs.Prelude.{◌≡◌, None, if◌then◌else◌};
+ghost use Rattle.std.specs.Prelude.{◌≡◌, None, IfOk, OnErr, if◌then◌else◌};
 ghost use Rattle.lis_run.specs.Codes.{printed_reason, refused_line};
 
 use crate::fault::ToolFault;
@@ -55,6 +55,17 @@ pub struct Report {
 
 /// How a run ended: with its report, or by a fault.
 pub type Ended = Result<Report, ToolFault>;
+
+/// The exit status for a run that ended so: its report's, or 3 where it stopped before its end.
+pub fn status_of(ended: &Ended) -> u8
+    ensures report { IfOk ended.now (λ report. result ≡ report.status) }
+    ensures fault { OnErr ended.now (result ≡ 3) }
+{
+    match ended {
+        Ok(report) => report.status,
+        Err(_) => 3,
+    }
+}
 
 impl Report {
     /// The report of a run that read its input to the end, by whether it found something to look at.

@@ -15,6 +15,7 @@ pub use commands::Command;
 pub use lis_run::{
     Ended, Halt, LineMachine, Lines, Machine, Refused, Report, SourceFor, ToolFault, Turn,
     run_replay, run_replay_of, run_show, run_show_of, run_texts, run_texts_of, run_upgrade,
+    status_of,
 };
 pub use results::run_results;
 pub use run::run_command;

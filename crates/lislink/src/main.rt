@@ -5,7 +5,7 @@ ghost use Rattle.std.specs.Prelude.{◌≡◌, IfOk, OnErr};
 ghost use Rattle.std.specs.Process.{exit_status};
 
 use lis_port::{Buffered, Once, ReadAhead};
-use lis_tool::{Command, Ended, Report, ToolFault, command, run_command};
+use lis_tool::{Command, Ended, Report, ToolFault, command, run_command, status_of};
 use std::io::{self, BufReader, BufWriter};
 use std::process::ExitCode;
 use std::{env, mem};
@@ -54,11 +54,8 @@ fn told(rt: &HostRuntime, ended: Ended) -> ExitCode
     ensures report { IfOk ended (λ report. exit_status result ≡ report.status) }
     ensures fault { OnErr ended (exit_status result ≡ 3) }
 {
-    match ended {
-        Ok(report) => ExitCode::from(report.status),
-        Err(fault) => {
-            let _ = eprintln!(rt; "{fault}");
-            ExitCode::from(3)
-        }
+    if let Err(fault) = ended {
+        let _ = eprintln!(rt; "{fault}");
     }
+    ExitCode::from(status_of(&ended))
 }
