@@ -163,6 +163,30 @@ pub record Parting (d : DelimiterBytes) (components : Components) (text rest win
   pub begins : BeginsWith window rest
 
 module _ (d : DelimiterBytes) (text : List ℕ) where
+  -- the first is read
+  pub parted_begun : (components : Components) (padded rest window : List ℕ) (end : ℕ) (plain : Bool)
+      → BeginsWith padded text → ComponentFront d text end plain
+      → components ≡ symbols_of d (take end text) ∷ [] → rest ≡ drop end text → window ≡ drop end padded
+      → Parting d components text rest window
+  parted_begun components padded rest window end plain begins f read left further =
+      let added = symbols_of d (take end text) in
+      record {
+        all =
+            ap (λ (r : Components). r ++ map (symbols_of d) (parts_behind d.component rest)) read
+            ∙ ap (λ (l : List ℕ). added ∷ map (symbols_of d) (parts_behind d.component l)) left
+            ∙ ap (λ (l : List (List ℕ)). map (symbols_of d) l) (sym f.parts);
+        front = take end text;
+        whole =
+            sym (take-append-drop end text) ∙ ap (λ (l : List ℕ). take end text ++ l) (sym left);
+        single = f.single;
+        next = ap (trailing_byte d.component) left ∙ f.next;
+        begins = (
+          begins.0,
+          further ∙ ap (drop end) begins.1 ∙ drop-append-le end text begins.0 f.within
+              ∙ ap (λ (l : List ℕ). l ++ begins.0) (sym left),
+        );
+      }
+
   module _ (components : Components) (rest window : List ℕ) (p : Parting d components text rest window) where
     -- one more is read
     pub parted_next : (byte : ℕ) (more behind others further : List ℕ) (end : ℕ) (plain : Bool)

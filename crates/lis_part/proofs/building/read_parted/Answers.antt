@@ -1,7 +1,14 @@
 use Rattle.std.proofs.Common.{sym, ◌∙◌}
 use Rattle.std.proofs.lemmas.List.{nil_from_length}
-use Rattle.lis_part.proofs.Fronts.{parted_next, parted_whole}
+use Rattle.lis_part.proofs.Fronts.{parted_begun, parted_next, parted_whole}
 use Rattle.lis_part.proofs.building.read_parted.Goals as goal
+
+pub loop-delimiter-init : goal.loop-delimiter-init
+loop-delimiter-init c =
+    let front = c.in-Some.front in
+    parted_begun c.args.delimiters c.args.given.text.now c.in_ok-repeat.repeat c.args.given.padded.now
+    c.split_at.result.1.now c.split_at-2.result.1.now front.0 front.1 c.requires c.in-Some.ensures.front
+    c.in_ok-repeat.ensures c.split_at.ensures.back c.split_at-2.ensures.back
 
 pub loop-delimiter-preserved : goal.loop-delimiter-preserved
 loop-delimiter-preserved c =
