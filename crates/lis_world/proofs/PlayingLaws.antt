@@ -25,12 +25,13 @@ use Rattle.lis_link.specs.declared.sender.EmitOf.{EmitOf}
 use Rattle.lis_link.specs.Sender.{SenderState, SenderStep, on_sender_timer}
 use Rattle.lis_world.specs.declared.event.Event.{Event}
 use Rattle.lis_world.proofs.Heard.{heard_leaves, noted_after}
-use Rattle.lis_world.specs.Unit.{Load, one_frame}
+use Rattle.lis_world.specs.Unit.{Load, Travelling, one_frame}
 use Rattle.lis_world.specs.World.{World, Desk, new_world, booked, noted, hears}
-use Rattle.lis_world.specs.Steps.{emitted, with_sender, sender_steps, given_up, after_event, is_noticed, room_at, runs}
-use Rattle.lis_world.specs.Steps.{world}
+use Rattle.lis_world.specs.World.{replies_with, lowered, settled}
+use Rattle.lis_world.specs.Steps.{emitted, with_sender, sender_steps, given_up, after_event, is_noticed, damaged, room_at}
+use Rattle.lis_world.specs.Steps.{runs, world}
 use Rattle.lis_world.specs.inside.Playing.{KeptWorld, world_at, IsWorld, IsPlaying, kept_given_up, KeptDesk, desk_at}
-use Rattle.lis_world.specs.inside.Playing.{IsDesk, OnlyLoad, IsLoad, TakesLoad}
+use Rattle.lis_world.specs.inside.Playing.{IsDesk, OnlyLoad, IsLoad, TakesLoad, front_noticed}
 
 -- what is accepted is a good frame that was heard
 record IsGood {limit : ℕ} (signal : Option (SignalOf limit)) (step : ReceiverStep) : Type 0 where
@@ -368,3 +369,55 @@ pub played : (limit : ℕ) (kept : KeptWorld) (left : List Event) (goal : World)
     → left ≡ [] → kept.desk.sessions ≡ goal.sessions
 played limit kept left goal playing none =
     ap (λ (w : World). w.sessions) (ap (λ es. runs limit es (world_at kept playing.state)) (sym none) ∙ playing.goes_on)
+
+-- where the computer's side alone has changed
+pub desk_world :
+    (limit : ℕ) (was now : KeptWorld) (desk : KeptDesk) (r after : ReceiverState)
+    → was ≡ now
+    → IsDesk limit desk (record (desk_at was.desk r) { receiver = after })
+    → IsWorld limit (record was { desk = desk }) (record (world_at now r) { receiver = after })
+desk_world limit was now desk r after same is_desk =
+    rw (← same) (record {
+      receiver_is = is_desk.receiver_is;
+      world_is = ap (λ (d : Desk). record (world_at was r) {
+        receiver = d.receiver;
+        opened = d.opened;
+        sessions = d.sessions;
+      }) is_desk.desk_is;
+    })
+
+-- and where the front unit has left the link, and what it caused is settled
+pub settled_world :
+    {A E : Type 0} (outcome : Result A E) (limit : ℕ) (was new : KeptWorld) (desk : KeptDesk) (meant : Desk)
+    (units : List Travelling) (r : ReceiverState)
+    → IsDesk limit desk meant
+    → OnOk outcome (new ≡ record was {
+      desk = record desk { replies = [] };
+      units = units;
+      replies = replies_with was.mute desk.replies was.replies;
+      mute = lowered was.mute;
+    })
+    → OnOk outcome (IsWorld limit new (settled units meant (world_at was r)))
+settled_world (Err fault) limit was new desk meant units r is_desk new_is = tt
+settled_world (Ok done) limit was new desk meant units r is_desk new_is =
+    rw new_is (record {
+      receiver_is = is_desk.receiver_is;
+      world_is = ap (λ (d : Desk). settled units d (world_at was r)) is_desk.desk_is;
+    })
+
+-- damage that isn't noticed does nothing
+damaged-unnoticed :
+    (limit : ℕ) (bytes : List ℕ) (units : List Travelling) (w : World)
+    → front_noticed units (λ load. is_noticed load (signals_after limit w.receiver.past bytes)) ≡ false
+    → damaged limit bytes units w ≡ w
+damaged-unnoticed limit bytes [] w unnoticed = refl
+damaged-unnoticed limit bytes (front ∷ units) w unnoticed = rw unnoticed refl
+
+pub unnoticed_world :
+    (limit : ℕ) (bytes : List ℕ) (kept : KeptWorld) (r : ReceiverState)
+    → IsIn limit kept.desk.receiver r
+    → front_noticed kept.units (λ load. is_noticed load (signals_after limit r.past bytes)) ≡ false
+    → IsWorld limit kept (damaged limit bytes kept.units (world_at kept r))
+unnoticed_world limit bytes kept r is_in unnoticed =
+    rw (damaged-unnoticed limit bytes kept.units (world_at kept r) unnoticed)
+    (record { receiver_is = is_in; world_is = refl })

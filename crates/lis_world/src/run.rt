@@ -82,15 +82,15 @@ impl<const N: usize> RunOf<N> {
             OnOk result (IsWorld N self.new (after_event N event (world_at self.old r))) }
     {
         match event {
-            Event::Start(texts) => self.start(texts)?,
-            Event::Deliver => self.deliver()?,
-            Event::DeliverNoRoom => self.deliver_no_room()?,
-            Event::Damage(bytes) => self.damage(bytes.as_slice())?,
-            Event::Lose => self.lose()?,
-            Event::Reply => self.reply()?,
-            Event::DamageReply(byte) => self.damage_reply(byte)?,
+            Event::Start(texts) => return self.start(texts),
+            Event::Deliver => return self.deliver(),
+            Event::DeliverNoRoom => return self.deliver_no_room(),
+            Event::Damage(bytes) => return self.damage(bytes.as_slice()),
+            Event::Lose => return self.lose(),
+            Event::Reply => return self.reply(),
+            Event::DamageReply(byte) => return self.damage_reply(byte),
             Event::LoseReply => self.lose_reply(),
-            Event::SenderTimer => self.sender_timer()?,
+            Event::SenderTimer => return self.sender_timer(),
             Event::ReceiverTimer => self.desk.timer(),
             Event::RestartSender => self.restart_sender(),
             Event::RestartReceiver => self.desk.restart(),
