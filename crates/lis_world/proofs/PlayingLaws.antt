@@ -28,8 +28,8 @@ use Rattle.lis_world.proofs.Heard.{heard_leaves, noted_after}
 use Rattle.lis_world.specs.Unit.{Load, Travelling, one_frame}
 use Rattle.lis_world.specs.World.{World, Desk, new_world, booked, noted, hears}
 use Rattle.lis_world.specs.World.{replies_with, lowered, settled}
-use Rattle.lis_world.specs.Steps.{emitted, with_sender, sender_steps, given_up, after_event, is_noticed, damaged, room_at}
-use Rattle.lis_world.specs.Steps.{runs, world}
+use Rattle.lis_world.specs.Steps.{emitted, with_sender, sender_steps, given_up, after_event, is_noticed}
+use Rattle.lis_world.specs.Steps.{damaged, room_at, runs, world}
 use Rattle.lis_world.specs.inside.Playing.{KeptWorld, world_at, IsWorld, IsPlaying, kept_given_up, KeptDesk, desk_at}
 use Rattle.lis_world.specs.inside.Playing.{IsDesk, OnlyLoad, IsLoad, TakesLoad, front_noticed}
 
