@@ -16,7 +16,7 @@ use lis_record::{WriteFault, check_record};
 use lis_text::{MOST_TEXTS, Texts};
 use lis_tree::{Reason, Standing};
 use std::alloc::{AllocError, Global};
-use std::mem;
+use std::mem::{self, drop};
 
 /// A record that isn't put yet, and the components of a field that isn't ended.
 #[derive(Drop)]
@@ -44,13 +44,19 @@ pub struct PutFault {
 }
 
 /// Lets go of all that a desk keeps.
-pub(crate) fn let_go_writer(_desk: WriterDesk) {}
+pub(crate) fn let_go_writer(desk: WriterDesk) {
+    drop(desk);
+}
 
 /// The components with one more of these bytes.
 fn with_part(alloc: Global, parts: Option<Repeat>, bytes: &[u8]) -> Result<Repeat, AllocError>
     ensures { IfOk result (λ repeat. repeat ≡ parts_so_far parts ++ plain_component bytes.now ∷ []) }
 {
-    let part = Component::from_text(alloc, bytes)?;
+    let Ok(part) = Component::from_text(alloc, bytes) else {
+        // By a call here and below: what ends in place is let go of part by part, and the proof goes over each of them.
+        drop(parts);
+        return Err(AllocError);
+    };
     match parts {
         None => match Repeat::new(alloc, part) {
             Ok(repeat) => Ok(repeat),
@@ -60,7 +66,10 @@ fn with_part(alloc: Global, parts: Option<Repeat>, bytes: &[u8]) -> Result<Repea
             let mut repeat = repeat;
             match repeat.push(part) {
                 Ok(()) => Ok(repeat),
-                Err(_) => Err(AllocError),
+                Err(_) => {
+                    drop(repeat);
+                    Err(AllocError)
+                }
             }
         }
     }
@@ -72,7 +81,10 @@ impl Draft {
         ensures { IfOk result (λ draft. draft ≡ with_parts self bytes.now) }
     {
         let Draft { entry, parts } = self;
-        let parts = with_part(alloc, parts, bytes)?;
+        let Ok(parts) = with_part(alloc, parts, bytes) else {
+            drop(entry);
+            return Err(AllocError);
+        };
         Ok(Draft {
             entry,
             parts: Some(parts),
@@ -85,13 +97,20 @@ impl Draft {
     {
         let Draft { entry, parts } = self;
         let mut entry = entry;
-        let parts = with_part(alloc, parts, bytes)?;
+        let Ok(parts) = with_part(alloc, parts, bytes) else {
+            drop(entry);
+            return Err(AllocError);
+        };
         let Ok(field) = Field::new(alloc, parts) else {
+            drop(entry);
             return Err(AllocError);
         };
         match entry.push(field) {
             Ok(()) => Ok(Draft { entry, parts: None }),
-            Err(_) => Err(AllocError),
+            Err(_) => {
+                drop(entry);
+                Err(AllocError)
+            }
         }
     }
 }
@@ -188,8 +207,8 @@ impl WriterDesk {
     {
         self.delimiters = delimiters;
         self.standing = None;
-        self.draft = None;
-        self.texts = Texts::new(self.alloc);
+        drop(mem::replace(&mut self.draft, None));
+        drop(mem::replace(&mut self.texts, Texts::new(self.alloc)));
     }
 
     /// Begins a record of this kind; one that isn't put is let go.
@@ -198,10 +217,11 @@ impl WriterDesk {
           draft = Some (record { entry = record { kind = kind; fields = [] }; parts = None });
         } }
     {
-        self.draft = Some(Draft {
+        let draft = Draft {
             entry: Record::new(self.alloc, kind),
             parts: None,
-        });
+        };
+        drop(mem::replace(&mut self.draft, Some(draft)));
     }
 
     /// Puts a component to the field, which it ends where it is the last. Where memory is refused the record is let go.
@@ -218,7 +238,7 @@ impl WriterDesk {
         };
         match made {
             Ok(draft) => {
-                self.draft = Some(draft);
+                drop(mem::replace(&mut self.draft, Some(draft)));
                 status::OK
             }
             Err(_) => status::OUT_OF_MEMORY,
@@ -270,7 +290,7 @@ impl WriterDesk {
             return status::OUT_OF_MEMORY;
         }
         self.standing = after(self.standing, kind);
-        self.draft = None;
+        drop(mem::replace(&mut self.draft, None));
         status::OK
     }
 }
