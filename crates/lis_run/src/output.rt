@@ -37,5 +37,8 @@ pub(crate) fn send<W: Sink>(sink: &mut W, written: u64) -> Result<(), ToolFault>
     ensures fault { IfErr result (λ fault. fault ≡ ToolFault.Write written) }
     ensures failed { W.failed sink.new ≡ is_err result }
 {
-    sink.flush().map_err(|_| ToolFault::Write { written })
+    match sink.flush() {
+        Ok(()) => Ok(()),
+        Err(Failed) => Err(ToolFault::Write { written }),
+    }
 }

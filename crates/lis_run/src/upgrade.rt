@@ -28,22 +28,13 @@ pub fn run_upgrade<R: SourceFor<W>, W: Sink>(source: &mut R, sink: &mut W, reads
     ensures stops { Stops false true (R.seen source.old sink.old) (R.seen source.new sink.new) reads result }
     ensures status { IfOk result (λ report. report.status ≡ 0) }
 {
-    run_lines(Upgrade::new(), source, sink, reads)
+    run_lines(Upgrade { begun: false }, source, sink, reads)
 }
 
 /// Whether a line was read.
 #[derive(Drop)]
 struct Upgrade {
     begun: bool,
-}
-
-impl Upgrade {
-    /// No line was read.
-    fn new() -> Self
-        ensures { result.begun ≡ false }
-    {
-        Upgrade { begun: false }
-    }
 }
 
 impl LineMachine for Upgrade {
