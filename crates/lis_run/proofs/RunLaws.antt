@@ -345,6 +345,11 @@ unended none is = absurd (no (sym none ∙ is))
     no : false ≡ true → ⊥
     no e = cc
 
+-- whether or not something was written
+pub either : {P : Type 0} (wrote : Bool) → (wrote ≡ true → P) → (wrote ≡ false → P) → P
+either true written silent = written refl
+either false written silent = silent refl
+
 -- a fault of the sink
 abbrev pub IsWrite : ToolFault → Type 0
 IsWrite (Write written) = ⊤

@@ -1,10 +1,11 @@
-use Rattle.std.proofs.Common.{◌≡◌, ◌+◌, ◌^◌, ◌<◌, ℕ, false, [], ◌++◌, Ok, length, ap, ◌∙◌, arith, refl, sym}
+use Rattle.std.proofs.Common.{◌≡◌, ◌+◌, ◌^◌, ◌<◌, ℕ, true, false, [], ◌++◌, Ok, length, ap, ◌∙◌, arith, refl, sym}
 use Rattle.std.proofs.Common.{length-append}
 use Rattle.lis_run.specs.Outcome.{going}
 use Rattle.lis_run.specs.Output.{out}
-use Rattle.lis_run.proofs.GatherLaws.{gathered_nothing, gathered_then}
+use Rattle.lis_run.proofs.GatherLaws.{gathered_nothing, gathered_sent, gathered_then}
 use Rattle.lis_run.proofs.RunLaws.{consumes_none, consumes_kept, failed_not_ended, failed_waited, fails_ran, gave}
 use Rattle.lis_run.proofs.RunLaws.{halted_stops, halts_ran, no_end, read_end, read_more, so_far_out, so_far_settled}
+use Rattle.lis_run.proofs.RunLaws.{either, is_end, waited, well_at_end}
 use Rattle.lis_run.proofs.RunLaws.{put_failed, part_failed, unended, unsent_ran, well_early, write_stops}
 use Rattle.lis_run.proofs.machine.run.Goals as goal
 
@@ -75,6 +76,18 @@ returns-in-Err-clause-each_gave g c =
     let s = c.loop-turn.invariant.so_far in
     (s.bytes, s.read, omega (arith, s.each_gave, c.loop-turn.invariant.made))
 
+-- ---- what a read asks for
+
+pub read_settled-requires-clause-sent : goal.read_settled-requires-clause-sent
+read_settled-requires-clause-sent g c = c.in-Ok.ensures.sent
+
+pub read_settled-requires-clause-empty : goal.read_settled-requires-clause-empty
+read_settled-requires-clause-empty g c = c.in-Ok.ensures.empty
+
+pub read_settled-requires-clause-countable : goal.read_settled-requires-clause-countable
+read_settled-requires-clause-countable g c =
+    omega (arith, c.loop-turn.invariant.made, c.loop-turn-test.true, c.ranges.reads)
+
 -- ---- the read failed
 
 pub returns-in-Err-read_settled-clause-ran : goal.returns-in-Err-read_settled-clause-ran
@@ -124,6 +137,27 @@ returns-in-Ok-end_page-clause-ran g c =
     (read_end s _ reading.bytes.0 reading.ended c.in-Ok.ensures.gathered c.if-count-eq0.true c.in-Ok.ensures.empty
     reading.ready)
     _ c.in-Ok-end_page.halt c.halted.result puts puts.behind c.halted.ensures.taken c.halted.ensures.told
+
+pub returns-in-Ok-end_page-clause-stops : goal.returns-in-Ok-end_page-clause-stops
+returns-in-Ok-end_page-clause-stops g c =
+    let s = c.loop-turn.invariant.so_far in
+    let reading = c.in-Ok-read_settled.ensures in
+    let halt = c.in-Ok-end_page.halt in
+    let puts = c.in-Ok-end_page.ensures.ends s.bytes s.text s.stood (omega (arith, s.short)) in
+    halted_stops g.M.Machine.refuses g.M.Machine.closes g.M.Machine.takes_memory (g.M.Machine.means s.bytes true)
+    (s.text ++ puts.more) halt c.halted.result _ _ _ _ c.args.reads _ _ _ puts.behind c.halted.ensures.told
+    (well_at_end g.M.Machine.refuses halt.result _ (is_end _ c.in-Ok-read_settled.count c.if-count-eq0.true
+    reading.ended))
+    (λ closes failed. unended (c.halted.ensures.silent (c.closes-closes.ensures ∙ closes)).0 failed) reading.failed
+    (λ working. either c.closes-closes.result (λ wrote. c.halted.ensures.sent wrote working)
+    (λ silent.
+    let still = c.halted.ensures.silent silent in
+    let ended = c.in-Ok-end_page.ensures.silent (sym c.closes-closes.ensures ∙ silent) in
+    still.1 ∙ ended.1
+    ∙ c.in-Ok.ensures.sent (waited _ c.in-Ok-read_settled.count c.if-count-eq0.true reading.ready)
+    ∙ sym ended.2 ∙ sym still.2))
+    (λ ended. reading.bytes.1 c.if-count-eq0.true (omega (arith, c.read_settled.auto.buffer)))
+    (omega (arith, reading.made, c.loop-turn.invariant.made, c.loop-turn-test.true))
 
 pub returns-in-Err-end_page-clause-ran : goal.returns-in-Err-end_page-clause-ran
 returns-in-Err-end_page-clause-ran g c =
@@ -231,5 +265,28 @@ returns-clause-stops g c =
 
 pub returns-clause-each_gave : goal.returns-clause-each_gave
 returns-clause-each_gave g c =
+    let s = c.loop-turn.invariant.so_far in
+    (s.bytes, s.read, omega (arith, s.each_gave, c.loop-turn.invariant.made))
+
+pub returns-in-Ok-send_page-clause-ran : goal.returns-in-Ok-send_page-clause-ran
+returns-in-Ok-send_page-clause-ran g c =
+    let s = c.loop-turn.invariant.so_far in
+    let after = c.in-Ok-send_page.field-0 in
+    record {
+      given = s.bytes;
+      read = s.read;
+      outcome = going s.text;
+      meant = rw c.loop-turn.invariant.not_ended (g.met.M.Machine.goes_on _ _ _ s.stood);
+      wrote = (
+        refl,
+        so_far_out _ _ [] after s.text
+            (gathered_sent (out (g.W.Sink.taken c.args.sink.now) []) (g.W.Sink.taken c.loop-turn.sink)
+            (g.W.Sink.taken c.send_page.new.sink) c.loop-turn.page 0 c.loop-turn.written (Ok after) s.text s.wrote
+            c.in-Ok-send_page.ensures.ok) refl,
+      );
+    }
+
+pub returns-in-Ok-send_page-clause-each_gave : goal.returns-in-Ok-send_page-clause-each_gave
+returns-in-Ok-send_page-clause-each_gave g c =
     let s = c.loop-turn.invariant.so_far in
     (s.bytes, s.read, omega (arith, s.each_gave, c.loop-turn.invariant.made))

@@ -9,3 +9,12 @@ returns-in-Ok-clause-gathered g c =
     (gathered_in_room (out (g.W.Sink.taken c.args.sink.now) c.args.page.now) (g.W.Sink.taken c.make_room.new.sink)
     c.make_room.new.page c.append-in-Text.new.self _ c.args.written c.in-Ok.after c.in-Ok.ensures.gathered
     (rw (c.append-in-Text.ensures, c.append_number.ensures.value, c.append.ensures) (simp append_assoc)))
+
+pub returns-in-TooLong-clause-gathered : goal.returns-in-TooLong-clause-gathered
+returns-in-TooLong-clause-gathered g c = rw c.in-TooLong.is c.tell.ensures.gathered
+
+pub returns-in-Shape-clause-gathered : goal.returns-in-Shape-clause-gathered
+returns-in-Shape-clause-gathered g c = rw c.in-Shape.is c.tell-in-Shape.ensures.gathered
+
+pub returns-in-Number-clause-gathered : goal.returns-in-Number-clause-gathered
+returns-in-Number-clause-gathered g c = rw c.in-Number.is c.tell-in-Number.ensures.gathered
