@@ -183,9 +183,13 @@ fn next_bad_line(bytes: &[u8]) -> Option<(&[u8], &[u8], Option<usize>)>
     ensures bad { IfSome result (λ parts. parts.2 ≡ bad_byte_place parts.0.now) }
     ensures none { IfNone result (LacksReturn bytes.now) }
 {
-    let end = memchr(CR, bytes)?;
+    let Some(end) = memchr(CR, bytes) else {
+        return None;
+    };
     let (text, behind) = bytes.split_at(end);
-    let (_, rest) = behind.split_first()?;
+    let Some((_, rest)) = behind.split_first() else {
+        return None;
+    };
     Some((text, rest, first_bad_byte(text)))
 }
 
@@ -294,7 +298,9 @@ impl HeldBytes {
     fn cut(&self) -> Option<LentRecord<'_>>
         ensures { result ≡ self.now.cut }
     {
-        let known = self.known?;
+        let Some(known) = self.known else {
+            return None;
+        };
         Some(LentRecord::in_text(known.delimiters, known.kind, self.bytes.as_slice()))
     }
 }
