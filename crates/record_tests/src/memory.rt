@@ -1,6 +1,6 @@
 //! Lists to which memory is refused. Each test passes with memory, and where any one growth is refused: what is
-//! refused comes back, the list is as before, and the same call again is answered in full. `tests/refusals` refuses
-//! each growth.
+//! refused comes back, the list is as before, and the same call again is answered in full. All this is seen of the
+//! whole list, since what came back is pushed. `tests/refusals` refuses each growth.
 
 ghost use Rattle.std.specs.Mem.{FitsInMemory};
 
@@ -9,35 +9,45 @@ use lis_port::Slow;
 use lis_record::{put_field, write_record};
 use lis_text::*;
 use std::alloc::{AllocError, AllocFailed, Global};
+use std::mem::drop;
 use std::process::Abort;
-use std::test::Fail;
 
-/// Grows a text by these bytes. Where memory is refused, the text is as before, and it is asked for once more.
-fn grow(rt: &impl Abort, text: &mut LinkText, before: &[u8], more: &[u8]) -> Result<(), Fail> {
+/// Grows a text by these bytes; memory that is refused is asked for once more.
+fn grow(rt: &impl Abort, text: &mut LinkText, more: &[u8]) {
     if text.extend(more).is_err() {
-        assert!(rt; text.as_slice() == before);
-        text.extend(more)?;
+        assert!(rt; text.extend(more).is_ok());
     }
-    Ok(())
 }
 
 #[test]
-fn a_text_that_cannot_grow_is_as_before(rt: HostRuntime) -> Result<(), Fail> {
+fn a_text_that_cannot_grow_is_as_before(rt: HostRuntime) {
     let mut text = LinkText::new(rt.alloc());
-    grow(&rt, &mut text, b"", b"AB")?;
-    grow(&rt, &mut text, b"AB", &[0x43; 100])?;
+    grow(&rt, &mut text, b"AB");
+    grow(&rt, &mut text, &[0x43; 100]);
     assert!(rt; text.len() == 102);
     let (front, behind) = text.as_slice().split_at(2);
-    assert!(rt; (front, behind) == (b"AB".as_slice(), [0x43; 100].as_slice()));
-    Ok(())
+    assert!(rt; front == b"AB".as_slice() && behind == [0x43; 100].as_slice());
+    drop(text);
+}
+
+/// What came back from a push, where memory was refused to it.
+fn refused<T>(pushed: Result<(), AllocFailed<T>>) -> Option<T> {
+    match pushed {
+        Ok(()) => None,
+        Err(AllocFailed { value }) => Some(value),
+    }
+}
+
+/// Fails where what came back is refused again.
+fn assert_pushed<T: Drop>(rt: &impl Abort, pushed: Result<(), AllocFailed<T>>) {
+    assert!(rt; pushed.is_ok());
+    drop(pushed);
 }
 
 /// Pushes a byte, and once more where it comes back.
 fn push_byte(rt: &impl Abort, text: &mut LinkText, byte: u8) {
-    let before = text.len();
-    if let Err(AllocFailed { value: refused }) = text.push(byte) {
-        assert!(rt; (refused, text.len()) == (byte, before));
-        assert!(rt; text.push(refused).is_ok());
+    if let Some(back) = refused(text.push(byte)) {
+        assert_pushed(rt, text.push(back));
     }
 }
 
@@ -48,6 +58,7 @@ fn an_item_that_is_refused_comes_back(rt: HostRuntime) {
         push_byte(&rt, &mut text, byte);
     }
     assert!(rt; text.as_slice() == b"ABCDEFGHIJKLMNOPQRSTUVWXYZ".as_slice());
+    drop(text);
 }
 
 /// A text of these bytes; memory that is refused is asked for once more.
@@ -60,41 +71,40 @@ fn text_of(alloc: Global, bytes: &[u8]) -> Result<LinkText, AllocError> {
 
 /// Pushes a text, and once more where it comes back.
 fn push_text(rt: &impl Abort, texts: &mut Texts, text: LinkText) {
-    let length = text.len();
-    let before = texts.len();
-    match texts.push(text) {
-        Ok(()) => {}
-        Err(TextRefused::OutOfMemory(back)) => {
-            assert!(rt; (back.len(), texts.len()) == (length, before));
-            assert!(rt; texts.push(back).is_ok());
-        }
-        Err(TextRefused::Full(_)) => panic!(rt; "nine texts are not too many"),
+    if let Err(refused) = texts.push(text) {
+        let TextRefused::OutOfMemory(back) = refused else {
+            panic!(rt; "nine texts are not too many");
+        };
+        assert!(rt; texts.push(back).is_ok());
     }
 }
 
 #[test]
-fn a_text_that_is_refused_comes_back(rt: HostRuntime) -> Result<(), Fail> {
+fn a_text_that_is_refused_comes_back(rt: HostRuntime) {
     let mut texts = Texts::new(rt.alloc());
-    for length in 1..=9usize {
-        push_text(
-            &rt,
-            &mut texts,
-            text_of(rt.alloc(), &b"ABCDEFGHI"[..length])?,
-        );
+    for place in 1..=9usize {
+        let (front, _) = b"ABCDEFGHI".split_at(place);
+        let text = text_of(rt.alloc(), front).expect(&rt, "memory");
+        push_text(&rt, &mut texts, text);
     }
+    assert_lengths(&rt, texts.as_slice());
+    drop(texts);
+}
+
+/// Fails where texts aren't nine, of 1 to 9 bytes.
+fn assert_lengths(rt: &impl Abort, texts: &[LinkText]) {
     assert!(rt; texts.len() == 9);
-    for (place, text) in texts.as_slice().iter().enumerate() {
-        assert!(rt; text.len() == place.saturating_add(1));
+    let mut length = 0usize;
+    for text in texts {
+        length = length.saturating_add(1);
+        assert!(rt; text.len() == length);
     }
-    Ok(())
 }
 
 /// Pushes a symbol, and once more where it comes back.
 fn push_symbol(rt: &impl Abort, component: &mut Component, byte: u8) {
-    let before = component.len();
-    if let Err(AllocFailed { value: refused }) = component.push(Sym::Char(byte)) {
-        assert!(rt; refused == Sym::Char(byte) && component.len() == before);
-        assert!(rt; component.push(refused).is_ok());
+    if let Some(back) = refused(component.push(Sym::Char(byte))) {
+        assert_pushed(rt, component.push(back));
     }
 }
 
@@ -104,29 +114,27 @@ fn a_symbol_that_is_refused_comes_back(rt: HostRuntime) {
     for byte in 0x41..=0x5a {
         push_symbol(&rt, &mut component, byte);
     }
-    assert!(rt; component.len() == 26);
-    for (place, letter) in b"ABCDEFGHIJKLMNOPQRSTUVWXYZ".iter().enumerate() {
-        assert!(rt; component.get(place) == Some(&Sym::Char(*letter)));
+    assert_letters(&rt, component.symbols());
+    drop(component);
+}
+
+/// Fails where symbols aren't the letters A to Z.
+fn assert_letters(rt: &impl Abort, symbols: &[Sym]) {
+    assert!(rt; symbols.len() == 26);
+    let mut letter = b'A';
+    for symbol in symbols {
+        assert!(rt; *symbol == Sym::Char(letter));
+        letter = letter.saturating_add(1);
     }
 }
 
-/// Pushes a part, and once more where it comes back. That it is the same one is seen of the whole list.
+/// Pushes a part, and once more where it comes back.
 fn push_part<P: Part>(rt: &impl Abort, parts: &mut Parts<P>, part: P)
     requires { FitsInMemory P.row }
 {
-    let before = parts.len();
-    if let Err(AllocFailed { value: refused }) = parts.push(part) {
-        assert!(rt; parts.len() == before);
-        assert!(rt; parts.push(refused).is_ok());
+    if let Some(back) = refused(parts.push(part)) {
+        assert_pushed(rt, parts.push(back));
     }
-}
-
-/// Pushes components of the letters B to I. None of them takes memory itself, here and below.
-fn push_components(rt: &impl Abort, alloc: Global, repeat: &mut Repeat) -> Result<(), Fail> {
-    for letter in b"BCDEFGHI" {
-        push_part(rt, repeat, Component::from_text(alloc, &[*letter])?);
-    }
-    Ok(())
 }
 
 /// Fails where a field is spelled otherwise.
@@ -134,70 +142,74 @@ fn assert_spelled(rt: &impl Abort, field: &Field, want: &[u8]) {
     let mut sink = Slow::new(100, 100);
     assert!(rt; put_field(&mut sink, &Delimiters::usual(), field) == Ok(()));
     assert!(rt; sink.took() == want);
+    drop(sink);
+}
+
+/// A component of one letter. It takes no memory.
+fn component_of(rt: &impl Abort, alloc: Global, letter: u8) -> Component {
+    Component::from_text(alloc, &[letter]).expect(rt, "a component without memory")
+}
+
+/// A repeat of one letter. It takes no memory.
+fn repeat_of(rt: &impl Abort, alloc: Global, letter: u8) -> Repeat {
+    Repeat::new(alloc, component_of(rt, alloc, letter)).expect(rt, "a repeat without memory")
+}
+
+/// A field of one letter. It takes no memory.
+fn field_of(rt: &impl Abort, alloc: Global, letter: u8) -> Field {
+    Field::new(alloc, repeat_of(rt, alloc, letter)).expect(rt, "a field without memory")
 }
 
 #[test]
-fn a_component_that_is_refused_comes_back(rt: HostRuntime) -> Result<(), Fail> {
-    let mut repeat = Repeat::new(rt.alloc(), Component::from_text(rt.alloc(), b"A")?)?;
-    push_components(&rt, rt.alloc(), &mut repeat)?;
-    let field = Field::new(rt.alloc(), repeat)?;
+fn a_component_that_is_refused_comes_back(rt: HostRuntime) {
+    let mut repeat = repeat_of(&rt, rt.alloc(), b'A');
+    for letter in b'B'..=b'I' {
+        push_part(&rt, &mut repeat, component_of(&rt, rt.alloc(), letter));
+    }
+    let field = Field::new(rt.alloc(), repeat).expect(&rt, "a field without memory");
     assert_spelled(&rt, &field, b"A^B^C^D^E^F^G^H^I");
     drop(field);
-    Ok(())
-}
-
-/// Pushes repeats of the letters B to I.
-fn push_repeats(rt: &impl Abort, alloc: Global, field: &mut Field) -> Result<(), Fail> {
-    for letter in b"BCDEFGHI" {
-        let component = Component::from_text(alloc, &[*letter])?;
-        push_part(rt, field, Repeat::new(alloc, component)?);
-    }
-    Ok(())
 }
 
 #[test]
-fn a_repeat_that_is_refused_comes_back(rt: HostRuntime) -> Result<(), Fail> {
-    let mut field = Field::from_text(rt.alloc(), b"A")?;
-    push_repeats(&rt, rt.alloc(), &mut field)?;
+fn a_repeat_that_is_refused_comes_back(rt: HostRuntime) {
+    let mut field = field_of(&rt, rt.alloc(), b'A');
+    for letter in b'B'..=b'I' {
+        push_part(&rt, &mut field, repeat_of(&rt, rt.alloc(), letter));
+    }
     assert_spelled(&rt, &field, b"A\\B\\C\\D\\E\\F\\G\\H\\I");
     drop(field);
-    Ok(())
 }
 
 /// Pushes a field, and once more where it comes back.
 fn push_field(rt: &impl Abort, record: &mut Record, field: Field) {
-    let before = record.len();
-    if let Err(AllocFailed { value: refused }) = record.push(field) {
-        assert!(rt; record.len() == before);
-        assert!(rt; record.push(refused).is_ok());
+    if let Some(back) = refused(record.push(field)) {
+        assert_pushed(rt, record.push(back));
     }
-}
-
-/// Pushes fields of the letters A to I.
-fn push_fields(rt: &impl Abort, alloc: Global, record: &mut Record) -> Result<(), Fail> {
-    for letter in b"ABCDEFGHI" {
-        push_field(rt, record, Field::from_text(alloc, &[*letter])?);
-    }
-    Ok(())
 }
 
 #[test]
-fn a_field_that_is_refused_comes_back(rt: HostRuntime) -> Result<(), Fail> {
+fn a_field_that_is_refused_comes_back(rt: HostRuntime) {
     let mut record = Record::new(rt.alloc(), Kind::C);
-    push_fields(&rt, rt.alloc(), &mut record)?;
-    let mut sink = Slow::new(100, 100);
-    assert!(rt; write_record(&mut sink, &Delimiters::usual(), &record) == Ok(()));
+    for letter in b'A'..=b'I' {
+        push_field(&rt, &mut record, field_of(&rt, rt.alloc(), letter));
+    }
+    assert_written(&rt, &record, b"C|A|B|C|D|E|F|G|H|I\r");
     drop(record);
-    assert!(rt; sink.took() == b"C|A|B|C|D|E|F|G|H|I\r".as_slice());
-    Ok(())
+}
+
+/// Fails where a record is written otherwise.
+fn assert_written(rt: &impl Abort, record: &Record, want: &[u8]) {
+    let mut sink = Slow::new(100, 100);
+    assert!(rt; write_record(&mut sink, &Delimiters::usual(), record) == Ok(()));
+    assert!(rt; sink.took() == want);
+    drop(sink);
 }
 
 /// Pushes a record without a field, and once more where it comes back.
 fn push_record(rt: &impl Abort, alloc: Global, records: &mut List<Record>, kind: Kind) {
-    let before = records.len();
-    if let Err(AllocFailed { value: refused }) = records.push(Record::new(alloc, kind)) {
-        assert!(rt; (refused.kind(), records.len()) == (kind, before));
-        assert!(rt; records.push(refused).is_ok());
+    if let Some(back) = refused(records.push(Record::new(alloc, kind))) {
+        assert_pushed(rt, records.push(back));
     }
 }
 
@@ -217,11 +229,17 @@ const KINDS: [Kind; 9] = [
 #[test]
 fn a_record_that_is_refused_comes_back(rt: HostRuntime) {
     let mut records: List<Record> = List::new(rt.alloc());
-    for kind in KINDS {
-        push_record(&rt, rt.alloc(), &mut records, kind);
+    for kind in &KINDS {
+        push_record(&rt, rt.alloc(), &mut records, *kind);
     }
+    assert_kinds(&rt, records.as_slice());
+    drop(records);
+}
+
+/// Fails where records aren't nine of these kinds.
+fn assert_kinds(rt: &impl Abort, records: &[Record]) {
     assert!(rt; records.len() == 9);
-    for (place, record) in records.as_slice().iter().enumerate() {
+    for (place, record) in records.iter().enumerate() {
         assert!(rt; KINDS.get(place) == Some(&record.kind()));
     }
 }

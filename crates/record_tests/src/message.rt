@@ -1,22 +1,34 @@
 //! What no contract and no conformance row says: messages of very many records, a message's results, its copy.
 
-use lis_message::{MessageReader, TextsFault, message_texts, read_messages};
-use std::test::Fail;
+use lis_message::{Message, MessageReader, PlacedResult, TextsFault, message_texts, read_messages};
+use std::alloc::Global;
+use std::mem::drop;
+use std::process::Abort;
 
-#[test]
-fn too_many_records_have_no_texts(rt: HostRuntime) {
-    let mut reader = MessageReader::new(rt.alloc());
+/// Feeds a header and 65,535 comments.
+fn feed_many(reader: &mut MessageReader) {
     drop(reader.feed(b"H|\\^&\r"));
     for _ in 0..65_535u32 {
         drop(reader.feed(b"C"));
         drop(reader.feed(b"\r"));
     }
+}
+
+#[test]
+fn too_many_records_have_no_texts(rt: HostRuntime) {
+    let mut reader = MessageReader::new(rt.alloc());
+    feed_many(&mut reader);
     let fed = reader.feed(b"L\r");
-    let message = fed.messages.get(0).expect(&rt, "a message");
-    let told = (message.len(), message_texts(rt.alloc(), message).err());
+    assert_too_many(&rt, rt.alloc(), fed.messages.get(0));
     drop(fed);
-    assert!(rt; told == (65_537, Some(TextsFault::TooMany)));
     assert!(rt; reader.finish() == Ok(()));
+}
+
+/// Fails where there is no message of 65,537 records, or it has texts.
+fn assert_too_many(rt: &impl Abort, alloc: Global, message: Option<&Message>) {
+    let message = message.expect(rt, "a message");
+    assert!(rt; message.len() == 65_537);
+    assert!(rt; message_texts(alloc, message).err() == Some(TextsFault::TooMany));
 }
 
 /// Two patients, the first with two orders, and notes and a query between. Each patient, each order and each result
@@ -25,28 +37,42 @@ const PANEL: &[u8] =
     b"H|\\^&\rP|1\rO|1|S7\rR|1|GLU|5.4\rC|1|I|high\rR|2|NA|139|mmol/L\rO|2|S8|s\rR|1|GLU|4.8|u|r\r\
     P|2|p\rC|1\rO|1|S9|s|t\rR|1|K|5.6|u|r|N\rQ|1|S7\rL|1\r";
 
-#[test]
-fn results_come_with_their_orders_and_patients(rt: HostRuntime) -> Result<(), Fail> {
-    let fed = read_messages(rt.alloc(), PANEL);
-    let message = fed.messages.get(0).expect(&rt, "a message");
-    let mut results = message.results();
-    for want in [(1, 2, 3), (1, 2, 4), (1, 3, 5), (2, 4, 6)] {
-        let found = results.next().expect(&rt, "a result");
-        let (patient, order) = (found.patient.head().len(), found.order.head().len());
-        assert!(rt; (patient, order, found.entry.head().len()) == want);
-    }
+/// Fails where a result has another number of fields, or its patient or its order has.
+fn assert_result(rt: &impl Abort, found: Option<PlacedResult<'_>>, want: (usize, usize, usize)) {
+    let found = found.expect(rt, "a result");
+    let (patient, order) = (found.patient.head().len(), found.order.head().len());
+    assert!(rt; (patient, order, found.entry.head().len()) == want);
+}
+
+/// Fails where a message hasn't the results of the panel.
+fn assert_results(rt: &impl Abort, message: Option<&Message>) {
+    let mut results = message.expect(rt, "a message").results();
+    assert_result(rt, results.next(), (1, 2, 3));
+    assert_result(rt, results.next(), (1, 2, 4));
+    assert_result(rt, results.next(), (1, 3, 5));
+    assert_result(rt, results.next(), (2, 4, 6));
     assert!(rt; results.next().is_none());
+}
+
+#[test]
+fn results_come_with_their_orders_and_patients(rt: HostRuntime) {
+    let fed = read_messages(rt.alloc(), PANEL);
+    assert_results(&rt, fed.messages.get(0));
     drop(fed);
-    Ok(())
+}
+
+/// Fails where a message has no copy, or another one.
+fn assert_copied(rt: &impl Abort, alloc: Global, message: Option<&Message>) {
+    let message = message.expect(rt, "a message");
+    let copy = message.copy(alloc).expect(rt, "a copy");
+    let told = (copy.len(), copy == *message);
+    drop(copy);
+    assert!(rt; told == (14, true));
 }
 
 #[test]
 fn a_copied_message_is_the_same(rt: HostRuntime) {
     let fed = read_messages(rt.alloc(), PANEL);
-    let message = fed.messages.get(0).expect(&rt, "a message");
-    let copy = message.copy(rt.alloc()).expect(&rt, "a copy");
-    let told = (copy.len(), copy == *message);
-    drop(copy);
+    assert_copied(&rt, rt.alloc(), fed.messages.get(0));
     drop(fed);
-    assert!(rt; told == (14, true));
 }

@@ -2,36 +2,37 @@
 
 use lis_port::Slow;
 use lis_record::{Delimiters, Kind, Record, lend_record, spelled_length};
-use std::test::Fail;
+use std::mem::drop;
+use std::process::Abort;
 
-#[test]
-fn a_lent_field_is_put_as_it_is_spelled(rt: HostRuntime) -> Result<(), Fail> {
-    let told: [(&[u8], usize, &[u8]); 7] = [
-        (b"C|a\\b^c||", 2, b"a\\b^c"),
-        (b"C|a||", 3, b""),
-        (b"C|Smith & Sons", 2, b"Smith &E& Sons"),
-        (b"C|&X0D0a&", 2, b"&X0d&&X0a&"),
-        (b"C|&H&N&", 2, b"&H&N&E&"),
-        (b"C|a\\&b^c&\\", 2, b"a\\&E&b^c&E&\\"),
-        (b"C|x|&N&a&F&b&S&c&R&d&E&|y", 3, b"&N&a&F&b&S&c&R&d&E&"),
-    ];
-    for (text, number, want) in told {
-        let record = lend_record(&Delimiters::usual(), text)?;
-        let field = record.field(number).expect(&rt, "a field");
-        let mut sink = Slow::new(100, 1);
-        assert!(rt; field.put(&mut sink) == Ok(()));
-        assert!(rt; sink.took() == want);
-    }
-    Ok(())
+/// Fails where a field of a record's text is put otherwise.
+fn assert_put(rt: &impl Abort, text: &[u8], number: usize, want: &[u8]) {
+    let record = lend_record(&Delimiters::usual(), text).expect(rt, "a record");
+    let field = record.field(number).expect(rt, "a field");
+    let mut sink = Slow::new(100, 1);
+    assert!(rt; field.put(&mut sink) == Ok(()));
+    assert!(rt; sink.took() == want);
+    drop(sink);
 }
 
 #[test]
-fn the_length_of_a_spelling_is_told(rt: HostRuntime) -> Result<(), Fail> {
+fn a_lent_field_is_put_as_it_is_spelled(rt: HostRuntime) {
+    assert_put(&rt, b"C|a\\b^c||", 2, b"a\\b^c");
+    assert_put(&rt, b"C|a||", 3, b"");
+    assert_put(&rt, b"C|Smith & Sons", 2, b"Smith &E& Sons");
+    assert_put(&rt, b"C|&X0D0a&", 2, b"&X0d&&X0a&");
+    assert_put(&rt, b"C|&H&N&", 2, b"&H&N&E&");
+    assert_put(&rt, b"C|a\\&b^c&\\", 2, b"a\\&E&b^c&E&\\");
+    let marks = b"C|x|&N&a&F&b&S&c&R&d&E&|y";
+    assert_put(&rt, marks, 3, b"&N&a&F&b&S&c&R&d&E&");
+}
+
+#[test]
+fn the_length_of_a_spelling_is_told(rt: HostRuntime) {
     let texts = [b"1".as_slice(), b"", b"Smith & Sons", b"a|b\\c^d"];
     // P|1||Smith &E& Sons|a&F&b&R&c&S&d
-    let record = Record::from_texts(rt.alloc(), Kind::P, &texts)?;
+    let record = Record::from_texts(rt.alloc(), Kind::P, &texts).expect(&rt, "a record");
     let length = spelled_length(&Delimiters::usual(), &record);
     drop(record);
     assert!(rt; length == 33);
-    Ok(())
 }
