@@ -1,18 +1,31 @@
-use lis_frame::{FrameOf, FramesOf, frame_bytes_of, put_frame, split_all_of, split_at};
+ghost use Rattle.std.specs.Prelude.{◌≡◌, false};
+
+use lis_frame::{Frame, FrameOf, FramesOf, frame_bytes_of, put_frame, split_all_of, split_at};
 use lis_link::{Note, ReceiverOf};
 use lis_port::Slow;
 use lis_text::{ENQ, check_text};
 use std::alloc::Global;
+use std::mem::drop;
 use std::process::Abort;
-use std::test::Fail;
 
 /// The second frame of 241 letters A.
 const SECOND: &[u8] = b"\x022A\x0376\r\n";
 
+/// Fails where a sink isn't told to have taken so much of the frame, or has taken another part.
+fn assert_put(rt: &impl Abort, frame: &Frame, sink: Slow, put: Result<(), usize>)
+    requires { sink.failed ≡ false }
+{
+    let mut sink = sink;
+    assert!(rt; put_frame(&mut sink, frame) == put);
+    let count = put.err().unwrap_or(SECOND.len());
+    assert!(rt; Some(sink.took()) == SECOND.get(..count));
+    drop(sink);
+}
+
 #[test]
-fn a_frame_is_put_as_far_as_a_sink_takes_it(rt: HostRuntime) -> Result<(), Fail> {
+fn a_frame_is_put_as_far_as_a_sink_takes_it(rt: HostRuntime) {
     let text = [0x41; 241];
-    check_text(&text)?;
+    assert!(rt; check_text(&text).is_ok());
     let second = split_at(&text, 240, 2);
     for (room, put) in [
         (0, Err(0)),
@@ -21,13 +34,10 @@ fn a_frame_is_put_as_far_as_a_sink_takes_it(rt: HostRuntime) -> Result<(), Fail>
         (7, Err(7)),
         (8, Ok(())),
     ] {
-        for most in [1, 3, 131_072] {
-            let mut sink = Slow::new(room, most);
-            assert!(rt; put_frame(&mut sink, &second) == put);
-            assert!(rt; Some(sink.took()) == SECOND.get(..room));
-        }
+        assert_put(&rt, &second, Slow::new(room, 1), put);
+        assert_put(&rt, &second, Slow::new(room, 3), put);
+        assert_put(&rt, &second, Slow::new(room, 131_072), put);
     }
-    Ok(())
 }
 
 /// Fails where a longer frame isn't so long or ends otherwise, or isn't taken as the one of this number.
@@ -44,26 +54,26 @@ fn assert_taken(
 }
 
 /// The longer frames of so many letters A, from number 1.
-fn frames_of_letters(alloc: Global, count: usize) -> Result<FramesOf<63_993>, Fail> {
-    let text = vec![in alloc; 0x41; count]?;
-    check_text(text.as_slice())?;
-    Ok(split_all_of(alloc, text.as_slice(), 1)?)
+fn frames_of_letters(rt: &impl Abort, alloc: Global, count: usize) -> FramesOf<63_993> {
+    let text = vec![in alloc; 0x41; count].expect(rt, "memory");
+    assert!(rt; check_text(text.as_slice()).is_ok());
+    let frames = split_all_of(alloc, text.as_slice(), 1);
+    drop(text);
+    frames.expect(rt, "memory")
 }
 
-/// The length, the end and the number of the two frames of 63,994 letters A.
-const LONGEST: [(usize, &[u8], u8); 2] = [(64_000, b"\x1781\r\n", 1), (8, SECOND, 2)];
-
 #[test]
-fn the_longest_frame_is_made_and_taken_at_once(rt: HostRuntime) -> Result<(), Fail> {
-    let frames = frames_of_letters(rt.alloc(), 63_994)?;
+fn the_longest_frame_is_made_and_taken_at_once(rt: HostRuntime) {
+    let frames = frames_of_letters(&rt, rt.alloc(), 63_994);
+    let [first, second] = frames.as_slice() else {
+        panic!(rt; "not two frames");
+    };
     let mut receiver = ReceiverOf::<63_993>::new(rt.alloc());
     let _ = receiver.byte(ENQ);
-    for (frame, want) in frames.as_slice().iter().zip(LONGEST) {
-        assert_taken(&rt, &mut receiver, frame, want);
-    }
-    let told = (frames.len(), receiver.accepted(), receiver.held());
+    assert_taken(&rt, &mut receiver, first, (64_000, b"\x1781\r\n", 1));
+    assert_taken(&rt, &mut receiver, second, (8, SECOND, 2));
     drop(frames);
+    let told = (receiver.accepted(), receiver.held());
     drop(receiver);
-    assert!(rt; told == (2, 2, 0));
-    Ok(())
+    assert!(rt; told == (2, 0));
 }

@@ -21,7 +21,7 @@ fn too_many_records_have_no_texts(rt: HostRuntime) {
     let fed = reader.feed(b"L\r");
     assert_too_many(&rt, rt.alloc(), fed.messages.get(0));
     drop(fed);
-    assert!(rt; reader.finish() == Ok(()));
+    assert!(rt; reader.finish().is_ok());
 }
 
 /// Fails where there is no message of 65,537 records, or it has texts.
@@ -47,10 +47,9 @@ fn assert_result(rt: &impl Abort, found: Option<PlacedResult<'_>>, want: (usize,
 /// Fails where a message hasn't the results of the panel.
 fn assert_results(rt: &impl Abort, message: Option<&Message>) {
     let mut results = message.expect(rt, "a message").results();
-    assert_result(rt, results.next(), (1, 2, 3));
-    assert_result(rt, results.next(), (1, 2, 4));
-    assert_result(rt, results.next(), (1, 3, 5));
-    assert_result(rt, results.next(), (2, 4, 6));
+    for want in &[(1, 2, 3), (1, 2, 4), (1, 3, 5), (2, 4, 6)] {
+        assert_result(rt, results.next(), *want);
+    }
     assert!(rt; results.next().is_none());
 }
 

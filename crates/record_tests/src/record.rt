@@ -10,7 +10,7 @@ fn assert_put(rt: &impl Abort, text: &[u8], number: usize, want: &[u8]) {
     let record = lend_record(&Delimiters::usual(), text).expect(rt, "a record");
     let field = record.field(number).expect(rt, "a field");
     let mut sink = Slow::new(100, 1);
-    assert!(rt; field.put(&mut sink) == Ok(()));
+    assert!(rt; field.put(&mut sink).is_ok());
     assert!(rt; sink.took() == want);
     drop(sink);
 }

@@ -1,8 +1,9 @@
 //! What no contract and no conformance row says: that records of a stream which is cut anywhere are all handed out.
 
 use lis_message::{Found, LentRecord, RecordReader};
-use std::alloc::AllocError;
-use std::test::Fail;
+use std::alloc::Global;
+use std::mem::drop;
+use std::process::Abort;
 
 const STREAM: &[u8] =
     b"H|\\^&|||Analyzer\rP|1\rO|1|S7\rR|1|^^^GLU|5.4\rL|1|N\rH;!:%;a\rp;1;x!y\rL;1;N\r";
@@ -10,52 +11,50 @@ const STREAM: &[u8] =
 /// What is written down of its records: the letter of each, the number of its fields and its field 3.
 const WRITTEN: &[u8] = b"H3P1O2S7R3^^^GLUL2NH1aP2x!yL2N";
 
-fn write_down(written: &mut Vec<u8>, entry: &LentRecord<'_>) -> Result<(), AllocError> {
-    let count = b'0' + entry.len().min(9) as u8;
-    written.extend_from_slice(&[entry.kind().letter(), count])?;
+fn write_down(rt: &impl Abort, written: &mut Vec<u8>, entry: &LentRecord<'_>) {
+    let front = [entry.kind().letter(), b'0' + entry.len().min(9) as u8];
+    assert!(rt; written.extend_from_slice(&front).is_ok());
     if let Some(field) = entry.field(3) {
-        field.add_to(written)?;
+        assert!(rt; field.add_to(written).is_ok());
     }
-    Ok(())
 }
 
 /// Reads a piece to its end.
-fn read_piece(reader: &mut RecordReader, piece: &[u8], written: &mut Vec<u8>) -> Result<(), Fail> {
+fn read_piece(rt: &impl Abort, reader: &mut RecordReader, piece: &[u8], written: &mut Vec<u8>) {
     let mut rest = piece;
     for _turn in 0..=piece.len() {
         let (behind, found) = reader.read(rest);
         match found {
-            Found::Nothing => return Ok(()),
-            Found::Record(entry) => write_down(written, &entry)?,
-            Found::Held => write_down(written, &reader.cut().ok_or("no record that was cut")?)?,
-            Found::Refused(fault) => return Err(fault)?,
+            Found::Nothing => return,
+            Found::Record(entry) => write_down(rt, written, &entry),
+            Found::Held => write_cut(rt, written, reader.cut()),
+            Found::Refused(_) => panic!(rt; "a record is refused"),
         }
         rest = behind;
     }
-    Ok(())
 }
 
-/// Reads a stream that comes in two pieces.
-fn read_cut(
-    reader: &mut RecordReader,
-    pieces: (&[u8], &[u8]),
-    written: &mut Vec<u8>,
-) -> Result<(), Fail> {
-    let (front, behind) = pieces;
-    read_piece(reader, front, written)?;
-    read_piece(reader, behind, written)
+/// Writes down a record that was cut.
+fn write_cut(rt: &impl Abort, written: &mut Vec<u8>, entry: Option<LentRecord<'_>>) {
+    write_down(rt, written, &entry.expect(rt, "a record that was cut"));
+}
+
+/// Fails where the stream gives other records when it is cut at a place.
+fn assert_cut(rt: &impl Abort, alloc: Global, place: usize) {
+    let (front, behind) = STREAM.split_at(place.min(STREAM.len()));
+    let mut reader = RecordReader::new(alloc);
+    let mut written = Vec::new(alloc);
+    read_piece(rt, &mut reader, front, &mut written);
+    read_piece(rt, &mut reader, behind, &mut written);
+    assert!(rt; reader.finish().is_ok());
+    drop(reader);
+    assert!(rt; written.as_slice() == WRITTEN);
+    drop(written);
 }
 
 #[test]
-fn a_stream_cut_anywhere_gives_its_records(rt: HostRuntime) -> Result<(), Fail> {
+fn a_stream_cut_anywhere_gives_its_records(rt: HostRuntime) {
     for place in 0..=STREAM.len() {
-        let mut reader = RecordReader::new(rt.alloc());
-        let mut written = Vec::new(rt.alloc());
-        let read = read_cut(&mut reader, STREAM.split_at(place), &mut written);
-        let ended = reader.finish();
-        drop(reader);
-        read?;
-        assert!(rt; written.as_slice() == WRITTEN && ended == Ok(()));
+        assert_cut(&rt, rt.alloc(), place);
     }
-    Ok(())
 }
