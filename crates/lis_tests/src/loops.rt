@@ -8,8 +8,8 @@ use lis_port::Slow;
 use lis_text::{ACK, CR, ENQ, EOT, ETX, LF, NAK, STX, Texts};
 use lis_tool::ToolFault;
 use std::alloc::Global;
+use std::mem::drop;
 use std::process::Abort;
-use std::test::Fail;
 use uses::analyzer::send_texts;
 use uses::building::{result_message, result_texts};
 use uses::capture::is_as_played;
@@ -61,14 +61,38 @@ impl Line for Scripted<'_> {
     }
 }
 
+/// Fails where the text A, sent on a line with these events, ends otherwise, or other bytes are sent or other timers
+/// started.
+fn assert_sent(
+    rt: &impl Abort,
+    alloc: Global,
+    events: &[Event],
+    ended: Outcome,
+    told: (&[u8], &[u32]),
+) {
+    let texts = Texts::from_slices(alloc, &[b"A".as_slice()]).expect(rt, "memory");
+    let mut line = Scripted::new(alloc, events);
+    assert!(rt; send_texts(&mut line, texts) == Ok(Some(ended)));
+    assert_told(rt, &line, told);
+    drop(line);
+}
+
+/// Fails where other bytes were sent on a line, or other timers started.
+fn assert_told(rt: &impl Abort, line: &Scripted<'_>, (sent, seconds): (&[u8], &[u32])) {
+    assert!(rt; line.sent.as_slice() == sent);
+    assert!(rt; line.seconds.as_slice() == seconds);
+}
+
 #[test]
-fn a_text_is_sent(rt: HostRuntime) -> Result<(), Fail> {
-    let texts = Texts::from_slices(rt.alloc(), &[b"A".as_slice()])?;
-    let mut line = Scripted::new(rt.alloc(), &[Event::Byte(ACK), Event::Byte(ACK)]);
-    assert!(rt; send_texts(&mut line, texts) == Ok(Some(Outcome::Done)));
-    let told = (SESSION, [15, 15].as_slice());
-    assert!(rt; (line.sent.as_slice(), line.seconds.as_slice()) == told);
-    Ok(())
+fn a_text_is_sent(rt: HostRuntime) {
+    let events = [Event::Byte(ACK), Event::Byte(ACK)];
+    assert_sent(
+        &rt,
+        rt.alloc(),
+        &events,
+        Outcome::Done,
+        (SESSION, &[15, 15]),
+    );
 }
 
 /// NAK, noise and the end of the wait behind NAK; ENQ and the end of the wait behind that; and no reply.
@@ -82,14 +106,9 @@ const WAITS: [Event; 6] = [
 ];
 
 #[test]
-fn each_wait_has_its_timer(rt: HostRuntime) -> Result<(), Fail> {
-    let texts = Texts::from_slices(rt.alloc(), &[b"A".as_slice()])?;
-    let mut line = Scripted::new(rt.alloc(), &WAITS);
-    assert!(rt; send_texts(&mut line, texts) == Ok(Some(Outcome::TimedOut)));
-    let sent = [ENQ, ENQ, ENQ, EOT];
-    let told = (sent.as_slice(), [15, 10, 15, 1, 15].as_slice());
-    assert!(rt; (line.sent.as_slice(), line.seconds.as_slice()) == told);
-    Ok(())
+fn each_wait_has_its_timer(rt: HostRuntime) {
+    let told: (&[u8], &[u32]) = (&[ENQ, ENQ, ENQ, EOT], &[15, 10, 15, 1, 15]);
+    assert_sent(&rt, rt.alloc(), &WAITS, Outcome::TimedOut, told);
 }
 
 /// A line on which the bytes of the session come.
@@ -111,11 +130,12 @@ fn a_text_is_received(rt: HostRuntime) {
     let mut line = Scripted::new(rt.alloc(), &RECEIVED);
     let mut receiver = Receiver::new(rt.alloc());
     let text = next_text(&mut line, &mut receiver).expect(&rt, "a text");
-    let is_ended = next_text(&mut line, &mut receiver).is_none();
+    assert!(rt; text.as_slice() == b"A".as_slice());
+    drop(text);
+    assert!(rt; next_text(&mut line, &mut receiver).is_none());
     drop(receiver);
-    assert!(rt; text.as_slice() == b"A".as_slice() && is_ended);
-    let told = ([ACK, ACK].as_slice(), [30, 30].as_slice());
-    assert!(rt; (line.sent.as_slice(), line.seconds.as_slice()) == told);
+    assert_told(&rt, &line, (&[ACK, ACK], &[30, 30]));
+    drop(line);
 }
 
 /// The records of one result, of the sample S7.
@@ -127,6 +147,8 @@ fn assert_written(rt: &impl Abort, message: &Message) {
     let mut second = Slow::new(100, 100);
     assert!(rt; write_to_both(&mut first, &mut second, message) == Ok(()));
     assert!(rt; (first.took(), second.took()) == RESULT.split_at(20));
+    drop(first);
+    drop(second);
 }
 
 /// Fails where the only reading of a message is another.
@@ -134,31 +156,33 @@ fn assert_reading(rt: &impl Abort, found: &[Reading]) {
     let [reading] = found else {
         panic!(rt; "not one reading");
     };
-    let (sample, value) = (reading.sample.as_slice(), reading.value.as_slice());
-    assert!(rt; (sample, value) == (b"S7".as_slice(), b"5.4".as_slice()));
+    assert!(rt; reading.sample.as_slice() == b"S7".as_slice());
+    assert!(rt; reading.value.as_slice() == b"5.4".as_slice());
     assert!(rt; reading.units.as_slice() == b"mmol/L".as_slice());
 }
 
 #[test]
-fn a_message_has_a_text_for_each_record(rt: HostRuntime) -> Result<(), Fail> {
-    let texts = result_texts(rt.alloc(), b"S7", b"5.4")?;
+fn a_message_has_a_text_for_each_record(rt: HostRuntime) {
+    let texts = result_texts(rt.alloc(), b"S7", b"5.4").expect(&rt, "texts");
     let count = texts.len();
     drop(texts);
     assert!(rt; count == 5);
-    Ok(())
 }
 
 #[test]
-fn a_message_is_built_written_and_read(rt: HostRuntime) -> Result<(), Fail> {
-    let alloc = rt.alloc();
-    let message = result_message(alloc, b"S7", b"5.4")?;
+fn a_message_is_built_written_and_read(rt: HostRuntime) {
+    let message = result_message(rt.alloc(), b"S7", b"5.4").expect(&rt, "a message");
     assert_written(&rt, &message);
-    let found = readings(alloc, &message);
+    let found = readings(rt.alloc(), &message).expect(&rt, "readings");
     drop(message);
-    assert_reading(&rt, found?.as_slice());
+    assert_reading(&rt, found.as_slice());
+    drop(found);
+}
+
+#[test]
+fn results_in_pieces_are_counted(rt: HostRuntime) {
     let (front, rest) = RESULT.split_at(20);
-    assert!(rt; count_results(alloc, &[front, rest]) == Ok(1));
-    Ok(())
+    assert!(rt; count_results(rt.alloc(), &[front, rest]) == Ok(1));
 }
 
 #[test]
