@@ -1,79 +1,69 @@
-//! What each fault of texts, frames and sessions says of itself, a line for each.
+//! What each fault of texts, frames and sessions says of itself.
 
 use lis_frame::FrameFault;
 use lis_link::{Sender, StartFault};
 use lis_text::{LinkText, TextFault, TextRefused, Texts};
 use std::alloc::Global;
+use std::fmt::Display;
 use std::mem::drop;
 use std::process::Abort;
 
-#[test]
-fn faults_of_texts_say_what_is_wrong(rt: HostRuntime) {
-    let fault = TextFault::TooLong;
-    let told = format!(in rt.alloc();
-        "{fault}\n{}\n{}\n{}\n{}\n",
-        TextFault::Forbidden(3),
-        StartFault::InSession,
-        StartFault::NoText,
-        StartFault::BadText { index: 2, fault }
-    )
-    .expect(&rt, "memory");
-    let want = "the text is too long\n\
-        the byte at place 3 may not stand in a text\n\
-        a session is going on\n\
-        there is no text to send\n\
-        the text at place 2 can't be sent: the text is too long\n";
+/// Fails where a fault says something else of itself.
+fn assert_says<T: Display>(rt: &impl Abort, alloc: Global, fault: &T, want: &str) {
+    let told = format!(in alloc; "{fault}").expect(rt, "memory");
     assert!(rt; told.as_str() == want);
     drop(told);
+}
+
+#[test]
+fn faults_of_texts_say_what_is_wrong(rt: HostRuntime) {
+    let alloc = rt.alloc();
+    assert_says(&rt, alloc, &TextFault::TooLong, "the text is too long");
+    let forbidden = "the byte at place 3 may not stand in a text";
+    assert_says(&rt, alloc, &TextFault::Forbidden(3), forbidden);
+}
+
+#[test]
+fn faults_of_starts_say_what_is_wrong(rt: HostRuntime) {
+    let alloc = rt.alloc();
+    assert_says(&rt, alloc, &StartFault::InSession, "a session is going on");
+    assert_says(&rt, alloc, &StartFault::NoText, "there is no text to send");
+    let fault = TextFault::TooLong;
+    let want = "the text at place 2 can't be sent: the text is too long";
+    assert_says(&rt, alloc, &StartFault::BadText { index: 2, fault }, want);
 }
 
 #[test]
 fn faults_of_frames_say_what_is_wrong(rt: HostRuntime) {
-    let told = format!(in rt.alloc();
-        "{}\n{}\n{}\n{}\n{}\n",
-        FrameFault::TooLong,
-        FrameFault::Shape,
-        FrameFault::Number,
-        FrameFault::Text(5),
-        FrameFault::Sum
-    )
-    .expect(&rt, "memory");
-    let want = "the frame is longer than its limit [F1]\n\
-        the frame has not the shape of one [F2]\n\
-        the frame's number is no digit from 0 to 7 [F3]\n\
-        the byte at place 5 of the frame's text may not stand in a text [F4]\n\
-        the checksum is not that of the frame [F5]\n";
-    assert!(rt; told.as_str() == want);
-    drop(told);
-}
-
-/// Fails where a text that comes back says another reason.
-fn assert_says(rt: &impl Abort, alloc: Global, refused: TextRefused, want: &str) {
-    let told = format!(in alloc; "{refused}").expect(rt, "memory");
-    drop(refused);
-    assert!(rt; told.as_str() == want);
-    drop(told);
+    let alloc = rt.alloc();
+    let long = "the frame is longer than its limit [F1]";
+    assert_says(&rt, alloc, &FrameFault::TooLong, long);
+    let shape = "the frame has not the shape of one [F2]";
+    assert_says(&rt, alloc, &FrameFault::Shape, shape);
+    let number = "the frame's number is no digit from 0 to 7 [F3]";
+    assert_says(&rt, alloc, &FrameFault::Number, number);
+    let text = "the byte at place 5 of the frame's text may not stand in a text [F4]";
+    assert_says(&rt, alloc, &FrameFault::Text(5), text);
+    let sum = "the checksum is not that of the frame [F5]";
+    assert_says(&rt, alloc, &FrameFault::Sum, sum);
 }
 
 #[test]
 fn texts_that_come_back_say_why(rt: HostRuntime) {
-    let (first, second) = (LinkText::new(rt.alloc()), LinkText::new(rt.alloc()));
-    let full = "a session has 65536 texts at most";
-    assert_says(&rt, rt.alloc(), TextRefused::Full(first), full);
-    assert_says(
-        &rt,
-        rt.alloc(),
-        TextRefused::OutOfMemory(second),
-        "memory was refused",
-    );
+    let alloc = rt.alloc();
+    let full = TextRefused::Full(LinkText::new(alloc));
+    assert_says(&rt, alloc, &full, "a session has 65536 texts at most");
+    drop(full);
+    let starved = TextRefused::OutOfMemory(LinkText::new(alloc));
+    assert_says(&rt, alloc, &starved, "memory was refused");
+    drop(starved);
 }
 
 #[test]
 fn texts_that_are_not_sent_say_why(rt: HostRuntime) {
-    let started = Sender::new().start(Texts::new(rt.alloc()));
+    let alloc = rt.alloc();
+    let started = Sender::new().start(Texts::new(alloc));
     let refused = started.err().expect(&rt, "no session without a text");
-    let told = format!(in rt.alloc(); "{refused}").expect(&rt, "memory");
+    assert_says(&rt, alloc, &refused, "there is no text to send");
     drop(refused);
-    assert!(rt; told.as_str() == "there is no text to send");
-    drop(told);
 }
