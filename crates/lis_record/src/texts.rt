@@ -8,8 +8,8 @@ ghost use Rattle.lis_part.specs.inside.FrontReading.{parts_behind, parts_of};
 
 use lis_part::first_part;
 
-// What stands before the first delimiter, the rest from that delimiter on, and bits that tell of the first places of the
-// delimiter in the rest, or of none, as these do of its first places in the text.
+// What stands before the first delimiter, the rest from that delimiter on, and bits that tell of the first places of
+// the delimiter in the rest, or of none, as these do of its first places in the text.
 #[inline(always)]
 pub(crate) fn first_marked(text: &[u8], delimiter: u8, marks: u64) -> (&[u8], &[u8], u64)
     requires { AreMarks delimiter text.now marks }
