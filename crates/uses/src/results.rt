@@ -12,6 +12,7 @@ ghost use Rattle.uses.specs.Readings.{IsReading, IsPlainOrEmpty, IsUnread, resul
 use lis_field::Record;
 use lis_message::{Message, MessageFault, MessageReader};
 use std::alloc::{AllocError, Global};
+use std::mem::drop;
 
 /// One result: the sample of its order, and the value and units of its record.
 #[derive(Debug, Drop)]
@@ -61,12 +62,18 @@ pub fn count_results(alloc: Global, pieces: &[&[u8]]) -> Result<usize, MessageFa
         for message in fed.messages.as_slice() {
             count = count.saturating_add(results_in(message));
         }
-        if let Some(fault) = fed.fault {
+        let fault = fed.fault;
+        // By a call here and below: what ends in place is let go of part by part, and the proof goes over each of them.
+        drop(fed);
+        if let Some(fault) = fault {
+            drop(reader);
             return Err(fault);
         }
     }
-    reader.finish()?;
-    Ok(count)
+    match reader.finish() {
+        Ok(()) => Ok(count),
+        Err(fault) => Err(fault),
+    }
 }
 
 /// How many results a message has.

@@ -1,8 +1,8 @@
-use Rattle.std.proofs.Common.{◌≡◌, Err, append-nil, take_all, ◌+◌, [], ◌++◌, inl, inr, take, drop, flat_map, refl}
-use Rattle.std.proofs.Common.{sym, ap, ◌∙◌, arith}
+use Rattle.std.proofs.Common.{◌≡◌, append-nil, take_all, ◌+◌, [], ◌++◌, inl, inr, take, drop, flat_map, refl}
+use Rattle.std.proofs.Common.{sym, ◌∙◌, arith}
 use Rattle.lis_text.specs.Capped.{capped}
 use Rattle.uses.specs.Readings.{result_count}
-use Rattle.uses.proofs.ReadingLaws.{counts_next, result_count-append, stream_next, stream_rest, nothing_read, if_err}
+use Rattle.uses.proofs.ReadingLaws.{counts_next, result_count-append, stream_next, stream_rest, nothing_read}
 use Rattle.uses.proofs.results.count_results.Goals as goal
 
 pub loop-piece-init : goal.loop-piece-init
@@ -45,8 +45,8 @@ loop-piece-preserved c =
       rw (result_count-append so_far.0 c.feed-fed.result.messages, last, so_far.3) (omega arith),
     )
 
-pub returns-in_err-finish-clause-err : goal.returns-in_err-finish-clause-err
-returns-in_err-finish-clause-err c = if_err _ _ c.from_residual.result c.from_residual.ensures.1 (λ e gives.
+pub returns-in-Err-clause-err : goal.returns-in-Err-clause-err
+returns-in-Err-clause-err c =
     let so_far = c.loop-piece.invariant in
     record {
       front = flat_map (λ piece. piece.now) c.args.pieces.now;
@@ -60,7 +60,7 @@ returns-in_err-finish-clause-err c = if_err _ _ c.from_residual.result c.from_re
           held = _;
           cut = rw (take_all c.loop-piece.piece-index c.args.pieces.now (omega (arith, c.loop-piece-test.false))) at
               so_far.2;
-          why = sym (rw so_far.1 at c.in_err-finish.ensures) ∙ ap Err (sym gives);
+          why = sym (rw so_far.1 at c.in-Err.ensures);
         },
       );
-    })
+    }
