@@ -8,6 +8,7 @@ ghost use Rattle.uses.specs.Building.{HasNoResultTexts, IsMemory, IsResultMessag
 use lis_field::{Component, Delimiters, Field, Kind, Record, Repeat};
 use lis_message::{Message, MessageFault, Records, Texts, TextsFault, message_texts};
 use std::alloc::{AllocError, Global};
+use std::mem::drop;
 use thiserror::Error;
 
 /// Why there is nothing to send.
@@ -66,5 +67,8 @@ pub fn result_texts(alloc: Global, sample: &[u8], value: &[u8]) -> Result<Texts,
     ensures err { IfErr result (HasNoResultTexts sample.now value.now) }
 {
     let message = result_message(alloc, sample, value)?;
-    message_texts(alloc, &message).map_err(BuildFault::Texts)
+    let texts = message_texts(alloc, &message).map_err(BuildFault::Texts);
+    // By a call: what ends in place is let go of part by part, and the proof goes over each of them.
+    drop(message);
+    texts
 }
