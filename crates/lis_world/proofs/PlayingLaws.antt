@@ -1,6 +1,7 @@
 -- What the program that plays events keeps is the computer's side of the definition.
 use Rattle.std.proofs.Common.{IsOk, ◌≡◌, ◌≢◌, ℕ, suc, ◌+◌, Bool, true, false, List, [], ◌∷◌, Option, None, Some, OnOk}
-use Rattle.std.proofs.Common.{drop, refl, sym, ap, ◌∙◌, subst, arith}
+use Rattle.std.proofs.Common.{◌++◌, drop, refl, sym, ap, ◌∙◌, subst, arith}
+use Rattle.std.specs.Option.{option_to_list}
 use Rattle.std.specs.Prelude.{Result, Ok, Err}
 use Rattle.lis_text.specs.Control.{ENQ, EOT}
 use Rattle.lis_frame.specs.declared.scanner.SignalOf.{SignalOf}
@@ -386,10 +387,19 @@ desk_world limit was now desk r after same is_desk =
       }) is_desk.desk_is;
     })
 
+-- the units before the front one left
+pub front_left :
+    {units rest : List Travelling} {front : Option Travelling} {unit : Travelling}
+    → units ≡ option_to_list front ++ rest
+    → front ≡ Some unit
+    → units ≡ unit ∷ rest
+front_left {rest = rest} left some = left ∙ ap (λ front. option_to_list front ++ rest) some
+
 -- and where the front unit has left the link, and what it caused is settled
 pub settled_world :
-    {A E : Type 0} (outcome : Result A E) (limit : ℕ) (was new : KeptWorld) (desk : KeptDesk) (meant : Desk)
-    (units : List Travelling) (r : ReceiverState)
+    {A E : Type 0} (outcome : Result A E) (limit : ℕ) {was now : KeptWorld} (new : KeptWorld) (desk : KeptDesk)
+    (meant : Desk) (units : List Travelling) (r : ReceiverState)
+    → was ≡ now
     → IsDesk limit desk meant
     → OnOk outcome (new ≡ record was {
       desk = record desk { replies = [] };
@@ -398,8 +408,8 @@ pub settled_world :
       mute = lowered was.mute;
     })
     → OnOk outcome (IsWorld limit new (settled units meant (world_at was r)))
-settled_world (Err fault) limit was new desk meant units r is_desk new_is = tt
-settled_world (Ok done) limit was new desk meant units r is_desk new_is =
+settled_world (Err fault) limit new desk meant units r same is_desk new_is = tt
+settled_world (Ok done) limit {was} new desk meant units r same is_desk new_is =
     rw new_is (record {
       receiver_is = is_desk.receiver_is;
       world_is = ap (λ (d : Desk). settled units d (world_at was r)) is_desk.desk_is;

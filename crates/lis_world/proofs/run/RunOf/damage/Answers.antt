@@ -1,9 +1,8 @@
-use Rattle.std.proofs.Common.{◌≡◌, ◌++◌, sym, ap, ◌∙◌, true}
-use Rattle.std.specs.Option.{option_to_list}
+use Rattle.std.proofs.Common.{◌≡◌, sym, ap, ◌∙◌, true}
 use Rattle.lis_frame.specs.Stream.{signals_after}
 use Rattle.lis_world.specs.Steps.{is_noticed}
 use Rattle.lis_world.specs.inside.Playing.{KeptWorld, front_noticed}
-use Rattle.lis_world.proofs.PlayingLaws.{settled_world, unnoticed_world}
+use Rattle.lis_world.proofs.PlayingLaws.{front_left, settled_world, unnoticed_world}
 use Rattle.lis_world.proofs.run.RunOf.damage.Goals as goal
 
 pub returns-then-not-notices : goal.returns-then-not-notices
@@ -13,16 +12,7 @@ returns-then-not-notices g c r is_in =
 
 pub returns : goal.returns
 returns g c r is_in =
-    let rest = c.pop_front.new.self.items in
-    let units = c.pop_front.ensures.items ∙ ap (λ front. option_to_list front ++ rest) c.in-Some.is in
-    let was : KeptWorld = record {
-      sender = c.self.inside.sender;
-      desk = c.self.inside.desk;
-      units = c.self.inside.units.items;
-      replies = c.self.inside.replies.items;
-      mute = c.self.inside.mute;
-      current = c.self.inside.current;
-    } in
+    let units = front_left c.pop_front.ensures.items c.in-Some.is in
     let signals = signals_after g.row.N r.past c.args.bytes.now in
     let noticed : is_noticed c.in-Some.unit.load signals ≡ true =
     sym (c.notices.ensures r is_in
@@ -30,4 +20,4 @@ returns g c r is_in =
     (ap (λ (kept : KeptWorld). kept.units) (sym c.self.view_is) ∙ units)) ∙ c.if-not-notices.false in
     let heard = rw c.in_ok-damage.was at (c.damage.ensures r (rw (← c.self.view_is) at is_in) noticed) in
     rw (← c.self.view_is, units, noticed)
-    (settled_world c.settle.result g.row.N was c.settle.new.self c.damage.new.self _ rest r heard c.settle.ensures)
+    (settled_world c.settle.result g.row.N _ c.damage.new.self _ _ r c.self.view_is heard c.settle.ensures)
