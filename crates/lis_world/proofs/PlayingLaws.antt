@@ -373,11 +373,13 @@ played limit kept left goal playing none =
 
 -- where the computer's side alone has changed
 pub desk_world :
-    (limit : ℕ) (was now : KeptWorld) (desk : KeptDesk) (r after : ReceiverState)
+    {limit : ℕ} {was now : KeptWorld} {desk : KeptDesk} {r after : ReceiverState}
     → was ≡ now
-    → IsDesk limit desk (record (desk_at was.desk r) { receiver = after })
+    → (IsIn limit was.desk.receiver r → IsDesk limit desk (record (desk_at was.desk r) { receiver = after }))
+    → IsIn limit now.desk.receiver r
     → IsWorld limit (record was { desk = desk }) (record (world_at now r) { receiver = after })
-desk_world limit was now desk r after same is_desk =
+desk_world {was = was} {r = r} same heard is_in =
+    let is_desk = heard (rw (← same) at is_in) in
     rw (← same) (record {
       receiver_is = is_desk.receiver_is;
       world_is = ap (λ (d : Desk). record (world_at was r) {
