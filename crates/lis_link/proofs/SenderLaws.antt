@@ -9,10 +9,11 @@ use Rattle.lis_frame.specs.Frame.{FrameContent}
 use Rattle.lis_frame.specs.Limit.{IsLimit}
 use Rattle.lis_frame.specs.Pieces.{session_frames}
 use Rattle.lis_link.specs.declared.sender.EmitOf.TheVariants.{Nothing, Nak, Frame}
-use Rattle.lis_link.specs.declared.sender.Outcome.TheVariants.{Done, SixTries}
+use Rattle.lis_link.specs.declared.sender.Outcome.{Outcome}
+use Rattle.lis_link.specs.declared.sender.Outcome.TheVariants.{SixTries}
 use Rattle.lis_link.specs.declared.sender.Phase.{Phase}
 use Rattle.lis_link.specs.declared.sender.Phase.TheVariants.{Neutral, AwaitLine, Busy, Contention, AwaitReply}
-use Rattle.lis_link.specs.inside.Queue.{Queue, IsSender, StandsBehind, frames_of, first_frame}
+use Rattle.lis_link.specs.inside.Queue.{Queue, IsSender, PhaseFits, StandsBehind, frames_of, first_frame}
 use Rattle.lis_link.specs.Sender.{SenderState, gives, ends, sends_first, sends_again, reply_in}
 use Rattle.lis_link.proofs.Counting.{few-session_frames}
 use Rattle.lis_link.proofs.StartLaws.{Faultless, texts-faultless}
@@ -56,6 +57,34 @@ advanced_sender limit queue next acknowledged phase tries h below texts_are left
       few_tries = h.few_tries;
     }
 
+-- a sender that has neither counted nor let go of a frame
+pub kept_sender :
+    {limit : ℕ} {queue : Option Queue} {acknowledged tries again : ℕ} {phase next : Phase}
+    → IsSender limit queue acknowledged phase tries
+    → PhaseFits next acknowledged (length (frames_of limit queue))
+    → again ≤ 6
+    → IsSender limit queue acknowledged next again
+kept_sender was fits few_tries =
+    record { is_limit = was.is_limit; stands = was.stands; few = was.few; fits = fits; few_tries = few_tries }
+
+-- how many frames are acknowledged, by the phase that a sender is in
+pub fits_now :
+    {limit : ℕ} {queue : Option Queue} {acknowledged tries : ℕ} {phase is : Phase} {outcome : Option Outcome}
+    {now : SenderState}
+    → IsSender limit queue acknowledged phase tries
+    → record {
+      frames = frames_of limit queue;
+      acknowledged = acknowledged;
+      phase = phase;
+      tries = tries;
+      outcome = outcome;
+    } ≡ now
+    → phase ≡ is
+    → PhaseFits is now.acknowledged (length now.frames)
+fits_now {limit} {queue} {acknowledged} {is = is} h view_is phase_is =
+    subst (λ (s : SenderState). PhaseFits is s.acknowledged (length s.frames)) view_is
+    (subst (λ p. PhaseFits p acknowledged (length (frames_of limit queue))) phase_is h.fits)
+
 -- the first of the frames behind so many, and that those are then fewer than all
 pub first-after_all : (n : ℕ) → first_frame (drop n []) ≡ None
 first-after_all zero = refl
@@ -89,13 +118,13 @@ left-frames limit (Some queue) at acknowledged is stands =
     let same : at ≡ queue = cc in
     ap (λ (q : Queue). q.left) same ∙ stands
 
--- what is sent, by the first frame that is left
-pub sends-none :
-    {limit : ℕ} (frames : List FrameContent) (s : SenderState)
+-- what is sent, by the first frame that is left: nothing of a frame where none is
+pub none_left :
+    {A : Type 0} (f : List FrameContent → A) (frames : List FrameContent)
     → first_frame frames ≡ None
-    → sends_first {limit = limit} frames s ≡ ends Done s
-sends-none [] s none = refl
-sends-none (frame ∷ frames) s none = absurd (cc)
+    → f frames ≡ f []
+none_left f [] none = refl
+none_left f (frame ∷ frames) none = absurd (cc)
 
 pub sends-some :
     {limit : ℕ} (frames : List FrameContent) (frame : FrameContent) (s : SenderState)
@@ -111,13 +140,6 @@ sends-any_phase [] phase s = refl
 sends-any_phase (frame ∷ frames) phase s = refl
 
 -- and what is sent again
-pub again-none :
-    {limit : ℕ} (frames : List FrameContent) (s : SenderState)
-    → first_frame frames ≡ None
-    → sends_again {limit = limit} frames s ≡ gives Nothing s
-again-none [] s none = refl
-again-none (frame ∷ frames) s none = absurd (cc)
-
 pub again-below :
     {limit : ℕ} (frames : List FrameContent) (frame : FrameContent) (s : SenderState)
     → first_frame frames ≡ Some frame

@@ -1,28 +1,22 @@
-use Rattle.std.proofs.Common.{◌∙◌, sym, ap, rules, drop}
+use Rattle.std.proofs.Common.{◌∙◌, sym, ap, drop, arith}
 use Rattle.lis_link.specs.declared.sender.Phase.TheVariants.{AwaitReply}
 use Rattle.lis_link.specs.inside.Queue.{frames_of, first_frame}
-use Rattle.lis_link.specs.Sender.{SenderState, SenderStep}
-use Rattle.lis_link.proofs.SenderLaws.{sends-none, sends-some, first-below}
+use Rattle.lis_link.specs.Sender.{SenderState, SenderStep, sends_first}
+use Rattle.lis_link.proofs.SenderLaws.{kept_sender, none_left, sends-some, first-below}
 use Rattle.lis_link.proofs.sender.SenderOver.send.Goals as goal
 
 pub invariant_of-self : goal.invariant_of-self
 invariant_of-self g c =
-    let was = c.self.invariant in
-    record {
-      is_limit = was.is_limit;
-      stands = was.stands;
-      few = was.few;
-      fits = first-below c.self.inside.acknowledged (frames_of g.row.N c.self.inside.queue) c.in-Some.frame
-          (ap (λ (s : SenderState). first_frame (drop s.acknowledged s.frames)) c.self.view_is
-          ∙ sym c.present.ensures ∙ c.in-Some.is);
-      few_tries = search rules;
-    }
+    kept_sender c.self.invariant
+    (first-below c.self.inside.acknowledged (frames_of g.row.N c.self.inside.queue) c.in-Some.frame
+    (ap (λ (s : SenderState). first_frame (drop s.acknowledged s.frames)) c.self.view_is
+    ∙ sym c.present.ensures ∙ c.in-Some.is))
+    (omega arith)
 
 pub returns-in-None : goal.returns-in-None
 returns-in-None g c =
-    let now = c.args.self.now in
-    let step = sends-none {limit = g.row.N} (drop now.acknowledged now.frames) now
-    (sym c.present.ensures ∙ c.in-None.is) in
+    let none = sym c.present.ensures ∙ c.in-None.is in
+    let step = none_left (λ frames. sends_first {limit = g.row.N} frames c.args.self.now) _ none in
     record {
       emit = c.end.ensures.emit ∙ ap (λ (s : SenderStep g.row.N). s.emit) (sym step);
       after = c.end.ensures.after ∙ ap (λ (s : SenderStep g.row.N). s.after) (sym step);

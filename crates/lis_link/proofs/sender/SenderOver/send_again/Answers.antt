@@ -1,24 +1,15 @@
 use Rattle.std.proofs.Common.{◌≡◌, ◌∙◌, ◌<◌, ◌≤◌, ◌+◌, sym, ap, drop, arith}
-use Rattle.lis_link.specs.Sender.{SenderState, SenderStep}
-use Rattle.lis_link.proofs.SenderLaws.{again-none, again-below, again-last}
+use Rattle.lis_link.specs.Sender.{SenderState, SenderStep, sends_again}
+use Rattle.lis_link.proofs.SenderLaws.{kept_sender, none_left, again-below, again-last}
 use Rattle.lis_link.proofs.sender.SenderOver.send_again.Goals as goal
 
 pub invariant_of-self : goal.invariant_of-self
-invariant_of-self g c =
-    let was = c.self.invariant in
-    record {
-      is_limit = was.is_limit;
-      stands = was.stands;
-      few = was.few;
-      fits = was.fits;
-      few_tries = omega arith;
-    }
+invariant_of-self g c = kept_sender c.self.invariant c.self.invariant.fits (omega arith)
 
 pub returns-in_default : goal.returns-in_default
 returns-in_default g c =
-    let now = c.args.self.now in
-    let step = again-none {limit = g.row.N} (drop now.acknowledged now.frames) now
-    (sym c.present.ensures ∙ c.in_default.is) in
+    let none = sym c.present.ensures ∙ c.in_default.is in
+    let step = none_left (λ frames. sends_again {limit = g.row.N} frames c.args.self.now) _ none in
     record {
       emit = ap (λ (s : SenderStep g.row.N). s.emit) (sym step);
       after = ap (λ (s : SenderStep g.row.N). s.after) (sym step);
