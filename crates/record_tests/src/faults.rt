@@ -8,13 +8,6 @@ use std::fmt::Display;
 use std::mem::drop;
 use std::process::Abort;
 
-/// Fails where a fault says something else of itself.
-fn assert_says<T: Display>(rt: &impl Abort, alloc: Global, fault: &T, want: &str) {
-    let told = format!(in alloc; "{fault}").expect(rt, "memory");
-    assert!(rt; told.as_str() == want);
-    drop(told);
-}
-
 #[test]
 fn faults_of_delimiters_say_what_is_wrong(rt: HostRuntime) {
     let alloc = rt.alloc();
@@ -98,4 +91,11 @@ fn faults_of_writing_say_what_is_wrong(rt: HostRuntime) {
     let many = "the message has more than 65536 records";
     assert_says(&rt, alloc, &TextsFault::TooMany, many);
     assert_says(&rt, alloc, &TextsFault::OutOfMemory, "memory was refused");
+}
+
+/// Fails where a fault says something else of itself.
+fn assert_says<T: Display>(rt: &impl Abort, alloc: Global, fault: &T, want: &str) {
+    let told = format!(in alloc; "{fault}").expect(rt, "memory");
+    assert!(rt; told.as_str() == want);
+    drop(told);
 }
