@@ -405,7 +405,11 @@ failed_waited false ready = absurd (ready refl)
 module _
     {stands : List ℕ → List ℕ → Type 0} {left_old left a b : Option (List ℕ)} {waits : List ℕ} {written turn : ℕ}
     (s : IsSoFar stands left_old left a b waits written turn) where
-  -- each read but the last gave a byte
+  -- each read gave a byte
+  pub gave_so_far : {made : ℕ} → made ≤ turn → EachGave left_old left made
+  gave_so_far bound = (s.bytes, s.read, omega (arith, s.each_gave, bound))
+
+  -- each but the last did
   pub gave : (left_new : Option (List ℕ)) (more : List ℕ) {made : ℕ} → Consumes left left_new more → made ≤ turn + 1
       → EachGave left_old left_new made
   gave left_new more read bound = (

@@ -7,7 +7,7 @@ ghost use Rattle.hex.specs.Hex.{encode_lower};
 ghost use Rattle.lis_capture.specs.declared.page.TheConstants.{PAGE_ROOM};
 ghost use Rattle.lis_run.specs.Output.{Gathered, PartWentOut, Put, out};
 
-use crate::fault::ToolFault;
+use crate::fault::Written;
 use crate::output::{put, send};
 use itoa::Buffer;
 use lis_capture::Page;
@@ -22,11 +22,7 @@ pub(crate) const NUMBER_ROOM: usize = 40;
 /// Puts out the page, behind `written` bytes of this run, and lets go of it.
 // It is seldom called, and within the loops of its callers it would take their registers.
 #[inline(never)]
-pub(crate) fn put_page<W: Sink>(
-    sink: &mut W,
-    page: &mut Page,
-    written: u64,
-) -> Result<u64, ToolFault>
+pub(crate) fn put_page<W: Sink>(sink: &mut W, page: &mut Page, written: u64) -> Written
     requires { W.failed sink.old ≡ false }
     ensures put { Put (W.taken sink.old) (W.taken sink.new) written result page.old }
     ensures empty { page.new ≡ [] }
@@ -38,11 +34,7 @@ pub(crate) fn put_page<W: Sink>(
 }
 
 /// Puts out the page, behind `written` bytes of this run, and sends on all that went out.
-pub(crate) fn send_page<W: Sink>(
-    sink: &mut W,
-    page: &mut Page,
-    written: u64,
-) -> Result<u64, ToolFault>
+pub(crate) fn send_page<W: Sink>(sink: &mut W, page: &mut Page, written: u64) -> Written
     requires { W.failed sink.old ≡ false }
     ensures ok { IfOk result (λ after. Put (W.taken sink.old) (W.taken sink.new) written (Ok after) page.old) }
     ensures sent { OnOk result (W.sent sink.new ≡ W.taken sink.new) }
@@ -66,7 +58,7 @@ pub(crate) fn send_page_before_a_wait<R: Source, W: Sink>(
     sink: &mut W,
     page: &mut Page,
     written: u64,
-) -> Result<u64, ToolFault>
+) -> Written
     requires { W.failed sink.old ≡ false }
     ensures gathered { IfOk result (λ after. Gathered (out (W.taken sink.old) page.old)
         (out (W.taken sink.new) page.new) written (Ok after) []) }
@@ -93,14 +85,14 @@ pub(crate) fn read_settled<R: Source, W: Sink>(
     requires unfailed { R.failed source.old ≡ false }
     requires room { 0 < length buffer.old }
     requires countable { R.made source.old < 4294967295 }
-    requires sent { R.may_wait source.old ≡ true → W.sent sink.now ≡ W.taken sink.now }
     requires empty { R.may_wait source.old ≡ true → _page.now ≡ [] }
+    requires sent { R.may_wait source.old ≡ true → W.sent sink.now ≡ W.taken sink.now }
+    ensures ready { R.may_wait source.old ≡ false → MatchResult result (λ n. 0 < n) (λ _. ⊥) }
     ensures bound { IfOk result (λ n. n ≤ length buffer.new) }
     ensures bytes { ReadConsumes (R.left source.old) (R.left source.new) result buffer.new }
     ensures made { R.made source.new ≡ R.made source.old + 1 }
     ensures failed { R.failed source.new ≡ is_err result }
     ensures ended { IsTrue (R.ended source.new) ↔ (result ≡ Ok 0) }
-    ensures ready { R.may_wait source.old ≡ false → MatchResult result (λ n. 0 < n) (λ _. ⊥) }
 {
     read_sent(source, sink, buffer)
 }
@@ -112,7 +104,7 @@ pub(crate) fn make_room<W: Sink>(
     page: &mut Page,
     written: u64,
     count: usize,
-) -> Result<u64, ToolFault>
+) -> Written
     requires working { W.failed sink.old ≡ false }
     requires fits { count ≤ PAGE_ROOM }
     ensures gathered { Gathered (out (W.taken sink.old) page.old) (out (W.taken sink.new) page.new) written result [] }
@@ -143,7 +135,7 @@ pub(crate) fn gather_chunk<W: Sink>(
     page: &mut Page,
     written: u64,
     bytes: &[u8],
-) -> Result<u64, ToolFault>
+) -> Written
     requires working { W.failed sink.old ≡ false }
     requires short { length bytes.now ≤ CHUNK }
     ensures gathered { Gathered (out (W.taken sink.old) page.old) (out (W.taken sink.new) page.new) written result

@@ -17,7 +17,7 @@ mod upgrade;
 
 pub use fault::ToolFault;
 pub use lines::{LineMachine, Lines};
-pub use machine::{Halt, Machine, Turn, run};
+pub use machine::{Fate, Halt, Machine, Turn, run};
 pub use ports::SourceFor;
 pub use replay::{run_replay, run_replay_of};
 pub use report::{Ended, Refused, Report, status_of};

@@ -13,7 +13,7 @@ ghost use Rattle.lis_run.specs.Runs.{AreFresh, Stops};
 ghost use Rattle.std.proofs.Common.{ap, sym, ◌∙◌};
 
 use crate::fault::ToolFault;
-use crate::machine::{Halt, Machine, Turn};
+use crate::machine::{Fate, Halt, Machine, Turn};
 use crate::ports::SourceFor;
 use crate::report::Ended;
 use lis_capture::{Found, Line, LineReader, MOST_BYTES, Page};
@@ -44,7 +44,7 @@ pub trait LineMachine: Drop {
         number: u64,
         line: &Line<'a>,
         room: &'a mut [u8; MOST_BYTES],
-    ) -> Result<Turn, ToolFault>
+    ) -> Fate
         requires { W.failed sink.old ≡ false }
         ensures steps { (lines : List LineContent) → stands self.old lines → number ≡ length lines + 1
             → number < 2 ^ 44 →
@@ -100,12 +100,7 @@ impl<C: LineMachine> Lines<C> {
 
     /// The command takes the line that was read last.
     #[inline(always)]
-    fn take_line<W: Sink>(
-        &mut self,
-        sink: &mut W,
-        page: &mut Page,
-        written: u64,
-    ) -> Result<Turn, ToolFault>
+    fn take_line<W: Sink>(&mut self, sink: &mut W, page: &mut Page, written: u64) -> Fate
         requires { W.failed sink.old ≡ false }
         ensures steps { (lines : List LineContent) → C.stands self.old.command lines
             → self.old.reader.known.number ≡ length lines + 1 →
@@ -152,13 +147,7 @@ impl<C: LineMachine> Machine for Lines<C> {
         ∙ sym (ap (λ (refused : Bool). lines_outcome C.writes refused false
         (capture (stream_with [] bytes) false).lines) lined.fine) };
 
-    fn feed<W: Sink>(
-        &mut self,
-        sink: &mut W,
-        page: &mut Page,
-        written: u64,
-        bytes: &[u8],
-    ) -> Result<Turn, ToolFault> {
+    fn feed<W: Sink>(&mut self, sink: &mut W, page: &mut Page, written: u64, bytes: &[u8]) -> Fate {
         let mut rest = bytes;
         let mut after = written;
         while !rest.is_empty() {

@@ -34,6 +34,9 @@ pub enum Turn {
     Off(Halt),
 }
 
+/// What becomes of a run after a step, or why it stopped there.
+pub type Fate = Result<Turn, ToolFault>;
+
 /// A command. It is fed with the bytes that are read, and writes what they come to.
 pub trait Machine: Drop {
     // What bytes come to, from the first on, where the end of the input was told or wasn't.
@@ -53,13 +56,7 @@ pub trait Machine: Drop {
 
     /// Takes bytes that were read, behind `written` bytes of the run, and gathers what they come to on the page.
     /// Where the sink fails, or memory is refused, it is a part of the text of all these bytes.
-    fn feed<W: Sink>(
-        &mut self,
-        sink: &mut W,
-        page: &mut Page,
-        written: u64,
-        bytes: &[u8],
-    ) -> Result<Turn, ToolFault>
+    fn feed<W: Sink>(&mut self, sink: &mut W, page: &mut Page, written: u64, bytes: &[u8]) -> Fate
         requires { W.failed sink.old ≡ false }
         ensures steps { (past text : List ℕ) → stands self.old past text → length past + length bytes.now < 2 ^ 44 →
             Steps refuses takes_memory (stands self.new (past ++ bytes.now)) (means (past ++ bytes.now) false)
@@ -144,7 +141,7 @@ fn feed_page<M: Machine, W: Sink>(
     page: &mut Page,
     written: u64,
     bytes: &[u8],
-) -> Result<Turn, ToolFault>
+) -> Fate
     requires { W.failed sink.old ≡ false }
     ensures steps { (past text : List ℕ) → M.stands machine.old past text → length past + length bytes.now < 2 ^ 44 →
         Steps M.refuses M.takes_memory (M.stands machine.new (past ++ bytes.now)) (M.means (past ++ bytes.now) false)

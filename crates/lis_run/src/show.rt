@@ -14,9 +14,9 @@ ghost use Rattle.lis_run.specs.Outcome.{going};
 ghost use Rattle.lis_run.specs.Parts.{part_text, text_if_any};
 ghost use Rattle.std.proofs.Common.{ap};
 
-use crate::fault::ToolFault;
+use crate::fault::{ToolFault, Written};
 use crate::gather::{append_number, make_room};
-use crate::machine::{Halt, Machine, Turn};
+use crate::machine::{Fate, Halt, Machine, Turn};
 use crate::ports::SourceFor;
 use crate::report::{Ended, Report};
 use crate::tell::{Part, Tell};
@@ -93,13 +93,7 @@ impl<const N: usize> Machine for Show<N> {
 
     ghost goes_on = { λ m bytes text stood. ap going stood.0 };
 
-    fn feed<W: Sink>(
-        &mut self,
-        sink: &mut W,
-        page: &mut Page,
-        written: u64,
-        bytes: &[u8],
-    ) -> Result<Turn, ToolFault> {
+    fn feed<W: Sink>(&mut self, sink: &mut W, page: &mut Page, written: u64, bytes: &[u8]) -> Fate {
         match show_bytes(&mut self.scanner, sink, page, written, bytes) {
             Ok(after) => Ok(Turn::On(after)),
             Err(fault) => Err(fault),
@@ -130,7 +124,7 @@ fn show_bytes<const N: usize, W: Sink>(
     page: &mut Page,
     written: u64,
     bytes: &[u8],
-) -> Result<u64, ToolFault>
+) -> Written
     requires { W.failed sink.old ≡ false }
     ensures gathered { (past : List ℕ) → StandsFor N scanner.old past →
         Gathered (out (W.taken sink.old) page.old) (out (W.taken sink.new) page.new) written result
@@ -163,7 +157,7 @@ fn tell_lent<W: Sink>(
     page: &mut Page,
     written: u64,
     frame: Option<LentFrame<'_>>,
-) -> Result<u64, ToolFault>
+) -> Written
     requires { W.failed sink.old ≡ false }
     ensures gathered { Gathered (out (W.taken sink.old) page.old) (out (W.taken sink.new) page.new) written result
         (text_if_any frame_line frame.entry) }
@@ -182,7 +176,7 @@ fn show_byte<const N: usize, W: Sink>(
     page: &mut Page,
     written: u64,
     byte: u8,
-) -> Result<u64, ToolFault>
+) -> Written
     requires { W.failed sink.old ≡ false }
     ensures gathered { (past : List ℕ) → StandsFor N scanner.old past →
         Gathered (out (W.taken sink.old) page.old) (out (W.taken sink.new) page.new) written result
@@ -203,7 +197,7 @@ fn show_byte<const N: usize, W: Sink>(
 impl Tell for Heard<'_> {
     ghost text = { heard_line };
 
-    fn tell<W: Sink>(&self, sink: &mut W, page: &mut Page, written: u64) -> Result<u64, ToolFault> {
+    fn tell<W: Sink>(&self, sink: &mut W, page: &mut Page, written: u64) -> Written {
         match self {
             Heard::Enq => Part::Text(b"ENQ\n").tell(sink, page, written),
             Heard::Eot => Part::Text(b"EOT\n").tell(sink, page, written),
@@ -217,7 +211,7 @@ impl Tell for Heard<'_> {
 impl Tell for LentFrame<'_> {
     ghost text = { frame_line };
 
-    fn tell<W: Sink>(&self, sink: &mut W, page: &mut Page, written: u64) -> Result<u64, ToolFault> {
+    fn tell<W: Sink>(&self, sink: &mut W, page: &mut Page, written: u64) -> Written {
         let digits = digits_part(self.text());
         ((FrameStart(self), digits), Part::Text(b"\n")).tell(sink, page, written)
     }
@@ -231,7 +225,7 @@ impl Tell for FrameStart<'_> {
     ghost text = { λ start. frame_start start.0.now.number start.0.now.last ++ decimal (length start.0.now.text) };
 
     #[inline(always)]
-    fn tell<W: Sink>(&self, sink: &mut W, page: &mut Page, written: u64) -> Result<u64, ToolFault> {
+    fn tell<W: Sink>(&self, sink: &mut W, page: &mut Page, written: u64) -> Written {
         let FrameStart(frame) = self;
         let after = match make_room(sink, page, written, FRAME_ROOM) {
             Ok(after) => after,
@@ -273,7 +267,7 @@ fn digits_part(bytes: &[u8]) -> Option<(Part<'_>, Part<'_>)>
 impl Tell for FrameFault {
     ghost text = { bad_line };
 
-    fn tell<W: Sink>(&self, sink: &mut W, page: &mut Page, written: u64) -> Result<u64, ToolFault> {
+    fn tell<W: Sink>(&self, sink: &mut W, page: &mut Page, written: u64) -> Written {
         match self {
             FrameFault::TooLong => Part::Text(b"bad F1\n").tell(sink, page, written),
             FrameFault::Shape => Part::Text(b"bad F2\n").tell(sink, page, written),

@@ -4,8 +4,8 @@ use Rattle.lis_run.specs.Outcome.{going}
 use Rattle.lis_run.specs.Output.{out}
 use Rattle.lis_run.proofs.GatherLaws.{gathered_nothing, gathered_sent, gathered_then}
 use Rattle.lis_run.proofs.RunLaws.{consumes_none, consumes_kept, failed_not_ended, failed_waited, fails_ran, gave}
-use Rattle.lis_run.proofs.RunLaws.{halted_stops, halts_ran, no_end, read_end, read_more, so_far_out, so_far_settled}
-use Rattle.lis_run.proofs.RunLaws.{either, is_end, waited, well_at_end}
+use Rattle.lis_run.proofs.RunLaws.{gave_so_far, halted_stops, halts_ran, no_end, read_end, read_more, so_far_out}
+use Rattle.lis_run.proofs.RunLaws.{either, is_end, so_far_settled, waited, well_at_end}
 use Rattle.lis_run.proofs.RunLaws.{put_failed, part_failed, unended, unsent_ran, well_early, write_stops}
 use Rattle.lis_run.proofs.machine.run.Goals as goal
 
@@ -73,8 +73,7 @@ returns-in-Err-clause-stops g c =
 
 pub returns-in-Err-clause-each_gave : goal.returns-in-Err-clause-each_gave
 returns-in-Err-clause-each_gave g c =
-    let s = c.loop-turn.invariant.so_far in
-    (s.bytes, s.read, omega (arith, s.each_gave, c.loop-turn.invariant.made))
+    gave_so_far c.loop-turn.invariant.so_far (omega (arith, c.loop-turn.invariant.made))
 
 -- ---- what a read asks for
 
@@ -159,6 +158,12 @@ returns-in-Ok-end_page-clause-stops g c =
     (λ ended. reading.bytes.1 c.if-count-eq0.true (omega (arith, c.read_settled.auto.buffer)))
     (omega (arith, reading.made, c.loop-turn.invariant.made, c.loop-turn-test.true))
 
+pub returns-in-Ok-end_page-clause-each_gave : goal.returns-in-Ok-end_page-clause-each_gave
+returns-in-Ok-end_page-clause-each_gave g c =
+    let s = c.loop-turn.invariant.so_far in
+    let reading = c.in-Ok-read_settled.ensures in
+    gave s _ _ reading.bytes.0 (omega (arith, c.loop-turn.invariant.made, reading.made))
+
 pub returns-in-Err-end_page-clause-ran : goal.returns-in-Err-end_page-clause-ran
 returns-in-Err-end_page-clause-ran g c =
     let s = c.loop-turn.invariant.so_far in
@@ -174,15 +179,11 @@ returns-in-Err-end_page-clause-stops g c =
     let s = c.loop-turn.invariant.so_far in
     let reading = c.in-Ok-read_settled.ensures in
     let fails = c.in-Err-end_page.ensures.ends s.bytes s.text s.stood (omega (arith, s.short)) in
-    write_stops (put_failed _ _ _ _ _ fails.put) (λ closes. unended refl (sym (c.in-Err-end_page.ensures.silent closes).0))
-    reading.failed c.in-Err-end_page.ensures.failed
+    write_stops (put_failed _ _ _ _ _ fails.put)
+    (λ closes. unended refl (sym (c.in-Err-end_page.ensures.silent closes).0)) reading.failed
+    c.in-Err-end_page.ensures.failed
     (λ ended. reading.bytes.1 c.if-count-eq0.true (omega (arith, c.read_settled.auto.buffer)))
     (omega (arith, reading.made, c.loop-turn.invariant.made, c.loop-turn-test.true))
-
-pub returns-in-Ok-end_page-clause-each_gave : goal.returns-in-Ok-end_page-clause-each_gave
-returns-in-Ok-end_page-clause-each_gave g c =
-    gave c.loop-turn.invariant.so_far _ _ c.in-Ok-read_settled.ensures.bytes.0
-    (omega (arith, c.loop-turn.invariant.made, c.in-Ok-read_settled.ensures.made))
 
 pub returns-in-Err-end_page-clause-each_gave : goal.returns-in-Err-end_page-clause-each_gave
 returns-in-Err-end_page-clause-each_gave g c =
@@ -221,6 +222,12 @@ returns-in-Ok-Off-clause-stops g c =
     c.in-Ok-read_settled.ensures.failed (c.halted-in-Ok-Off.ensures.sent refl) (λ ended. cc)
     (omega (arith, c.in-Ok-read_settled.ensures.made, c.loop-turn.invariant.made, c.loop-turn-test.true))
 
+pub returns-in-Ok-Off-clause-each_gave : goal.returns-in-Ok-Off-clause-each_gave
+returns-in-Ok-Off-clause-each_gave g c =
+    let is = c.loop-turn.invariant in
+    let reading = c.in-Ok-read_settled.ensures in
+    gave is.so_far _ _ reading.bytes.0 (omega (arith, is.made, reading.made))
+
 pub returns-in-Err-feed_page-clause-ran : goal.returns-in-Err-feed_page-clause-ran
 returns-in-Err-feed_page-clause-ran g c =
     let s = c.loop-turn.invariant.so_far in
@@ -239,23 +246,18 @@ returns-in-Err-feed_page-clause-stops g c =
     write_stops (put_failed _ _ _ _ _ fails.put) (λ closes. going) reading.failed c.in-Err-feed_page.ensures.failed
     (unended going) (omega (arith, reading.made, c.loop-turn.invariant.made, c.loop-turn-test.true))
 
-pub returns-in-Ok-Off-clause-each_gave : goal.returns-in-Ok-Off-clause-each_gave
-returns-in-Ok-Off-clause-each_gave g c =
-    gave c.loop-turn.invariant.so_far _ _ c.in-Ok-read_settled.ensures.bytes.0
-    (omega (arith, c.loop-turn.invariant.made, c.in-Ok-read_settled.ensures.made))
-
 pub returns-in-Err-feed_page-clause-each_gave : goal.returns-in-Err-feed_page-clause-each_gave
 returns-in-Err-feed_page-clause-each_gave g c =
-    gave c.loop-turn.invariant.so_far _ _ c.in-Ok-read_settled.ensures.bytes.0
-    (omega (arith, c.loop-turn.invariant.made, c.in-Ok-read_settled.ensures.made))
+    let reading = c.in-Ok-read_settled.ensures in
+    gave c.loop-turn.invariant.so_far _ _ reading.bytes.0 (omega (arith, c.loop-turn.invariant.made, reading.made))
 
 -- ---- it was read too often
 
 pub returns-clause-ran : goal.returns-clause-ran
 returns-clause-ran g c =
-    let s = c.loop-turn.invariant.so_far in
-    unsent_ran s g.M.Machine.takes_memory g.M.Machine.means c.in-Err-send_page.fault c.loop-turn.invariant.not_ended
-    (g.met.M.Machine.goes_on _ _ _ s.stood) c.in-Err-send_page.ensures.err
+    let is = c.loop-turn.invariant in
+    unsent_ran is.so_far g.M.Machine.takes_memory g.M.Machine.means c.in-Err-send_page.fault is.not_ended
+    (g.met.M.Machine.goes_on _ _ _ is.so_far.stood) c.in-Err-send_page.ensures.err
 
 pub returns-clause-stops : goal.returns-clause-stops
 returns-clause-stops g c =
@@ -264,9 +266,7 @@ returns-clause-stops g c =
     c.in-Err-send_page.ensures.failed (unended is.not_ended) (omega (arith, is.made))
 
 pub returns-clause-each_gave : goal.returns-clause-each_gave
-returns-clause-each_gave g c =
-    let s = c.loop-turn.invariant.so_far in
-    (s.bytes, s.read, omega (arith, s.each_gave, c.loop-turn.invariant.made))
+returns-clause-each_gave g c = gave_so_far c.loop-turn.invariant.so_far (omega (arith, c.loop-turn.invariant.made))
 
 pub returns-in-Ok-send_page-clause-ran : goal.returns-in-Ok-send_page-clause-ran
 returns-in-Ok-send_page-clause-ran g c =
@@ -288,5 +288,4 @@ returns-in-Ok-send_page-clause-ran g c =
 
 pub returns-in-Ok-send_page-clause-each_gave : goal.returns-in-Ok-send_page-clause-each_gave
 returns-in-Ok-send_page-clause-each_gave g c =
-    let s = c.loop-turn.invariant.so_far in
-    (s.bytes, s.read, omega (arith, s.each_gave, c.loop-turn.invariant.made))
+    gave_so_far c.loop-turn.invariant.so_far (omega (arith, c.loop-turn.invariant.made))
