@@ -1,5 +1,6 @@
 -- What is left of a walk, before its next record and behind it.
-use Rattle.std.proofs.Common.{◌≡◌, List, ◌∷◌, [], Option, None, append-nil, refl}
+use Rattle.std.proofs.Common.{◌≡◌, List, ◌∷◌, Option, None, append-nil, length, refl}
+use Rattle.std.proofs.lemmas.List.{nil_from_length}
 use Rattle.lis_field.specs.Shape.{RecordContent}
 use Rattle.lis_tree.specs.Nodes.{Noted, OrderTree, PatientTree}
 use Rattle.lis_tree.specs.declared.tree.Group.{Group}
@@ -18,26 +19,29 @@ module _
   note_next note rest is = rw (no_head, is) refl
 
   -- the next record is the head of a node, and its notes come behind it
-  module _ (no_notes : notes ≡ []) (next : RecordContent) (more : List RecordContent) where
+  module _ (no_notes : length notes ≡ 0) (next : RecordContent) (more : List RecordContent) where
     pub result_next : (entry : Noted) (rest : List Noted) → results ≡ entry ∷ rest → next ≡ entry.head
         → more ≡ entry.notes → left ≡ next ∷ walk_records head more rest orders below closing
-    result_next entry rest is head_is notes_are = rw (no_head, no_notes, is, head_is, notes_are) refl
+    result_next entry rest is head_is notes_are =
+        rw (no_head, nil_from_length notes no_notes, is, head_is, notes_are) refl
 
-    pub order_next : (order : OrderTree) (rest : List OrderTree) (entries : List Noted) → results ≡ []
-        → orders ≡ order ∷ rest → next ≡ order.top.head → more ≡ order.top.notes → entries ≡ order.below
+    pub order_next : (order : OrderTree) (rest : List OrderTree) (entries : List Noted)
+        → length results ≡ 0 → orders ≡ order ∷ rest → next ≡ order.top.head → more ≡ order.top.notes → entries ≡ order.below
         → left ≡ next ∷ walk_records head more entries rest below closing
     order_next order rest entries none is head_is notes_are entries_are =
-        rw (no_head, no_notes, none, is, head_is, notes_are, entries_are) refl
+        rw (no_head, nil_from_length notes no_notes, nil_from_length results none, is, head_is, notes_are, entries_are)
+        refl
 
-    pub patient_next : (patient : PatientTree) (rest : List Group) (new : List OrderTree) → results ≡ [] → orders ≡ []
-        → below ≡ groups.Patient patient ∷ rest → next ≡ patient.top.head → more ≡ patient.top.notes
+    pub patient_next : (patient : PatientTree) (rest : List Group) (new : List OrderTree) → length results ≡ 0
+        → length orders ≡ 0 → below ≡ groups.Patient patient ∷ rest → next ≡ patient.top.head → more ≡ patient.top.notes
         → new ≡ patient.below → left ≡ next ∷ walk_records head more results new rest closing
     patient_next patient rest new none no_orders is head_is notes_are orders_are =
-        rw (no_head, no_notes, none, no_orders, is, head_is, notes_are, orders_are, append-nil) refl
+        rw (no_head, nil_from_length notes no_notes, nil_from_length results none, nil_from_length orders no_orders)
+        (rw (is, head_is, notes_are, orders_are, append-nil) refl)
 
-    pub query_next : (query : Noted) (rest : List Group) → results ≡ [] → orders ≡ []
+    pub query_next : (query : Noted) (rest : List Group) → length results ≡ 0 → length orders ≡ 0
         → below ≡ groups.Query query ∷ rest → next ≡ query.head → more ≡ query.notes
         → left ≡ next ∷ walk_records head more results orders rest closing
     query_next query rest none no_orders is head_is notes_are =
-        rw (no_head, no_notes, none, no_orders, is, head_is, notes_are, append-nil query.notes, append-nil query.notes)
-        refl
+        rw (no_head, nil_from_length notes no_notes, nil_from_length results none, nil_from_length orders no_orders)
+        (rw (is, head_is, notes_are, append-nil query.notes, append-nil query.notes) refl)

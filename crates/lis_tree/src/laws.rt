@@ -17,6 +17,7 @@ pub fn hierarchy()
 
 /// Why a record can't come next, by its place, is why it can't in the standard's words: no message is open, one is
 /// open already, an order has no patient, or a result no order. Any other may (LIS02-A2).
+#[tactic(auto, using(crate::proofs::Refusing::told_viable, crate::proofs::Refusing::refused_viable))]
 pub fn reasons()
     ensures told { (before : List Kind) (k : Kind) (reason : Reason) → IsViable before
         → misplaced (level_after outside before) k ≡ Some reason → IsRefusedFor before k reason }

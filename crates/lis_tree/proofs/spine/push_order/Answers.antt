@@ -22,12 +22,11 @@ returns-clause-records c =
 pub returns-clause-shape : goal.returns-clause-shape
 returns-clause-shape c =
     let patient = c.args.patient.now in
-    let before = sym c.replace.ensures.value ∙ c.in-Some.is in
     let next = is_new c.new-2.result c.new.result c.args.head c.new-2.ensures c.new.ensures in
     IfOk-weaker c.push.result _ _
     (λ u is has below kind. (
       is_more kinds.P IsOrder patient c.push.new.self c.in_ok-whole.whole is has
-          (c.in_ok-whole.ensures.shape (subst (IsBelow patient) before below)),
+          (c.in_ok-whole.ensures.shape (subst (IsBelow patient) (sym c.replace.ensures.value ∙ c.in-Some.is) below)),
       subst (IsBelow c.push.new.self) (sym c.replace.ensures.after) (
         subst IsOrder (sym next) (record { top = record { head = kind; notes = tt }; below = tt }),
         ap (λ (o : OrderTree). o.below) next,
