@@ -86,6 +86,16 @@ was_closed first past now last turn kept so_far more waits = record {
   state = so_far.state;
 }
 
+-- what is done at an event, behind what was done
+done_then : (past now mid last : Option (List Deed)) (before : List Deed) (event : Event) (answer : Step)
+    {is_open after : Bool} → GoesOn past now before → GoesOn now mid (waited event ∷ []) → is_open ≡ after
+    → GoesOn mid last (reply_deeds answer.reply ++ timer_behind answer.note is_open)
+    → GoesOn past last (before ++ deeds_at event answer after)
+done_then past now mid last before event answer {is_open} {after} done waits tells puts =
+    goes_on_then past now last before (deeds_at event answer after) done
+    (goes_on_then now mid last (waited event ∷ []) (reply_deeds answer.reply ++ timer_behind answer.note after) waits
+    (rw tells at puts))
+
 -- a text is whole
 pub was_whole : (first : ReceiverState) (past now mid last : Option (List Deed)) (turn : ℕ) (kept new : Kept)
     (event : Event) (answer : Step) (is_open : Bool)
@@ -100,10 +110,7 @@ was_whole first past now mid last turn kept new event answer is_open so_far more
     let deeds = deeds_at event answer given.after.is_open in
     record {
       deeds = so_far.deeds ++ deeds;
-      done = goes_on_then past now last so_far.deeds deeds so_far.done
-          (goes_on_then now mid last (waited event ∷ [])
-          (reply_deeds answer.reply ++ timer_behind answer.note given.after.is_open) waits
-          (rw (tells given.after given.state) at puts));
+      done = done_then past now mid last so_far.deeds event answer so_far.done waits (tells _ given.state) puts;
       last = given.after;
       reception = so_far.behind (most_events - turn) deeds answer.message given.after (omega (arith, more))
           (whole (most_events - turn - 1) event answer (omega (arith, more)) still given.answer some refl refl);
@@ -124,10 +131,7 @@ goes_on_behind first past now mid last turn kept new event answer is_open so_far
     let deeds = deeds_at event answer given.after.is_open in
     record {
       deeds = so_far.deeds ++ deeds;
-      done = goes_on_then past now last so_far.deeds deeds so_far.done
-          (goes_on_then now mid last (waited event ∷ [])
-          (reply_deeds answer.reply ++ timer_behind answer.note given.after.is_open) waits
-          (rw (tells given.after given.state) at puts));
+      done = done_then past now mid last so_far.deeds event answer so_far.done waits (tells _ given.state) puts;
       r = given.after;
       state = given.state;
       behind = λ left rest text end all is. rw (append_assoc so_far.deeds deeds rest)
