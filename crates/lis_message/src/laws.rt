@@ -19,7 +19,6 @@ ghost use Rattle.lis_message.specs.Writing.{message_bytes, IsWritable};
 
 /// Messages that can be written are read back: the bytes of one are that message, and those of several in a row are cut
 /// into them, with nothing left, and into nothing else.
-#[tactic(auto, using(crate::proofs::ReadBack::message_back))]
 pub fn read_back()
     ensures message { (m : MessageTree) → IsTree m → IsWritable m → IsMessage (message_bytes m) m }
     ensures cut { (ms : List MessageTree) → AllByRecursion IsTree ms → AllByRecursion IsWritable ms

@@ -27,8 +27,8 @@ pub type Messages = lis_text::List<Message>;
 fn take_last(
     alloc: Global,
     begun: &mut Option<OpenMessage>,
-    entry: &LentRecord<'_>,
     messages: &mut Messages,
+    entry: &LentRecord<'_>,
 ) -> Result<(), AllocError>
     requires next { (text : List ℕ) × ComesNext begun.old text entry.now }
     requires last { entry.now.content.kind ≡ kinds.L }
@@ -72,7 +72,7 @@ fn take_record(
     ensures err { IfErr result (λ _. messages.new ≡ messages.old) }
 {
     if let Kind::L = entry.kind() {
-        return take_last(alloc, begun, entry, messages);
+        return take_last(alloc, begun, messages, entry);
     }
     let record = entry.to_record(alloc)?;
     match begun {

@@ -178,10 +178,10 @@ fn next_line(bytes: &[u8]) -> Option<(&[u8], &[u8], Option<usize>)>
 /// The same, where another byte that no record may hold comes first.
 #[inline(never)]
 fn next_bad_line(bytes: &[u8]) -> Option<(&[u8], &[u8], Option<usize>)>
-    ensures none { IfNone result (LacksReturn bytes.now) }
     ensures some { IfSome result (λ parts. bytes.now ≡ parts.0.now ++ 13 ∷ parts.1.now) }
     ensures lacks { IfSome result (λ parts. LacksReturn parts.0.now) }
     ensures bad { IfSome result (λ parts. parts.2 ≡ bad_byte_place parts.0.now) }
+    ensures none { IfNone result (LacksReturn bytes.now) }
 {
     let Some(end) = memchr(CR, bytes) else {
         return None;
