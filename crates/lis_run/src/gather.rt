@@ -85,14 +85,14 @@ pub(crate) fn read_settled<R: Source, W: Sink>(
     requires unfailed { R.failed source.old ≡ false }
     requires room { 0 < length buffer.old }
     requires countable { R.made source.old < 4294967295 }
-    requires empty { R.may_wait source.old ≡ true → _page.now ≡ [] }
     requires sent { R.may_wait source.old ≡ true → W.sent sink.now ≡ W.taken sink.now }
-    ensures ready { R.may_wait source.old ≡ false → MatchResult result (λ n. 0 < n) (λ _. ⊥) }
+    requires empty { R.may_wait source.old ≡ true → _page.now ≡ [] }
     ensures bound { IfOk result (λ n. n ≤ length buffer.new) }
     ensures bytes { ReadConsumes (R.left source.old) (R.left source.new) result buffer.new }
     ensures made { R.made source.new ≡ R.made source.old + 1 }
     ensures failed { R.failed source.new ≡ is_err result }
     ensures ended { IsTrue (R.ended source.new) ↔ (result ≡ Ok 0) }
+    ensures ready { R.may_wait source.old ≡ false → MatchResult result (λ n. 0 < n) (λ _. ⊥) }
 {
     read_sent(source, sink, buffer)
 }
