@@ -34,7 +34,8 @@ module _
 
     pub patient_next : (patient : PatientTree) (rest : List Group) (new : List OrderTree) → length results ≡ 0
         → length orders ≡ 0 → below ≡ groups.Patient patient ∷ rest → next ≡ patient.top.head
-        → more ≡ patient.top.notes → new ≡ patient.below → left ≡ next ∷ walk_records head more results new rest closing
+        → more ≡ patient.top.notes → new ≡ patient.below
+        → left ≡ next ∷ walk_records head more results new rest closing
     patient_next patient rest new none no_orders is head_is notes_are orders_are =
         rw (no_head, nil_from_length notes no_notes, nil_from_length results none, nil_from_length orders no_orders)
         (rw (is, head_is, notes_are, orders_are, append-nil) refl)
