@@ -1,13 +1,23 @@
 //! The line that answers a call.
 
 use std::alloc::Global;
+use std::mem::drop;
 
-/// The words of an answer, with a space between two. Where memory was refused to it, it takes no more and has no line.
+/// Why a call has no answer.
+#[derive(Clone, Copy)]
+pub(crate) enum Trouble {
+    /// The line is no call, or the call isn't possible where it stands.
+    NoCall,
+    /// Memory was refused.
+    OutOfMemory,
+}
+
+/// The words of an answer, with a space between two. Behind the first trouble it takes no more and has no line.
 #[derive(Drop)]
 pub(crate) struct Answer {
-    alloc: Global,
+    pub(crate) alloc: Global,
     line: String,
-    is_refused: bool,
+    trouble: Option<Trouble>,
 }
 
 impl Answer {
@@ -16,21 +26,22 @@ impl Answer {
         Answer {
             alloc,
             line: String::new(alloc),
-            is_refused: false,
+            trouble: None,
         }
     }
 
-    /// The line; none where memory was refused to the answer.
-    pub(crate) fn line(&self) -> Option<&str> {
-        if self.is_refused {
-            return None;
+    /// The line, or what stands in its place.
+    pub(crate) fn line(&self) -> &str {
+        match self.trouble {
+            None => self.line.as_str(),
+            Some(Trouble::NoCall) => "no call",
+            Some(Trouble::OutOfMemory) => "out of memory",
         }
-        Some(self.line.as_str())
     }
 
-    /// Whether memory was refused to the answer.
-    pub(crate) fn is_refused(&self) -> bool {
-        self.is_refused
+    /// Whether it has a trouble.
+    pub(crate) fn is_in_trouble(&self) -> bool {
+        self.trouble.is_some()
     }
 
     /// Whether no word was put.
@@ -38,9 +49,32 @@ impl Answer {
         self.line.is_empty()
     }
 
-    /// Remembers that memory was refused to the answer, or to something that it was to tell.
-    pub(crate) fn refuse(&mut self) {
-        self.is_refused = true;
+    /// Remembers that the line is no call.
+    pub(crate) fn no_call(&mut self) {
+        self.trouble(Trouble::NoCall);
+    }
+
+    /// Remembers a trouble, if it is the first.
+    pub(crate) fn trouble(&mut self, trouble: Trouble) {
+        if self.trouble.is_none() {
+            self.trouble = Some(trouble);
+        }
+    }
+
+    /// What was made; where memory was refused to it nothing, which is remembered.
+    pub(crate) fn made<T: Drop, E: Drop>(&mut self, made: Result<T, E>) -> Option<T> {
+        if made.is_err() {
+            self.trouble(Trouble::OutOfMemory);
+        }
+        made.ok()
+    }
+
+    /// Remembers where memory was refused.
+    pub(crate) fn needs<E: Drop>(&mut self, done: Result<(), E>) {
+        if done.is_err() {
+            self.trouble(Trouble::OutOfMemory);
+        }
+        drop(done);
     }
 
     /// Puts a space behind the words, where there are any.
@@ -58,39 +92,43 @@ impl Answer {
 
     /// Goes on with this text.
     pub(crate) fn text(&mut self, text: &str) {
-        if !self.is_refused {
-            self.is_refused = self.line.push_str(text).is_err();
+        if self.trouble.is_none() {
+            let put = self.line.push_str(text);
+            self.needs(put);
         }
     }
 
     /// Goes on with a letter.
     pub(crate) fn letter(&mut self, letter: u8) {
-        if !self.is_refused {
-            self.is_refused = self.line.push(char::from(letter)).is_err();
+        if self.trouble.is_none() {
+            let put = self.line.push(char::from(letter));
+            self.needs(put);
         }
     }
 
-    /// Goes on with the words of another answer, which may have been refused memory.
+    /// Goes on with the words of another answer, which may be in trouble.
     pub(crate) fn answer(&mut self, other: &Answer) {
-        match other.line() {
-            Some(line) => self.text(line),
-            None => self.refuse(),
+        match other.trouble {
+            None => self.text(other.line.as_str()),
+            Some(trouble) => self.trouble(trouble),
         }
     }
 
     /// Goes on with a text and a number.
     pub(crate) fn number(&mut self, text: &str, number: u64) {
         self.text(text);
-        if !self.is_refused {
-            self.is_refused = write!(self.line, "{number}").is_err();
+        if self.trouble.is_none() {
+            let put = write!(self.line, "{number}");
+            self.needs(put);
         }
     }
 
     /// Goes on with a text and a byte's two digits.
     pub(crate) fn byte(&mut self, text: &str, byte: u8) {
         self.text(text);
-        if !self.is_refused {
-            self.is_refused = write!(self.line, "{byte:02x}").is_err();
+        if self.trouble.is_none() {
+            let put = write!(self.line, "{byte:02x}");
+            self.needs(put);
         }
     }
 
@@ -99,11 +137,16 @@ impl Answer {
         self.text(text);
         if bytes.is_empty() {
             self.text("-");
-        } else if !self.is_refused {
-            match hex::encode(self.alloc, bytes) {
-                Ok(digits) => self.text(digits.as_str()),
-                Err(_) => self.refuse(),
-            }
+        } else if self.trouble.is_none() {
+            self.digits(bytes);
+        }
+    }
+
+    /// Goes on with the digits of bytes.
+    fn digits(&mut self, bytes: &[u8]) {
+        let digits = hex::encode(self.alloc, bytes);
+        if let Some(digits) = self.made(digits) {
+            self.text(digits.as_str());
         }
     }
 

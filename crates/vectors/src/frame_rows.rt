@@ -1,9 +1,12 @@
 //! Calls on frames, on the scanner, and on the texts that frames carry.
 
+ghost use Rattle.std.specs.Prelude.{◌≡◌, ◌≤◌, None};
 ghost use Rattle.lis_frame.specs.Limit.{IsLimit};
+ghost use Rattle.lis_text.specs.LinkText.{longest_text};
+ghost use Rattle.lis_text.specs.Text.{text_fault};
 
 use crate::answer::Answer;
-use crate::words::{Call, Trouble, bytes_of, link_text_of, size_of_word};
+use crate::words::Call;
 use lis_frame::{
     FrameFault, FrameOf, Heard, LentFrame, ScannerOf, Signal, SignalOf, TextOf, frame_bytes_of,
     read_frame_of, split_all_of,
@@ -16,112 +19,96 @@ use std::mem::drop;
 const FRAME_ROOM: usize = 64_000;
 
 /// Answers a call on frames.
-pub(crate) fn frame_call<const N: usize>(call: Call<'_>, answer: &mut Answer) -> Result<(), Trouble>
+pub(crate) fn frame_call<const N: usize>(call: Call<'_>, answer: &mut Answer)
     requires { IsLimit N }
 {
-    match (call.name, call.words) {
-        ("read", [stretch]) => {
-            let stretch = bytes_of(call.alloc, stretch)?;
-            read::<N>(stretch.as_slice(), answer);
-            drop(stretch);
-            Ok(())
-        }
-        ("make", [number, end, text]) => {
-            let number = size_of_word(number)?;
-            let text = bytes_of(call.alloc, text)?;
-            let made = make::<N>(number, *end, text.as_slice(), answer);
-            drop(text);
-            made
-        }
-        ("scan", [place, bytes]) => {
-            let place = size_of_word(place)?;
-            let bytes = bytes_of(call.alloc, bytes)?;
-            scan::<N>(call.alloc, place, bytes.as_slice(), answer);
-            drop(bytes);
-            Ok(())
-        }
-        _ => Err(Trouble::NoCall),
+    match call.name {
+        "read" => read::<N>(call, answer),
+        "make" => make::<N>(call, answer),
+        "scan" => scan::<N>(call, answer),
+        _ => answer.no_call(),
     }
 }
 
 /// Answers a call on the texts that frames carry.
-pub(crate) fn text_call<const N: usize>(call: Call<'_>, answer: &mut Answer) -> Result<(), Trouble>
+pub(crate) fn text_call<const N: usize>(call: Call<'_>, answer: &mut Answer)
     requires { IsLimit N }
 {
-    match (call.name, call.words) {
-        ("check", [text]) => {
-            let text = link_text_of(call.alloc, text)?;
-            match check_text(text.as_slice()) {
-                Ok(()) => answer.word("ok"),
-                Err(fault) => put_text_refusal(fault, answer),
-            }
-            drop(text);
-            Ok(())
-        }
-        ("split", [first, text]) => {
-            let first = size_of_word(first)?;
-            let text = link_text_of(call.alloc, text)?;
-            let split = split::<N>(call.alloc, first, text.as_slice(), answer);
-            drop(text);
-            split
-        }
-        _ => Err(Trouble::NoCall),
+    match call.name {
+        "check" => check(call, answer),
+        "split" => split::<N>(call, answer),
+        _ => answer.no_call(),
     }
 }
 
+/// Puts whether a text may be sent.
+fn check(call: Call<'_>, answer: &mut Answer) {
+    let text = call.bytes(0, answer);
+    match check_text(text.as_slice()) {
+        Ok(()) => answer.word("ok"),
+        Err(fault) => put_text_refusal(fault, answer),
+    }
+    drop(text);
+}
+
 /// Puts the frames of a text, the first of this number.
-fn split<const N: usize>(
-    alloc: Global,
-    first: usize,
-    text: &[u8],
-    answer: &mut Answer,
-) -> Result<(), Trouble>
+fn split<const N: usize>(call: Call<'_>, answer: &mut Answer)
     requires { IsLimit N }
 {
-    if first > 7 {
-        return Err(Trouble::NoCall);
+    let first = call.number(0, answer);
+    let text = call.bytes(1, answer);
+    match check_text(text.as_slice()) {
+        _ if first > 7 => answer.no_call(),
+        Ok(()) => put_split::<N>(first as u8, text.as_slice(), answer),
+        Err(fault) => put_text_refusal(fault, answer),
     }
-    if let Err(fault) = check_text(text) {
-        put_text_refusal(fault, answer);
-        return Ok(());
-    }
-    let frames = split_all_of::<N>(alloc, text, first as u8)?;
+    drop(text);
+}
+
+/// Puts the frames of a text that may be sent.
+fn put_split<const N: usize>(first: u8, text: &[u8], answer: &mut Answer)
+    requires limit { IsLimit N }
+    requires text { text_fault longest_text text.now ≡ None }
+    requires number { first ≤ 7 }
+{
+    let frames = split_all_of::<N>(answer.alloc, text, first);
+    let Some(frames) = answer.made(frames) else {
+        return;
+    };
     for frame in frames.as_slice() {
         answer.part();
         put_frame(frame, answer);
     }
     drop(frames);
-    Ok(())
 }
 
 /// Puts the frame that bytes are, or why they are none.
-fn read<const N: usize>(stretch: &[u8], answer: &mut Answer)
+fn read<const N: usize>(call: Call<'_>, answer: &mut Answer)
     requires { IsLimit N }
 {
-    match read_frame_of::<N>(stretch) {
+    let stretch = call.bytes(0, answer);
+    match read_frame_of::<N>(stretch.as_slice()) {
         Ok(frame) => put_frame(&frame, answer),
         Err(fault) => {
             answer.word("fault ");
             put_frame_fault(fault, answer);
         }
     }
+    drop(stretch);
 }
 
 /// Puts the frame of a number, an end and a text, or why the text is refused.
-fn make<const N: usize>(
-    number: usize,
-    end: &str,
-    text: &[u8],
-    answer: &mut Answer,
-) -> Result<(), Trouble>
+fn make<const N: usize>(call: Call<'_>, answer: &mut Answer)
     requires { IsLimit N }
 {
-    match TextOf::<N>::from_slice(text) {
-        Ok(_) if number > 255 => return Err(Trouble::NoCall),
-        Ok(text) => put_made(FrameOf::new(number as u8, end == "end", text), answer),
+    let number = call.number(0, answer).min(255) as u8;
+    let is_last = call.word(1, answer) == "end";
+    let text = call.bytes(2, answer);
+    match TextOf::<N>::from_slice(text.as_slice()) {
+        Ok(text) => put_made(FrameOf::new(number, is_last, text), answer),
         Err(fault) => put_text_refusal(fault, answer),
     }
-    Ok(())
+    drop(text);
 }
 
 /// Puts a frame and its bytes, or that there is none.
@@ -139,16 +126,19 @@ fn put_made<const N: usize>(made: Option<FrameOf<N>>, answer: &mut Answer)
 }
 
 /// The signals of bytes that are pushed one by one; from a place on, a copy of the scanner reads them in runs too.
-fn scan<const N: usize>(alloc: Global, fork: usize, bytes: &[u8], answer: &mut Answer)
+fn scan<const N: usize>(call: Call<'_>, answer: &mut Answer)
     requires { IsLimit N }
 {
+    let fork = call.number(0, answer) as usize;
+    let bytes = call.bytes(1, answer);
     let (front, rest) = bytes.split_at(fork.min(bytes.len()));
     let mut course = Course::<N>::new();
     course.push_all(front, answer);
     let copy = course.copy();
-    let pushed = course.signals(alloc, false, rest);
-    let scanned = copy.signals(alloc, true, rest);
+    let pushed = course.signals(answer.alloc, false, rest);
+    let scanned = copy.signals(answer.alloc, true, rest);
     put_signals(pushed, scanned, answer);
+    drop(bytes);
 }
 
 /// Puts the signals behind a fork, and those of the copy where it tells others.

@@ -5,72 +5,64 @@ ghost use Rattle.lis_frame.specs.Limit.{IsLimit};
 use crate::answer::Answer;
 use crate::frame_rows::put_frame;
 use crate::sender_rows::put_outcome;
-use crate::words::{Call, Trouble, byte_of, link_text_of, texts_of};
+use crate::words::{Call, byte_of, link_text_of, texts_of};
 use lis_frame::FramesOf;
 use lis_world::{Event, Events, SessionOf, play_of};
-use std::alloc::Global;
 use std::mem::drop;
 
 /// Answers a call on a link.
-pub(crate) fn link_call<const N: usize>(call: Call<'_>, answer: &mut Answer) -> Result<(), Trouble>
+pub(crate) fn link_call<const N: usize>(call: Call<'_>, answer: &mut Answer)
     requires { IsLimit N }
 {
     if call.name != "play" {
-        return Err(Trouble::NoCall);
+        return answer.no_call();
     }
-    match play_of::<N>(call.alloc, events_of(call.alloc, call.words)?) {
-        Ok(history) => {
-            put_history(history.as_slice(), answer);
-            drop(history);
-            Ok(())
-        }
-        Err(_) => Err(Trouble::OutOfMemory),
+    let history = play_of::<N>(answer.alloc, events_of(call.words, answer));
+    if let Some(history) = answer.made(history) {
+        put_history(history.as_slice(), answer);
+        drop(history);
     }
 }
 
 /// The events that words tell.
-fn events_of(alloc: Global, words: &[&str]) -> Result<Events, Trouble> {
-    let mut events = Events::new(alloc);
+fn events_of(words: &[&str], answer: &mut Answer) -> Events {
+    let mut events = Events::new(answer.alloc);
     for word in words {
-        events.push(event_of(alloc, *word)?)?;
+        match event_of(*word, answer) {
+            Some(event) => answer.needs(events.push(event)),
+            None => answer.no_call(),
+        }
     }
-    Ok(events)
+    events
 }
 
 /// The event that a word tells.
-fn event_of(alloc: Global, word: &str) -> Result<Event, Trouble> {
+fn event_of(word: &str, answer: &mut Answer) -> Option<Event> {
     match word.split_once(':') {
         None => plain_event_of(word),
-        Some((name, told)) => telling_event_of(alloc, name, told),
-    }
-}
-
-/// The event that a name and an argument tell.
-fn telling_event_of(alloc: Global, name: &str, told: &str) -> Result<Event, Trouble> {
-    match name {
-        "Start" => Ok(Event::Start(texts_of(alloc, told)?)),
-        "Damage" => Ok(Event::Damage(link_text_of(alloc, told)?)),
-        "DamageReply" => Ok(Event::DamageReply(byte_of(told)?)),
-        _ => Err(Trouble::NoCall),
+        Some(("Start", texts)) => Some(Event::Start(texts_of(texts, answer))),
+        Some(("Damage", bytes)) => Some(Event::Damage(link_text_of(bytes, answer))),
+        Some(("DamageReply", byte)) => Some(Event::DamageReply(byte_of(byte, answer))),
+        _ => None,
     }
 }
 
 /// The event that a word without an argument tells.
-fn plain_event_of(word: &str) -> Result<Event, Trouble> {
+fn plain_event_of(word: &str) -> Option<Event> {
     match word {
-        "Deliver" => Ok(Event::Deliver),
-        "DeliverNoRoom" => Ok(Event::DeliverNoRoom),
-        "Lose" => Ok(Event::Lose),
-        "Reply" => Ok(Event::Reply),
-        "LoseReply" => Ok(Event::LoseReply),
-        "SenderTimer" => Ok(Event::SenderTimer),
-        "ReceiverTimer" => Ok(Event::ReceiverTimer),
-        "RestartSender" => Ok(Event::RestartSender),
-        "RestartReceiver" => Ok(Event::RestartReceiver),
-        "Ready" => Ok(Event::Ready),
-        "Busy" => Ok(Event::Busy),
-        "Contending" => Ok(Event::Contending),
-        _ => Err(Trouble::NoCall),
+        "Deliver" => Some(Event::Deliver),
+        "DeliverNoRoom" => Some(Event::DeliverNoRoom),
+        "Lose" => Some(Event::Lose),
+        "Reply" => Some(Event::Reply),
+        "LoseReply" => Some(Event::LoseReply),
+        "SenderTimer" => Some(Event::SenderTimer),
+        "ReceiverTimer" => Some(Event::ReceiverTimer),
+        "RestartSender" => Some(Event::RestartSender),
+        "RestartReceiver" => Some(Event::RestartReceiver),
+        "Ready" => Some(Event::Ready),
+        "Busy" => Some(Event::Busy),
+        "Contending" => Some(Event::Contending),
+        _ => None,
     }
 }
 

@@ -30,7 +30,6 @@ mod writing_rows;
 use crate::answer::Answer;
 use crate::state::State;
 use crate::timed::{Asked, asked_by, make_calls};
-use crate::words::Trouble;
 use std::alloc::Global;
 use std::env;
 use std::io::{self, BufRead, BufReader, BufWriter, Write};
@@ -73,7 +72,10 @@ fn answer_lines<R: BufRead + Drop, W: Write>(
     output: &mut W,
 ) -> io::Result<()> {
     for line in input.lines(alloc) {
-        answer_line(alloc, state, line?.as_str(), output)?;
+        let line = line?;
+        let answered = answer_line(alloc, state, line.as_str(), output);
+        drop(line);
+        answered?;
     }
     output.flush()
 }
@@ -86,17 +88,8 @@ fn answer_line<W: Write>(
     output: &mut W,
 ) -> io::Result<()> {
     let mut answer = Answer::new(alloc);
-    let called = state.call(line, &mut answer);
-    let written = writeln!(output, "{}", told(called, answer.line()));
+    state.call(line, &mut answer);
+    let written = writeln!(output, "{}", answer.line());
     drop(answer);
     written
-}
-
-/// The line that tells what became of a call, of which the answer has this line.
-fn told(called: Result<(), Trouble>, line: Option<&str>) -> &str {
-    match (called, line) {
-        (Ok(()), Some(line)) => line,
-        (Err(Trouble::NoCall), Some(_)) => "no call",
-        (Err(Trouble::OutOfMemory), _) | (_, None) => "out of memory",
-    }
 }

@@ -11,27 +11,26 @@ use lis_message::{
 };
 use lis_port::Slow;
 use lis_tree::{Finding, findings};
-use std::alloc::Global;
 use std::mem::drop;
 
 /// Puts a message: its delimiters, the number of its records, its tree, its findings, its texts, and what is written.
-pub(crate) fn put_message(alloc: Global, message: &Message, answer: &mut Answer) {
+pub(crate) fn put_message(message: &Message, answer: &mut Answer) {
     answer.word("message delimiters=");
     put_delimiters(message.delimiters(), answer);
     answer.number(" records=", message.len());
     answer.text(" tree=");
     put_tree(message, answer);
     answer.text(" findings=");
-    put_findings(alloc, message, answer);
+    put_findings(message, answer);
     answer.text(" texts=");
-    put_texts(alloc, message, answer);
+    put_texts(message, answer);
     answer.text(" written=");
     put_written(message, answer);
 }
 
 /// Puts the texts of a message's records, or why it has none.
-fn put_texts(alloc: Global, message: &Message, answer: &mut Answer) {
-    match message_texts(alloc, message) {
+fn put_texts(message: &Message, answer: &mut Answer) {
+    match message_texts(answer.alloc, message) {
         Ok(texts) => {
             answer.texts("", texts.as_slice());
             drop(texts);
@@ -52,13 +51,11 @@ fn put_written(message: &Message, answer: &mut Answer) {
 }
 
 /// Puts the findings of a message.
-fn put_findings(alloc: Global, message: &Message, answer: &mut Answer) {
-    match findings(alloc, message) {
-        Ok(found) => {
-            put_each_finding(found.as_slice(), answer);
-            drop(found);
-        }
-        Err(_) => answer.refuse(),
+fn put_findings(message: &Message, answer: &mut Answer) {
+    let found = findings(answer.alloc, message);
+    if let Some(found) = answer.made(found) {
+        put_each_finding(found.as_slice(), answer);
+        drop(found);
     }
 }
 

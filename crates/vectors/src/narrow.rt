@@ -1,8 +1,9 @@
 //! Sinks that fail.
 
-ghost use Rattle.std.specs.Prelude.{◌≡◌, ◌≤◌, [], false};
+ghost use Rattle.std.specs.Prelude.{◌≡◌, ◌≤◌, ◌<◌, [], false};
 
-use crate::words::{Trouble, size_of_word};
+use crate::answer::Answer;
+use crate::words::Call;
 use lis_port::Slow;
 
 /// The most that a sink takes.
@@ -25,12 +26,15 @@ impl Narrow {
     }
 }
 
-/// The sink that two words tell.
-pub(crate) fn narrow_of(room: &str, step: &str) -> Result<Narrow, Trouble> {
-    let room = size_of_word(room)?;
-    let step = size_of_word(step)?;
+/// The sink that two words tell, from a place on.
+pub(crate) fn narrow_of(call: Call<'_>, place: usize, answer: &mut Answer) -> Option<Narrow>
+    requires { place < 8 }
+{
+    let room = call.number(place, answer) as usize;
+    let step = call.number(place + 1, answer) as usize;
     if room > WIDE || step == 0 {
-        return Err(Trouble::NoCall);
+        answer.no_call();
+        return None;
     }
-    Ok(Narrow { room, step })
+    Some(Narrow { room, step })
 }

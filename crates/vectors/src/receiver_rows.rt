@@ -5,7 +5,7 @@ ghost use Rattle.lis_frame.specs.Limit.{IsLimit};
 use crate::answer::Answer;
 use crate::frame_rows::put_frame_fault;
 use crate::state::Ends;
-use crate::words::{Call, Trouble, bytes_of, number_of};
+use crate::words::Call;
 use lis_link::{Hearing, Note, Readiness, ReceiverOf, Step};
 use lis_text::LONGEST_TEXT;
 use std::mem::{drop, replace};
@@ -13,22 +13,15 @@ use std::mem::{drop, replace};
 impl<const N: usize> Ends<N> {
     /// Answers a call on the receiver: its steps that aren't quiet, and then its state. One receiver hears bytes one by
     /// one, the other at once; they must answer the same.
-    pub(crate) fn receiver_call(
-        &mut self,
-        call: Call<'_>,
-        answer: &mut Answer,
-    ) -> Result<(), Trouble>
+    pub(crate) fn receiver_call(&mut self, call: Call<'_>, answer: &mut Answer)
         requires { IsLimit N }
     {
-        let mut again = Answer::new(call.alloc);
-        if let ("bytes", [bytes]) = (call.name, call.words) {
-            let bytes = bytes_of(call.alloc, bytes)?;
-            self.hear_each(bytes.as_slice(), answer);
-            self.hear_all(bytes.as_slice(), &mut again);
-            drop(bytes);
+        let mut again = Answer::new(answer.alloc);
+        if call.name == "bytes" {
+            self.hear(call.bytes(0, answer), answer, &mut again);
         } else {
-            event(&mut self.receiver, call, answer)?;
-            event(&mut self.other_receiver, call, &mut again)?;
+            event(&mut self.receiver, call, answer);
+            event(&mut self.other_receiver, call, &mut again);
         }
         put_state(&self.receiver, answer);
         put_state(&self.other_receiver, &mut again);
@@ -37,7 +30,15 @@ impl<const N: usize> Ends<N> {
             answer.answer(&again);
         }
         drop(again);
-        Ok(())
+    }
+
+    /// Both receivers hear bytes.
+    fn hear(&mut self, bytes: Vec<u8>, answer: &mut Answer, again: &mut Answer)
+        requires { IsLimit N }
+    {
+        self.hear_each(bytes.as_slice(), answer);
+        self.hear_all(bytes.as_slice(), again);
+        drop(bytes);
     }
 
     /// The receiver hears bytes one by one.
@@ -69,54 +70,39 @@ impl<const N: usize> Ends<N> {
 }
 
 /// What happens to a receiver beside bytes.
-fn event<const N: usize>(
-    receiver: &mut ReceiverOf<N>,
-    call: Call<'_>,
-    answer: &mut Answer,
-) -> Result<(), Trouble>
+fn event<const N: usize>(receiver: &mut ReceiverOf<N>, call: Call<'_>, answer: &mut Answer)
     requires { IsLimit N }
 {
-    match (call.name, call.words) {
-        ("new", []) => drop(replace(receiver, ReceiverOf::new(call.alloc))),
-        ("timer", []) => put_step(0, receiver.timer(), answer),
-        ("restart", []) => receiver.restart(),
-        ("ready", [word]) => receiver.set_ready(readiness_of(word)?),
-        ("room", ["on"]) => receiver.set_room(true),
-        ("room", ["off"]) => receiver.set_room(false),
-        ("reserve", [count]) => return reserve(receiver, number_of(count)?, answer),
-        _ => return Err(Trouble::NoCall),
+    match call.name {
+        "new" => drop(replace(receiver, ReceiverOf::new(answer.alloc))),
+        "timer" => put_step(0, receiver.timer(), answer),
+        "restart" => receiver.restart(),
+        "ready" => set_ready(receiver, call.word(0, answer), answer),
+        "room" => receiver.set_room(call.word(0, answer) == "on"),
+        "reserve" => reserve(receiver, call.number(0, answer), answer),
+        _ => answer.no_call(),
     }
-    Ok(())
 }
 
-/// How a receiver answers ENQ, by a word.
-fn readiness_of(word: &str) -> Result<Readiness, Trouble> {
+/// Sets how a receiver answers ENQ, by a word.
+fn set_ready<const N: usize>(receiver: &mut ReceiverOf<N>, word: &str, answer: &mut Answer) {
     match word {
-        "ready" => Ok(Readiness::Ready),
-        "busy" => Ok(Readiness::Busy),
-        "contending" => Ok(Readiness::Contending),
-        _ => Err(Trouble::NoCall),
+        "ready" => receiver.set_ready(Readiness::Ready),
+        "busy" => receiver.set_ready(Readiness::Busy),
+        "contending" => receiver.set_ready(Readiness::Contending),
+        _ => answer.no_call(),
     }
 }
 
 /// Makes room for so many bytes.
-fn reserve<const N: usize>(
-    receiver: &mut ReceiverOf<N>,
-    count: u64,
-    answer: &mut Answer,
-) -> Result<(), Trouble>
+fn reserve<const N: usize>(receiver: &mut ReceiverOf<N>, count: u64, answer: &mut Answer)
     requires { IsLimit N }
 {
     if count > LONGEST_TEXT as u64 {
-        return Err(Trouble::NoCall);
+        return answer.no_call();
     }
-    match receiver.reserve(count) {
-        Ok(()) => {
-            answer.word("ok");
-            Ok(())
-        }
-        Err(_) => Err(Trouble::OutOfMemory),
-    }
+    answer.needs(receiver.reserve(count));
+    answer.word("ok");
 }
 
 /// Puts a step that isn't quiet: its place, its note, its reply, and the text that is handed out.

@@ -3,16 +3,13 @@
 use crate::answer::Answer;
 use crate::narrow::narrow_of;
 use crate::spelling::{delimiters_of, put_delimiters, put_record, read_delimiters, record_of};
-use crate::words::{Call, Trouble, bytes_of};
+use crate::words::Call;
 use crate::writing_rows::Writing;
-use lis_record::{
-    DelimiterFault, DelimiterPartFault, Record, RecordFault, read_header, read_record,
-};
-use std::alloc::Global;
+use lis_record::{DelimiterFault, DelimiterPartFault, RecordFault, read_header, read_record};
 use std::mem::drop;
 
 /// Answers a call on records.
-pub(crate) fn record_call(call: Call<'_>, answer: &mut Answer) -> Result<(), Trouble> {
+pub(crate) fn record_call(call: Call<'_>, answer: &mut Answer) {
     match call.name {
         "delimiters" => delimiters(call, answer),
         "header" => header(call, answer),
@@ -22,91 +19,68 @@ pub(crate) fn record_call(call: Call<'_>, answer: &mut Answer) -> Result<(), Tro
 }
 
 /// Answers whether bytes are delimiters.
-fn delimiters(call: Call<'_>, answer: &mut Answer) -> Result<(), Trouble> {
-    let [word] = call.words else {
-        return Err(Trouble::NoCall);
-    };
-    match read_delimiters(call.alloc, *word)? {
-        Ok(delimiters) => put_delimiters(delimiters, answer),
-        Err(fault) => {
+fn delimiters(call: Call<'_>, answer: &mut Answer) {
+    match read_delimiters(call.word(0, answer), answer) {
+        Some(Ok(delimiters)) => put_delimiters(delimiters, answer),
+        Some(Err(fault)) => {
             answer.word("fault ");
             put_delimiter_fault(fault, answer);
         }
+        None => answer.no_call(),
     }
-    Ok(())
 }
 
 /// Answers what a header's text is.
-fn header(call: Call<'_>, answer: &mut Answer) -> Result<(), Trouble> {
-    let [text] = call.words else {
-        return Err(Trouble::NoCall);
-    };
-    let text = bytes_of(call.alloc, *text)?;
-    let read = match read_header(call.alloc, text.as_slice()) {
+fn header(call: Call<'_>, answer: &mut Answer) {
+    let text = call.bytes(0, answer);
+    match read_header(answer.alloc, text.as_slice()) {
         Ok((delimiters, entry)) => {
             put_delimiters(delimiters, answer);
             answer.part();
-            Ok(entry)
+            put_record(&entry, answer);
+            drop(entry);
         }
-        Err(fault) => Err(fault),
-    };
+        Err(fault) => put_refusal(fault, answer),
+    }
     drop(text);
-    put_read(read, answer);
-    Ok(())
 }
 
 /// Answers what a record's text is.
-fn read(call: Call<'_>, answer: &mut Answer) -> Result<(), Trouble> {
-    let [delimiters, text] = call.words else {
-        return Err(Trouble::NoCall);
+fn read(call: Call<'_>, answer: &mut Answer) {
+    let Some(delimiters) = delimiters_of(call.word(0, answer), answer) else {
+        return;
     };
-    let delimiters = delimiters_of(call.alloc, *delimiters)?;
-    let text = bytes_of(call.alloc, *text)?;
-    let read = read_record(call.alloc, &delimiters, text.as_slice());
-    drop(text);
-    put_read(read, answer);
-    Ok(())
-}
-
-/// Puts the record that a text is, or why it is none.
-fn put_read(read: Result<Record, RecordFault>, answer: &mut Answer) {
-    match read {
+    let text = call.bytes(1, answer);
+    match read_record(answer.alloc, &delimiters, text.as_slice()) {
         Ok(entry) => {
             put_record(&entry, answer);
             drop(entry);
         }
         Err(fault) => put_refusal(fault, answer),
     }
+    drop(text);
 }
 
 /// Answers a call that writes a record, whole and in part, or each of its fields.
-fn write(call: Call<'_>, answer: &mut Answer) -> Result<(), Trouble> {
-    let [delimiters, entry, room, step, words @ ..] = call.words else {
-        return Err(Trouble::NoCall);
+fn write(call: Call<'_>, answer: &mut Answer) {
+    let Some(writing) = writing_of(call, answer) else {
+        return;
     };
-    let sink = (*room, *step);
-    let writing = writing_of(call.alloc, *delimiters, sink, *entry)?;
-    let written = match (call.name, words) {
-        ("write", [skip]) => writing.whole_and_part(*skip, answer),
-        ("write_field", []) => writing.fields(true, answer),
-        ("put_field", []) => writing.fields(false, answer),
-        _ => Err(Trouble::NoCall),
-    };
+    match call.name {
+        "write" => writing.whole_and_part(call.number(4, answer), answer),
+        "write_field" => writing.fields(true, answer),
+        "put_field" => writing.fields(false, answer),
+        _ => answer.no_call(),
+    }
     drop(writing);
-    written
 }
 
-/// The record that is to be written, by the words that tell its delimiters, the sink and itself.
-fn writing_of(
-    alloc: Global,
-    delimiters: &str,
-    (room, step): (&str, &str),
-    entry: &str,
-) -> Result<Writing, Trouble> {
-    Ok(Writing {
-        delimiters: delimiters_of(alloc, delimiters)?,
-        narrow: narrow_of(room, step)?,
-        entry: record_of(alloc, entry)?,
+/// The record that is to be written, its delimiters and the sink.
+fn writing_of(call: Call<'_>, answer: &mut Answer) -> Option<Writing> {
+    Some(Writing {
+        delimiters: delimiters_of(call.word(0, answer), answer)?,
+        narrow: narrow_of(call, 2, answer)?,
+        entry: record_of(call.word(1, answer), answer)?,
     })
 }
 

@@ -4,16 +4,14 @@ ghost use Rattle.std.specs.Prelude.{◌≡◌, ◌≤◌, ◌-◌, length, drop,
 ghost use Rattle.lis_message.specs.Writing.{CanResume, first_length};
 ghost use Rattle.lis_tree.specs.Tree.{flatten};
 
-use crate::answer::Answer;
+use crate::answer::{Answer, Trouble};
 use crate::message_parts::put_message_wrote;
 use crate::narrow::{Narrow, WIDE};
-use crate::words::Trouble;
 use lis_message::{
     Message, MessageWriteFault, Texts, TextsFault, WriteFault, message_texts, write_message,
     write_message_from,
 };
 use lis_port::Slow;
-use std::alloc::Global;
 use std::mem::drop;
 
 /// How many sinks a message is written to at most.
@@ -32,56 +30,57 @@ struct Rest<'a> {
 /// Writes a message from a place on, without the first bytes of that record, to as many narrow sinks as it takes; it
 /// stops where a sink took nothing. What stands before goes to a sink that is full there.
 pub(crate) fn write_on(
-    alloc: Global,
     message: &Message,
     narrow: Narrow,
     place: u64,
     skip: u64,
     answer: &mut Answer,
-) -> Result<(), Trouble> {
-    let before = front_of(alloc, message, place, skip)?;
+) {
+    let before = front_of(message, place, skip, answer);
     if before > WIDE {
-        return Err(Trouble::NoCall);
+        return answer.no_call();
     }
     let mut front = Slow::new(before, WIDE);
     let wrote = write_message(&mut front, message);
     drop(front);
-    let Some(rest) = rest_of(message, wrote) else {
-        answer.part();
-        put_message_wrote(wrote, &[], answer);
-        return Ok(());
-    };
-    write_rest(rest, narrow, answer)
+    match rest_of(message, wrote) {
+        Some(rest) => write_rest(rest, narrow, answer),
+        None => {
+            answer.part();
+            put_message_wrote(wrote, &[], answer);
+        }
+    }
 }
 
 /// How many bytes of a message stand before a place, with so many of that record; none where it can't be written.
-fn front_of(alloc: Global, message: &Message, place: u64, skip: u64) -> Result<usize, Trouble> {
-    match message_texts(alloc, message) {
+fn front_of(message: &Message, place: u64, skip: u64, answer: &mut Answer) -> usize {
+    match message_texts(answer.alloc, message) {
         Ok(texts) => {
-            let before = bytes_before(&texts, place, skip);
+            let before = bytes_before(&texts, place, skip, answer);
             drop(texts);
             before
         }
-        Err(TextsFault::BadRecord { .. }) => Ok(0),
-        Err(_) => Err(Trouble::OutOfMemory),
+        Err(TextsFault::BadRecord { .. }) => 0,
+        Err(_) => {
+            answer.trouble(Trouble::OutOfMemory);
+            0
+        }
     }
 }
 
 /// How many bytes stand before a place of texts, with so many of the one there.
-fn bytes_before(texts: &Texts, place: u64, skip: u64) -> Result<usize, Trouble> {
+fn bytes_before(texts: &Texts, place: u64, skip: u64, answer: &mut Answer) -> usize {
     let mut before = 0usize;
     let mut at = 1u64;
     for text in texts.as_slice() {
-        if at == place {
-            if skip > text.len() as u64 {
-                return Err(Trouble::NoCall);
-            }
-            return Ok(before.saturating_add(skip as usize));
+        if at == place && skip <= text.len() as u64 {
+            return before.saturating_add(skip as usize);
         }
         before = before.saturating_add(text.len());
         at = at.saturating_add(1);
     }
-    Err(Trouble::NoCall)
+    answer.no_call();
+    0
 }
 
 /// What is left of a message where its writing ended; nothing where no sink failed.
@@ -102,15 +101,15 @@ fn rest_of(message: &Message, wrote: Result<(), MessageWriteFault>) -> Option<Re
 }
 
 /// Writes what is left to one narrow sink behind the other.
-fn write_rest(rest: Rest<'_>, narrow: Narrow, answer: &mut Answer) -> Result<(), Trouble> {
+fn write_rest(rest: Rest<'_>, narrow: Narrow, answer: &mut Answer) {
     let mut left = rest;
     for _ in 0..MOST_SINKS {
         match write_part(left, narrow, answer) {
             Some(rest) => left = rest,
-            None => return Ok(()),
+            None => return,
         }
     }
-    Err(Trouble::NoCall)
+    answer.no_call();
 }
 
 /// Writes on to one narrow sink; what is left where that took something and failed.

@@ -5,32 +5,44 @@ ghost use Rattle.lis_frame.specs.Limit.{IsLimit};
 use crate::answer::Answer;
 use crate::frame_rows::{put_frame, put_text_fault};
 use crate::state::Ends;
-use crate::words::{Call, Trouble, byte_of, texts_of};
+use crate::words::{Call, byte_of, texts_of};
 use lis_link::{EmitOf, Outcome, Phase, SenderOf, StartFault, StartRefused};
 use lis_text::Texts;
 use std::mem::{drop, replace};
 
 impl<const N: usize> Ends<N> {
     /// Answers a call on the sender: what it emits, and then where it stands.
-    pub(crate) fn sender_call(&mut self, call: Call<'_>, answer: &mut Answer) -> Result<(), Trouble>
+    pub(crate) fn sender_call(&mut self, call: Call<'_>, answer: &mut Answer)
         requires { IsLimit N }
     {
-        match (call.name, call.words) {
-            ("new", []) => drop(replace(&mut self.sender, SenderOf::new())),
-            ("start", [texts]) => self.start(texts_of(call.alloc, texts)?, answer),
-            ("reply", [byte]) => put_emit(self.sender.reply(byte_of(byte)?), answer),
-            ("timer", []) => put_emit(self.sender.timer(), answer),
-            ("restart", []) => self.sender.restart(),
-            _ => return Err(Trouble::NoCall),
+        match call.name {
+            "new" => drop(replace(&mut self.sender, SenderOf::new())),
+            "start" => self.start(texts_of(call.word(0, answer), answer), answer),
+            "reply" => self.reply(byte_of(call.word(0, answer), answer), answer),
+            "timer" => put_emit(self.sender.timer(), answer),
+            "restart" => self.sender.restart(),
+            _ => answer.no_call(),
         }
         put_state(&self.sender, answer);
-        Ok(())
     }
 
-    /// Puts what the start of a session emits, or why it is refused.
+    /// Puts what a reply makes the sender emit.
+    fn reply(&mut self, byte: u8, answer: &mut Answer)
+        requires { IsLimit N }
+    {
+        if !answer.is_in_trouble() {
+            put_emit(self.sender.reply(byte), answer);
+        }
+    }
+
+    /// Puts what the start of a session emits, or why it is refused. No session is started without some of its texts.
     fn start(&mut self, texts: Texts, answer: &mut Answer)
         requires { IsLimit N }
     {
+        if answer.is_in_trouble() {
+            drop(texts);
+            return;
+        }
         match self.sender.start(texts) {
             Ok(emit) => put_emit(emit, answer),
             Err(refused) => put_start_refused(refused, answer),

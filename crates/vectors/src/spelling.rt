@@ -1,168 +1,141 @@
 //! Delimiters and records in the rows: `P/31/41;42,~0d+!`.
 
-ghost use Rattle.std.specs.Prelude.{◌<◌, IfOk};
-
 use crate::answer::Answer;
-use crate::words::{Trouble, bytes_of};
+use crate::words::{byte_of_digits, bytes_of};
 use lis_field::{Component, DelimiterFault, Delimiters, Kind, Part, Parts, Record, Repeat, Sym};
-use std::alloc::Global;
 use std::mem::drop;
 
 /// The delimiters that a word of four bytes tells.
-pub(crate) fn delimiters_of(alloc: Global, word: &str) -> Result<Delimiters, Trouble> {
-    match read_delimiters(alloc, word)? {
-        Ok(delimiters) => Ok(delimiters),
-        Err(_) => Err(Trouble::NoCall),
+pub(crate) fn delimiters_of(word: &str, answer: &mut Answer) -> Option<Delimiters> {
+    match read_delimiters(word, answer) {
+        Some(Ok(delimiters)) => Some(delimiters),
+        _ => {
+            answer.no_call();
+            None
+        }
     }
 }
 
 /// The delimiters that a word of four bytes tells, or why they are none.
 pub(crate) fn read_delimiters(
-    alloc: Global,
     word: &str,
-) -> Result<Result<Delimiters, DelimiterFault>, Trouble> {
-    let bytes = bytes_of(alloc, word)?;
+    answer: &mut Answer,
+) -> Option<Result<Delimiters, DelimiterFault>> {
+    let bytes = bytes_of(word, answer);
     let read = match bytes.as_slice() {
         [field, repeat, component, escape] => {
-            Ok(Delimiters::new(*field, *repeat, *component, *escape))
+            Some(Delimiters::new(*field, *repeat, *component, *escape))
         }
-        _ => Err(Trouble::NoCall),
+        _ => None,
     };
     drop(bytes);
     read
 }
 
 /// The record that a word tells: its letter, and `/` before each field.
-pub(crate) fn record_of(alloc: Global, word: &str) -> Result<Record, Trouble> {
-    let (letter, fields) = match word.split_once('/') {
-        Some((letter, fields)) => (letter, Some(fields)),
-        None => (word, None),
+pub(crate) fn record_of(word: &str, answer: &mut Answer) -> Option<Record> {
+    let (letter, fields) = parted(word, '/');
+    let Some(kind) = kind_of(letter.as_bytes()) else {
+        answer.no_call();
+        return None;
     };
-    let [letter] = letter.as_bytes() else {
-        return Err(Trouble::NoCall);
-    };
-    let Some(kind) = Kind::of_letter(*letter) else {
-        return Err(Trouble::NoCall);
-    };
-    let mut entry = Record::new(alloc, kind);
-    let Some(fields) = fields else {
-        return Ok(entry);
-    };
-    for field in fields.split('/') {
-        entry.push(parts_of(alloc, field)?)?;
+    let mut entry = Record::new(answer.alloc, kind);
+    if let Some(fields) = fields {
+        push_fields(fields, &mut entry, answer);
     }
-    Ok(entry)
+    Some(entry)
+}
+
+/// The kind of a record that a letter tells.
+fn kind_of(letter: &[u8]) -> Option<Kind> {
+    match letter {
+        [letter] => Kind::of_letter(*letter),
+        _ => None,
+    }
+}
+
+/// Pushes the fields that a text tells.
+fn push_fields(text: &str, entry: &mut Record, answer: &mut Answer) {
+    for field in text.split('/') {
+        if let Some(field) = parts_of(field, ';', answer) {
+            answer.needs(entry.push(field));
+        }
+    }
 }
 
 /// What a row spells with a mark between two: a repeat of a field, a component of a repeat.
 trait Spelled: Part {
-    /// The mark between two.
-    fn mark() -> char;
-
-    /// The part that a text tells.
-    fn of_text(alloc: Global, text: &str) -> Result<Self, Trouble>;
+    /// The part that a text tells; none is a trouble of the answer.
+    fn of_text(text: &str, answer: &mut Answer) -> Option<Self>;
 }
 
 impl Spelled for Repeat {
-    fn mark() -> char {
-        ';'
-    }
-
-    fn of_text(alloc: Global, text: &str) -> Result<Self, Trouble> {
-        parts_of(alloc, text)
+    fn of_text(text: &str, answer: &mut Answer) -> Option<Self> {
+        parts_of(text, ',', answer)
     }
 }
 
 impl Spelled for Component {
-    fn mark() -> char {
-        ','
-    }
-
-    fn of_text(alloc: Global, text: &str) -> Result<Self, Trouble> {
-        component_of(alloc, text)
+    fn of_text(text: &str, answer: &mut Answer) -> Option<Self> {
+        let mut component = Component::new(answer.alloc);
+        push_symbols(text.as_bytes(), &mut component, answer);
+        Some(component)
     }
 }
 
-/// The field or repeat that a text tells.
-fn parts_of<P: Spelled>(alloc: Global, text: &str) -> Result<Parts<P>, Trouble> {
-    let first = P::of_text(alloc, front(text, P::mark()))?;
-    let mut parts = Parts::new(alloc, first)?;
-    match push_others(alloc, text, &mut parts) {
-        Ok(()) => Ok(parts),
-        Err(trouble) => {
-            drop(parts);
-            Err(trouble)
-        }
+/// The field or repeat that a text tells, with a mark between two parts.
+fn parts_of<P: Spelled>(text: &str, mark: char, answer: &mut Answer) -> Option<Parts<P>> {
+    let (first, others) = parted(text, mark);
+    let mut parts = first_part(P::of_text(first, answer), answer)?;
+    if let Some(others) = others {
+        push_others(others, mark, &mut parts, answer);
     }
+    Some(parts)
+}
+
+/// A list of one part.
+fn first_part<P: Spelled>(part: Option<P>, answer: &mut Answer) -> Option<Parts<P>> {
+    let parts = Parts::new(answer.alloc, part?);
+    answer.made(parts)
 }
 
 /// Pushes the parts that a text tells behind the first.
-fn push_others<P: Spelled>(alloc: Global, text: &str, parts: &mut Parts<P>) -> Result<(), Trouble> {
-    for part in text.split(P::mark()).skip(1) {
-        parts.push(P::of_text(alloc, part)?)?;
-    }
-    Ok(())
-}
-
-/// What stands before a mark, or all of the text.
-fn front(text: &str, mark: char) -> &str {
-    match text.split_once(mark) {
-        Some((front, _)) => front,
-        None => text,
-    }
-}
-
-/// The component that a text tells: two digits a character, `~` and two digits a raw byte, `+` and `!` the start and
-/// the end of highlighting.
-fn component_of(alloc: Global, text: &str) -> Result<Component, Trouble> {
-    let mut component = Component::new(alloc);
-    match push_symbols(text.as_bytes(), &mut component) {
-        Ok(()) => Ok(component),
-        Err(trouble) => {
-            drop(component);
-            Err(trouble)
+fn push_others<P: Spelled>(text: &str, mark: char, parts: &mut Parts<P>, answer: &mut Answer) {
+    for part in text.split(mark) {
+        if let Some(part) = P::of_text(part, answer) {
+            answer.needs(parts.push(part));
         }
     }
 }
 
-/// Pushes the symbols that a text tells.
-fn push_symbols(text: &[u8], component: &mut Component) -> Result<(), Trouble> {
+/// What stands before a mark, or all of the text, and what stands behind it.
+fn parted(text: &str, mark: char) -> (&str, Option<&str>) {
+    match text.split_once(mark) {
+        Some((front, behind)) => (front, Some(behind)),
+        None => (text, None),
+    }
+}
+
+/// Pushes the symbols that a text tells: two digits a character, `~` and two digits a raw byte, `+` and `!` the start
+/// and the end of highlighting.
+fn push_symbols(text: &[u8], component: &mut Component, answer: &mut Answer) {
     let mut rest = text;
     for _ in 0..text.len() {
-        if rest.is_empty() {
-            return Ok(());
-        }
-        let (symbol, behind) = symbol_of(rest)?;
-        component.push(symbol)?;
+        let (symbol, behind) = match rest {
+            [] => return,
+            [b'+', behind @ ..] => (Sym::On, behind),
+            [b'!', behind @ ..] => (Sym::Off, behind),
+            [b'~', behind @ ..] => {
+                let (digits, behind) = behind.split_at(behind.len().min(2));
+                (Sym::Raw(byte_of_digits(digits, answer)), behind)
+            }
+            _ => {
+                let (digits, behind) = rest.split_at(rest.len().min(2));
+                (Sym::Char(byte_of_digits(digits, answer)), behind)
+            }
+        };
+        answer.needs(component.push(symbol));
         rest = behind;
-    }
-    Ok(())
-}
-
-/// The symbol that begins a text, and what stands behind it.
-fn symbol_of(text: &[u8]) -> Result<(Sym, &[u8]), Trouble> {
-    match text {
-        [b'+', behind @ ..] => Ok((Sym::On, behind)),
-        [b'!', behind @ ..] => Ok((Sym::Off, behind)),
-        [b'~', high, low, behind @ ..] => Ok((Sym::Raw(pair_of(*high, *low)?), behind)),
-        [high, low, behind @ ..] => Ok((Sym::Char(pair_of(*high, *low)?), behind)),
-        _ => Err(Trouble::NoCall),
-    }
-}
-
-/// The byte of two hexadecimal digits in lower case.
-fn pair_of(high: u8, low: u8) -> Result<u8, Trouble> {
-    Ok(digit_of(high)? * 16 + digit_of(low)?)
-}
-
-/// The value of a hexadecimal digit in lower case.
-fn digit_of(byte: u8) -> Result<u8, Trouble>
-    ensures { IfOk result (λ value. value < 16) }
-{
-    match byte {
-        b'0'..=b'9' => Ok(byte - b'0'),
-        b'a'..=b'f' => Ok(byte - b'a' + 10),
-        _ => Err(Trouble::NoCall),
     }
 }
 

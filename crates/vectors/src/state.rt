@@ -7,9 +7,9 @@ use crate::frame_rows::{frame_call, text_call};
 use crate::link_rows::link_call;
 use crate::message_rows::Reading;
 use crate::record_rows::record_call;
-use crate::words::{Call, Trouble};
+use crate::words::Call;
 use lis_link::{ReceiverOf, SenderOf};
-use std::alloc::Global;
+use std::alloc::{AllocError, Global};
 use std::mem::drop;
 
 /// The usual limit on a frame's text, and the longest.
@@ -38,7 +38,7 @@ impl<const N: usize> Ends<N> {
     }
 
     /// Answers a call that has a limit.
-    fn call(&mut self, subject: &str, call: Call<'_>, answer: &mut Answer) -> Result<(), Trouble>
+    fn call(&mut self, subject: &str, call: Call<'_>, answer: &mut Answer)
         requires { IsLimit N }
     {
         match subject {
@@ -47,7 +47,7 @@ impl<const N: usize> Ends<N> {
             "sender" => self.sender_call(call, answer),
             "receiver" => self.receiver_call(call, answer),
             "link" => link_call::<N>(call, answer),
-            _ => Err(Trouble::NoCall),
+            _ => answer.no_call(),
         }
     }
 }
@@ -55,7 +55,6 @@ impl<const N: usize> Ends<N> {
 /// All that calls leave behind.
 #[derive(Drop)]
 pub(crate) struct State {
-    alloc: Global,
     is_long: bool,
     usual: Ends<USUAL>,
     long: Ends<LONGEST>,
@@ -66,7 +65,6 @@ impl State {
     /// The state before the first call.
     pub(crate) fn new(alloc: Global) -> Self {
         State {
-            alloc,
             is_long: false,
             usual: Ends::new(alloc),
             long: Ends::new(alloc),
@@ -75,37 +73,30 @@ impl State {
     }
 
     /// Answers a line; an empty one by nothing.
-    pub(crate) fn call(&mut self, line: &str, answer: &mut Answer) -> Result<(), Trouble> {
+    pub(crate) fn call(&mut self, line: &str, answer: &mut Answer) {
         if line.is_empty() {
-            return Ok(());
+            return;
         }
-        let words: Vec<&str> = line.split(' ').collect(self.alloc)?;
-        let called = self.call_words(words.as_slice(), answer);
-        drop(words);
-        called
+        let words: Result<Vec<&str>, AllocError> = line.split(' ').collect(answer.alloc);
+        if let Some(words) = answer.made(words) {
+            self.call_words(words.as_slice(), answer);
+            drop(words);
+        }
     }
 
     /// Answers the words of a line, of which the first is the call.
-    fn call_words(&mut self, words: &[&str], answer: &mut Answer) -> Result<(), Trouble> {
+    fn call_words(&mut self, words: &[&str], answer: &mut Answer) {
         let [name, words @ ..] = words else {
-            return Err(Trouble::NoCall);
+            return answer.no_call();
         };
         match name.split_once('.') {
-            None => self.limit(*name, words, answer),
-            Some((subject, name)) => {
-                let alloc = self.alloc;
-                self.call_subject(subject, Call { alloc, name, words }, answer)
-            }
+            Some((subject, name)) => self.call_subject(subject, Call { name, words }, answer),
+            None => self.limit(Call { name: *name, words }, answer),
         }
     }
 
     /// Answers a call on a subject.
-    fn call_subject(
-        &mut self,
-        subject: &str,
-        call: Call<'_>,
-        answer: &mut Answer,
-    ) -> Result<(), Trouble> {
+    fn call_subject(&mut self, subject: &str, call: Call<'_>, answer: &mut Answer) {
         match subject {
             "record" => record_call(call, answer),
             "message" => self.reading.call(call, answer),
@@ -115,13 +106,12 @@ impl State {
     }
 
     /// The limit of frames from here on.
-    fn limit(&mut self, name: &str, words: &[&str], answer: &mut Answer) -> Result<(), Trouble> {
-        self.is_long = match (name, words) {
-            ("limit", ["240"]) => false,
-            ("limit", ["63993"]) => true,
-            _ => return Err(Trouble::NoCall),
-        };
+    fn limit(&mut self, call: Call<'_>, answer: &mut Answer) {
+        let limit = call.number(0, answer) as usize;
+        if call.name != "limit" || (limit != USUAL && limit != LONGEST) {
+            return answer.no_call();
+        }
+        self.is_long = limit == LONGEST;
         answer.word("ok");
-        Ok(())
     }
 }

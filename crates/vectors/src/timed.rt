@@ -3,7 +3,7 @@
 
 use lis_link::{Outcome, Receiver};
 use lis_message::read_messages;
-use lis_text::{LinkText, Texts};
+use lis_text::Texts;
 use lis_world::{Event, Events, Session, play};
 use std::alloc::Global;
 use std::io::Read;
@@ -14,7 +14,7 @@ use std::process::ExitCode;
 const PIECE: usize = 65_536;
 
 /// How many frames the session has that is played, each a text of its own.
-const FRAMES: u64 = 1_000;
+const FRAMES: usize = 1_000;
 
 /// What a full frame carries.
 const FULL: usize = 240;
@@ -172,28 +172,26 @@ fn accepted(history: &[Session]) -> u64 {
 fn session(alloc: Global) -> Option<Events> {
     let texts = full_texts(alloc)?;
     let mut events = Events::new(alloc);
+    if push_session(texts, &mut events).is_none() {
+        drop(events);
+        return None;
+    }
+    Some(events)
+}
+
+/// Pushes the events of the session that has these texts.
+fn push_session(texts: Texts, events: &mut Events) -> Option<()> {
     events.push(Event::Start(texts)).ok()?;
     // ENQ, the frames, and EOT, which is not answered.
     for _ in 0..FRAMES + 1 {
         events.push(Event::Deliver).ok()?;
         events.push(Event::Reply).ok()?;
     }
-    events.push(Event::Deliver).ok()?;
-    Some(events)
+    events.push(Event::Deliver).ok()
 }
 
 /// The texts of the session.
 fn full_texts(alloc: Global) -> Option<Texts> {
-    let mut texts = Texts::new(alloc);
-    for _ in 0..FRAMES {
-        texts.push(full_text(alloc)?).ok()?;
-    }
-    Some(texts)
-}
-
-/// A text that fills a frame.
-fn full_text(alloc: Global) -> Option<LinkText> {
-    let mut text = LinkText::new(alloc);
-    text.extend(&[b'R'; FULL]).ok()?;
-    Some(text)
+    let text = [b'R'; FULL];
+    Texts::from_slices(alloc, &[text.as_slice(); FRAMES]).ok()
 }

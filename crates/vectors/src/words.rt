@@ -1,111 +1,87 @@
-//! A call, and reading its words: numbers, bytes, texts.
+//! A call, and reading its words: numbers, bytes, texts. A word that tells none is a trouble of the answer.
 
+use crate::answer::{Answer, Trouble};
 use hex::FromHexError;
 use lis_text::{LinkText, Texts};
-use std::alloc::{AllocError, AllocFailed, Global};
-use std::mem::drop;
 
-/// Why a call has no answer.
-#[derive(Clone, Copy)]
-pub(crate) enum Trouble {
-    /// The line is no call, or the call isn't possible where it stands.
-    NoCall,
-    /// Memory was refused.
-    OutOfMemory,
-}
-
-/// A call: its name, its words, and where what they tell takes memory.
+/// A call: its name and its words, of which it takes those that it has use for.
 #[derive(Clone, Copy)]
 pub(crate) struct Call<'a> {
-    pub(crate) alloc: Global,
     pub(crate) name: &'a str,
     pub(crate) words: &'a [&'a str],
 }
 
-impl From<AllocError> for Trouble {
-    fn from(_refused: AllocError) -> Self {
-        Trouble::OutOfMemory
+impl<'a> Call<'a> {
+    /// The word at a place, from 0; without it the line is no call.
+    pub(crate) fn word(self, place: usize, answer: &mut Answer) -> &'a str {
+        match self.words.get(place) {
+            Some(word) => *word,
+            None => {
+                answer.no_call();
+                ""
+            }
+        }
     }
-}
 
-impl<T: Drop> From<AllocFailed<T>> for Trouble {
-    fn from(_refused: AllocFailed<T>) -> Self {
-        Trouble::OutOfMemory
+    /// The number that a word is.
+    pub(crate) fn number(self, place: usize, answer: &mut Answer) -> u64 {
+        match self.word(place, answer).parse() {
+            Ok(number) => number,
+            Err(_) => {
+                answer.no_call();
+                0
+            }
+        }
     }
-}
 
-/// The number that a word is.
-pub(crate) fn number_of(word: &str) -> Result<u64, Trouble> {
-    match word.parse() {
-        Ok(number) => Ok(number),
-        Err(_) => Err(Trouble::NoCall),
-    }
-}
-
-/// The number that a word is, where a size is told.
-pub(crate) fn size_of_word(word: &str) -> Result<usize, Trouble> {
-    match word.parse() {
-        Ok(number) => Ok(number),
-        Err(_) => Err(Trouble::NoCall),
+    /// The bytes of a word.
+    pub(crate) fn bytes(self, place: usize, answer: &mut Answer) -> Vec<u8> {
+        bytes_of(self.word(place, answer), answer)
     }
 }
 
 /// The bytes of a word: pairs of hexadecimal digits, or `-` for none.
-pub(crate) fn bytes_of(alloc: Global, word: &str) -> Result<Vec<u8>, Trouble> {
-    if word == "-" {
-        return Ok(Vec::new(alloc));
+pub(crate) fn bytes_of(word: &str, answer: &mut Answer) -> Vec<u8> {
+    let digits = if word == "-" { "" } else { word };
+    match hex::decode(answer.alloc, digits) {
+        Ok(bytes) => bytes,
+        Err(fault) => {
+            answer.trouble(match fault {
+                FromHexError::OutOfMemory => Trouble::OutOfMemory,
+                _ => Trouble::NoCall,
+            });
+            Vec::new(answer.alloc)
+        }
     }
-    match hex::decode(alloc, word) {
-        Ok(bytes) => Ok(bytes),
-        Err(FromHexError::OutOfMemory) => Err(Trouble::OutOfMemory),
-        Err(_) => Err(Trouble::NoCall),
-    }
+}
+
+/// The byte of a word of two hexadecimal digits.
+pub(crate) fn byte_of(word: &str, answer: &mut Answer) -> u8 {
+    byte_of_digits(word.as_bytes(), answer)
 }
 
 /// The byte of two hexadecimal digits.
-pub(crate) fn byte_of(word: &str) -> Result<u8, Trouble> {
+pub(crate) fn byte_of_digits(digits: &[u8], answer: &mut Answer) -> u8 {
     let mut byte = [0];
-    match hex::decode_to_slice(word, &mut byte) {
-        Ok(()) => Ok(byte[0]),
-        Err(_) => Err(Trouble::NoCall),
+    if hex::decode_to_slice(digits, &mut byte).is_err() {
+        answer.no_call();
     }
+    byte[0]
 }
 
 /// The link text of a word of bytes.
-pub(crate) fn link_text_of(alloc: Global, word: &str) -> Result<LinkText, Trouble> {
-    Ok(LinkText::from_vec(bytes_of(alloc, word)?))
+pub(crate) fn link_text_of(word: &str, answer: &mut Answer) -> LinkText {
+    LinkText::from_vec(bytes_of(word, answer))
 }
 
 /// The texts of a word: bytes with `,` between two texts, or `none`.
-pub(crate) fn texts_of(alloc: Global, word: &str) -> Result<Texts, Trouble> {
-    let mut texts = Texts::new(alloc);
-    if word == "none" {
-        return Ok(texts);
-    }
-    match push_texts(alloc, word, &mut texts) {
-        Ok(()) => Ok(texts),
-        Err(trouble) => {
-            drop(texts);
-            Err(trouble)
+pub(crate) fn texts_of(word: &str, answer: &mut Answer) -> Texts {
+    let mut texts = Texts::new(answer.alloc);
+    if word != "none" {
+        for text in word.split(',') {
+            let pushed = texts.push(link_text_of(text, answer));
+            answer.needs(pushed);
         }
     }
-}
-
-/// Pushes the texts of a word that tells some.
-fn push_texts(alloc: Global, word: &str, texts: &mut Texts) -> Result<(), Trouble> {
-    for text in word.split(',') {
-        push_text(texts, link_text_of(alloc, text)?)?;
-    }
-    Ok(())
-}
-
-/// Pushes a text.
-fn push_text(texts: &mut Texts, text: LinkText) -> Result<(), Trouble> {
-    match texts.push(text) {
-        Ok(()) => Ok(()),
-        Err(refused) => {
-            drop(refused);
-            Err(Trouble::OutOfMemory)
-        }
-    }
+    texts
 }

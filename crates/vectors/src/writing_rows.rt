@@ -5,7 +5,6 @@ ghost use Rattle.lis_spelling.specs.Spelling.{written};
 
 use crate::answer::Answer;
 use crate::narrow::{Narrow, WIDE};
-use crate::words::{Trouble, number_of};
 use lis_port::Slow;
 use lis_record::{
     Delimiters, Field, Record, WriteFault, check_record, put_field, write_field, write_record,
@@ -37,8 +36,7 @@ pub(crate) struct Writing {
 impl Writing {
     /// Tests the record, writes it to a wide sink and, without the first bytes, to a narrow one; where that fails, the
     /// rest to a wide one.
-    pub(crate) fn whole_and_part(&self, skip: &str, answer: &mut Answer) -> Result<(), Trouble> {
-        let skip = number_of(skip)?;
+    pub(crate) fn whole_and_part(&self, skip: u64, answer: &mut Answer) {
         answer.word("check=");
         put_result(check_record(&self.delimiters, &self.entry), answer);
         answer.word("whole=");
@@ -53,7 +51,6 @@ impl Writing {
             answer.word("then=");
             self.write_from(count, answer);
         }
-        Ok(())
     }
 
     /// Writes the record without its first bytes to a wide sink.
@@ -67,7 +64,7 @@ impl Writing {
     }
 
     /// Writes each field of the record, to a wide sink and to a narrow one; `limited` by `write_field`.
-    pub(crate) fn fields(&self, limited: bool, answer: &mut Answer) -> Result<(), Trouble> {
+    pub(crate) fn fields(&self, limited: bool, answer: &mut Answer) {
         if self.entry.fields().is_empty() {
             answer.word("none");
         }
@@ -78,7 +75,6 @@ impl Writing {
             answer.text("/");
             write_one_field(self.delimiters, field, self.narrow.sink(), limited, answer);
         }
-        Ok(())
     }
 }
 
