@@ -1,9 +1,11 @@
 -- A receiver that hears the bytes of a line, step by step.
 use Rattle.std.proofs.Common.{◌≡◌, ℕ, suc, ◌+◌, ◌^◌, ◌<◌, ◌≤◌, min, List, [], ◌∷◌, ◌++◌, Option, None, Some, Ok, Err}
 use Rattle.std.proofs.Common.{length, drop, refl, sym, ◌∙◌, ap, subst, arith, append-nil, append_assoc, length-append}
-use Rattle.std.proofs.Common.{length-drop}
+use Rattle.std.proofs.Common.{false, length-drop}
 use Rattle.std.specs.List.{flat_map}
 use Rattle.std.specs.Option.{option_to_list}
+use Rattle.std.specs.Result.{OnErr, is_ok}
+use Rattle.std.specs.declared.result.Result.{Result}
 use Rattle.lis_link.specs.inside.Kept.{Kept}
 use Rattle.lis_link.specs.declared.receiver.Note.{Note}
 use Rattle.lis_link.specs.declared.receiver.Note.TheVariants.{Quiet}
@@ -19,6 +21,11 @@ use Rattle.lis_run.specs.Output.{Gathered, Out, most_counted}
 use Rattle.lis_run.specs.inside.Playing.{IsHearing, text_part, text_parts}
 use Rattle.lis_run.specs.Replay.{having_heard, replies, handed}
 use Rattle.lis_run.proofs.GatherLaws.{gathered_then, gathered_stops}
+
+-- what an error tells, where a result is none that is good
+pub refused_if_not_ok : {T E P : Type 0} (result : Result T E) → OnErr result P → is_ok result ≡ false → P
+refused_if_not_ok (Ok value) refused none = absurd cc
+refused_if_not_ok (Err fault) refused none = refused
 
 -- so many bytes of a list are heard by one step: it gives their replies and texts, and those behind them give the rest
 pub record AtOnce (limit : ℕ) (r : ReceiverState) (bytes : List ℕ) (n : ℕ) (step : ReceiverStep) : Type 0 where

@@ -9,7 +9,7 @@ ghost use Rattle.lis_capture.specs.declared.page.TheConstants.{PAGE_ROOM};
 ghost use Rattle.lis_run.specs.Output.{Gathered, most_counted, out};
 ghost use Rattle.lis_run.specs.Runs.{AreFresh, RanOver, Shown, Stops};
 ghost use Rattle.lis_run.specs.Show.{bad_line, digits_part, frame_line, frame_start, heard_line, Shows};
-ghost use Rattle.lis_run.specs.Show.{show, signal_lines};
+ghost use Rattle.lis_run.specs.Show.{printed_fault, show, signal_lines};
 ghost use Rattle.lis_run.specs.Outcome.{going};
 ghost use Rattle.lis_run.specs.Parts.{part_text, text_if_any};
 ghost use Rattle.std.proofs.Common.{ap};
@@ -138,10 +138,16 @@ fn show_bytes<const N: usize, W: Sink>(
     while let Some((byte, left)) = rest.split_first() {
         let (taken, frame) = scanner.scan(rest);
         if taken == 0 {
-            after = show_byte(scanner, sink, page, after, *byte)?;
+            match show_byte(scanner, sink, page, after, *byte) {
+                Ok(next) => after = next,
+                Err(fault) => return Err(fault),
+            }
             rest = left;
         } else {
-            after = tell_lent(sink, page, after, frame)?;
+            match tell_lent(sink, page, after, frame) {
+                Ok(next) => after = next,
+                Err(fault) => return Err(fault),
+            }
             let (_, behind) = rest.split_at(taken);
             rest = behind;
         }
@@ -268,21 +274,31 @@ impl Tell for FrameFault {
     ghost text = { bad_line };
 
     fn tell<W: Sink>(&self, sink: &mut W, page: &mut Page, written: u64) -> Written {
-        match self {
-            FrameFault::TooLong => Part::Text(b"bad F1\n").tell(sink, page, written),
-            FrameFault::Shape => Part::Text(b"bad F2\n").tell(sink, page, written),
-            FrameFault::Number => Part::Text(b"bad F3\n").tell(sink, page, written),
-            FrameFault::Text(place) => {
-                let after = match make_room(sink, page, written, FRAME_ROOM) {
-                    Ok(after) => after,
-                    Err(fault) => return Err(fault),
-                };
-                page.append(b"bad F4 ");
-                append_number(page, *place as u64);
-                page.append(b"\n");
-                Ok(after)
-            }
-            FrameFault::Sum => Part::Text(b"bad F5\n").tell(sink, page, written),
+        let after = match make_room(sink, page, written, FRAME_ROOM) {
+            Ok(after) => after,
+            Err(fault) => return Err(fault),
+        };
+        page.append(b"bad ");
+        append_fault(page, *self);
+        page.append(b"\n");
+        Ok(after)
+    }
+}
+
+/// Puts the code of a fault behind the page, with the place of a byte that a text may not hold.
+fn append_fault(page: &mut Page, fault: FrameFault)
+    requires { length page.old + 50 ≤ PAGE_ROOM }
+    ensures value { page.new ≡ page.old ++ printed_fault fault }
+    ensures short { length page.new ≤ length page.old + 50 }
+{
+    match fault {
+        FrameFault::TooLong => page.append(b"F1"),
+        FrameFault::Shape => page.append(b"F2"),
+        FrameFault::Number => page.append(b"F3"),
+        FrameFault::Text(place) => {
+            page.append(b"F4 ");
+            append_number(page, place as u64);
         }
+        FrameFault::Sum => page.append(b"F5"),
     }
 }

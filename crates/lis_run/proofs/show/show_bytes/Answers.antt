@@ -1,5 +1,4 @@
 use Rattle.std.proofs.Common.{[], ◌∷◌, Ok, Err, take, drop, ◌∙◌, arith}
-use Rattle.std.proofs.lemmas.Result.{err_from_is_err_and}
 use Rattle.lis_frame.specs.Scanner.{StandsFor}
 use Rattle.lis_frame.specs.Stream.{signal_after, signals_after, stream_with, with_signal}
 use Rattle.lis_run.specs.Show.{frame_line, signal_lines}
@@ -13,8 +12,8 @@ pub loop-byte-preserved-then-taken-eq0 : goal.loop-byte-preserved-then-taken-eq0
 loop-byte-preserved-then-taken-eq0 g c =
     let split = c.in-Some.ensures.cases.0 in
     record {
-      fits = c.in_ok-after.ensures.count;
-      working = c.in_ok-after.ensures.failed;
+      fits = c.in-Ok.ensures.count;
+      working = c.in-Ok.ensures.failed;
       goes_on = λ past stands.
           let point = c.loop-byte.invariant.goes_on past stands in
           let byte = c.in-Some.byte.now in
@@ -22,16 +21,16 @@ loop-byte-preserved-then-taken-eq0 g c =
           let same : StandsFor g.row.N c.scan-taken.new.self point.0 =
           rw c.if-taken-eq0.true at (c.scan-taken.ensures.after point.0 point.1) in (
             byte ∷ point.0,
-            c.in_ok-after.ensures.stands point.0 same,
+            c.in-Ok.ensures.stands point.0 same,
             rw split at point.2,
             λ new r p.
                 (rw split at point.3) new r
                 (rw (signal_lines-with (signal_after g.row.N point.0 byte)
                 (signals_after g.row.N (byte ∷ point.0) left))
-                (gathered_then _ _ _ _ c.in_ok-after.after r (signal_lines
+                (gathered_then _ _ _ _ c.in-Ok.next r (signal_lines
                 (with_signal (signal_after g.row.N point.0 byte) []))
                 (signal_lines (signals_after g.row.N (byte ∷ point.0) left))
-                (c.in_ok-after.ensures.gathered point.0 same) p)),
+                (c.in-Ok.ensures.gathered point.0 same) p)),
           );
     }
 
@@ -41,8 +40,8 @@ loop-byte-preserved g c =
     let frame = c.scan-taken.result.1 in
     let rest = c.loop-byte.rest.now in
     record {
-      fits = omega (arith, c.in_ok-after-2.ensures.gathered.2.counted);
-      working = c.in_ok-after-2.ensures.failed;
+      fits = omega (arith, c.in-Ok-tell_lent.ensures.gathered.2.counted);
+      working = c.in-Ok-tell_lent.ensures.failed;
       goes_on = λ past stands.
           let point = c.loop-byte.invariant.goes_on past stands in
           let there = stream_with point.0 (take n rest) in (
@@ -52,15 +51,14 @@ loop-byte-preserved g c =
             λ new r p.
                 point.3 new r
                 (rw (front_lines g.row.N n point.0 rest frame (c.scan-taken.ensures.signal point.0 point.1))
-                (gathered_then _ _ _ _ c.in_ok-after-2.after r (text_if_any frame_line frame)
+                (gathered_then _ _ _ _ c.in-Ok-tell_lent.next r (text_if_any frame_line frame)
                 (signal_lines (signals_after g.row.N there (drop n rest)))
-                c.in_ok-after-2.ensures.gathered (rw c.split_at.ensures.back at p))),
+                c.in-Ok-tell_lent.ensures.gathered (rw c.split_at.ensures.back at p))),
           );
     }
 
-pub returns-in_err-after-clause-gathered : goal.returns-in_err-after-clause-gathered
-returns-in_err-after-clause-gathered g c = λ past stands.
-    let p = err_from_is_err_and c.from_residual.result c.from_residual.ensures.1 in
+pub returns-in-Err-clause-gathered : goal.returns-in-Err-clause-gathered
+returns-in-Err-clause-gathered g c = λ past stands.
     let point = c.loop-byte.invariant.goes_on past stands in
     let split = c.in-Some.ensures.cases.0 in
     let byte = c.in-Some.byte.now in
@@ -68,28 +66,25 @@ returns-in_err-after-clause-gathered g c = λ past stands.
     let same : StandsFor g.row.N c.scan-taken.new.self point.0 =
     rw c.if-taken-eq0.true at (c.scan-taken.ensures.after point.0 point.1) in
     let there = out (g.W.Sink.taken c.show_byte.new.sink) c.show_byte.new.page in
-    rw (p.1, p.2)
-    ((rw split at point.3) there (Err c.in_err-after.field-0.0)
+    (rw split at point.3) there (Err c.in-Err.fault)
     (rw (signal_lines-with (signal_after g.row.N point.0 byte) (signals_after g.row.N (byte ∷ point.0) left))
     (gathered_stops (out (g.W.Sink.taken c.loop-byte.sink) c.loop-byte.page) there c.loop-byte.after
-    c.in_err-after.field-0.0
+    c.in-Err.fault
     (signal_lines (with_signal (signal_after g.row.N point.0 byte) []))
     (signal_lines (signals_after g.row.N (byte ∷ point.0) left))
-    (c.in_err-after.ensures.gathered point.0 same))))
+    (c.in-Err.ensures.gathered point.0 same)))
 
-pub returns-in_err-after-2-clause-gathered : goal.returns-in_err-after-2-clause-gathered
-returns-in_err-after-2-clause-gathered g c = λ past stands.
-    let p = err_from_is_err_and c.from_residual-in_err-after-2.result c.from_residual-in_err-after-2.ensures.1 in
+pub returns-in-Err-tell_lent-clause-gathered : goal.returns-in-Err-tell_lent-clause-gathered
+returns-in-Err-tell_lent-clause-gathered g c = λ past stands.
     let point = c.loop-byte.invariant.goes_on past stands in
     let n = c.scan-taken.result.0 in
     let frame = c.scan-taken.result.1 in
     let rest = c.loop-byte.rest.now in
-    rw (p.1, p.2)
-    (point.3 (out (g.W.Sink.taken c.tell_lent.new.sink) c.tell_lent.new.page) (Err c.in_err-after-2.field-0.0)
+    point.3 (out (g.W.Sink.taken c.tell_lent.new.sink) c.tell_lent.new.page) (Err c.in-Err-tell_lent.fault)
     (rw (front_lines g.row.N n point.0 rest frame (c.scan-taken.ensures.signal point.0 point.1))
     (gathered_stops (out (g.W.Sink.taken c.loop-byte.sink) c.loop-byte.page)
     (out (g.W.Sink.taken c.tell_lent.new.sink) c.tell_lent.new.page)
-    c.loop-byte.after c.in_err-after-2.field-0.0 (text_if_any frame_line frame) _ c.in_err-after-2.ensures.gathered)))
+    c.loop-byte.after c.in-Err-tell_lent.fault (text_if_any frame_line frame) _ c.in-Err-tell_lent.ensures.gathered))
 
 pub returns-clause-gathered : goal.returns-clause-gathered
 returns-clause-gathered g c = λ past stands.
