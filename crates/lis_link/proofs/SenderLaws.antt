@@ -1,10 +1,10 @@
 -- How a sender's queue and its count go on together, and what it sends.
 use Rattle.std.proofs.Common.{◌≡◌, ◌≢◌, ℕ, zero, suc, ◌+◌, ◌<◌, ◌≤◌, true, false, List, [], ◌∷◌, length, drop}
-use Rattle.std.proofs.Common.{Option, None, Some, refl, sym, ap, ◌∙◌, subst, arith}
+use Rattle.std.proofs.Common.{Option, None, Some, ◌⊎◌, inl, inr, refl, sym, ap, ◌∙◌, subst, arith}
 use Rattle.std.specs.Prelude.{All, nat_lt, ◌==◌}
 use Rattle.std.proofs.lemmas.Bool.Decides.{nat_tests}
 use Rattle.std.proofs.lemmas.List.{drop-drop}
-use Rattle.lis_text.specs.Control.{ENQ, ACK}
+use Rattle.lis_text.specs.Control.{ENQ, ACK, EOT}
 use Rattle.lis_frame.specs.Frame.{FrameContent}
 use Rattle.lis_frame.specs.Limit.{IsLimit}
 use Rattle.lis_frame.specs.Pieces.{session_frames}
@@ -14,7 +14,8 @@ use Rattle.lis_link.specs.declared.sender.Outcome.TheVariants.{SixTries}
 use Rattle.lis_link.specs.declared.sender.Phase.{Phase}
 use Rattle.lis_link.specs.declared.sender.Phase.TheVariants.{Neutral, AwaitLine, Busy, Contention, AwaitReply}
 use Rattle.lis_link.specs.inside.Queue.{Queue, IsSender, PhaseFits, StandsBehind, frames_of, first_frame}
-use Rattle.lis_link.specs.Sender.{SenderState, gives, ends, sends_first, sends_again, reply_in}
+use Rattle.lis_link.specs.Sender.{SenderState, gives, ends, on_accepted, sends_first, sends_again}
+use Rattle.lis_link.specs.Sender.{reply_in}
 use Rattle.lis_link.proofs.Counting.{few-session_frames}
 use Rattle.lis_link.proofs.StartLaws.{Faultless, texts-faultless}
 
@@ -178,6 +179,21 @@ pub neutral-other :
 neutral-other b s not =
     let other : (b == ENQ) ≡ false = grind (arith, nat_tests) in
     rw other refl
+
+-- a frame is accepted by ACK and by EOT, and sent again by any other
+pub frame-accepted :
+    {limit : ℕ} (b : ℕ) (s : SenderState) → (b ≡ ACK) ⊎ ((b ≢ ACK) × (b ≡ EOT))
+    → reply_in {limit = limit} AwaitReply b s ≡ on_accepted s
+frame-accepted b s (inl is) = rw is refl
+frame-accepted b s (inr both) = rw both.1 refl
+
+pub frame-refused :
+    {limit : ℕ} (b : ℕ) (s : SenderState) → b ≢ ACK → b ≢ EOT
+    → reply_in {limit = limit} AwaitReply b s ≡ sends_again (drop s.acknowledged s.frames) s
+frame-refused b s first second =
+    let no_ack : (b == ACK) ≡ false = grind (arith, nat_tests) in
+    let no_eot : (b == EOT) ≡ false = grind (arith, nat_tests) in
+    rw (no_ack, no_eot) refl
 
 -- and one that asked for the line and wasn't given it waits
 pub line-enquiry :

@@ -1,6 +1,6 @@
 use Rattle.std.proofs.Common.{◌∙◌, sym, ap, arith}
 use Rattle.lis_link.specs.Sender.{SenderState, SenderStep, reply_in}
-use Rattle.lis_link.proofs.SenderLaws.{fits_now, neutral-enquiry, neutral-other}
+use Rattle.lis_link.proofs.SenderLaws.{fits_now, frame-accepted, frame-refused, neutral-enquiry, neutral-other}
 use Rattle.lis_link.proofs.sender.SenderOver.reply.Goals.{then-byte-eq-ENQ, else-byte-eq-ENQ}
 use Rattle.lis_link.proofs.sender.SenderOver.reply.Goals as goal
 
@@ -43,4 +43,27 @@ returns-in-AwaitLine g c =
     record {
       emit = c.line_reply.ensures.emit ∙ ap (λ p. (reply_in {limit = g.row.N} p c.args.byte now).emit) phase;
       after = c.line_reply.ensures.after ∙ ap (λ p. (reply_in {limit = g.row.N} p c.args.byte now).after) phase;
+    }
+
+pub returns-then-byte-eq-EOT : goal.returns-then-byte-eq-EOT
+returns-then-byte-eq-EOT g c =
+    let now = c.args.self.now in
+    let phase = sym c.in-AwaitReply.is ∙ ap (λ (s : SenderState). s.phase) c.self.view_is in
+    let step = sym (frame-accepted {limit = g.row.N} c.args.byte now c.if-byte-eq-EOT.either)
+    ∙ ap (λ p. reply_in {limit = g.row.N} p c.args.byte now) phase in
+    record {
+      emit = c.accepted.ensures.emit ∙ ap (λ (s : SenderStep g.row.N). s.emit) step;
+      after = c.accepted.ensures.after ∙ ap (λ (s : SenderStep g.row.N). s.after) step;
+    }
+
+pub returns-else-byte-eq-EOT : goal.returns-else-byte-eq-EOT
+returns-else-byte-eq-EOT g c =
+    let now = c.args.self.now in
+    let phase = sym c.in-AwaitReply.is ∙ ap (λ (s : SenderState). s.phase) c.self.view_is in
+    let neither = c.if-byte-eq-EOT.false in
+    let step = sym (frame-refused {limit = g.row.N} c.args.byte now neither.0 neither.1)
+    ∙ ap (λ p. reply_in {limit = g.row.N} p c.args.byte now) phase in
+    record {
+      emit = c.send_again.ensures.emit ∙ ap (λ (s : SenderStep g.row.N). s.emit) step;
+      after = c.send_again.ensures.after ∙ ap (λ (s : SenderStep g.row.N). s.after) step;
     }
