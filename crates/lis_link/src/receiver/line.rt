@@ -1,6 +1,7 @@
 //! The line as a receiver has it: all of its state but the scanner. It answers what the scanner tells.
 
 ghost use Rattle.std.specs.Prelude.{◌≡◌, ◌≢◌, ◌≤◌, ◌<◌, ◌+◌, ◌^◌, ℕ, length, [], IsTrue, OnOk, None, Some, false};
+ghost use Rattle.std.specs.Prelude.{◌&&◌, ◌==◌, ◌%◌, nat_lt};
 ghost use Rattle.lis_text.specs.LinkText.{longest_text};
 ghost use Rattle.lis_frame.specs.Scanner.{Held, heard_signal};
 ghost use Rattle.lis_frame.specs.declared.scanner.SignalOf.TheVariants as Signals;
@@ -296,7 +297,7 @@ impl Line {
         ensures value { result ≡ judged_by self.now.accepted (length self.now.held) self.now.room number bytes }
     {
         let number_due = (self.accepted + 1) % 8;
-        if self.accepted > 0 && u64::from(number) == self.accepted % 8 {
+        if self.is_repeated(number) {
             Note::Duplicate(number)
         } else if u64::from(number) != number_due {
             Note::OutOfTurn(number)
@@ -309,6 +310,14 @@ impl Line {
         } else {
             Note::Accepted(number)
         }
+    }
+
+    /// Whether the frame that was accepted last has this number.
+    #[inline(always)]
+    fn is_repeated(&self, number: u8) -> bool
+        ensures { result ≡ (nat_lt 0 self.now.accepted && number == self.now.accepted % 8) }
+    {
+        self.accepted > 0 && u64::from(number) == self.accepted % 8
     }
 }
 
