@@ -3,7 +3,7 @@ use Rattle.std.specs.Prelude.{◌≡◌, ℕ, List, [], ◌∷◌, codes, map, �
 use Rattle.lis_field.specs.declared.kinds.Kind.{Kind}
 use Rattle.lis_field.specs.declared.kinds.Kind.TheVariants.{H, P, O, R, L}
 use Rattle.lis_field.specs.Delimiters.{usual}
-use Rattle.lis_field.specs.Shape.{RecordContent, plain_component, plain_field}
+use Rattle.lis_field.specs.Shape.{RecordContent, Repeats, plain_component, plain_field}
 use Rattle.lis_message.specs.Texts.{HasNoTexts}
 use Rattle.lis_tree.specs.declared.fault.Reason.TheVariants.{OutOfMemory}
 use Rattle.lis_tree.specs.Tree.{MessageTree, flatten}
@@ -14,13 +14,16 @@ use Rattle.uses.specs.declared.building.BuildFault.TheVariants.{Memory, Message,
 abbrev pub plain_record : Kind → List (List ℕ) → RecordContent
 plain_record kind texts = record { kind = kind; fields = map plain_field texts }
 
--- the result of the test `^^^GLU`
+-- the test `^^^GLU`
+abbrev pub glucose_test : Repeats
+glucose_test = ([] ∷ [] ∷ [] ∷ plain_component (codes "GLU") ∷ []) ∷ []
+
+-- the result of that test
 abbrev pub glucose_record : List ℕ → RecordContent
 glucose_record value =
     record {
       kind = R;
-      fields = plain_field (codes "1") ∷ (([] ∷ [] ∷ [] ∷ plain_component (codes "GLU") ∷ []) ∷ []) ∷ plain_field value
-          ∷ plain_field (codes "mmol/L") ∷ [];
+      fields = plain_field (codes "1") ∷ glucose_test ∷ plain_field value ∷ plain_field (codes "mmol/L") ∷ [];
     }
 
 -- the header, a patient, an order for the sample, its result, and the record that closes the message

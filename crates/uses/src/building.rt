@@ -1,9 +1,11 @@
 //! Building a message of results, and its link texts.
 
-ghost use Rattle.std.specs.Prelude.{◌≡◌, IfErr, IfOk, map};
+ghost use Rattle.std.specs.Prelude.{◌≡◌, ◌++◌, ◌∷◌, [], IfErr, IfOk, OnOk, map};
 ghost use Rattle.lis_field.specs.Delimiters.{usual};
+ghost use Rattle.lis_field.specs.Shape.{plain_component, plain_field};
 ghost use Rattle.lis_spelling.specs.Spelling.{written};
-ghost use Rattle.uses.specs.Building.{HasNoResultTexts, IsMemory, IsResultMessage, glucose_record, result_records};
+ghost use Rattle.uses.specs.Building.{HasNoResultTexts, IsMemory, IsResultMessage};
+ghost use Rattle.uses.specs.Building.{glucose_record, glucose_test, result_records};
 
 use lis_field::{Component, Delimiters, Field, Kind, Record, Repeat};
 use lis_message::{Message, MessageFault, Records, Texts, TextsFault, message_texts};
@@ -27,38 +29,69 @@ pub fn result_message(alloc: Global, sample: &[u8], value: &[u8]) -> Result<Mess
     ensures ok { IfOk result (IsResultMessage sample.now value.now) }
     ensures err { IfErr result IsMemory }
 {
-    let records = result_records(alloc, sample, value).map_err(BuildFault::Memory)?;
+    let mut records = Records::new(alloc);
+    push_result(alloc, &mut records, sample, value).map_err(BuildFault::Memory)?;
     Message::from_records(alloc, Delimiters::usual(), records).map_err(BuildFault::Message)
 }
 
-/// Its records.
-fn result_records(alloc: Global, sample: &[u8], value: &[u8]) -> Result<Records, AllocError>
-    ensures { IfOk result (λ records. records ≡ result_records sample.now value.now) }
+/// Adds its records.
+fn push_result(
+    alloc: Global,
+    records: &mut Records,
+    sample: &[u8],
+    value: &[u8],
+) -> Result<(), AllocError>
+    ensures { OnOk result (records.new ≡ records.old ++ result_records sample.now value.now) }
 {
-    let mut order = Record::from_texts(alloc, Kind::O, &[b"1".as_slice()])?;
-    order.push(Field::from_text(alloc, sample)?)?;
-    let mut records = Records::new(alloc);
-    records.push(Record::new(alloc, Kind::H))?;
-    records.push(Record::from_texts(alloc, Kind::P, &[b"1".as_slice()])?)?;
-    records.push(order)?;
+    push_texts(alloc, records, Kind::H, &[])?;
+    push_texts(alloc, records, Kind::P, &[b"1".as_slice()])?;
+    push_texts(alloc, records, Kind::O, &[b"1".as_slice(), sample])?;
     records.push(glucose_record(alloc, value)?)?;
-    records.push(Record::from_texts(alloc, Kind::L, &[b"1".as_slice(), b"N".as_slice()])?)?;
-    Ok(records)
+    push_texts(alloc, records, Kind::L, &[b"1".as_slice(), b"N".as_slice()])
 }
 
-/// The record of a glucose result. Its test, `^^^GLU`, is a field of four components.
+/// Adds the record whose fields are these texts.
+fn push_texts(
+    alloc: Global,
+    records: &mut Records,
+    kind: Kind,
+    texts: &[&[u8]],
+) -> Result<(), AllocError>
+    ensures { OnOk result (records.new ≡ records.old ++ record {
+      kind = kind;
+      fields = map (λ text. plain_field text.now) texts.now;
+    } ∷ []) }
+{
+    Ok(records.push(Record::from_texts(alloc, kind, texts)?)?)
+}
+
+/// The record of a glucose result.
 fn glucose_record(alloc: Global, value: &[u8]) -> Result<Record, AllocError>
     ensures { IfOk result (λ entry. entry ≡ glucose_record value.now) }
 {
-    let mut test = Repeat::new(alloc, Component::new(alloc))?;
-    test.push(Component::new(alloc))?;
-    test.push(Component::new(alloc))?;
-    test.push(Component::from_text(alloc, b"GLU")?)?;
     let mut entry = Record::from_texts(alloc, Kind::R, &[b"1".as_slice()])?;
-    entry.push(Field::new(alloc, test)?)?;
+    entry.push(glucose_test(alloc)?)?;
     entry.push(Field::from_text(alloc, value)?)?;
     entry.push(Field::from_text(alloc, b"mmol/L")?)?;
     Ok(entry)
+}
+
+/// Its test, `^^^GLU`: a field of four components.
+fn glucose_test(alloc: Global) -> Result<Field, AllocError>
+    ensures { IfOk result (λ field. field ≡ glucose_test) }
+{
+    let mut test = Repeat::new(alloc, Component::new(alloc))?;
+    push_name(alloc, &mut test, b"GLU")?;
+    Ok(Field::new(alloc, test)?)
+}
+
+/// Adds the components of a test behind the first: two without a symbol, and its name.
+fn push_name(alloc: Global, test: &mut Repeat, name: &[u8]) -> Result<(), AllocError>
+    ensures { OnOk result (test.new ≡ test.old ++ [] ∷ [] ∷ plain_component name.now ∷ []) }
+{
+    test.push(Component::new(alloc))?;
+    test.push(Component::new(alloc))?;
+    Ok(test.push(Component::from_text(alloc, name)?)?)
 }
 
 /// The texts that a sender takes for it: one for each record, with its CR.

@@ -4,5 +4,5 @@ use Rattle.uses.proofs.building.result_message.Goals as goal
 
 pub returns-clause-err : goal.returns-clause-err
 returns-clause-err c =
-    only_memory c.args.sample.now c.args.value.now c.in_ok-records.records c.from_records.result c.map_err-2.result
+    only_memory c.args.sample.now c.args.value.now c.push_result.new.records c.from_records.result c.map_err-2.result
     (search rules) c.from_records.ensures.err c.map_err-2.ensures.cases
