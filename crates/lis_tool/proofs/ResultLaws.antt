@@ -1,13 +1,14 @@
 -- The lines of results, record by record.
 use Rattle.std.proofs.Common.{◌≡◌, ℕ, List, [], ◌∷◌, ◌++◌, Option, None, Some, refl, sym, ◌∙◌, ap, subst, append-nil}
-use Rattle.std.proofs.Common.{append_assoc, ◌≤◌, length, take, drop, arith}
+use Rattle.std.proofs.Common.{append_assoc, ◌≤◌, length, take, drop, arith, MatchOption}
+use Rattle.std.specs.List.{slice_get}
 use Rattle.lis_field.specs.declared.kinds.Kind.{Kind}
 use Rattle.lis_field.specs.declared.kinds.Kind.TheVariants as kinds
 use Rattle.lis_field.specs.Delimiters.{DelimiterBytes}
 use Rattle.lis_field.specs.Shape.{Fields, RecordContent, Repeats}
 use Rattle.lis_spelling.specs.inside.Remaining.{more_fields}
 use Rattle.lis_message.specs.inside.Taking.{ComesNext, header, inner}
-use Rattle.lis_record.specs.Lent.{Lent}
+use Rattle.lis_record.specs.Lent.{Lent, lent}
 use Rattle.lis_tree.specs.inside.Begun.{Begun}
 use Rattle.lis_tool.specs.Messages.{with_record}
 use Rattle.lis_tool.specs.Results.{IsTelling, field_text, fields_behind, told_fields, result_line_of, result_lines}
@@ -97,29 +98,45 @@ result_added d named r kind lines lines' sample is line told =
     (sym is)
     (line, told)
 
+-- what is left behind the next of fields that are lent
+pub next_left : (next : Option (Lent Repeats)) (s s' : Lent Fields)
+    → MatchOption next ((s.content ≡ []) × (s' ≡ s)) (λ field. (field.delimiters ≡ s.delimiters)
+    × (s.content ≡ field.content ∷ s'.content) × (s'.delimiters ≡ s.delimiters))
+    → s' ≡ lent s.delimiters (drop 1 s.content)
+next_left None s s' is = is.1 ∙ ap (λ (l : Fields). lent s.delimiters l) (is.0 ∙ sym (ap (drop 1) is.0))
+next_left (Some field) s s' is =
+    ap (λ (d : DelimiterBytes). lent d s'.content) is.2
+    ∙ ap (λ (l : Fields). lent s.delimiters l) (sym (ap (drop 1) is.1))
+
 -- fields 3 to 7 as they stand, and field 9
-pub told_plain :
-    (d : DelimiterBytes) (r : RecordContent) → r.kind ≡ kinds.R
-    → (number flag : Repeats) (from_3 from_8 from_9 : Fields) (front last : List ℕ)
-    → r.fields ≡ number ∷ from_3 → 5 ≤ length from_3 → d.field ∷ front ≡ more_fields d (take 5 from_3)
-    → from_8 ≡ drop 5 from_3
-    → from_8 ≡ flag ∷ from_9 → 1 ≤ length from_9 → d.field ∷ last ≡ more_fields d (take 1 from_9)
-    → (d.field ∷ front) ++ d.field ∷ last ≡ fields_behind d r told_fields
-told_plain d r kind number flag from_3 from_8 from_9 front last fields five fronts behind eight one lasts =
-    rw (kind, fields)
-    (ap (λ (l : List ℕ). l ++ d.field ∷ last) fronts ∙ ap (λ (l : List ℕ). more_fields d (take 5 from_3) ++ l) lasts
-    ∙ by from_3 from_9 five one (sym behind ∙ eight))
+pub told_at_once : (d : DelimiterBytes) (r : RecordContent) → r.kind ≡ kinds.R → 5 ≤ length (drop 1 r.fields)
+    → more_fields d (take 5 (drop 1 r.fields))
+    ++ d.field ∷ field_text d (slice_get (drop 1 (drop 5 (drop 1 r.fields))) 0)
+    ≡ fields_behind d r told_fields
+told_at_once d r kind five = rw kind (by r.fields five)
   where
-    by : (from_3 from_9 : Fields) → 5 ≤ length from_3 → 1 ≤ length from_9 → drop 5 from_3 ≡ flag ∷ from_9
-        → more_fields d (take 5 from_3) ++ more_fields d (take 1 from_9)
-        ≡ fields_behind d (record { kind = kinds.R; fields = number ∷ from_3 }) told_fields
-    by (a ∷ b ∷ c ∷ e ∷ f ∷ flag' ∷ g ∷ more) (g' ∷ more') five one behind = let same : g ≡ g' = cc in
-        rw same (simp append_assoc)
-    by (a ∷ b ∷ c ∷ e ∷ f ∷ flag' ∷ []) (g' ∷ more') five one behind = cc
-    by (a ∷ b ∷ c ∷ e ∷ f ∷ []) from_9 five one behind = cc
-    by (a ∷ b ∷ c ∷ e ∷ []) from_9 five one behind = absurd (omega arith)
-    by (a ∷ b ∷ c ∷ []) from_9 five one behind = absurd (omega arith)
-    by (a ∷ b ∷ []) from_9 five one behind = absurd (omega arith)
-    by (a ∷ []) from_9 five one behind = absurd (omega arith)
-    by [] from_9 five one behind = absurd (omega arith)
-    by from_3 [] five one behind = absurd (omega arith)
+    by : (fields : Fields) → 5 ≤ length (drop 1 fields)
+        → more_fields d (take 5 (drop 1 fields))
+        ++ d.field ∷ field_text d (slice_get (drop 1 (drop 5 (drop 1 fields))) 0)
+        ≡ fields_behind d (record { kind = kinds.R; fields = fields }) told_fields
+    by (n ∷ a ∷ b ∷ c ∷ e ∷ f ∷ flag ∷ g ∷ more) five = sym (append-nil _) ∙ simp append_assoc refl
+    by (n ∷ a ∷ b ∷ c ∷ e ∷ f ∷ flag ∷ []) five = simp append_assoc refl
+    by (n ∷ a ∷ b ∷ c ∷ e ∷ f ∷ []) five = simp append_assoc refl
+    by (n ∷ a ∷ b ∷ c ∷ e ∷ []) five = absurd (omega arith)
+    by (n ∷ a ∷ b ∷ c ∷ []) five = absurd (omega arith)
+    by (n ∷ a ∷ b ∷ []) five = absurd (omega arith)
+    by (n ∷ a ∷ []) five = absurd (omega arith)
+    by (n ∷ []) five = absurd (omega arith)
+    by [] five = absurd (omega arith)
+
+-- the same where the fields are taken one after another
+pub told_last : (d : DelimiterBytes) (r : RecordContent) (s s' s'' : Lent Fields) (mark : ℕ) (b b' b'' : List ℕ)
+    → r.kind ≡ kinds.R → mark ≡ d.field → s ≡ lent d (drop 1 r.fields) → 5 ≤ length s.content
+    → b' ≡ b ++ more_fields s.delimiters (take 5 s.content) → s' ≡ lent s.delimiters (drop 5 s.content)
+    → s'' ≡ lent s'.delimiters (drop 1 s'.content)
+    → b'' ≡ b' ++ mark ∷ field_text s''.delimiters (slice_get s''.content 0)
+    → b'' ≡ b ++ fields_behind d r told_fields
+told_last d r s s' s'' mark b b' b'' kind marks first five fronts behind second last =
+    let told = told_at_once d r kind (rw first at five) in
+    last
+    ∙ rw (fronts, second, behind, first, marks) (append_assoc b _ _ ∙ ap (λ (l : List ℕ). b ++ l) told)
