@@ -1,6 +1,6 @@
 -- What a record that comes next is to a reader, by what it keeps of the open message.
-use Rattle.std.proofs.Common.{◌≡◌, ◌≢◌, ℕ, ◌+◌, true, List, [], ◌∷◌, ◌++◌, length, min, Option, Some, None}
-use Rattle.std.proofs.Common.{IfOk, Ok, Err, refl, sym, ◌∙◌, ap, subst, arith, length-append, ◌==◌, inl, inr, is_some}
+use Rattle.std.proofs.Common.{◌≡◌, ◌≢◌, ◌<◌, ℕ, ◌+◌, true, false, List, [], ◌∷◌, ◌++◌, length, min, Option, Some, None}
+use Rattle.std.proofs.Common.{◌⊎◌, IfOk, Ok, Err, refl, sym, ◌∙◌, ap, subst, arith, length-append, ◌==◌, inl, inr, is_some}
 use Rattle.std.specs.declared.result.Result.{Result}
 use Rattle.std.proofs.lemmas.Bool.{eqb-true}
 use Rattle.lis_field.specs.declared.kinds.Kind.{Kind}
@@ -142,14 +142,29 @@ line_stopped left held text behind bytes reason lacks whole (inr why) =
           (record { rest = behind; ended_by = refl; short = why.1; why = why.0 });
     })
 
+pub nothing_held : (held : List ℕ) → true ≡ (length held == 0) → held ≡ []
+nothing_held held empty = nil_from_length held (eqb-true (length held) 0 (sym empty))
+
 -- where nothing was held
-pub whole_stopped : (left : Option Begun) (held text behind bytes : List ℕ) (reason : Reason)
-    → true ≡ (length held == 0) → LacksReturn text → bytes ≡ text ++ 13 ∷ behind → IsRecordRefusedFor left text reason
+pub whole_stopped : (left : Option Begun) (held text behind bytes : List ℕ) (reason : Reason) → held ≡ []
+    → LacksReturn text → bytes ≡ text ++ 13 ∷ behind → IsRecordRefusedFor left text reason
     → IsStopped left held bytes reason
-whole_stopped left held text behind bytes reason empty lacks whole why =
+whole_stopped left held text behind bytes reason none lacks whole why =
     line_stopped left held text behind bytes reason lacks whole
-    (subst (λ (h : List ℕ). IsRecordRefusedFor left (h ++ text) reason)
-    (sym (nil_from_length held (eqb-true (length held) 0 (sym empty)))) why)
+    (subst (λ (h : List ℕ). IsRecordRefusedFor left (h ++ text) reason) (sym none) why)
+
+-- where bytes were held
+pub held_stopped : (left : Option Begun) (held text behind bytes : List ℕ) (reason : Reason)
+    → false ≡ (length held == 0) → LacksReturn text → bytes ≡ text ++ 13 ∷ behind
+    → (reason ≡ reasons.OutOfMemory) ⊎ IsRecordRefusedFor left (held ++ text) reason
+    → IsStopped left held bytes reason
+held_stopped left held text behind bytes reason some lacks whole (inl memory) =
+    inl (memory, λ none. absurd (cc (rw none at some)))
+held_stopped left held text behind bytes reason some lacks whole (inr why) =
+    line_stopped left held text behind bytes reason lacks whole why
+
+pub behind_shorter : (bytes text behind : List ℕ) → bytes ≡ text ++ 13 ∷ behind → length behind < length bytes
+behind_shorter bytes text behind whole = rw whole (simp length-append (omega arith))
 
 -- a record that was found in a text is the one that is known to be it
 pub known_told : (entry : Lent RecordContent) (d : DelimiterBytes) (k : Kind) (text held : List ℕ)
