@@ -1,11 +1,13 @@
 -- The lines of results, record by record.
 use Rattle.std.proofs.Common.{◌≡◌, ℕ, List, [], ◌∷◌, ◌++◌, Option, None, Some, refl, sym, ◌∙◌, ap, subst, append-nil}
-use Rattle.std.proofs.Common.{append_assoc, ◌≤◌, length, take, drop, arith, MatchOption}
+use Rattle.std.proofs.Common.{append_assoc, ◌≤◌, ◌+◌, ◌<◌, suc, zero, length, take, drop, arith, MatchOption}
 use Rattle.std.specs.List.{slice_get}
+use Rattle.std.proofs.lemmas.List.{drop-drop}
+use Rattle.std.proofs.lemmas.Grind.{flat_map-append}
 use Rattle.lis_field.specs.declared.kinds.Kind.{Kind}
 use Rattle.lis_field.specs.declared.kinds.Kind.TheVariants as kinds
 use Rattle.lis_field.specs.Delimiters.{DelimiterBytes}
-use Rattle.lis_field.specs.Shape.{Fields, RecordContent, Repeats}
+use Rattle.lis_field.specs.Shape.{Fields, RecordContent, Repeats, field_at}
 use Rattle.lis_spelling.specs.inside.Remaining.{more_fields}
 use Rattle.lis_message.specs.inside.Taking.{ComesNext, header, inner}
 use Rattle.lis_record.specs.Lent.{Lent, lent}
@@ -140,3 +142,71 @@ told_last d r s s' s'' mark b b' b'' kind marks first five fronts behind second 
     let told = told_at_once d r kind (rw first at five) in
     last
     ∙ rw (fronts, second, behind, first, marks) (append_assoc b _ _ ∙ ap (λ (l : List ℕ). b ++ l) told)
+
+-- ---- the same fields, one by one
+
+-- fields 3 to 7
+abbrev pub front_fields : List ℕ
+front_fields = 3 ∷ 4 ∷ 5 ∷ 6 ∷ 7 ∷ []
+
+first_left : (fields : Fields) (n : ℕ) → slice_get (drop n fields) 0 ≡ slice_get fields n
+first_left fields zero = refl
+first_left [] (suc n) = refl
+first_left (field ∷ fields) (suc n) = first_left fields n
+
+fields_behind-more : (d : DelimiterBytes) (r : RecordContent) (numbers : List ℕ) (n : ℕ)
+    → fields_behind d r (numbers ++ n ∷ []) ≡ fields_behind d r numbers ++ d.field ∷ field_text d (field_at r n)
+fields_behind-more d r numbers n =
+    flat_map-append (λ number. d.field ∷ field_text d (field_at r number)) numbers (n ∷ [])
+    ∙ ap (λ (l : List ℕ). fields_behind d r numbers ++ l) (append-nil _)
+
+-- the next of them
+front_next : (r : RecordContent) → r.kind ≡ kinds.R → (k : ℕ) → k < 5
+    → (take (k + 1) front_fields ≡ take k front_fields ++ (k + 3) ∷ []) × (field_at r (k + 3) ≡ slice_get r.fields (k + 1))
+front_next r kind zero less = (refl, rw kind refl)
+front_next r kind (suc zero) less = (refl, rw kind refl)
+front_next r kind (suc (suc zero)) less = (refl, rw kind refl)
+front_next r kind (suc (suc (suc zero))) less = (refl, rw kind refl)
+front_next r kind (suc (suc (suc (suc zero)))) less = (refl, rw kind refl)
+front_next r kind (suc (suc (suc (suc (suc k))))) less = absurd (omega arith)
+
+-- so many of them were added, and these fields are left
+pub record Added (d : DelimiterBytes) (r : RecordContent) (count : ℕ) (left : Lent Fields) (b b' : List ℕ) : Type 0 where
+  pub front : b' ≡ b ++ fields_behind d r (take count front_fields)
+  pub rest : left ≡ lent d (drop (count + 1) r.fields)
+
+-- one more field of these was added
+added_behind : (d : DelimiterBytes) (r : RecordContent) (numbers : List ℕ) (n at : ℕ) (left : Lent Fields) (mark : ℕ)
+    (b b' b'' : List ℕ) → field_at r n ≡ slice_get r.fields at → mark ≡ d.field → left ≡ lent d (drop at r.fields)
+    → b' ≡ b ++ fields_behind d r numbers
+    → b'' ≡ b' ++ mark ∷ field_text left.delimiters (slice_get left.content 0)
+    → b'' ≡ b ++ fields_behind d r (numbers ++ n ∷ [])
+added_behind d r numbers n at left mark b b' b'' here marks rest front last =
+    last
+    ∙ rw (front, marks, rest) (append_assoc b (fields_behind d r numbers) _
+    ∙ ap (λ (o : Option Repeats). b ++ (fields_behind d r numbers ++ d.field ∷ field_text d o))
+    (first_left r.fields at ∙ sym here)
+    ∙ ap (λ (l : List ℕ). b ++ l) (sym (fields_behind-more d r numbers n)))
+
+pub added_next : (d : DelimiterBytes) (r : RecordContent) (k : ℕ) (left left' : Lent Fields) (mark : ℕ)
+    (b b' b'' : List ℕ) → r.kind ≡ kinds.R → mark ≡ d.field → k < 5 → Added d r k left b b'
+    → b'' ≡ b' ++ mark ∷ field_text left.delimiters (slice_get left.content 0)
+    → left' ≡ lent left.delimiters (drop 1 left.content)
+    → Added d r (k + 1) left' b b''
+added_next d r k left left' mark b b' b'' kind marks less so_far last next =
+    let one = front_next r kind k less in
+    record {
+      front = added_behind d r (take k front_fields) (k + 3) (k + 1) left mark b b' b'' one.1 marks so_far.rest
+          so_far.front last
+          ∙ ap (λ (l : List ℕ). b ++ fields_behind d r l) (sym one.0);
+      rest = next ∙ rw so_far.rest (ap (λ (l : Fields). lent d l) (drop-drop 1 (k + 1) r.fields));
+    }
+
+pub added_last : (d : DelimiterBytes) (r : RecordContent) (k : ℕ) (left left' : Lent Fields) (mark : ℕ)
+    (b b' b'' : List ℕ) → r.kind ≡ kinds.R → mark ≡ d.field → k ≡ 5 → Added d r k left b b'
+    → left' ≡ lent left.delimiters (drop 1 left.content)
+    → b'' ≡ b' ++ mark ∷ field_text left'.delimiters (slice_get left'.content 0)
+    → b'' ≡ b ++ fields_behind d r told_fields
+added_last d r k left left' mark b b' b'' kind marks all so_far next last =
+    added_behind d r front_fields 9 7 left' mark b b' b'' (rw kind refl) marks
+    (next ∙ rw (so_far.rest, all) (ap (λ (l : Fields). lent d l) (drop-drop 1 6 r.fields))) (rw all at so_far.front) last

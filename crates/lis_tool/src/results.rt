@@ -134,11 +134,9 @@ fn add_each(lines: &mut HeldText, entry: &LentRecord<'_>) -> Result<(), AllocErr
     let mark = entry.delimiters().field();
     let mut fields = entry.fields();
     let _number = fields.next();
-    lines.add_next(mark, &mut fields)?;
-    lines.add_next(mark, &mut fields)?;
-    lines.add_next(mark, &mut fields)?;
-    lines.add_next(mark, &mut fields)?;
-    lines.add_next(mark, &mut fields)?;
+    for _field in 0..5usize {
+        lines.add_next(mark, &mut fields)?;
+    }
     let _nature = fields.next();
     lines.add_next(mark, &mut fields)
 }
