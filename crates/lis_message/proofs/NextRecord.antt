@@ -1,6 +1,7 @@
 -- What a record that comes next is to a reader, by what it keeps of the open message.
 use Rattle.std.proofs.Common.{◌≡◌, ◌≢◌, ◌<◌, ℕ, ◌+◌, true, false, List, [], ◌∷◌, ◌++◌, length, min, Option, Some, None}
-use Rattle.std.proofs.Common.{◌⊎◌, IfOk, Ok, Err, refl, sym, ◌∙◌, ap, subst, arith, length-append, ◌==◌, inl, inr, is_some}
+use Rattle.std.proofs.Common.{◌⊎◌, inl, inr, IfOk, Ok, Err, refl, sym, ◌∙◌, ap, subst, arith, length-append, ◌==◌}
+use Rattle.std.proofs.Common.{is_some}
 use Rattle.std.specs.declared.result.Result.{Result}
 use Rattle.std.proofs.lemmas.Bool.{eqb-true}
 use Rattle.lis_field.specs.declared.kinds.Kind.{Kind}

@@ -162,7 +162,8 @@ fields_behind-more d r numbers n =
 
 -- the next of them
 front_next : (r : RecordContent) → r.kind ≡ kinds.R → (k : ℕ) → k < 5
-    → (take (k + 1) front_fields ≡ take k front_fields ++ (k + 3) ∷ []) × (field_at r (k + 3) ≡ slice_get r.fields (k + 1))
+    → (take (k + 1) front_fields ≡ take k front_fields ++ (k + 3) ∷ [])
+    × (field_at r (k + 3) ≡ slice_get r.fields (k + 1))
 front_next r kind zero less = (refl, rw kind refl)
 front_next r kind (suc zero) less = (refl, rw kind refl)
 front_next r kind (suc (suc zero)) less = (refl, rw kind refl)
@@ -171,7 +172,8 @@ front_next r kind (suc (suc (suc (suc zero)))) less = (refl, rw kind refl)
 front_next r kind (suc (suc (suc (suc (suc k))))) less = absurd (omega arith)
 
 -- so many of them were added, and these fields are left
-pub record Added (d : DelimiterBytes) (r : RecordContent) (count : ℕ) (left : Lent Fields) (b b' : List ℕ) : Type 0 where
+pub record Added (d : DelimiterBytes) (r : RecordContent) (count : ℕ) (left : Lent Fields)
+    (b b' : List ℕ) : Type 0 where
   pub front : b' ≡ b ++ fields_behind d r (take count front_fields)
   pub rest : left ≡ lent d (drop (count + 1) r.fields)
 
@@ -209,4 +211,5 @@ pub added_last : (d : DelimiterBytes) (r : RecordContent) (k : ℕ) (left left' 
     → b'' ≡ b ++ fields_behind d r told_fields
 added_last d r k left left' mark b b' b'' kind marks all so_far next last =
     added_behind d r front_fields 9 7 left' mark b b' b'' (rw kind refl) marks
-    (next ∙ rw (so_far.rest, all) (ap (λ (l : Fields). lent d l) (drop-drop 1 6 r.fields))) (rw all at so_far.front) last
+    (next ∙ rw (so_far.rest, all) (ap (λ (l : Fields). lent d l) (drop-drop 1 6 r.fields))) (rw all at so_far.front)
+    last
