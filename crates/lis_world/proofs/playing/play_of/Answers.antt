@@ -36,3 +36,6 @@ pub returns-clause-quiet : goal.returns-clause-quiet
 returns-clause-quiet g c = λ texts sendable are.
     all_played g c ∙ ap (λ events. (world g.row.N events).sessions) are
     ∙ (runs_quietly g.row.N c.requires texts sendable).sessions_are
+
+pub returns-clause-world : goal.returns-clause-world
+returns-clause-world g c = all_played g c
