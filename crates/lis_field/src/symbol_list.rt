@@ -164,9 +164,7 @@ fn longer(alloc: Global, symbols: &[Sym], last: Sym) -> Result<Vec<Sym>, AllocEr
     ensures { IfOk result (λ many. many.items ≡ symbols.now ++ last ∷ []) }
 {
     let mut many = Vec::with_capacity(alloc, 2 * FEW)?;
-    for symbol in symbols {
-        many.push(*symbol)?;
-    }
+    many.extend_from_slice(symbols)?;
     many.push(last)?;
     Ok(many)
 }

@@ -1,3 +1,4 @@
+pub mod Pushes
 pub mod ReadBack
 pub mod Sinks
 pub mod Steps

@@ -120,7 +120,6 @@ impl<const N: usize> ChunkOf<N> {
         self.push(delimiters.escape());
     }
 
-    #[tactic(auto, unfolding(crate::specs::Spelling::spelled_symbol))]
     // Puts a raw byte at the end, as an escape with two digits.
     fn push_raw(&mut self, delimiters: Delimiters, byte: u8)
         requires { length self.old + 5 ≤ N }

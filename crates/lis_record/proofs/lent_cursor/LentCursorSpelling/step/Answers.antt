@@ -2,6 +2,7 @@ use Rattle.std.proofs.Common.{[], ap, refl, length, map}
 use Rattle.lis_field.specs.Shape.{Symbols}
 use Rattle.lis_part.specs.inside.FrontReading.{components_of, parts_behind, symbols_of}
 use Rattle.lis_record.proofs.LentTexts.{behind_first, behind_none, symbol_taken, text_repeat-first}
+use Rattle.lis_spelling.proofs.Pushes.{put-more}
 use Rattle.lis_spelling.proofs.Steps.{component_case, nothing_left, repeat_case, symbols_case}
 use Rattle.lis_record.proofs.lent_cursor.LentCursorSpelling.step.Goals as goal
 
@@ -63,3 +64,15 @@ returns-clause-done c = λ _.
           (behind_none (components_of d) d.repeat i.repeats.now c.in_default-split_first-2.ensures.cases) refl refl,
       refl,
     )
+
+pub returns-in-Some-clause-more : goal.returns-in-Some-clause-more
+returns-in-Some-clause-more c = λ _. c.push_symbol.ensures.more
+
+pub returns-in-Some-split_first-clause-more : goal.returns-in-Some-split_first-clause-more
+returns-in-Some-split_first-clause-more c = λ _.
+    put-more c.args.chunk.now c.push.new.self c.component-mark.result c.push.ensures
+
+pub returns-in-Some-split_first-2-clause-more : goal.returns-in-Some-split_first-2-clause-more
+returns-in-Some-split_first-2-clause-more c = λ _.
+    put-more c.args.chunk.now c.push-in-Some-split_first-2.new.self c.repeat-outer.result
+    c.push-in-Some-split_first-2.ensures

@@ -1,5 +1,6 @@
 use Rattle.std.proofs.Common.{sym, ◌∙◌, length, refl}
 use Rattle.std.proofs.lemmas.Bool.{eqb-true}
+use Rattle.lis_spelling.proofs.Pushes.{put-more}
 use Rattle.lis_spelling.proofs.Steps.{component_case, end_case, field_case, nothing_left, repeat_case, symbols_case}
 use Rattle.lis_spelling.proofs.cursor.CursorSpelling.step.Goals as goal
 
@@ -58,3 +59,20 @@ returns-clause-done c = λ _.
           c.in_default-split_first-2.ensures.cases c.in_default-split_first-3.ensures.cases,
       refl,
     )
+
+pub returns-in-Some-clause-more : goal.returns-in-Some-clause-more
+returns-in-Some-clause-more c = λ _. put-more c.args.chunk.now c.push.new.self c.component.result c.push.ensures
+
+pub returns-in-Some-split_first-clause-more : goal.returns-in-Some-split_first-clause-more
+returns-in-Some-split_first-clause-more c = λ _.
+    put-more c.args.chunk.now c.push-in-Some-split_first.new.self c.repeat.result c.push-in-Some-split_first.ensures
+
+pub returns-in-Some-split_first-2-clause-more : goal.returns-in-Some-split_first-2-clause-more
+returns-in-Some-split_first-2-clause-more c = λ _.
+    put-more c.args.chunk.now c.push-in-Some-split_first-2.new.self c.field.result
+    c.push-in-Some-split_first-2.ensures
+
+pub returns-in-Some-split_first-3-clause-more : goal.returns-in-Some-split_first-3-clause-more
+returns-in-Some-split_first-3-clause-more c = λ _.
+    put-more c.args.chunk.now c.push-in-Some-split_first-3.new.self c.in-Some-split_first-3.byte.now
+    c.push-in-Some-split_first-3.ensures
