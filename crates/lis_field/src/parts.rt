@@ -59,9 +59,8 @@ impl<T: Part> Parts<T> {
         ensures { IfOk result (λ list. list ≡ part ∷ []) }
     {
         part.known();
-        Ok(Parts {
-            parts: OneOrMore::with_capacity(alloc, part, parts)?,
-        })
+        let list = OneOrMore::with_capacity(alloc, part, parts)?;
+        Ok(Parts { parts: list })
     }
 
     /// The same list once more.
