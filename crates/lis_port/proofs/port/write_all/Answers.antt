@@ -1,5 +1,6 @@
-use Rattle.std.proofs.Common.{arith}
-use Rattle.lis_port.proofs.Sinks.{WrittenOn-more}
+use Rattle.std.proofs.Common.{◌<◌, length, arith}
+use Rattle.std.proofs.lemmas.Bool.Decides.{nat_tests}
+use Rattle.lis_port.proofs.Sinks.{Appends-kept, WrittenOn-more}
 use Rattle.lis_port.proofs.port.write_all.Goals as goal
 
 pub loop-rest-preserved : goal.loop-rest-preserved
@@ -14,3 +15,17 @@ loop-rest-preserved g c =
       rest = more.rest;
       taken = more.taken;
     }
+
+pub returns-in-Err-clause-err : goal.returns-in-Err-clause-err
+returns-in-Err-clause-err g c =
+    let i = c.loop-rest.invariant in
+    let taken = g.W.Sink.taken in
+    let some : 0 < length c.loop-rest.rest.now =
+    grind (arith, nat_tests, c.loop-rest-test.true, c.is_empty.ensures) in (
+      omega (arith, i.within, some),
+      Appends-kept (taken c.args.sink.now) (taken c.loop-rest.sink) (taken c.write.new.self) _ i.taken
+          c.in-Err.ensures.bytes,
+    )
+
+pub returns-in-Err-clause-failed : goal.returns-in-Err-clause-failed
+returns-in-Err-clause-failed g c = c.in-Err.ensures.failed
