@@ -1,6 +1,6 @@
 //! What a record is made of: fields, one or more repeats each (LIS02-A2, Delimiters).
 
-ghost use Rattle.std.specs.Prelude.{◌≡◌, ◌≢◌, ℕ, List, IfOk, MatchOption, take};
+ghost use Rattle.std.specs.Prelude.{◌≡◌, ◌≢◌, ◌∷◌, [], ℕ, List, IfOk, MatchOption, take};
 ghost use Rattle.std.specs.Cmp.Lexicographic.{pointwise, lists_equiv, lists_per};
 ghost use Rattle.lis_field.specs.contracts.symbols.SymPartialEq.TheImpl as symbol;
 ghost use Rattle.lis_field.specs.contracts.symbols.SymPartialEq.TheImpl.Laws as symbol_laws;
@@ -23,7 +23,7 @@ impl Parts<Repeat> {
         ensures { IfOk result (λ field. field ≡ plain_field text.now) }
     {
         let component = Component::from_text(alloc, text)?;
-        Ok(Field::new(alloc, Repeat::new(alloc, component)?)?)
+        Field::of_component(alloc, component)
     }
 
     /// The field of one component that holds so many bytes of a text's front, each a character; of the whole text where
@@ -33,6 +33,14 @@ impl Parts<Repeat> {
         ensures { IfOk result (λ field. field ≡ plain_field (take count text.now)) }
     {
         let component = Component::from_front(alloc, text, count)?;
+        Field::of_component(alloc, component)
+    }
+
+    // The field of one component.
+    #[inline(always)]
+    fn of_component(alloc: Global, component: Component) -> Result<Self, AllocError>
+        ensures { IfOk result (λ field. field ≡ (component ∷ []) ∷ []) }
+    {
         Ok(Field::new(alloc, Repeat::new(alloc, component)?)?)
     }
 
