@@ -1,6 +1,7 @@
 -- The records of one result stand as a message's do.
 use Rattle.std.proofs.Common.{◌≡◌, ◌⊎◌, inl, inr, List, [], ◌∷◌, ◌++◌, Some, refl, ℕ, Result, Ok, Err, MatchResult}
-use Rattle.std.specs.Result.{IfErr, IsErrAnd}
+use Rattle.std.specs.Result.{IfErr, IsErrAnd, IsOkAnd, OnOk}
+use Rattle.std.specs.Prelude.{⊤}
 use Rattle.lis_field.specs.Shape.{RecordContent}
 use Rattle.lis_field.specs.declared.kinds.Kind.{Kind}
 use Rattle.lis_field.specs.declared.kinds.Kind.TheVariants.{H, P, O, R, L}
@@ -56,6 +57,11 @@ is_message fault is = elim is [
   | inl was ↦ none_is_misplaced was.before was.kind was.behind _ was.whole was.why
   | inr was ↦ was.unclosed refl
 ]
+
+-- what holds where there is a value
+pub where_ok : {T E P : Type 0} (made : Result T E) → OnOk made P → IsOkAnd made (λ _. ⊤) → P
+where_ok (Ok value) holds is = holds
+where_ok (Err e) holds is = elim is [ ]
 
 -- and memory alone can be wanted
 pub only_memory : (sample value : List ℕ) (records : List RecordContent) (made : Result MessageTree MessageFault)

@@ -1,6 +1,6 @@
 -- Why a capture was not played, from how its replay ended.
 use Rattle.std.proofs.Common.{◌≡◌, ℕ, ◌+◌, ◌≤◌, Bool, true, false, List, [], ◌++◌, Option, None, Some, Err, length}
-use Rattle.std.proofs.Common.{refl, ap, ◌∙◌, arith, append-nil, length-append}
+use Rattle.std.proofs.Common.{◌↔◌, eqb, rules, refl, ap, ◌∙◌, arith, append-nil, length-append}
 use Rattle.std.proofs.lemmas.Bool.{false≢true}
 use Rattle.std.specs.Io.KnownBytes.{Consumes, IsAtEnd}
 use Rattle.lis_frame.specs.Stream.{stream_with}
@@ -11,8 +11,9 @@ use Rattle.lis_run.specs.declared.fault.ToolFault.{ToolFault}
 use Rattle.lis_run.specs.declared.fault.ToolFault.TheVariants.{CaptureLine, Read, Write, OutOfMemory, TooManyReads}
 use Rattle.lis_tool.specs.CaptureRuns.{LineAnswer}
 use Rattle.lis_tool.specs.LineOutcome.{Writes}
+use Rattle.lis_tool.specs.Replay.{all_differences}
 use Rattle.lis_tool.specs.Runs.{EachGave, Stopped}
-use Rattle.uses.specs.Played.{WasNotPlayed}
+use Rattle.uses.specs.Played.{WasNotPlayed, WasPlayed}
 
 -- the lines of what was read up to a refused one are those of the whole
 refused_in_whole :
@@ -60,3 +61,10 @@ not_played w bytes front left old new ended made (Write written) read answer (ru
 not_played w bytes front left old new ended made OutOfMemory read answer stopped end gave = tt
 not_played w bytes front left old new ended made TooManyReads read answer (running, failed, working, is) end
     (given, all, most) = read_too_often bytes given left made all most is
+
+-- the capture was played, and no difference was told of where the status is 0
+pub was_played : (bytes : List ℕ) (status : ℕ)
+    → (capture (stream_with [] bytes) true).refused ≡ false
+    → (status ≡ 0 ↔ all_differences 240 (capture (stream_with [] bytes) true).lines ≡ 0)
+    → WasPlayed bytes (eqb status 0)
+was_played bytes status whole told = record { whole = whole; told = search rules }

@@ -1,11 +1,13 @@
 -- Results that were read so far, and one more; counts of them.
-use Rattle.std.proofs.Common.{◌≡◌, ℕ, ◌+◌, ◌<◌, List, [], ◌∷◌, ◌++◌, None, length, take, refl, sym, ap, ◌∙◌, arith}
+use Rattle.std.proofs.Common.{Option, Some, ◌≤◌, take_all, ◌≡◌, ℕ, ◌+◌, ◌<◌, List, [], ◌∷◌, ◌++◌, None, length, take, refl, sym, ap, ◌∙◌, arith}
 use Rattle.std.proofs.Common.{append-nil, min, get_or, drop, Bor, Result, Ok, Err}
 use Rattle.std.specs.Result.{IfErr, IsErrAnd}
 use Rattle.std.proofs.lemmas.Grind.{flat_map-append}
 use Rattle.std.proofs.lemmas.List.{take_more, take-append-drop}
 use Rattle.std.specs.List.{AllZip, flat_map}
+use Rattle.lis_message.specs.Feeding.{ReaderState, answer_at_end, finished}
 use Rattle.lis_message.specs.Stream.{IsCut}
+use Rattle.lis_tree.specs.inside.Begun.{Begun}
 use Rattle.lis_tree.specs.Results.{ResultNode, results_of}
 use Rattle.lis_tree.specs.Tree.{MessageTree}
 use Rattle.uses.specs.declared.results.Reading.{Reading}
@@ -79,8 +81,23 @@ nothing_read = record {
   short = omega arith;
 }
 
+ended : {stream : List ℕ} {messages : List MessageTree} (left : Option Begun) (held : List ℕ)
+    → answer_at_end left held ≡ Ok tt → IsCut stream messages left held → IsCut stream messages None []
+ended None [] well cut = cut
+ended None (byte ∷ held) well cut = cc
+ended (Some begun) held well cut = cc
+
 -- an error that is passed on
 pub if_err : {T E : Type 0} (P Q : E → Type 0) (result : Result T E) → IsErrAnd result P → ((e : E) → P e → Q e)
     → IfErr result Q
 if_err P Q (Ok value) is implies = record {}
 if_err P Q (Err e) is implies = implies e is
+
+-- a stream that ends well ends behind a message
+pub ends_well : (reader : ReaderState) (pieces : List (Bor (List ℕ))) (index : ℕ) (messages : List MessageTree)
+    → length pieces ≤ index → reader.fault ≡ None → finished reader ≡ Ok tt
+    → IsCut (flat_map (λ (p : Bor (List ℕ)). p.now) (take index pieces)) messages reader.left reader.held
+    → IsCut (flat_map (λ (p : Bor (List ℕ)). p.now) pieces) messages None []
+ends_well reader pieces index messages all fine well cut =
+    let whole = rw (take_all index pieces all) at cut in
+    ended reader.left reader.held (rw fine at well) whole

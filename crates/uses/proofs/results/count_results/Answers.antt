@@ -2,7 +2,7 @@ use Rattle.std.proofs.Common.{◌≡◌, append-nil, take_all, ◌+◌, [], ◌+
 use Rattle.std.proofs.Common.{sym, ◌∙◌, arith}
 use Rattle.lis_text.specs.Capped.{capped}
 use Rattle.uses.specs.Readings.{result_count}
-use Rattle.uses.proofs.ReadingLaws.{counts_next, result_count-append, stream_next, stream_rest, nothing_read}
+use Rattle.uses.proofs.ReadingLaws.{ends_well, counts_next, result_count-append, stream_next, stream_rest, nothing_read}
 use Rattle.uses.proofs.results.count_results.Goals as goal
 
 pub loop-piece-init : goal.loop-piece-init
@@ -64,3 +64,12 @@ returns-in-Err-clause-err c =
         },
       );
     }
+
+pub returns-in-Ok-clause-ok : goal.returns-in-Ok-clause-ok
+returns-in-Ok-clause-ok c =
+    let so_far = c.loop-piece.invariant in (
+      so_far.0,
+      ends_well c.loop-piece.reader c.args.pieces.now c.loop-piece.piece-index so_far.0 c.loop-piece-test.false so_far.1
+          (sym c.finish.ensures ∙ c.in-Ok.is) so_far.2,
+      so_far.3,
+    )
