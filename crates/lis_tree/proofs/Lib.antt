@@ -1,4 +1,5 @@
 pub mod Appends
+pub mod Copies
 pub mod Counting
 pub mod DefinitionRows
 pub mod Flatten
