@@ -1,5 +1,5 @@
 -- What a start that is not refused tells of the texts.
-use Rattle.std.proofs.Common.{◌≡◌, ℕ, ◌+◌, List, [], ◌∷◌, Option, None, Some, refl, drop, add-one}
+use Rattle.std.proofs.Common.{◌≡◌, ◌≢◌, ℕ, ◌+◌, List, [], ◌∷◌, Option, None, Some, refl, drop, add-one}
 use Rattle.std.specs.Prelude.{All, slice_get}
 use Rattle.std.proofs.lemmas.List.Elements.{All-nil, All-cons, All-weaker}
 use Rattle.lis_text.specs.declared.text.TextFault.{TextFault}
@@ -8,7 +8,7 @@ use Rattle.lis_text.specs.Text.{IsText, text_fault}
 use Rattle.lis_text.proofs.TextLemmas.{text_fault-none}
 use Rattle.lis_link.specs.declared.sender.Phase.{Phase}
 use Rattle.lis_link.specs.declared.sender.Phase.TheVariants.{Neutral, AwaitLine, Busy, Contention, AwaitReply}
-use Rattle.lis_link.specs.declared.sender.StartFault.TheVariants.{BadText}
+use Rattle.lis_link.specs.declared.sender.StartFault.TheVariants.{InSession, BadText}
 use Rattle.lis_link.specs.Sender.{bad_text_or, bad_text, start_fault_in}
 use Rattle.lis_link.proofs.QueueLaws.{drop-at}
 
@@ -46,6 +46,13 @@ pub bad_text-behind :
     → text_fault longest_text text ≡ None
     → bad_text (index + 1) (drop (index + 1) texts) ≡ bad_text index (drop index texts)
 bad_text-behind texts index text at none = rw (drop-at texts index text at, none, add-one index) refl
+
+pub started-in_session : (p : Phase) (texts : List (List ℕ)) → p ≢ Neutral → start_fault_in p texts ≡ Some InSession
+started-in_session Neutral texts other = absurd (other refl)
+started-in_session AwaitLine texts other = refl
+started-in_session Busy texts other = refl
+started-in_session Contention texts other = refl
+started-in_session AwaitReply texts other = refl
 
 pub faultless-start : (p : Phase) (texts : List (List ℕ)) → start_fault_in p texts ≡ None → All Faultless texts
 faultless-start Neutral [] none = absurd (cc)
