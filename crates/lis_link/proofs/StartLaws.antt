@@ -8,8 +8,9 @@ use Rattle.lis_text.specs.Text.{IsText, text_fault}
 use Rattle.lis_text.proofs.TextLemmas.{text_fault-none}
 use Rattle.lis_link.specs.declared.sender.Phase.{Phase}
 use Rattle.lis_link.specs.declared.sender.Phase.TheVariants.{Neutral, AwaitLine, Busy, Contention, AwaitReply}
+use Rattle.lis_link.specs.declared.sender.Outcome.TheVariants.{Restarted}
 use Rattle.lis_link.specs.declared.sender.StartFault.TheVariants.{InSession, BadText}
-use Rattle.lis_link.specs.Sender.{bad_text_or, bad_text, start_fault_in}
+use Rattle.lis_link.specs.Sender.{SenderState, bad_text_or, bad_text, over, restart_in, start_fault_in}
 use Rattle.lis_link.proofs.QueueLaws.{drop-at}
 
 abbrev pub Faultless : List ℕ → Type 0
@@ -53,6 +54,13 @@ started-in_session AwaitLine texts other = refl
 started-in_session Busy texts other = refl
 started-in_session Contention texts other = refl
 started-in_session AwaitReply texts other = refl
+
+pub restarted-in_session : (p : Phase) (s : SenderState) → p ≢ Neutral → restart_in p s ≡ over Restarted s
+restarted-in_session Neutral s other = absurd (other refl)
+restarted-in_session AwaitLine s other = refl
+restarted-in_session Busy s other = refl
+restarted-in_session Contention s other = refl
+restarted-in_session AwaitReply s other = refl
 
 pub faultless-start : (p : Phase) (texts : List (List ℕ)) → start_fault_in p texts ≡ None → All Faultless texts
 faultless-start Neutral [] none = absurd (cc)
