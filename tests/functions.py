@@ -93,6 +93,14 @@ def function_at(path, text, begin, end):
     return None
 
 
+def contract_at(path, text, begin, end):
+    """The name of the function outside any block in whose contract a stretch stands; None where there is none."""
+    heads = [it for it in FUNCTION.finditer(text) if it.start() <= begin]
+    if not heads or heads[-1][1] or re.search(r"^[{}]", text[heads[-1].start():end], re.M):
+        return None
+    return "::".join([*module_of(path), heads[-1][3]])
+
+
 class Crate:
     """The source files of a crate, as a folder has them or with other texts in their place."""
 
