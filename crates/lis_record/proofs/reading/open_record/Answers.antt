@@ -1,4 +1,6 @@
-use Rattle.std.proofs.Common.{◌∙◌, sym}
+use Rattle.std.proofs.Common.{ℕ, ap, ◌∙◌, sym}
+use Rattle.std.proofs.lemmas.Bool.{false≢true}
+use Rattle.lis_field.specs.Text.{trailing_byte}
 use Rattle.lis_record.proofs.FaultLaws.{record_fault-empty, record_fault-kind, record_fault-text, record_fault-trailing}
 use Rattle.lis_record.proofs.reading.open_record.Goals as goal
 
@@ -14,11 +16,25 @@ pub returns-in-Some-trailing_byte-clause-opened : goal.returns-in-Some-trailing_
 returns-in-Some-trailing_byte-clause-opened c =
     record_fault-trailing c.args.delimiters c.args.text.now c.in-Some.letter.now c.in-Some.rest.now
     c.in-Some-trailing_byte.byte c.in-Some.ensures.cases.0 c.in-Some-other_kind.ensures.1
-    (rw c.field-field.ensures.byte at (sym c.trailing_byte.ensures ∙ c.in-Some-trailing_byte.is))
+    (ap (λ (f : ℕ). trailing_byte f c.in-Some.rest.now) (sym c.field-field.ensures.byte)
+    ∙ sym c.trailing_byte.ensures ∙ c.in-Some-trailing_byte.is)
 
 pub returns-in-Some-record_text_fault-clause-opened : goal.returns-in-Some-record_text_fault-clause-opened
 returns-in-Some-record_text_fault-clause-opened c =
     record_fault-text c.args.delimiters c.args.text.now c.in-Some.letter.now c.in-Some.rest.now
     c.in-Some-record_text_fault.fault c.in-Some.ensures.cases.0 c.in-Some-other_kind.ensures.1
-    (rw c.field-field.ensures.byte at (sym c.trailing_byte.ensures ∙ c.in_default-trailing_byte.is))
+    (ap (λ (f : ℕ). trailing_byte f c.in-Some.rest.now) (sym c.field-field.ensures.byte)
+    ∙ sym c.trailing_byte.ensures ∙ c.in_default-trailing_byte.is)
     (sym c.record_text_fault.ensures ∙ c.in-Some-record_text_fault.is)
+
+pub returns-clause-opened : goal.returns-clause-opened
+returns-clause-opened c =
+    let kind = c.in-Some-other_kind.ensures in
+    let byte = ap (λ (f : ℕ). trailing_byte f c.in-Some.rest.now) (sym c.field-field.ensures.byte) in record {
+      letter = c.in-Some.letter.now;
+      whole = c.in-Some.ensures.cases.0;
+      kind_is = kind.0;
+      other = λ is. absurd (false≢true (rw (kind.0, is) at kind.1));
+      second = byte ∙ sym c.trailing_byte.ensures ∙ c.in_default-trailing_byte.is;
+      texts = sym c.record_text_fault.ensures ∙ c.in_default-record_text_fault.is;
+    }
