@@ -12,7 +12,7 @@ use Rattle.lis_field.specs.Delimiters.{DelimiterBytes}
 use Rattle.lis_field.specs.Shape.{Symbols, field_at, first_number}
 use Rattle.lis_field.specs.declared.kinds.Kind.{Kind}
 use Rattle.lis_field.proofs.FirstFaults.{ltb-past, test_false}
-use Rattle.lis_record.specs.Lent.{lent}
+use Rattle.lis_record.specs.Lent.{Lent, lent}
 use Rattle.lis_part.specs.inside.FrontReading.{components_of, fields_of, parts_behind, parts_of, repeats_of}
 use Rattle.lis_part.specs.inside.FrontReading.{symbols_of}
 use Rattle.lis_field.specs.Relation.{Lacks}
@@ -58,6 +58,16 @@ field_found d kind fields part number place first is_first above is_place found 
     rw past (ap (λ (o : Option (List ℕ)). option_map (lent d) (option_map (repeats_of d) o)) at
     ∙ ap (option_map (lent d))
     (sym (slice_get-map (repeats_of d) (parts_behind d.field fields) (number - first_number kind))))
+
+-- the part at a place is lent under the list's delimiters
+pub part_lent : {A : Type 0} (told : DelimiterBytes → List ℕ → A) (d : DelimiterBytes) (items : List A)
+    (list : Lent (List A)) → lent d items ≡ list → (text : List ℕ) (part : Lent A) (place : ℕ)
+    → part ≡ lent d (told d text) → Some (told list.delimiters text) ≡ slice_get list.content place
+    → Some part ≡ option_map (lent list.delimiters) (slice_get list.content place)
+part_lent {A} told d items list whole text part place is found =
+    ap (λ (p : Lent A). Some p) is
+    ∙ ap (λ (l : Lent (List A)). Some (lent l.delimiters (told l.delimiters text))) whole
+    ∙ ap (option_map (lent list.delimiters)) found
 
 -- the items of the parts behind a delimiter
 pub behind_first : {A : Type 0} (f : List ℕ → A) (byte mark : ℕ) (all text part rest : List ℕ) → all ≡ mark ∷ text
