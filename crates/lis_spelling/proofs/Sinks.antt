@@ -10,7 +10,8 @@ use Rattle.lis_spelling.specs.declared.faults.WriteFault.TheVariants as write_fa
 use Rattle.lis_port.proofs.Sinks.{Appends-none, Appends-then, take-split}
 use Rattle.lis_spelling.specs.Writing.{SentOn}
 
-sum_told : (passed size count later told top : ℕ) → later ≡ min (passed + size) top → told ≡ min (later + count) top
+-- what a count comes to in two steps, as far as it goes
+pub sum_told : (passed size count later told top : ℕ) → later ≡ min (passed + size) top → told ≡ min (later + count) top
     → told ≡ min (passed + (size + count)) top
 sum_told passed size count later told top e h = omega arith
 

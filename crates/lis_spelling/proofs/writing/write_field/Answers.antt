@@ -1,3 +1,4 @@
+use Rattle.std.proofs.lemmas.Bool.{iff_false}
 use Rattle.lis_spelling.proofs.Sinks.{Keeps-same}
 use Rattle.lis_spelling.proofs.WriteLaws.{Wrote-field}
 use Rattle.lis_spelling.proofs.writing.write_field.Goals as goal
@@ -10,4 +11,4 @@ pub returns-clause-wrote : goal.returns-clause-wrote
 returns-clause-wrote g c =
     Wrote-field c.args.delimiters.now c.args.field.now (g.W.Sink.taken c.args.sink.now)
     (g.W.Sink.taken c.put_field.new.sink) c.put_field.result
-    (λ long. let yes = c.is_too_long.ensures.1 long in cc (yes, c.if-is_too_long.false)) c.put_field.ensures.wrote
+    (iff_false c.is_too_long.ensures c.if-is_too_long.false) c.put_field.ensures.wrote
