@@ -3,6 +3,9 @@ use Rattle.std.proofs.Common.{◌≡◌, ℕ, ◌+◌, ◌<◌, List, [], ◌∷
 use Rattle.std.proofs.Common.{append_assoc, length-append, arith, Result, Ok, Err}
 use Rattle.std.specs.Prelude.{OnOk, is_ok, if◌then◌else◌}
 use Rattle.std.specs.declared.alloc.AllocError.{AllocError}
+use Rattle.lis_field.specs.Delimiters.{DelimiterBytes}
+use Rattle.lis_field.specs.declared.symbols.Sym.{Sym}
+use Rattle.lis_spelling.specs.Spelling.{spelled_symbol}
 
 -- behind what stood there before stand these bytes, so many
 pub record Put (old new bytes : List ℕ) (count : ℕ) : Type 0 where
@@ -25,6 +28,11 @@ put-more old new b is = omega (arith, (put-first old new b is).size)
 pub put-longer : (old new : List ℕ) (b : ℕ) (bytes : List ℕ) → new ≡ old ++ b ∷ bytes → length old < length new
 put-longer old new b bytes is = omega (arith, ap length is ∙ length-append old (b ∷ bytes))
 
+-- the spelling of a symbol that is known to be this one
+pub symbol_put : (d : DelimiterBytes) (symbol known : Sym) (old new : List ℕ) → symbol ≡ known
+    → new ≡ old ++ spelled_symbol d known → new ≡ old ++ spelled_symbol d symbol
+symbol_put d symbol known old new same is = rw same is
+
 -- an escape's two digits, put one by one, are its digits
 pub digits-whole : (digits same : List ℕ) (escape : ℕ) → length digits ≡ 2 → digits ≡ same
     → escape ∷ 88 ∷ get_or digits 0 0 ∷ get_or digits 1 0 ∷ escape ∷ [] ≡ escape ∷ 88 ∷ same ++ escape ∷ []
@@ -34,8 +42,9 @@ digits-whole (a ∷ b ∷ []) same escape two is = ap (λ (l : List ℕ). escape
 digits-whole (a ∷ b ∷ c ∷ digits) same escape two is = absurd (omega (arith, two))
 
 -- what is put before a record's fields, and the fields and the end
-pub record_begun : (letter : ℕ) (old first front declared fields end rest : List ℕ) → old ≡ [] → first ≡ old ++ letter ∷ []
-    → front ≡ first ++ declared → rest ≡ fields ++ end → front ++ rest ≡ letter ∷ (declared ++ fields) ++ end
+pub record_begun : (letter : ℕ) (old first front declared fields end rest : List ℕ) → old ≡ []
+    → first ≡ old ++ letter ∷ [] → front ≡ first ++ declared → rest ≡ fields ++ end
+    → front ++ rest ≡ letter ∷ (declared ++ fields) ++ end
 record_begun letter old first front declared fields end rest none one more others =
     rw (more, one, none, others) (ap (λ (l : List ℕ). letter ∷ l) (sym (append_assoc declared fields end)))
 
