@@ -1,5 +1,6 @@
 use Rattle.std.proofs.Common.{◌∷◌, [], ◌++◌, ap, sym, take, ◌∙◌}
 use Rattle.std.proofs.lemmas.List.{take_more}
+use Rattle.lis_field.specs.Shape.{RecordContent}
 use Rattle.lis_field.proofs.records.Record.copy.Goals as goal
 
 pub loop-field-preserved : goal.loop-field-preserved
@@ -13,3 +14,7 @@ loop-field-preserved c =
     ∙ ap (λ fields. record { kind = kind; fields = fields })
     (ap (λ field. take i items ++ field ∷ []) (c.in_ok-copy.ensures ∙ c.field-item.is)
     ∙ sym (take_more items i c.field-item.result c.loop-field-test.true))
+
+pub loop-field-init : goal.loop-field-init
+loop-field-init c = c.in_ok-entry.ensures
+    ∙ ap (λ (entry : RecordContent). record { kind = entry.kind; fields = [] }) c.self.view_is
