@@ -5,5 +5,7 @@ use Rattle.lis_field.proofs.field.PartsRepeatPartialEq.eq.Goals as goal
 
 pub returns : goal.returns
 returns c =
-    compared (pointwise (pointwise (pointwise (symbol.ghosts).eq))) c.eq.result c.repeats.result.now c.repeats-2.result.now _ _ c.eq.ensures
+    compared (pointwise (pointwise (pointwise (symbol.ghosts).eq))) c.eq.result
+    c.repeats.result.now c.repeats-2.result.now _ _
+    c.eq.ensures
     c.repeats.ensures.value c.repeats-2.ensures.value

@@ -5,5 +5,7 @@ use Rattle.lis_field.proofs.repeat.PartsComponentPartialEq.eq.Goals as goal
 
 pub returns : goal.returns
 returns c =
-    compared (pointwise (pointwise (symbol.ghosts).eq)) c.eq.result c.components.result.now c.components-2.result.now _ _ c.eq.ensures
+    compared (pointwise (pointwise (symbol.ghosts).eq)) c.eq.result
+    c.components.result.now c.components-2.result.now _ _
+    c.eq.ensures
     c.components.ensures.value c.components-2.ensures.value
