@@ -146,19 +146,28 @@ ends-on text more last ends on = (
 )
 
 -- a record that takes the first part as a field
-takes_field : (d : DelimiterBytes) (before after : RecordContent) (text rest part : List ℕ) (end : ℕ)
-    → Begins d.field text end part → after ≡ record before { fields = before.fields ++ repeats_of d part ∷ [] }
-    → rest ≡ drop end text → TakesField d before after text rest
-takes_field d before after text rest part end found is left = record {
+pub takes_part : (d : DelimiterBytes) (before after : RecordContent) (text part rest : List ℕ) → text ≡ part ++ rest
+    → length rest ≤ length text → parts_of d.field text ≡ part ∷ parts_behind d.field rest
+    → after ≡ record before { fields = before.fields ++ repeats_of d part ∷ [] } → TakesField d before after text rest
+takes_part d before after text part rest joined shorter parts is = record {
   kind_is = ap (λ (r : RecordContent). r.kind) is;
   fields =
       ap (λ (r : RecordContent). r.fields ++ fields_of d rest) is
       ∙ append_assoc before.fields (repeats_of d part ∷ []) (fields_of d rest)
-      ∙ ap (λ (l : List ℕ). before.fields ++ repeats_of d part ∷ fields_of d l) left
-      ∙ ap (λ (l : List (List ℕ)). before.fields ++ map (repeats_of d) l) (sym found.parts);
-  ends = (take end text, sym (ap (λ (l : List ℕ). take end text ++ l) left ∙ take-append-drop end text));
-  shorter = omega (arith, ap (λ (l : List ℕ). length l) left, length-drop end text);
+      ∙ ap (λ (l : List (List ℕ)). before.fields ++ map (repeats_of d) l) (sym parts);
+  ends = (part, joined);
+  shorter = shorter;
 }
+
+takes_field : (d : DelimiterBytes) (before after : RecordContent) (text rest part : List ℕ) (end : ℕ)
+    → Begins d.field text end part → after ≡ record before { fields = before.fields ++ repeats_of d part ∷ [] }
+    → rest ≡ drop end text → TakesField d before after text rest
+takes_field d before after text rest part end found is left =
+    let whole = ap (λ (l : List ℕ). l ++ rest) found.same ∙ ap (λ (l : List ℕ). take end text ++ l) left
+    ∙ take-append-drop end text in
+    takes_part d before after text part rest (sym whole)
+    (omega (arith, ap (λ (l : List ℕ). length l) left, length-drop end text))
+    (found.parts ∙ ap (λ (l : List ℕ). part ∷ parts_behind d.field l) (sym left)) is
 
 -- the same, where the part was found with delimiters behind it
 pub takes_padded : {d : DelimiterBytes} {before after : RecordContent} {end : ℕ} {text padded rest : List ℕ}
