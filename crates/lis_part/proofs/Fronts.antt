@@ -1,7 +1,7 @@
 -- The first component of a field's text, by the first delimiters in a text that begins with it.
 use Rattle.std.proofs.Common.{◌≡◌, ◌≢◌, ℕ, ◌+◌, ◌<◌, ◌≤◌, ◌==◌, Bool, List, [], ◌∷◌, ◌++◌, length}
 use Rattle.std.proofs.Common.{take, drop, map, None, Some, refl, sym, ap, subst, ◌∙◌, arith, eq-eqb, take-append-drop}
-use Rattle.std.proofs.Common.{append_assoc, append-nil, length-take, IsTrue}
+use Rattle.std.proofs.Common.{append_assoc, append-nil, length-append, length-take, IsTrue}
 use Rattle.std.specs.List.{All, position, position_from}
 use Rattle.std.specs.Int.Count.{count_trailing_zeros}
 use Rattle.std.specs.Simd.Lanes.{mask_l}
@@ -153,6 +153,25 @@ front-read d text padded end plain added begins f true_is is =
     ∙ ap plain_component (take-begins text padded begins end f.within)
     ∙ sym (f.symbols true_is)
 
+-- what a text begins with is no longer than it, and behind its first byte the rest begins with the rest
+pub begins-within : (padded text : List ℕ) (n : ℕ) → BeginsWith padded text → n ≤ length text → n ≤ length padded
+begins-within padded text n begins within =
+    omega (arith, within, ap (λ (l : List ℕ). length l) begins.1, length-append text begins.0)
+
+pub begins_behind : (window rest behind more : List ℕ) (byte : ℕ) → BeginsWith window rest → rest ≡ byte ∷ more
+    → behind ≡ drop 1 window → BeginsWith behind more
+begins_behind window rest behind more byte begins is behind_is =
+    (begins.0, behind_is ∙ ap (drop 1) (begins.1 ∙ ap (λ (l : List ℕ). l ++ begins.0) is))
+
+pub behind-within : (window rest more : List ℕ) (byte : ℕ) → BeginsWith window rest → rest ≡ byte ∷ more
+    → 1 ≤ length window
+behind-within window rest more byte begins is =
+    begins-within window rest 1 begins (omega (arith, ap (λ (l : List ℕ). length l) is))
+
+pub behind-smaller : (rest more others : List ℕ) (byte end : ℕ) → rest ≡ byte ∷ more
+    → length others + end ≡ length more → length others < length rest
+behind-smaller rest more others byte end is left = omega (arith, left, ap (λ (l : List ℕ). length l) is)
+
 -- a component was read, and what is left of the field; no repeat ended before it
 pub record Parting (d : DelimiterBytes) (components : Components) (text rest window : List ℕ) : Type 0 where
   pub all : components ++ map (symbols_of d) (parts_behind d.component rest) ≡ components_of d text
@@ -196,9 +215,9 @@ module _ (d : DelimiterBytes) (text : List ℕ) where
     parted_next byte more behind others further end plain after apart is behind_is f after_is left further_is =
         let added = symbols_of d (take end more) in
         let mark : byte ≡ d.component = trailing-none d.component byte more rest is p.next in
-        let m : List ℕ = p.begins.0 in
-        let begins : behind ≡ more ++ m =
-        behind_is ∙ ap (drop 1) (p.begins.1 ∙ ap (λ (l : List ℕ). l ++ m) is) in
+        let begun = begins_behind window rest behind more byte p.begins is behind_is in
+        let m : List ℕ = begun.0 in
+        let begins : behind ≡ more ++ m = begun.1 in
         let others_read : Components = map (symbols_of d) (parts_behind d.component others) in
         let other : byte ≢ d.repeat = λ e. apart.repeat_component (sym e ∙ mark) in
         let joined : take end more ++ others ≡ more =

@@ -1,5 +1,6 @@
 use Rattle.std.proofs.Common.{sym, ◌∙◌}
 use Rattle.std.proofs.lemmas.List.{nil_from_length}
+use Rattle.lis_part.proofs.Fronts.{begins_behind, begins-within, behind-smaller, behind-within}
 use Rattle.lis_part.proofs.Fronts.{parted_begun, parted_next, parted_whole}
 use Rattle.lis_part.proofs.building.read_parted.Goals as goal
 
@@ -27,3 +28,71 @@ returns c =
     ∙ sym (parted_whole c.args.delimiters c.args.given.text.now c.loop-delimiter.repeat c.loop-delimiter.rest.now
     c.loop-delimiter.window.now c.loop-delimiter.invariant (nil_from_length c.loop-delimiter.rest.now
     c.in_default-split_first.ensures.cases))
+
+pub component_front-requires : goal.component_front-requires
+component_front-requires c = c.requires
+
+pub returns-in_default : goal.returns-in_default
+returns-in_default c = c.read_field.ensures
+
+pub first_front-requires-clause-room : goal.first_front-requires-clause-room
+first_front-requires-clause-room c = c.in-Some.ensures.room
+
+pub first_front-requires-clause-begins : goal.first_front-requires-clause-begins
+first_front-requires-clause-begins c = c.requires
+
+pub first_front-requires-clause-front : goal.first_front-requires-clause-front
+first_front-requires-clause-front c = c.in-Some.ensures.front
+
+pub split_at-requires : goal.split_at-requires
+split_at-requires c = c.in-Some.ensures.front.within
+
+pub split_at-requires-2 : goal.split_at-requires-2
+split_at-requires-2 c =
+    begins-within c.args.given.padded.now c.args.given.text.now c.in-Some.front.0 c.requires c.in-Some.ensures.front.within
+
+pub split_at-requires-in-Some-split_first : goal.split_at-requires-in-Some-split_first
+split_at-requires-in-Some-split_first c =
+    let l = c.loop-delimiter in
+    let next = c.in-Some-split_first in
+    behind-within l.window.now l.rest.now next.more.now next._delimiter.now l.invariant.begins next.ensures.cases.0
+
+pub component_front-requires-in-Some-split_first : goal.component_front-requires-in-Some-split_first
+component_front-requires-in-Some-split_first c =
+    let l = c.loop-delimiter in
+    let next = c.in-Some-split_first in
+    begins_behind l.window.now l.rest.now c.split_at-in-Some-split_first.result.1.now next.more.now next._delimiter.now
+    l.invariant.begins next.ensures.cases.0 c.split_at-in-Some-split_first.ensures.back
+
+pub returns-in_default-component_front : goal.returns-in_default-component_front
+returns-in_default-component_front c = c.read_field-in_default-component_front.ensures
+
+pub push_front-requires-clause-begins : goal.push_front-requires-clause-begins
+push_front-requires-clause-begins c =
+    let l = c.loop-delimiter in
+    let next = c.in-Some-split_first in
+    begins_behind l.window.now l.rest.now c.split_at-in-Some-split_first.result.1.now next.more.now next._delimiter.now
+    l.invariant.begins next.ensures.cases.0 c.split_at-in-Some-split_first.ensures.back
+
+pub push_front-requires-clause-front : goal.push_front-requires-clause-front
+push_front-requires-clause-front c = c.in-Some-component_front.ensures.front
+
+pub split_at-requires-in-Some-split_first-2 : goal.split_at-requires-in-Some-split_first-2
+split_at-requires-in-Some-split_first-2 c = c.in-Some-component_front.ensures.front.within
+
+pub split_at-requires-in-Some-split_first-3 : goal.split_at-requires-in-Some-split_first-3
+split_at-requires-in-Some-split_first-3 c =
+    let l = c.loop-delimiter in
+    let next = c.in-Some-split_first in
+    let behind = c.split_at-in-Some-split_first.result.1.now in
+    let begins = begins_behind l.window.now l.rest.now behind next.more.now next._delimiter.now l.invariant.begins
+    next.ensures.cases.0 c.split_at-in-Some-split_first.ensures.back in
+    begins-within behind next.more.now c.in-Some-component_front.front.0 begins
+    c.in-Some-component_front.ensures.front.within
+
+pub loop-delimiter-smaller : goal.loop-delimiter-smaller
+loop-delimiter-smaller c =
+    let next = c.in-Some-split_first in
+    behind-smaller c.loop-delimiter.rest.now next.more.now c.split_at-in-Some-split_first-2.result.1.now
+    next._delimiter.now c.in-Some-component_front.front.0 next.ensures.cases.0
+    c.split_at-in-Some-split_first-2.ensures.back_len
