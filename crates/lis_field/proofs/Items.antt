@@ -1,6 +1,6 @@
 -- The items of a list: one at a place, an only one, one that is put at the end, and lists that are compared.
 use Rattle.std.proofs.Common.{◌≡◌, ℕ, ◌<◌, ◌≤◌, Bool, List, [], ◌∷◌, ◌++◌, length, get_or, slice_get, Option, Some}
-use Rattle.std.proofs.Common.{None, Bor, Result, Ok, Err, refl, sym, ap, ◌∙◌, subst, arith, is_ok, if◌then◌else◌, OnOk}
+use Rattle.std.proofs.Common.{None, Bor, Result, Ok, Err, sym, ap, ◌∙◌, subst, arith, is_ok, if◌then◌else◌, OnOk}
 use Rattle.std.specs.Option.{option_copied}
 use Rattle.std.specs.Slice.{IsItemAt}
 use Rattle.std.proofs.lemmas.List.Elements.{All-cons, All-nil}

@@ -1,5 +1,5 @@
 use Rattle.std.proofs.Common.{ap}
-use Rattle.lis_field.specs.Shape.{Fields, RecordContent}
+use Rattle.lis_field.specs.Shape.{Fields}
 use Rattle.lis_field.proofs.records.Record.with_capacity.Goals as goal
 
 pub returns : goal.returns
