@@ -1,5 +1,7 @@
 -- The results of the tree are those of its records: each stands under the last order and the last patient before it.
 use Rattle.std.proofs.Common.{◌≡◌, List, [], ◌∷◌, ◌++◌, map, Option, Some, None, refl, ap, sym, ◌∙◌, append_assoc}
+use Rattle.std.proofs.Common.{Bor, true, is_some}
+use Rattle.std.specs.Option.{option_copied}
 use Rattle.std.proofs.lemmas.List.{map-append}
 use Rattle.std.specs.List.{flat_map, AllByRecursion}
 use Rattle.lis_field.specs.declared.kinds.Kind.{Kind}
@@ -9,7 +11,7 @@ use Rattle.lis_tree.specs.Nodes.{Noted, OrderTree, PatientTree}
 use Rattle.lis_tree.specs.declared.tree.Group.{Group}
 use Rattle.lis_tree.specs.declared.tree.Group.TheVariants as groups
 use Rattle.lis_tree.specs.Results.{told_of, patient_behind, order_behind, results_among, result_record, under_order}
-use Rattle.lis_tree.specs.Results.{order_results, group_results, results_of}
+use Rattle.lis_tree.specs.Results.{order_results, group_results, results_of, order_left, results_left}
 use Rattle.lis_tree.specs.Tree.{MessageTree, IsTree, IsNote, AreNotes, IsNoted, IsOrder, IsGroup, flatten}
 use Rattle.lis_tree.specs.Tree.{noted_records, order_records, patient_records, group_records}
 
@@ -103,3 +105,27 @@ results_are_told m h =
     sym (ap (results_among None None) (append_assoc (m.header ∷ m.notes) all (m.closing ∷ []))
     ∙ behind_one None None m.header (m.notes ++ rest) kinds.H h.header ∙ behind_notes None None m.notes rest h.notes
     ∙ of_groups None None m.groups m.closing h.closing h.groups)
+
+-- ---- while they are gone over
+
+-- on to the next order of the patient, where no result is left of the one before
+pub next_order : (patient : Option (Bor PatientTree)) (before : Option OrderTree) (left : List Noted)
+    (order : OrderTree) (orders rest : List OrderTree) (behind : List Group) → true ≡ is_some patient
+    → order_left (option_copied patient) before left ≡ [] → orders ≡ order ∷ rest
+    → results_left (record {
+      patient = option_copied patient;
+      order = Some order;
+      entries = order.below;
+      orders = rest;
+      groups = behind;
+    })
+    ≡ results_left (record {
+      patient = option_copied patient;
+      order = before;
+      entries = left;
+      orders = orders;
+      groups = behind;
+    })
+next_order (Some p) before left order orders rest behind some none is =
+    rw (none, is) refl
+next_order None before left order orders rest behind some none is = cc

@@ -1,5 +1,6 @@
 -- What is left of a walk, before its next record and behind it.
-use Rattle.std.proofs.Common.{◌≡◌, List, ◌∷◌, Option, None, append-nil, length, refl}
+use Rattle.std.proofs.Common.{◌≡◌, List, ◌∷◌, ◌++◌, Option, None, append-nil, length, refl}
+use Rattle.std.specs.Option.{option_to_list}
 use Rattle.std.proofs.lemmas.List.{nil_from_length}
 use Rattle.lis_field.specs.Shape.{RecordContent}
 use Rattle.lis_tree.specs.Nodes.{Noted, OrderTree, PatientTree}
@@ -46,3 +47,10 @@ module _
     query_next query rest none no_orders is head_is notes_are =
         rw (no_head, nil_from_length notes no_notes, nil_from_length results none, nil_from_length orders no_orders)
         (rw (is, head_is, notes_are, append-nil query.notes, append-nil query.notes) refl)
+
+  -- at the end the record that closes the message is left, or nothing
+  pub closing_next : length notes ≡ 0 → length results ≡ 0 → length orders ≡ 0 → length below ≡ 0
+      → left ≡ option_to_list closing ++ walk_records head notes results orders below None
+  closing_next no_notes no_results no_orders none =
+      rw (no_head, nil_from_length notes no_notes, nil_from_length results no_results)
+      (rw (nil_from_length orders no_orders, nil_from_length below none, append-nil (option_to_list closing)) refl)

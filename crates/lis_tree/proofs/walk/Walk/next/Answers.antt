@@ -1,7 +1,7 @@
 use Rattle.std.proofs.Common.{◌∷◌, sym, ◌∙◌, ap}
 use Rattle.std.specs.Option.{option_copied}
 use Rattle.lis_tree.specs.declared.tree.Group.{Group}
-use Rattle.lis_tree.proofs.Walking.{note_next, order_next, patient_next, query_next, result_next}
+use Rattle.lis_tree.proofs.Walking.{note_next, order_next, patient_next, query_next, result_next, closing_next}
 use Rattle.lis_tree.proofs.walk.Walk.next.Goals as goal
 
 pub returns-in-Some-split_first-clause-next : goal.returns-in-Some-split_first-clause-next
@@ -58,3 +58,11 @@ returns-in-Query-clause-next c =
     (c.in-Some-split_first-4.ensures.cases.0
     ∙ ap (λ (group : Group). group ∷ c.in-Some-split_first-4.rest.now) c.in-Query.is)
     c.head-in-Query.ensures (c.as_slice-self-inside-in-Query.ensures ∙ c.notes-in-Query.ensures)
+
+pub returns-clause-next : goal.returns-clause-next
+returns-clause-next c =
+    let w = c.self.inside in
+    sym c.self.view_is
+    ∙ closing_next (option_copied w.head) w.notes.now w.results.now w.orders.now w.groups.now (option_copied w.closing)
+    (ap option_copied c.in_default.is) c.in_default-split_first.ensures.cases c.in_default-split_first-2.ensures.cases
+    c.in_default-split_first-3.ensures.cases c.in_default-split_first-4.ensures.cases
