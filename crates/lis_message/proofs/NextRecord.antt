@@ -8,8 +8,11 @@ use Rattle.lis_field.specs.declared.kinds.Kind.{Kind}
 use Rattle.lis_field.specs.declared.kinds.Kind.TheVariants as kinds
 use Rattle.lis_field.specs.Delimiters.{DelimiterBytes}
 use Rattle.lis_field.specs.Shape.{RecordContent}
-use Rattle.lis_message.specs.inside.Kept.{Opened, opened_of, opened_with}
-use Rattle.lis_message.specs.Records.{IsRecordRefusedFor, IsStopped}
+use Rattle.lis_message.specs.Feeding.{answer_at_end}
+use Rattle.lis_message.specs.inside.Kept.{Holding, Opened, RecordsState, opened_of, opened_with}
+use Rattle.lis_message.specs.declared.records.Found.{Found}
+use Rattle.lis_message.specs.declared.records.Found.TheVariants as found
+use Rattle.lis_message.specs.Records.{IsRecordRefusedFor, IsStopped, Reads, ReadsRecord}
 use Rattle.lis_message.specs.Stream.{LacksReturn, refusal}
 use Rattle.lis_message.specs.inside.Taking.{ComesNext, front_refusal, header, inner, left_after}
 use Rattle.lis_message.proofs.Cuts.{left_after-more}
@@ -63,6 +66,10 @@ module _ (o : Opened) (begun : Begun) (is : o ≡ opened_with begun) (text : Lis
 pub begun_is_open : (left : Option Begun) → is_some (opened_of left) ≡ is_some left
 begun_is_open None = refl
 begun_is_open (Some begun) = refl
+
+pub none_open : (left : Option Begun) → None ≡ opened_of left → left ≡ None
+none_open None e = refl
+none_open (Some begun) e = absurd cc
 
 opened_some : (left : Option Begun) (o : Opened) → Some o ≡ opened_of left → (begun : Begun) × (left ≡ Some begun)
     × (o ≡ opened_with begun)
@@ -146,6 +153,16 @@ line_stopped left held text behind bytes reason lacks whole (inr why) =
 pub nothing_held : (held : List ℕ) → true ≡ (length held == 0) → held ≡ []
 nothing_held held empty = nil_from_length held (eqb-true (length held) 0 (sym empty))
 
+pub nothing_kept : (h : Holding) → h.held ≡ [] → h.cut ≡ None → h ≡ record { held = []; cut = None }
+nothing_kept h held cut =
+    ap (λ l. record { held = l; cut = h.cut }) held ∙ ap (λ k. record { held = []; cut = k }) cut
+
+-- the stream may end here
+pub ends_fine : (left : Option Begun) (held : List ℕ) → is_some (opened_of left) ≡ false → held ≡ []
+    → Ok tt ≡ answer_at_end left held
+ends_fine None held no_message none = ap (answer_at_end None) (sym none)
+ends_fine (Some begun) held no_message none = cc
+
 -- where nothing was held
 pub whole_stopped : (left : Option Begun) (held text behind bytes : List ℕ) (reason : Reason) → held ≡ []
     → LacksReturn text → bytes ≡ text ++ 13 ∷ behind → IsRecordRefusedFor left text reason
@@ -176,3 +193,39 @@ known_told entry d k text held is marks kind same =
     ap (λ (x : DelimiterBytes). Some (record_in x k held)) marks
     ∙ ap (λ (x : Kind). Some (record_in entry.delimiters x held)) kind
     ∙ ap (λ (x : List ℕ). Some (record_in entry.delimiters entry.content.kind x)) (sym same) ∙ ap Some (sym is)
+
+-- ---- where the last record was let go of
+
+record_same : (before other after : RecordsState) (left : Option Begun) (bytes behind : List ℕ)
+    (entry : Lent RecordContent) → before.held ≡ other.held → ReadsRecord before after left bytes behind entry
+    → ReadsRecord other after left bytes behind entry
+record_same before other after left bytes behind entry same r = record {
+  text = r.text;
+  whole = r.whole;
+  lacks = r.lacks;
+  comes = subst (λ (h : List ℕ). ComesNext left (h ++ r.text) entry) same r.comes;
+  left_then = r.left_then;
+  empty = r.empty;
+}
+
+-- of what the reader keeps before only the bytes that it holds count
+pub reads_same : (before other after : RecordsState) (left : Option Begun) (bytes behind : List ℕ) (f : Found)
+    → before.held ≡ other.held → Reads before after left bytes behind f → Reads other after left bytes behind f
+reads_same before other after left bytes behind found.Nothing same r = record {
+  all = r.all;
+  lacks = r.lacks;
+  held = r.held ∙ ap (λ h. h ++ bytes) same;
+  short = r.short;
+  left_then = r.left_then;
+}
+reads_same before other after left bytes behind (found.Record entry) same r =
+    record_same before other after left bytes behind entry same r
+reads_same before other after left bytes behind found.Held same r =
+    (r.0, r.1, record_same before other after left bytes behind r.0 same r.2)
+reads_same before other after left bytes behind (found.Refused fault) same r = record {
+  none_read = r.none_read;
+  place = r.place;
+  why = subst (λ (h : List ℕ). IsStopped left h bytes fault.reason) same r.why;
+  kept = r.kept;
+  empty = r.empty;
+}

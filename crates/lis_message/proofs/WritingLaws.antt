@@ -2,7 +2,7 @@
 use Rattle.std.proofs.Common.{◌≡◌, ℕ, zero, suc, ◌+◌, ◌-◌, ◌<◌, ◌≤◌, Bool, true, false, List, [], ◌∷◌, ◌++◌, length}
 use Rattle.std.proofs.Common.{map, take, drop, Option, Some, None, Result, Ok, Err, refl, sym, ◌∙◌, ap, subst}
 use Rattle.std.proofs.Common.{append_assoc, arith, length-append, length-drop, length-take}
-use Rattle.std.specs.Io.KnownBytes.{Appends}
+use Rattle.std.specs.Io.KnownBytes.{Appends, Keeps}
 use Rattle.std.specs.Option.{option_or}
 use Rattle.lis_tree.specs.Tree.{MessageTree, flatten}
 use Rattle.std.specs.Prelude.{IfErr, option_map, nat_lt, if◌then◌else◌}
@@ -18,7 +18,7 @@ use Rattle.lis_spelling.specs.Writing.{Wrote, is_io}
 use Rattle.lis_message.specs.declared.fault.MessageWriteFault.{MessageWriteFault}
 use Rattle.lis_text.specs.Capped.{capped}
 use Rattle.lis_message.specs.Writing.{records_bytes, AreWritable, CanResume, refusal_from, first_bytes, first_length}
-use Rattle.lis_message.specs.Writing.{front_of, StoppedIn, WroteRecords}
+use Rattle.lis_message.specs.Writing.{front_of, StoppedIn, WroteMessage, WroteRecords, write_refusal}
 
 -- ---- refusals
 
@@ -199,3 +199,34 @@ pub wrote_as : (d e : DelimiterBytes) (rs ss : List RecordContent) (place skip :
 wrote_as d e rs ss place skip old new result same_d same_rs w =
     subst (λ x. WroteRecords x ss place skip old new result) same_d
     (subst (λ x. WroteRecords d x place skip old new result) same_rs w)
+
+-- ---- by what is refused of the message
+
+keeps : (bytes : Option (List ℕ)) → Keeps bytes bytes
+keeps None = tt
+keeps (Some xs) = refl
+
+abbrev told_by : MessageTree → ℕ → ℕ → Option (List ℕ) → Option (List ℕ) → Result (Unit {0}) MessageWriteFault
+    → Option MessageWriteFault → Type 0
+told_by m place skip old new result refusal =
+    elim refusal [
+      | None ↦ WroteRecords m.delimiters (drop (place - 1) (flatten m)) place skip old new result
+      | Some fault ↦ (result ≡ Err fault) × Keeps old new
+    ]
+
+pub wrote_refused : (m : MessageTree) (place skip : ℕ) (bytes : Option (List ℕ)) (fault : MessageWriteFault)
+    → write_refusal m ≡ Some fault → WroteMessage m place skip bytes bytes (Err fault)
+wrote_refused m place skip bytes fault is =
+    subst (told_by m place skip bytes bytes (Err fault)) (sym is) (refl, keeps bytes)
+
+pub wrote_rest : (m : MessageTree) (place skip : ℕ) (old new : Option (List ℕ))
+    (result : Result (Unit {0}) MessageWriteFault) → write_refusal m ≡ None
+    → WroteRecords m.delimiters (drop (place - 1) (flatten m)) place skip old new result
+    → WroteMessage m place skip old new result
+wrote_rest m place skip old new result is wrote = subst (told_by m place skip old new result) (sym is) wrote
+
+-- by other names
+pub refusal_as : (d e : DelimiterBytes) (rs ss : List RecordContent) (refusal : Option MessageWriteFault) → d ≡ e
+    → rs ≡ ss → refusal_from d 1 rs ≡ refusal → refusal_from e 1 ss ≡ refusal
+refusal_as d e rs ss refusal same_d same_rs is =
+    subst (λ x. refusal_from x 1 ss ≡ refusal) same_d (subst (λ x. refusal_from d 1 x ≡ refusal) same_rs is)

@@ -1,8 +1,12 @@
 use Rattle.std.proofs.Common.{◌≡◌, ◌∷◌, ◌++◌, [], ℕ, List, sym, ap, subst, ◌∙◌, drop, take-append-drop}
+use Rattle.std.proofs.Common.{true, false, is_some, arith}
 use Rattle.lis_message.specs.inside.Kept.{Holding, RecordsState}
 use Rattle.lis_message.specs.inside.Taking.{ComesNext}
 use Rattle.lis_message.proofs.Lines.{text_lacks}
 use Rattle.lis_message.proofs.WholeRecords.{bad_line, ended_line, no_line}
+use Rattle.lis_message.proofs.NextRecord.{nothing_kept}
+use Rattle.lis_message.proofs.records.RecordReader.read_whole.Goals.{then-is_some-via-then-is_some}
+use Rattle.lis_message.proofs.records.RecordReader.read_whole.Goals.{then-is_some-via-else-is_some+then-not-is_clear}
 use Rattle.lis_message.proofs.records.RecordReader.read_whole.Goals as goal
 
 pub returns-in-Ok-clause-read : goal.returns-in-Ok-clause-read
@@ -48,3 +52,18 @@ returns-in-Err-clause-refused c = λ left has held cut text behind lacks whole.
     c.split_at.ensures.front (sym c.split_at.ensures.back ∙ c.in-Some-split_first.ensures.cases.0) c.if-byte-ne-CR.false
     (rw c.split_at.ensures.front c.in-Some.ensures.texts) lacks whole
     (c.in-Err.ensures.err left has.opened)
+
+pub returns-then-is_some-clause-refused : goal.returns-then-is_some-clause-refused
+returns-then-is_some-clause-refused c = λ left has held cut text behind lacks whole.
+    let s = c.self.inside in
+    elim c.then-is_some.branch [
+      | then-is_some-via-then-is_some w ↦ let no : true ≡ false = w.if-is_some.ensures
+          ∙ ap is_some (ap (λ (r : RecordsState). r.fault) c.self.view_is ∙ has.no_fault) in absurd cc
+      | then-is_some-via-else-is_some+then-not-is_clear w ↦ let no : true ≡ false =
+          sym (w.is_clear.ensures.1 (nothing_kept s.kept (ap (λ (r : RecordsState). r.held) c.self.view_is ∙ held)
+          (ap (λ (r : RecordsState). r.cut) c.self.view_is ∙ cut))) ∙ w.if-not-is_clear.true in absurd cc
+    ]
+
+pub returns-in_default-split_first-clause-refused : goal.returns-in_default-split_first-clause-refused
+returns-in_default-split_first-clause-refused c = λ left has held cut text behind lacks whole.
+    absurd (omega (arith, c.split_at.ensures.back_len, c.in_default-split_first.ensures.cases, c.in-Some.ensures.bound))
