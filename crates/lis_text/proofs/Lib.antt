@@ -1,3 +1,4 @@
+pub mod ListLemmas
 pub mod SearchLemmas
 pub mod SumLemmas
 pub mod TextLemmas

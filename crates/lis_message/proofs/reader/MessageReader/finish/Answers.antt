@@ -8,11 +8,11 @@ use Rattle.lis_message.proofs.reader.MessageReader.finish.Goals as goal
 pub returns : goal.returns
 returns c =
     let s = c.self.inside in
-    let by_fault = λ (f : Option MessageFault). finished (record { left = s.begun; held = s.records.held; fault = f }) in
+    let of = λ (f : Option MessageFault). finished (record { left = s.begun; held = s.records.held; fault = f }) in
     elim c.match-self.branch [
-      | in-Some w ↦ w.ended-is ∙ sym (ap by_fault w.in-Some.is) ∙ ap finished c.self.view_is
+      | in-Some w ↦ w.ended-is ∙ sym (ap of w.in-Some.is) ∙ ap finished c.self.view_is
       | in-None w ↦
           w.ended-is
           ∙ w.finish-ended.ensures.read s.begun (subst (IsOpenFor s.records s.begun) w.in-None.is c.self.invariant)
-          ∙ sym (ap by_fault w.in-None.is) ∙ ap finished c.self.view_is
+          ∙ sym (ap of w.in-None.is) ∙ ap finished c.self.view_is
     ]
