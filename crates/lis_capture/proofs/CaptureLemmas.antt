@@ -102,6 +102,14 @@ capture-ended past text fine none =
 pub begun-ended : (past text : List ℕ) → begun (stream_with past (text ++ LF ∷ [])) ≡ []
 begun-ended past text = ap begun (stream_with-append text (LF ∷ []) past)
 
+-- and the end ends one that has a byte
+pub capture-last :
+    (past : List ℕ) → (capture past false).refused ≡ false → (length (begun past) == 0) ≡ false
+    → capture past true ≡ with_text (capture past false) (begun past)
+capture-last past fine some =
+    ap (λ (t : Bool). read_lines (if not t then begun past ∷ ended_lines past else ended_lines past)) some
+    ∙ read_more past (begun past) fine
+
 -- bytes with no LF
 lines-within :
     (past text : List ℕ) → has_end text ≡ false

@@ -1,8 +1,8 @@
 -- Reading a capture by slices.
-use Rattle.std.proofs.Common.{◌<◌}
+use Rattle.std.proofs.Common.{◌<◌, ◌≤◌, ◌==◌, append-nil}
 use Rattle.std.proofs.Common.{◌≡◌, ℕ, ◌+◌, Bool, true, false, List, [], ◌∷◌, ◌++◌, Option, None, Some, is_some}
 use Rattle.std.proofs.Common.{unwrap_or, length, slice_index, take, refl, sym, ◌∙◌, ap, subst, arith, if◌then◌else◌}
-use Rattle.std.proofs.lemmas.Bool.{eqb-true}
+use Rattle.std.proofs.lemmas.Bool.{eqb-true, le-ltb}
 use Rattle.std.proofs.lemmas.List.{take_all, take_more}
 use Rattle.lis_text.specs.Control.{LF}
 use Rattle.lis_frame.specs.Stream.{stream_with}
@@ -11,12 +11,13 @@ use Rattle.lis_capture.specs.declared.line.CaptureVersion.{CaptureVersion}
 use Rattle.lis_capture.specs.declared.line.Line.{Line}
 use Rattle.lis_capture.specs.declared.reader.Found.{Found}
 use Rattle.lis_capture.specs.declared.reader.Found.TheVariants as found
-use Rattle.lis_capture.specs.Line.{line_of, version_after}
+use Rattle.lis_capture.specs.Line.{line_of, longest_line, version_after}
 use Rattle.lis_capture.specs.Capture.{Lines, begun, capture, number_of, version_of, with_said}
 use Rattle.lis_text.specs.Capped.{capped}
 use Rattle.lis_capture.specs.Reader.{HasRead, Known, Reading, found_holding, found_lines, found_of, holding_more}
 use Rattle.lis_capture.specs.Reader.{is_long, known_of, known_with}
-use Rattle.lis_capture.proofs.CaptureLemmas.{begun-ended, begun-within, capture-ended, capture-long, capture-within}
+use Rattle.lis_capture.proofs.CaptureLemmas.{begun-ended, begun-within, capture-ended, capture-last, capture-long}
+use Rattle.lis_capture.proofs.CaptureLemmas.{capture-within}
 use Rattle.lis_capture.proofs.CaptureLemmas.{has_end, has_end-before}
 
 -- ---- a line more
@@ -32,6 +33,17 @@ known_taken known (Some line) told version number some told_is version_is number
 pub found_taken : (said : Option Line) → is_some said ≡ true → found.Line ≡ found_of said
 found_taken None some = cc
 found_taken (Some line) some = refl
+
+pub found_refused : (said : Option Line) → false ≡ is_some said → found_of None ≡ found_of said
+found_refused None none = refl
+found_refused (Some line) none = cc
+
+-- behind a refused line nothing is carried out
+pub refused_again : (reader : Reading) (past : List ℕ) → HasRead reader past → reader.known.refused ≡ true
+    → capture past false ≡ record { lines = (capture past false).lines; refused = true }
+refused_again reader past has is =
+    ap (λ b. record { lines = (capture past false).lines; refused = b })
+    (ap (λ (k : Known). k.refused) (sym has.known_is) ∙ is)
 
 -- ---- what is known of the lines, with one more
 
@@ -87,6 +99,15 @@ module _ (before : Reading) (past : List ℕ) (has : HasRead before past) (fine 
   known_here said =
       ap (λ (k : Known). known_with k said) has.known_is ∙ known_with-known_of (capture past false) said fine_here
 
+  found_here :
+      (said : Option Line) (lines : Lines) (after : Known) (result : Found)
+      → lines ≡ with_said (capture past false).lines said → after ≡ known_with before.known said
+      → result ≡ found_of said → lines ≡ found_lines (capture past false) result after.line
+  found_here said lines after result lines_are known_is result_is =
+      lines_are ∙ found_lines-found_of (capture past false) before.known said
+      ∙ ap (λ (f : Found). found_lines (capture past false) f (known_with before.known said).line) (sym result_is)
+      ∙ ap (λ (k : Known). found_lines (capture past false) result k.line) (sym known_is)
+
   pub reads_end :
       (after : Reading) (text : List ℕ) (result : Found) → has_end text ≡ false
       → after.known ≡ known_with before.known (line_of before.known.version (before.held ++ text)) → after.held ≡ []
@@ -98,14 +119,31 @@ module _ (before : Reading) (past : List ℕ) (has : HasRead before past) (fine 
       capture-ended past text fine_here none ∙ ap (with_said (capture past false).lines) (sym (said_here text)) in
       record {
         found_is =
-            lines ∙ found_lines-found_of (capture past false) before.known said
-            ∙ ap (λ (f : Found). found_lines (capture past false) f (known_with before.known said).line) (sym result_is)
-            ∙ ap (λ (k : Known). found_lines (capture past false) result k.line) (sym known_is);
+            found_here said (capture (stream_with past (text ++ LF ∷ [])) false) after.known result lines known_is
+            result_is;
         has_read = record {
           known_is = known_is ∙ known_here said ∙ ap known_of (sym lines);
           held_is = λ _. held_is ∙ sym (begun-ended past text);
         };
       }
+
+  -- the end ends a line that has a byte
+  pub ends_last :
+      (after : Known) (result : Found) → (length before.held == 0) ≡ false
+      → after ≡ known_with before.known (line_of before.known.version (before.held ++ []))
+      → result ≡ found_of (line_of before.known.version (before.held ++ []))
+      → (capture past true ≡ found_lines (capture past false) result after.line)
+      × (after ≡ known_of (capture past true))
+  ends_last after result some known_is result_is =
+      let said : Option Line = line_of before.known.version (before.held ++ []) in
+      let lines : List Line = (capture past false).lines in
+      let all : capture past true ≡ with_said lines said =
+      capture-last past fine_here (ap (λ (h : List ℕ). length h == 0) (sym (has.held_is fine_here)) ∙ some)
+      ∙ ap (λ (h : List ℕ). with_said lines (line_of (version_of lines) h)) (sym (append-nil (begun past)))
+      ∙ ap (with_said lines) (sym (said_here [])) in (
+        found_here said (capture past true) after result all known_is result_is,
+        known_is ∙ known_here said ∙ ap known_of (sym all),
+      )
 
   reads_by :
       (long : Bool) (after : Reading) (text : List ℕ) (result : Found) → has_end text ≡ false
@@ -144,6 +182,12 @@ module _ (before : Reading) (past : List ℕ) (has : HasRead before past) (fine 
       → result ≡ found_holding (before.held ++ text) → ReadsOn before after past text result
   reads_within after text result none after_is result_is =
       reads_by (is_long (before.held ++ text)) after text result none refl after_is result_is
+
+pub held_more : (r : Reading) (text items : List ℕ) → items ≡ r.held ++ text → length items ≤ longest_line
+    → record r { held = items } ≡ holding_more r text
+held_more r text items is short =
+    let within : length (r.held ++ text) ≤ longest_line = omega (arith, short, ap length is) in
+    rw (le-ltb longest_line (length (r.held ++ text)) within) (ap (λ (h : List ℕ). record r { held = h }) is)
 
 -- ---- where `memchr` finds the LF
 
