@@ -417,6 +417,21 @@ settled_world (Ok done) limit {was} new desk meant units r same is_desk new_is =
       world_is = ap (λ (d : Desk). settled units d (world_at was r)) is_desk.desk_is;
     })
 
+-- what a unit caused goes behind the replies on the link, where it comes in time
+pub answered_in_time :
+    {A E : Type 0} (outcome : Result A E) {was kept : KeptWorld} (desk : KeptDesk) (replies : List ℕ)
+    → was ≡ kept
+    → was.mute ≡ 0
+    → OnOk outcome ((replies ≡ was.replies ++ was.desk.replies) × (desk ≡ record was.desk { replies = [] }))
+    → OnOk outcome (record was { desk = desk; replies = replies } ≡ record kept {
+      replies = replies_with kept.mute kept.desk.replies kept.replies;
+      mute = lowered kept.mute;
+      desk = record kept.desk { replies = [] };
+    })
+answered_in_time (Err fault) desk replies same in_time answered = tt
+answered_in_time (Ok done) {was} desk replies same in_time answered =
+    rw (← same, answered.0, answered.1) (rw in_time refl)
+
 -- damage that isn't noticed does nothing
 damaged-unnoticed :
     (limit : ℕ) (bytes : List ℕ) (units : List Travelling) (w : World)
