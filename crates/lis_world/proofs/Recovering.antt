@@ -145,14 +145,18 @@ timed_twice limit Busy s is = refl
 timed_twice limit Contention s is = refl
 timed_twice limit AwaitReply s is = refl
 
+two_are : SenderTimer ∷ SenderTimer ∷ [] ≡ rest_events two_timers
+two_are = refl
+
 rested : (limit : ℕ) (rest : Rest) (w : World) → (runs limit (rest_events rest) w).sender.phase ≡ Neutral
 rested limit restart w = restarted w.sender.phase w.sender refl
 rested limit two_timers w =
     let v : World = after_event limit SenderTimer w in
     let once = sender-timer limit w in
     let twice = sender-timer limit v in
-    ap (λ (s : SenderState). s.phase) (twice ∙ ap (λ (s : SenderState). (on_sender_timer {limit = limit} s).after) once)
-    ∙ timed_twice limit w.sender.phase w.sender refl
+    subst (λ events. (runs limit events w).sender.phase ≡ Neutral) two_are
+    (ap (λ (s : SenderState). s.phase) (twice ∙ ap (λ (s : SenderState). (on_sender_timer {limit = limit} s).after) once)
+    ∙ timed_twice limit w.sender.phase w.sender refl)
 
 pub recovers : (limit : ℕ) → IsLimit limit → Recovers limit
 recovers limit is_limit events rest leavings few =
