@@ -1,12 +1,14 @@
 -- What the program that plays events keeps is the computer's side of the definition.
 use Rattle.std.proofs.Common.{IsOk, ◌≡◌, ◌≢◌, ℕ, suc, ◌+◌, Bool, true, false, List, [], ◌∷◌, Option, None, Some, OnOk}
-use Rattle.std.proofs.Common.{◌++◌, drop, refl, sym, ap, ◌∙◌, subst, arith}
+use Rattle.std.proofs.Common.{◌++◌, ◌==◌, drop, refl, sym, ap, ◌∙◌, subst, arith}
+use Rattle.std.proofs.lemmas.Bool.Decides.{nat_tests}
 use Rattle.std.specs.Option.{option_to_list}
 use Rattle.std.specs.Prelude.{Result, Ok, Err}
-use Rattle.lis_text.specs.Control.{ENQ, EOT}
+use Rattle.lis_text.specs.Control.{ENQ, EOT, ACK}
 use Rattle.lis_frame.specs.declared.scanner.SignalOf.{SignalOf}
 use Rattle.lis_frame.specs.declared.scanner.SignalOf.TheVariants.{Enq, Eot, Good, Bad}
 use Rattle.lis_frame.specs.Frame.{FrameContent, IsContent, frame_bytes}
+use Rattle.lis_frame.specs.Scanner.{Held}
 use Rattle.lis_frame.specs.Stream.{signal_after, signals_after, with_signal}
 use Rattle.lis_frame.proofs.StreamLaws.{signals-frame_bytes}
 use Rattle.lis_link.specs.declared.receiver.Hearing.{Hearing}
@@ -23,16 +25,16 @@ use Rattle.lis_link.proofs.HearingLaws.{on_byte-quiet}
 use Rattle.lis_link.specs.declared.sender.Phase.{Phase}
 use Rattle.lis_link.specs.declared.sender.Phase.TheVariants as Phases
 use Rattle.lis_link.specs.declared.sender.EmitOf.{EmitOf}
-use Rattle.lis_link.specs.Sender.{SenderState, SenderStep, on_sender_timer}
+use Rattle.lis_link.specs.Sender.{SenderState, SenderStep, on_reply, on_sender_timer}
 use Rattle.lis_world.specs.declared.event.Event.{Event}
 use Rattle.lis_world.proofs.Heard.{heard_leaves, noted_after}
 use Rattle.lis_world.specs.Unit.{Load, Travelling, one_frame}
 use Rattle.lis_world.specs.World.{World, Desk, new_world, booked, noted, hears}
 use Rattle.lis_world.specs.World.{replies_with, lowered, settled}
 use Rattle.lis_world.specs.Steps.{emitted, with_sender, sender_steps, given_up, after_event, is_noticed}
-use Rattle.lis_world.specs.Steps.{damaged, room_at, runs, world}
+use Rattle.lis_world.specs.Steps.{damaged, reply_damaged, room_at, runs, world}
 use Rattle.lis_world.specs.inside.Playing.{KeptWorld, world_at, IsWorld, IsPlaying, kept_given_up, KeptDesk, desk_at}
-use Rattle.lis_world.specs.inside.Playing.{IsDesk, OnlyLoad, IsLoad, TakesLoad, front_noticed}
+use Rattle.lis_world.specs.inside.Playing.{IsDesk, OnlyLoad, IsLoad, TakesLoad, IsNoticing, front_noticed, still_noticed}
 
 -- what is accepted is a good frame that was heard
 record IsGood {limit : ℕ} (signal : Option (SignalOf limit)) (step : ReceiverStep) : Type 0 where
@@ -432,6 +434,16 @@ answered_in_time (Err fault) desk replies same in_time answered = tt
 answered_in_time (Ok done) {was} desk replies same in_time answered =
     rw (← same, answered.0, answered.1) (rw in_time refl)
 
+-- a byte that is neither ACK nor EOT comes in the place of a reply
+pub reply_damaged-other :
+    (limit damage b : ℕ) (replies : List ℕ) (w : World) → damage ≢ ACK → damage ≢ EOT
+    → reply_damaged limit damage (b ∷ replies) w
+    ≡ sender_steps {limit = limit} (on_reply damage w.sender) (record w { replies = replies })
+reply_damaged-other limit damage b replies w no_ack no_eot =
+    let first : (damage == ACK) ≡ false = grind (arith, nat_tests) in
+    let second : (damage == EOT) ≡ false = grind (arith, nat_tests) in
+    rw (first, second)
+
 -- damage that isn't noticed does nothing
 damaged-unnoticed :
     (limit : ℕ) (bytes : List ℕ) (units : List Travelling) (w : World)
@@ -448,3 +460,12 @@ pub unnoticed_world :
 unnoticed_world limit bytes kept r is_in unnoticed =
     rw (damaged-unnoticed limit bytes kept.units (world_at kept r) unnoticed)
     (record { receiver_is = is_in; world_is = refl })
+
+-- while damage is heard, nothing is left of it
+pub all_noticed :
+    {limit : ℕ} {load : Load} {is_bad : Bool} {scanner : Held} {left : List ℕ} {goal : Bool}
+    → IsNoticing limit load is_bad scanner left goal → left ≡ [] → true ≡ goal
+all_noticed {limit} {load} {is_bad = false} noticing none =
+    ap (λ left. is_noticed load (signals_after limit noticing.past left)) (sym none) ∙ noticing.goes_on
+all_noticed {limit} {load} {is_bad = true} noticing none =
+    ap (λ left. still_noticed true load (signals_after limit noticing.past left)) (sym none) ∙ noticing.goes_on
