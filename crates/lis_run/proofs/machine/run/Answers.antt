@@ -289,3 +289,14 @@ returns-in-Ok-send_page-clause-ran g c =
 pub returns-in-Ok-send_page-clause-each_gave : goal.returns-in-Ok-send_page-clause-each_gave
 returns-in-Ok-send_page-clause-each_gave g c =
     gave_so_far c.loop-turn.invariant.so_far (omega (arith, c.loop-turn.invariant.made))
+
+pub returns-in-Ok-send_page-clause-stops : goal.returns-in-Ok-send_page-clause-stops
+returns-in-Ok-send_page-clause-stops g c =
+    let is = c.loop-turn.invariant in
+    let made = is.made in
+    record {
+      stopped = (is.not_ended, is.not_failed, c.in-Ok-send_page.ensures.failed, omega arith);
+      sent_on = c.in-Ok-send_page.ensures.sent;
+      all_read = unended is.not_ended;
+      bounded = omega arith;
+    }

@@ -1,0 +1,7 @@
+use Rattle.lis_run.proofs.gather.send_page_before_a_wait.Goals as goal
+
+pub returns-clause-sent : goal.returns-clause-sent
+returns-clause-sent g c waits = absurd cc
+
+pub returns-clause-empty : goal.returns-clause-empty
+returns-clause-empty g c waits = absurd cc
