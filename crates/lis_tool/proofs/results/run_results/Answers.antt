@@ -6,3 +6,6 @@ use Rattle.lis_tool.proofs.results.run_results.Goals as goal
 pub returns-clause-status : goal.returns-clause-status
 returns-clause-status g c =
     messages_status results_writes (λ messages. omega arith) c.run_messages.result c.run_messages.ensures.ran
+
+pub returns-clause-stops : goal.returns-clause-stops
+returns-clause-stops g c = c.run_messages.ensures.stops
