@@ -1,6 +1,6 @@
 -- Texts that are gathered one behind the other, and go out together.
 use Rattle.std.proofs.Common.{◌≡◌, ℕ, ◌≤◌, List, [], ◌∷◌, ◌++◌, length, Option, Ok, Err, sym, ◌∙◌, ap, subst}
-use Rattle.std.proofs.Common.{append-nil, append_assoc, refl}
+use Rattle.std.proofs.Common.{append-nil, append_assoc, refl, Bool, true, if◌then◌else◌}
 use Rattle.std.specs.declared.result.Result.{Result}
 use Rattle.lis_run.specs.declared.fault.ToolFault.{ToolFault}
 use Rattle.lis_run.specs.Output.{Gathered, Out, Put, most_counted, out}
@@ -8,6 +8,12 @@ use Rattle.lis_run.proofs.PutLaws.{put_nothing, put_stops, put_then}
 
 pub gathered_nothing : (a : Out) (before : ℕ) → before ≤ most_counted → Gathered a a before (Ok before) []
 gathered_nothing a before fits = ([], append-nil a.waits, put_nothing a.taken before fits)
+
+-- a text that is left out
+pub gathered_unless :
+    (a : Out) (before : ℕ) (text : List ℕ) (left_out : Bool) → left_out ≡ true → before ≤ most_counted
+    → Gathered a a before (Ok before) (if left_out then [] else text)
+gathered_unless a before text left_out is fits = rw is (gathered_nothing a before fits)
 
 -- a text that there is room for
 pub gathered_behind :
