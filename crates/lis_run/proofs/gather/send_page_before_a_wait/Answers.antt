@@ -1,7 +1,8 @@
+use Rattle.std.proofs.Common.{rules}
 use Rattle.lis_run.proofs.gather.send_page_before_a_wait.Goals as goal
 
 pub returns-clause-sent : goal.returns-clause-sent
-returns-clause-sent g c waits = absurd cc
+returns-clause-sent g c = search rules
 
 pub returns-clause-empty : goal.returns-clause-empty
-returns-clause-empty g c waits = absurd cc
+returns-clause-empty g c = search rules
