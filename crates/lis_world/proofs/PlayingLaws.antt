@@ -34,7 +34,8 @@ use Rattle.lis_world.specs.World.{replies_with, lowered, settled}
 use Rattle.lis_world.specs.Steps.{emitted, with_sender, sender_steps, given_up, after_event, is_noticed}
 use Rattle.lis_world.specs.Steps.{damaged, reply_damaged, room_at, runs, world}
 use Rattle.lis_world.specs.inside.Playing.{KeptWorld, world_at, IsWorld, IsPlaying, kept_given_up, KeptDesk, desk_at}
-use Rattle.lis_world.specs.inside.Playing.{IsDesk, OnlyLoad, IsLoad, TakesLoad, IsNoticing, front_noticed, still_noticed}
+use Rattle.lis_world.specs.inside.Playing.{IsDesk, OnlyLoad, IsLoad, TakesLoad, IsNoticing, front_noticed}
+use Rattle.lis_world.specs.inside.Playing.{still_noticed}
 
 -- what is accepted is a good frame that was heard
 record IsGood {limit : ℕ} (signal : Option (SignalOf limit)) (step : ReceiverStep) : Type 0 where

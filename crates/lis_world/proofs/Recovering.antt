@@ -155,7 +155,8 @@ rested limit two_timers w =
     let once = sender-timer limit w in
     let twice = sender-timer limit v in
     subst (λ events. (runs limit events w).sender.phase ≡ Neutral) two_are
-    (ap (λ (s : SenderState). s.phase) (twice ∙ ap (λ (s : SenderState). (on_sender_timer {limit = limit} s).after) once)
+    (ap (λ (s : SenderState). s.phase)
+    (twice ∙ ap (λ (s : SenderState). (on_sender_timer {limit = limit} s).after) once)
     ∙ timed_twice limit w.sender.phase w.sender refl)
 
 pub recovers : (limit : ℕ) → IsLimit limit → Recovers limit

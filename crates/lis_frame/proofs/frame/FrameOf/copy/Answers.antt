@@ -1,5 +1,4 @@
 use Rattle.std.proofs.Common.{◌∙◌, ap}
-use Rattle.lis_frame.specs.Frame.{FrameContent}
 use Rattle.lis_frame.proofs.frame.FrameOf.copy.Goals as goal
 
 pub returns : goal.returns

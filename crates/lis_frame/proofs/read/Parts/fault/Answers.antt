@@ -1,13 +1,24 @@
-use Rattle.std.proofs.Common.{◌≡◌, ℕ, ◌+◌, ◌%◌, List, length, take, ap, arith, refl, sym, take_all, ◌∙◌}
+use Rattle.std.proofs.Common.{◌≡◌, ℕ, ◌+◌, ◌%◌, Bool, length, take, ap, arith, refl, sym, take_all, ◌∙◌}
 use Rattle.std.specs.List.{sum}
+use Rattle.lis_frame.specs.declared.read.Parts.{Parts}
 use Rattle.lis_frame.specs.Frame.{digit_value}
 use Rattle.lis_frame.specs.Stretch.{is_value, pair_value}
 use Rattle.lis_frame.proofs.read.Parts.fault.Goals as goal
 
-sum_is :
-    (number end total : ℕ) (text : List ℕ) → total ≡ sum (take (length text) text) % 256
-    → ((number + sum text) % 256 + end) % 256 ≡ (number + total + end) % 256
-sum_is number end total text is = let all = rw (take_all (length text) text (omega arith)) at is in omega arith
+summed :
+    (parts : Parts) {total : ℕ} {test is : Bool}
+    → total ≡ sum (take (length parts.text.now) parts.text.now) % 256
+    → test ≡ is_value (pair_value (digit_value parts.high) (digit_value parts.low))
+    ((parts.number + total + parts.end) % 256)
+    → test ≡ is
+    → is_value (pair_value (digit_value parts.high) (digit_value parts.low))
+    (((parts.number + sum parts.text.now) % 256 + parts.end) % 256) ≡ is
+summed parts {total} total_is test_is here =
+    let text = parts.text.now in
+    let all = rw (take_all (length text) text (omega arith)) at total_is in
+    let same : ((parts.number + sum text) % 256 + parts.end) % 256 ≡ (parts.number + total + parts.end) % 256 =
+    omega arith in
+    ap (is_value (pair_value (digit_value parts.high) (digit_value parts.low))) same ∙ sym test_is ∙ here
 
 pub returns-then-not-is_shaped : goal.returns-then-not-is_shaped
 returns-then-not-is_shaped c = rw (sym c.is_shaped.ensures ∙ c.if-not-is_shaped.true) refl
@@ -24,24 +35,20 @@ returns-in-Some c =
 
 pub returns-then-is_summed : goal.returns-then-is_summed
 returns-then-is_summed c =
-    let parts = c.args.self.now in
-    let shaped = sym c.is_shaped.ensures ∙ c.if-not-is_shaped.false in
-    let numbered = sym c.is_number.ensures ∙ c.if-not-is_number.false in
-    let clean = sym c.text_and_sum-forbidden.ensures.first ∙ c.in_default.is in
-    let same = sum_is parts.number parts.end _ parts.text.now
-    (rw c.in_default.is at c.text_and_sum-forbidden.ensures.sum) in
-    let summed = ap (is_value (pair_value (digit_value parts.high) (digit_value parts.low))) same
-    ∙ sym c.is_summed.ensures ∙ c.if-is_summed.true in
-    rw (shaped, numbered, clean, summed) refl
+    let total = rw c.in_default.is at c.text_and_sum-forbidden.ensures.sum in
+    rw (
+      sym c.is_shaped.ensures ∙ c.if-not-is_shaped.false,
+      sym c.is_number.ensures ∙ c.if-not-is_number.false,
+      sym c.text_and_sum-forbidden.ensures.first ∙ c.in_default.is,
+      summed c.args.self.now total c.is_summed.ensures c.if-is_summed.true,
+    ) refl
 
 pub returns-else-is_summed : goal.returns-else-is_summed
 returns-else-is_summed c =
-    let parts = c.args.self.now in
-    let shaped = sym c.is_shaped.ensures ∙ c.if-not-is_shaped.false in
-    let numbered = sym c.is_number.ensures ∙ c.if-not-is_number.false in
-    let clean = sym c.text_and_sum-forbidden.ensures.first ∙ c.in_default.is in
-    let same = sum_is parts.number parts.end _ parts.text.now
-    (rw c.in_default.is at c.text_and_sum-forbidden.ensures.sum) in
-    let summed = ap (is_value (pair_value (digit_value parts.high) (digit_value parts.low))) same
-    ∙ sym c.is_summed.ensures ∙ c.if-is_summed.false in
-    rw (shaped, numbered, clean, summed) refl
+    let total = rw c.in_default.is at c.text_and_sum-forbidden.ensures.sum in
+    rw (
+      sym c.is_shaped.ensures ∙ c.if-not-is_shaped.false,
+      sym c.is_number.ensures ∙ c.if-not-is_number.false,
+      sym c.text_and_sum-forbidden.ensures.first ∙ c.in_default.is,
+      summed c.args.self.now total c.is_summed.ensures c.if-is_summed.false,
+    ) refl

@@ -1,4 +1,5 @@
-use Rattle.std.proofs.Common.{◌≡◌, ℕ, ◌<◌, ◌≤◌, ltb, List, length, map, get_or, Option, None, Some, IfSome, is_some, refl, sym, ap, ◌∙◌, arith}
+use Rattle.std.proofs.Common.{◌≡◌, ℕ, ◌<◌, ◌≤◌, ltb, List, length, map, get_or, Option, None, Some, IfSome, is_some}
+use Rattle.std.proofs.Common.{refl, sym, ap, ◌∙◌, arith}
 use Rattle.std.proofs.lemmas.Bool.Decides.{nat_tests}
 use Rattle.std.proofs.lemmas.Option.{slice_get-map, slice_get_past, slice_get_read}
 use Rattle.std.specs.Borrow.{Bor}
@@ -13,7 +14,8 @@ copied_at :
     → option_copied (option_copied got) ≡ slice_get (map (λ text. text.now) texts) place
 copied_at texts place None within text_is =
     let past : length texts ≤ place = grind (arith, nat_tests) in
-    sym (slice_get-map (λ text. text.now) texts place ∙ ap (option_map (λ text. text.now)) (slice_get_past texts place past))
+    sym (slice_get-map (λ text. text.now) texts place
+    ∙ ap (option_map (λ text. text.now)) (slice_get_past texts place past))
 copied_at texts place (Some x) within text_is =
     let inside : place < length texts = grind (arith, nat_tests) in
     sym (slice_get-map (λ text. text.now) texts place
