@@ -1,4 +1,3 @@
-use Rattle.std.proofs.Common.{refl}
 use Rattle.lis_run.proofs.output.send.Goals as goal
 
 pub returns-in-Err-clause-sent : goal.returns-in-Err-clause-sent
