@@ -49,7 +49,8 @@ split_at-requires c = c.in-Some.ensures.front.within
 
 pub split_at-requires-2 : goal.split_at-requires-2
 split_at-requires-2 c =
-    begins-within c.args.given.padded.now c.args.given.text.now c.in-Some.front.0 c.requires c.in-Some.ensures.front.within
+    begins-within c.args.given.padded.now c.args.given.text.now c.in-Some.front.0 c.requires
+    c.in-Some.ensures.front.within
 
 pub split_at-requires-in-Some-split_first : goal.split_at-requires-in-Some-split_first
 split_at-requires-in-Some-split_first c =
