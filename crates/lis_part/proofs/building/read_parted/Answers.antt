@@ -68,13 +68,6 @@ component_front-requires-in-Some-split_first c =
 pub returns-in_default-component_front : goal.returns-in_default-component_front
 returns-in_default-component_front c = c.read_field-in_default-component_front.ensures
 
-pub push_front-requires-clause-begins : goal.push_front-requires-clause-begins
-push_front-requires-clause-begins c =
-    let l = c.loop-delimiter in
-    let next = c.in-Some-split_first in
-    begins_behind l.window.now l.rest.now c.split_at-in-Some-split_first.result.1.now next.more.now next._delimiter.now
-    l.invariant.begins next.ensures.cases.0 c.split_at-in-Some-split_first.ensures.back
-
 pub push_front-requires-clause-front : goal.push_front-requires-clause-front
 push_front-requires-clause-front c = c.in-Some-component_front.ensures.front
 
