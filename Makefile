@@ -1,45 +1,61 @@
-# make demo     builds the proved program and shows a sample
-# make test     proves everything from nothing, tries the edits that must fail, runs all tests
-# make check CRATE=lis_frame   proves one crate with its tests, and tries its edits
+# make          proves and builds the program into build/lislink
+# make demo     shows a sample within a minute, by a build without proofs
+# make test     the gate: proves everything, tries the mutants of must-fail/, runs all tests
+# make check CRATE=lis_frame   proves one crate with its tests, and tries its mutants of must-fail/
 # make library  proves and builds the library for C and Python into build/
 # make install  puts the program, the library, its header and the manual pages under $(PREFIX)
+#
+# Long runs, outside the gate:
+# make mutants  [CRATES="lis_link .."]   all mutants: the prover must reject each, and a test must notice it
+# make harmless [CRATES="lis_link .."]   rewrites that change nothing: each must still be proved
+# make plant CRATE=lis_link              wrong bodies that the kit makes up: what a crate's contracts let through
 
 PREFIX ?= /usr/local
 CC = gcc
-PROGRAM = crates/lislink/out/lislink
-ARCHIVE = crates/lis_c/out/liblis_c.a
+PROGRAM = build/lislink
+ARCHIVE = build/liblis_c.a
 VERSION = 0.1
 
-.PHONY: build check demo test library install
+.PHONY: build check demo test mutants harmless plant library install
 
 build:
-	@echo 'Proving and building the program: some minutes the first time, seconds then.'
-	@cd crates/lislink && rt run -- show < /dev/null > out.log 2>&1 || { cat out.log; rm -f out.log; exit 1; }
-	@rm -f crates/lislink/out.log
+	@echo 'Proving and building the program: about MAKE_MINUTES minutes the first time on four processors, then seconds.'
+	@tools/prove lislink $(PROGRAM)
+
+demo:
+	@echo 'A build without proofs, checked at run time (half a minute). It prints what is on a line, one unit a line:'
+	@cd crates/lislink && rt try -- show < ../../samples/session.link 2> demo.log || { cat demo.log; rm -f demo.log; exit 1; }
+	@rm -f crates/lislink/demo.log
+	@echo
+	@echo 'This is the same source as the proved program; nothing was proved yet. Next:'
+	@echo '  make                                        proves and builds build/lislink'
+	@echo '  build/lislink results < samples/panel.records'
+	@echo '  build/lislink texts < samples/two-sessions.capture'
+	@echo 'README.md explains the commands, docs/EMBEDDING.md the library for C and Python.'
 
 check:
 	@test -n '$(CRATE)' || { echo 'make check CRATE=name, a folder of crates/'; exit 2; }
 	cd crates/$(CRATE) && rt check --test
-	tests/edits --unedited $(CRATE)
-	tests/edits $(CRATE)
-
-demo: build
-	$(PROGRAM) show < samples/session.link
-	@echo
-	@echo 'Next: $(PROGRAM) results < samples/panel.records'
-	@echo '      $(PROGRAM) texts < samples/two-sessions.capture'
-	@echo '      make library, and then: examples/python/line.py pair --noise 0.003'
-	@echo 'README.md has the commands, docs/EMBEDDING.md C and Python.'
+	rt must-fail $(CRATE)
 
 test:
 	@tests/all
 
+mutants:
+	tests/mutants $(CRATES)
+	tests/planted $(CRATES)
+
+harmless:
+	tests/harmless $(CRATES)
+
+plant:
+	@test -n '$(CRATE)' || { echo 'make plant CRATE=name, a folder of crates/'; exit 2; }
+	cd crates/$(CRATE) && rt plant
+
 # The heap of examples/c/heap.c is part of both libraries, so that a program links with nothing else.
 library:
-	@echo 'Proving and building the library: some minutes the first time, seconds then.'
-	@cd crates/lis_c && rt lib > out.log 2>&1 || { cat out.log; rm -f out.log; exit 1; }
-	@rm -f crates/lis_c/out.log
-	@mkdir -p build
+	@echo 'Proving and building the library: about LIBRARY_MINUTES minutes the first time on four processors, then one.'
+	@tools/prove lis_c $(ARCHIVE)
 	$(CC) -O2 -fPIC -Iinclude -c examples/c/heap.c -o build/heap.o
 	cp $(ARCHIVE) build/liblislink.a
 	ar r build/liblislink.a build/heap.o
