@@ -1,7 +1,7 @@
 -- What reading a text answered, where it is known to be a record.
 use Rattle.std.proofs.Common.{◌≡◌, Result, Ok, Err, subst}
 use Rattle.lis_field.specs.Shape.{RecordContent}
-use Rattle.lis_record.specs.declared.faults.RecordFault.{RecordFault}
+use Rattle.lis_field.specs.declared.faults.RecordFault.{RecordFault}
 use Rattle.lis_record.specs.Lent.{Lent}
 
 pub found_is :

@@ -6,9 +6,9 @@ use Rattle.lis_field.specs.Kinds.{letter_of}
 use Rattle.lis_field.specs.Shape.{RecordContent}
 use Rattle.lis_record.specs.Lent.{Lent}
 use Rattle.lis_tree.specs.inside.Begun.{Begun}
-use Rattle.lis_tree.specs.declared.fault.MessageFault.{MessageFault}
-use Rattle.lis_tree.specs.declared.fault.Reason.{Reason}
-use Rattle.lis_tree.specs.declared.fault.Reason.TheVariants as Reasons
+use Rattle.lis_field.specs.declared.faults.MessageFault.{MessageFault}
+use Rattle.lis_field.specs.declared.faults.Reason.{Reason}
+use Rattle.lis_field.specs.declared.faults.Reason.TheVariants as Reasons
 use Rattle.lis_message.specs.declared.records.Found.{Found}
 use Rattle.lis_message.specs.declared.records.Found.TheVariants as founds
 use Rattle.lis_message.specs.inside.Kept.{RecordsState}

@@ -6,8 +6,8 @@ use Rattle.lis_field.specs.declared.symbols.Sym.TheVariants.{Char, Raw, On, Off}
 use Rattle.lis_field.specs.Delimiters.{DelimiterBytes}
 use Rattle.lis_field.specs.Kinds.{letter_of}
 use Rattle.lis_field.specs.Shape.{Components, RecordContent, Repeats, Symbols, field_at}
-use Rattle.lis_record.specs.declared.faults.RecordFault.{RecordFault}
-use Rattle.lis_record.specs.declared.faults.RecordFault.TheVariants as RecordFaults
+use Rattle.lis_field.specs.declared.faults.RecordFault.{RecordFault}
+use Rattle.lis_field.specs.declared.faults.RecordFault.TheVariants as RecordFaults
 use Rattle.lis_c.specs.Status.{ABSENT, BAD_DELIMITERS, BAD_LETTER, FORBIDDEN, NO_RECORD, OK, OUT_OF_MEMORY, TOO_LONG}
 use Rattle.lis_c.specs.Status.{TOO_SHORT}
 use Rattle.lis_c.specs.declared.records.LisDelimiters.{LisDelimiters}

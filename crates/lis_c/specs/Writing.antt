@@ -7,8 +7,8 @@ use Rattle.lis_spelling.specs.declared.faults.WriteFault.{WriteFault}
 use Rattle.lis_spelling.specs.declared.faults.WriteFault.TheVariants as WriteFaults
 use Rattle.lis_spelling.specs.WriteFaults.{check_fault}
 use Rattle.lis_spelling.specs.Spelling.{written}
-use Rattle.lis_tree.specs.declared.fault.Reason.{Reason}
-use Rattle.lis_tree.specs.declared.fault.Reason.TheVariants as Reasons
+use Rattle.lis_field.specs.declared.faults.Reason.{Reason}
+use Rattle.lis_field.specs.declared.faults.Reason.TheVariants as Reasons
 use Rattle.lis_tree.specs.declared.standing.Standing.{Standing}
 use Rattle.lis_tree.specs.inside.Standing.{standing_level}
 use Rattle.lis_tree.specs.Level.{Level, outside, closed, misplaced, next_level}

@@ -9,7 +9,7 @@ ghost use Rattle.lis_c.specs.Status.{BAD_DELIMITERS};
 ghost use Rattle.lis_field.specs.declared.kinds.Kind.TheVariants as kinds;
 ghost use Rattle.lis_field.specs.Delimiters.{DelimiterBytes, IsDelimiters};
 ghost use Rattle.lis_field.specs.Shape.{RecordContent};
-ghost use Rattle.lis_record.specs.declared.faults.RecordFault.{RecordFault};
+ghost use Rattle.lis_field.specs.declared.faults.RecordFault.{RecordFault};
 ghost use Rattle.lis_record.specs.Faults.{header_fault, record_fault};
 ghost use Rattle.lis_record.specs.Lent.{lent};
 ghost use Rattle.lis_field.specs.Relation.{IsRecord};

@@ -4,6 +4,7 @@
 
 mod component;
 mod delimiting;
+mod faults;
 mod few;
 mod field;
 mod kinds;
@@ -17,6 +18,7 @@ mod text_bytes;
 
 pub use component::Component;
 pub use delimiting::{DelimiterFault, Delimiters};
+pub use faults::{DelimiterPartFault, MessageFault, Reason, RecordFault};
 pub use field::Field;
 pub use kinds::Kind;
 pub use parts::{Part, Parts};

@@ -1,12 +1,12 @@
 -- The definitions at record texts that are refused, by computation.
 use Rattle.std.proofs.Common.{◌≡◌, [], ◌∷◌, None, Some, refl}
 use Rattle.lis_field.specs.declared.kinds.Kind.TheVariants as kinds
-use Rattle.lis_record.specs.declared.faults.RecordFault.TheVariants as record_faults
+use Rattle.lis_field.specs.declared.faults.RecordFault.TheVariants as record_faults
 use Rattle.lis_field.specs.Delimiters.{DelimiterBytes, delimiters_of}
 use Rattle.lis_record.specs.Faults.{record_text_fault, record_fault}
 use Rattle.lis_field.specs.Kinds.{kind_of}
 use Rattle.lis_field.specs.Text.{is_text_byte}
-use Rattle.lis_tree.specs.declared.fault.Reason.TheVariants as reasons
+use Rattle.lis_field.specs.declared.faults.Reason.TheVariants as reasons
 use Rattle.lis_tree.proofs.DefinitionRows.{header, patient, with_number}
 use Rattle.lis_message.specs.Stream.{refusal, kind_refusal}
 

@@ -16,8 +16,8 @@ use Rattle.lis_field.specs.Kinds.{kind_of}
 use Rattle.lis_field.specs.Shape.{IsRecordShape, RecordContent}
 use Rattle.lis_record.proofs.FaultLaws.{IsRecord-fields_of, IsRecord-header}
 use Rattle.lis_record.proofs.Shapes.{IsRecord-shape}
-use Rattle.lis_record.specs.declared.faults.DelimiterPartFault.TheVariants.{Fault, Trailing}
-use Rattle.lis_record.specs.declared.faults.RecordFault.TheVariants as record_faults
+use Rattle.lis_field.specs.declared.faults.DelimiterPartFault.TheVariants.{Fault, Trailing}
+use Rattle.lis_field.specs.declared.faults.RecordFault.TheVariants as record_faults
 use Rattle.lis_spelling.specs.declared.writing.TheConstants.{RECORD_LIMIT}
 use Rattle.lis_record.specs.Faults.{delimiter_part_fault, header_fault, is_header_kind, is_other_kind, record_fault}
 use Rattle.lis_record.specs.Faults.{record_text_fault}
@@ -25,8 +25,8 @@ use Rattle.lis_field.specs.Text.{trailing_byte}
 use Rattle.lis_part.specs.inside.FrontReading.{fields_of}
 use Rattle.lis_field.specs.Relation.{IsRecord}
 use Rattle.lis_tree.proofs.Trees.{tree_of}
-use Rattle.lis_tree.specs.declared.fault.MessageFault.{MessageFault}
-use Rattle.lis_tree.specs.declared.fault.Reason.TheVariants as reasons
+use Rattle.lis_field.specs.declared.faults.MessageFault.{MessageFault}
+use Rattle.lis_field.specs.declared.faults.Reason.TheVariants as reasons
 use Rattle.lis_tree.specs.inside.Begun.{Begun, level_of}
 use Rattle.lis_tree.specs.Level.{misplaced}
 use Rattle.lis_tree.specs.Tree.{MessageTree}

@@ -17,13 +17,13 @@ use Rattle.lis_message.specs.Stream.{LacksReturn, refusal}
 use Rattle.lis_message.specs.inside.Taking.{ComesNext, front_refusal, header, inner, left_after}
 use Rattle.lis_message.proofs.Cuts.{left_after-more}
 use Rattle.lis_message.proofs.TakingLaws.{inner_refused, place_refused}
-use Rattle.lis_record.specs.declared.faults.RecordFault.{RecordFault}
+use Rattle.lis_field.specs.declared.faults.RecordFault.{RecordFault}
 use Rattle.lis_record.specs.Faults.{record_fault}
 use Rattle.lis_record.specs.Lent.{Lent, record_in}
 use Rattle.lis_field.specs.Relation.{IsRecord}
 use Rattle.lis_tree.proofs.Levels.{level_more}
-use Rattle.lis_tree.specs.declared.fault.Reason.{Reason}
-use Rattle.lis_tree.specs.declared.fault.Reason.TheVariants as reasons
+use Rattle.lis_field.specs.declared.faults.Reason.{Reason}
+use Rattle.lis_field.specs.declared.faults.Reason.TheVariants as reasons
 use Rattle.lis_tree.specs.declared.standing.Standing.{Standing}
 use Rattle.lis_tree.specs.declared.standing.Standing.TheVariants as standings
 use Rattle.lis_tree.specs.inside.Begun.{Begun, level_of}

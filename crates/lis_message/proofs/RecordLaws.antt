@@ -15,8 +15,8 @@ use Rattle.lis_message.proofs.EveryStream.{completing}
 use Rattle.lis_message.proofs.Stopping.{refused_line, refused_long, starved}
 use Rattle.lis_spelling.specs.declared.writing.TheConstants.{RECORD_LIMIT}
 use Rattle.lis_record.specs.Lent.{Lent}
-use Rattle.lis_tree.specs.declared.fault.MessageFault.{MessageFault}
-use Rattle.lis_tree.specs.declared.fault.Reason.TheVariants as reasons
+use Rattle.lis_field.specs.declared.faults.MessageFault.{MessageFault}
+use Rattle.lis_field.specs.declared.faults.Reason.TheVariants as reasons
 use Rattle.lis_tree.specs.inside.Begun.{Begun}
 use Rattle.lis_tree.specs.Tree.{MessageTree}
 

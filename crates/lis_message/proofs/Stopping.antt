@@ -4,8 +4,8 @@ use Rattle.std.proofs.Common.{refl, zero, suc, sym, ◌∙◌, ap, subst, append
 use Rattle.std.specs.List.{flat_map}
 use Rattle.std.proofs.lemmas.List.{append-nil, take-append-drop}
 use Rattle.lis_spelling.specs.declared.writing.TheConstants.{RECORD_LIMIT}
-use Rattle.lis_tree.specs.declared.fault.MessageFault.{MessageFault}
-use Rattle.lis_tree.specs.declared.fault.Reason.TheVariants as reasons
+use Rattle.lis_field.specs.declared.faults.MessageFault.{MessageFault}
+use Rattle.lis_field.specs.declared.faults.Reason.TheVariants as reasons
 use Rattle.lis_tree.specs.inside.Begun.{Begun}
 use Rattle.lis_message.specs.Feeding.{Unended, IsWantOfMemory, StopsReading, Goes, StopsIn, next_place}
 use Rattle.lis_message.specs.Stream.{ended, refusal, IsCut, IsRefused, LacksReturn}

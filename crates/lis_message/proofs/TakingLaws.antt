@@ -2,7 +2,7 @@
 use Rattle.std.proofs.Common.{◌≡◌, ◌≢◌, ℕ, List, [], ◌∷◌, true, false, Option, Some, None, refl, ◌∙◌, ap}
 use Rattle.std.specs.Prelude.{option_map, is_some}
 use Rattle.std.specs.Option.{option_or}
-use Rattle.lis_record.specs.declared.faults.RecordFault.{RecordFault}
+use Rattle.lis_field.specs.declared.faults.RecordFault.{RecordFault}
 use Rattle.lis_field.specs.declared.kinds.Kind.{Kind}
 use Rattle.lis_field.specs.declared.kinds.Kind.TheVariants as kinds
 use Rattle.lis_record.specs.Faults.{header_fault, record_fault}
@@ -10,8 +10,8 @@ use Rattle.lis_field.specs.Kinds.{kind_of}
 use Rattle.lis_field.specs.Relation.{IsRecord}
 use Rattle.lis_field.specs.Shape.{RecordContent}
 use Rattle.lis_record.proofs.FaultLaws.{record_fault-IsRecord}
-use Rattle.lis_tree.specs.declared.fault.Reason.{Reason}
-use Rattle.lis_tree.specs.declared.fault.Reason.TheVariants as reasons
+use Rattle.lis_field.specs.declared.faults.Reason.{Reason}
+use Rattle.lis_field.specs.declared.faults.Reason.TheVariants as reasons
 use Rattle.lis_tree.specs.inside.Begun.{Begun, level_of}
 use Rattle.lis_tree.specs.Level.{misplaced}
 use Rattle.lis_message.specs.Stream.{kind_refusal, letter_refusal, refusal}

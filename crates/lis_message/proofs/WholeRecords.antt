@@ -10,13 +10,13 @@ use Rattle.std.specs.Prelude.{if◌then◌else◌}
 use Rattle.lis_field.proofs.FirstFaults.{option_or-none}
 use Rattle.lis_field.specs.Kinds.{kind_of}
 use Rattle.lis_record.proofs.FaultLaws.{record_text_fault-none}
-use Rattle.lis_record.specs.declared.faults.RecordFault.TheVariants as record_faults
+use Rattle.lis_field.specs.declared.faults.RecordFault.TheVariants as record_faults
 use Rattle.lis_record.specs.Faults.{is_other_kind, record_fault, record_text_fault}
 use Rattle.lis_field.specs.Text.{trailing_byte}
 use Rattle.lis_field.specs.Text.{IsRecordText, bad_byte_place, is_text_byte, record_limit}
 use Rattle.lis_field.specs.Delimiters.{DelimiterBytes}
-use Rattle.lis_tree.specs.declared.fault.Reason.{Reason}
-use Rattle.lis_tree.specs.declared.fault.Reason.TheVariants as reasons
+use Rattle.lis_field.specs.declared.faults.Reason.{Reason}
+use Rattle.lis_field.specs.declared.faults.Reason.TheVariants as reasons
 use Rattle.lis_tree.specs.inside.Begun.{Begun}
 use Rattle.lis_message.specs.Records.{IsRecordRefused, IsRecordRefusedFor}
 use Rattle.lis_message.specs.Stream.{refusal}

@@ -10,9 +10,9 @@ use Rattle.lis_message.specs.Stream.{IsCut, IsRefusedText, LacksReturn, refusal}
 use Rattle.lis_message.specs.inside.Taking.{ComesNext, Completes, left_after}
 use Rattle.lis_record.specs.Lent.{Lent}
 use Rattle.lis_field.specs.Text.{record_limit}
-use Rattle.lis_tree.specs.declared.fault.MessageFault.{MessageFault}
-use Rattle.lis_tree.specs.declared.fault.Reason.{Reason}
-use Rattle.lis_tree.specs.declared.fault.Reason.TheVariants as reasons
+use Rattle.lis_field.specs.declared.faults.MessageFault.{MessageFault}
+use Rattle.lis_field.specs.declared.faults.Reason.{Reason}
+use Rattle.lis_field.specs.declared.faults.Reason.TheVariants as reasons
 use Rattle.lis_tree.specs.inside.Begun.{Begun}
 use Rattle.lis_tree.specs.Tree.{MessageTree}
 

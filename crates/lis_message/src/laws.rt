@@ -8,7 +8,7 @@ ghost use Rattle.lis_message.specs.inside.Taking.{Completes, left_after};
 ghost use Rattle.lis_record.specs.Lent.{Lent};
 ghost use Rattle.lis_field.specs.Relation.{IsRecord};
 ghost use Rattle.lis_field.specs.Shape.{RecordContent};
-ghost use Rattle.lis_tree.specs.declared.fault.MessageFault.{MessageFault};
+ghost use Rattle.lis_field.specs.declared.faults.MessageFault.{MessageFault};
 ghost use Rattle.lis_tree.specs.inside.Begun.{Begun};
 ghost use Rattle.lis_message.specs.Feeding.{StopsReading};
 ghost use Rattle.lis_message.specs.inside.Kept.{RecordsState};

@@ -8,7 +8,7 @@ ghost use Rattle.lis_message.specs.Stream.{IsCut};
 ghost use Rattle.lis_message.specs.inside.Taking.{ComesNext, begun_with, left_after};
 ghost use Rattle.lis_message.specs.Writing.{IsWritable, message_bytes};
 ghost use Rattle.lis_field.specs.declared.kinds.Kind.TheVariants as kinds;
-ghost use Rattle.lis_tree.specs.declared.fault.Reason.TheVariants as reasons;
+ghost use Rattle.lis_field.specs.declared.faults.Reason.TheVariants as reasons;
 ghost use Rattle.lis_tree.specs.Tree.{IsTree, MessageTree};
 
 use crate::records::{Found, RecordReader};

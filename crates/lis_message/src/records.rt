@@ -16,7 +16,7 @@ ghost use Rattle.lis_record.specs.Lent.{Lent, record_in};
 ghost use Rattle.lis_field.specs.Text.{bad_byte_place};
 ghost use Rattle.lis_field.specs.Shape.{RecordContent};
 ghost use Rattle.lis_tree.specs.inside.Begun.{Begun};
-ghost use Rattle.lis_tree.specs.declared.fault.Reason.TheVariants as reasons;
+ghost use Rattle.lis_field.specs.declared.faults.Reason.TheVariants as reasons;
 
 use lis_record::{
     Delimiters, Kind, LentRecord, RECORD_LIMIT, RecordFault, first_bad_byte, lend_searched_header,

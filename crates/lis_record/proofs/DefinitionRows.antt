@@ -2,8 +2,8 @@
 use Rattle.std.proofs.Common.{◌≡◌, [], ◌∷◌, None, Some, refl}
 use Rattle.hex.specs.Hex.{encode_with, decode_pairs}
 use Rattle.lis_field.specs.declared.delimiting.DelimiterFault.TheVariants.{Repeated}
-use Rattle.lis_record.specs.declared.faults.DelimiterPartFault.TheVariants.{Short, Fault, Trailing}
-use Rattle.lis_record.specs.declared.faults.RecordFault.TheVariants.{Empty, UnknownKind, DelimiterPart, Byte}
+use Rattle.lis_field.specs.declared.faults.DelimiterPartFault.TheVariants.{Short, Fault, Trailing}
+use Rattle.lis_field.specs.declared.faults.RecordFault.TheVariants.{Empty, UnknownKind, DelimiterPart, Byte}
 use Rattle.lis_spelling.specs.declared.faults.WriteFault.TheVariants.{CharNotText}
 use Rattle.lis_field.specs.declared.kinds.Kind.TheVariants as kinds
 use Rattle.lis_field.specs.declared.symbols.Sym.TheVariants.{Char, Raw}

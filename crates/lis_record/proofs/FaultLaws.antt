@@ -1,6 +1,6 @@
 -- A text is a record exactly where none of the faults stands.
-use Rattle.lis_record.specs.declared.faults.RecordFault.{RecordFault}
-use Rattle.lis_record.specs.declared.faults.DelimiterPartFault.{DelimiterPartFault}
+use Rattle.lis_field.specs.declared.faults.RecordFault.{RecordFault}
+use Rattle.lis_field.specs.declared.faults.DelimiterPartFault.{DelimiterPartFault}
 use Rattle.lis_field.specs.declared.delimiting.DelimiterFault.{DelimiterFault}
 use Rattle.std.proofs.Common.{◌≡◌, ◌≢◌, ℕ, ◌≤◌, Bool, true, false, cond, ltb, List, [], ◌∷◌, ◌++◌, length, Option}
 use Rattle.std.proofs.Common.{Some, None, option_map, refl, sym, ap, ◌∙◌, eq-eqb, arith, get_or, inl, inr, drop, ◌<◌}
@@ -8,8 +8,8 @@ use Rattle.std.specs.List.{flat_map}
 use Rattle.std.proofs.lemmas.Bool.Decides.{eqb_tells}
 use Rattle.lis_field.specs.declared.kinds.Kind.{Kind}
 use Rattle.lis_field.specs.declared.kinds.Kind.TheVariants as kinds
-use Rattle.lis_record.specs.declared.faults.DelimiterPartFault.TheVariants.{Trailing, Short, Fault}
-use Rattle.lis_record.specs.declared.faults.RecordFault.TheVariants as record_faults
+use Rattle.lis_field.specs.declared.faults.DelimiterPartFault.TheVariants.{Trailing, Short, Fault}
+use Rattle.lis_field.specs.declared.faults.RecordFault.TheVariants as record_faults
 use Rattle.lis_field.specs.Delimiters.{DelimiterBytes, IsDelimiters, delimiter_fault, delimiters_of}
 use Rattle.lis_record.specs.Faults.{delimiter_part_fault, header_fault, is_other_kind, record_fault}
 use Rattle.lis_record.specs.Faults.{record_text_fault, is_header_kind}

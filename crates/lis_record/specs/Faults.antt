@@ -2,10 +2,10 @@
 use Rattle.std.specs.Prelude.{◌≡◌, ◌⊎◌, ℕ, nat_lt, Bool, true, false, if◌then◌else◌, List, [], ◌∷◌, length, Option}
 use Rattle.std.specs.Prelude.{Some, None, option_map}
 use Rattle.std.specs.Option.{option_or}
-use Rattle.lis_record.specs.declared.faults.DelimiterPartFault.{DelimiterPartFault}
-use Rattle.lis_record.specs.declared.faults.DelimiterPartFault.TheVariants.{Short, Fault, Trailing}
-use Rattle.lis_record.specs.declared.faults.RecordFault.{RecordFault}
-use Rattle.lis_record.specs.declared.faults.RecordFault.TheVariants as record_faults
+use Rattle.lis_field.specs.declared.faults.DelimiterPartFault.{DelimiterPartFault}
+use Rattle.lis_field.specs.declared.faults.DelimiterPartFault.TheVariants.{Short, Fault, Trailing}
+use Rattle.lis_field.specs.declared.faults.RecordFault.{RecordFault}
+use Rattle.lis_field.specs.declared.faults.RecordFault.TheVariants as record_faults
 use Rattle.lis_field.specs.declared.kinds.Kind.{Kind}
 use Rattle.lis_field.specs.declared.kinds.Kind.TheVariants as kinds
 use Rattle.lis_field.specs.Delimiters.{DelimiterBytes, delimiter_fault}

@@ -3,7 +3,7 @@ use Rattle.std.specs.Prelude.{◌≡◌, ◌≢◌, ℕ, List, Result, Ok}
 use Rattle.lis_field.specs.declared.kinds.Kind.TheVariants as kinds
 use Rattle.lis_field.specs.Delimiters.{DelimiterBytes, IsDelimiters}
 use Rattle.lis_field.specs.Shape.{RecordContent}
-use Rattle.lis_record.specs.declared.faults.RecordFault.{RecordFault}
+use Rattle.lis_field.specs.declared.faults.RecordFault.{RecordFault}
 use Rattle.lis_record.specs.Lent.{Lent, lent}
 use Rattle.lis_field.specs.Relation.{IsRecord}
 

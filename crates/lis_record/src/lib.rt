@@ -1,7 +1,6 @@
 //! Records of a laboratory message as texts (LIS02-A2): read where they stand or as values, and written.
 #![tactic(auto)]
 
-mod faults;
 pub mod laws;
 mod lent;
 mod lent_cursor;
@@ -10,9 +9,11 @@ mod reading;
 mod respelling;
 mod texts;
 
-pub use faults::{DelimiterPartFault, RecordFault};
 pub use lent::{LentComponent, LentField, LentFields, LentPart, LentParts, LentRecord, LentRepeat};
-pub use lis_field::{Component, DelimiterFault, Delimiters, Field, Kind, Record, Repeat, Sym};
+pub use lis_field::{
+    Component, DelimiterFault, DelimiterPartFault, Delimiters, Field, Kind, Record, RecordFault,
+    Repeat, Sym,
+};
 pub use lis_part::{LentSymbols, first_bad_byte};
 pub use lis_spelling::{
     FieldSpelling, RECORD_LIMIT, WriteFault, WriteResult, check_record, put_field, spelled_length,

@@ -11,12 +11,11 @@ ghost use Rattle.lis_record.specs.Lent.{record_in};
 ghost use Rattle.lis_field.specs.Relation.{IsRecord};
 ghost use Rattle.lis_field.specs.Shape.{RecordContent};
 ghost use Rattle.lis_field.specs.declared.kinds.Kind.TheVariants as kinds;
-ghost use Rattle.lis_record.specs.declared.faults.RecordFault.TheVariants.{OutOfMemory};
+ghost use Rattle.lis_field.specs.declared.faults.RecordFault.TheVariants.{OutOfMemory};
 ghost use Rattle.lis_field.specs.Kinds.{kind_of};
 
-use crate::faults::{DelimiterPartFault, RecordFault};
 use crate::lent::LentRecord;
-use lis_field::{Delimiters, Kind, Record};
+use lis_field::{DelimiterPartFault, Delimiters, Kind, Record, RecordFault};
 use lis_part::first_bad_byte;
 use lis_spelling::RECORD_LIMIT;
 use std::alloc::{AllocError, Global};

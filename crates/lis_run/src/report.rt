@@ -6,8 +6,8 @@ ghost use Rattle.lis_run.specs.Codes.{printed_reason, refused_line};
 use crate::fault::ToolFault;
 use crate::tell::{Part, Tell};
 use lis_capture::Page;
+use lis_field::{MessageFault, Reason, RecordFault};
 use lis_port::Sink;
-use lis_tree::{MessageFault, Reason, RecordFault};
 use std::fmt;
 
 /// A record that was refused, or an end of the input that came before the end of a message.

@@ -11,8 +11,8 @@ use Rattle.lis_message.specs.Writing.{IsWritable, message_bytes, message_texts_o
 use Rattle.lis_message.proofs.WritingLaws.{all_writable}
 use Rattle.lis_spelling.specs.Spelling.{written}
 use Rattle.lis_tree.specs.inside.Begun.{Begun}
-use Rattle.lis_tree.specs.declared.fault.MessageFault.{MessageFault}
-use Rattle.lis_tree.specs.declared.fault.Reason.TheVariants as reasons
+use Rattle.lis_field.specs.declared.faults.MessageFault.{MessageFault}
+use Rattle.lis_field.specs.declared.faults.Reason.TheVariants as reasons
 use Rattle.lis_tree.specs.Tree.{MessageTree, flatten}
 use Rattle.lis_world.specs.declared.event.Event.{Event}
 use Rattle.lis_world.specs.Safe.{AlwaysSafe, HandsOutAll}

@@ -24,7 +24,7 @@ use Rattle.lis_run.specs.Parts.{text_if_any}
 use Rattle.lis_tool.specs.Check.{IsChecking, check_writes, finding_count, finding_line, message_line, record_line}
 use Rattle.lis_tool.specs.Check.{record_lines, sums_line}
 use Rattle.lis_tool.specs.Messages.{record_count, report_after, whole_begun, with_record}
-use Rattle.lis_tree.specs.declared.fault.MessageFault.{MessageFault}
+use Rattle.lis_field.specs.declared.faults.MessageFault.{MessageFault}
 use Rattle.lis_tool.proofs.MessageLaws.{record_count-append}
 
 one_at_most : (b : Bool) (f : Finding) → length (let fs : List Finding = if b then f ∷ [] else [] in fs) ≤ 1

@@ -7,8 +7,8 @@ use Rattle.std.specs.List.{AllZip, flat_map}
 use Rattle.lis_field.specs.Delimiters.{DelimiterBytes}
 use Rattle.lis_field.specs.Shape.{RecordContent}
 use Rattle.lis_field.specs.Relation.{IsRecord}
-use Rattle.lis_tree.specs.declared.fault.MessageFault.{MessageFault}
-use Rattle.lis_tree.specs.declared.fault.Reason.TheVariants as reasons
+use Rattle.lis_field.specs.declared.faults.MessageFault.{MessageFault}
+use Rattle.lis_field.specs.declared.faults.Reason.TheVariants as reasons
 use Rattle.lis_tree.specs.inside.Begun.{Begun}
 use Rattle.lis_tree.specs.Tree.{MessageTree, flatten}
 use Rattle.lis_message.specs.Feeding.{answer_at_end, StopsReading}

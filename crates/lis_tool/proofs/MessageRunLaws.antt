@@ -6,7 +6,7 @@ use Rattle.std.proofs.lemmas.List.{take-append-le}
 use Rattle.std.specs.declared.result.Result.{Result}
 use Rattle.std.specs.Io.KnownBytes.{Appends}
 use Rattle.lis_tree.specs.inside.Begun.{Begun}
-use Rattle.lis_tree.specs.declared.fault.MessageFault.{MessageFault}
+use Rattle.lis_field.specs.declared.faults.MessageFault.{MessageFault}
 use Rattle.lis_tree.specs.Tree.{MessageTree}
 use Rattle.lis_message.specs.Feeding.{answer_at_end}
 use Rattle.lis_message.specs.Stream.{IsCut, IsReadFrom}

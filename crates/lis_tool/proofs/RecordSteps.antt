@@ -16,8 +16,8 @@ use Rattle.lis_message.proofs.Cuts.{left_after-more}
 use Rattle.lis_message.proofs.EveryStream.{goes_on as reads_more}
 use Rattle.lis_message.proofs.RecordLaws.{cut_held, cut_stops, reads_record}
 use Rattle.lis_record.specs.Lent.{Lent}
-use Rattle.lis_tree.specs.declared.fault.MessageFault.{MessageFault}
-use Rattle.lis_tree.specs.declared.fault.Reason.TheVariants as reasons
+use Rattle.lis_field.specs.declared.faults.MessageFault.{MessageFault}
+use Rattle.lis_field.specs.declared.faults.Reason.TheVariants as reasons
 use Rattle.lis_tree.specs.inside.Begun.{Begun}
 use Rattle.lis_tree.specs.Tree.{MessageTree, flatten}
 use Rattle.lis_run.specs.declared.fault.ToolFault.{ToolFault}

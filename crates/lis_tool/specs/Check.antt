@@ -9,7 +9,7 @@ use Rattle.lis_message.specs.inside.Taking.{records_of}
 use Rattle.lis_run.specs.Codes.{refused_line}
 use Rattle.lis_run.specs.Parts.{joined}
 use Rattle.lis_tool.specs.Messages.{MessageWrites}
-use Rattle.lis_tree.specs.declared.fault.MessageFault.{MessageFault}
+use Rattle.lis_field.specs.declared.faults.MessageFault.{MessageFault}
 use Rattle.lis_tree.specs.declared.numbering.Finding.{Finding}
 use Rattle.lis_tree.specs.declared.numbering.Numbering.{Numbering}
 use Rattle.lis_tree.specs.inside.Begun.{Begun}

@@ -14,8 +14,8 @@ use Rattle.lis_run.specs.LineOutcome.{capture_outcome}
 use Rattle.lis_run.specs.Outcome.{Outcome}
 use Rattle.lis_run.specs.Replay.{replay_writes_from, texts}
 use Rattle.lis_run.specs.Upgrade.{upgrade}
-use Rattle.lis_tree.specs.declared.fault.MessageFault.{MessageFault}
-use Rattle.lis_tree.specs.declared.fault.Reason.TheVariants as reasons
+use Rattle.lis_field.specs.declared.faults.MessageFault.{MessageFault}
+use Rattle.lis_field.specs.declared.faults.Reason.TheVariants as reasons
 use Rattle.lis_tree.specs.Tree.{IsTree, MessageTree}
 use Rattle.lis_world.specs.declared.event.Event.{Event}
 use Rattle.lis_world.specs.Session.{Session}

@@ -20,7 +20,7 @@ use Rattle.lis_run.specs.Outcome.{Outcome, going}
 use Rattle.lis_run.specs.Output.{Out}
 use Rattle.lis_run.specs.inside.Steps.{Fails, Halts, IsEarly, Puts, Steps}
 use Rattle.lis_tree.specs.inside.Begun.{Begun}
-use Rattle.lis_tree.specs.declared.fault.MessageFault.{MessageFault}
+use Rattle.lis_field.specs.declared.faults.MessageFault.{MessageFault}
 use Rattle.lis_tree.specs.Tree.{MessageTree, flatten}
 
 -- what a command writes for a message behind so many others, and behind them all, where a record is refused or none is;

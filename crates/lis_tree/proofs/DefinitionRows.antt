@@ -4,7 +4,7 @@ use Rattle.lis_field.specs.declared.kinds.Kind.{Kind}
 use Rattle.lis_field.specs.declared.kinds.Kind.TheVariants as kinds
 use Rattle.lis_field.specs.declared.symbols.Sym.TheVariants.{Char}
 use Rattle.lis_field.specs.Shape.{Symbols, RecordContent}
-use Rattle.lis_tree.specs.declared.fault.Reason.TheVariants as reasons
+use Rattle.lis_field.specs.declared.faults.Reason.TheVariants as reasons
 use Rattle.lis_tree.specs.Findings.{findings_from}
 use Rattle.lis_tree.specs.Level.{outside, closed, level_after, misplaced}
 

@@ -3,8 +3,8 @@ use Rattle.std.proofs.Common.{◌≡◌, ◌≢◌, ◌⊎◌, inl, inr, List, [
 use Rattle.std.proofs.Common.{subst}
 use Rattle.lis_field.specs.declared.kinds.Kind.{Kind}
 use Rattle.lis_field.specs.declared.kinds.Kind.TheVariants as kinds
-use Rattle.lis_tree.specs.declared.fault.Reason.{Reason}
-use Rattle.lis_tree.specs.declared.fault.Reason.TheVariants as reasons
+use Rattle.lis_field.specs.declared.faults.Reason.{Reason}
+use Rattle.lis_field.specs.declared.faults.Reason.TheVariants as reasons
 use Rattle.lis_tree.specs.Hierarchy.{HasParent, IsViable}
 use Rattle.lis_tree.specs.Level.{Level, outside, in_header, in_patient, in_query, closed, next_level}
 use Rattle.lis_tree.specs.Level.{level_after, misplaced, StandsFrom}

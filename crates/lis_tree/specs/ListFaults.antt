@@ -1,8 +1,8 @@
 -- Why a list of records is not one message.
 use Rattle.std.specs.Prelude.{◌≡◌, ◌≢◌, ◌+◌, List, ◌∷◌, ◌++◌, length, Some, ◌⊎◌}
 use Rattle.lis_field.specs.declared.kinds.Kind.{Kind}
-use Rattle.lis_tree.specs.declared.fault.MessageFault.{MessageFault}
-use Rattle.lis_tree.specs.declared.fault.Reason.TheVariants as reasons
+use Rattle.lis_field.specs.declared.faults.MessageFault.{MessageFault}
+use Rattle.lis_field.specs.declared.faults.Reason.TheVariants as reasons
 use Rattle.lis_tree.specs.Level.{outside, closed, level_after, misplaced, StandsFrom}
 use Rattle.lis_text.specs.Capped.{capped}
 

@@ -2,8 +2,8 @@
 use Rattle.std.specs.Prelude.{◌≡◌, ◌≢◌, ◌⊎◌, List, [], ◌∷◌, ◌++◌}
 use Rattle.lis_field.specs.declared.kinds.Kind.{Kind}
 use Rattle.lis_field.specs.declared.kinds.Kind.TheVariants as kinds
-use Rattle.lis_tree.specs.declared.fault.Reason.{Reason}
-use Rattle.lis_tree.specs.declared.fault.Reason.TheVariants as reasons
+use Rattle.lis_field.specs.declared.faults.Reason.{Reason}
+use Rattle.lis_field.specs.declared.faults.Reason.TheVariants as reasons
 use Rattle.lis_tree.specs.Hierarchy.{HasParent}
 
 -- the closing record is the last of these

@@ -1,7 +1,7 @@
 //! What holds of the kinds of all lists of records, over the definitions that the contracts cite.
 ghost use Rattle.std.specs.Prelude.{◌≡◌, List, [], ◌∷◌, ◌++◌, Some, None, map};
 ghost use Rattle.lis_field.specs.declared.kinds.Kind.{Kind};
-ghost use Rattle.lis_tree.specs.declared.fault.Reason.{Reason};
+ghost use Rattle.lis_field.specs.declared.faults.Reason.{Reason};
 ghost use Rattle.lis_tree.specs.Hierarchy.{IsViable};
 ghost use Rattle.lis_tree.specs.Level.{StandsFrom, level_after, misplaced, outside};
 ghost use Rattle.lis_tree.specs.Notes.{IsNotedOn, Placed, placed};

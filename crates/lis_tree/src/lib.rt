@@ -2,7 +2,6 @@
 //! and the findings on sequence numbers.
 #![tactic(auto)]
 
-mod fault;
 pub mod laws;
 mod lists;
 mod message;
@@ -14,7 +13,7 @@ mod standing;
 mod tree;
 mod walk;
 
-pub use fault::{MessageFault, Reason};
+pub use lis_field::{MessageFault, Reason};
 pub use lis_record::{Delimiters, Kind, LentRecord, Record, RecordFault};
 pub use lis_text::List;
 pub use lists::{Records, copy_records};

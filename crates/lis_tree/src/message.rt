@@ -1,7 +1,7 @@
 ghost use Rattle.std.specs.Prelude.{◌≡◌, ◌+◌, ◌∷◌, [], ◌++◌, ◌⊎◌, IfOk, IfErr, MatchResult, MatchOption, None, Some};
 ghost use Rattle.std.specs.Prelude.{length};
 ghost use Rattle.lis_field.specs.declared.kinds.Kind.TheVariants as kinds;
-ghost use Rattle.lis_tree.specs.declared.fault.Reason.TheVariants as reasons;
+ghost use Rattle.lis_field.specs.declared.faults.Reason.TheVariants as reasons;
 ghost use Rattle.lis_tree.specs.Level.{misplaced, closed, kinds_of};
 ghost use Rattle.lis_tree.specs.ListFaults.{IsListFault};
 ghost use Rattle.lis_tree.specs.inside.Front.{message_tree};
@@ -9,12 +9,12 @@ ghost use Rattle.lis_text.specs.Capped.{capped};
 ghost use Rattle.lis_tree.specs.Results.{results_left, results_of};
 ghost use Rattle.lis_tree.specs.Tree.{MessageTree, IsTree, flatten};
 
-use crate::fault::{MessageFault, Reason};
 use crate::lists::Records;
 use crate::open::OpenMessage;
 use crate::results::Results;
 use crate::tree::{Branch, Group};
 use crate::walk::{Walk, count};
+use lis_field::{MessageFault, Reason};
 use lis_record::{Delimiters, Kind, Record};
 use std::alloc::{AllocError, Global};
 use std::marker::Model;

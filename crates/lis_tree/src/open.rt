@@ -7,9 +7,9 @@ ghost use Rattle.lis_tree.specs.inside.Begun.{level_of};
 ghost use Rattle.lis_text.specs.Capped.{capped};
 ghost use Rattle.lis_tree.specs.Tree.{flatten, IsTree};
 
-use crate::fault::Reason;
 use crate::message::Message;
 use crate::spine::{Spine, headed, let_go, push_record, standing, whole_front};
+use lis_field::Reason;
 use lis_record::{Delimiters, Kind, Record};
 use std::alloc::{AllocError, Global};
 use std::marker::Model;

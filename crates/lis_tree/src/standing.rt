@@ -3,7 +3,7 @@ ghost use Rattle.std.specs.Prelude.{◌≡◌};
 ghost use Rattle.lis_tree.specs.Level.{misplaced, next_level};
 ghost use Rattle.lis_tree.specs.inside.Standing.{standing_level, standing_or_closed};
 
-use crate::fault::Reason;
+use lis_field::Reason;
 use lis_record::Kind;
 
 /// Where the next record of a message that isn't closed yet will stand.

@@ -5,9 +5,9 @@ use Rattle.std.specs.Prelude.{⊤}
 use Rattle.lis_field.specs.Shape.{RecordContent}
 use Rattle.lis_field.specs.declared.kinds.Kind.{Kind}
 use Rattle.lis_field.specs.declared.kinds.Kind.TheVariants.{H, P, O, R, L}
-use Rattle.lis_tree.specs.declared.fault.MessageFault.{MessageFault}
-use Rattle.lis_tree.specs.declared.fault.Reason.{Reason}
-use Rattle.lis_tree.specs.declared.fault.Reason.TheVariants.{OutOfMemory}
+use Rattle.lis_field.specs.declared.faults.MessageFault.{MessageFault}
+use Rattle.lis_field.specs.declared.faults.Reason.{Reason}
+use Rattle.lis_field.specs.declared.faults.Reason.TheVariants.{OutOfMemory}
 use Rattle.lis_tree.specs.Level.{kinds_of, outside, level_after, misplaced}
 use Rattle.lis_tree.specs.ListFaults.{IsListFault}
 use Rattle.lis_tree.specs.Tree.{MessageTree}

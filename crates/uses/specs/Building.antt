@@ -5,7 +5,7 @@ use Rattle.lis_field.specs.declared.kinds.Kind.TheVariants.{H, P, O, R, L}
 use Rattle.lis_field.specs.Delimiters.{usual}
 use Rattle.lis_field.specs.Shape.{RecordContent, Repeats, plain_component, plain_field}
 use Rattle.lis_message.specs.Texts.{HasNoTexts}
-use Rattle.lis_tree.specs.declared.fault.Reason.TheVariants.{OutOfMemory}
+use Rattle.lis_field.specs.declared.faults.Reason.TheVariants.{OutOfMemory}
 use Rattle.lis_tree.specs.Tree.{MessageTree, flatten}
 use Rattle.uses.specs.declared.building.BuildFault.{BuildFault}
 use Rattle.uses.specs.declared.building.BuildFault.TheVariants.{Memory, Message, Texts}

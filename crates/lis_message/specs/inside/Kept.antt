@@ -4,7 +4,7 @@ use Rattle.lis_field.specs.Delimiters.{DelimiterBytes}
 use Rattle.lis_field.specs.Shape.{RecordContent}
 use Rattle.lis_message.specs.declared.records.Known.{Known}
 use Rattle.lis_record.specs.Lent.{Lent, record_in}
-use Rattle.lis_tree.specs.declared.fault.MessageFault.{MessageFault}
+use Rattle.lis_field.specs.declared.faults.MessageFault.{MessageFault}
 use Rattle.lis_tree.specs.inside.Begun.{Begun, level_of}
 use Rattle.lis_tree.specs.Level.{Level}
 use Rattle.lis_text.specs.Capped.{capped}

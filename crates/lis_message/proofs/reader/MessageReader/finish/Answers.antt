@@ -1,7 +1,7 @@
 use Rattle.std.proofs.Common.{Option, sym, ap, subst, ◌∙◌}
 use Rattle.lis_message.specs.Feeding.{finished}
 use Rattle.lis_message.specs.Records.{IsOpenFor}
-use Rattle.lis_tree.specs.declared.fault.MessageFault.{MessageFault}
+use Rattle.lis_field.specs.declared.faults.MessageFault.{MessageFault}
 use Rattle.lis_message.proofs.reader.MessageReader.finish.Goals.{in-Some, in-None}
 use Rattle.lis_message.proofs.reader.MessageReader.finish.Goals as goal
 

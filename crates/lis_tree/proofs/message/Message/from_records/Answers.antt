@@ -1,7 +1,7 @@
 use Rattle.std.proofs.Common.{◌≡◌, [], inl, inr, refl, sym, ◌∙◌, ap, Some}
 use Rattle.std.proofs.lemmas.List.{nil_from_length}
-use Rattle.lis_tree.specs.declared.fault.MessageFault.{MessageFault}
-use Rattle.lis_tree.specs.declared.fault.Reason.TheVariants as reasons
+use Rattle.lis_field.specs.declared.faults.MessageFault.{MessageFault}
+use Rattle.lis_field.specs.declared.faults.Reason.TheVariants as reasons
 use Rattle.lis_tree.specs.Level.{misplaced}
 use Rattle.lis_tree.specs.inside.Begun.{level_of}
 use Rattle.lis_tree.proofs.ListFaults.{close_told, closed_records, so_far_more, misplaced_fault, unclosed_fault}
