@@ -1,0 +1,129 @@
+"""The proved library liblislink, found and called by ctypes. It is loaded at the first call that needs it.
+
+The library is searched in this order: the file that LISLINK_LIBRARY names, beside this file, `build/` of the repository
+that this file belongs to, `lib/` of the Python's and the usual prefixes, and the system's loader.
+"""
+import ctypes
+import os
+import sys
+from typing import Any, Callable, Dict, List, Optional
+
+_POINTER, _SIZE, _BYTE, _FLAG, _COUNT = ctypes.c_void_p, ctypes.c_size_t, ctypes.c_uint8, ctypes.c_bool, ctypes.c_uint64
+
+
+class Handle(ctypes.Structure):
+    _fields_ = [("at", ctypes.c_void_p)]
+
+
+class Bytes(ctypes.Structure):
+    _fields_ = [("len", ctypes.c_size_t), ("bytes", ctypes.c_uint8 * 247)]
+
+
+class Place(ctypes.Structure):
+    _fields_ = [("index", ctypes.c_size_t), ("place", ctypes.c_size_t)]
+
+
+class SignalOut(ctypes.Structure):
+    _fields_ = [("kind", ctypes.c_uint8), ("number", ctypes.c_uint8), ("last", ctypes.c_bool), ("fault", ctypes.c_uint8),
+                ("place", ctypes.c_size_t), ("len", ctypes.c_size_t), ("text", ctypes.c_uint8 * 240)]
+
+
+class StepOut(ctypes.Structure):
+    _fields_ = [("reply", ctypes.c_uint8), ("has_text", ctypes.c_bool), ("note", ctypes.c_uint8),
+                ("detail", ctypes.c_uint8), ("place", ctypes.c_size_t)]
+
+
+class Delimiters(ctypes.Structure):
+    _fields_ = [(name, ctypes.c_uint8) for name in ("field", "repeat", "component", "escape")]
+
+
+class Found(ctypes.Structure):
+    _fields_ = [("kind", ctypes.c_uint8), ("letter", ctypes.c_uint8), ("reason", ctypes.c_uint8), ("detail", ctypes.c_uint8),
+                ("fields", ctypes.c_size_t), ("place", ctypes.c_size_t), ("number", ctypes.c_uint64)]
+
+
+class RecordOut(ctypes.Structure):
+    _fields_ = [("letter", ctypes.c_uint8), ("fields", ctypes.c_size_t), ("place", ctypes.c_size_t)]
+
+
+# What each call answers, and what it takes.
+_CALLS: Dict[str, Any] = {
+    "frame_write": (_BYTE, _BYTE, _FLAG, _POINTER, _SIZE, _POINTER, _POINTER),
+    "scanner_feed": (_SIZE, _POINTER, _POINTER, _SIZE, _POINTER),
+    "header_read": (_BYTE, _POINTER, _SIZE, _POINTER, _POINTER),
+    "record_read": (_BYTE, _POINTER, _POINTER, _SIZE, _POINTER),
+    "header_part": (_BYTE, _POINTER, _SIZE, _SIZE, _SIZE, _SIZE, _POINTER, _SIZE, _POINTER),
+    "record_part": (_BYTE, _POINTER, _POINTER, _SIZE, _SIZE, _SIZE, _SIZE, _POINTER, _SIZE, _POINTER),
+    "reader_read": (_SIZE, _POINTER, _POINTER, _SIZE, _POINTER),
+    "reader_part": (_BYTE, _POINTER, _SIZE, _SIZE, _SIZE, _POINTER, _SIZE, _POINTER),
+    "reader_finish": (_BYTE, _POINTER, _POINTER),
+    "writer_start": (_BYTE, _POINTER, _POINTER),
+    "writer_record": (_BYTE, _POINTER, _BYTE),
+    "writer_component": (_BYTE, _POINTER, _POINTER, _SIZE),
+    "writer_field": (_BYTE, _POINTER, _POINTER, _SIZE),
+    "writer_put": (_BYTE, _POINTER, _POINTER),
+    "writer_texts": (_SIZE, _POINTER),
+    "writer_text": (_BYTE, _POINTER, _SIZE, _POINTER, _SIZE, _POINTER),
+    "sender_add_text": (_BYTE, _POINTER, _POINTER, _SIZE),
+    "sender_clear": (None, _POINTER),
+    "sender_start": (_BYTE, _POINTER, _POINTER, _POINTER),
+    "sender_reply": (None, _POINTER, _BYTE, _POINTER),
+    "sender_timer": (None, _POINTER, _POINTER),
+    "sender_restart": (None, _POINTER),
+    "sender_phase": (_BYTE, _POINTER),
+    "sender_outcome": (_BYTE, _POINTER),
+    "sender_acknowledged": (_COUNT, _POINTER),
+    "receiver_hear": (_SIZE, _POINTER, _POINTER, _SIZE, _POINTER),
+    "receiver_timer": (None, _POINTER, _POINTER),
+    "receiver_restart": (None, _POINTER),
+    "receiver_set_room": (None, _POINTER, _FLAG),
+    "receiver_set_ready": (_BYTE, _POINTER, _BYTE),
+    "receiver_reserve": (_BYTE, _POINTER, _COUNT),
+    "receiver_is_open": (_FLAG, _POINTER),
+    "receiver_accepted": (_COUNT, _POINTER),
+    "receiver_held": (_COUNT, _POINTER),
+    "receiver_text_len": (_SIZE, _POINTER),
+    "receiver_text": (_BYTE, _POINTER, _POINTER, _SIZE),
+}
+for _kind in ("scanner", "sender", "receiver", "reader", "writer"):
+    _CALLS.update({f"{_kind}_size": (_SIZE,), f"{_kind}_align": (_SIZE,), f"{_kind}_init": (None, _POINTER),
+                   f"{_kind}_end": (None, Handle)})
+
+_NAME = "liblislink.so"
+_calls: Optional[Dict[str, Callable[..., Any]]] = None
+
+
+class LibraryMissing(ImportError):
+    """The shared library isn't there, or isn't the one that this package calls."""
+
+
+def places() -> List[str]:
+    """The files that may be the library, in the order in which they are tried."""
+    here = os.path.dirname(os.path.abspath(__file__))
+    repository = os.path.dirname(os.path.dirname(os.path.dirname(here)))
+    found = [os.path.join(here, _NAME), os.path.join(repository, "build", _NAME)]
+    found += [os.path.join(prefix, "lib", _NAME) for prefix in (sys.prefix, "/usr/local", "/usr")]
+    return [path for path in found if os.path.exists(path)]
+
+
+def _load() -> Dict[str, Callable[..., Any]]:
+    named = os.environ.get("LISLINK_LIBRARY")
+    path = named or (places() or [_NAME])[0]
+    try:
+        library = ctypes.CDLL(path)
+        found = {}
+        for name, (answer, *takes) in _CALLS.items():
+            call = getattr(library, f"lis_{name}")
+            call.restype, call.argtypes = answer, takes
+            found[name] = call
+        return found
+    except (OSError, AttributeError) as error:
+        raise LibraryMissing(f"{path}: {error}; `make library` builds {_NAME}, and LISLINK_LIBRARY names it") from None
+
+
+def calls() -> Dict[str, Callable[..., Any]]:
+    """The calls of the library by their names without `lis_`; LibraryMissing if it isn't there."""
+    global _calls
+    if _calls is None:
+        _calls = _load()
+    return _calls

@@ -1,0 +1,254 @@
+"""The command `lislab`: what a laboratory runs beside the proved program `lislink`."""
+import argparse
+import codecs
+import os
+import stat
+import sys
+from typing import List, Optional, Set, Tuple
+
+from . import __version__
+from ._library import LibraryMissing
+from .capture import Capture, CaptureError, looks_like_capture, read_capture, write_lines
+from .field import normalize, sniffers, table
+from .field.log import LogError, find_time, time_text
+
+#: Exit statuses: as those of lislink.
+GOOD, LOOKS_WRONG, USAGE, STOPPED = 0, 1, 2, 3
+
+
+def say(text: str) -> None:
+    """A line on standard error."""
+    print(f"lislab: {text}", file=sys.stderr)
+
+
+def read_input(path: str) -> bytes:
+    """The bytes of a file, or of standard input for `-`."""
+    if path == "-":
+        return sys.stdin.buffer.read()
+    with open(path, "rb") as file:
+        return file.read()
+
+
+def write_private(path: str, data: bytes) -> None:
+    """Writes a file that only its owner can read, since it may hold patients' data."""
+    descriptor = os.open(path, os.O_WRONLY | os.O_CREAT | os.O_TRUNC, 0o600)
+    with os.fdopen(descriptor, "wb") as file:
+        if stat.S_ISREG(os.fstat(descriptor).st_mode):
+            os.fchmod(descriptor, 0o600)
+        file.write(data)
+
+
+def write_output(path: Optional[str], data: bytes) -> None:
+    """Writes to a file, or to standard output."""
+    if path is None or path == "-":
+        sys.stdout.buffer.write(data)
+        sys.stdout.buffer.flush()
+    else:
+        write_private(path, data)
+
+
+def _import_options(parser: argparse.ArgumentParser) -> None:
+    parser.add_argument("--form", choices=sorted([*sniffers.FORMS, "pcap", "raw"]), help="the form of the log, if it isn't found")
+    parser.add_argument("--analyzer-side", metavar="NAME", help="which side of the log is the analyzer")
+    parser.add_argument("--swap", action="store_true", help="the other side is the analyzer")
+    parser.add_argument("--port", type=int, help="the TCP port of the line")
+    parser.add_argument("--stream", type=int, metavar="N", help="which TCP connection, from 1")
+    parser.add_argument("--fd", type=int, metavar="N", help="which descriptor of an strace")
+    parser.add_argument("--timer", type=float, metavar="SECONDS", help="put a line T where the analyzer is silent for longer")
+    parser.add_argument("--mixed", action="store_true", help="one stream holds both sides: take ACK and NAK apart")
+    parser.add_argument("--units", action="store_true", help="a line for each unit, whatever pieces the log has")
+
+
+def _options(ask: argparse.Namespace) -> sniffers.Options:
+    return sniffers.Options(ask.form, ask.analyzer_side, ask.swap, ask.port, ask.stream, ask.fd, ask.timer, ask.mixed, ask.units)
+
+
+def _imported(data: bytes, ask: argparse.Namespace) -> Tuple[Capture, List[str]]:
+    return sniffers.capture_of(sniffers.read_log(data, _options(ask)), _options(ask))
+
+
+def load(path: str, ask: argparse.Namespace) -> Tuple[Capture, List[str]]:
+    """A capture with the times beside it, or the capture of a log."""
+    data = read_input(path)
+    if ask.form is None and looks_like_capture(data):
+        capture = read_capture(data)
+        beside = getattr(ask, "times", None) or (path + ".times" if path != "-" else "")
+        if beside and os.path.exists(beside):
+            capture = _with_times(capture, beside)
+        return capture, []
+    return _imported(data, ask)
+
+
+def _with_times(capture: Capture, path: str) -> Capture:
+    with open(path, encoding="utf-8") as file:
+        rows = file.read().splitlines()
+    times = [find_time(rows[number - 1]) if number <= len(rows) else None for number, _ in capture.lines]
+    return capture._replace(times=times)
+
+
+def times_text(capture: Capture) -> str:
+    """The times beside a capture: a line for each of its lines."""
+    head = ["" for _ in range(capture.lines[0][0] - 1)] if capture.lines else []
+    return "".join(row + "\n" for row in head + [time_text(time) for time in capture.times])
+
+
+def run_capture(ask: argparse.Namespace) -> int:
+    """Makes a capture of a log, or of two dumps."""
+    if bool(ask.analyzer) != bool(ask.computer) or (ask.analyzer and ask.log != "-"):
+        say("--analyzer FILE and --computer FILE belong together, without a log")
+        return USAGE
+    if ask.analyzer:
+        capture, remarks = sniffers.of_two_dumps(read_input(ask.analyzer), read_input(ask.computer))
+    else:
+        data = read_input(ask.log)
+        if ask.form is None and looks_like_capture(data):
+            raise LogError("this is a capture already")
+        capture, remarks = _imported(data, ask)
+    write_output(ask.output, write_lines(line for _, line in capture.lines).encode())
+    times = ask.times or (ask.output + ".times" if ask.output not in (None, "-") else None)
+    if times and any(time is not None for time in capture.times):
+        write_private(times, times_text(capture).encode())
+        remarks.append(f"times: {times}")
+    for remark in remarks:
+        say(remark)
+    return GOOD
+
+
+def run_ladder(ask: argparse.Namespace) -> int:
+    """Shows a capture or a log as a ladder."""
+    from .field.ladder import Ladder
+    from .field.looks import looks_of
+    from .field.show import text_of
+    capture, remarks = load(ask.capture, ask)
+    for remark in remarks:
+        say(remark)
+    ladder = Ladder(capture, ask.encoding)
+    if ask.html:
+        from .field.page import page_of
+        name = os.path.basename(ask.capture) if ask.capture != "-" else "standard input"
+        write_output(ask.html, page_of(ladder, name).encode("utf-8"))
+        if ask.html != "-":
+            say(f"page: {ask.html}")
+    else:
+        write_output(None, text_of(ladder).encode("utf-8"))
+    return LOOKS_WRONG if any(look.level == "bad" for look in looks_of(ladder)) else GOOD
+
+
+def run_normalize(ask: argparse.Namespace) -> int:
+    """Makes record files of dialects readable, by the changes that are asked for."""
+    data = read_input(ask.records)
+    if ask.explain:
+        for row in normalize.explain(data):
+            print(row)
+        return LOOKS_WRONG if any(True for _ in normalize.rejected_lines(data)) else GOOD
+    asked: Set[str] = {name for name in normalize.CHANGES if getattr(ask, name.replace("-", "_"))}
+    asked |= set(normalize.ALL) if ask.all else set()
+    out, told, needed = normalize.normalize(data, asked)
+    write_output(ask.output, out)
+    for one in told:
+        say(f"line {one.line}: {one.what}")
+    left = list(normalize.rejected_lines(out))
+    for row in left:
+        say(row)
+    if left:
+        for name in normalize.CHANGES:
+            if name in needed:
+                say(f"line {needed[name]}: --{name} wasn't asked for: {normalize.CHANGES[name]}")
+    return LOOKS_WRONG if left else GOOD
+
+
+def records_of(path: str, ask: argparse.Namespace) -> bytes:
+    """The records of a file: record text as it is, and those that the receiver delivers of a capture or a log."""
+    data = read_input(path)
+    bare = data.lstrip(b"\xef\xbb\xbf\r\n \0")
+    if ask.form is None and (bare[:1] in (b"H", b"h") and not bare[1:2].isalnum() or not bare):
+        return data
+    from .field.ladder import Ladder
+    capture, remarks = (read_capture(data), []) if looks_like_capture(data) else _imported(data, ask)
+    for remark in remarks:
+        say(remark)
+    return Ladder(capture).stream
+
+
+def run_table(ask: argparse.Namespace) -> int:
+    """Writes results as a table."""
+    names = [name.strip() for name in ask.fields.split(",")] if ask.fields else list(table.USUAL)
+    columns = table.columns_of(names, ask.sample_from)
+    line = table.line_writer(ask.format, columns)
+    out: List[str] = [] if ask.no_header else [line(None)]
+    status, odd = GOOD, 0
+    for path in ask.records or ["-"]:
+        where = f"{path}: " if len(ask.records) > 1 else ""
+        for row, why in table.rows_of(records_of(path, ask), columns, ask.encoding):
+            if row is None:
+                say(where + why)
+                status = LOOKS_WRONG
+            else:
+                odd += any("\ufffd" in cell for cell in row)
+                out.append(line(row))
+    write_output(ask.output, "".join(out).encode("utf-8"))
+    if odd:
+        say(f"{odd} results hold bytes that aren't {ask.encoding}: name the encoding, as --encoding latin-1 or gbk")
+        status = LOOKS_WRONG
+    return status
+
+
+def _encoding(name: str) -> str:
+    try:
+        return codecs.lookup(name).name
+    except LookupError:
+        raise argparse.ArgumentTypeError(f"there is no encoding {name}") from None
+
+
+def parser() -> argparse.ArgumentParser:
+    """The words of the command."""
+    top = argparse.ArgumentParser(prog="lislab", description="Tools for a laboratory's line, over the proved library.")
+    top.add_argument("--version", action="version", version=f"lislab {__version__}")
+    commands = top.add_subparsers(dest="command", required=True, metavar="COMMAND")
+    one = commands.add_parser("ladder", help="show a capture or a log as a ladder, and what looks wrong")
+    one.add_argument("capture", help="a capture, or a log of a sniffer (pcap, socat, ..); - is standard input")
+    one.add_argument("--html", metavar="FILE", help="write a page of HTML, for a browser without a network")
+    one.add_argument("--times", metavar="FILE", help="times of the capture's lines (CAPTURE.times if it is there)")
+    one.add_argument("--encoding", type=_encoding, default="utf-8", help="of the records' text (utf-8)")
+    _import_options(one)
+    one.set_defaults(run=run_ladder)
+    one = commands.add_parser("capture", help="make a capture of a sniffer's log")
+    one.add_argument("log", nargs="?", default="-", help="the log; standard input if none is named")
+    one.add_argument("-o", "--output", metavar="FILE", help="the capture; times are kept in FILE.times")
+    one.add_argument("--times", metavar="FILE", help="where times are kept")
+    one.add_argument("--analyzer", metavar="FILE", help="the bytes of the analyzer, as they came")
+    one.add_argument("--computer", metavar="FILE", help="the bytes of the computer, as they came")
+    _import_options(one)
+    one.set_defaults(run=run_capture)
+    one = commands.add_parser("normalize", help="make record files of dialects readable, each change by its option")
+    one.add_argument("records", nargs="?", default="-", help="a file of records; standard input if none is named")
+    one.add_argument("-o", "--output", metavar="FILE")
+    one.add_argument("--explain", action="store_true", help="say what is wrong and which options mend it; change nothing")
+    one.add_argument("--all", action="store_true", help="all changes but --orders")
+    for name, what in normalize.CHANGES.items():
+        one.add_argument(f"--{name}", action="store_true", help=what)
+    one.set_defaults(run=run_normalize)
+    one = commands.add_parser("table", help="write results as CSV, TSV or JSON lines")
+    one.add_argument("records", nargs="*", help="files of records, captures or logs; standard input if none is named")
+    one.add_argument("-o", "--output", metavar="FILE")
+    one.add_argument("--format", choices=("csv", "tsv", "jsonl"), default="csv")
+    one.add_argument("--fields", metavar="NAMES", help=f"columns: {','.join(table.USUAL)}, R.4, R.3.4, HEADING=O.5, result.operator")
+    one.add_argument("--sample-from", type=int, choices=(3, 4), default=3, help="the field of the order that has the sample (3)")
+    one.add_argument("--encoding", type=_encoding, default="utf-8", help="of the records' text (utf-8)")
+    one.add_argument("--no-header", action="store_true", help="no line of names")
+    _import_options(one)
+    one.set_defaults(run=run_table)
+    return top
+
+
+def main(words: Optional[List[str]] = None) -> int:
+    """Runs the command; answers its exit status."""
+    ask = parser().parse_args(words)
+    try:
+        return int(ask.run(ask))
+    except BrokenPipeError:
+        os.dup2(os.open(os.devnull, os.O_WRONLY), 1)
+        return STOPPED
+    except (LogError, CaptureError, LibraryMissing, table.TableError, OSError) as error:
+        say(str(error))
+        return USAGE if isinstance(error, table.TableError) else STOPPED

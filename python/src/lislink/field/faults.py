@@ -1,0 +1,203 @@
+"""Faults in words: why a frame or a record is rejected, the likely cause, and the command that helps. The proved library
+says what is rejected; this only explains."""
+import functools
+import operator
+from typing import List, NamedTuple, Optional
+
+from ..link import FRAME_TEXT, FrameFault, LinkError, Status, frame_bytes
+from ..records import MessageError, Reason
+from .log import CONTROL
+
+_NAMES = {number: name for name, number in reversed(list(CONTROL.items()))}
+_NAMES.update({9: "TAB", 127: "DEL", 17: "XON", 19: "XOFF"})
+
+
+def words(data: bytes, most: int = 0) -> str:
+    """Bytes as text, control bytes in words; cut behind so many bytes, if that isn't 0."""
+    shown = data[:most] if most else data
+    text = "".join(chr(one) if 32 <= one < 127 else f"<{_NAMES[one]}>" if one in _NAMES else f"<{one:02X}>" for one in shown)
+    return text + ("…" if len(shown) < len(data) else "")
+
+
+class Cause(NamedTuple):
+    """The likely cause of a fault: a short name, words for a person, and for a checksum the other way to sum that gives it."""
+    name: str
+    words: str
+    way: str = ""
+
+
+class Sum(NamedTuple):
+    """The checksum that a frame should have, and the one that it has."""
+    wanted: str
+    found: str
+
+
+def checksum_of(body: bytes) -> Optional[Sum]:
+    """The checksums of the bytes between STX and LF, if these have the shape of a frame."""
+    if len(body) < 5 or body[-1] != 13 or body[-4] not in (3, 23):
+        return None
+    found = body[-3:-1].decode("latin-1")
+    try:
+        whole = frame_bytes(body[0] - 48, body[-4] == 3, body[1:-4])
+        return Sum(whole[-4:-2].decode(), found)
+    except (LinkError, ValueError):
+        return Sum(f"{sum(body[:-3]) % 256:02X}", found)
+
+
+def cause_of_frame(body: bytes, fault: FrameFault, place: int) -> Cause:
+    """Why the bytes between STX and LF are no frame, as far as one can see."""
+    if fault is FrameFault.TOO_LONG:
+        length = len(body) - 5
+        return Cause("long", f"frame too long: {length} bytes of text, {FRAME_TEXT} are allowed "
+                             "(`lislink replay --long` takes it)")
+    if fault is FrameFault.SHAPE:
+        return _shape(body)
+    if fault is FrameFault.NUMBER:
+        if body[:1] in (b"8", b"9"):
+            return Cause("number-over-7", f"frame number {body[:1].decode()}: behind 7 comes 0")
+        return Cause("number", f"no frame number: the frame begins with '{words(body[:1])}', not with a digit 0 to 7")
+    if fault is FrameFault.FORBIDDEN:
+        byte = body[1 + place] if 1 + place < len(body) else 0
+        name = words(bytes([byte]))
+        if byte in (17, 19):
+            return Cause("flow-control", f"{name} in the text at byte {place}: software flow control is on, turn it off")
+        return Cause("forbidden", f"forbidden byte {name} in the text at byte {place}")
+    return _sum(body)
+
+
+def _shape(body: bytes) -> Cause:
+    end = max(body.rfind(3), body.rfind(23))
+    if end < 0:
+        if len(body) < 5:
+            return Cause("short", f"{len(body)} bytes between STX and LF are no frame")
+        return Cause("lf-in-text", "LF inside the text: a record ends in CR LF or LF within the frame, and LF ends the frame")
+    name, tail = words(body[end:end + 1]), body[end + 1:]
+    if tail[-1:] != b"\r":
+        return Cause("no-cr", f"no CR before LF: '{words(tail)}' is behind {name}")
+    digits = tail[:-1]
+    if not digits:
+        return Cause("no-sum", f"no checksum between {name} and CR")
+    if len(digits) != 2:
+        return Cause("sum-digits", f"{len(digits)} characters of checksum ('{words(digits)}'), two are due")
+    return Cause("shape", "no frame: fewer than five bytes, or ETX or ETB not where it belongs")
+
+
+def _sum(body: bytes) -> Cause:
+    told = checksum_of(body)
+    if told is None:
+        return Cause("sum", "checksum wrong")
+    text = f"checksum wrong: {words(told.found.encode('latin-1'))} found, {told.wanted} wanted"
+    ways = {
+        "sum-without-end": ("it leaves out ETX or ETB", sum(body[:-4])),
+        "sum-with-stx": ("it counts STX", sum(body[:-3]) + 2),
+        "sum-with-stx-without-end": ("it counts STX and leaves out ETX or ETB", sum(body[:-4]) + 2),
+        "sum-without-number": ("it leaves out the frame number", sum(body[1:-3])),
+        "sum-of-text": ("it counts the text alone", sum(body[1:-4])),
+        "sum-xor": ("it is an exclusive or", functools.reduce(operator.xor, body[:-3], 0)),
+        "sum-xor-text": ("it is an exclusive or without the number", functools.reduce(operator.xor, body[1:-3], 0)),
+        "sum-complement": ("it is the two's complement", -sum(body[:-3])),
+        "sum-with-cr": ("it counts the CR behind it", sum(body[:-3]) + 13),
+    }
+    for name, (why, value) in ways.items():
+        if f"{value % 256:02X}" == told.found.upper():
+            return Cause(name, text, why)
+    if not all(chr(one) in "0123456789abcdefABCDEF" for one in body[-3:-1]):
+        return Cause("sum-no-digits", f"{text}: no hexadecimal digits")
+    if any(one > 127 for one in body[1:-4]):
+        return Cause("sum", text + " (bytes over 127 are in the text: were they changed on the way?)")
+    return Cause("sum", text)
+
+
+_CODES = {Reason.NOT_HEADER: "G2", Reason.NO_PARENT: "G3", Reason.SECOND_HEADER: "G4", Reason.UNFINISHED: "G5",
+          Reason.TOO_LONG: "G6", Reason.OUT_OF_MEMORY: "K4"}
+_STATUS_CODES = {Status.NO_RECORD: "C1", Status.BAD_LETTER: "C2", Status.BAD_DELIMITERS: "C3", Status.FORBIDDEN: "C4"}
+
+
+def code_of(error: MessageError) -> str:
+    """The code that `lislink check` prints for a record that can't be read."""
+    if error.reason is Reason.BAD_RECORD:
+        return "G1 " + _STATUS_CODES.get(Status(error.detail), "C4")
+    return _CODES.get(error.reason, "G1")
+
+
+class RecordCause(NamedTuple):
+    """Why a record is rejected: in words, and the options of `lislab normalize` that mend it."""
+    name: str
+    words: str
+    options: List[str]
+
+
+def cause_of_record(error: MessageError, record: bytes, is_rest: bool = False) -> RecordCause:
+    """Why the library rejects a record; `is_rest` if no CR is behind it."""
+    reason = error.reason
+    if reason is Reason.BAD_RECORD:
+        return _bad_record(Status(error.detail), error, record)
+    if reason is Reason.NOT_HEADER:
+        if record[:1] in b"PORCQMSL" and record[:1]:
+            return RecordCause("no-header", f"a record {record[:1].decode()} outside a message: the header is missing, or a "
+                                            "record is behind L", ["--behind-l"])
+        return _bad_record(Status.BAD_LETTER, error, record)
+    if reason is Reason.NO_PARENT:
+        above = "patient (P)" if error.detail == ord("O") else "order (O)"
+        return RecordCause("no-parent", f"a record {chr(error.detail)} without {above} above it", ["--orders"])
+    if reason is Reason.SECOND_HEADER:
+        return RecordCause("no-l", "a header inside a message: L is missing before it, or the session was begun again",
+                           ["--last-l"])
+    if reason is Reason.UNFINISHED:
+        return _unfinished(record, is_rest)
+    if reason is Reason.TOO_LONG:
+        return RecordCause("long", "over 65,536 bytes without a CR" + (": records end in LF" if b"\n" in record else ""),
+                           ["--lf"])
+    return RecordCause("memory", "out of memory", [])
+
+
+def _unfinished(record: bytes, is_rest: bool) -> RecordCause:
+    bare = record.rstrip(b"\n")
+    if b"\n" in bare or is_rest and record.endswith(b"\n"):
+        return RecordCause("lf", "records end in LF alone: no CR ends them", ["--lf"])
+    if b"<CR>" in record:
+        return RecordCause("cr-in-words", "the word <CR> stands for a CR", ["--cr-words"])
+    if record and not record.strip(b"\x1a\0\n"):
+        return RecordCause("ctrl-z", "bytes behind the last CR", ["--ctrl-z", "--nul"])
+    if is_rest and record:
+        options = ["--last-cr"] if record[:1] in b"Ll" else ["--last-cr", "--last-l"]
+        return RecordCause("last-cr", "the last record lacks its CR", options)
+    return RecordCause("no-l", "the input ends before the message does: L is missing", ["--last-l"])
+
+
+def _bad_record(status: Status, error: MessageError, record: bytes) -> RecordCause:
+    first = words(record[:1])
+    if status is Status.NO_RECORD:
+        return RecordCause("empty", "an empty record: CR behind CR, or a blank line", ["--blank"])
+    if status is Status.BAD_DELIMITERS:
+        if record[:9] in (b"H|^~\\&|||", b"MSH|^~\\&|") or record[:6] == b"H|^~\\&":
+            return RecordCause("hl7-delimiters", "a header with five bytes of delimiters, as HL7 has them: H|^~\\&",
+                               ["--header-5"])
+        if record[1:2] == record[4:5]:
+            return RecordCause("header-3", "a header with three delimiters, the escape is missing", ["--header-3"])
+        if len(record) > 6 and record[6:7] == record[1:2]:
+            return RecordCause("header-5", "a header with five bytes of delimiters", ["--header-5"])
+        return RecordCause("delimiters", "a header whose four delimiters aren't distinct punctuation", [])
+    if status is Status.FORBIDDEN:
+        byte = record[error.place:error.place + 1]
+        options = {b"\0": ["--nul"], b"\x1a": ["--ctrl-z"], b"\n": ["--lf"]}.get(byte, [])
+        return RecordCause("byte", f"the byte {words(byte)} at place {error.place} is no text", options)
+    if status is Status.TOO_LONG:
+        return RecordCause("long", "a record of over 65,536 bytes", [])
+    if record[:1] == b"\n":
+        return RecordCause("crlf", "records end in CR LF: this one begins with LF", ["--crlf"])
+    if record[:3] == b"\xef\xbb\xbf":
+        return RecordCause("bom", "a byte order mark is at the beginning", ["--bom"])
+    if record[:1] in (b"\0", b"\x1a"):
+        return RecordCause("ctrl-z", f"{first} at the beginning of a record", ["--nul" if record[:1] == b"\0" else "--ctrl-z"])
+    if record[:1] in (b"\x02", b"\x05", b"\x03", b"\x04", b"\x0b"):
+        return RecordCause("framed", f"{first}: link bytes are among the records", ["--unframe"])
+    if record[:1].isdigit() and record[1:2].isalpha():
+        return RecordCause("numbered", "a frame's number is before the letter", ["--unframe"])
+    if record[:3] in (b"MSH", b"FHS", b"BHS"):
+        return RecordCause("hl7", "this is HL7 version 2, another language", [])
+    if record[:1] in (b" ", b"\t"):
+        return RecordCause("blank-first", "a blank is before the letter", ["--blank"])
+    if record[:1] and record[:1] in b"HPORCQMSLhporcqmsl":
+        return RecordCause("letter", f"no field delimiter behind the letter {first}", [])
+    return RecordCause("letter", f"'{first}' is no letter of a record: one of the maker's own, or a CR inside a text", [])

@@ -1,0 +1,271 @@
+"""A session as a ladder: each unit and reply of a capture with what it means to the proved receiver, and why."""
+from typing import Dict, Iterator, List, NamedTuple, Optional, Tuple, Union
+
+from ..capture import Capture, Line
+from ..link import FrameFault, Kind, Note, Readiness, Receiver, Scanner, Signal, Step
+from ..message import Fault, Found, read_all
+from .faults import Cause, Sum, cause_of_frame, checksum_of, words
+from .log import SECOND
+
+ENQ, ACK, NAK, EOT, STX = 5, 6, 0x15, 4, 2
+
+
+class Row(NamedTuple):
+    """A row of a ladder. `side` is `>` for the analyzer, `<` for the computer, `-` for an event. `level` is `good`, `plain`,
+    `warn` or `bad`. `reply` is what the proved receiver answers to it."""
+    line: int
+    time: Optional[int]
+    side: str
+    kind: str
+    title: str
+    note: str
+    level: str
+    raw: bytes = b""
+    text: bytes = b""
+    reply: bytes = b""
+    checksum: Optional[Sum] = None
+    cause: Optional[Cause] = None
+    number: int = -1
+    last: bool = True
+
+
+class Text(NamedTuple):
+    """A text that the receiver delivers: at which line of the capture."""
+    line: int
+    data: bytes
+
+
+class Look(NamedTuple):
+    """Something that looks wrong: its name, how bad, what it is, what to do, and the lines where it is first."""
+    name: str
+    level: str
+    words: str
+    advice: str
+    lines: List[int]
+
+
+class Ladder:
+    """The rows of a capture, the texts and messages in it, and what looks wrong."""
+
+    def __init__(self, capture: Capture, encoding: str = "latin-1") -> None:
+        self.rows: List[Row] = []
+        self.texts: List[Text] = []
+        self.differences: List[Tuple[int, bytes, bytes]] = []  # the line (0 for the end), wanted, got
+        self.notes: Dict[Note, int] = {}
+        self.dropped: List[Tuple[int, int]] = []  # texts that were never ended: the line, how many bytes
+        self.analyzer = b"".join(line.data for _, line in capture.lines if line.mark == ">")
+        self.computer = b"".join(line.data for _, line in capture.lines if line.mark == "<")
+        self.has_replies = any(line.mark == "<" for _, line in capture.lines)
+        self._carry, self._due = b"", b""
+        self._last_text: Optional[bytes] = None
+        self._busy = Readiness.READY
+        self._heard: Optional[int] = None
+        with Receiver() as receiver, Scanner() as scanner:
+            for (number, line), time in zip(capture.lines, capture.times):
+                self._take(receiver, scanner, number, line, time)
+            self._end(receiver, capture)
+        stream = b"".join(text.data for text in self.texts)
+        self.stream = stream
+        self.messages: List[Union[Found, Fault]] = list(read_all(stream, encoding))
+        self.encoding = encoding
+
+    def line_of(self, place: int) -> int:
+        """The line of the capture at which this byte of the records was delivered."""
+        for text in self.texts:
+            if place < len(text.data):
+                return text.line
+            place -= len(text.data)
+        return self.texts[-1].line if self.texts else 0
+
+    def _take(self, receiver: Receiver, scanner: Scanner, number: int, line: Line, time: Optional[int]) -> None:
+        if line.mark == ">":
+            self._silence(receiver, number, time)
+            self._units(receiver, scanner, number, line.data, time)
+        elif line.mark == "<":
+            self._reply(number, line.data, time)
+        elif line.mark == "T":
+            self._note_dropped(receiver, number)
+            step = receiver.timer()
+            self._due += step.reply
+            self.notes[step.note] = self.notes.get(step.note, 0) + 1
+            opened = step.note is Note.TIMED_OUT
+            self._event(number, time, "the receiver's 30 seconds are over: the line is given up" if opened else
+                        "the receiver's timer runs out: the line wasn't open", "warn" if opened else "plain")
+        elif line.mark == "R":
+            self._note_dropped(receiver, number)
+            receiver.restart()
+            self._busy = Readiness.READY
+            self._event(number, time, "the receiver is restarted", "plain")
+        elif line.mark == "S":
+            self._busy = Readiness[line.ready.upper()]
+            receiver.set_ready(self._busy)
+            self._event(number, time, {"ready": "the computer is ready", "busy": "the computer is busy: ENQ is answered NAK",
+                                       "contending": "the computer wants to send: ENQ is answered ENQ"}[line.ready], "plain")
+
+    def _event(self, number: int, time: Optional[int], note: str, level: str) -> None:
+        self.rows.append(Row(number, time, "-", "event", note, "", level))
+
+    def _silence(self, receiver: Receiver, number: int, time: Optional[int]) -> None:
+        if time is not None and self._heard is not None and time - self._heard > 30 * SECOND and receiver.is_open:
+            seconds = (time - self._heard) / SECOND
+            self.rows.append(Row(number, time, "-", "silence", f"{seconds:.1f} seconds of silence",
+                                 "a receiver gives the line up after 30 (a line T here says so)", "warn"))
+        self._heard = time if time is not None else self._heard
+
+    def _note_dropped(self, receiver: Receiver, number: int) -> None:
+        if receiver.held:
+            self.dropped.append((number, receiver.held))
+
+    def _units(self, receiver: Receiver, scanner: Scanner, number: int, data: bytes, time: Optional[int]) -> None:
+        """The units that are completed in a line: each signal of the scanner, beside the receiver's step at its byte."""
+        start = 0
+        for place, signal in scanner.feed_placed(data):
+            raw, self._carry = self._carry + data[start:place + 1], b""
+            held, opened = receiver.held, receiver.is_open
+            step = next((step for _, step in receiver.hear_placed(data[start:place + 1])), None)
+            start = place + 1
+            cut = raw.rfind(2) if signal.kind in (Kind.FRAME, Kind.BAD_FRAME) else len(raw) - 1
+            self._outside(number, time, raw[:cut])
+            if held and step is not None and step.note in (Note.OPENED, Note.ENDED, Note.NOT_READY):
+                self.dropped.append((number, held))
+            self._unit(receiver, number, time, signal, step, raw[cut:], opened)
+        rest = data[start:]
+        if rest:
+            for _ in receiver.hear_placed(rest):
+                raise AssertionError("the receiver answers where the scanner tells no signal")
+            self._carry += rest
+
+    def _outside(self, number: int, time: Optional[int], data: bytes) -> None:
+        """Bytes before a unit: a frame that is dropped, since something else came before its LF, or bytes of no frame."""
+        while data:
+            cut = data.find(2, 1)
+            piece, data = (data, b"") if cut < 0 else (data[:cut], data[cut:])
+            if piece[0] == STX:
+                self.rows.append(Row(number, time, ">", "dropped", words(piece), "dropped: no LF ended this frame, no reply",
+                                     "bad", piece))
+            else:
+                self.rows.append(Row(number, time, ">", "outside", words(piece), "bytes outside frames: ignored", "warn", piece))
+
+    def _unit(self, receiver: Receiver, number: int, time: Optional[int], signal: Signal, step: Optional[Step], raw: bytes,
+              opened: bool) -> None:
+        note = step.note if step else Note.QUIET
+        self.notes[note] = self.notes.get(note, 0) + 1
+        reply = step.reply if step else b""
+        self._due += reply
+        if step and step.text is not None:
+            self.texts.append(Text(number, step.text))
+        if signal.kind in (Kind.ENQ, Kind.EOT):
+            self._signal(number, time, signal, note, raw, reply, receiver)
+            return
+        body = raw[1:-1]
+        told = checksum_of(body)
+        why, level, cause = self._why(receiver, signal, step, body, note)
+        if signal.kind is Kind.FRAME:
+            end = "" if signal.last else " intermediate (ETB)"
+            title = f"frame {signal.number}{end} {len(signal.text)} bytes '{words(signal.text)}'"
+            kind = "frame"
+            if note is Note.ACCEPTED:
+                self._last_text = signal.text
+        else:
+            title, kind = f"no frame: {words(raw)}", "bad"
+        self.rows.append(Row(number, time, ">", kind, title, why, level, raw, signal.text, reply, told, cause,
+                             signal.number if signal.kind is Kind.FRAME else -1, signal.last))
+
+    def _why(self, receiver: Receiver, signal: Signal, step: Optional[Step], body: bytes,
+             note: Note) -> Tuple[str, str, Optional[Cause]]:
+        due = (receiver.accepted + 1) % 8
+        cause = cause_of_frame(body, signal.fault, signal.place) if signal.kind is Kind.BAD_FRAME else None
+        if cause and note is Note.REFUSED:
+            return f"rejected: {cause.words}", "bad", cause
+        if cause:
+            return f"the line isn't open: no reply (and rejected otherwise: {cause.words})", "bad", cause
+        if note is Note.ACCEPTED:
+            if step is not None and step.text is not None:
+                return f"accepted, text of {len(step.text)} bytes delivered", "good", None
+            return f"accepted, {receiver.held} bytes held until the frame with ETX", "good", None
+        if note is Note.DUPLICATE:
+            if self._last_text is not None and signal.text != self._last_text:
+                return (f"duplicate of {signal.number} by its number, but another text: acknowledged and lost "
+                        f"({due} is due)"), "bad", Cause("lost", "lost")
+            return f"duplicate of {signal.number}: acknowledged, not taken again", "warn", None
+        told = {Note.OUT_OF_TURN: f"rejected: out of turn, {due} is due", Note.NO_ROOM: "rejected: no room",
+                Note.TEXT_TOO_LONG: "rejected: the text passes 1,048,576 bytes", Note.TOO_MANY: "rejected: too many frames",
+                Note.REFUSED_MEMORY: "rejected: out of memory"}
+        return told.get(note, "the line isn't open (no ENQ before): no reply"), "bad", None
+
+    def _signal(self, number: int, time: Optional[int], signal: Signal, note: Note, raw: bytes, reply: bytes,
+                receiver: Receiver) -> None:
+        if signal.kind is Kind.ENQ:
+            why, level = ("the line is opened", "good") if note is Note.OPENED else ("not ready: no line", "warn")
+            self._last_text = None
+        else:
+            why, level = ("the session is ended", "good") if note is Note.ENDED else ("the line isn't open", "plain")
+        self.rows.append(Row(number, time, ">", signal.kind.name, signal.kind.name, why, level, raw, b"", reply))
+
+    def _reply(self, number: int, data: bytes, time: Optional[int]) -> None:
+        wanted, self._due = self._due, b""
+        title = words(data)
+        if wanted == data:
+            self.rows.append(Row(number, time, "<", "reply", title, "", "plain", data, b"", wanted))
+            return
+        self.differences.append((number, data, wanted))
+        if STX in data or ENQ in data and wanted != b"\x05":
+            note, level = "the computer's own session: not part of what the analyzer sends", "plain"
+        else:
+            note = f"the receiver would answer {words(wanted)}" if wanted else "the receiver would answer nothing"
+            level = "bad"
+            if data == b"\x15" and wanted == b"\x06":
+                note += self._nak()
+            elif data == b"\x06" and wanted == b"\x15":
+                note += ": the computer took what must be rejected"
+            elif data == b"\x04" and wanted == b"\x06":
+                note, level = "the computer acknowledges and asks to interrupt (EOT)", "warn"
+        self.rows.append(Row(number, time, "<", "reply", title, note, level, data, b"", wanted))
+
+    def _nak(self) -> str:
+        last = next((row for row in reversed(self.rows) if row.side == ">"), None)
+        if last is not None and last.kind == "ENQ":
+            return ": the computer is busy (a line S busy says so in version 2)"
+        return ": the computer rejects a good frame"
+
+    def _end(self, receiver: Receiver, capture: Capture) -> None:
+        number = capture.lines[-1][0] if capture.lines else 0
+        if self._carry:
+            if self._carry.find(2) > 0:
+                cut = self._carry.find(2)
+                self._outside(number, None, self._carry[:cut])
+                self._carry = self._carry[cut:]
+            started = self._carry[0] == STX
+            self.rows.append(Row(number, None, ">", "dropped" if started else "outside", words(self._carry),
+                                 "unfinished: the capture ends before its LF" if started else "bytes outside frames: ignored",
+                                 "bad" if started else "warn", self._carry))
+        self._note_dropped(receiver, number)
+        self.is_open = receiver.is_open
+        if self._due:
+            self.differences.append((0, b"", self._due))
+            if self.has_replies:
+                self.rows.append(Row(number, None, "-", "silence", "no answer",
+                                     f"the receiver would answer {words(self._due)}", "bad", b"", b"", self._due))
+
+    def units(self) -> Iterator[Row]:
+        """The rows of units that the analyzer sent."""
+        return (row for row in self.rows if row.side == ">" and row.kind in ("ENQ", "EOT", "frame", "bad"))
+
+    def counts(self) -> Dict[str, int]:
+        """How many there are of what a summary tells."""
+        kinds = [row.kind for row in self.units()]
+        found = [one for one in self.messages if isinstance(one, Found)]
+        return {
+            "ENQ": kinds.count("ENQ"), "frames": kinds.count("frame") + kinds.count("bad"),
+            "accepted": self.notes.get(Note.ACCEPTED, 0),
+            "duplicates": self.notes.get(Note.DUPLICATE, 0),
+            "rejected": sum(self.notes.get(one, 0) for one in (Note.REFUSED, Note.OUT_OF_TURN, Note.NO_ROOM,
+                                                                Note.TEXT_TOO_LONG, Note.TOO_MANY, Note.REFUSED_MEMORY)),
+            "texts": len(self.texts), "differences": len(self.differences), "messages": len(found),
+            "results": sum(1 for one in found for _ in one.message.results()),
+            "findings": sum(len(one.message.findings()) for one in found),
+            "rejected messages": len(self.messages) - len(found),
+        }
+
+
+__all__ = ["Cause", "FrameFault", "Ladder", "Look", "Row", "Text"]

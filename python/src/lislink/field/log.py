@@ -1,0 +1,158 @@
+"""What an importer reads: pieces of bytes with their side and time, and how a log is told to be wrong."""
+import datetime
+import re
+from typing import List, NamedTuple, Optional
+
+SECOND = 1_000_000_000
+_DAY = 86400 * SECOND
+
+
+class LogError(Exception):
+    """A log can't be read: why, and the number of the line if there is one."""
+
+    def __init__(self, why: str, line: int = 0) -> None:
+        super().__init__(f"line {line}: {why}" if line else why)
+        self.line = line
+
+
+class Piece(NamedTuple):
+    """Bytes that one side sent: the time in nanoseconds if it is known, a name for the side, the bytes. A piece with the
+    side `R` and no bytes is a new connection."""
+    time: Optional[int]
+    side: str
+    data: bytes
+
+
+class Log(NamedTuple):
+    """The pieces of a log in their order, its form, and remarks for the reader."""
+    form: str
+    pieces: List[Piece]
+    remarks: List[str]
+
+
+_MONTHS = {name: number for number, name in enumerate("jan feb mar apr may jun jul aug sep oct nov dec".split(), 1)}
+_CLOCK = r"(?P<h>\d{1,2}):(?P<m>\d\d):(?P<s>\d\d)(?:\s?(?P<ap>[AaPp][Mm]))?(?:[.,:](?P<f>\d{1,9}))?(?:\s?(?P<ap2>[AaPp][Mm]))?"
+_DATES = [
+    (re.compile(r"(?P<y>\d{4})[-/.](?P<mo>\d{1,2})[-/.](?P<d>\d{1,2})[T ,;]*" + _CLOCK), None),
+    (re.compile(r"(?P<d>\d{1,2})[-/.](?P<mo>\d{1,2})[-/.](?P<y>\d{4})[T ,;]*" + _CLOCK), None),
+    (re.compile(r"(?P<mon>[A-Za-z]{3}) {1,2}(?P<d>\d{1,2}),? (?P<y>\d{4}),? " + _CLOCK), None),
+    (re.compile(r"(?<![\d:.])" + _CLOCK), None),
+]
+_EPOCH = re.compile(r"(?<![\d.:])(?P<s>\d{9,10})\.(?P<f>\d{1,9})(?![\d.:])")
+
+
+def find_time(text: str) -> Optional[int]:
+    """The first time in a text, in nanoseconds since 1970, or since midnight if it has no date."""
+    found = _EPOCH.search(text)
+    if found:
+        return int(found["s"]) * SECOND + int(found["f"].ljust(9, "0"))
+    for pattern, _ in _DATES:
+        found = pattern.search(text)
+        if found:
+            return _of_clock(found)
+    return None
+
+
+def _of_clock(found: "re.Match[str]") -> Optional[int]:
+    parts = found.groupdict()
+    hour, half = int(parts["h"]), (parts["ap"] or parts["ap2"] or "").lower()
+    if half:
+        hour = hour % 12 + (12 if half == "pm" else 0)
+    if hour > 23 or int(parts["m"]) > 59 or int(parts["s"]) > 60:
+        return None
+    time = (hour * 3600 + int(parts["m"]) * 60 + int(parts["s"])) * SECOND + int((parts["f"] or "0").ljust(9, "0"))
+    if parts.get("y") is None:
+        return time
+    month = _MONTHS.get(parts["mon"].lower(), 0) if parts.get("mon") else int(parts["mo"])
+    day = int(parts["d"])
+    if month > 12 >= day:
+        month, day = day, month
+    try:
+        return (datetime.date(int(parts["y"]), month, day).toordinal() - 719163) * _DAY + time
+    except ValueError:
+        return None
+
+
+def time_text(time: Optional[int]) -> str:
+    """A time as it is written beside a capture: with its date if it has one; empty if it isn't known."""
+    if time is None:
+        return ""
+    days, rest = divmod(time, _DAY)
+    clock = f"{rest // SECOND // 3600:02}:{rest // SECOND // 60 % 60:02}:{rest // SECOND % 60:02}.{rest % SECOND:09}"
+    clock = clock[:-3] if clock.endswith("000") else clock
+    return f"{datetime.date.fromordinal(days + 719163)}T{clock}" if days > 3 else clock
+
+
+def in_order(pieces: List[Piece]) -> List[Piece]:
+    """The same pieces; times without a date go on over midnight."""
+    told: List[Piece] = []
+    last, days = None, 0
+    for piece in pieces:
+        time = piece.time
+        if time is not None and time < _DAY:
+            if last is not None and last - time > _DAY // 2:
+                days += 1
+            last = time
+            time += days * _DAY
+        told.append(piece._replace(time=time))
+    return told
+
+
+def decode(data: bytes) -> str:
+    """The text of a log: UTF-16 or UTF-8 by its byte order mark, UTF-8 if it is that, and Latin-1 otherwise."""
+    if data[:2] in (b"\xff\xfe", b"\xfe\xff"):
+        return data.decode("utf-16", "replace")
+    if len(data) > 3 and data[1:2] == b"\0" and data[3:4] == b"\0":
+        return data.decode("utf-16-le", "replace")
+    try:
+        return data.decode("utf-8-sig")
+    except UnicodeDecodeError:
+        return data.decode("latin-1")
+
+
+def encode(text: str) -> bytes:
+    """Characters of a log as the bytes that they were: Latin-1 where that has them, UTF-8 for the others."""
+    return b"".join(one.encode("latin-1") if ord(one) < 128 else one.encode("utf-8") for one in text)
+
+
+CONTROL = {name: number for number, name in enumerate(
+    """NUL SOH STX ETX EOT ENQ ACK BEL BS HT LF VT FF CR SO SI DLE DC1 DC2 DC3 DC4 NAK SYN ETB CAN EM SUB ESC FS GS RS
+    US""".split())}
+CONTROL.update({"TAB": 9, "NL": 10, "DEL": 127, "XON": 17, "XOFF": 19, "SP": 32, "SPACE": 32})
+_HEX_PAIRS = re.compile(r"(?:0[xX])?[0-9A-Fa-f]{2}")
+
+
+def ascii_fits(text: str, data: bytes) -> bool:
+    """Whether a column of text shows these bytes: the printable ones as they are, anything for the others."""
+    if len(text) == len(data) + 2 and text[:1] == "|" == text[-1:]:
+        text = text[1:-1]
+    if len(text) > len(data):
+        return False
+    return all(32 <= byte < 127 and shown == chr(byte) or not 32 < byte < 127 or shown == "."
+               for shown, byte in zip(text, data)) and (len(text) == len(data) or not text.strip() or
+                                                        data[len(text):].strip(b" ") == b"")
+
+
+def hex_row(text: str, most: int = 64) -> Optional[bytes]:
+    """The bytes of a row of a hex dump without its offset: pairs (or groups of them), and maybe the same bytes as text."""
+    tokens = [(found.group(), found.end()) for found in re.finditer(r"\S+", text)]
+    pairs: List[int] = []
+    for word, _ in tokens:
+        if not re.match(r"(?:0[xX])?(?:[0-9A-Fa-f]{2})+,?$", word):
+            break
+        pairs.append(len(bytes.fromhex(re.sub("^0[xX]|,$", "", word))))
+    for count in range(len(pairs), 0, -1):
+        data = bytes.fromhex("".join(re.sub("^0[xX]|,$", "", word) for word, _ in tokens[:count]))
+        if count == len(tokens):
+            return data
+        rest = text[tokens[count - 1][1]:]
+        if len(data) <= most and rest[:1].isspace() and _shows(rest, data):
+            return data
+    return None
+
+
+def _shows(rest: str, data: bytes) -> bool:
+    """Whether what is behind the pairs shows these bytes. Blanks before the text may belong to the dump or to it."""
+    bare = rest.rstrip("\r\n")
+    return any(bare[:cut].isspace() and ascii_fits(bare[cut:], data) for cut in range(1, len(bare))
+               if cut <= len(bare) - len(bare.lstrip()) and cut >= 1)

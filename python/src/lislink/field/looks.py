@@ -1,0 +1,292 @@
+"""What looks wrong in a session, even where each rule is kept: in words, with the command that helps."""
+import re
+from collections import Counter
+from typing import Callable, Iterator, List, Optional
+
+from ..link import Note
+from ..message import Fault, Found
+from .faults import cause_of_record, code_of
+from .ladder import Ladder, Look, Row
+from .log import SECOND
+
+
+def looks_of(ladder: Ladder) -> List[Look]:
+    """All that looks wrong, the worst first."""
+    found: List[Look] = []
+    for one in (_no_protocol, _no_text, _same_number, _from_zero, _lost, _never_ended, _bad_frames, _not_open, _dropped,
+                _outside, _answers, _computer_session, _no_answer, _late, _charset, _unfinished, _records, _sequence):
+        found += one(ladder)
+    order = {"bad": 0, "warn": 1, "plain": 2}
+    return sorted(found, key=lambda look: order[look.level])
+
+
+def _lines(rows: List[Row]) -> List[int]:
+    return list(dict.fromkeys(row.line for row in rows))
+
+
+def parity_of(data: bytes) -> Optional[str]:
+    """Whether all bytes carry a parity bit: `even` or `odd`; None if they don't."""
+    if sum(one > 127 for one in data) < 3:
+        return None
+    ones = [bin(one).count("1") % 2 for one in data]
+    return "even" if not any(ones) else "odd" if all(ones) else None
+
+
+def _no_protocol(ladder: Ladder) -> Iterator[Look]:
+    data = ladder.analyzer
+    has_units = any(True for _ in ladder.units())
+    if b"MSH|" in data or re.search(rb"\x0b[^\x1c]*\x1c\r", data):
+        yield Look("hl7", "bad", "this is HL7 version 2 (MSH, or a block of VT .. FS CR), not this link",
+                   "set the analyzer to ASTM, or use an HL7 receiver", [])
+        return
+    parity = parity_of(data)
+    if parity:
+        yield Look("parity", "bad", f"each byte carries an {parity} parity bit: the line has 7 data bits, and was read with 8",
+                   f"set both ends alike, 8N1 or 7{parity[0].upper()}1", [])
+        return
+    if not data:
+        yield Look("no-bytes", "bad", "the capture has no bytes of the analyzer",
+                   "look whether the sides are swapped (lislab capture --swap), or the wire is", [])
+    elif 5 not in data and 2 not in data:
+        yield Look("no-protocol", "bad", "no ENQ and no STX: another protocol, or the wrong speed or settings of the line",
+                   "compare speed, data bits and parity of both ends", [])
+    elif not has_units and 2 in data:
+        yield Look("no-unit", "bad", "STX came, but no frame was ended by LF", "a frame ends in ETX or ETB, two digits, CR and LF", [])
+    elif 5 in data and 2 not in data:
+        rows = [row for row in ladder.rows if row.kind == "ENQ"]
+        level = "warn" if ladder.has_replies and all(row.raw == b"\x06" for row in ladder.rows if row.side == "<") else "bad"
+        yield Look("no-frame", level, f"{len(rows)} times ENQ, and never a frame",
+                   "see whether the computer answers ACK, and what the analyzer sends behind it", _lines(rows)[:5])
+
+
+def _no_text(ladder: Ladder) -> Iterator[Look]:
+    if ladder.texts or not any(row.kind in ("frame", "bad") for row in ladder.units()):
+        return
+    yield Look("no-text", "bad", "no text at all came through: every frame was rejected, dropped or repeated",
+               "the rows below say why for each frame", [])
+
+
+def _frames(ladder: Ladder) -> List[Row]:
+    return [row for row in ladder.units() if row.kind == "frame"]
+
+
+def _same_number(ladder: Ladder) -> Iterator[Look]:
+    frames = _frames(ladder)
+    texts = {row.text for row in frames}
+    if len(texts) > 1 and len({row.number for row in frames}) == 1:
+        yield Look("same-number", "bad", f"all {len(frames)} frames have number {frames[0].number}: each behind the first is a "
+                   "duplicate by the rules, so its text is acknowledged and lost",
+                   "the sender must count 1 to 7, then 0: no receiver can tell such frames from repeats", _lines(frames)[:5])
+
+
+def _from_zero(ladder: Ladder) -> Iterator[Look]:
+    before: Optional[Row] = None
+    for row in ladder.units():
+        if row.kind == "frame" and before is not None and before.kind == "ENQ" and row.number == 0:
+            yield Look("from-zero", "bad", "the first frame behind ENQ has number 0: 1 is due",
+                       "the sender must begin with 1 after each ENQ; a receiver must not take 0", [row.line])
+            return
+        before = row
+
+
+def _lost(ladder: Ladder) -> Iterator[Look]:
+    rows = [row for row in ladder.rows if row.cause is not None and row.cause.name == "lost"]
+    if rows:
+        yield Look("lost", "bad", f"{len(rows)} frames repeat the number before them with another text: acknowledged, and lost",
+                   "the sender doesn't count its frames, or missed an acknowledgement", _lines(rows)[:5])
+
+
+def _never_ended(ladder: Ladder) -> Iterator[Look]:
+    if ladder.dropped:
+        total = sum(count for _, count in ladder.dropped)
+        yield Look("etb", "bad", f"{total} bytes of text were dropped: their last frame ended in ETB, and none with ETX came",
+                   "the last frame of a text must end in ETX", [line for line, _ in ladder.dropped][:5])
+
+
+_ADVICE = {
+    "long": "`lislink replay --long` takes frames of up to 63,993 bytes; the library for C and this ladder have 240",
+    "lf-in-text": "the sender must put CR alone behind a record; no receiver can take LF inside a frame",
+    "no-sum": "another dialect of the link: frames without a checksum aren't taken",
+    "flow-control": "turn XON/XOFF off at both ends",
+    "number": "another dialect of the link: frames need a number",
+    "no-cr": "the sender must end a frame in CR and LF",
+}
+
+
+def _bad_frames(ladder: Ladder) -> Iterator[Look]:
+    rows = [row for row in ladder.rows if row.kind == "bad" and row.cause is not None]
+    good = len(_frames(ladder))
+    causes = Counter(_kind(row) for row in rows)
+    for name, count in causes.most_common():
+        mine = [row for row in rows if _kind(row) == name]
+        cause = mine[0].cause
+        assert cause is not None
+        share = f"all {count} frames" if count == good + len(rows) and count > 1 else f"{count} of {good + len(rows)} frames"
+        if name == "sum":
+            yield _sums(ladder, mine, share, good)
+        else:
+            yield Look(name, "bad", f"{share} rejected: {cause.words}",
+                       _ADVICE.get(name, "the sender is wrong: a receiver must not take such a frame"), _lines(mine)[:5])
+
+
+def _kind(row: Row) -> str:
+    name = row.cause.name if row.cause else ""
+    return "sum" if name.startswith("sum-") and row.checksum is not None and row.cause and row.cause.way else name
+
+
+def _sums(ladder: Ladder, rows: List[Row], share: str, good: int) -> Look:
+    """Wrong checksums: another way to sum where no frame at all is right, noise where the frame comes again."""
+    ways = {row.cause.way for row in rows if row.cause}
+    first = rows[0].cause.words if rows[0].cause else ""
+    if good == 0 and len(ways) == 1 and "" not in ways:
+        name = rows[0].cause.name if rows[0].cause else "sum"
+        return Look(name, "bad", f"{share} rejected: {first}; {ways.pop()}",
+                    "mend the sender: a receiver must not take such a checksum", _lines(rows)[:5])
+    frames = [row for row in ladder.units() if row.kind in ("frame", "bad")]
+    again = [row for row, after in zip(frames, frames[1:]) if row in rows and after.kind == "frame" and after.level == "good"]
+    if len(again) == len(rows):
+        return Look("noise", "warn", f"{share} rejected: {first}; each came again and was accepted: noise on the line",
+                    "look at cable, shield and speed if there are many", _lines(rows)[:5])
+    return Look("sum", "bad", f"{share} rejected: {first}", "the sender sums otherwise, or bytes were damaged on the way",
+                _lines(rows)[:5])
+
+
+def _not_open(ladder: Ladder) -> Iterator[Look]:
+    rows = [row for row in ladder.rows if row.kind in ("frame", "bad") and row.note.startswith("the line isn't open")]
+    if rows:
+        yield Look("not-open", "bad", f"{len(rows)} frames came while the line wasn't open: no ENQ before them, or it was given up",
+                   "begin the capture before ENQ; a sender must send ENQ first", _lines(rows)[:5])
+
+
+def _dropped(ladder: Ladder) -> Iterator[Look]:
+    rows = [row for row in ladder.rows if row.kind == "dropped"]
+    if rows:
+        parts = Counter("CR" if row.raw.rstrip(b"\x04").endswith(b"\r") else "other" for row in rows)
+        text = f"{len(rows)} frames were begun and dropped: no LF ended them"
+        text += " (they end in CR alone)" if parts["CR"] == len(rows) else ""
+        if all(re.match(rb"\x02[^\r\n]*[\x03]$|\x02.*\x03$", row.raw, re.S) for row in rows):
+            text += " (they end in ETX: neither checksum nor CR LF)"
+        yield Look("dropped", "bad", text, "a frame ends in ETX or ETB, two digits, CR and LF", _lines(rows)[:5])
+
+
+def _outside(ladder: Ladder) -> Iterator[Look]:
+    rows = [row for row in ladder.rows if row.kind == "outside"]
+    data = b"".join(row.raw for row in rows)
+    if not data:
+        return
+    if re.search(rb"[0-7][HPORCQL][|!-/]", data):
+        yield Look("no-stx", "bad", "frames without STX: their bytes are outside frames and ignored",
+                   "the sender must begin a frame with STX", _lines(rows)[:5])
+    elif set(data) <= {6, 0x15}:
+        yield Look("replies", "plain", "the analyzer sends ACK or NAK outside frames: it answers the computer's own session",
+                   "", _lines(rows)[:5])
+    elif set(data) <= {17, 19}:
+        yield Look("flow-control", "warn", "XON or XOFF is on the line: software flow control is on",
+                   "turn XON/XOFF off at both ends", _lines(rows)[:5])
+    else:
+        yield Look("outside", "warn", f"{len(data)} bytes are outside frames, and ignored", "", _lines(rows)[:5])
+
+
+def _answers(ladder: Ladder) -> Iterator[Look]:
+    for tail, name, text, advice in (
+            (": the computer rejects a good frame", "rejects-good", "the computer answers NAK to good frames",
+             "the computer's receiver counts or sums otherwise: the ladder has the checksum and the number that are due"),
+            (": the computer is busy (a line S busy says so in version 2)", "busy", "the computer answers NAK to ENQ: it is busy",
+             "put `capture 2` first and `S busy` before that ENQ, and `replay` agrees"),
+            (": the computer took what must be rejected", "takes-bad", "the computer acknowledges frames that must be rejected",
+             "its receiver checks too little: data may be lost or wrong"),
+            ("asks to interrupt (EOT)", "interrupt", "the computer acknowledges by EOT: it asks the analyzer to end soon", "")):
+        rows = [row for row in ladder.rows if row.side == "<" and row.note.endswith(tail)]
+        if rows:
+            yield Look(name, "plain" if name == "interrupt" else "warn" if name == "busy" else "bad",
+                       f"{text}, {len(rows)} times", advice, _lines(rows)[:5])
+    rows = [row for row in ladder.rows if row.side == "<" and row.level == "bad" and ": " not in row.note]
+    if rows:
+        yield Look("other-answer", "bad", f"the computer answers otherwise than a receiver would, {len(rows)} times", "",
+                   _lines(rows)[:5])
+
+
+def _computer_session(ladder: Ladder) -> Iterator[Look]:
+    rows = [row for row in ladder.rows if row.side == "<" and row.note.startswith("the computer's own session")]
+    if rows:
+        yield Look("computer-session", "plain", "the computer has sessions of its own (an order download): `replay` tells them as "
+                   "differences", "`lislab capture --swap` gives a capture of the other way", _lines(rows)[:5])
+
+
+def _no_answer(ladder: Ladder) -> Iterator[Look]:
+    if not ladder.has_replies:
+        if any(True for _ in ladder.units()):
+            yield Look("no-replies", "warn", "the capture has no bytes of the computer: what it answered isn't known",
+                       "record both directions", [])
+        return
+    rows = []
+    before: Optional[Row] = None
+    for row in ladder.rows:
+        if row.side == ">" and row.kind in ("ENQ", "frame", "bad", "EOT"):
+            if before is not None and before.reply:
+                rows.append(before)
+            before = row
+        elif row.side == "<":
+            before = None
+    if rows:
+        yield Look("no-answer", "bad", f"the computer didn't answer {len(rows)} times where a receiver would",
+                   "look whether it was running, and whether its line is wired back", _lines(rows)[:5])
+
+
+def _late(ladder: Ladder) -> Iterator[Look]:
+    rows = []
+    before: Optional[Row] = None
+    for row in ladder.rows:
+        if row.side == "<" and before is not None and before.time is not None and row.time is not None:
+            if row.time - before.time > 15 * SECOND:
+                rows.append(row)
+        if row.side in "<>":
+            before = row if row.side == ">" else None
+    if rows:
+        yield Look("late", "bad", f"{len(rows)} answers came over 15 seconds late: the sender has given up by then",
+                   "a late ACK may be taken for another frame's: the sender needs a new connection", _lines(rows)[:5])
+    silences = [row for row in ladder.rows if row.kind == "silence" and row.title.endswith("seconds of silence")]
+    if silences:
+        yield Look("silence", "warn", f"{len(silences)} times the analyzer was silent for over 30 seconds in a session",
+                   "`lislab capture --timer 30` puts the lines T", _lines(silences)[:5])
+
+
+def _charset(ladder: Ladder) -> Iterator[Look]:
+    rows = [row for row in ladder.units() if re.search(rb"[\x81-\xfe][\x5c\x5e\x7c\x7e]", row.text)]
+    if rows:
+        yield Look("two-bytes", "warn", "bytes over 127 are followed by |, \\, ^ or ~: text of two bytes a character (GBK, Big5, "
+                   "Shift JIS) is split at its second bytes", "set the analyzer to UTF-8 or to plain letters", _lines(rows)[:5])
+
+
+def _unfinished(ladder: Ladder) -> Iterator[Look]:
+    if ladder.is_open:
+        yield Look("no-eot", "plain", "the capture ends within a session: no EOT came", "", [ladder.rows[-1].line])
+
+
+def _records(ladder: Ladder) -> Iterator[Look]:
+    faults = [one for one in ladder.messages if isinstance(one, Fault)]
+    for fault in faults[:8]:
+        record = record_at(ladder.stream, fault.place)
+        cause = cause_of_record(fault.error, record, fault.place + len(record) >= len(ladder.stream))
+        options = " or ".join(cause.options)
+        advice = f"`lislab normalize {options}` mends the records" if options else ""
+        yield Look("record-" + cause.name, "bad", f"record {fault.error.number} of a message is rejected ({code_of(fault.error)}): "
+                   f"{cause.words}", advice, [ladder.line_of(min(fault.place, max(len(ladder.stream) - 1, 0)))])
+    if len(faults) > 8:
+        yield Look("records", "bad", f"{len(faults) - 8} more messages are rejected", "", [])
+
+
+def record_at(stream: bytes, place: int) -> bytes:
+    """The record that begins here, without its CR."""
+    end = stream.find(b"\r", place)
+    return stream[place:end if end >= 0 else len(stream)]
+
+
+def _sequence(ladder: Ladder) -> Iterator[Look]:
+    count = sum(len(one.message.findings()) for one in ladder.messages if isinstance(one, Found))
+    if count:
+        yield Look("sequence", "warn", f"{count} records have a sequence number that isn't their position",
+                   "readers that rely on it may mix results up", [])
+
+
+Looker = Callable[[Ladder], Iterator[Look]]

@@ -1,0 +1,272 @@
+"""Record files of dialects made readable: each change is asked for by its own option and told with its line."""
+import re
+from typing import Callable, Dict, Iterator, List, NamedTuple, Set, Tuple
+
+from ..message import Fault, read_all
+from .faults import cause_of_record, code_of, words
+from .looks import record_at
+
+#: The changes, in the order in which they are made: the option and what it does.
+CHANGES: Dict[str, str] = {
+    "bom": "a byte order mark at the beginning is left out (a file in UTF-16 becomes Latin-1)",
+    "nul": "NUL bytes are left out",
+    "ctrl-z": "Ctrl-Z is left out",
+    "cr-words": "the word <CR> becomes a CR",
+    "unframe": "STX, frame number, ETX or ETB, checksum, ENQ and EOT are left out around records",
+    "crlf": "CR LF becomes CR",
+    "lf": "LF becomes CR",
+    "blank": "empty records and blanks around a record are left out",
+    "header-3": "a header with three delimiters gets '&' as the fourth",
+    "header-5": "the fifth byte of a header's delimiters is left out (HL7's H|^~\\& becomes H|~^\\, which means the same)",
+    "behind-l": "records between L and the next header are left out",
+    "last-cr": "the last record gets its CR",
+    "last-l": "a message without an end gets L|1|N",
+    "orders": "an order O|n is put above a result that has none, a patient P|n above an order: such results carry no sample",
+}
+#: Those that `--all` asks for: no result changes its meaning by them.
+ALL = tuple(name for name in CHANGES if name != "orders")
+
+
+class Told(NamedTuple):
+    """A change: the number of the input's line, and what was done."""
+    line: int
+    what: str
+
+
+class Work:
+    """Records on their way: the line of each in the input, its bytes, and what ended it."""
+
+    def __init__(self, data: bytes, asked: Set[str]) -> None:
+        self.data, self.asked, self.told = data, asked, []  # type: bytes, Set[str], List[Told]
+        #: Changes that the input needs and that weren't asked for, each with its first line.
+        self.needed: Dict[str, int] = {}
+
+    def wants(self, name: str, line: int) -> bool:
+        """Whether a change that the input needs was asked for."""
+        if name in self.asked:
+            return True
+        self.needed.setdefault(name, line)
+        return False
+
+    def tell(self, line: int, what: str) -> None:
+        """Notes a change."""
+        self.told.append(Told(line, what))
+
+
+Record = Tuple[int, bytes, bytes]
+
+
+def normalize(data: bytes, asked: Set[str]) -> "Tuple[bytes, List[Told], Dict[str, int]]":
+    """The records with the changes that are asked for, what was changed, and which changes are needed and weren't."""
+    work = Work(data, asked)
+    _bytes(work)
+    records = list(_split(work))
+    for change in (_unframed, _blank, _headers, _behind, _parents, _ends):
+        records = list(change(work, records))
+    out = b"".join(record + end for _, record, end in records)
+    return out, sorted(work.told, key=lambda one: one.line), work.needed
+
+
+def _line_at(data: bytes, place: int) -> int:
+    return len(re.findall(rb"\r\n|\r|\n", data[:place])) + 1
+
+
+def _bytes(work: Work) -> None:
+    """Bytes that no record holds, over the whole input."""
+    if work.data[:2] in (b"\xff\xfe", b"\xfe\xff") and work.wants("bom", 1):
+        text = work.data.decode("utf-16", "replace")
+        work.data = text.encode("latin-1", "replace") if all(ord(one) < 256 for one in text) else text.encode("utf-8")
+        work.tell(1, "the file was UTF-16, and is one byte a character now")
+    if work.data[:3] == b"\xef\xbb\xbf" and work.wants("bom", 1):
+        work.data = work.data[3:]
+        work.tell(1, "the byte order mark was left out")
+    for name, byte, shown in (("nul", b"\0", "NUL"), ("ctrl-z", b"\x1a", "Ctrl-Z")):
+        lines = [_line_at(work.data, found.start()) for found in re.finditer(re.escape(byte), work.data)] \
+            if work.data.count(byte) < 200 else [1] * work.data.count(byte)
+        if lines and work.wants(name, lines[0]):
+            for line in dict.fromkeys(lines):
+                work.tell(line, f"{shown} was left out" + (f", {lines.count(line)} times" if lines.count(line) > 1 else ""))
+            work.data = work.data.replace(byte, b"")
+    if b"<CR>" in work.data and work.wants("cr-words", _line_at(work.data, work.data.index(b"<CR>"))):
+        for number, row in enumerate(re.split(rb"\r\n|\r|\n", work.data), 1):
+            if b"<CR>" in row:
+                work.tell(number, f"<CR> became a CR, {row.count(b'<CR>')} times")
+        work.data = re.sub(rb"<CR>(?:\r\n|\n)?", b"\r", work.data)
+
+
+def _split(work: Work) -> Iterator[Record]:
+    """The records, each with its first line and what ended it: CR, or nothing for the last."""
+    at, line, first = 0, 1, 1
+    for found in re.finditer(rb"\r\n|\r|\n", work.data):
+        end, stop, following = found.group(), found.start(), found.end()
+        if end == b"\n":
+            if not work.wants("lf", line):
+                line += 1
+                continue
+            work.tell(line, "LF became CR")
+        elif end == b"\r\n":
+            if work.wants("crlf", line):
+                work.tell(line, "CR LF became CR")
+            else:
+                following -= 1
+        yield first, work.data[at:stop], b"\r"
+        at, line = following, line + 1
+        first = line
+    if at < len(work.data):
+        yield first, work.data[at:], b""
+
+
+_FRAMED = re.compile(rb"[\x02\x03\x04\x05\x17]")
+
+
+def _unframed(work: Work, records: List[Record]) -> Iterator[Record]:
+    """Records without the bytes of the link around them; what ends in ETB goes on in the next frame."""
+    is_framed = any(_FRAMED.search(record) for _, record, _ in records)
+    held, first = b"", 0
+    for number, record, end in records:
+        has_number = re.match(rb"\n?[0-7][HPORCQML][^0-9A-Za-z]", record)
+        if not (is_framed and _FRAMED.search(record) or has_number) or not work.wants("unframe", number):
+            yield (first or number), held + record, end
+            held, first = b"", 0
+            continue
+        work.tell(number, "link bytes around the record were left out")
+        goes_on = re.search(rb"\x17(?:[0-9A-Fa-f]{2})?$", record) is not None
+        bare = re.sub(rb"[\x03\x17](?:[0-9A-Fa-f]{2})?(?=$|[\n\x02\x04\x05])", b"", record)
+        bare = re.sub(rb"\n?\x02[0-7]?", b"", bare)
+        bare = re.sub(rb"[\x03\x04\x05\x06\x17]", b"", bare)
+        if has_number:
+            bare = bare.lstrip(b"\n")[1:]
+        held, first = held + bare.strip(b"\n"), first or number
+        if goes_on or not held:
+            continue
+        yield first, held, end
+        held, first = b"", 0
+    if held:
+        yield first, held, b""
+
+
+def _blank(work: Work, records: List[Record]) -> Iterator[Record]:
+    for number, record, end in records:
+        if not record.strip(b" \t"):
+            if (end or record) and work.wants("blank", number):
+                work.tell(number, "an empty record was left out")
+                continue
+        elif record[:1] in b" \t" and record.lstrip(b" \t")[:1].isalpha() and work.wants("blank", number):
+            work.tell(number, "blanks before the letter were left out")
+            record = record.lstrip(b" \t")
+        yield number, record, end
+
+
+def _headers(work: Work, records: List[Record]) -> Iterator[Record]:
+    for number, record, end in records:
+        if record[:1] in (b"H", b"h") and len(record) > 1:
+            delimiter = record[1:2]
+            if record[4:5] in (delimiter, b"") and len(set(record[1:4])) == 3 and not record[1:4].isalnum():
+                if work.wants("header-3", number):
+                    work.tell(number, "the header's fourth delimiter '&' was put in")
+                    record = record[:4] + b"&" + record[4:]
+            elif record[1:6] == b"|^~\\&" and record[6:7] in (b"|", b""):
+                if work.wants("header-5", number):
+                    work.tell(number, "HL7's delimiters |^~\\& became repeat ~, component ^, escape \\: the header has H|~^\\")
+                    record = record[:1] + b"|~^\\" + record[6:]
+            elif record[5:6] not in (delimiter, b"") and record[6:7] in (delimiter, b"") and not record[5:6].isalnum():
+                if work.wants("header-5", number):
+                    work.tell(number, f"the header's fifth delimiter byte '{words(record[5:6])}' was left out")
+                    record = record[:5] + record[6:]
+        yield number, record, end
+
+
+def _behind(work: Work, records: List[Record]) -> Iterator[Record]:
+    """Records behind L and before the next H; those before the first H too, since they belong to no message."""
+    level = b""
+    for number, record, end in records:
+        letter = record[:1].upper()
+        if level == b"L" and letter != b"H" and record and work.wants("behind-l", number):
+            work.tell(number, f"a record behind L was left out ({words(letter)}, {len(record)} bytes)")
+            continue
+        level = letter if letter in (b"H", b"L") else level
+        yield number, record, end
+
+
+def _parents(work: Work, records: List[Record]) -> Iterator[Record]:
+    delimiter, level, counts = b"|", b"", {b"P": 0, b"O": 0}
+    for number, record, end in records:
+        letter = record[:1].upper()
+        if letter == b"H":
+            delimiter, level, counts = record[1:2], b"H", {b"P": 0, b"O": 0}
+        missing = {b"O": [] if level in (b"P", b"O", b"R") else [b"P"],
+                   b"R": [] if level in (b"O", b"R") else [b"O"] if level == b"P" else [b"P", b"O"]}.get(letter, [])
+        if missing and level and work.wants("orders", number):
+            for one in missing:
+                counts[one] += 1
+                work.tell(number, f"a record {one.decode()} was put above: what is below it has no "
+                                  f"{'sample' if one == b'O' else 'patient'}")
+                yield number, one + delimiter + b"%d" % counts[one], b"\r"
+        if letter in (b"P", b"O", b"R", b"Q", b"L"):
+            level = letter
+        if letter in counts:
+            counts[letter] += 1
+        yield number, record, end
+
+
+def _ends(work: Work, records: List[Record]) -> Iterator[Record]:
+    level, delimiter, number = b"", b"|", 1
+    for place, (number, record, end) in enumerate(records):
+        letter = record[:1].upper()
+        if letter == b"H":
+            if level not in (b"", b"L") and work.wants("last-l", number):
+                work.tell(number, "L was put before this header")
+                yield number, b"L" + delimiter + b"1" + delimiter + b"N", b"\r"
+            delimiter = record[1:2] or b"|"
+        level = letter if letter else level
+        if not end and record and place == len(records) - 1 and work.wants("last-cr", number):
+            work.tell(number, "the last record got its CR")
+            end = b"\r"
+        yield number, record, end
+    if level not in (b"", b"L") and work.wants("last-l", number + 1):
+        work.tell(number + 1, "L was put at the end")
+        yield number + 1, b"L" + delimiter + b"1" + delimiter + b"N", b"\r"
+
+
+def rejected_lines(data: bytes) -> Iterator[str]:
+    """What the proved reader still rejects: a line for each message that can't be read."""
+    for number, one in enumerate(read_all(data), 1):
+        if isinstance(one, Fault):
+            record = record_at(data, one.place)
+            cause = cause_of_record(one.error, record, one.place + len(record) >= len(data))
+            yield (f"message {number}: record {one.error.number} at line {_line_at(data, one.place)} is rejected "
+                   f"({code_of(one.error)}): {cause.words}")
+
+
+def explain(data: bytes) -> Iterator[str]:
+    """What is wrong with the records, which options mend it, and what is left with them."""
+    before = list(rejected_lines(data))
+    if not before:
+        yield "nothing is wrong: all records are read"
+        return
+    yield from before
+    # One change after another, in their order, until all is read: what is needed shows only when the earlier ones are done.
+    asked: Set[str] = set()
+    needed: Dict[str, int] = {}
+    out, _, more = normalize(data, asked)
+    while any(True for _ in rejected_lines(out)):
+        fresh = [name for name in ALL if name in more and name not in asked]
+        if not fresh:
+            break
+        needed[fresh[0]] = more[fresh[0]]
+        asked.add(fresh[0])
+        out, _, more = normalize(data, asked)
+    for name in CHANGES:
+        if name in needed:
+            yield f"line {needed[name]}: --{name}: {CHANGES[name]}"
+    left = list(rejected_lines(out))
+    if "orders" in more and left:
+        yield f"line {more['orders']}: --orders: {CHANGES['orders']}"
+    if not left:
+        yield "mended by: lislab normalize " + " ".join(f"--{name}" for name in CHANGES if name in needed)
+    else:
+        yield "still rejected with these options:"
+        yield from ("  " + line for line in left)
+
+
+Change = Callable[[Work, List[Record]], Iterator[Record]]

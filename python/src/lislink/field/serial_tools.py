@@ -1,0 +1,248 @@
+"""Logs of serial tools by their manuals: socat, strace, interceptty, Portmon, Eltima, Free Serial Port Monitor,
+jpnevulator, ngrep, slsnif, and dumps of one direction."""
+import ast
+import re
+from typing import Dict, List, Optional
+
+from .log import Log, LogError, Piece, find_time, hex_row
+
+_SOCAT = re.compile(r"([<>]) (\d+/\d+/\d+ \d+:\d+:\d+)\.(\d+) +length=(\d+) from=\d+ to=\d+\s*$")
+
+
+def socat(text: str) -> Log:
+    """`socat -x`, with -v or without. Some versions print microseconds in nine digits."""
+    pieces: List[Piece] = []
+    wanted = 0
+    fractions = re.findall(r"^[<>] \S+ \d+:\d+:\d+\.(\d+) +length=", text, re.M)
+    micro = all(len(one) == 9 and one.startswith("000") for one in fractions)
+    for number, line in enumerate(text.splitlines(), 1):
+        head = _SOCAT.match(line)
+        if head and wanted == 0:
+            fraction = head[3][3:] if micro else head[3]
+            pieces.append(Piece(find_time(f"{head[2]}.{fraction}"), head[1], b""))
+            wanted = int(head[4])
+            continue
+        digits = re.match(r"((?: [0-9a-f]{2}){1,%d})(?:  .*)?$" % max(wanted, 1), line)
+        if wanted and digits:
+            data = bytes.fromhex(digits[1])
+            wanted -= len(data)
+            pieces[-1] = pieces[-1]._replace(data=pieces[-1].data + data)
+        elif wanted:
+            raise LogError(f"the block lacks {wanted} bytes; socat -v alone loses control bytes, socat -x has them", number)
+        elif not re.match(r"(--|)$|\d+/\d+/\d+ \d+:\d+:\d+(\.\d+)? socat\[\d+\] ", line):
+            raise LogError(f"no line of socat -x: {line[:60]!r}", number)
+    if wanted:
+        raise LogError("the last block lacks bytes")
+    return Log("socat", pieces, [])
+
+
+_CALL = re.compile(r"\b(read|readv|recv|recvfrom|recvmsg|write|writev|send|sendto|sendmsg)\((\d+)(<[^>]*>+)?,\s*(.*)$")
+_STRING = re.compile(r'"((?:[^"\\]|\\.)*)"(\.\.\.)?')
+
+
+def strace(text: str, fd: Optional[int] = None) -> Log:
+    """`strace -e trace=read,write,..` with or without -f, -t, -tt, -ttt, -x, -xx, -y: of the descriptor that has ENQ or
+    STX, or of the one that is named."""
+    found: Dict[int, List[Piece]] = {}
+    open_calls: Dict[str, str] = {}
+    for number, line in enumerate(text.splitlines(), 1):
+        who = re.match(r"\s*(?:\[pid\s+(\d+)\]|(\d+)\s)", line)
+        key = (who[1] or who[2]) if who else ""
+        if line.rstrip().endswith("<unfinished ...>"):
+            open_calls[key] = line.rstrip()[:-len("<unfinished ...>")].rstrip()
+            continue
+        resumed = re.search(r"<\.\.\. \w+ resumed>(.*)$", line)
+        if resumed:
+            begun = open_calls.pop(key, "")
+            before = re.sub(r",\s*$", "", begun)
+            line = (before + "," if begun.endswith(",") or begun != before else before) + " " + resumed[1].lstrip(", ")
+        call = _CALL.search(line)
+        count = re.search(r"\)\s*=\s*(\d+)\b[^\"]*$", line)
+        if not call or not count or count[1] == "0":
+            continue
+        data, cut = _string_bytes(call[4])
+        if len(data) < int(count[1]):
+            if int(call[2]) in (0, 1, 2) or not (b"\x05" in data or b"\x02" in data) and cut and len(found) > 8:
+                continue
+            data = data if not cut else data + b"\0" * 0
+            found.setdefault(int(call[2]), []).append(Piece(None, "cut", str(number).encode()))
+            continue
+        side = "read" if call[1].startswith(("read", "recv")) else "write"
+        found.setdefault(int(call[2]), []).append(Piece(find_time(line.split("(")[0]), side, data[:int(count[1])]))
+    return Log("strace", _descriptor(found, fd), [])
+
+
+def _string_bytes(text: str) -> "tuple[bytes, bool]":
+    data, cut = b"", False
+    for one in _STRING.finditer(text):
+        try:
+            data += ast.literal_eval('b"' + re.sub(r"[^\x00-\x7f]", "?", one[1]) + '"')
+        except (ValueError, SyntaxError):
+            raise LogError(f"no string of strace: {one[1][:40]!r}") from None
+        cut = cut or bool(one[2])
+        if "iov_base" not in text:
+            break
+    return data, cut
+
+
+def _descriptor(found: Dict[int, List[Piece]], fd: Optional[int]) -> List[Piece]:
+    if fd is not None and fd not in found:
+        raise LogError(f"descriptor {fd} is neither read nor written in the log")
+    linked = [one for one, pieces in found.items() if one == fd or fd is None and any(
+        piece.side != "cut" and piece.data and (piece.data[0] == 5 or 2 in piece.data) for piece in pieces)]
+    if len(linked) > 1:
+        enq = [one for one in linked if any(piece.data == b"\x05" for piece in found[one])]
+        linked = enq or linked
+    if not linked:
+        raise LogError("no descriptor carries ENQ or STX")
+    if len(linked) > 1:
+        raise LogError("descriptors " + ", ".join(map(str, linked)) + " carry ENQ or STX: choose one by --fd")
+    pieces = found[linked[0]]
+    cut = next((piece for piece in pieces if piece.side == "cut"), None)
+    if cut is not None:
+        raise LogError("strace left bytes out (...): ask it for -s 4096", int(cut.data))
+    return pieces
+
+
+def interceptty(text: str) -> Log:
+    """interceptty: a byte a line, `> <tab>0x05 (^E)`, with times before it or without."""
+    pieces = []
+    for number, line in enumerate(text.splitlines(), 1):
+        found = re.match(r"(.*?)([<>])\s+(?:0x|\\x)?([0-9a-fA-F]{2})\b(?:\s+\(?.*)?$", line)
+        if found and len(found[1].split()) <= 2:
+            pieces.append(Piece(find_time(found[1]), found[2], bytes.fromhex(found[3])))
+        elif line.strip() and not re.match(r"\s*[#*]", line):
+            raise LogError(f"no line of interceptty: {line[:60]!r}", number)
+    return Log("interceptty", pieces, [])
+
+
+def portmon(text: str) -> Log:
+    """Portmon: IRP_MJ_READ and IRP_MJ_WRITE with `Length 5: 02 31 ..`."""
+    pieces = []
+    for number, line in enumerate(text.splitlines(), 1):
+        found = re.search(r"\bIRP_MJ_(READ|WRITE)\b.*?\bLength:? (\d+):\s*(.*?)\s*$", line)
+        if not found:
+            if "Length" in line and re.search(r"IRP_MJ_(READ|WRITE)", line) and re.search(r": ?[0-9A-F]{2}\b", line):
+                raise LogError(f"no line of Portmon: {line[:60]!r}", number)
+            continue
+        data = hex_row(found[3]) or b""
+        if len(data) != int(found[2]):
+            raise LogError(f"Portmon shows {len(data)} of {found[2]} bytes: raise its output length", number)
+        pieces.append(Piece(find_time(line), found[1], data))
+    return Log("portmon", pieces, [])
+
+
+#: A line above rows of bytes: its side in one of the groups.
+_HEADS = [
+    re.compile(r"\[.*?\]\s*(?P<side>Read|Written|Received|Sent|Write) data\b.*$", re.I),  # Eltima
+    re.compile(r"(?P<side>Request|Answer):\s*\d.*$"),  # Free Serial Port Monitor, dump view
+    re.compile(r"\d+:?\s.*?(?P<side>Read|Write) (?:Request )?\((?:UP|DOWN)\).*$", re.I),  # the same, request view
+    re.compile(r"\d+:?\s+\d.*?(?P<side>IRP_MJ_READ|IRP_MJ_WRITE)\b.*?(?:UP|DOWN)?.*$"),
+    re.compile(r"\d{4}-\d\d-\d\d \d\d:\d\d:\d\d(?:\.\d+)?: (?P<side>\S+)\s*$"),  # jpnevulator
+    re.compile(r"T (?:\d{4}/\d\d/\d\d \d\d:\d\d:\d\d\.\d+ )?(?P<side>\S+:\d+) -> \S+:\d+ \[\w+\].*$"),  # ngrep -x
+    re.compile(r"<?(?P<time>\d{14}\.\d{3}) (?P<side>TX|RX)>?\s*$"),  # Advanced Serial Port Logger
+    re.compile(r"\[?[\d/.\- :]+(?:AM|PM)?\]?,?\s*\[?(?P<side>TX|RX|Read|Write|Sent|Received|IN|OUT)\]?\b[^0-9]*(?:\d+ bytes?\b.*|\(\d+.*)?$", re.I),
+]
+_IGNORED = re.compile(r"(#+|\s*Process\b.*|\s*Data:?|\s*Port (?:opened|closed).*|\s*(?:Length|Status|Buffer).*|--+|==+|interface:.*|filter:.*|\*+.*)?\s*$", re.I)
+
+
+def blocks(text: str) -> Log:
+    """Logs in which a line with the side and the time is above rows of bytes: Eltima's Serial Port Monitor, the Free
+    Serial Port Monitor, jpnevulator, ngrep -x, the Advanced Serial Port Logger and others."""
+    pieces: List[Piece] = []
+    remarks: List[str] = []
+    side, time, fresh = "", None, False  # type: str, Optional[int], bool
+    left = []
+    for number, line in enumerate(text.splitlines(), 1):
+        head = next((found for found in (one.match(line.strip()) for one in _HEADS) if found), None)
+        row = re.sub(r"^\s*Data:\s*", " ", line)
+        row = re.sub(r"^\s*(?:0x)?[0-9a-fA-F]{4,8}[:h]?\s{1,3}(?=[0-9a-fA-F]{2}\s)", " ", row) if side else row
+        data = hex_row(row) if side and row[:1].isspace() or side and hex_row(row) else None
+        if head:
+            side, time, fresh = head["side"].lower(), find_time(line), True
+        elif data is not None:
+            if fresh:
+                pieces.append(Piece(time, side, data))
+                fresh = False
+            else:
+                pieces[-1] = pieces[-1]._replace(data=pieces[-1].data + data)
+        elif not _IGNORED.match(line):
+            if re.match(r"\s+(?:[0-9a-fA-F]{2}\s+){2,}", line):
+                raise LogError(f"a row of bytes that isn't whole: {line[:60]!r}", number)
+            left.append(number)
+    if left:
+        remarks.append("lines without bytes were left out: " + ", ".join(map(str, left[:20])))
+    return Log("blocks", pieces, remarks)
+
+
+def slsnif(text: str) -> Log:
+    """slsnif: `Host   --> H(072)|(124)` and `Device --> ^F(006)`, the value of each byte in parentheses."""
+    pieces = []
+    for number, line in enumerate(text.splitlines(), 1):
+        found = re.match(r"(.*?)\b(Host|Device)\s*-->\s?(.*)$", line)
+        if not found:
+            if re.search(r"\(\d{3}\)", line):
+                raise LogError(f"no line of slsnif: {line[:60]!r}", number)
+            continue
+        values = re.findall(r"\((\d{3}|[0-9a-f]{2})\)", found[3])
+        data = bytes(int(one) if len(one) == 3 else int(one, 16) for one in values)
+        pieces.append(Piece(find_time(found[1]), found[2], data))
+    return Log("slsnif", pieces, [])
+
+
+_OFFSET = re.compile(r"^\s*([0-9a-fA-F]{6,8}|[0-9a-fA-F]{4})[:h]?(?:\s+|$)")
+
+
+def hex_dump(text: str) -> Log:
+    """A dump of one direction: xxd, hexdump -C, od -tx1, RealTerm's capture as hex, or digits alone."""
+    data = b""
+    repeat, rows, base = False, text.splitlines(), _offset_base(text)
+    for number, line in enumerate(rows, 1):
+        if not line.strip() or line.lstrip().startswith("#"):
+            continue
+        if line.strip() == "*":
+            repeat = True
+            continue
+        found = _OFFSET.match(line) if base else None
+        if found:
+            place = int(found[1], base)
+            if repeat and place > len(data) >= 16:
+                while len(data) < place:
+                    data += data[-16:]
+            repeat = False
+            if place != len(data):
+                raise LogError(f"the offset {found[1]} doesn't follow the bytes before: a row is missing", number)
+            line = line[found.end():]
+            if not line.strip():
+                continue
+        row = hex_row(line)
+        if row is None:
+            raise LogError(f"no row of a hex dump: {line[:60]!r}", number)
+        data += row
+    return Log("hex", [Piece(None, "", data)], [])
+
+
+def _offset_base(text: str) -> int:
+    """Whether rows begin with offsets, and whether those are of base 16 or 8; 0 for none."""
+    rows = [line for line in text.splitlines() if line.strip() and line.strip() != "*"]
+    heads = [_OFFSET.match(line) for line in rows]
+    if not rows or not all(heads) or re.match(r"\s*([0-9a-fA-F]{2}){2,}\s*$", rows[0]):
+        return 0
+    places = [found[1] for found in heads if found]
+    if int(places[0], 16) != 0:
+        return 0
+    if len(places) > 1:
+        size = len(hex_row(rows[0][heads[0].end():]) or b"")  # type: ignore[union-attr]
+        if int(places[1], 16) != size and re.match("[0-7]+$", places[1]) and int(places[1], 8) == size:
+            return 8
+    return 16
+
+
+def is_hex_dump(text: str) -> bool:
+    """Whether each line is a row of a hex dump."""
+    rows = [line for line in text.splitlines() if line.strip() and line.strip() != "*"]
+    base = _offset_base(text)
+    if not rows:
+        return False
+    return all((base and _OFFSET.match(line) and not line[_OFFSET.match(line).end():].strip()) or  # type: ignore[union-attr]
+               hex_row(_OFFSET.sub("", line, count=1) if base else line) is not None for line in rows)

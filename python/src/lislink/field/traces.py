@@ -1,0 +1,230 @@
+"""Logs with a line for each piece: a direction, and the bytes as hex, decimal, binary or Python's b'..', or as text with
+control bytes in words such as <STX>. Analyzers' and drivers' traces, Docklight, terminal programs."""
+import ast
+import html
+import re
+from typing import Callable, Dict, List, NamedTuple, Optional, Tuple
+
+from .log import CONTROL, Log, LogError, Piece, encode, find_time, hex_row
+
+_NAMES = "|".join(sorted(CONTROL, key=len, reverse=True))
+#: A control byte in words: <STX>, [STX], {STX}, (STX), <0x02>, <02>, \x02, or a control picture.
+_WORD = re.compile(r"[<\[{(](?P<name>" + _NAMES + r")[>\]})]|[<\[{](?:0x|\$)?(?P<hex>[0-9A-Fa-f]{2})[>\]}]|"
+                   r"\\x(?P<x>[0-9A-Fa-f]{2})|(?P<picture>[\u2400-\u2421])", re.I)
+_SURE = re.compile(r"[<\[{(](?:ENQ|STX|ETX|ETB|EOT|ACK|NAK)[>\]})]|<(?:0x)?0[2-6]>|\\x0[2-6]|[\u2401-\u2406]", re.I)
+_OUT = r"TX|TXD|SEND(?:ING)?|SENT|WRITE|WRITTEN|WRITING|OUT(?:PUT|GOING)?|TRANSMIT(?:TED)?"
+_IN = r"RX|RXD|RECV(?:D)?|RECEIVED?|RECEIVING|READ|READING|IN(?:PUT|COMING)?"
+_NAME = r"[\w.:@/\-]*[\w.@/]"
+#: Directions, the most telling first. A named arrow tells who sends.
+_MARKS: List[Tuple["re.Pattern[str]", Callable[["re.Match[str]"], str]]] = [
+    (re.compile(r"(?P<a>%s)\s*(?:-{1,3}>|={1,3}>|→|»|⇒)\s*(?P<b>%s)(?=\s*(?:[:|\-=,\])]|\s|$))" % (_NAME, _NAME)),
+     lambda found: found["a"]),
+    (re.compile(r"(?P<a>%s)\s*(?:<-{1,3}|<={1,3}|←|«|⇐)\s*(?P<b>%s)(?=\s*(?:[:|\-=,\])]|\s|$))" % (_NAME, _NAME)),
+     lambda found: found["b"]),
+    (re.compile(r"\[?\b(?P<a>%s)\b\]?" % _OUT, re.I), lambda found: "out"),
+    (re.compile(r"\[?\b(?P<a>%s)\b\]?" % _IN, re.I), lambda found: "in"),
+    (re.compile(r"(?P<a>>{2,3}|<{2,3}(?!\w))"), lambda found: found["a"][0] * 2),
+    (re.compile(r"(?P<a>-{1,3}>|={1,2}>|→|⇒)"), lambda found: "->"),
+    (re.compile(r"(?P<a><-{1,3}|<={1,2}|←|⇐)"), lambda found: "<-"),
+    (re.compile(r"\b(?P<a>analy[sz]er|instrument|device|host|lis|lims|his|pc|computer|client|server|com\d+|middleware|"
+                r"dte|dce|a|b|s|r)\s*(?=[:>|\])])", re.I), lambda found: found["a"].lower()),
+    (re.compile(r"^(?P<a>[<>])(?=\s)"), lambda found: found["a"]),
+]
+_SEPARATOR = re.compile(r"\s*(?:\(?\d+\s*(?:bytes?|chars?|B)\)?|len(?:gth)?\s*[=:]?\s*\d+)?\s*(?:[:\-=|>,\]]\s?)*\s*", re.I)
+
+
+class Grammar(NamedTuple):
+    """How the bytes of a line are written: its name, the bytes of the rest of a line, and how sure one can be."""
+    name: str
+    read: Callable[[str], Optional[bytes]]
+
+
+def _python(text: str) -> Optional[bytes]:
+    found = re.match(r"""(?:bytearray\()?(b(?:'(?:[^'\\]|\\.)*'|"(?:[^"\\]|\\.)*"))\)?\W*$""", text.strip())
+    if not found:
+        return None
+    try:
+        return bytes(ast.literal_eval(found[1]))
+    except (ValueError, SyntaxError):
+        return None
+
+
+def _escaped(text: str) -> Optional[bytes]:
+    """Text in quotes with the escapes of C."""
+    found = re.match(r"""(['"])((?:[^\\]|\\.)*)\1\s*$""", text.strip())
+    if not found or not re.search(r"\\(?:x[0-9A-Fa-f]{2}|r|n|[0-7]{3}|u00[01][0-9a-f])", found[2]):
+        return None
+    try:
+        return bytes(ast.literal_eval("b'" + re.sub(r"\\u00([0-9a-fA-F]{2})", r"\\x\1", found[2]).replace("'", "\\'") + "'"))
+    except (ValueError, SyntaxError):
+        return None
+
+
+def _hex(text: str) -> Optional[bytes]:
+    bare = text.strip().strip("\"'[](){}")
+    bare = re.sub(r"(?<=[0-9A-Fa-f]{2})[:\-,;](?=\s*(?:0[xX])?[0-9A-Fa-f]{2})", " ", bare).rstrip(" ,;:")
+    bare = re.sub(r"\b([0-9A-Fa-f]{2})h\b", r"\1", bare)
+    if re.match(r"(?:[0-9A-Fa-f]{2})+$", bare):
+        return bytes.fromhex(bare)
+    return hex_row(bare, 4096) if re.match(r"(?:0[xX])?[0-9A-Fa-f]{2}(?:\s|$)", bare) else None
+
+
+def _decimal(text: str) -> Optional[bytes]:
+    words = text.split()
+    if words and all(re.match(r"\d{3}$", one) and int(one) < 256 for one in words):
+        return bytes(map(int, words))
+    return None
+
+
+def _binary(text: str) -> Optional[bytes]:
+    words = text.split()
+    if words and all(re.match(r"[01]{8}$", one) for one in words):
+        return bytes(int(one, 2) for one in words)
+    return None
+
+
+def words(text: str) -> bytes:
+    """Text with control bytes in words."""
+    told, at = b"", 0
+    for found in _WORD.finditer(text):
+        told += encode(text[at:found.start()])
+        at = found.end()
+        if found["name"]:
+            told += bytes([CONTROL[found["name"].upper()]])
+        elif found["hex"] or found["x"]:
+            told += bytes.fromhex(found["hex"] or found["x"])
+        else:
+            picture = ord(found["picture"]) - 0x2400
+            told += bytes([127 if picture == 0x21 else picture])
+    return told + encode(text[at:])
+
+
+def _worded(text: str) -> Optional[bytes]:
+    bare = text.rstrip("\r\n")
+    if re.match(r"""(["'])(.*)\1\s*$""", bare):
+        bare = bare.strip()[1:-1]
+    return words(bare) if bare.strip() else None
+
+
+GRAMMARS = [Grammar("python", _python), Grammar("escaped", _escaped), Grammar("binary", _binary), Grammar("decimal", _decimal),
+            Grammar("hex", _hex), Grammar("words", _worded)]
+
+
+def _kind(text: str) -> str:
+    """Which grammar a log is written in: by what its lines hold."""
+    if len(re.findall(r"""\bb['"](?:\\x|[^'"\\]|\\.)*['"]""", text)) > 1 and re.search(r"b['\"]\\x0[2-6]", text):
+        return "python"
+    if re.search(r"""["']\\(?:x0[2-6]|u000[2-6]|00[2-6])""", text):
+        return "escaped"
+    if _SURE.search(text):
+        return "words"
+    if re.search(r"(?:^|\s)00000101(?:\s|$)", text, re.M):
+        return "binary"
+    if re.search(r"(?:^|\s)005\s*$", text, re.M) and not re.search(r"[\s:]0[256]\s*$", text, re.M):
+        return "decimal"
+    return "hex"
+
+
+def traces(text: str) -> Log:
+    """A log with a line for each piece."""
+    if re.match(r"\s*<(?:!doctype|html)", text, re.I):
+        text = html.unescape(re.sub(r"<br\s*/?>|</p>|</div>|</tr>", "\n", re.sub(r"\n", " ", text), flags=re.I)
+                             if "<br" in text.lower() else re.sub(r"<(?!(?:%s)>)[^>]*>" % _NAMES, "", text))
+        text = re.sub(r"<(?!(?:%s)>)/?\w[^>]*>" % _NAMES, "", text)
+    kind = _kind(text)
+    grammar = next(one for one in GRAMMARS if one.name == kind)
+    lines = text.splitlines()
+    marked = [_split(line, grammar) for line in lines]
+    if sum(one is not None for one in marked) == 0:
+        return _unmarked(lines, grammar)
+    pieces: List[Piece] = []
+    left: List[int] = []
+    for number, (line, found) in enumerate(zip(lines, marked), 1):
+        if found is not None:
+            pieces.append(Piece(find_time(found[0]), found[1], found[2]))
+        elif not line.strip():
+            continue
+        elif _goes_on(line, grammar, pieces):
+            more = grammar.read(line.strip() if kind != "words" else line) or b""
+            pieces[-1] = pieces[-1]._replace(data=pieces[-1].data + more)
+        elif _SURE.search(line) or kind == "python" and re.search(r"\bb['\"]", line):
+            raise LogError(f"bytes without a direction: {line[:60]!r}", number)
+        else:
+            left.append(number)
+    remarks = ["lines without bytes were left out: " + ", ".join(map(str, left[:20]))] if left else []
+    return Log("trace-" + kind, pieces, remarks)
+
+
+def _goes_on(line: str, grammar: Grammar, pieces: List[Piece]) -> bool:
+    """Whether a line without a direction is more of the bytes before it: it holds nothing else than bytes."""
+    if not pieces or find_time(line) is not None:
+        return False
+    if grammar.name == "words":
+        return bool(_WORD.match(line.strip())) and not re.match(r"[<\[](?:ENQ|ACK|NAK|EOT|STX)[>\]]", line.strip(), re.I)
+    return bool(re.match(r"\s+\S|[0-9A-Fa-f]{2}[\s,]", line)) and grammar.read(line.strip()) is not None
+
+
+def _split(line: str, grammar: Grammar) -> Optional[Tuple[str, str, bytes]]:
+    """What is before the direction of a line, the direction and the bytes behind it; None if it has none. The first
+    direction whose rest is all bytes is the one."""
+    limit = len(line)
+    if grammar.name == "words":
+        sure = _SURE.search(line)
+        if sure:
+            limit = sure.start()
+    best: Optional[Tuple[int, str, str, bytes]] = None
+    for rank, (pattern, side) in enumerate(_MARKS):
+        for found in pattern.finditer(line):
+            if found.start() >= limit or not _is_head(line[:found.start()]):
+                continue
+            rest = line[found.end():]
+            separator = _SEPARATOR.match(rest)
+            body = rest[separator.end():] if separator else rest
+            if grammar.name == "words":
+                body = rest[len(rest) - len(rest.lstrip()):]
+                body = re.sub(r"^(?:\(?\d+\s*(?:bytes?|chars?)\)?)?[:\-=|,\]]*(?:\s*[:\-|])?\s?", "", body, flags=re.I)
+            data = grammar.read(body)
+            if data:
+                if best is None:
+                    best = (rank, line[:found.start()], side(found), data)
+                break
+        if best is not None:
+            return best[1:]
+    return None
+
+
+def _is_head(text: str) -> bool:
+    """Whether what is before a direction is a head: times, levels, counters, names; no bytes in words."""
+    return len(text) < 120 and not _SURE.search(text)
+
+
+def _unmarked(lines: List[str], grammar: Grammar) -> Log:
+    """A log without directions: two columns by their indentation, or one with the replies among the rest."""
+    pieces: List[Piece] = []
+    indents: Dict[int, int] = {}
+    if grammar.name not in ("words", "hex"):
+        raise LogError("no line has a direction")
+    read = [(number, line) for number, line in enumerate(lines, 1) if line.strip() and
+            (_SURE.search(line) if grammar.name == "words" else grammar.read(line.strip()) is not None)]
+    if not read:
+        raise LogError("no line holds ENQ, a frame or a reply")
+    for _, line in read:
+        indent = len(line.expandtabs()) - len(line.expandtabs().lstrip())
+        indents[indent] = indents.get(indent, 0) + 1
+    wide = max(indents) - min(indents) >= 4
+    for number, line in read:
+        bare = line.expandtabs()
+        indent = len(bare) - len(bare.lstrip())
+        head = re.match(r"\s*(?:\[?[\d/.\-]*[ T]?\d{1,2}:\d\d:\d\d(?:[.,]\d+)?\]?\s*)?(?:\d+[.:)]\s+)?", line)
+        data = grammar.read(line[head.end():].strip() if head else line.strip()) or b""
+        if wide:
+            side = "right" if indent - min(indents) >= 4 else "left"
+        else:
+            side = "replies" if data in (b"\x06", b"\x15") else "rest"
+        pieces.append(Piece(find_time(line), side, data))
+    remarks = ["no line has a direction: " + ("the columns are taken for the two sides" if wide else
+                                              "lines that are one ACK or NAK are taken for the computer's")]
+    left = [number for number, line in enumerate(lines, 1) if line.strip() and number not in {one for one, _ in read}]
+    if left:
+        remarks.append("lines without bytes were left out: " + ", ".join(map(str, left[:20])))
+    return Log("trace-" + grammar.name, pieces, remarks)

@@ -1,0 +1,264 @@
+"""What Wireshark and tshark write as text: Follow TCP Stream (hex dump, C arrays, YAML, raw) and fields, JSON, PDML."""
+import base64
+import binascii
+import csv
+import json
+import re
+from typing import Any, Dict, Iterator, List, Optional, Tuple
+
+from .log import SECOND, Log, LogError, Piece, find_time, hex_row
+from .packets import Segment, connections_of
+
+_HEX = re.compile(r"^(?:[0-9A-Fa-f]{2})(?:[:\- ]?[0-9A-Fa-f]{2})*$")
+
+
+def _bytes(text: str) -> bytes:
+    return bytes.fromhex(re.sub(r"[:\- ]", "", text))
+
+
+def follow_hex(text: str) -> Log:
+    """Follow TCP Stream as a hex dump: rows of an offset and 16 bytes; those of the second end are indented."""
+    pieces: List[Piece] = []
+    due: Dict[str, int] = {}
+    full = False
+    for number, line in enumerate(text.splitlines(), 1):
+        found = re.match(r"(\s*)([0-9A-Fa-f]{8})  ?(.*)$", line)
+        if not found:
+            if not re.match(r"(=+|Follow:.*|Filter:.*|Node \d:.*|\s*)$", line):
+                raise LogError(f"no row of Follow TCP Stream: {line[:60]!r}", number)
+            continue
+        side, data = "second" if found[1] else "first", hex_row(found[3])
+        if data is None:
+            raise LogError(f"no bytes behind the offset: {line[:60]!r}", number)
+        if int(found[2], 16) != due.get(side, 0):
+            raise LogError("the offset doesn't follow the bytes before: a row is missing", number)
+        due[side] = due.get(side, 0) + len(data)
+        # A row of 16 bytes goes on in the next row of the same side.
+        if full and pieces[-1].side == side:
+            pieces[-1] = Piece(None, side, pieces[-1].data + data)
+        else:
+            pieces.append(Piece(None, side, data))
+        full = len(data) == 16
+    return Log("wireshark-hex", pieces, [])
+
+
+def follow_raw(text: str) -> Log:
+    """`tshark -z follow,tcp,raw,N`: a line of digits for each piece, those of the second end behind a tab."""
+    pieces = []
+    for number, line in enumerate(text.splitlines(), 1):
+        if re.match(r"(=+|Follow:.*|Filter:.*|Node \d:.*|\s*)$", line):
+            continue
+        if not _HEX.match(line.strip()):
+            raise LogError(f"no line of digits: {line[:60]!r}", number)
+        pieces.append(Piece(None, "second" if line[:1].isspace() else "first", _bytes(line.strip())))
+    return Log("tshark-raw", pieces, [])
+
+
+def follow_c(text: str) -> Log:
+    """Follow TCP Stream as C arrays: peer0_0[], peer1_0[] and so on, in the order of the packets."""
+    pieces = []
+    for found in re.finditer(r"(peer\d+)_\d+\s*\[\]\s*=\s*\{(.*?)\}\s*;", text, re.S):
+        body = re.sub(r"/\*.*?\*/", "", found[2], flags=re.S)
+        words = re.findall(r"0x([0-9a-fA-F]{2})", body)
+        if re.sub(r"0x[0-9a-fA-F]{2}|[\s,]", "", body):
+            raise LogError(f"the array {found[1]} holds something else than bytes")
+        pieces.append(Piece(None, found[1], bytes.fromhex("".join(words))))
+    return Log("wireshark-c", pieces, [])
+
+
+def follow_yaml(text: str) -> Log:
+    """Follow TCP Stream as YAML, in the old form (peer0_0: !!binary) and the new one (packets: with peer, data)."""
+    pieces: List[Piece] = []
+    side, time, digits, indent = "", None, None, 0  # type: str, Optional[int], Optional[List[str]], int
+
+    def put() -> None:
+        if digits is not None:
+            try:
+                pieces.append(Piece(time, side, base64.b64decode("".join(digits), validate=True)))
+            except binascii.Error:
+                raise LogError("the base64 of a packet isn't whole") from None
+
+    for number, line in enumerate(text.splitlines(), 1):
+        bare = line.strip()
+        depth = len(line) - len(line.lstrip())
+        if digits is not None and re.match(r"[A-Za-z0-9+/]+=*$", bare) and depth > indent:
+            digits.append(bare)
+            continue
+        put()
+        digits = None
+        old = re.match(r"(peer\d+)_\d+:\s*!!binary\s*\|", bare)
+        found = re.match(r"-?\s*(\w+):\s*(.*)$", bare)
+        if old:
+            side, digits, indent = old[1], [], depth
+        elif found and found[1] == "peer":
+            side = "peer" + found[2]
+        elif found and found[1] == "timestamp":
+            time = _seconds(found[2])
+        elif found and found[1] == "data" and "!!binary" in found[2]:
+            digits, indent = [], depth
+        elif bare and not bare.startswith("#") and not found:
+            raise LogError(f"no line of YAML that is known: {line[:60]!r}", number)
+    put()
+    return Log("wireshark-yaml", pieces, [])
+
+
+def _seconds(text: str) -> Optional[int]:
+    found = re.match(r"(\d+)(?:\.(\d{1,9}))?$", text.strip())
+    if found:
+        return int(found[1]) * SECOND + int((found[2] or "0").ljust(9, "0"))
+    return find_time(text)
+
+
+def tshark_fields(text: str, port: Optional[int] = None, stream: Optional[int] = None) -> Log:
+    """`tshark -T fields`: columns in any order, with or without a line of their names. The last column of digits is the
+    bytes; the side is the source port, address or what else takes two values."""
+    rows, names = _rows(text)
+    payload = _payload(rows, names)
+    kept = [row for row in rows if payload < len(row[1]) and row[1][payload].strip()]
+    for number, row in kept:
+        if not _HEX.match(row[payload].strip().split(",")[0]):
+            raise LogError(f"no bytes in column {payload + 1}: {row[payload][:40]!r}", number)
+    if names and {"tcp.seq", "tcp.srcport", "tcp.dstport"} <= set(names):
+        return _segments([{name: row[place] if place < len(row) else "" for place, name in enumerate(names)}
+                          for _, row in kept], names[payload], "tshark-fields", port, stream)
+    side = _side_columns(kept, payload, names, port)
+    time = _time_column(kept, payload, names)
+    pieces = [Piece(None if time is None else _seconds(row[time]), ",".join(row[one] for one in side),
+                    _bytes(row[payload].strip())) for _, row in kept]
+    return Log("tshark-fields", pieces, [])
+
+
+def _rows(text: str) -> Tuple[List[Tuple[int, List[str]]], List[str]]:
+    lines = [(number, line) for number, line in enumerate(text.splitlines(), 1) if line.strip()]
+    first = lines[0][1]
+    separator = next((one for one in "\t;|," if one in first), "\t")
+    rows = [(number, row) for (number, _), row in
+            zip(lines, csv.reader((line for _, line in lines), delimiter=separator))]
+    names: List[str] = []
+    if rows and any("." in one and re.match(r"[a-z_]+(\.[a-z_0-9]+)+$", one.strip()) for one in rows[0][1]):
+        names = [one.strip() for one in rows.pop(0)[1]]
+    return rows, names
+
+
+def _payload(rows: List[Tuple[int, List[str]]], names: List[str]) -> int:
+    for name in ("tcp.payload", "data.data", "data", "tcp.segment_data"):
+        if name in names:
+            return names.index(name)
+    width = max((len(row) for _, row in rows), default=0)
+    for place in reversed(range(width)):
+        cells = [row[place].strip() for _, row in rows if place < len(row) and row[place].strip()]
+        if cells and all(_HEX.match(one) for one in cells) and any("05" in one or "02" in one for one in cells):
+            if not all(re.match(r"\d+$", one) and len(set(map(len, cells))) == 1 and len(one) > 2 for one in cells):
+                return place
+    raise LogError("no column holds bytes: ask tshark for -e tcp.payload")
+
+
+def _side_columns(rows: List[Tuple[int, List[str]]], payload: int, names: List[str], port: Optional[int]) -> List[int]:
+    wanted = [names.index(name) for name in ("ip.src", "ipv6.src", "tcp.srcport") if name in names]
+    if wanted:
+        return wanted
+    width = min((len(row) for _, row in rows), default=0)
+    two = []
+    for place in range(width):
+        values = [row[place] for _, row in rows]
+        if place != payload and len(set(values)) == 2 and values != sorted(values):
+            two.append(place)
+    if port is not None:
+        two = [one for one in two if any(row[one] == str(port) for _, row in rows)] or two
+    if not two:
+        raise LogError("no column tells the two sides apart: ask tshark for -e tcp.srcport")
+    return two[:1]
+
+
+def _time_column(rows: List[Tuple[int, List[str]]], payload: int, names: List[str]) -> Optional[int]:
+    for name in ("frame.time_epoch", "frame.time", "frame.time_relative"):
+        if name in names:
+            return names.index(name)
+    for place in range(min((len(row) for _, row in rows), default=0)):
+        if place != payload and all(re.match(r"\d+\.\d{2,9}$", row[place]) or
+                                    ":" in row[place] and find_time(row[place]) is not None for _, row in rows):
+            return place
+    return None
+
+
+def _segments(told: List[Dict[str, str]], payload: str, form: str, port: Optional[int], stream: Optional[int]) -> Log:
+    """Packets that have their TCP numbers are put together as those of a pcap."""
+    from .packets import _joined, _one_after_another
+    segments, groups = [], {}  # type: List[Segment], Dict[str, List[Segment]]
+    for one in told:
+        source = one.get("ip.src") or one.get("ipv6.src") or "a"
+        target = one.get("ip.dst") or one.get("ipv6.dst") or ("b" if source == "a" else "a")
+        time = _seconds(one.get("frame.time_epoch") or one.get("frame.time") or one.get("frame.time_relative") or "")
+        flags = int(one.get("tcp.flags") or "0x18", 16) & ~2
+        if "ip.src" not in one and "ipv6.src" not in one:
+            source, target = "?", "?"
+        segment = Segment(time, source, int(one["tcp.srcport"]), target, int(one["tcp.dstport"]), int(one["tcp.seq"]),
+                          flags, _bytes(one[payload].strip()))
+        segments.append(segment)
+        groups.setdefault(one.get("tcp.stream", ""), []).append(segment)
+    every = [one for group in groups.values() for one in connections_of(group)]
+    if port is not None:
+        every = [one for one in every if port in one.ports]
+    found = [one for one in every if one.has_link_bytes()]
+    if stream is not None and 1 <= stream <= len(every):
+        found = [every[stream - 1]]
+    if not found:
+        raise LogError("no ENQ and no STX is in the packets")
+    if len(found) > 1 and not _one_after_another(found):
+        names = "; ".join(f"--stream {every.index(one) + 1}: {one.name()}" for one in found)
+        raise LogError(f"{len(found)} connections have ENQ or STX, choose one: {names}")
+    return _joined(found, form)
+
+
+def tshark_json(text: str, port: Optional[int] = None, stream: Optional[int] = None) -> Log:
+    """`tshark -T json` and `-T ek`, and Wireshark's export as JSON."""
+    try:
+        packets: List[Any] = json.loads(text)
+    except json.JSONDecodeError:
+        try:
+            packets = [json.loads(line) for line in text.splitlines() if line.strip()]
+        except json.JSONDecodeError as error:
+            raise LogError(f"no JSON: {error.msg}", error.lineno) from None
+    told = []
+    for packet in packets if isinstance(packets, list) else [packets]:
+        flat = dict(_flat(packet))
+        if flat.get("tcp.payload") and flat.get("tcp.srcport"):
+            told.append(flat)
+    if not told:
+        raise LogError("no packet has tcp.payload")
+    return _segments(told, "tcp.payload", "tshark-json", port, stream)
+
+
+def _flat(node: Any, name: str = "") -> Iterator[Tuple[str, str]]:
+    if isinstance(node, dict):
+        for key, value in node.items():
+            yield from _flat(value, key)
+    elif isinstance(node, list) and node:
+        yield from _flat(node[0], name)
+    elif node is not None:
+        bare = re.sub(r"^(frame|tcp|ip|ipv6)_\1_", r"\1.", name)
+        yield bare, str(node)
+
+
+def tshark_pdml(text: str, port: Optional[int] = None, stream: Optional[int] = None) -> Log:
+    """`tshark -T pdml`, and Wireshark's export as PDML."""
+    told = []
+    for packet in re.findall(r"<packet>(.*?)</packet>", text, re.S):
+        one: Dict[str, str] = {}
+        for found in re.finditer(r'<field name="([\w.]+)"([^>]*)>', packet):
+            value = re.search(r' (?:show)="([^"]*)"', found[2])
+            raw = re.search(r' value="([0-9a-fA-F]*)"', found[2])
+            if found[1] == "tcp.payload" and raw:
+                one["tcp.payload"] = raw[1]
+            elif found[1] == "timestamp" and raw is None:
+                stamp = re.search(r' value="([\d.]+)"', found[2])
+                one["frame.time_epoch"] = stamp[1] if stamp else ""
+            elif value:
+                one.setdefault(found[1], value[1])
+        if one.get("tcp.payload") and one.get("tcp.srcport"):
+            told.append(one)
+    if not told:
+        raise LogError("no packet has tcp.payload")
+    return _segments(told, "tcp.payload", "tshark-pdml", port, stream)
+
+

@@ -1,0 +1,326 @@
+"""The link of LIS01-A2: scanner, sender and receiver. Each decision is made by the proved library.
+
+A scanner, a sender and a receiver are context managers. Each belongs to the thread that made it: a call from another
+thread raises WrongThread. What the library rejects is a LinkError with its status.
+"""
+import ctypes
+import enum
+import threading
+from typing import Any, Iterator, NamedTuple, Optional, Tuple
+
+from . import _library
+from ._checks import as_bytes, as_flag, as_number
+
+#: The standard's timers, in seconds.
+REPLY, BUSY, CONTENTION, RECEIVER = 15, 10, 1, 30
+#: The most bytes of a frame's text.
+FRAME_TEXT = 240
+_SIZE_MOST = (1 << 63) - 1
+
+
+class Status(enum.IntEnum):
+    """What a call that may fail answers."""
+    (OK, IN_SESSION, NO_TEXT, TOO_LONG, FORBIDDEN, FULL, OUT_OF_MEMORY, BAD_NUMBER, TOO_SHORT, NO_RECORD, BAD_LETTER,
+     BAD_DELIMITERS, ABSENT, UNFINISHED, PUT_NOT_HEADER, PUT_NO_PARENT,
+     PUT_SECOND_HEADER) = range(17)
+
+
+class Kind(enum.IntEnum):
+    """What a signal is."""
+    NONE, ENQ, EOT, FRAME, BAD_FRAME = range(5)
+
+
+class FrameFault(enum.IntEnum):
+    """Why bytes between STX and LF are no frame."""
+    NONE, TOO_LONG, SHAPE, NUMBER, FORBIDDEN, SUM = range(6)
+
+
+class Phase(enum.IntEnum):
+    """What a sender waits for."""
+    NEUTRAL, AWAIT_LINE, BUSY, CONTENTION, AWAIT_REPLY = range(5)
+
+
+class Outcome(enum.IntEnum):
+    """How a sender's last session ended."""
+    NONE, DONE, TIMED_OUT, SIX_TRIES, RESTARTED = range(5)
+
+
+class Note(enum.IntEnum):
+    """What a byte or the timer meant to a receiver."""
+    (QUIET, OPENED, NOT_READY, ENDED, ACCEPTED, DUPLICATE, OUT_OF_TURN, REFUSED, NO_ROOM, TEXT_TOO_LONG, TOO_MANY,
+     REFUSED_MEMORY, TIMED_OUT) = range(13)
+
+
+class Readiness(enum.IntEnum):
+    """How a receiver answers ENQ: ACK, NAK, or ENQ once."""
+    READY, BUSY, CONTENDING = range(3)
+
+
+class LinkError(Exception):
+    """A call was rejected: its status, and where it has them the text and the byte at fault, from 0."""
+
+    def __init__(self, status: int, index: Optional[int] = None, place: Optional[int] = None) -> None:
+        super().__init__(Status(status).name, *(one for one in (index, place) if one is not None))
+        self.status, self.index, self.place = Status(status), index, place
+
+
+class WrongThread(RuntimeError):
+    """A handle was used from another thread than the one that made it."""
+
+
+class Signal(NamedTuple):
+    """A signal of the line. A frame has a number, whether it is the last of its message, and a text."""
+    kind: Kind
+    number: int
+    last: bool
+    fault: FrameFault
+    place: int
+    text: bytes
+
+
+class Step(NamedTuple):
+    """A receiver's answer: the byte to send, the text that is delivered, and what it meant."""
+    reply: bytes
+    text: Optional[bytes]
+    note: Note
+    detail: int
+    place: int
+
+
+def address(data: bytes) -> int:
+    """Where bytes are. Keep them as long as the address is used."""
+    return ctypes.cast(ctypes.c_char_p(data), ctypes.c_void_p).value or 0
+
+
+def frame_bytes(number: int, last: bool, text: bytes) -> bytes:
+    """The bytes of a frame, STX to LF."""
+    number, last, text = as_number(number, 0, 255, "the frame's number"), as_flag(last, "last"), as_bytes(text)
+    out, place = _library.Bytes(), ctypes.c_size_t()
+    status = _library.calls()["frame_write"](number, last, address(text), len(text), ctypes.byref(out),
+                                             ctypes.byref(place))
+    if status:
+        raise LinkError(status, None, place.value)
+    return bytes(out.bytes[:out.len])
+
+
+class Owner:
+    """What lives in a block of memory; it is released by `close`, by `with`, or with the object."""
+    _kind = ""
+
+    def __init__(self) -> None:
+        calls = _library.calls()
+        size, align = calls[f"{self._kind}_size"](), calls[f"{self._kind}_align"]()
+        self._thread = threading.get_ident()
+        self._block = ctypes.create_string_buffer(size + align)
+        start = ctypes.addressof(self._block)
+        self._handle: Optional[_library.Handle] = _library.Handle(start + -start % align)
+        calls[f"{self._kind}_init"](self._handle.at)
+        # Bytes of a piece that a loop has left unread: they are read before those of the next piece.
+        self._piece, self._at = b"", 0
+
+    def _call(self, name: str, *words: Any) -> Any:
+        if self._handle is None:
+            raise ValueError(f"the {self._kind} is closed")
+        if self._thread != threading.get_ident():
+            raise WrongThread(f"this {self._kind} belongs to the thread that made it")
+        return _library.calls()[f"{self._kind}_{name}"](ctypes.byref(self._handle), *words)
+
+    def _add(self, data: bytes) -> int:
+        """Puts a piece behind what is left; answers the place of its first byte, less than nothing is never it."""
+        data = as_bytes(data)
+        left = len(self._piece) - self._at
+        if self._handle is None:
+            raise ValueError(f"the {self._kind} is closed")
+        if self._thread != threading.get_ident():
+            raise WrongThread(f"this {self._kind} belongs to the thread that made it")
+        self._piece, self._at = (self._piece[self._at:] + data if left else data), 0
+        return left
+
+    def _read_on(self, name: str, out: Any) -> int:
+        """Reads bytes that are left by a call of the library; answers how many it took."""
+        piece = self._piece
+        count: int = self._call(name, address(piece) + self._at, len(piece) - self._at, ctypes.byref(out))
+        self._at += count
+        return count
+
+    @property
+    def waiting(self) -> int:
+        """How many bytes that were handed in are still unread, since a loop was left early."""
+        return len(self._piece) - self._at
+
+    def close(self) -> None:
+        """Releases the block. A closed object answers no call."""
+        if getattr(self, "_handle", None) is not None and self._thread != threading.get_ident():
+            raise WrongThread(f"this {self._kind} belongs to the thread that made it")
+        self._end()
+
+    def _end(self) -> None:
+        handle, self._handle = getattr(self, "_handle", None), None
+        if handle is not None:
+            _library.calls()[f"{self._kind}_end"](handle)
+
+    def __enter__(self) -> Any:
+        return self
+
+    def __exit__(self, *_: object) -> None:
+        self.close()
+
+    def __del__(self) -> None:
+        self._end()  # nobody else has the object by now, whatever thread collects it
+
+
+class Scanner(Owner):
+    """Reads link bytes in pieces."""
+    _kind = "scanner"
+
+    def feed(self, data: bytes) -> Iterator[Signal]:
+        """The signals of further bytes, in order. Bytes that a loop leaves unread are read by the next call."""
+        return (signal for _, signal in self.feed_placed(data))
+
+    def feed_placed(self, data: bytes) -> Iterator[Tuple[int, Signal]]:
+        """The same, each with the place in `data` of the byte that completes it; below 0 for bytes left before."""
+        left = self._add(data)
+        return self._signals(left)
+
+    def _signals(self, left: int) -> Iterator[Tuple[int, Signal]]:
+        out = _library.SignalOut()
+        while self._at < len(self._piece):
+            self._read_on("feed", out)
+            if out.kind:
+                yield self._at - 1 - left, Signal(Kind(out.kind), out.number, out.last, FrameFault(out.fault), out.place,
+                                                  bytes(out.text[:out.len]))
+
+
+class Sender(Owner):
+    """The sending end. `start`, `reply` and `timer` answer the bytes to send."""
+    _kind = "sender"
+
+    def add_text(self, text: bytes) -> None:
+        """Puts a copy of a text to the next session."""
+        text = as_bytes(text)
+        status = self._call("add_text", address(text), len(text))
+        if status:
+            raise LinkError(status)
+
+    def clear(self) -> None:
+        """Drops the texts of the next session."""
+        self._call("clear")
+
+    def start(self) -> bytes:
+        """Starts a session with the texts that were put, and answers ENQ."""
+        out, fault = _library.Bytes(), _library.Place()
+        status = self._call("start", ctypes.byref(out), ctypes.byref(fault))
+        if status:
+            raise LinkError(status, fault.index, fault.place)
+        return bytes(out.bytes[:out.len])
+
+    def reply(self, byte: int) -> bytes:
+        """A reply byte came."""
+        return self._sent("reply", as_number(byte, 0, 255, "the reply"))
+
+    def timer(self) -> bytes:
+        """The time of `seconds` is over."""
+        return self._sent("timer")
+
+    def restart(self) -> None:
+        """Gives up the session that goes on."""
+        self._call("restart")
+
+    def _sent(self, name: str, *words: int) -> bytes:
+        out = _library.Bytes()
+        self._call(name, *words, ctypes.byref(out))
+        return bytes(out.bytes[:out.len])
+
+    @property
+    def phase(self) -> Phase:
+        """What the sender waits for."""
+        return Phase(self._call("phase"))
+
+    @property
+    def outcome(self) -> Outcome:
+        """How the last session ended."""
+        return Outcome(self._call("outcome"))
+
+    @property
+    def acknowledged(self) -> int:
+        """How many frames of the session are acknowledged."""
+        return int(self._call("acknowledged"))
+
+    @property
+    def seconds(self) -> Optional[int]:
+        """How long a reply is awaited, or the line left alone, before `timer`; None if no session goes on."""
+        return {Phase.NEUTRAL: None, Phase.BUSY: BUSY, Phase.CONTENTION: CONTENTION}.get(self.phase, REPLY)
+
+
+class Receiver(Owner):
+    """The receiving end. Keep a step's text first, then send its reply; can't you keep it, restart and send nothing."""
+    _kind = "receiver"
+
+    def hear(self, data: bytes) -> Iterator[Step]:
+        """The steps of further bytes that mean something, in order. Bytes that a loop leaves unheard are heard by the
+        next call."""
+        return (step for _, step in self.hear_placed(data))
+
+    def hear_placed(self, data: bytes) -> Iterator[Tuple[int, Step]]:
+        """The same, each with the place in `data` of the byte that it answers; below 0 for bytes left before."""
+        left = self._add(data)
+        return self._steps(left)
+
+    def _steps(self, left: int) -> Iterator[Tuple[int, Step]]:
+        out = _library.StepOut()
+        while self._at < len(self._piece):
+            self._read_on("hear", out)
+            if out.note:
+                yield self._at - 1 - left, self._told(out)
+
+    def timer(self) -> Step:
+        """30 seconds without a byte are over."""
+        out = _library.StepOut()
+        self._call("timer", ctypes.byref(out))
+        return self._told(out)
+
+    def restart(self) -> None:
+        """Drops the line and what is held."""
+        self._call("restart")
+
+    def set_room(self, room: bool) -> None:
+        """Whether there is room for another frame."""
+        self._call("set_room", as_flag(room, "room"))
+
+    def set_ready(self, readiness: Readiness) -> None:
+        """How ENQ is answered from here on."""
+        if isinstance(readiness, bool):
+            raise TypeError("a Readiness is needed, not bool")
+        self._call("set_ready", Readiness(readiness))
+
+    def reserve(self, count: int) -> None:
+        """Makes room for so many more bytes of text."""
+        status = self._call("reserve", as_number(count, 0, (1 << 64) - 1, "the count"))
+        if status:
+            raise LinkError(status)
+
+    @property
+    def is_open(self) -> bool:
+        """Whether the line is open, and the receiver's timer runs."""
+        return bool(self._call("is_open"))
+
+    @property
+    def accepted(self) -> int:
+        """How many frames were accepted since the line was opened."""
+        return int(self._call("accepted"))
+
+    @property
+    def held(self) -> int:
+        """How many bytes are held of a text that isn't complete."""
+        return int(self._call("held"))
+
+    def _told(self, out: _library.StepOut) -> Step:
+        text = None
+        if out.has_text:
+            size = self._call("text_len")
+            copy = (ctypes.c_uint8 * max(size, 1))()
+            status = self._call("text", copy, size)
+            if status:
+                raise LinkError(status)
+            text = bytes(copy[:size])
+        return Step(bytes([out.reply]) if out.reply else b"", text, Note(out.note), out.detail, out.place)

@@ -1,0 +1,247 @@
+"""Messages as data: patients, orders and results of what the proved reader has read, with LIS02-A2's names of fields."""
+import json
+from typing import Any, Dict, Iterable, Iterator, List, NamedTuple, Optional, Tuple, Union
+
+from ._checks import as_bytes
+from .records import MessageError, Reader, Row
+
+#: The names of the fields behind a record's letter, by the standard's numbers (a header's delimiters are field 2).
+NAMES: Dict[str, Dict[int, str]] = {
+    "H": dict(enumerate("""message_control_id access_password sender_name sender_address reserved sender_phone
+        sender_characteristics receiver_id comment processing_id version timestamp""".split(), 3)),
+    "P": dict(enumerate("""sequence practice_patient_id laboratory_patient_id third_patient_id name mothers_maiden_name
+        birthdate sex race address reserved phone physician special_1 special_2 height weight diagnosis medications diet
+        practice_1 practice_2 admission_dates admission_status location diagnostic_code_nature diagnostic_code religion
+        marital_status isolation_status language hospital_service hospital_institution dosage_category""".split(), 2)),
+    "O": dict(enumerate("""sequence specimen_id instrument_specimen_id test priority requested_at collected_at
+        collection_end_at collection_volume collector action_code danger_code clinical_information received_at
+        specimen_descriptor physician physician_phone user_1 user_2 laboratory_1 laboratory_2 reported_at
+        instrument_charge instrument_section report_type reserved collection_location nosocomial_flag specimen_service
+        specimen_institution""".split(), 2)),
+    "R": dict(enumerate("""sequence test value unit reference_range abnormal_flags nature_of_abnormality status
+        normative_change_date operator started_at completed_at instrument""".split(), 2)),
+    "C": dict(enumerate("sequence source text type".split(), 2)),
+    "Q": dict(enumerate("""sequence starting_range ending_range test time_nature beginning ending physician
+        physician_phone user_1 user_2 status_codes""".split(), 2)),
+    "L": dict(enumerate("sequence termination_code".split(), 2)),
+    "M": {2: "sequence"},
+    "S": {2: "sequence"},
+}
+#: The names of records by their letters.
+KINDS = {"H": "header", "P": "patient", "O": "order", "R": "result", "C": "comment", "Q": "query", "L": "terminator",
+         "M": "manufacturer", "S": "scientific"}
+_NUMBERS = {letter: {name: number for number, name in names.items()} for letter, names in NAMES.items()}
+
+
+class Entry:
+    """A record in its message: fields by number or by name, its notes (C, M, S), and what belongs to it below."""
+
+    def __init__(self, row: Row, number: int, encoding: str) -> None:
+        #: The record; its number in the message, from 1.
+        self.row, self.number = row, number
+        self.encoding = encoding
+        #: Comments, manufacturer's and scientific records on this record.
+        self.notes: List[Entry] = []
+        #: Orders of a patient or a query, results of an order.
+        self.children: List[Entry] = []
+
+    @property
+    def letter(self) -> str:
+        """The record's letter."""
+        return self.row.letter
+
+    @property
+    def orders(self) -> "List[Entry]":
+        """The orders below a patient or a query."""
+        return [one for one in self.children if one.letter == "O"]
+
+    @property
+    def results(self) -> "List[Entry]":
+        """The results below an order."""
+        return [one for one in self.children if one.letter == "R"]
+
+    def part(self, field: int, repeat: int = 0, component: int = 0) -> Optional[bytes]:
+        """A component's bytes with escapes undone; None if there is none."""
+        return self.row.part(field, repeat, component)
+
+    def text(self, field: int, repeat: int = 0, component: int = 0) -> str:
+        """A component as text in the message's encoding; empty if there is none."""
+        return (self.part(field, repeat, component) or b"").decode(self.encoding, "replace")
+
+    def whole(self, field: int) -> str:
+        """A field as text, its components joined by ^ and its repeats by a backslash, escapes undone."""
+        number = field - self.row.first
+        repeats = self.row.fields[number] if 0 <= number < len(self.row.fields) else []
+        return "\\".join("^".join(one.decode(self.encoding, "replace") for one in parts) for parts in repeats)
+
+    def __getattr__(self, name: str) -> str:
+        numbers = _NUMBERS.get(self.__dict__["row"].letter, {}) if "row" in self.__dict__ else {}
+        if name in numbers:
+            return self.whole(numbers[name])
+        raise AttributeError(f"a record {self.__dict__['row'].letter if 'row' in self.__dict__ else ''} has no {name}")
+
+    def to_dict(self) -> Dict[str, Any]:
+        """The record, its notes and what is below it, as plain data; fields that are empty are left out."""
+        names = NAMES.get(self.letter, {})
+        told: Dict[str, Any] = {"record": self.letter}
+        for place in range(len(self.row.fields)):
+            number = place + self.row.first
+            if self.whole(number):
+                told[names.get(number, f"field_{number}")] = self.whole(number)
+        if self.notes:
+            told["notes"] = [one.to_dict() for one in self.notes]
+        for name, below in (("orders", self.orders), ("results", self.results)):
+            if below:
+                told[name] = [one.to_dict() for one in below]
+        return told
+
+
+class Finding(NamedTuple):
+    """A record whose sequence number isn't its position: the record's number in its message, and the position."""
+    number: int
+    letter: str
+    position: int
+
+
+class Message:
+    """A whole message: a header, patients and queries with what is below them, and a terminator."""
+
+    def __init__(self, rows: Iterable[Row], encoding: str = "latin-1") -> None:
+        self.rows, self.encoding = list(rows), encoding
+        self.patients: List[Entry] = []
+        self.queries: List[Entry] = []
+        self.entries: List[Entry] = []
+        self._build()
+
+    def _build(self) -> None:
+        above: Dict[str, Entry] = {}
+        last: Optional[Entry] = None
+        for number, row in enumerate(self.rows, 1):
+            entry = Entry(row, number, self.encoding)
+            self.entries.append(entry)
+            if row.letter in "CMS":
+                if last is not None:
+                    last.notes.append(entry)
+                continue
+            last = entry
+            if row.letter in "PQ":
+                (self.patients if row.letter == "P" else self.queries).append(entry)
+                above = {"O": entry}
+            elif row.letter == "O" and "O" in above:
+                above["O"].children.append(entry)
+                above["R"] = entry
+            elif row.letter == "R" and "R" in above:
+                above["R"].children.append(entry)
+
+    @property
+    def header(self) -> Entry:
+        """The header."""
+        return self.entries[0]
+
+    @property
+    def terminator(self) -> Optional[Entry]:
+        """The last record, if it is a terminator."""
+        return self.entries[-1] if self.entries and self.entries[-1].letter == "L" else None
+
+    def results(self) -> Iterator[Tuple[Entry, Entry, Entry]]:
+        """Each result with the patient (or query) and the order that it belongs to."""
+        for patient in self.entries:
+            if patient.letter in "PQ":
+                for order in patient.orders:
+                    for result in order.results:
+                        yield patient, order, result
+
+    def findings(self) -> List[Finding]:
+        """The records P, O, R, C, Q and L whose sequence number isn't their position under their parent."""
+        found: List[Finding] = []
+        counts: Dict[Tuple[int, str], int] = {}
+        parents = {"P": 0, "Q": 0, "O": 0, "R": 0, "L": 0}
+        last = 0
+        for entry in self.entries:
+            letter = entry.letter
+            parent = last if letter in "CMS" else parents.get(letter, 0)
+            position = counts[parent, letter] = counts.get((parent, letter), 0) + 1
+            if letter not in "CMS":
+                last = entry.number
+            if letter in "PQ":
+                parents["O"] = entry.number
+            elif letter == "O":
+                parents["R"] = entry.number
+            if letter in "PORCQL" and not _is_number(entry.row, 1 if letter == "L" else position):
+                found.append(Finding(entry.number, letter, 1 if letter == "L" else position))
+        return found
+
+    def to_dict(self) -> Dict[str, Any]:
+        """The message as plain data."""
+        told = {"header": self.header.to_dict(), "patients": [one.to_dict() for one in self.patients]}
+        if self.queries:
+            told["queries"] = [one.to_dict() for one in self.queries]
+        if self.terminator:
+            told["terminator"] = self.terminator.to_dict()
+        return told
+
+    def to_json(self, **words: Any) -> str:
+        """The message as JSON."""
+        return json.dumps(self.to_dict(), ensure_ascii=False, **words)
+
+
+def _is_number(row: Row, position: int) -> bool:
+    field = row.fields[0] if row.fields else []
+    if len(field) != 1 or len(field[0]) != 1:
+        return False
+    digits = field[0][0]
+    return 1 <= len(digits) <= 9 and all(48 <= one <= 57 for one in digits) and int(digits) == position
+
+
+class Fault(NamedTuple):
+    """A message that can't be read: the error, the place of its first byte, and that of the rejected record."""
+    error: MessageError
+    start: int
+    place: int
+    rows: List[Row]
+
+
+class Found(NamedTuple):
+    """A message, with the place of its first byte and of the end of each record in the stream."""
+    message: Message
+    start: int
+    ends: List[int]
+
+
+def read_all(stream: bytes, encoding: str = "latin-1") -> Iterator[Union[Found, Fault]]:
+    """All messages of a stream, and a Fault for each that can't be read: it doesn't hide the later ones. Behind a fault
+    reading goes on at the next record that begins with H and a delimiter's byte."""
+    stream, at = as_bytes(stream), 0
+    while at < len(stream):
+        start, rows, ends = at, [], []  # type: int, List[Row], List[int]
+        with Reader() as reader:
+            base = at
+            try:
+                for row in reader.feed(stream[at:]):
+                    rows.append(row)
+                    at = base + reader.read
+                    ends.append(at)
+                    if row.letter == "L":
+                        yield Found(Message(rows, encoding), start, ends)
+                        start, rows, ends = at, [], []
+                reader.finish()
+                return
+            except MessageError as error:
+                fault, place = error, ends[-1] if ends else start
+        yield Fault(fault, start, place, rows)
+        at = _next_header(stream, place, start)
+
+
+def _next_header(stream: bytes, place: int, start: int) -> int:
+    """Where the next header may begin: at the rejected record, if it isn't the first of its message, or behind it."""
+    at = place
+    while at < len(stream):
+        if stream[at:at + 1] in (b"H", b"h") and at > start and not stream[at + 1:at + 2].isalnum():
+            return at
+        cut = stream.find(b"\r", at)
+        if cut < 0:
+            return len(stream)
+        at = cut + 1
+        if at == start:
+            at += 1
+    return len(stream)

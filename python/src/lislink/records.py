@@ -1,0 +1,211 @@
+"""Records of LIS02-A2: single records, a reader of streams and a writer. Each decision is made by the proved library."""
+import ctypes
+import enum
+import itertools
+from typing import Callable, Iterable, Iterator, List, NamedTuple, Optional, Sequence, Tuple, TypeVar, Union
+
+from . import _library
+from ._checks import as_bytes, as_number
+from .link import LinkError, Owner, Status, address
+
+_MOST = (1 << 64) - 1
+#: The most bytes of a record, without its CR.
+RECORD_BYTES = 65536
+T = TypeVar("T")
+
+
+class Reason(enum.IntEnum):
+    """Why a record can't be read where it is."""
+    NONE, BAD_RECORD, NOT_HEADER, NO_PARENT, SECOND_HEADER, UNFINISHED, TOO_LONG, OUT_OF_MEMORY = range(8)
+
+
+class MessageError(Exception):
+    """A record that can't be read: its number in its message, from 1, why, and what goes with that."""
+
+    def __init__(self, number: int, reason: int, detail: int, place: int) -> None:
+        super().__init__(number, Reason(reason).name, detail, place)
+        self.number, self.reason, self.detail, self.place = number, Reason(reason), detail, place
+
+
+class Record:
+    """A record without its CR: a header, or any other record under the delimiters of its message's header."""
+
+    def __init__(self, text: bytes, header: "Optional[Record]" = None) -> None:
+        self._text = as_bytes(text)
+        self._given: Optional[_library.Delimiters] = header._delimiters if header else None
+        self._delimiters: _library.Delimiters = _library.Delimiters()
+        told = _library.RecordOut()
+        if self._given is None:
+            status = _library.calls()["header_read"](*self._whole(), ctypes.byref(self._delimiters), ctypes.byref(told))
+        else:
+            self._delimiters = self._given
+            status = _library.calls()["record_read"](ctypes.byref(self._given), *self._whole(), ctypes.byref(told))
+        if status:
+            raise LinkError(status, None, told.place)
+        self.letter, self.fields = chr(told.letter), int(told.fields)
+
+    @property
+    def delimiters(self) -> bytes:
+        """Those that a header declares, or that the record was read under: field, repeat, component, escape."""
+        return bytes(self._delimiters)
+
+    def _whole(self) -> Tuple[int, int]:
+        return address(self._text), len(self._text)
+
+    def part(self, field: int, repeat: int = 0, component: int = 0) -> Optional[bytes]:
+        """The bytes of a component, its escapes as what they mean; None if there is none. The letter is field 1, and a
+        header's delimiters are field 2; repeats and components are counted from 0."""
+        where = [as_number(one, 0, _MOST, name) for one, name in
+                 ((field, "the field"), (repeat, "the repeat"), (component, "the component"))]
+        room, size = (ctypes.c_uint8 * max(len(self._text), 1))(), ctypes.c_size_t()
+        words = (*self._whole(), *where, room, len(self._text), ctypes.byref(size))
+        if self._given is None:
+            status = _library.calls()["header_part"](*words)
+        else:
+            status = _library.calls()["record_part"](ctypes.byref(self._given), *words)
+        if status == Status.ABSENT:
+            return None
+        if status:
+            raise LinkError(status)
+        return bytes(room[:size.value])
+
+
+def records(texts: Iterable[bytes]) -> Iterator[Record]:
+    """The records of texts, each with a CR behind it, under the delimiters of the nearest header before them."""
+    header = None
+    for text in texts:
+        text = as_bytes(text)
+        for line in (text[:-1] if text.endswith(b"\r") else text).split(b"\r"):
+            is_header = line[:1] in (b"H", b"h")
+            record = Record(line, None if is_header else header)
+            header = record if is_header else header
+            yield record
+
+
+class Row(NamedTuple):
+    """A record of a message: its letter, and its fields as lists of repeats, these as lists of components."""
+    letter: str
+    fields: List[List[List[bytes]]]
+
+    def part(self, field: int, repeat: int = 0, component: int = 0) -> Optional[bytes]:
+        """A component; None if there is none. The letter is field 1, a header's delimiters are field 2."""
+        number = field - self.first
+        if number < 0 or repeat < 0 or component < 0:
+            return None
+        try:
+            return self.fields[number][repeat][component]
+        except IndexError:
+            return None
+
+    @property
+    def first(self) -> int:
+        """The standard's number of the first of `fields`."""
+        return 3 if self.letter == "H" else 2
+
+
+class Reader(Owner):
+    """Reads the records of a stream that comes in pieces, each where its message may have it."""
+    _kind = "reader"
+
+    def __init__(self) -> None:
+        super().__init__()
+        self._room = (ctypes.c_uint8 * RECORD_BYTES)()
+        #: How many bytes of the stream were read.
+        self.read = 0
+
+    def feed(self, data: bytes) -> Iterator[Row]:
+        """The records that further bytes end, in order; MessageError at the first that can't be read, and then at every
+        call, also of no bytes. Bytes that a loop leaves unread are read by the next call."""
+        self._add(data)
+        return self._rows()
+
+    def _rows(self) -> Iterator[Row]:
+        out = _library.Found()
+        while True:
+            self.read += self._read_on("read", out)
+            if out.kind == 2:
+                raise MessageError(out.number, out.reason, out.detail, out.place)
+            if out.kind == 1:
+                letter = chr(out.letter)
+                first = 3 if letter == "H" else 2
+                yield Row(letter, [self._field(first + number) for number in range(out.fields)])
+            if self._at >= len(self._piece):
+                return
+
+    def finish(self) -> None:
+        """The end of the stream: MessageError if a message isn't closed, or a record isn't ended."""
+        out = _library.Found()
+        if self._call("finish", ctypes.byref(out)):
+            raise MessageError(out.number, out.reason, out.detail, out.place)
+
+    def _field(self, number: int) -> List[List[bytes]]:
+        return list(_until_none(lambda repeat: list(_until_none(
+            lambda component: self._part(number, repeat, component))) or None))
+
+    def _part(self, *where: int) -> Optional[bytes]:
+        size = ctypes.c_size_t()
+        if self._call("part", *where, self._room, RECORD_BYTES, ctypes.byref(size)):
+            return None
+        return bytes(self._room[:size.value])
+
+
+def _until_none(call: Callable[[int], Optional[T]]) -> Iterator[T]:
+    for number in itertools.count():
+        one = call(number)
+        if one is None:
+            return
+        yield one
+
+
+class Writer(Owner):
+    """Writes records by their fields, each bytes or a list of components, as link texts."""
+    _kind = "writer"
+
+    def start(self, delimiters: bytes = b"|\\^&") -> None:
+        """Drops all that was written, and begins with these delimiters: field, repeat, component, escape."""
+        given = as_bytes(delimiters)
+        if len(given) > 4:
+            raise ValueError("a message has four delimiters")
+        self._check(self._call("start", ctypes.byref(_library.Delimiters(*given))))
+
+    def record(self, letter: str, fields: Iterable[Union[bytes, Sequence[bytes]]]) -> None:
+        """Puts a record behind the others; LinkError with the status, and the number of a field at fault as place."""
+        if not isinstance(letter, str) or len(letter) != 1 or ord(letter) > 255:
+            raise TypeError("a record's letter is one character")
+        self._check(self._call("record", ord(letter)))
+        for field in fields:
+            parts = [field] if isinstance(field, (bytes, bytearray, memoryview)) else field
+            if isinstance(parts, str) or not isinstance(parts, (list, tuple)):
+                raise TypeError(f"a field is bytes or a list of them, not {type(field).__name__}")
+            *others, last = [as_bytes(part) for part in parts]
+            for part in others:
+                self._check(self._call("component", address(part), len(part)))
+            self._check(self._call("field", address(last), len(last)))
+        place = ctypes.c_size_t()
+        self._check(self._call("put", ctypes.byref(place)), place)
+
+    def texts(self) -> List[bytes]:
+        """The text of each record, with its CR."""
+        room, size, texts = (ctypes.c_uint8 * (RECORD_BYTES + 1))(), ctypes.c_size_t(), []
+        for place in range(self._call("texts")):
+            self._check(self._call("text", place, room, RECORD_BYTES + 1, ctypes.byref(size)))
+            texts.append(bytes(room[:size.value]))
+        return texts
+
+    @staticmethod
+    def _check(status: int, place: Optional[ctypes.c_size_t] = None) -> None:
+        if status:
+            raise LinkError(Status(status), place=place.value or None if place is not None else None)
+
+
+def messages(pieces: Iterable[bytes]) -> Iterator[List[Row]]:
+    """The messages of a stream, each as its records; MessageError if it can't be read, or ends too early."""
+    with Reader() as reader:
+        rows: List[Row] = []
+        for piece in pieces:
+            for row in reader.feed(piece):
+                rows.append(row)
+                if row.letter == "L":
+                    yield rows
+                    rows = []
+        reader.finish()
