@@ -2,7 +2,7 @@
 use Rattle.std.proofs.Common.{◌≡◌, ℕ, zero, suc, ◌+◌, ◌-◌, ◌≤◌, List, [], ◌∷◌, ◌++◌, length, take, drop, Option, Some}
 use Rattle.std.proofs.Common.{None, refl, sym, ap, ◌∙◌, append-nil, append_assoc, zero-add, arith}
 use Rattle.std.proofs.lemmas.List.{drop-drop}
-use Rattle.std.specs.Io.KnownBytes.{Appends, Keeps}
+use Rattle.std.specs.Io.KnownBytes.{Appends}
 
 take-nil : {A : Type 0} (k : ℕ) → take {A = A} k [] ≡ []
 take-nil zero = refl
@@ -26,14 +26,6 @@ Appends-then None mid new xs ys h g = tt
 Appends-then (Some a) None new xs ys h g = absurd h
 Appends-then (Some a) (Some b) None xs ys h g = absurd g
 Appends-then (Some a) (Some b) (Some c) xs ys h g = g ∙ ap (λ (l : List ℕ). l ++ ys) h ∙ append_assoc a xs ys
-
--- one write, and then one that took nothing
-pub Appends-kept : (old mid new : Option (List ℕ)) (xs : List ℕ) → Appends old mid xs → Keeps mid new
-    → Appends old new xs
-Appends-kept None mid new xs h k = tt
-Appends-kept (Some a) None new xs h k = absurd h
-Appends-kept (Some a) (Some b) None xs h k = absurd k
-Appends-kept (Some a) (Some b) (Some c) xs h k = k ∙ h
 
 -- a write took some of the rest
 pub record WrittenOn (old new : Option (List ℕ)) (bytes others : List ℕ) : Type 0 where

@@ -1,5 +1,0 @@
-use Rattle.std.proofs.Common.{refl}
-use Rattle.lis_port.proofs.read_ahead.ReadAhead.new.Goals as goal
-
-pub returns-clause-made : goal.returns-clause-made
-returns-clause-made g c = refl
