@@ -102,7 +102,6 @@ impl Component {
         ensures ok { OnOk result (self.new ≡ self.old ++ symbol ∷ []) }
         ensures err { IfErr result (λ refused. (refused.value ≡ symbol) × (self.new ≡ self.old)) }
     {
-        symbol.known();
         self.symbols.push(symbol)
     }
 
@@ -150,6 +149,7 @@ impl Part for Component {
 
     #[inline(always)]
     fn known(&self) {
+        // proof: what the type keeps is known of a value that was read.
         let _ = self.symbols();
     }
 

@@ -47,6 +47,7 @@ impl<T: Part> Parts<T> {
         ensures ok { IfOk result (λ parts. parts ≡ part ∷ []) }
         ensures err { IfErr result (λ refused. refused.value ≡ part) }
     {
+        // proof: the list keeps what each part keeps.
         part.known();
         Ok(Parts {
             parts: OneOrMore::new(alloc, part),
@@ -58,6 +59,7 @@ impl<T: Part> Parts<T> {
     pub fn with_capacity(alloc: Global, part: T, parts: usize) -> Result<Self, AllocError>
         ensures { IfOk result (λ list. list ≡ part ∷ []) }
     {
+        // proof: the list keeps what each part keeps.
         part.known();
         let list = OneOrMore::with_capacity(alloc, part, parts)?;
         Ok(Parts { parts: list })
@@ -82,6 +84,7 @@ impl<T: Part> Parts<T> {
         ensures ok { OnOk result (self.new ≡ self.old ++ part ∷ []) }
         ensures err { IfErr result (λ refused. (refused.value ≡ part) × (self.new ≡ self.old)) }
     {
+        // proof: the list keeps what each part keeps.
         part.known();
         self.parts.push(part)
     }

@@ -85,7 +85,6 @@ impl Record {
         ensures ok { OnOk result (self.new ≡ record self.old { fields = self.old.fields ++ field ∷ [] }) }
         ensures err { IfErr result (λ refused. (refused.value ≡ field) × (self.new ≡ self.old)) }
     {
-        let _ = field.repeats();
         self.fields.push(field)
     }
 
@@ -94,7 +93,6 @@ impl Record {
         ensures kind { result ≡ self.now.kind }
         ensures shape { IsRecordShape self.now }
     {
-        let _ = &self.fields;
         self.kind
     }
 

@@ -30,6 +30,7 @@ impl Part for Parts<Component> {
 
     #[inline(always)]
     fn known(&self) {
+        // proof: what the type keeps is known of a value that was read.
         let _ = self.components();
     }
 

@@ -1,7 +1,5 @@
 //! What a component holds.
 
-ghost use Rattle.lis_field.specs.Shape.{IsSymbol};
-
 /// One symbol of a component: a text byte, a byte written in hexadecimal digits, or the start or the
 /// end of highlighted text.
 #[derive(Clone, Copy, Debug, PartialEq, Eq)]
@@ -14,18 +12,4 @@ pub enum Sym {
     On,
     /// Normal text begins.
     Off,
-}
-
-impl Sym {
-    // What a symbol carries is a byte.
-    pub(crate) fn known(self)
-        ensures { IsSymbol self }
-    {
-        match self {
-            Sym::Char(_byte) => {}
-            Sym::Raw(_byte) => {}
-            Sym::On => {}
-            Sym::Off => {}
-        }
-    }
 }

@@ -12,6 +12,3 @@ invariant_of-result c =
     (All-map IsSymbol Char front
     (All-take (λ byte. byte < 256) c.args.count c.args.text.now
     (λ k d within. subst (λ byte. byte < 256) (get_or_default c.args.text.now k 0 d within) (c.type_inv.text k).fits)))
-
-pub returns : goal.returns
-returns c = c.in_ok-from_front.ensures

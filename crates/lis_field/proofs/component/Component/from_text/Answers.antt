@@ -11,6 +11,3 @@ invariant_of-result c =
     subst AreSymbols (sym c.in_ok-from_text.ensures)
     (All-map IsSymbol Char text
     (λ k d within. subst (λ byte. byte < 256) (get_or_default text k 0 d within) (c.type_inv.text k).fits))
-
-pub returns : goal.returns
-returns c = c.in_ok-from_text.ensures

@@ -20,6 +20,3 @@ returns-clause-found c = let a = c.args in (
   IsDelimiters-delimiters_of a.field a.repeat a.component a.escape
       (sym c.fault_of.ensures ∙ c.in_default.is),
 )
-
-pub returns-in-Some-clause-fault : goal.returns-in-Some-clause-fault
-returns-in-Some-clause-fault c = sym c.fault_of.ensures ∙ c.in-Some.is

@@ -1,5 +1,0 @@
-use Rattle.std.proofs.Common.{ap, ◌∙◌, length}
-use Rattle.lis_field.proofs.component.Component.len.Goals as goal
-
-pub returns : goal.returns
-returns c = c.len.ensures ∙ ap length c.self.view_is
