@@ -127,12 +127,17 @@ class RecordCause(NamedTuple):
     options: List[str]
 
 
+_HL7 = RecordCause("hl7", "this is HL7 version 2, another language", [])
+
+
 def cause_of_record(error: MessageError, record: bytes, is_rest: bool = False) -> RecordCause:
     """Why the library rejects a record; `is_rest` if no CR is behind it."""
     reason = error.reason
     if reason is Reason.BAD_RECORD:
         return _bad_record(Status(error.detail), error, record)
     if reason is Reason.NOT_HEADER:
+        if record[:3] in (b"MSH", b"FHS", b"BHS"):
+            return _HL7
         if record[:1] in b"PORCQMSL" and record[:1]:
             return RecordCause("no-header", f"a record {record[:1].decode()} outside a message: the header is missing, or a "
                                             "record is behind L", ["--behind-l"])
@@ -184,6 +189,10 @@ def _bad_record(status: Status, error: MessageError, record: bytes) -> RecordCau
         return RecordCause("byte", f"the byte {words(byte)} at place {error.place} is no text", options)
     if status is Status.TOO_LONG:
         return RecordCause("long", "a record of over 65,536 bytes", [])
+    if b"<CR>" in record:
+        return RecordCause("cr-in-words", "the word <CR> stands for a CR", ["--cr-words"])
+    if record[:2] in (b"\xff\xfe", b"\xfe\xff"):
+        return RecordCause("utf-16", "the file is UTF-16: two bytes a character", ["--bom"])
     if record[:1] == b"\n":
         return RecordCause("crlf", "records end in CR LF: this one begins with LF", ["--crlf"])
     if record[:3] == b"\xef\xbb\xbf":
@@ -195,7 +204,7 @@ def _bad_record(status: Status, error: MessageError, record: bytes) -> RecordCau
     if record[:1].isdigit() and record[1:2].isalpha():
         return RecordCause("numbered", "a frame's number is before the letter", ["--unframe"])
     if record[:3] in (b"MSH", b"FHS", b"BHS"):
-        return RecordCause("hl7", "this is HL7 version 2, another language", [])
+        return _HL7
     if record[:1] in (b" ", b"\t"):
         return RecordCause("blank-first", "a blank is before the letter", ["--blank"])
     if record[:1] and record[:1] in b"HPORCQMSLhporcqmsl":

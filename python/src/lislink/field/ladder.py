@@ -57,9 +57,11 @@ class Ladder:
         self.computer = b"".join(line.data for _, line in capture.lines if line.mark == "<")
         self.has_replies = any(line.mark == "<" for _, line in capture.lines)
         self._carry, self._due = b"", b""
+        self._begun: Tuple[int, Optional[int], int] = (0, None, 0)  # where the open frame began: line, time, row
         self._last_text: Optional[bytes] = None
         self._busy = Readiness.READY
         self._heard: Optional[int] = None
+        self._computer_sends = False
         with Receiver() as receiver, Scanner() as scanner:
             for (number, line), time in zip(capture.lines, capture.times):
                 self._take(receiver, scanner, number, line, time)
@@ -118,14 +120,15 @@ class Ladder:
 
     def _units(self, receiver: Receiver, scanner: Scanner, number: int, data: bytes, time: Optional[int]) -> None:
         """The units that are completed in a line: each signal of the scanner, beside the receiver's step at its byte."""
-        start = 0
+        start, was_open = 0, bool(self._carry)
         for place, signal in scanner.feed_placed(data):
             raw, self._carry = self._carry + data[start:place + 1], b""
             held, opened = receiver.held, receiver.is_open
             step = next((step for _, step in receiver.hear_placed(data[start:place + 1])), None)
             start = place + 1
             cut = raw.rfind(2) if signal.kind in (Kind.FRAME, Kind.BAD_FRAME) else len(raw) - 1
-            self._outside(number, time, raw[:cut])
+            self._outside(number, time, raw[:cut], was_open)
+            was_open = False
             if held and step is not None and step.note in (Note.OPENED, Note.ENDED, Note.NOT_READY):
                 self.dropped.append((number, held))
             self._unit(receiver, number, time, signal, step, raw[cut:], opened)
@@ -134,15 +137,27 @@ class Ladder:
             for _ in receiver.hear_placed(rest):
                 raise AssertionError("the receiver answers where the scanner tells no signal")
             self._carry += rest
+        # What is no part of a frame that is still open is shown at its own line.
+        cut = self._carry.rfind(2)
+        self._outside(number, time, self._carry if cut < 0 else self._carry[:cut], was_open and cut != 0)
+        self._carry = b"" if cut < 0 else self._carry[cut:]
+        if self._carry and not (was_open and cut == 0):
+            self._begun = (number, time, len(self.rows))
 
-    def _outside(self, number: int, time: Optional[int], data: bytes) -> None:
-        """Bytes before a unit: a frame that is dropped, since something else came before its LF, or bytes of no frame."""
+    def _outside(self, number: int, time: Optional[int], data: bytes, was_open: bool = False) -> None:
+        """Bytes before a unit: a frame that is dropped, since something else came before its LF, or bytes of no frame. One
+        that was open before this line is shown where it began."""
         while data:
             cut = data.find(2, 1)
             piece, data = (data, b"") if cut < 0 else (data[:cut], data[cut:])
             if piece[0] == STX:
-                self.rows.append(Row(number, time, ">", "dropped", words(piece), "dropped: no LF ended this frame, no reply",
-                                     "bad", piece))
+                line, since, place = self._begun if was_open else (number, time, len(self.rows))
+                self.rows.insert(place, Row(line, since, ">", "dropped", words(piece),
+                                            "dropped: no LF ended this frame, no reply", "bad", piece))
+                was_open = False
+            elif self._computer_sends and set(piece) <= {ACK, NAK, EOT}:
+                self.rows.append(Row(number, time, ">", "answer", words(piece), "the analyzer answers the computer's own session",
+                                     "plain", piece))
             else:
                 self.rows.append(Row(number, time, ">", "outside", words(piece), "bytes outside frames: ignored", "warn", piece))
 
@@ -209,8 +224,11 @@ class Ladder:
             self.rows.append(Row(number, time, "<", "reply", title, "", "plain", data, b"", wanted))
             return
         self.differences.append((number, data, wanted))
-        if STX in data or ENQ in data and wanted != b"\x05":
+        if STX in data or ENQ in data and wanted != b"\x05" or self._computer_sends and data == b"\x04":
             note, level = "the computer's own session: not part of what the analyzer sends", "plain"
+            self._computer_sends = data != b"\x04"
+        elif len(data) < len(wanted) and wanted.endswith(data):
+            note, level = f"{len(wanted) - len(data)} answers before this one didn't come", "plain"
         else:
             note = f"the receiver would answer {words(wanted)}" if wanted else "the receiver would answer nothing"
             level = "bad"
@@ -231,14 +249,9 @@ class Ladder:
     def _end(self, receiver: Receiver, capture: Capture) -> None:
         number = capture.lines[-1][0] if capture.lines else 0
         if self._carry:
-            if self._carry.find(2) > 0:
-                cut = self._carry.find(2)
-                self._outside(number, None, self._carry[:cut])
-                self._carry = self._carry[cut:]
-            started = self._carry[0] == STX
-            self.rows.append(Row(number, None, ">", "dropped" if started else "outside", words(self._carry),
-                                 "unfinished: the capture ends before its LF" if started else "bytes outside frames: ignored",
-                                 "bad" if started else "warn", self._carry))
+            line, since, place = self._begun
+            self.rows.insert(place, Row(line, since, ">", "dropped", words(self._carry),
+                                        "unfinished: the capture ends before its LF", "bad", self._carry))
         self._note_dropped(receiver, number)
         self.is_open = receiver.is_open
         if self._due:

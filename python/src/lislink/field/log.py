@@ -31,13 +31,11 @@ class Log(NamedTuple):
 
 
 _MONTHS = {name: number for number, name in enumerate("jan feb mar apr may jun jul aug sep oct nov dec".split(), 1)}
-_CLOCK = r"(?P<h>\d{1,2}):(?P<m>\d\d):(?P<s>\d\d)(?:\s?(?P<ap>[AaPp][Mm]))?(?:[.,:](?P<f>\d{1,9}))?(?:\s?(?P<ap2>[AaPp][Mm]))?"
-_DATES = [
-    (re.compile(r"(?P<y>\d{4})[-/.](?P<mo>\d{1,2})[-/.](?P<d>\d{1,2})[T ,;]*" + _CLOCK), None),
-    (re.compile(r"(?P<d>\d{1,2})[-/.](?P<mo>\d{1,2})[-/.](?P<y>\d{4})[T ,;]*" + _CLOCK), None),
-    (re.compile(r"(?P<mon>[A-Za-z]{3}) {1,2}(?P<d>\d{1,2}),? (?P<y>\d{4}),? " + _CLOCK), None),
-    (re.compile(r"(?<![\d:.])" + _CLOCK), None),
-]
+_CLOCK = r"(?P<h>\d{1,2}):(?P<m>\d\d):(?P<s>\d\d)(?:\s?(?P<ap>[AaPp][Mm]))?(?:[.,:](?P<f>\d{1,9}))?(?:\s?(?P<ap2>[AaPp][Mm]))?(?![:\d])"
+_DATES = [re.compile(pattern + _CLOCK) for pattern in (
+    r"(?P<y>\d{4})[-/.](?P<mo>\d{1,2})[-/.](?P<d>\d{1,2})[T ,;]*", r"(?P<d>\d{1,2})[-/.](?P<mo>\d{1,2})[-/.](?P<y>\d{4})[T ,;]*",
+    r"(?P<mon>[A-Za-z]{3}) {1,2}(?P<d>\d{1,2}),? (?P<y>\d{4}),? ", r"(?<![\d:.])")]
+_DIGITS = re.compile(r"(?<!\d)(20\d\d)(\d\d)(\d\d)(\d\d)(\d\d)(\d\d)\.(\d{3})(?!\d)")
 _EPOCH = re.compile(r"(?<![\d.:])(?P<s>\d{9,10})\.(?P<f>\d{1,9})(?![\d.:])")
 
 
@@ -46,7 +44,10 @@ def find_time(text: str) -> Optional[int]:
     found = _EPOCH.search(text)
     if found:
         return int(found["s"]) * SECOND + int(found["f"].ljust(9, "0"))
-    for pattern, _ in _DATES:
+    found = _DIGITS.search(text)
+    if found:
+        return find_time("%s-%s-%s %s:%s:%s.%s" % found.groups())
+    for pattern in _DATES:
         found = pattern.search(text)
         if found:
             return _of_clock(found)
@@ -124,8 +125,10 @@ _HEX_PAIRS = re.compile(r"(?:0[xX])?[0-9A-Fa-f]{2}")
 
 def ascii_fits(text: str, data: bytes) -> bool:
     """Whether a column of text shows these bytes: the printable ones as they are, anything for the others."""
-    if len(text) == len(data) + 2 and text[:1] == "|" == text[-1:]:
+    if len(text) == len(data) + 2 and text[:1] + text[-1:] in ("||", "><"):
         text = text[1:-1]
+    if len(data) > 8 and len(text) == len(data) + 1 and text[8] == " ":
+        text = text[:8] + text[9:]  # Wireshark has a blank in the middle
     if len(text) > len(data):
         return False
     return all(32 <= byte < 127 and shown == chr(byte) or not 32 < byte < 127 or shown == "."

@@ -5,6 +5,7 @@ from typing import Callable, Iterator, List, Optional
 
 from ..link import Note
 from ..message import Fault, Found
+from ..records import Reason
 from .faults import cause_of_record, code_of
 from .ladder import Ladder, Look, Row
 from .log import SECOND
@@ -13,7 +14,7 @@ from .log import SECOND
 def looks_of(ladder: Ladder) -> List[Look]:
     """All that looks wrong, the worst first."""
     found: List[Look] = []
-    for one in (_no_protocol, _no_text, _same_number, _from_zero, _lost, _never_ended, _bad_frames, _not_open, _dropped,
+    for one in (_no_protocol, _no_text, _same_number, _from_zero, _lost, _never_ended, _bad_frames, _gives_up, _not_open, _dropped,
                 _outside, _answers, _computer_session, _no_answer, _late, _charset, _unfinished, _records, _sequence):
         found += one(ladder)
     order = {"bad": 0, "warn": 1, "plain": 2}
@@ -55,7 +56,7 @@ def _no_protocol(ladder: Ladder) -> Iterator[Look]:
     elif 5 in data and 2 not in data:
         rows = [row for row in ladder.rows if row.kind == "ENQ"]
         level = "warn" if ladder.has_replies and all(row.raw == b"\x06" for row in ladder.rows if row.side == "<") else "bad"
-        yield Look("no-frame", level, f"{len(rows)} times ENQ, and never a frame",
+        yield Look("no-frame", level, f"ENQ came {len(rows)} times, and never a frame",
                    "see whether the computer answers ACK, and what the analyzer sends behind it", _lines(rows)[:5])
 
 
@@ -151,6 +152,19 @@ def _sums(ladder: Ladder, rows: List[Row], share: str, good: int) -> Look:
                 _lines(rows)[:5])
 
 
+def _gives_up(ladder: Ladder) -> Iterator[Look]:
+    count, rows = 0, []
+    for row in ladder.units():
+        if row.reply == b"\x15":
+            count += 1
+        elif row.kind == "EOT" and count >= 6:
+            rows.append(row)
+        count = count if row.reply == b"\x15" else 0
+    if rows:
+        yield Look("gives-up", "bad", "six rejections in a row: the sender gave the session up, and its texts are lost unless "
+                   "it begins again", "", _lines(rows)[:5])
+
+
 def _not_open(ladder: Ladder) -> Iterator[Look]:
     rows = [row for row in ladder.rows if row.kind in ("frame", "bad") and row.note.startswith("the line isn't open")]
     if rows:
@@ -177,9 +191,11 @@ def _outside(ladder: Ladder) -> Iterator[Look]:
     if re.search(rb"[0-7][HPORCQL][|!-/]", data):
         yield Look("no-stx", "bad", "frames without STX: their bytes are outside frames and ignored",
                    "the sender must begin a frame with STX", _lines(rows)[:5])
+    elif parity_of(ladder.analyzer) or b"MSH|" in data:
+        return
     elif set(data) <= {6, 0x15}:
-        yield Look("replies", "plain", "the analyzer sends ACK or NAK outside frames: it answers the computer's own session",
-                   "", _lines(rows)[:5])
+        yield Look("replies", "warn", "the analyzer sends ACK or NAK outside frames: an answer, and no session of the computer "
+                   "is in the capture", "", _lines(rows)[:5])
     elif set(data) <= {17, 19}:
         yield Look("flow-control", "warn", "XON or XOFF is on the line: software flow control is on",
                    "turn XON/XOFF off at both ends", _lines(rows)[:5])
@@ -199,10 +215,10 @@ def _answers(ladder: Ladder) -> Iterator[Look]:
         rows = [row for row in ladder.rows if row.side == "<" and row.note.endswith(tail)]
         if rows:
             yield Look(name, "plain" if name == "interrupt" else "warn" if name == "busy" else "bad",
-                       f"{text}, {len(rows)} times", advice, _lines(rows)[:5])
+                       f"{len(rows)} times {text}", advice, _lines(rows)[:5])
     rows = [row for row in ladder.rows if row.side == "<" and row.level == "bad" and ": " not in row.note]
     if rows:
-        yield Look("other-answer", "bad", f"the computer answers otherwise than a receiver would, {len(rows)} times", "",
+        yield Look("other-answer", "bad", f"{len(rows)} times the computer answers otherwise than a receiver would", "",
                    _lines(rows)[:5])
 
 
@@ -265,7 +281,15 @@ def _unfinished(ladder: Ladder) -> Iterator[Look]:
 
 def _records(ladder: Ladder) -> Iterator[Look]:
     faults = [one for one in ladder.messages if isinstance(one, Fault)]
+    if len(ladder.texts) > 1 and not any(text.data.endswith(b"\r") for text in ladder.texts):
+        yield Look("no-cr-in-texts", "bad", "no text ends in CR: the records run together, and none is ended",
+                   "the sender must put CR behind each record, inside the frame", [text.line for text in ladder.texts][:5])
+        return
     for fault in faults[:8]:
+        if fault.error.reason in (Reason.UNFINISHED, Reason.NOT_HEADER, Reason.SECOND_HEADER) and _was_lost(ladder):
+            yield Look("incomplete", "bad", f"a message is incomplete at its record {fault.error.number} ({code_of(fault.error)}): "
+                       "the rest was lost on the link", "", [ladder.line_of(min(fault.place, max(len(ladder.stream) - 1, 0)))])
+            continue
         record = record_at(ladder.stream, fault.place)
         cause = cause_of_record(fault.error, record, fault.place + len(record) >= len(ladder.stream))
         options = " or ".join(cause.options)
@@ -274,6 +298,11 @@ def _records(ladder: Ladder) -> Iterator[Look]:
                    f"{cause.words}", advice, [ladder.line_of(min(fault.place, max(len(ladder.stream) - 1, 0)))])
     if len(faults) > 8:
         yield Look("records", "bad", f"{len(faults) - 8} more messages are rejected", "", [])
+
+
+def _was_lost(ladder: Ladder) -> bool:
+    """Whether a frame was rejected, dropped or lost, or a session was given up."""
+    return any(row.level == "bad" and row.side == ">" for row in ladder.rows) or Note.TIMED_OUT in ladder.notes
 
 
 def record_at(stream: bytes, place: int) -> bytes:

@@ -245,6 +245,8 @@ def explain(data: bytes) -> Iterator[str]:
         yield "nothing is wrong: all records are read"
         return
     yield from before
+    if data[:3] in (b"MSH", b"FHS", b"BHS"):
+        return
     # One change after another, in their order, until all is read: what is needed shows only when the earlier ones are done.
     asked: Set[str] = set()
     needed: Dict[str, int] = {}
@@ -265,7 +267,7 @@ def explain(data: bytes) -> Iterator[str]:
     if not left:
         yield "mended by: lislab normalize " + " ".join(f"--{name}" for name in CHANGES if name in needed)
     else:
-        yield "still rejected with these options:"
+        yield "still rejected with these options:" if needed else "no option mends it without a loss:"
         yield from ("  " + line for line in left)
 
 

@@ -36,12 +36,15 @@ def is_packets(data: bytes) -> bool:
     return data[:4] in _PCAP or data[:4] == _PCAPNG
 
 
-def packets_of(data: bytes) -> Iterator[Packet]:
-    """The packets of a file."""
-    return _pcapng(data) if data[:4] == _PCAPNG else _pcap(data)
+def packets_of(data: bytes, remarks: List[str]) -> Iterator[Packet]:
+    """The packets of a file; a last one that isn't whole is left out with a remark."""
+    return _pcapng(data, remarks) if data[:4] == _PCAPNG else _pcap(data, remarks)
 
 
-def _pcap(data: bytes) -> Iterator[Packet]:
+_CUT = "the file ends within a packet, which was left out"
+
+
+def _pcap(data: bytes, remarks: List[str]) -> Iterator[Packet]:
     order, unit = _PCAP[data[:4]]
     if len(data) < 24:
         raise LogError("the pcap ends within its head")
@@ -50,12 +53,13 @@ def _pcap(data: bytes) -> Iterator[Packet]:
     while at + head <= len(data):
         seconds, fraction, kept, length = struct.unpack_from(order + "IIII", data, at)
         if at + head + kept > len(data):
-            raise LogError("the pcap ends within a packet")
+            remarks.append(_CUT)
+            return
         yield Packet(seconds * SECOND + fraction * unit, link, data[at + head:at + head + kept], max(length - kept, 0))
         at += head + kept
 
 
-def _pcapng(data: bytes) -> Iterator[Packet]:
+def _pcapng(data: bytes, remarks: List[str]) -> Iterator[Packet]:
     order, at = "<", 0
     links: List[Tuple[int, int, int]] = []
     while at + 12 <= len(data):
@@ -64,8 +68,11 @@ def _pcapng(data: bytes) -> Iterator[Packet]:
             order = "<" if data[at + 8:at + 12] == b"\x4d\x3c\x2b\x1a" else ">"
             kind, links = 0x0A0D0D0A, []
         size = struct.unpack_from(order + "I", data, at + 4)[0]
-        if size < 12 or at + size > len(data):
-            raise LogError("the pcapng ends within a block")
+        if size < 12 or size % 4:
+            raise LogError(f"the pcapng has a block of {size} bytes at {at}")
+        if at + size > len(data):
+            remarks.append(_CUT)
+            return
         body, at = data[at + 8:at + size - 4], at + size
         if kind == 1:
             links.append(_interface(body, order))
@@ -320,7 +327,11 @@ def dumped_packets(text: str) -> Iterator[Packet]:
             if data:
                 yield _dumped(time, data)
                 data = b""
-            time = find_time(row) if find_time(row) is not None else time
+            relative = re.match(r"\s*\d+\s+(\d+)\.(\d{6,9})\s", row)
+            if relative:
+                time = int(relative[1]) * SECOND + int(relative[2].ljust(9, "0"))
+            elif "Arrival Time" in row or re.match(r"(\d{4}-\d\d-\d\d )?\d\d:\d\d:\d\d\.\d+ |\d+\.\d+ IP", row):
+                time = find_time(row)
             continue
         else:
             continue

@@ -36,7 +36,7 @@ def socat(text: str) -> Log:
     return Log("socat", pieces, [])
 
 
-_CALL = re.compile(r"\b(read|readv|recv|recvfrom|recvmsg|write|writev|send|sendto|sendmsg)\((\d+)(<[^>]*>+)?,\s*(.*)$")
+_CALL = re.compile(r"\b(read|readv|recv|recvfrom|recvmsg|write|writev|send|sendto|sendmsg)\((\d+)(<.*?>)?,\s*(.*)$")
 _STRING = re.compile(r'"((?:[^"\\]|\\.)*)"(\.\.\.)?')
 
 
@@ -122,7 +122,7 @@ def portmon(text: str) -> Log:
     for number, line in enumerate(text.splitlines(), 1):
         found = re.search(r"\bIRP_MJ_(READ|WRITE)\b.*?\bLength:? (\d+):\s*(.*?)\s*$", line)
         if not found:
-            if "Length" in line and re.search(r"IRP_MJ_(READ|WRITE)", line) and re.search(r": ?[0-9A-F]{2}\b", line):
+            if re.search(r"IRP_MJ_(READ|WRITE)\b.*\bLength:? \d+:", line):
                 raise LogError(f"no line of Portmon: {line[:60]!r}", number)
             continue
         data = hex_row(found[3]) or b""
@@ -132,9 +132,22 @@ def portmon(text: str) -> Log:
     return Log("portmon", pieces, [])
 
 
+def irp_table(text: str) -> Log:
+    """Tables with IRP_MJ_READ and IRP_MJ_WRITE, as Eltima's Serial Port Monitor exports them: the first column of pairs
+    behind the function is the bytes."""
+    pieces = []
+    for line in text.splitlines():
+        found = re.search(r"\bIRP_MJ_(READ|WRITE)\b(.*)$", line)
+        cells = re.split(r"\t|\"?[,;]\"?|\s{2,}", found[2]) if found else []
+        data = next((cell.strip(' "') for cell in cells if re.match(r'[" ]*[0-9a-fA-F]{2}( [0-9a-fA-F]{2})*[" ]*$', cell)), None)
+        if found and data:
+            pieces.append(Piece(find_time(line), found[1].lower(), bytes.fromhex(data)))
+    return Log("irp-table", pieces, [])
+
+
 #: A line above rows of bytes: its side in one of the groups.
 _HEADS = [
-    re.compile(r"\[.*?\]\s*(?P<side>Read|Written|Received|Sent|Write) data\b.*$", re.I),  # Eltima
+    re.compile(r"\[.*?\]\s*-?\s*(?P<side>Read|Written|Received|Sent|Write) data\b.*$", re.I),  # Eltima
     re.compile(r"(?P<side>Request|Answer):\s*\d.*$"),  # Free Serial Port Monitor, dump view
     re.compile(r"\d+:?\s.*?(?P<side>Read|Write) (?:Request )?\((?:UP|DOWN)\).*$", re.I),  # the same, request view
     re.compile(r"\d+:?\s+\d.*?(?P<side>IRP_MJ_READ|IRP_MJ_WRITE)\b.*?(?:UP|DOWN)?.*$"),
@@ -143,6 +156,19 @@ _HEADS = [
     re.compile(r"<?(?P<time>\d{14}\.\d{3}) (?P<side>TX|RX)>?\s*$"),  # Advanced Serial Port Logger
     re.compile(r"\[?[\d/.\- :]+(?:AM|PM)?\]?,?\s*\[?(?P<side>TX|RX|Read|Write|Sent|Received|IN|OUT)\]?\b[^0-9]*(?:\d+ bytes?\b.*|\(\d+.*)?$", re.I),
 ]
+
+
+def is_blocks(text: str) -> bool:
+    """Whether at least two lines with a side are each above a row of bytes."""
+    rows = [line for line in text.splitlines() if line.strip() and not re.match(r"\s*Data:?\s*$", line)]
+    return sum(1 for line, after in zip(rows, rows[1:]) if _head(line) and not _head(after) and
+               hex_row(re.sub(r"^\s*(?:Data:|(?:0x)?[0-9a-fA-F]{4,8}[:h]?\s(?=\s*[0-9a-fA-F]{2}\b))", " ", after)) is not None) >= 2
+
+
+def _head(line: str) -> "Optional[re.Match[str]]":
+    return next((found for found in (one.match(line.strip()) for one in _HEADS) if found), None)
+
+
 _IGNORED = re.compile(r"(#+|\s*Process\b.*|\s*Data:?|\s*Port (?:opened|closed).*|\s*(?:Length|Status|Buffer).*|--+|==+|interface:.*|filter:.*|\*+.*)?\s*$", re.I)
 
 
@@ -154,7 +180,7 @@ def blocks(text: str) -> Log:
     side, time, fresh = "", None, False  # type: str, Optional[int], bool
     left = []
     for number, line in enumerate(text.splitlines(), 1):
-        head = next((found for found in (one.match(line.strip()) for one in _HEADS) if found), None)
+        head = _head(line)
         row = re.sub(r"^\s*Data:\s*", " ", line)
         row = re.sub(r"^\s*(?:0x)?[0-9a-fA-F]{4,8}[:h]?\s{1,3}(?=[0-9a-fA-F]{2}\s)", " ", row) if side else row
         data = hex_row(row) if side and row[:1].isspace() or side and hex_row(row) else None

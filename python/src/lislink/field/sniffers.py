@@ -25,8 +25,10 @@ class Options(NamedTuple):
 #: The forms by their names: whether a text looks so, and its reader.
 FORMS: Dict[str, Tuple[str, Callable[[str, Options], Log]]] = {
     "socat": (r"^[<>] \d+/\d+/\d+ \S+ +length=\d+ from=", lambda text, ask: serial_tools.socat(text)),
-    "strace": (r"\b(?:read|write|recv\w*|send\w*|readv|writev)\(\d+(?:<[^>]*>+)?,\s+[\"\[{]?", lambda text, ask:
+    "strace": (r"\b(?:read|write|recv\w*|send\w*|readv|writev)\(\d+(?:<.*?>)?,\s+[\"\[{<]?", lambda text, ask:
                serial_tools.strace(text, ask.fd)),
+    "json-lines": (r"\A\s*\{(?![^\n]*\"(?:_index|index|layers)\")[^\n]*\"(?:data|bytes|payload|hex|raw|message|msg)\"[^\n]*\}\s*$",
+                   lambda text, ask: traces.json_lines(text)),
     "tshark-json": (r"\A\s*(?:\[\s*)?\{[^{]*\"(?:_index|index|timestamp)\"", lambda text, ask:
                     wireshark.tshark_json(text, ask.port, ask.stream)),
     "tshark-pdml": (r"<pdml\b", lambda text, ask: wireshark.tshark_pdml(text, ask.port, ask.stream)),
@@ -35,11 +37,15 @@ FORMS: Dict[str, Tuple[str, Callable[[str, Options], Log]]] = {
     "tshark-raw": (r"^Follow: tcp,raw", lambda text, ask: wireshark.follow_raw(text)),
     "packet-text": (r"^\s*(?:0x)?0000:?  ?(?:[0-9a-f]{2} ?){15}[0-9a-f]{2}\b", lambda text, ask: packets.read_packets(
         packets.dumped_packets(text), "packet-text", ask.stream, ask.port)),
+    "wireshark-text": (r"^Transmission Control Protocol, Src Port:(?s:.*)^\s*(?:\[truncated\])?Data(?: \[truncated\])?: ?[0-9a-f]{2}",
+                       lambda text, ask: wireshark.wireshark_text(text, ask.port, ask.stream)),
     "wireshark-hex": (r"^(?:\t| {2,})[0-9A-Fa-f]{8}  ?(?:[0-9a-f]{2} ){1,}|^Follow: tcp,hex|"
                       r"\A[0-9A-F]{8}  [0-9a-f]{2}(?: +\S+)? *\n(?s:.*)^[0-9A-F]{6}[1-9A-F][0-9A-F]  |"
                       r"\A[0-9A-F]{8}  [0-9a-f]{2}(?: +\S+)? *\n(?s:.*)^0000000[1-9A-F]  ",
                       lambda text, ask: wireshark.follow_hex(text)),
     "portmon": (r"\bIRP_MJ_(?:READ|WRITE)\b.*\bLength:? \d+", lambda text, ask: serial_tools.portmon(text)),
+    "irp-table": (r"\bIRP_MJ_(?:READ|WRITE)\b.*[\t,; ]\"?[0-9a-fA-F]{2}(?: [0-9a-fA-F]{2})*\"?\s*(?:[\t,;]| {2}|$)",
+                  lambda text, ask: serial_tools.irp_table(text)),
     "interceptty": (r"^(?:[\d.:/\- ]*)[<>]\s+0x[0-9a-fA-F]{2}\b(?!,? ?0x)", lambda text, ask: serial_tools.interceptty(text)),
     "slsnif": (r"\b(?:Host|Device)\s*-->.*\((?:\d{3}|[0-9a-f]{2})\)", lambda text, ask: serial_tools.slsnif(text)),
     "blocks": (r"^\[.*?\]\s*(?:Read|Written|Received|Sent) data\b|^(?:Request|Answer):\s*\d|(?:Read|Write) (?:Request )?"
@@ -64,6 +70,8 @@ def form_of(text: str) -> str:
     if serial_tools.is_hex_dump(text) and not re.search(FORMS["wireshark-hex"][0], text, re.M):
         return "hex" if not re.search(FORMS["packet-text"][0], text, re.M) or not _is_ethernet(text) else "packet-text"
     for name, (pattern, _) in FORMS.items():
+        if name == "tshark-fields" and serial_tools.is_blocks(text):
+            return "blocks"
         if pattern and re.search(pattern, text, re.M | (re.I if name == "blocks" else 0)):
             if name == "tshark-fields" and not _is_table(text):
                 continue
@@ -95,14 +103,32 @@ def read_log(data: bytes, ask: Options) -> Log:
     if not data.strip(b"\0\r\n\t "):
         raise LogError("the file is empty")
     if ask.form in ("pcap", None) and packets.is_packets(data):
-        return packets.read_packets(packets.packets_of(data), "pcap", ask.stream, ask.port)
+        remarks: List[str] = []
+        log = packets.read_packets(packets.packets_of(data, remarks), "pcap", ask.stream, ask.port)
+        return log._replace(remarks=log.remarks + remarks)
     if ask.form == "raw" or ask.form is None and _is_raw(data):
         return Log("raw", [Piece(None, "", data)], [])
     text = decode(data)
     form = ask.form or form_of(text)
     if form == "pcap" or form not in FORMS:
         raise LogError("the file is neither pcap nor pcapng" if form == "pcap" else f"there is no form {form}")
-    return FORMS[form][1](text, ask)
+    try:
+        return FORMS[form][1](text, ask)
+    except LogError:
+        if ask.form is not None or form not in ("tshark-fields", "hex", "blocks"):
+            raise
+        found = _trace(text, ask)  # a table or blocks may be a trace with directions in words
+        if found is None:
+            raise
+        return found
+
+
+def _trace(text: str, ask: Options) -> Optional[Log]:
+    try:
+        log = FORMS["trace"][1](text, ask)
+    except LogError:
+        return None
+    return log if log.pieces and not any("no line has a direction" in one for one in log.remarks) else None
 
 
 def _is_raw(data: bytes) -> bool:

@@ -2,6 +2,7 @@
 control bytes in words such as <STX>. Analyzers' and drivers' traces, Docklight, terminal programs."""
 import ast
 import html
+import json
 import re
 from typing import Callable, Dict, List, NamedTuple, Optional, Tuple
 
@@ -12,8 +13,8 @@ _NAMES = "|".join(sorted(CONTROL, key=len, reverse=True))
 _WORD = re.compile(r"[<\[{(](?P<name>" + _NAMES + r")[>\]})]|[<\[{](?:0x|\$)?(?P<hex>[0-9A-Fa-f]{2})[>\]}]|"
                    r"\\x(?P<x>[0-9A-Fa-f]{2})|(?P<picture>[\u2400-\u2421])", re.I)
 _SURE = re.compile(r"[<\[{(](?:ENQ|STX|ETX|ETB|EOT|ACK|NAK)[>\]})]|<(?:0x)?0[2-6]>|\\x0[2-6]|[\u2401-\u2406]", re.I)
-_OUT = r"TX|TXD|SEND(?:ING)?|SENT|WRITE|WRITTEN|WRITING|OUT(?:PUT|GOING)?|TRANSMIT(?:TED)?"
-_IN = r"RX|RXD|RECV(?:D)?|RECEIVED?|RECEIVING|READ|READING|IN(?:PUT|COMING)?"
+_OUT = r"TX|TXD|SEND(?:ING|ALL|TO)?|SENT|WRITE|WRITTEN|WRITING|OUT(?:PUT|GOING)?|TRANSMIT(?:TED)?"
+_IN = r"RX|RXD|RECV(?:D|FROM)?|RECEIVED?|RECEIVING|READ|READING|IN(?:PUT|COMING)?"
 _NAME = r"[\w.:@/\-]*[\w.@/]"
 #: Directions, the most telling first. A named arrow tells who sends.
 _MARKS: List[Tuple["re.Pattern[str]", Callable[["re.Match[str]"], str]]] = [
@@ -40,7 +41,7 @@ class Grammar(NamedTuple):
 
 
 def _python(text: str) -> Optional[bytes]:
-    found = re.match(r"""(?:bytearray\()?(b(?:'(?:[^'\\]|\\.)*'|"(?:[^"\\]|\\.)*"))\)?\W*$""", text.strip())
+    found = re.match(r"""\(?(?:bytearray\()?(b(?:'(?:[^'\\]|\\.)*'|"(?:[^"\\]|\\.)*"))\)?\W*$""", text.strip())
     if not found:
         return None
     try:
@@ -155,6 +156,29 @@ def traces(text: str) -> Log:
     return Log("trace-" + kind, pieces, remarks)
 
 
+_DIRECTIONS = ("dir", "direction", "side", "from", "source", "src", "type", "event", "op")
+_DATA = ("data", "bytes", "payload", "hex", "raw", "message", "msg")
+
+
+def json_lines(text: str) -> Log:
+    """A log of JSON objects, one a line: who sends and the bytes, as hex or as text with escapes."""
+    pieces = []
+    for number, line in enumerate(text.splitlines(), 1):
+        if not line.strip():
+            continue
+        try:
+            row = {str(key).lower(): value for key, value in json.loads(line).items()}
+        except (json.JSONDecodeError, AttributeError):
+            raise LogError("no JSON object", number) from None
+        side = next((str(row[key]) for key in _DIRECTIONS if row.get(key)), None)
+        data = next((row[key] for key in _DATA if row.get(key)), None)
+        if side is None or not isinstance(data, str):
+            continue
+        read = _hex(data)
+        pieces.append(Piece(find_time(line), side, read if read is not None else words(data)))
+    return Log("json-lines", pieces, [])
+
+
 def _goes_on(line: str, grammar: Grammar, pieces: List[Piece]) -> bool:
     """Whether a line without a direction is more of the bytes before it: it holds nothing else than bytes."""
     if not pieces or find_time(line) is not None:
@@ -211,6 +235,10 @@ def _unmarked(lines: List[str], grammar: Grammar) -> Log:
     for _, line in read:
         indent = len(line.expandtabs()) - len(line.expandtabs().lstrip())
         indents[indent] = indents.get(indent, 0) + 1
+    heads = [number for number, line in enumerate(lines, 1) if number not in {one for one, _ in read} and
+             re.search(r"\b(?:%s|%s)\b" % (_OUT, _IN), line, re.I)]
+    if len(heads) > 1:
+        raise LogError(f"directions and bytes don't go together here: {lines[heads[0] - 1][:60]!r}", heads[0])
     wide = max(indents) - min(indents) >= 4
     for number, line in read:
         bare = line.expandtabs()

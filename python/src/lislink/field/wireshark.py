@@ -196,6 +196,8 @@ def _segments(told: List[Dict[str, str]], payload: str, form: str, port: Optiona
                           flags, _bytes(one[payload].strip()))
         segments.append(segment)
         groups.setdefault(one.get("tcp.stream", ""), []).append(segment)
+    if all(len({one.source_port for one in group}) == 1 for group in groups.values()):
+        groups = {"": segments}  # each direction was taken for a stream of its own
     every = [one for group in groups.values() for one in connections_of(group)]
     if port is not None:
         every = [one for one in every if port in one.ports]
@@ -227,6 +229,25 @@ def tshark_json(text: str, port: Optional[int] = None, stream: Optional[int] = N
     if not told:
         raise LogError("no packet has tcp.payload")
     return _segments(told, "tcp.payload", "tshark-json", port, stream)
+
+
+def wireshark_text(text: str, port: Optional[int] = None, stream: Optional[int] = None) -> Log:
+    """`tshark -V`, and Wireshark's export as plain text with details: the lines `Data: ..` of each packet."""
+    told: List[Dict[str, str]] = []
+    for block in re.split(r"(?m)^(?=Frame \d+:|No\. +Time)", text):
+        data = re.search(r"(?m)^\s*(\[truncated\])?Data(?: \[truncated\])?: ?([0-9a-fA-F:]{2,}(?:\.\.\.|…)?)\s*$", block)
+        head = re.search(r"Transmission Control Protocol, Src Port: .*?(\d+)\)?, Dst Port: .*?(\d+)\)?, Seq: (\d+).*?Len: (\d+)", block)
+        ends = re.search(r"Internet Protocol(?: Version \d)?, Src: (\S+?)(?: \(\S+\))?, Dst: (\S+)", block)
+        if not data or not head:
+            continue
+        if data[1] or len(_bytes(data[2].rstrip(".…"))) != int(head[4]):
+            raise LogError("the text has a part of a packet's bytes alone: export them whole (tshark -x), or as pcap")
+        time = re.search(r"(?:Arrival Time|UTC Arrival Time|Epoch Arrival Time|Epoch Time): (.*)", block)
+        told.append({"tcp.srcport": head[1], "tcp.dstport": head[2], "tcp.seq": head[3], "tcp.payload": data[2],
+                     "frame.time": time[1] if time else "", "ip.src": ends[1] if ends else "a", "ip.dst": ends[2] if ends else "b"})
+    if not told:
+        raise LogError("no packet has a line Data")
+    return _segments(told, "tcp.payload", "wireshark-text", port, stream)
 
 
 def _flat(node: Any, name: str = "") -> Iterator[Tuple[str, str]]:
