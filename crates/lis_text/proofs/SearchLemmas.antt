@@ -12,7 +12,7 @@ use Rattle.std.proofs.lemmas.List.Sums.{prefix_len-le-length}
 use Rattle.std.proofs.lemmas.Bool.Decides.{nat_tests}
 
 -- a run in which no byte passes is passed over
-pub position-none :
+position-none :
     (f : ℕ → Bool) (i : ℕ) (xs ys : List ℕ) → prefix_len (λ x. not (f x)) xs ≡ length xs →
     position_from f i (xs ++ ys) ≡ position_from f (i + length xs) ys
 position-none f i [] ys e = rw (add-zero i) refl
@@ -29,7 +29,7 @@ position-none f i (x ∷ xs) ys e = by (f x) e (position-none f (i + 1) xs ys)
         rw at (later (omega arith))
 
 -- else the first that passes is found in it
-pub position-some :
+position-some :
     (f : ℕ → Bool) (i : ℕ) (xs ys : List ℕ) → prefix_len (λ x. not (f x)) xs < length xs →
     position_from f i (xs ++ ys) ≡ Some (i + prefix_len (λ x. not (f x)) xs)
 position-some f i [] ys e = absurd (omega arith)
@@ -52,7 +52,7 @@ pub record Before (f : ℕ → Bool) (i k : ℕ) (xs : List ℕ) : Type 0 where
   pub inside : k < i + length xs
   pub clean : position_from f i (take (k - i) xs) ≡ None
 
-pub position-before : (f : ℕ → Bool) (i k : ℕ) (xs : List ℕ) → position_from f i xs ≡ Some k → Before f i k xs
+position-before : (f : ℕ → Bool) (i k : ℕ) (xs : List ℕ) → position_from f i xs ≡ Some k → Before f i k xs
 position-before f i k [] e = cc
 position-before f i k (x ∷ xs) e = by (f x) refl e (position-before f (i + 1) k xs)
   where
@@ -160,7 +160,7 @@ found-within f n xs short room some =
     omega (arith, at, within f (take n xs) set)
 
 -- places counted from elsewhere
-pub position-shift :
+position-shift :
     (f : ℕ → Bool) (i j : ℕ) (xs : List ℕ) → position_from f (i + j) xs ≡ option_map (λ k. i + k) (position_from f j xs)
 position-shift f i j [] = refl
 position-shift f i j (x ∷ xs) = by (f x) (position-shift f i (j + 1) xs)

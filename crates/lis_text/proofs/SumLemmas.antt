@@ -1,12 +1,11 @@
 -- Sums modulo 256: kept apart in the lanes of a vector, and of the bytes before a place.
-use Rattle.std.proofs.Common.{◌≡◌, ◌<◌, ℕ, zero, suc, ◌+◌, ◌-◌, ◌%◌, get_or, Bool, true, false, cond, List, [], ◌∷◌}
+use Rattle.std.proofs.Common.{◌≡◌, ℕ, zero, suc, ◌+◌, ◌-◌, ◌%◌, Bool, true, false, cond, List, [], ◌∷◌}
 use Rattle.std.proofs.Common.{length, map, take, drop, replicate, refl, ap, ◌∙◌, arith, zero-add, take-add}
 use Rattle.std.specs.Prelude.{nat_lt}
 use Rattle.std.specs.List.{sum, range_with_len}
 use Rattle.std.specs.Simd.Lanes.{zip2, fold_l, sel_l, sum_l, top}
 use mir.Syntax.{w8}
 use Rattle.std.proofs.lemmas.Simd.{tops_compared, zip2_splat}
-use Rattle.std.proofs.lemmas.List.{take_more}
 use Rattle.std.proofs.lemmas.List.Sums.{sum_by-cons, sum_by-append}
 use Rattle.std.proofs.lemmas.Bool.Decides.{nat_tests}
 
@@ -28,7 +27,7 @@ pub fold-lanes : (xs : List ℕ) → fold_l (λ (s x : ℕ). (s + x) % 256) 0 xs
 fold-lanes xs = rw (zero-add (sum_l xs)) at (fold-wrapped 0 xs)
 
 -- two vectors, added lane by lane with wrapping
-pub zip-wrapped :
+zip-wrapped :
     (xs ys : List ℕ) → length xs ≡ length ys →
     sum_l (zip2 {C = ℕ} (λ (a b : ℕ). (a + b) % 256) xs ys) % 256 ≡ (sum_l xs + sum_l ys) % 256
 zip-wrapped [] [] e = refl
@@ -82,20 +81,11 @@ front-selected n xs long =
     ap (λ (ms : List Bool). sum_l (sel_l ms xs (replicate 16 0))) (tops ∙ lanes) ∙ (few ∙ sum_l-sum (take n xs))
 
 -- the sum before a place further on
-pub sum-before :
+sum-before :
     (place count : ℕ) (bytes : List ℕ) → sum (take (place + count) bytes)
     ≡ sum (take place bytes) + sum (take count (drop place bytes))
 sum-before place count bytes =
     rw (take-add place count bytes) (sum_by-append (λ (x : ℕ). x) (take place bytes) (take count (drop place bytes)))
-
--- one byte more
-pub sum-more :
-    (bytes : List ℕ) (place : ℕ) → place < length bytes → sum (take (place + 1) bytes)
-    ≡ sum (take place bytes) + get_or bytes place 0
-sum-more bytes place within =
-    ap sum (take_more bytes place 0 within)
-    ∙ (sum_by-append (λ (x : ℕ). x) (take place bytes) (get_or bytes place 0 ∷ [])
-    ∙ ap (λ (s : ℕ). sum (take place bytes) + s) (zero-add (get_or bytes place 0)))
 
 -- by what the lanes hold of the bytes before a place, the sum of those before a further one
 pub lanes-before :
