@@ -14,7 +14,7 @@ PREFIX ?= /usr/local
 CC = gcc
 PROGRAM = build/lislink
 ARCHIVE = build/liblis_c.a
-VERSION = 0.1
+VERSION = $(shell cat VERSION)
 
 .PHONY: build check demo test mutants harmless plant library install
 
