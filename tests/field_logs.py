@@ -1,0 +1,191 @@
+"""Logs of tools: each gives the capture of the one session that all were made of."""
+import glob
+import json
+import os
+import random
+import stat
+
+import field_packets
+from field_kit import ROOT, lislab
+from lislink.capture import read_capture
+
+LOGS = os.path.join(ROOT, "samples", "logs")
+SESSION = os.path.join(ROOT, "samples", "session.capture")
+#: Logs that know no pieces: a byte a line.
+BY_BYTES = ("interceptty", "interceptty-t")
+
+
+def bytes_of(path):
+    with open(path, "rb") as file:
+        return file.read()
+
+
+def timed_session():
+    """The session with times, as (mark, seconds, bytes)."""
+    seconds = (0.000012, 0.00431, 0.1015, 0.1099, 0.11502, 0.201333, 0.207111, 0.30101, 0.307222, 0.402004)
+    lines = [line for _, line in read_capture(bytes_of(SESSION)).lines]
+    return [(line.mark, second, line.data) for line, second in zip(lines, seconds)]
+
+
+def run(count):
+    of_samples(count)
+    of_packets(count)
+    of_two_dumps(count)
+    of_errors(count)
+    of_options(count)
+    of_round_trips(count)
+
+
+def of_samples(count):
+    """Each log of samples/logs: with its pieces, and a line a unit."""
+    wanted = bytes_of(SESSION).decode()
+    units = lislab("capture", os.path.join(LOGS, "socat-x.txt"), "--units").text
+    analyzer = "".join(line + "\n" for line in units.splitlines() if line.startswith(">"))
+    paths = [path for path in sorted(glob.glob(os.path.join(LOGS, "*"))) if not path.endswith((".bin", ".md"))]
+    count.true("there are logs", len(paths) > 50, str(len(paths)))
+    for path in paths:
+        name = os.path.splitext(os.path.basename(path))[0]
+        one_side = name.startswith("one-") or name == "realterm-hex"
+        ran = lislab("capture", path, "--units")
+        count.same(f"{name}: a line a unit", ran.text, analyzer if one_side else units)
+        if not one_side and name not in BY_BYTES:
+            count.same(f"{name}: with its pieces", lislab("capture", path).text, wanted)
+        count.same(f"{name}: status", ran.status, 0)
+        shown = lislab("ladder", path)
+        count.has(f"{name}: the reason in one command", shown.text, "rejected: checksum wrong: 05 found, 06 wanted")
+        if not one_side:
+            count.has(f"{name}: the ladder's end", shown.text, "texts 2, differences 0, messages 1")
+    raw = count.path("raw.bin", b"".join(data for mark, _, data in timed_session() if mark == ">"))
+    count.same("the bytes themselves", lislab("capture", raw).text, analyzer)
+    mixed = count.path("mixed.bin", b"".join(data for _, _, data in timed_session()))
+    count.same("both sides in one stream", lislab("capture", mixed, "--mixed", "--units").text, units)
+    count.has("both sides in one stream, not told", lislab("capture", mixed).error, "--mixed takes them apart")
+
+
+def of_packets(count):
+    """Packet files in each form, and what a network does."""
+    wanted = bytes_of(SESSION).decode()
+    session = timed_session()
+    for name, data in field_packets.variants(session):
+        path = count.path("trace.pcap", data)
+        out = count.path("trace.capture")
+        ran = lislab("capture", path, "-o", out)
+        count.same(f"{name}: status ({ran.error})", ran.status, 0)
+        count.same(name, bytes_of(out).decode(), wanted)
+        times = bytes_of(out + ".times").decode().splitlines()
+        count.true(f"{name}: times", len(times) == 10 and times[0].startswith("2026-11-20T09:15:02.00001"), str(times[:2]))
+    plain = field_packets.segments(session)
+    gap = count.path("gap.pcap", field_packets.pcap(plain[:5] + plain[6:]))
+    count.has("a packet is missing", lislab("capture", gap).error, "bytes are missing")
+    cut = count.path("cut.pcap", field_packets.pcap(plain)[:-9])
+    count.same("a last packet that is cut", lislab("capture", cut).status, 0)
+    twice = count.path("twice.pcap", field_packets.pcap(plain + [
+        (time + 5, packet.replace(b"\xc8\x22", b"\xc8\x23")) for time, packet in plain]))
+    ran = lislab("capture", twice)
+    count.same("a second connection follows", ran.text, "capture 2\n" + wanted + "R\n" + wanted)
+    count.same("the second connection alone", lislab("capture", twice, "--stream", "2").text, wanted)
+    both = count.path("both.pcap", field_packets.pcap(sorted(plain + [
+        (time, packet.replace(b"\x0a\0\0\x01", b"\x0a\0\0\x07")) for time, packet in plain])))
+    count.has("two lines at once", lislab("capture", both).error, "--stream 2: ")
+    count.same("two lines at once, the first", lislab("capture", both, "--stream", "1").text, wanted)
+
+
+def of_two_dumps(count):
+    """Two raw dumps, one of each direction."""
+    ran = lislab("capture", "--analyzer", os.path.join(LOGS, "analyzer.bin"), "--computer", os.path.join(LOGS, "computer.bin"))
+    count.same("two dumps", ran.text, lislab("capture", os.path.join(LOGS, "socat-x.txt"), "--units").text)
+    count.has("two dumps: the order is unknown", ran.error, "their order isn't known")
+    count.same("a dump without the other", lislab("capture", "--analyzer", os.path.join(LOGS, "analyzer.bin")).status, 2)
+
+
+def of_errors(count):
+    """What is no log is an error, and never an empty capture."""
+    for name, data, words in (
+            ("nothing", b"", "empty"), ("blanks", b"\n \n", "empty"), ("a letter", b"Dear Sir,\nthe line is down.\n", "no line"),
+            ("ASCII of Follow", b"Follow: tcp,ascii\nFilter: tcp.stream eq 0\n1\n.\n", "lost the control bytes"),
+            ("socat -v alone", b"> 2026/11/20 09:15:02.000012  length=1 from=0 to=0\n.--\n", "use socat -x"),
+            ("a block that lacks a byte", b"> 2026/11/20 09:15:02.000012  length=2 from=0 to=1\n 05\n", "lacks"),
+            ("a cut strace", b'1 read(5, "\\5", 4096) = 1\n1 read(5, "\\0021H|"..., 4096) = 40\n', "-s 4096"),
+            ("a row that is missing", b"00000000  05 02 31\n00000010  48\n", "row is missing"),
+            ("a Portmon line that is cut", b"1\t0.1\ta.exe\tIRP_MJ_READ\tSerial0\tSUCCESS\tLength 3: 05 02\n", "Portmon"),
+            ("an empty pcap", field_packets.pcap([]), "no TCP connection"),
+            ("a capture of a bus", field_packets.pcap(field_packets.segments(timed_session())).replace(
+                b"\xff\xff\0\0\1\0\0\0", b"\xff\xff\0\0\xf9\0\0\0"), "type 249"),
+            ("replies alone", b"RX: 06\nRX: 06\n", "replies alone"), ("a capture", b"> 05\n", "already")):
+        ran = lislab("capture", count.path("log", data))
+        count.same(f"{name}: status", ran.status, 3)
+        count.same(f"{name}: no capture", ran.output, b"")
+        count.has(name, ran.error, words)
+    out = count.path("never")
+    lislab("capture", count.path("log", b"nothing here\n"), "-o", out)
+    count.true("no file is made of nothing", not os.path.exists(out))
+
+
+def of_options(count):
+    """The side of the analyzer, the timer, modes and times."""
+    log = os.path.join(LOGS, "socat-x.txt")
+    swapped = lislab("capture", log, "--swap").lines
+    count.same("--swap", swapped[:2], ["< 05", "> 06"])
+    count.same("--analyzer-side", lislab("capture", log, "--analyzer-side", "<").lines, swapped)
+    count.has("--analyzer-side of none", lislab("capture", log, "--analyzer-side", "x").error, "isn't one of the two sides")
+    count.has("--timer", lislab("capture", log, "--timer", "0.09").text, "\nT\n")
+    count.true("no timer", "T" not in lislab("capture", log, "--timer", "30").lines)
+    both = b"RX: 05\nTX: 06\nRX: 02 31 4F 7C 31 0D 03 42 35 0D 0A\nTX: 06\nRX: 04\nTX: 05\nRX: 06\nTX: 02 31 52 7C 31 0D 03 38 0D 0A\n"
+    ran = lislab("capture", count.path("log", both))
+    count.has("the side with results", ran.error, "alone sends results")
+    count.same("the side with results, lines", ran.lines[0], "< 05")
+    out = count.path("private.capture")
+    old = os.umask(0)
+    try:
+        lislab("capture", log, "-o", out)
+        lislab("ladder", log, "--html", count.path("private.html"))
+    finally:
+        os.umask(old)
+    for path in (out, out + ".times", count.path("private.html")):
+        count.same(f"mode of {os.path.basename(path)}", stat.S_IMODE(os.stat(path).st_mode), 0o600)
+    count.has("times beside a capture", lislab("ladder", out).text, "09:15:02.201")
+    long = b"RX: 05\nTX: 06\nRX: " + b"41 " * 3000 + b"\n"
+    count.same("more bytes than a line has room for", [len(line) for line in lislab("capture", count.path("log", long)).lines],
+               [4, 4, 2 + 2 * 2047, 2 + 2 * 953])
+
+
+def of_round_trips(count):
+    """Random sessions written in the form of tools come back as they were."""
+    chance = random.Random(7)
+    for trial in range(12):
+        pieces = [(chance.choice("<>"), 0.001 * number, bytes(chance.choices(range(256), k=chance.randrange(1, 70))))
+                  for number in range(12)]
+        pieces.insert(0, (">", 0.0, b"\x05\x021H|\\^&\r\x03E5\r\n"))
+        pieces = [(mark, time, data if mark == ">" else data.replace(b"\x05", b"e").replace(b"\x02", b"s")) for mark, time, data
+                  in pieces]
+        wanted = "".join(f"{mark} {data.hex()}\n" for mark, _, data in pieces)
+        for name, text in written(pieces):
+            ran = lislab("capture", count.path(f"log-{name}", text))
+            count.same(f"round trip {trial} of {name} {ran.error}", ran.text, wanted)
+
+
+def shown(data):
+    return "".join(chr(byte) if 32 <= byte < 127 else "." for byte in data)
+
+
+def written(pieces):
+    """The pieces in the forms of tools."""
+    clock = [f"09:15:{time:09.6f}" for _, time, _ in pieces]
+    rows = [(mark, stamp, data) for (mark, _, data), stamp in zip(pieces, clock)]
+    yield "socat", "".join(
+        f"{mark} 2026/11/20 {stamp}  length={len(data)} from=0 to=0\n" + "".join(
+            " " + data[at:at + 16].hex(" ") + "   " * (16 - len(data[at:at + 16])) + "  " + shown(data[at:at + 16]) + "\n"
+            for at in range(0, len(data), 16)) + "--\n" for mark, stamp, data in rows).encode()
+    yield "hex", "".join(f"{stamp} {'RX' if mark == '>' else 'TX'}: {data.hex(' ')}\n" for mark, stamp, data in rows).encode()
+    yield "python", "".join(f"{stamp} {'<-' if mark == '>' else '->'} {data!r}\n" for mark, stamp, data in rows).encode()
+    yield "strace", "".join(
+        f"12 {stamp} {'read' if mark == '>' else 'write'}(5, \"{''.join(f'{chr(92)}x{byte:02x}' for byte in data)}\", 4096) = {len(data)}\n"
+        for mark, stamp, data in rows).encode()
+    yield "tshark", "".join(f"17951661{at:02}.5\t{51234 if mark == '>' else 4001}\t{data.hex()}\n"
+                            for at, (mark, _, data) in enumerate(rows)).encode()
+    yield "eltima", "".join(
+        f"[20/11/2026 09:15:02] {'Read' if mark == '>' else 'Written'} data (COM3)\n" + "".join(
+            f"\t{data[at:at + 16].hex(' '):50} {shown(data[at:at + 16])}\n" for at in range(0, len(data), 16))
+        for mark, _, data in rows).encode()
+    yield "json", "".join(json.dumps({"dir": "rx" if mark == ">" else "tx", "data": data.hex()}) + "\n" for mark, _, data in rows).encode()
+    yield "pcapng", field_packets.pcapng(field_packets.segments(pieces))
