@@ -27,6 +27,8 @@ def socat(text: str) -> Log:
             data = bytes.fromhex(digits[1])
             wanted -= len(data)
             pieces[-1] = pieces[-1]._replace(data=pieces[-1].data + data)
+        elif wanted and re.match(r"(?: [0-9a-f]{2})+(?:  .*)?$", line):
+            raise LogError("the block has more bytes than its length", number)
         elif wanted:
             raise LogError(f"the block lacks {wanted} bytes; socat -v alone loses control bytes, socat -x has them", number)
         elif not re.match(r"(--|)$|\d+/\d+/\d+ \d+:\d+:\d+(\.\d+)? socat\[\d+\] ", line):
