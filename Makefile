@@ -12,11 +12,12 @@
 
 PREFIX ?= /usr/local
 CC = gcc
-PROGRAM = build/lislink
-ARCHIVE = build/liblis_c.a
+BUILD = build
+PROGRAM = $(BUILD)/lislink
+ARCHIVE = $(BUILD)/liblis_c.a
 VERSION = $(shell cat VERSION)
 
-.PHONY: build check demo test mutants harmless plant library install
+.PHONY: build check demo test mutants harmless plant library linked install
 
 build:
 	@echo 'Proving and building the program: about MAKE_MINUTES minutes the first time on four processors, then seconds.'
@@ -52,20 +53,25 @@ plant:
 	@test -n '$(CRATE)' || { echo 'make plant CRATE=name, a folder of crates/'; exit 2; }
 	cd crates/$(CRATE) && rt plant
 
-# The heap of examples/c/heap.c is part of both libraries, so that a program links with nothing else.
 library:
 	@echo 'Proving and building the library: about LIBRARY_MINUTES minutes the first time on four processors, then one.'
 	@tools/prove lis_c $(ARCHIVE)
-	$(CC) -O2 -fPIC -Iinclude -c examples/c/heap.c -o build/heap.o
-	cp $(ARCHIVE) build/liblislink.a
-	ar r build/liblislink.a build/heap.o
-	$(CC) -shared -o build/liblislink.so -Wl,-soname,liblislink.so -Wl,--whole-archive $(ARCHIVE) -Wl,--no-whole-archive build/heap.o
-	cp build/liblislink.so examples/python/liblislink.so
+	$(MAKE) --no-print-directory linked
+	cp $(BUILD)/liblislink.so examples/python/liblislink.so
+
+# Both libraries out of the archive of the proved crate. The heap of examples/c/heap.c is part of both, so that a program
+# links with nothing else.
+linked:
+	@mkdir -p $(BUILD)
+	$(CC) -O2 -fPIC -Iinclude -c examples/c/heap.c -o $(BUILD)/heap.o
+	cp $(ARCHIVE) $(BUILD)/liblislink.a
+	ar r $(BUILD)/liblislink.a $(BUILD)/heap.o
+	$(CC) -shared -o $(BUILD)/liblislink.so -Wl,-soname,liblislink.so -Wl,--whole-archive $(ARCHIVE) -Wl,--no-whole-archive $(BUILD)/heap.o
 
 install: build library
 	install -D -m 755 $(PROGRAM) $(DESTDIR)$(PREFIX)/bin/lislink
-	install -D -m 644 build/liblislink.a $(DESTDIR)$(PREFIX)/lib/liblislink.a
-	install -D -m 755 build/liblislink.so $(DESTDIR)$(PREFIX)/lib/liblislink.so
+	install -D -m 644 $(BUILD)/liblislink.a $(DESTDIR)$(PREFIX)/lib/liblislink.a
+	install -D -m 755 $(BUILD)/liblislink.so $(DESTDIR)$(PREFIX)/lib/liblislink.so
 	install -D -m 644 include/lislink.h $(DESTDIR)$(PREFIX)/include/lislink.h
 	install -D -m 644 examples/python/lislink.py $(DESTDIR)$(PREFIX)/share/lislink/lislink.py
 	install -D -m 644 docs/man/lislink.1 $(DESTDIR)$(PREFIX)/share/man/man1/lislink.1
