@@ -195,7 +195,12 @@ enum lis_note {
 
 enum lis_readiness { LIS_READY = 0, LIS_READINESS_BUSY = 1, LIS_CONTENDING = 2 };
 
-/* The reply byte to send, 0 for none; whether a text was handed out; a lis_note with its detail and place. */
+/* The reply byte to send, 0 for none; whether a text was handed out; a lis_note with its detail and place.
+ *
+ * Keep, then reply. The reply beside a text acknowledges it, and the sender then gives it up. So copy the text by
+ * lis_receiver_text and keep it where it lasts, and only then send the reply. If it can't be kept, send no reply and
+ * call lis_receiver_restart: the session fails at the sender, which still has all its texts. A NAK in place of the
+ * reply would lose the text: its frame was taken, so the same frame again is a duplicate, acknowledged without it. */
 typedef struct lis_step {
     uint8_t reply;
     bool has_text;
@@ -216,6 +221,8 @@ void lis_receiver_byte(lis_receiver *s, uint8_t byte, lis_step *out);
 /* Hears bytes up to the first that means something, or all of them where none does; answers how many it heard. */
 size_t lis_receiver_hear(lis_receiver *s, const uint8_t *bytes, size_t bytes_len, lis_step *out);
 void lis_receiver_timer(lis_receiver *s, lis_step *out);
+/* Gives up what goes on: the line is closed, the text that isn't complete is gone, and the one that was handed out last
+ * stays. For a text that can't be kept, with no reply. */
 void lis_receiver_restart(lis_receiver *s);
 /* Whether there is room for another frame; how ENQ is answered (a lis_readiness, else LIS_BAD_NUMBER). */
 void lis_receiver_set_room(lis_receiver *s, bool room);

@@ -52,7 +52,8 @@ def receive(line, timeout):
 
 
 def hear(line, receiver, scale, noise, take):
-    """Hears a line until it is closed: answers it, and hands each text to `take` before it is acknowledged."""
+    """Hears a line until it is closed, and answers it: keeps each text by `take`, and then sends the reply. Where `take`
+    can't keep it, and raises OSError, no reply goes out: the session fails, and the analyzer sends its texts again."""
     due = None
     while True:
         try:
@@ -61,8 +62,13 @@ def hear(line, receiver, scale, noise, take):
             return
         steps = receiver.hear(data) if data else [receiver.timer()]
         for step in steps:
-            if step.text is not None:
-                take(step.text)
+            try:
+                if step.text is not None:
+                    take(step.text)
+            except OSError:
+                receiver.restart()
+                due = None
+                break
             if step.note in (Note.ENDED, Note.NOT_READY, Note.TIMED_OUT):
                 due = None
             elif step.note:

@@ -74,7 +74,10 @@ class Signal(NamedTuple):
 
 
 class Step(NamedTuple):
-    """A receiver's answer: the byte to send, the text that is handed out, and what it meant."""
+    """A receiver's answer: the byte to send, the text that is handed out, and what it meant.
+
+    Keep the text first, then send the reply, which acknowledges it. A text that can't be kept gets no reply:
+    `Receiver.restart`, and the session fails at the sender, which still has its texts. A NAK would lose it."""
     reply: bytes
     text: Optional[bytes]
     note: Note

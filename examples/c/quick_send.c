@@ -1,0 +1,51 @@
+/* Sends a text in a session, on the line that is its standard input: quick_send TEXT <>/dev/ttyUSB0. Its status is 0
+ * where the host acknowledged the text. */
+#include <lislink.h>
+#include <poll.h>
+#include <stdlib.h>
+#include <string.h>
+#include <time.h>
+#include <unistd.h>
+
+/* A byte that comes before this time. */
+static bool byte_until(int line, time_t due, uint8_t *byte) {
+    struct pollfd ready = {line, POLLIN, 0};
+    time_t left = due - time(NULL);
+    return left > 0 && poll(&ready, 1, (int)left * 1000) == 1 && read(line, byte, 1) == 1;
+}
+
+/* Sends what is due, and hears the replies, until the session is over. */
+static void run(int line, lis_sender *sender, lis_bytes *out) {
+    static const int seconds[] = {0, LIS_SECONDS_REPLY, LIS_SECONDS_BUSY, LIS_SECONDS_CONTENTION, LIS_SECONDS_REPLY};
+    uint8_t phase, byte;
+    while (write(line, out->bytes, out->len) == (ssize_t)out->len) {
+        if ((phase = lis_sender_phase(sender)) == LIS_NEUTRAL)
+            return;
+        time_t due = time(NULL) + seconds[phase];
+        do {
+            if (byte_until(line, due, &byte))
+                lis_sender_reply(sender, byte, out);
+            else
+                lis_sender_timer(sender, out);
+        } while (out->len == 0 && lis_sender_phase(sender) == phase);    /* the byte meant nothing */
+    }
+}
+
+static bool send_text(int line, const uint8_t *text, size_t len) {
+    lis_sender sender = {malloc(lis_sender_size())};
+    lis_bytes out;
+    lis_place fault;
+    if (sender.at == NULL)
+        return false;
+    lis_sender_init(sender.at);
+    if (lis_sender_add_text(&sender, text, len) == LIS_OK && lis_sender_start(&sender, &out, &fault) == LIS_OK)
+        run(line, &sender, &out);
+    bool done = lis_sender_outcome(&sender) == LIS_DONE;
+    lis_sender_end(sender);
+    free(sender.at);
+    return done;
+}
+
+int main(int count, char **words) {
+    return count == 2 && send_text(0, (const uint8_t *)words[1], strlen(words[1])) ? 0 : 1;
+}

@@ -1,0 +1,43 @@
+#!/usr/bin/env python3
+"""Receives from an analyzer on a TCP port: appends each text to a file before it is acknowledged, and prints the letters
+of a session's records at its end.
+
+    quick_receive.py PORT FILE          PORT 0 is one that is free, and is told
+
+line.py host has the receiver's timer too, which a line that stays open after a session needs.
+"""
+import os
+import socket
+import sys
+
+import lislink
+
+
+def receive(line, store):
+    texts = []
+    with lislink.Receiver() as receiver:
+        while data := line.recv(4096):
+            for step in receiver.hear(data):
+                if step.note is lislink.Note.OPENED:
+                    texts = []                  # an analyzer whose session failed sends it all again
+                if step.text is not None:
+                    store.write(step.text)
+                    store.flush()
+                    os.fsync(store.fileno())    # keep, then reply: where this fails, no reply goes out
+                    texts.append(step.text)
+                line.sendall(step.reply)
+                if step.note is lislink.Note.ENDED:
+                    print(*(record.letter for record in lislink.records(texts)), flush=True)
+
+
+def main():
+    server = socket.create_server(("127.0.0.1", int(sys.argv[1])))
+    print("port", server.getsockname()[1], flush=True)
+    with open(sys.argv[2], "ab") as store:
+        line, _ = server.accept()
+        with line:
+            receive(line, store)
+
+
+if __name__ == "__main__":
+    main()
