@@ -11,8 +11,8 @@ from lislink.capture import read_capture
 
 LOGS = os.path.join(ROOT, "samples", "logs")
 SESSION = os.path.join(ROOT, "samples", "session.capture")
-#: Logs that know no pieces: a byte a line.
-BY_BYTES = ("interceptty", "interceptty-t")
+#: Logs that know no pieces: a byte a line, or a whole frame.
+BY_BYTES = ("interceptty", "interceptty-t", "saleae", "nolf")
 
 
 def bytes_of(path):

@@ -75,7 +75,7 @@ def load(path: str, ask: argparse.Namespace) -> Tuple[Capture, List[str]]:
         beside = getattr(ask, "times", None) or (path + ".times" if path != "-" else "")
         if beside and os.path.exists(beside):
             capture = _with_times(capture, beside)
-        return capture, []
+        return (sniffers.swapped(capture) if ask.swap else capture), []
     return _imported(data, ask)
 
 
@@ -102,8 +102,11 @@ def run_capture(ask: argparse.Namespace) -> int:
     else:
         data = read_input(ask.log)
         if ask.form is None and looks_like_capture(data):
-            raise LogError("this is a capture already")
-        capture, remarks = _imported(data, ask)
+            if not ask.swap:
+                raise LogError("this is a capture already (--swap turns it round)")
+            capture, remarks = sniffers.swapped(read_capture(data)), ["the sides are swapped"]
+        else:
+            capture, remarks = _imported(data, ask)
     write_output(ask.output, write_lines(line for _, line in capture.lines).encode())
     times = ask.times or (ask.output + ".times" if ask.output not in (None, "-") else None)
     if times and any(time is not None for time in capture.times):

@@ -15,9 +15,13 @@ class LogError(Exception):
         self.line = line
 
 
+#: The side of a piece that has no bytes: a new connection begins.
+NEW = "\0new"
+
+
 class Piece(NamedTuple):
     """Bytes that one side sent: the time in nanoseconds if it is known, a name for the side, the bytes. A piece with the
-    side `R` and no bytes is a new connection."""
+    side NEW and no bytes is a new connection."""
     time: Optional[int]
     side: str
     data: bytes

@@ -4,7 +4,7 @@ import re
 import struct
 from typing import Dict, Iterator, List, NamedTuple, Optional, Tuple
 
-from .log import SECOND, Log, LogError, Piece, find_time
+from .log import NEW, SECOND, Log, LogError, Piece, find_time
 
 _PCAP = {b"\xd4\xc3\xb2\xa1": ("<", 1000), b"\xa1\xb2\xc3\xd4": (">", 1000), b"\x4d\x3c\xb2\xa1": ("<", 1),
          b"\xa1\xb2\x3c\x4d": (">", 1), b"\x34\xcd\xb2\xa1": ("<", 1000), b"\xa1\xb2\xcd\x34": (">", 1000)}
@@ -255,9 +255,19 @@ def connections_of(segments: List[Segment]) -> List[Connection]:
     return told
 
 
-def read_packets(packets: Iterator[Packet], form: str, stream: Optional[int] = None, port: Optional[int] = None) -> Log:
+def _serial(packets: List[Packet], form: str) -> Log:
+    """Packets of a serial line (LINKTYPE_RTAC_SERIAL): 12 bytes of head with what happened, and the bytes."""
+    names = {1: "TX", 2: "RX", 3: "TX", 4: "RX"}
+    return Log(form, [Piece(one.time, names[one.data[8]], one.data[12:]) for one in packets
+                      if len(one.data) > 12 and one.data[8] in names], [])
+
+
+def read_packets(every_packet: Iterator[Packet], form: str, stream: Optional[int] = None, port: Optional[int] = None) -> Log:
     """The bytes of the TCP line in packets. If there are several, those between the same two ends follow one another;
     else one is chosen by its number, or by its port."""
+    packets = list(every_packet)
+    if packets and all(one.link == 250 for one in packets):
+        return _serial(packets, form)
     segments = [one for one in map(segment_of, packets) if one is not None]
     every = connections_of(segments)
     if port is not None:
@@ -294,7 +304,7 @@ def _joined(found: List[Connection], form: str) -> Log:
         if one.missing():
             raise LogError(f"bytes are missing in the file: {one.missing()} bytes of {one.name()} have none before them")
         if number:
-            pieces.append(Piece(one.begun, "R", b""))
+            pieces.append(Piece(one.begun, NEW, b""))
         for piece in one.pieces:
             # The ends of several connections are two names: the one that they share, and the other.
             side = piece.side if shared is None else ("server" if piece.side == shared else "client")

@@ -225,6 +225,7 @@ def hex_dump(text: str) -> Log:
     """A dump of one direction: xxd, hexdump -C, od -tx1, RealTerm's capture as hex, or digits alone."""
     data = b""
     repeat, rows, base = False, text.splitlines(), _offset_base(text)
+    words = _has_words(text)
     for number, line in enumerate(rows, 1):
         if not line.strip() or line.lstrip().startswith("#"):
             continue
@@ -246,8 +247,19 @@ def hex_dump(text: str) -> Log:
         row = hex_row(line)
         if row is None:
             raise LogError(f"no row of a hex dump: {line[:60]!r}", number)
+        if words:
+            row = b"".join(row[at:at + 2][::-1] for at in range(0, len(row), 2))
+            ends = [int(last[1], base) for last in map(_OFFSET.match, rows[-1:]) if last]
+            row = row[:ends[0] - len(data)] if ends and ends[0] > len(data) else row
         data += row
     return Log("hex", [Piece(None, "", data)], [])
+
+
+def _has_words(text: str) -> bool:
+    """Whether this is hexdump without -C, or od -x: offsets of seven digits, words of two bytes with the low one first."""
+    rows = [line for line in text.splitlines() if line.strip() and line.strip() != "*"]
+    return len(rows) > 1 and all(re.match(r"\d[0-9a-f]{6}(?: +[0-9a-f]{4})*\s*$", line) for line in rows) and bool(
+        re.match(r"[0-9a-f]{7}\s*$", rows[-1]))
 
 
 def _offset_base(text: str) -> int:

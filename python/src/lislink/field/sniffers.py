@@ -1,10 +1,11 @@
 """Captures out of sniffers' logs: which form a log has, which side is the analyzer, and the lines of the capture."""
 import re
+import struct
 from typing import Callable, Dict, List, NamedTuple, Optional, Tuple
 
 from ..capture import Capture, Line, LINE_BYTES
 from . import packets, serial_tools, traces, wireshark
-from .log import SECOND, Log, LogError, Piece, decode, in_order
+from .log import NEW, SECOND, Log, LogError, Piece, decode, in_order
 
 ENQ, ACK, NAK, EOT, STX, LF = 5, 6, 0x15, 4, 2, 10
 
@@ -44,6 +45,8 @@ FORMS: Dict[str, Tuple[str, Callable[[str, Options], Log]]] = {
                       r"\A[0-9A-F]{8}  [0-9a-f]{2}(?: +\S+)? *\n(?s:.*)^0000000[1-9A-F]  ",
                       lambda text, ask: wireshark.follow_hex(text)),
     "portmon": (r"\bIRP_MJ_(?:READ|WRITE)\b.*\bLength:? \d+", lambda text, ask: serial_tools.portmon(text)),
+    "csv-table": (r"\A(?!\"?[a-z]+\.[a-z_.]+)[^\n]*\b(?:data|value|payload|hex|bytes)\b[^\n]*\n(?:[^\n]*[,;\t])?\"?(?:0x)?[0-9a-fA-F]{2}[0-9a-fA-Fx ]*\"?[,;\t\n]",
+                  lambda text, ask: traces.csv_table(text)),
     "irp-table": (r"\bIRP_MJ_(?:READ|WRITE)\b.*[\t,; ]\"?[0-9a-fA-F]{2}(?: [0-9a-fA-F]{2})*\"?\s*(?:[\t,;]| {2}|$)",
                   lambda text, ask: serial_tools.irp_table(text)),
     "interceptty": (r"^(?:[\d.:/\- ]*)[<>]\s+0x[0-9a-fA-F]{2}\b(?!,? ?0x)", lambda text, ask: serial_tools.interceptty(text)),
@@ -72,7 +75,7 @@ def form_of(text: str) -> str:
     for name, (pattern, _) in FORMS.items():
         if name == "tshark-fields" and serial_tools.is_blocks(text):
             return "blocks"
-        if pattern and re.search(pattern, text, re.M | (re.I if name == "blocks" else 0)):
+        if pattern and re.search(pattern, text, re.M | (re.I if name in ("blocks", "csv-table") else 0)):
             if name == "tshark-fields" and not _is_table(text):
                 continue
             if name == "packet-text" and not _is_ethernet(text):
@@ -100,6 +103,13 @@ def _is_table(text: str) -> bool:
 
 def read_log(data: bytes, ask: Options) -> Log:
     """The pieces of a log, in the form that is told or found."""
+    try:
+        return _read_log(data, ask)
+    except (ValueError, IndexError, KeyError, struct.error) as error:
+        raise LogError(f"the log isn't whole, or of another form ({type(error).__name__}: {error}): see --form") from error
+
+
+def _read_log(data: bytes, ask: Options) -> Log:
     if not data.strip(b"\0\r\n\t "):
         raise LogError("the file is empty")
     if ask.form in ("pcap", None) and packets.is_packets(data):
@@ -115,7 +125,7 @@ def read_log(data: bytes, ask: Options) -> Log:
     try:
         return FORMS[form][1](text, ask)
     except LogError:
-        if ask.form is not None or form not in ("tshark-fields", "hex", "blocks"):
+        if ask.form is not None or form not in ("tshark-fields", "csv-table", "hex", "blocks"):
             raise
         found = _trace(text, ask)  # a table or blocks may be a trace with directions in words
         if found is None:
@@ -139,11 +149,11 @@ def _is_raw(data: bytes) -> bool:
 
 def capture_of(log: Log, ask: Options) -> Tuple[Capture, List[str]]:
     """The capture of a log, and remarks on what was found."""
-    pieces = in_order([one for one in log.pieces if one.data or one.side == "R"])
+    pieces = in_order([one for one in log.pieces if one.data or one.side == NEW])
     if not any(one.data for one in pieces):
         raise LogError("no bytes of a line are in the log")
     remarks = [f"form: {log.form}"] + log.remarks
-    sides = list(dict.fromkeys(one.side for one in pieces if one.side != "R"))
+    sides = list(dict.fromkeys(one.side for one in pieces if one.side != NEW))
     if len(sides) == 1:
         pieces = _of_one_side(pieces, ask, remarks)
         sides = ["analyzer", "computer"]
@@ -193,6 +203,13 @@ def _of_one_side(pieces: List[Piece], ask: Options, remarks: List[str]) -> List[
     return told
 
 
+def swapped(capture: Capture) -> Capture:
+    """A capture the other way round: the sides are swapped. What befell the computer's receiver says nothing then."""
+    told = [(line, time) for (_, line), time in zip(capture.lines, capture.times) if line.mark in ("", ">", "<")]
+    lines = [line._replace(mark={">": "<", "<": ">"}.get(line.mark, "")) for line, _ in told]
+    return Capture(1, list(enumerate(lines, 1)), [time for _, time in told])
+
+
 def _analyzer(pieces: List[Piece], sides: List[str], ask: Options, remarks: List[str]) -> str:
     """The side that is the analyzer: the one that is named; the only one that sends ENQ, or frames; the one that sends
     results or queries; the first that sends ENQ."""
@@ -213,7 +230,7 @@ def _analyzer(pieces: List[Piece], sides: List[str], ask: Options, remarks: List
                 remarks.append(f"both sides send ENQ; the analyzer is {telling[0]!r}: it alone sends results or queries "
                                "(--swap turns that round)")
                 return telling[0]
-            first = next(piece.side for piece in pieces if piece.side != "R" and ENQ in piece.data)
+            first = next(piece.side for piece in pieces if piece.side != NEW and ENQ in piece.data)
             remarks.append(f"both sides send ENQ; the first, {first!r}, is taken for the analyzer (--swap turns it round)")
             return first
     raise LogError("neither side sends ENQ or STX: name the analyzer's side by --analyzer " + " or --analyzer ".join(sides))
@@ -224,7 +241,7 @@ def _grouped(pieces: List[Piece]) -> List[Piece]:
     told: List[Piece] = []
     single = False
     for piece in pieces:
-        if told and single and len(piece.data) == 1 and piece.side == told[-1].side != "R" and not _ends(told[-1].data):
+        if told and single and len(piece.data) == 1 and piece.side == told[-1].side != NEW and not _ends(told[-1].data):
             told[-1] = told[-1]._replace(data=told[-1].data + piece.data)
             continue
         single = len(piece.data) == 1
@@ -236,7 +253,7 @@ def _by_units(pieces: List[Piece]) -> List[Piece]:
     """A line for each unit, whatever pieces the log has: so logs of one session by several tools give one capture."""
     told: List[Piece] = []
     for piece in pieces:
-        if piece.side == "R":
+        if piece.side == NEW:
             told.append(piece)
             continue
         start = 0
@@ -264,7 +281,7 @@ def _lines(pieces: List[Piece], analyzer: str, timer: Optional[float]) -> Captur
     times: List[Optional[int]] = []
     last: Optional[int] = None
     for piece in pieces:
-        if piece.side == "R":
+        if piece.side == NEW:
             lines.append(Line("R"))
             times.append(piece.time)
             continue

@@ -1,6 +1,7 @@
 """Logs with a line for each piece: a direction, and the bytes as hex, decimal, binary or Python's b'..', or as text with
 control bytes in words such as <STX>. Analyzers' and drivers' traces, Docklight, terminal programs."""
 import ast
+import csv
 import html
 import json
 import re
@@ -11,10 +12,10 @@ from .log import CONTROL, Log, LogError, Piece, encode, find_time, hex_row
 _NAMES = "|".join(sorted(CONTROL, key=len, reverse=True))
 #: A control byte in words: <STX>, [STX], {STX}, (STX), <0x02>, <02>, \x02, or a control picture.
 _WORD = re.compile(r"[<\[{(](?P<name>" + _NAMES + r")[>\]})]|[<\[{](?:0x|\$)?(?P<hex>[0-9A-Fa-f]{2})[>\]}]|"
-                   r"\\x(?P<x>[0-9A-Fa-f]{2})|(?P<picture>[\u2400-\u2421])", re.I)
-_SURE = re.compile(r"[<\[{(](?:ENQ|STX|ETX|ETB|EOT|ACK|NAK)[>\]})]|<(?:0x)?0[2-6]>|\\x0[2-6]|[\u2401-\u2406]", re.I)
-_OUT = r"TX|TXD|SEND(?:ING|ALL|TO)?|SENT|WRITE|WRITTEN|WRITING|OUT(?:PUT|GOING)?|TRANSMIT(?:TED)?"
-_IN = r"RX|RXD|RECV(?:D|FROM)?|RECEIVED?|RECEIVING|READ|READING|IN(?:PUT|COMING)?"
+                   r"\\(?:x|u00)(?P<x>[0-9A-Fa-f]{2})|(?P<picture>[\u2400-\u2421])", re.I)
+_SURE = re.compile(r"[<\[{(](?:ENQ|STX|ETX|ETB|EOT|ACK|NAK)[>\]})]|<(?:0x)?0[2-6]>|\\(?:x|u00)0[2-6]|[\u2401-\u2406]", re.I)
+_OUT = r"TX|TXD|SEND(?:ING|ALL|TO)?|SENT|WRITE|WRITTEN|WRITING|WROTE|XMIT|GESENDET|ENVIADO|ENVOY[EÉ]|OUT(?:PUT|GOING)?|TRANSMIT(?:TED)?"
+_IN = r"RX|RXD|RECV(?:D|FROM)?|RECEIVED?|RECEIVING|RCVD?|READ|READING|EMPFANGEN|RECIBIDO|RE[CÇ]U|IN(?:PUT|COMING)?"
 _NAME = r"[\w.:@/\-]*[\w.@/]"
 #: Directions, the most telling first. A named arrow tells who sends.
 _MARKS: List[Tuple["re.Pattern[str]", Callable[["re.Match[str]"], str]]] = [
@@ -22,6 +23,7 @@ _MARKS: List[Tuple["re.Pattern[str]", Callable[["re.Match[str]"], str]]] = [
      lambda found: found["a"]),
     (re.compile(r"(?P<a>%s)\s*(?:<-{1,3}|<={1,3}|←|«|⇐)\s*(?P<b>%s)(?=\s*(?:[:|\-=,\])]|\s|$))" % (_NAME, _NAME)),
      lambda found: found["b"]),
+    (re.compile(r"(?P<a>[\w.\-]+[.:]\d+)\s+>\s+(?P<b>[\w.\-]+[.:]\d+)(?=\s*:|\s|$)"), lambda found: found["a"]),
     (re.compile(r"\[?\b(?P<a>%s)\b\]?" % _OUT, re.I), lambda found: "out"),
     (re.compile(r"\[?\b(?P<a>%s)\b\]?" % _IN, re.I), lambda found: "in"),
     (re.compile(r"(?P<a>>{2,3}|<{2,3}(?!\w))"), lambda found: found["a"][0] * 2),
@@ -29,9 +31,11 @@ _MARKS: List[Tuple["re.Pattern[str]", Callable[["re.Match[str]"], str]]] = [
     (re.compile(r"(?P<a><-{1,3}|<={1,2}|←|⇐)"), lambda found: "<-"),
     (re.compile(r"\b(?P<a>analy[sz]er|instrument|device|host|lis|lims|his|pc|computer|client|server|com\d+|middleware|"
                 r"dte|dce|a|b|s|r)\s*(?=[:>|\])])", re.I), lambda found: found["a"].lower()),
+    (re.compile(r"\b(?P<a>com\d+|(?<=/dev/)tty\w+)\b", re.I), lambda found: found["a"].lower()),
     (re.compile(r"^(?P<a>[<>])(?=\s)"), lambda found: found["a"]),
 ]
-_SEPARATOR = re.compile(r"\s*(?:\(?\d+\s*(?:bytes?|chars?|B)\)?|len(?:gth)?\s*[=:]?\s*\d+)?\s*(?:[:\-=|>,\]]\s?)*\s*", re.I)
+_CLOCK_FIRST = re.compile(r"^(?:\d{1,4}[-/.]\d{1,2}[-/.]\d{1,4}[T ])?\d{1,2}:\d\d:\d\d(?:[.,]\d+)?[\s,;|]+")
+_SEPARATOR = re.compile(r"\s*(?:\(?\d+\s*(?:bytes?|chars?|B)\)?|len(?:gth)?\s*[=:]?\s*\d+)?\s*(?:(?:[:\-=|>,;\]]|<(?=\s))\s?)*\s*", re.I)
 
 
 class Grammar(NamedTuple):
@@ -138,6 +142,11 @@ def traces(text: str) -> Log:
     marked = [_split(line, grammar) for line in lines]
     if sum(one is not None for one in marked) == 0:
         return _unmarked(lines, grammar)
+    sure = [(number, line) for number, line in enumerate(lines, 1) if _SURE.search(line)]
+    if any(marked[number - 1] is None for number, _ in sure):
+        named = _named(sure, grammar)
+        if named is not None:
+            return named
     pieces: List[Piece] = []
     left: List[int] = []
     for number, (line, found) in enumerate(zip(lines, marked), 1):
@@ -153,7 +162,26 @@ def traces(text: str) -> Log:
         else:
             left.append(number)
     remarks = ["lines without bytes were left out: " + ", ".join(map(str, left[:20]))] if left else []
+    if kind == "words":
+        _no_text_around(pieces)
+        pieces = _with_line_ends(pieces, remarks)
     return Log("trace-" + kind, pieces, remarks)
+
+
+def _no_text_around(pieces: List[Piece]) -> None:
+    """Where each ENQ and each reply has text around it, that text belongs to the log and not to the line."""
+    short = [piece.data for piece in pieces if 2 not in piece.data and re.search(rb"[\x05\x06\x15]", piece.data)]
+    if short and not any(re.match(rb"[\x04-\x06\x15]+$", data) for data in short):
+        raise LogError(f"each reply has text around it: what belongs to the line isn't clear ({short[0][:40]!r})")
+
+
+def _with_line_ends(pieces: List[Piece], remarks: List[str]) -> List[Piece]:
+    """A log that shows no LF at all leaves out what is behind each checksum: CR LF is put there, and told."""
+    frame = re.compile(rb"\x02[^\x02]*[\x03\x17][0-9A-Fa-f]{2}\r?$", re.S)
+    if any(b"\n" in piece.data for piece in pieces) or not any(frame.search(piece.data) for piece in pieces):
+        return pieces
+    remarks.append("the log shows no <LF>: CR LF is supposed behind each checksum")
+    return [piece._replace(data=piece.data.rstrip(b"\r") + b"\r\n") if frame.search(piece.data) else piece for piece in pieces]
 
 
 _DIRECTIONS = ("dir", "direction", "side", "from", "source", "src", "type", "event", "op")
@@ -179,11 +207,37 @@ def json_lines(text: str) -> Log:
     return Log("json-lines", pieces, [])
 
 
+def csv_table(text: str) -> Log:
+    """A table with a line of names: a column of bytes, and one of two names for the sides (a logic analyzer's export)."""
+    rows = list(csv.reader(text.splitlines(), delimiter=next(one for one in "\t;," if one in text.splitlines()[0])))
+    names = [name.strip().lower() for name in rows.pop(0)]
+    rows = [row for row in rows if len(row) >= len(names)]
+    data = next((names.index(one) for one in ("data", "bytes", "payload", "hex", "value") if one in names), None)
+    if data is None or not rows:
+        raise LogError("the table has no column of bytes")
+    sides = [place for place, name in enumerate(names) if place != data and len({row[place] for row in rows}) == 2 and
+             name in ("name", "dir", "direction", "side", "source", "port", "channel", "type", "from", "operation")]
+    clock = next((place for place, name in enumerate(names) if name.startswith(("time", "start", "date"))), None)
+    pieces = []
+    for number, row in enumerate(rows, 2):
+        read = _hex(row[data])
+        if read is None and row[data].strip():
+            raise LogError(f"no bytes in the column {names[data]}: {row[data][:40]!r}", number)
+        if read:
+            stamp = row[clock] if clock is not None else ""
+            seconds = re.match(r"\d+\.\d+$", stamp)
+            time = int(float(stamp) * 1_000_000) * 1000 if seconds else find_time(stamp)
+            pieces.append(Piece(time, row[sides[0]] if sides else "", read))
+    return Log("csv-table", pieces, [])
+
+
 def _goes_on(line: str, grammar: Grammar, pieces: List[Piece]) -> bool:
     """Whether a line without a direction is more of the bytes before it: it holds nothing else than bytes."""
     if not pieces or find_time(line) is not None:
         return False
     if grammar.name == "words":
+        if pieces[-1].data.rfind(2) > pieces[-1].data.rfind(10) and not _SURE.match(line.strip()):
+            return True  # the frame before isn't ended
         return bool(_WORD.match(line.strip())) and not re.match(r"[<\[](?:ENQ|ACK|NAK|EOT|STX)[>\]]", line.strip(), re.I)
     return bool(re.match(r"\s+\S|[0-9A-Fa-f]{2}[\s,]", line)) and grammar.read(line.strip()) is not None
 
@@ -207,7 +261,10 @@ def _split(line: str, grammar: Grammar) -> Optional[Tuple[str, str, bytes]]:
             if grammar.name == "words":
                 body = rest[len(rest) - len(rest.lstrip()):]
                 body = re.sub(r"^(?:\(?\d+\s*(?:bytes?|chars?)\)?)?[:\-=|,\]]*(?:\s*[:\-|])?\s?", "", body, flags=re.I)
+            body = _CLOCK_FIRST.sub("", body)
             data = grammar.read(body)
+            if not data:
+                data = grammar.read(re.sub(r"^\s*[\[(]\d+[\])]\s*", "", body))
             if data:
                 if best is None:
                     best = (rank, line[:found.start()], side(found), data)
@@ -220,6 +277,18 @@ def _split(line: str, grammar: Grammar) -> Optional[Tuple[str, str, bytes]]:
 def _is_head(text: str) -> bool:
     """Whether what is before a direction is a head: times, levels, counters, names; no bytes in words."""
     return len(text) < 120 and not _SURE.search(text)
+
+
+def _named(read: List[Tuple[int, str]], grammar: Grammar) -> Optional[Log]:
+    """A log whose lines each begin with one of two names."""
+    pieces = []
+    for _, line in read:
+        found = re.match(r"\W*(?:[\d/.\-]*[ T]?\d{1,2}:\d\d:\d\d(?:[.,]\d+)?)?\W*([A-Za-z][\w ]{0,24}?)\s*[:>|\]]+\s*(.+)$", line)
+        data = grammar.read(found[2]) if found else None
+        if not found or not data:
+            return None
+        pieces.append(Piece(find_time(line), found[1], data))
+    return Log("trace-" + grammar.name, pieces, []) if len({one.side for one in pieces}) == 2 else None
 
 
 def _unmarked(lines: List[str], grammar: Grammar) -> Log:
@@ -250,6 +319,9 @@ def _unmarked(lines: List[str], grammar: Grammar) -> Log:
         else:
             side = "replies" if data in (b"\x06", b"\x15") else "rest"
         pieces.append(Piece(find_time(line), side, data))
+    named = _named(read, grammar)
+    if named is not None:
+        return named
     remarks = ["no line has a direction: " + ("the columns are taken for the two sides" if wide else
                                               "lines that are one ACK or NAK are taken for the computer's")]
     left = [number for number, line in enumerate(lines, 1) if line.strip() and number not in {one for one, _ in read}]

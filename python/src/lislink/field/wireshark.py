@@ -165,6 +165,9 @@ def _side_columns(rows: List[Tuple[int, List[str]]], payload: int, names: List[s
             two.append(place)
     if port is not None:
         two = [one for one in two if any(row[one] == str(port) for _, row in rows)] or two
+    # Addresses tell best, then ports; a column of lengths may have two values too.
+    two.sort(key=lambda place: (not all(re.match(r"[\d.]+\.[\d.]+\.|.*:.*:", row[place]) for _, row in rows),
+                                not all(row[place].isdigit() and int(row[place]) > 300 for _, row in rows)))
     if not two:
         raise LogError("no column tells the two sides apart: ask tshark for -e tcp.srcport")
     return two[:1]
