@@ -192,7 +192,7 @@ fn read_parted(
     let Some(front) = component_front(delimiters, given) else {
         return read_field(alloc, delimiters, text);
     };
-    // A component delimiter is no repeat delimiter, since delimiters are apart.
+    // proof: a component delimiter is no repeat delimiter, since delimiters are apart.
     let _ = delimiters.field();
     let mut repeat = first_front(alloc, delimiters, given, front)?;
     let (_, mut rest) = text.split_at(front.0);

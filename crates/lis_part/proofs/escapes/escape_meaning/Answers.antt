@@ -43,6 +43,3 @@ returns-in-Some-first_pair c = (
       c.in-Some-first_pair.ensures.0,
   c.in-Some-first_pair.ensures.1,
 )
-
-pub first_pair-requires : goal.first_pair-requires
-first_pair-requires c = sym c.are_pairs.ensures ∙ c.if-not-are_pairs.false
