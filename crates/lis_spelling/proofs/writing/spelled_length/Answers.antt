@@ -13,17 +13,3 @@ returns c =
     let whole = ap length (c.begin_record-cursor.ensures.whole
     ∙ append-nil (spelled c.args.delimiters.now c.args.entry.now)) in
     omega (arith, i.same, i.bound, none, done, size, whole)
-
-pub loop-cursor-preserved : goal.loop-cursor-preserved
-loop-cursor-preserved c =
-    let l = c.loop-cursor in
-    let top = 2 ^ 64 - 1 in
-    let counted = rw c.len.ensures.len at c.saturating_add-count.ensures in
-    let left = ap length (rw c.clear.ensures at c.fill.ensures.same) in
-    record {
-      same = ap (λ (n : ℕ). min (c.saturating_add-count.result + n) top) left
-          ∙ sum_told l.count (length l.chunk) (length l.cursor) c.saturating_add-count.result _ top counted refl
-          ∙ ap (λ (n : ℕ). min (l.count + n) top) (sym (length-append l.chunk l.cursor)) ∙ l.invariant.same;
-      filled = c.fill.ensures.done;
-      bound = omega (arith, counted);
-    }

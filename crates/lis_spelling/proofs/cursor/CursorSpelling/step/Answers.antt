@@ -59,20 +59,3 @@ returns-clause-done c = λ _.
           c.in_default-split_first-2.ensures.cases c.in_default-split_first-3.ensures.cases,
       refl,
     )
-
-pub returns-in-Some-clause-more : goal.returns-in-Some-clause-more
-returns-in-Some-clause-more c = λ _. put-more c.args.chunk.now c.push.new.self c.component.result c.push.ensures
-
-pub returns-in-Some-split_first-clause-more : goal.returns-in-Some-split_first-clause-more
-returns-in-Some-split_first-clause-more c = λ _.
-    put-more c.args.chunk.now c.push-in-Some-split_first.new.self c.repeat.result c.push-in-Some-split_first.ensures
-
-pub returns-in-Some-split_first-2-clause-more : goal.returns-in-Some-split_first-2-clause-more
-returns-in-Some-split_first-2-clause-more c = λ _.
-    put-more c.args.chunk.now c.push-in-Some-split_first-2.new.self c.field.result
-    c.push-in-Some-split_first-2.ensures
-
-pub returns-in-Some-split_first-3-clause-more : goal.returns-in-Some-split_first-3-clause-more
-returns-in-Some-split_first-3-clause-more c = λ _.
-    put-more c.args.chunk.now c.push-in-Some-split_first-3.new.self c.in-Some-split_first-3.byte.now
-    c.push-in-Some-split_first-3.ensures

@@ -1,4 +1,0 @@
-use Rattle.lis_spelling.proofs.pieces.FieldSpelling.new.Goals as goal
-
-pub returns : goal.returns
-returns c = c.begin_field-cursor.ensures.whole
