@@ -34,6 +34,7 @@ def run(count):
     of_errors(count)
     of_options(count)
     of_round_trips(count)
+    of_bytes(count)
 
 
 def of_samples(count):
@@ -189,3 +190,22 @@ def written(pieces):
         for mark, _, data in rows).encode()
     yield "json", "".join(json.dumps({"dir": "rx" if mark == ">" else "tx", "data": data.hex()}) + "\n" for mark, _, data in rows).encode()
     yield "pcapng", field_packets.pcapng(field_packets.segments(pieces))
+
+
+def of_bytes(count):
+    """Logs of text with the bytes as they came, and letters over 127."""
+    session = timed_session()
+    wanted = bytes_of(SESSION).decode()
+    for name, line in (("LF", b"\n"), ("CR LF", b"\r\n")):
+        text = b"".join(b"2026-11-20 09:15:02.%03d %s: " % (int(time * 1000), b"RX" if mark == ">" else b"TX") + data + line
+                        for mark, time, data in session)
+        count.same(f"control bytes in a log, {name}", lislab("capture", count.path("log", text)).text, wanted)
+    for name, letters in (("Latin-1", "é".encode("latin-1")), ("UTF-8", "é".encode("utf-8")), ("GBK", "病".encode("gbk"))):
+        text = b"RX: <ENQ>\nTX: <ACK>\nRX: <STX>1" + letters + b"<CR><ETX>00<CR><LF>\n"
+        lines = lislab("capture", count.path("log", text)).lines
+        count.same(f"letters of {name}", lines[2:], ["> 0231" + letters.hex() + "0d0330300d0a"])
+    text = "RX: <ENQ>\r\nTX: <ACK>\r\nRX: <STX>1é<CR>\r\n".encode("utf-16")
+    count.same("letters of UTF-16", lislab("capture", count.path("log", text)).lines[2:], ["> 0231e90d"])
+    count.has("text around each reply", lislab("capture", count.path("log", b"RX: a <ENQ>\nTX: b <ACK>\n")).error, "text around it")
+    swapped = lislab("capture", SESSION, "--swap").text
+    count.same("a capture is turned round", swapped, wanted.replace(">", "x").replace("<", ">").replace("x", "<"))

@@ -169,7 +169,7 @@ def of_words(count):
     late = count.path("late.capture", b"> 05\n< 06\n> 0231410337350d0a\n< 06\n> 04\n")
     count.path("late.capture.times", b"09:00:00.000\n09:00:20.000\n09:01:00.000\n09:01:00.100\n09:01:00.200\n")
     shown = lislab("ladder", late).text
-    count.has("a late answer", shown, "1 answers came over 15 seconds late")
+    count.has("a late answer", shown, "1 answer came over 15 seconds late")
     count.has("a silence", shown, "60.0 seconds of silence")
     count.has("a gap", shown, "20.0 s later")
     ladder = Ladder(read_capture(bytes_of(os.path.join(ROOT, "samples", "two-sessions.capture"))))

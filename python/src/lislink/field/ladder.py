@@ -1,4 +1,6 @@
 """A session as a ladder: each unit and reply of a capture with what it means to the proved receiver, and why."""
+import bisect
+import itertools
 from typing import Dict, Iterator, List, NamedTuple, Optional, Tuple, Union
 
 from ..capture import Capture, Line
@@ -68,16 +70,14 @@ class Ladder:
             self._end(receiver, capture)
         stream = b"".join(text.data for text in self.texts)
         self.stream = stream
+        self._ends = list(itertools.accumulate(len(text.data) for text in self.texts))
         self.messages: List[Union[Found, Fault]] = list(read_all(stream, encoding))
         self.encoding = encoding
 
     def line_of(self, place: int) -> int:
         """The line of the capture at which this byte of the records was delivered."""
-        for text in self.texts:
-            if place < len(text.data):
-                return text.line
-            place -= len(text.data)
-        return self.texts[-1].line if self.texts else 0
+        number = min(bisect.bisect_right(self._ends, place), len(self.texts) - 1)
+        return self.texts[number].line if self.texts else 0
 
     def _take(self, receiver: Receiver, scanner: Scanner, number: int, line: Line, time: Optional[int]) -> None:
         if line.mark == ">":
@@ -228,7 +228,7 @@ class Ladder:
             note, level = "the computer's own session: not part of what the analyzer sends", "plain"
             self._computer_sends = data != b"\x04"
         elif len(data) < len(wanted) and wanted.endswith(data):
-            note, level = f"{len(wanted) - len(data)} answers before this one didn't come", "plain"
+            note, level = "an earlier unit wasn't answered", "plain"
         else:
             note = f"the receiver would answer {words(wanted)}" if wanted else "the receiver would answer nothing"
             level = "bad"

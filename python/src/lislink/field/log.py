@@ -104,20 +104,22 @@ def in_order(pieces: List[Piece]) -> List[Piece]:
 
 
 def decode(data: bytes) -> str:
-    """The text of a log: UTF-16 or UTF-8 by its byte order mark, UTF-8 if it is that, and Latin-1 otherwise."""
+    """The text of a log: UTF-16 by its byte order mark or its zeros, else UTF-8, in which other bytes stay what they are."""
     if data[:2] in (b"\xff\xfe", b"\xfe\xff"):
-        return data.decode("utf-16", "replace")
+        return _one_byte(data.decode("utf-16", "replace"))
     if len(data) > 3 and data[1:2] == b"\0" and data[3:4] == b"\0":
-        return data.decode("utf-16-le", "replace")
-    try:
-        return data.decode("utf-8-sig")
-    except UnicodeDecodeError:
-        return data.decode("latin-1")
+        return _one_byte(data.decode("utf-16-le", "replace"))
+    return data[3 if data[:3] == b"\xef\xbb\xbf" else 0:].decode("utf-8", "surrogateescape")
+
+
+def _one_byte(text: str) -> str:
+    """In UTF-16 the characters 128 to 255 are bytes of the line."""
+    return "".join(chr(0xDC00 + ord(one)) if 128 <= ord(one) < 256 else one for one in text)
 
 
 def encode(text: str) -> bytes:
-    """Characters of a log as the bytes that they were: Latin-1 where that has them, UTF-8 for the others."""
-    return b"".join(one.encode("latin-1") if ord(one) < 128 else one.encode("utf-8") for one in text)
+    """Characters of a log as the bytes that they are in it."""
+    return text.encode("utf-8", "surrogateescape")
 
 
 CONTROL = {name: number for number, name in enumerate(

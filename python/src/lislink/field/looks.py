@@ -21,6 +21,14 @@ def looks_of(ladder: Ladder) -> List[Look]:
     return sorted(found, key=lambda look: order[look.level])
 
 
+def _times(count: int) -> str:
+    return "once" if count == 1 else f"{count} times"
+
+
+def _many(count: int, name: str) -> str:
+    return f"{count} {name}" if count == 1 else f"{count} {name}s"
+
+
 def _lines(rows: List[Row]) -> List[int]:
     return list(dict.fromkeys(row.line for row in rows))
 
@@ -56,7 +64,7 @@ def _no_protocol(ladder: Ladder) -> Iterator[Look]:
     elif 5 in data and 2 not in data:
         rows = [row for row in ladder.rows if row.kind == "ENQ"]
         level = "warn" if ladder.has_replies and all(row.raw == b"\x06" for row in ladder.rows if row.side == "<") else "bad"
-        yield Look("no-frame", level, f"ENQ came {len(rows)} times, and never a frame",
+        yield Look("no-frame", level, f"ENQ came {_times(len(rows))}, and never a frame",
                    "see whether the computer answers ACK, and what the analyzer sends behind it", _lines(rows)[:5])
 
 
@@ -93,14 +101,14 @@ def _from_zero(ladder: Ladder) -> Iterator[Look]:
 def _lost(ladder: Ladder) -> Iterator[Look]:
     rows = [row for row in ladder.rows if row.cause is not None and row.cause.name == "lost"]
     if rows:
-        yield Look("lost", "bad", f"{len(rows)} frames repeat the number before them with another text: acknowledged, and lost",
+        yield Look("lost", "bad", f"{_many(len(rows), 'frame')} with the number of the one before and another text: acknowledged, and lost",
                    "the sender doesn't count its frames, or missed an acknowledgement", _lines(rows)[:5])
 
 
 def _never_ended(ladder: Ladder) -> Iterator[Look]:
     if ladder.dropped:
         total = sum(count for _, count in ladder.dropped)
-        yield Look("etb", "bad", f"{total} bytes of text were dropped: their last frame ended in ETB, and none with ETX came",
+        yield Look("etb", "bad", f"{_many(total, 'byte')} of text dropped: their last frame ended in ETB, and none with ETX came",
                    "the last frame of a text must end in ETX", [line for line, _ in ladder.dropped][:5])
 
 
@@ -168,7 +176,7 @@ def _gives_up(ladder: Ladder) -> Iterator[Look]:
 def _not_open(ladder: Ladder) -> Iterator[Look]:
     rows = [row for row in ladder.rows if row.kind in ("frame", "bad") and row.note.startswith("the line isn't open")]
     if rows:
-        yield Look("not-open", "bad", f"{len(rows)} frames came while the line wasn't open: no ENQ before them, or it was given up",
+        yield Look("not-open", "bad", f"{_many(len(rows), 'frame')} came while the line wasn't open: no ENQ before them, or it was given up",
                    "begin the capture before ENQ; a sender must send ENQ first", _lines(rows)[:5])
 
 
@@ -176,7 +184,7 @@ def _dropped(ladder: Ladder) -> Iterator[Look]:
     rows = [row for row in ladder.rows if row.kind == "dropped"]
     if rows:
         parts = Counter("CR" if row.raw.rstrip(b"\x04").endswith(b"\r") else "other" for row in rows)
-        text = f"{len(rows)} frames were begun and dropped: no LF ended them"
+        text = f"{_many(len(rows), 'frame')} begun and dropped: no LF ended them"
         text += " (they end in CR alone)" if parts["CR"] == len(rows) else ""
         if all(re.match(rb"\x02[^\r\n]*[\x03]$|\x02.*\x03$", row.raw, re.S) for row in rows):
             text += " (they end in ETX: neither checksum nor CR LF)"
@@ -200,7 +208,7 @@ def _outside(ladder: Ladder) -> Iterator[Look]:
         yield Look("flow-control", "warn", "XON or XOFF is on the line: software flow control is on",
                    "turn XON/XOFF off at both ends", _lines(rows)[:5])
     else:
-        yield Look("outside", "warn", f"{len(data)} bytes are outside frames, and ignored", "", _lines(rows)[:5])
+        yield Look("outside", "warn", f"{_many(len(data), 'byte')} outside frames, ignored", "", _lines(rows)[:5])
 
 
 def _answers(ladder: Ladder) -> Iterator[Look]:
@@ -215,10 +223,10 @@ def _answers(ladder: Ladder) -> Iterator[Look]:
         rows = [row for row in ladder.rows if row.side == "<" and row.note.endswith(tail)]
         if rows:
             yield Look(name, "plain" if name == "interrupt" else "warn" if name == "busy" else "bad",
-                       f"{len(rows)} times {text}", advice, _lines(rows)[:5])
+                       f"{_times(len(rows))} {text}", advice, _lines(rows)[:5])
     rows = [row for row in ladder.rows if row.side == "<" and row.level == "bad" and ": " not in row.note]
     if rows:
-        yield Look("other-answer", "bad", f"{len(rows)} times the computer answers otherwise than a receiver would", "",
+        yield Look("other-answer", "bad", f"{_times(len(rows))} the computer answers otherwise than a receiver would", "",
                    _lines(rows)[:5])
 
 
@@ -245,7 +253,7 @@ def _no_answer(ladder: Ladder) -> Iterator[Look]:
         elif row.side == "<":
             before = None
     if rows:
-        yield Look("no-answer", "bad", f"the computer didn't answer {len(rows)} times where a receiver would",
+        yield Look("no-answer", "bad", f"the computer didn't answer {_times(len(rows))} where a receiver would",
                    "look whether it was running, and whether its line is wired back", _lines(rows)[:5])
 
 
@@ -259,11 +267,11 @@ def _late(ladder: Ladder) -> Iterator[Look]:
         if row.side in "<>":
             before = row if row.side == ">" else None
     if rows:
-        yield Look("late", "bad", f"{len(rows)} answers came over 15 seconds late: the sender has given up by then",
+        yield Look("late", "bad", f"{_many(len(rows), 'answer')} came over 15 seconds late: the sender has given up by then",
                    "a late ACK may be taken for another frame's: the sender needs a new connection", _lines(rows)[:5])
     silences = [row for row in ladder.rows if row.kind == "silence" and row.title.endswith("seconds of silence")]
     if silences:
-        yield Look("silence", "warn", f"{len(silences)} times the analyzer was silent for over 30 seconds in a session",
+        yield Look("silence", "warn", f"{_times(len(silences))} the analyzer was silent for over 30 seconds in a session",
                    "`lislab capture --timer 30` puts the lines T", _lines(silences)[:5])
 
 
@@ -297,7 +305,7 @@ def _records(ladder: Ladder) -> Iterator[Look]:
         yield Look("record-" + cause.name, "bad", f"record {fault.error.number} of a message is rejected ({code_of(fault.error)}): "
                    f"{cause.words}", advice, [ladder.line_of(min(fault.place, max(len(ladder.stream) - 1, 0)))])
     if len(faults) > 8:
-        yield Look("records", "bad", f"{len(faults) - 8} more messages are rejected", "", [])
+        yield Look("records", "bad", f"{_many(len(faults) - 8, 'more message')} rejected", "", [])
 
 
 def _was_lost(ladder: Ladder) -> bool:
@@ -314,7 +322,7 @@ def record_at(stream: bytes, place: int) -> bytes:
 def _sequence(ladder: Ladder) -> Iterator[Look]:
     count = sum(len(one.message.findings()) for one in ladder.messages if isinstance(one, Found))
     if count:
-        yield Look("sequence", "warn", f"{count} records have a sequence number that isn't their position",
+        yield Look("sequence", "warn", f"{_many(count, 'sequence number')} of records isn't the position: not counted from 1, or not in order",
                    "readers that rely on it may mix results up", [])
 
 

@@ -22,7 +22,7 @@ text-transform:uppercase;letter-spacing:.03em}.tag.good{background:var(--good)}.
 .tools input[type=search]{width:22rem;max-width:60%;padding:.3rem .5rem;font:inherit}.tools label{margin-left:.8rem}
 .tools button{font:inherit;margin-left:.8rem}.tools output{margin-left:.8rem;color:#556}
 table{border-collapse:collapse;width:100%;table-layout:fixed}th{font-weight:600;text-align:left;padding:.2rem .4rem;border-bottom:2px solid var(--line)}
-td{padding:.12rem .4rem;vertical-align:top}col.n{width:4.2rem}col.t{width:9rem}col.a{width:42%}col.c{width:8.5rem}
+td{padding:.12rem .4rem;vertical-align:top}col.n{width:4.2rem}col.t{width:9rem}col.a{width:37%}col.c{width:7rem}
 td.n,td.t{color:#667;font-family:ui-monospace,"DejaVu Sans Mono",monospace;font-size:.82em}td.a{border-left:3px solid var(--line)}
 td.c{border-right:3px solid var(--line);text-align:right}tr.event td{color:#445;background:#eef2f7;text-align:center}
 tr.event td.n,tr.event td.t{text-align:left}tr.bad>td{background:#fdecea}tr.warn>td{background:#fff6e3}
@@ -170,7 +170,7 @@ def page_of(ladder: Ladder, name: str) -> str:
     """The page."""
     looks = looks_of(ladder)
     counts = ladder.counts()
-    shown = "".join(f'<span data-count="{_esc(key)}"><b>{value}</b> {_esc(key)}</span>' for key, value in counts.items()
+    shown = "".join(f'<span data-count="{_esc(key)}"><b>{value}</b> {_esc(key[:-1] if value == 1 and key.endswith("s") else key)}</span>' for key, value in counts.items()
                     if value or key in ("frames", "texts", "differences"))
     messages = "".join(_messages(ladder))
     return f"""<!doctype html>

@@ -117,7 +117,8 @@ def _read_log(data: bytes, ask: Options) -> Log:
         log = packets.read_packets(packets.packets_of(data, remarks), "pcap", ask.stream, ask.port)
         return log._replace(remarks=log.remarks + remarks)
     if ask.form == "raw" or ask.form is None and _is_raw(data):
-        return Log("raw", [Piece(None, "", data)], [])
+        mixed = traces.with_control_bytes(data) if ask.form is None else None
+        return mixed or Log("raw", [Piece(None, "", data)], [])
     text = decode(data)
     form = ask.form or form_of(text)
     if form == "pcap" or form not in FORMS:

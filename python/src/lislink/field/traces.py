@@ -231,6 +231,32 @@ def csv_table(text: str) -> Log:
     return Log("csv-table", pieces, [])
 
 
+def with_control_bytes(data: bytes) -> Optional[Log]:
+    """A log of text in which the bytes of the line are as they came, control bytes too: an entry begins at each line with a
+    time, or at its start, and a direction, and holds all up to the next one. None if the bytes are no such log."""
+    entries: List[Tuple[int, int, str, Optional[int]]] = []  # where the line and its bytes begin, the side, the time
+    at = 0
+    for row in data.split(b"\n"):
+        head = re.split(rb"[\x00-\x08\x0e-\x1f]", row[:160])[0].decode("latin-1")
+        found = next((one for one in ((pattern.search(head), side) for pattern, side in _MARKS) if one[0]), None)
+        if found and found[0] and (find_time(head[:found[0].start()]) is not None or found[0].start() <= 1):
+            rest = re.match(r"\]?(?:\s*[:\-=|])*\s?", head[found[0].end():])
+            start = at + found[0].end() + (rest.end() if rest else 0)
+            entries.append((at, start, found[1](found[0]), find_time(head[:found[0].start()])))
+        at += len(row) + 1
+    if len({side for _, _, side, _ in entries}) != 2:
+        return None
+    bodies = [data[start:end] for (_, start, _, _), end in zip(entries, [one[0] for one in entries[1:]] + [len(data)])]
+    ends = [found[1] for found in (re.match(rb"[\x04-\x06\x15](\r?\n)$", body) for body in bodies) if found]
+    end_of_line = max(set(ends), key=ends.count) if ends else b"\n"
+    pieces = []
+    for (_, _, side, time), body in zip(entries, bodies):
+        bare = body[:-len(end_of_line)] if body.endswith(end_of_line) else body
+        # Where a frame's own CR LF ends the line, the log has no other.
+        pieces.append(Piece(time, side, body if re.search(rb"[\x03\x17][0-9A-Fa-f]{2}\r?$", bare) else bare))
+    return Log("trace-bytes", pieces, [])
+
+
 def _goes_on(line: str, grammar: Grammar, pieces: List[Piece]) -> bool:
     """Whether a line without a direction is more of the bytes before it: it holds nothing else than bytes."""
     if not pieces or find_time(line) is not None:
