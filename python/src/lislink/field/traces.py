@@ -247,13 +247,13 @@ def with_control_bytes(data: bytes) -> Optional[Log]:
     if len({side for _, _, side, _ in entries}) != 2:
         return None
     bodies = [data[start:end] for (_, start, _, _), end in zip(entries, [one[0] for one in entries[1:]] + [len(data)])]
-    ends = [found[1] for found in (re.match(rb"[\x04-\x06\x15](\r?\n)$", body) for body in bodies) if found]
+    ends = [found[1] for found in (re.match(rb"[\x04-\x06\x15](\r?\n)\Z", body) for body in bodies) if found]
     end_of_line = max(set(ends), key=ends.count) if ends else b"\n"
     pieces = []
     for (_, _, side, time), body in zip(entries, bodies):
         bare = body[:-len(end_of_line)] if body.endswith(end_of_line) else body
         # Where a frame's own CR LF ends the line, the log has no other.
-        pieces.append(Piece(time, side, body if re.search(rb"[\x03\x17][0-9A-Fa-f]{2}\r?$", bare) else bare))
+        pieces.append(Piece(time, side, body if re.search(rb"[\x03\x17][0-9A-Fa-f]{2}\r?\Z", bare) else bare))
     return Log("trace-bytes", pieces, [])
 
 
