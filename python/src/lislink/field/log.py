@@ -35,7 +35,7 @@ class Log(NamedTuple):
 
 
 _MONTHS = {name: number for number, name in enumerate("jan feb mar apr may jun jul aug sep oct nov dec".split(), 1)}
-_CLOCK = r"(?P<h>\d{1,2}):(?P<m>\d\d):(?P<s>\d\d)(?:\s?(?P<ap>[AaPp][Mm]))?(?:[.,:](?P<f>\d{1,9}))?(?:\s?(?P<ap2>[AaPp][Mm]))?(?![:\d])"
+_CLOCK = r"(?P<h>\d{1,2}):(?P<m>\d\d):(?P<s>\d\d)(?:\s?(?P<ap>[AaPp][Mm]))?(?:[.,:](?P<f>\d{1,9}))?(?:\s?(?P<ap2>[AaPp][Mm]))?(?!:?\d)"
 _DATES = [re.compile(pattern + _CLOCK) for pattern in (
     r"(?P<y>\d{4})[-/.](?P<mo>\d{1,2})[-/.](?P<d>\d{1,2})[T ,;]*", r"(?P<d>\d{1,2})[-/.](?P<mo>\d{1,2})[-/.](?P<y>\d{4})[T ,;]*",
     r"(?P<mon>[A-Za-z]{3}) {1,2}(?P<d>\d{1,2}),? (?P<y>\d{4}),? ", r"(?<![\d:.])")]
@@ -162,6 +162,6 @@ def hex_row(text: str, most: int = 64) -> Optional[bytes]:
 
 def _shows(rest: str, data: bytes) -> bool:
     """Whether what is behind the pairs shows these bytes. Blanks before the text may belong to the dump or to it."""
-    bare = rest.rstrip("\r\n")
+    bare = rest.rstrip()
     return any(bare[:cut].isspace() and ascii_fits(bare[cut:], data) for cut in range(1, len(bare))
                if cut <= len(bare) - len(bare.lstrip()) and cut >= 1)

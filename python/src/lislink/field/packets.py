@@ -340,7 +340,7 @@ def dumped_packets(text: str) -> Iterator[Packet]:
             relative = re.match(r"\s*\d+\s+(\d+)\.(\d{6,9})\s", row)
             if relative:
                 time = int(relative[1]) * SECOND + int(relative[2].ljust(9, "0"))
-            elif "Arrival Time" in row or re.match(r"(\d{4}-\d\d-\d\d )?\d\d:\d\d:\d\d\.\d+ |\d+\.\d+ IP", row):
+            elif "Arrival Time" in row or re.match(r"(\d{4}-\d\d-\d\d )?\d\d:\d\d:\d\d\.\d+ |\d{9,10}\.\d+ ", row):
                 time = find_time(row)
             continue
         else:
@@ -348,6 +348,18 @@ def dumped_packets(text: str) -> Iterator[Packet]:
         data += bytes.fromhex("".join(_pairs(found[2])))
     if data:
         yield _dumped(time, data)
+
+
+def k12_packets(text: str) -> Iterator[Packet]:
+    """The packets of a K12 text file: a line with the time, and one with the bytes between strokes."""
+    time = None
+    for row in text.splitlines():
+        stamp = re.match(r"(\d\d:\d\d:\d\d),(\d{3}),(\d{3})\s", row)
+        if stamp:
+            time = find_time(f"{stamp[1]}.{stamp[2]}{stamp[3]}")
+        found = re.match(r"\|0\s*\|((?:[0-9a-fA-F]{2}\|)+)\s*$", row)
+        if found:
+            yield Packet(time, 1, bytes.fromhex(found[1].replace("|", "")), 0)
 
 
 def _pairs(text: str) -> List[str]:

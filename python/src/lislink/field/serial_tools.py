@@ -155,16 +155,20 @@ _HEADS = [
     re.compile(r"\d+:?\s+\d.*?(?P<side>IRP_MJ_READ|IRP_MJ_WRITE)\b.*?(?:UP|DOWN)?.*$"),
     re.compile(r"\d{4}-\d\d-\d\d \d\d:\d\d:\d\d(?:\.\d+)?: (?P<side>\S+)\s*$"),  # jpnevulator
     re.compile(r"T (?:\d{4}/\d\d/\d\d \d\d:\d\d:\d\d\.\d+ )?(?P<side>\S+:\d+) -> \S+:\d+ \[\w+\].*$"),  # ngrep -x
+    re.compile(r"(?P<side>(?:\d{3}\.){4}\d{5})-(?:\d{3}\.){4}\d{5}: *$"),  # tcpflow -c -D
     re.compile(r"<?(?P<time>\d{14}\.\d{3}) (?P<side>TX|RX)>?\s*$"),  # Advanced Serial Port Logger
     re.compile(r"\[?[\d/.\- :]+(?:AM|PM)?\]?,?\s*\[?(?P<side>TX|RX|Read|Write|Sent|Received|IN|OUT)\]?\b[^0-9]*(?:\d+ bytes?\b.*|\(\d+.*)?$", re.I),
 ]
+
+
+_ROW_OFFSET = re.compile(r"^\s*(?:0x)?[0-9a-fA-F]{4,8}(?:[:h]\s{1,3}(?=[0-9a-fA-F]{2})|\s{1,3}(?=[0-9a-fA-F]{2}\s))")
 
 
 def is_blocks(text: str) -> bool:
     """Whether at least two lines with a side are each above a row of bytes."""
     rows = [line for line in text.splitlines() if line.strip() and not re.match(r"\s*Data:?\s*$", line)]
     return sum(1 for line, after in zip(rows, rows[1:]) if _head(line) and not _head(after) and
-               hex_row(re.sub(r"^\s*(?:Data:|(?:0x)?[0-9a-fA-F]{4,8}[:h]?\s(?=\s*[0-9a-fA-F]{2}\b))", " ", after)) is not None) >= 2
+               hex_row(_ROW_OFFSET.sub(" ", re.sub(r"^\s*Data:", " ", after))) is not None) >= 2
 
 
 def _head(line: str) -> "Optional[re.Match[str]]":
@@ -184,7 +188,7 @@ def blocks(text: str) -> Log:
     for number, line in enumerate(text.splitlines(), 1):
         head = _head(line)
         row = re.sub(r"^\s*Data:\s*", " ", line)
-        row = re.sub(r"^\s*(?:0x)?[0-9a-fA-F]{4,8}[:h]?\s{1,3}(?=[0-9a-fA-F]{2}\s)", " ", row) if side else row
+        row = _ROW_OFFSET.sub(" ", row) if side else row
         data = hex_row(row) if side and row[:1].isspace() or side and hex_row(row) else None
         if head:
             side, time, fresh = head["side"].lower(), find_time(line), True

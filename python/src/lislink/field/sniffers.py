@@ -1,6 +1,8 @@
 """Captures out of sniffers' logs: which form a log has, which side is the analyzer, and the lines of the capture."""
+import gzip
 import re
 import struct
+import zlib
 from typing import Callable, Dict, List, NamedTuple, Optional, Tuple
 
 from ..capture import Capture, Line, LINE_BYTES
@@ -54,8 +56,9 @@ FORMS: Dict[str, Tuple[str, Callable[[str, Options], Log]]] = {
     "blocks": (r"^\[.*?\]\s*(?:Read|Written|Received|Sent) data\b|^(?:Request|Answer):\s*\d|(?:Read|Write) (?:Request )?"
                r"\((?:UP|DOWN)\)|^\d{4}-\d\d-\d\d \d\d:\d\d:\d\d(?:\.\d+)?: \S+\s*\n|^T .*\S+:\d+ -> \S+:\d+ \[|"
                r"^<?\d{14}\.\d{3} (?:TX|RX)>?\s*$", lambda text, ask: serial_tools.blocks(text)),
-    "tshark-fields": (r"\A(?:[^\n]*\n)?[^\n]*?(?:\d+\.\d+|\d+|\")[\t,;|][^\n]*[0-9a-f]{2}\"?[ \t]*(?:\n|\Z)|\A[a-z]+(?:\.[a-z_]+)+[\t,;|]",
-                      lambda text, ask: wireshark.tshark_fields(text, ask.port, ask.stream)),
+    "k12": (r"^\|0\s*\|(?:[0-9a-f]{2}\|){20}", lambda text, ask: packets.read_packets(packets.k12_packets(text), "k12", ask.stream,
+                                                                                      ask.port)),
+    "tshark-fields": (r"[\t,;|]", lambda text, ask: wireshark.tshark_fields(text, ask.port, ask.stream)),
     "hex": ("", lambda text, ask: serial_tools.hex_dump(text)),
     "trace": ("", lambda text, ask: traces.traces(text)),
 }
@@ -93,12 +96,11 @@ def _is_ethernet(text: str) -> bool:
 
 
 def _is_table(text: str) -> bool:
-    rows = [line for line in text.splitlines() if line.strip()]
-    separator = next((one for one in "\t;|," if one in rows[-1]), None)
-    if separator is None:
+    """Whether each row has as many columns, and one of them holds bytes."""
+    try:
+        return wireshark.is_table(text)
+    except (LogError, ValueError, IndexError):
         return False
-    counts = {line.count(separator) for line in rows[-5:] if '"' not in line}
-    return len(counts) <= 1 and re.search(r"(?:^|[\t,;|\"])(?:[0-9a-fA-F]{2}[: ]?)+\"?\s*$", rows[-1]) is not None
 
 
 def read_log(data: bytes, ask: Options) -> Log:
@@ -110,6 +112,8 @@ def read_log(data: bytes, ask: Options) -> Log:
 
 
 def _read_log(data: bytes, ask: Options) -> Log:
+    if data[:2] == b"\x1f\x8b":
+        data = _unpacked(data)
     if not data.strip(b"\0\r\n\t "):
         raise LogError("the file is empty")
     if ask.form in ("pcap", None) and packets.is_packets(data):
@@ -142,10 +146,20 @@ def _trace(text: str, ask: Options) -> Optional[Log]:
     return log if log.pieces and not any("no line has a direction" in one for one in log.remarks) else None
 
 
+def _unpacked(data: bytes) -> bytes:
+    try:
+        return gzip.decompress(data)
+    except (OSError, EOFError, zlib.error) as error:
+        raise LogError(f"the file is packed and can't be unpacked: {error}") from None
+
+
 def _is_raw(data: bytes) -> bool:
     """Whether these are the bytes of the line themselves, not a log of them."""
     controls = sum(data.count(byte) for byte in (2, 3, 4, 5, 6, 0x15, 0x17))
-    return controls > 0 and data[:2] not in (b"\xff\xfe", b"\xfe\xff") and not data[1:2] == b"\0"
+    is_text = data[:2] in (b"\xff\xfe", b"\xfe\xff") or len(data) > 3 and data[1:2] == b"\0" == data[3:4]
+    if not is_text and data.count(0) * 12 > len(data):
+        raise LogError("a binary file of a form that isn't read here: save it as pcap or pcapng")
+    return controls > 0 and not is_text
 
 
 def capture_of(log: Log, ask: Options) -> Tuple[Capture, List[str]]:

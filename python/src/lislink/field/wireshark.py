@@ -7,7 +7,7 @@ import re
 from typing import Any, Dict, Iterator, List, Optional, Tuple
 
 from .log import SECOND, Log, LogError, Piece, find_time, hex_row
-from .packets import Segment, connections_of
+from .packets import Packet, Segment, connections_of, read_packets
 
 _HEX = re.compile(r"^(?:[0-9A-Fa-f]{2})(?:[:\- ]?[0-9A-Fa-f]{2})*$")
 
@@ -128,6 +128,15 @@ def tshark_fields(text: str, port: Optional[int] = None, stream: Optional[int] =
     return Log("tshark-fields", pieces, [])
 
 
+def is_table(text: str) -> bool:
+    """Whether this is a table of fields: each row has as many columns, and one column holds bytes."""
+    rows, names = _rows(text)
+    if len({len(row) for _, row in rows}) != 1 or len(rows[0][1]) < 2:
+        return False
+    payload = _payload(rows, names)
+    return any(_HEX.match(row[payload].strip()) for _, row in rows)
+
+
 def _rows(text: str) -> Tuple[List[Tuple[int, List[str]]], List[str]]:
     lines = [(number, line) for number, line in enumerate(text.splitlines(), 1) if line.strip()]
     first = lines[0][1]
@@ -224,11 +233,16 @@ def tshark_json(text: str, port: Optional[int] = None, stream: Optional[int] = N
             packets = [json.loads(line) for line in text.splitlines() if line.strip()]
         except json.JSONDecodeError as error:
             raise LogError(f"no JSON: {error.msg}", error.lineno) from None
-    told = []
+    told: List[Dict[str, str]] = []
+    raw: List[Packet] = []
     for packet in packets if isinstance(packets, list) else [packets]:
         flat = dict(_flat(packet))
         if flat.get("tcp.payload") and flat.get("tcp.srcport"):
             told.append(flat)
+        elif flat.get("frame_raw"):
+            raw.append(Packet(None, 1, bytes.fromhex(flat["frame_raw"]), 0))
+    if raw and not told:
+        return read_packets(iter(raw), "tshark-jsonraw", stream, port)
     if not told:
         raise LogError("no packet has tcp.payload")
     return _segments(told, "tcp.payload", "tshark-json", port, stream)
