@@ -51,7 +51,7 @@ digits_by high low value (Some x) None p q h = cc
 digits_by high low value (Some x) (Some y) p q h =
     record { high_value = x; low_value = y; is_high = p; is_low = q; value_is = grind (arith, nat_tests) }
 
-value_by : (high low value : ℕ) → IsDigits high low value
+pub value_by : (high low value : ℕ) → IsDigits high low value
     → is_value (pair_value (digit_value high) (digit_value low)) value ≡ true
 value_by high low value d = rw (d.is_high, d.is_low) (grind (arith, nat_tests, d.value_is))
 
@@ -167,7 +167,7 @@ between limit s frame is_frame =
     tail_of : {x y : ℕ} {xs ys : List ℕ} → x ∷ xs ≡ y ∷ ys → xs ≡ ys
     tail_of e = cc
 
-same_content : (frame : FrameContent) → frame ≡ record {
+pub same_content : (frame : FrameContent) → frame ≡ record {
   number = number_byte frame.number - 48;
   last = end_byte frame.last == ETX;
   text = frame.text;

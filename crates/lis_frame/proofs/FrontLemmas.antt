@@ -1,11 +1,15 @@
 -- A frame at the front of bytes, whatever follows it.
-use Rattle.std.proofs.Common.{◌≡◌, ℕ, suc, ◌+◌, ◌≤◌, List, [], ◌∷◌, ◌++◌, None, length, take, drop, get_or, refl, ap}
-use Rattle.std.proofs.Common.{sym, ◌∙◌, arith, append_assoc, length-take, take-append-drop}
-use Rattle.std.proofs.Math.Seq.{take-append-add}
-use Rattle.lis_text.specs.Control.{STX, LF}
-use Rattle.lis_frame.specs.Frame.{FrameContent, IsFrame}
-use Rattle.lis_frame.specs.Stretch.{stretch_of, content_of, stretch_fault}
-use Rattle.lis_frame.proofs.FrameLaws.{found}
+use Rattle.std.proofs.Common.{◌≡◌, ℕ, suc, ◌+◌, ◌%◌, ◌≤◌, Bool, true, false, cond, List, [], ◌∷◌, ◌++◌, None, Some}
+use Rattle.std.proofs.Common.{length, take, drop, get_or, refl, ap, sym, ◌∙◌, arith, add-zero, zero-add, append_assoc}
+use Rattle.std.proofs.Common.{length-take, take-append-drop}
+use Rattle.std.proofs.Math.Seq.{take-append-add, take-append_seam, drop-append_seam}
+use Rattle.std.specs.Prelude.{◌==◌, ◌&&◌, ◌||◌}
+use Rattle.std.specs.List.{position_from, sum}
+use Rattle.lis_text.specs.Control.{STX, ETX, ETB, CR, LF}
+use Rattle.lis_text.specs.Text.{first_forbidden, is_forbidden}
+use Rattle.lis_frame.specs.Frame.{BeginsWith, FrameContent, IsFrame, checksum, digit_value, end_byte, number_byte}
+use Rattle.lis_frame.specs.Stretch.{stretch_of, content_of, stretch_fault, is_value, pair_value}
+use Rattle.lis_frame.proofs.FrameLaws.{found, value_by}
 
 take_five : (xs : List ℕ) → 5 ≤ length xs → take 5 xs ≡ get_or xs 0 0 ∷ get_or xs 1 0 ∷ get_or xs 2 0
     ∷ get_or xs 3 0 ∷ get_or xs 4 0 ∷ []
@@ -43,3 +47,76 @@ pub front-frame :
     IsFrame limit (STX ∷ take (place + 6) (number ∷ behind)) frame
 front-frame limit number place behind frame fits five ended sound is =
     rw (front number place behind fits five ended, is) (found limit (stretch_at number behind place) sound)
+
+-- behind bytes that none is found in, the next one is the first
+first-behind :
+    (f : ℕ → Bool) (i : ℕ) (xs ys : List ℕ) (y : ℕ) → position_from f i xs ≡ None → f y ≡ true →
+    position_from f i (xs ++ y ∷ ys) ≡ Some (i + length xs)
+first-behind f i [] ys y clean found = rw (found, add-zero i) refl
+first-behind f i (x ∷ xs) ys y clean found = by (f x) clean (first-behind f (i + 1) xs ys y)
+  where
+    by :
+        (test : Bool) → cond test (Some i) (position_from f (i + 1) xs) ≡ None →
+        (position_from f (i + 1) xs ≡ None → f y ≡ true
+        → position_from f (i + 1) (xs ++ y ∷ ys) ≡ Some (i + 1 + length xs)) →
+        cond test (Some i) (position_from f (i + 1) (xs ++ y ∷ ys)) ≡ Some (i + suc (length xs))
+    by true clean later = cc
+    by false clean later = let at : i + suc (length xs) ≡ i + 1 + length xs = omega arith in
+        rw at (later clean found)
+
+pub same_place : {n m : ℕ} → Some n ≡ Some m → n ≡ m
+same_place e = cc
+
+second_of : {a b x y : ℕ} {xs ys : List ℕ} → a ∷ x ∷ xs ≡ b ∷ y ∷ ys → x ≡ y
+second_of e = cc
+
+behind_second : {a b x y : ℕ} {xs ys : List ℕ} → a ∷ x ∷ xs ≡ b ∷ y ∷ ys → xs ≡ ys
+behind_second e = cc
+
+-- what stands behind an STX and a number where bytes begin with a frame
+pub record FrontParts (limit number : ℕ) (behind : List ℕ) (frame : FrameContent) : Type 0 where
+  pub high : ℕ
+  pub low : ℕ
+  pub rest : List ℕ
+  pub number_is : number ≡ number_byte frame.number
+  pub short : length frame.text ≤ limit
+  pub first_is : first_forbidden behind ≡ Some (length frame.text)
+  pub text_is : take (length frame.text) behind ≡ frame.text
+  pub rest_is : drop (length frame.text) behind ≡ end_byte frame.last ∷ high ∷ low ∷ CR ∷ LF ∷ rest
+  pub shaped : (CR == CR && (end_byte frame.last == ETX || end_byte frame.last == ETB)) ≡ true
+  pub summed : is_value (pair_value (digit_value high) (digit_value low))
+      ((number + sum frame.text % 256 + end_byte frame.last) % 256) ≡ true
+
+pub front_parts : (limit number : ℕ) (behind : List ℕ) (frame : FrameContent)
+    → BeginsWith limit (STX ∷ number ∷ behind) frame → FrontParts limit number behind frame
+front_parts limit number behind frame begins =
+    let is = begins.is_frame in
+    let tail = end_byte frame.last ∷ is.high ∷ is.low ∷ CR ∷ LF ∷ [] in
+    let all : STX ∷ number ∷ behind ≡ STX ∷ number_byte frame.number ∷ ((frame.text ++ tail) ++ begins.behind) =
+    begins.bytes_are ∙ ap (λ (xs : List ℕ). xs ++ begins.behind) is.spelling in
+    let behind_is : behind ≡ frame.text ++ (tail ++ begins.behind) =
+    behind_second all ∙ append_assoc frame.text tail begins.behind in
+    let number_is : number ≡ number_byte frame.number = second_of all in
+    let total : (number + sum frame.text % 256 + end_byte frame.last) % 256 ≡ checksum frame = omega (arith, number_is) in
+    record {
+      high = is.high;
+      low = is.low;
+      rest = begins.behind;
+      number_is = number_is;
+      short = is.content.is_text.short;
+      first_is = rw behind_is (rw zero-add at (first-behind is_forbidden 0 frame.text
+          (is.high ∷ is.low ∷ CR ∷ LF ∷ begins.behind) (end_byte frame.last)
+          is.content.is_text.clean (forbidden frame.last)));
+      text_is = rw behind_is (take-append_seam frame.text (tail ++ begins.behind));
+      rest_is = rw behind_is (drop-append_seam frame.text (tail ++ begins.behind));
+      shaped = shaped frame.last;
+      summed = rw total (value_by is.high is.low (checksum frame) is.digits);
+    }
+  where
+    forbidden : (last : Bool) → is_forbidden (end_byte last) ≡ true
+    forbidden true = refl
+    forbidden false = refl
+
+    shaped : (last : Bool) → (CR == CR && (end_byte last == ETX || end_byte last == ETB)) ≡ true
+    shaped true = refl
+    shaped false = refl

@@ -22,7 +22,7 @@ use Rattle.lis_frame.proofs.StretchLemmas.{last_four_at, stretch_fault-few}
 use Rattle.lis_frame.proofs.ScannerLemmas.{kept-push}
 
 -- a run of plain bytes is kept as one
-pub with_bytes-beyond : (limit : ℕ) (run : List ℕ) → with_bytes limit beyond run ≡ beyond
+with_bytes-beyond : (limit : ℕ) (run : List ℕ) → with_bytes limit beyond run ≡ beyond
 with_bytes-beyond limit [] = refl
 with_bytes-beyond limit (b ∷ run) = with_bytes-beyond limit run
 

@@ -106,13 +106,13 @@ last_piece_at limit offset text some whole within ends =
     rw same (last_piece limit (offset / limit) offset text place)
 
 -- the same with the numbers
-pub text_frames-last :
+text_frames-last :
     (limit : ℕ) (text : List ℕ) (number : ℕ) → 0 < limit → length text ≤ limit →
     text_frames limit text number ≡ record { number = number; last = true; text = text } ∷ []
 unfolding text_frames
 text_frames-last limit text number some short = rw (pieces-one limit text some short) refl
 
-pub text_frames-more :
+text_frames-more :
     (limit : ℕ) (text : List ℕ) (number : ℕ) → 0 < limit → limit < length text →
     text_frames limit text number
     ≡ record { number = number; last = false; text = take limit text }

@@ -40,7 +40,7 @@ kept-push limit s b = by (nat_lt (limit + 5) (length s)) refl
     by false e = rw e refl
 
 -- what is held is bounded, and stays so
-pub HoldsAtMost-kept : (limit : ℕ) (s : List ℕ) → HoldsAtMost (limit + 5) (kept limit s)
+HoldsAtMost-kept : (limit : ℕ) (s : List ℕ) → HoldsAtMost (limit + 5) (kept limit s)
 HoldsAtMost-kept limit s = by (nat_lt (limit + 5) (length s)) refl
   where
     by : (test : Bool) → nat_lt (limit + 5) (length s) ≡ test → HoldsAtMost (limit + 5) (kept limit s)

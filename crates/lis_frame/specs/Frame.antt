@@ -56,6 +56,13 @@ pub record IsFrame (limit : ℕ) (bytes : List ℕ) (frame : FrameContent) : Typ
   pub digits : IsDigits high low (checksum frame)
   pub spelling : bytes ≡ frame_spelling frame high low
 
+-- the bytes begin with the frame's, whatever stands behind them
+pub record BeginsWith (limit : ℕ) (bytes : List ℕ) (frame : FrameContent) : Type 0 where
+  pub front : List ℕ
+  pub behind : List ℕ
+  pub is_frame : IsFrame limit front frame
+  pub bytes_are : bytes ≡ front ++ behind
+
 -- the bytes of a frame as they are written: its digits in upper case
 abbrev pub upper_digit : ℕ → ℕ
 upper_digit n = if nat_lt n 10 then 48 + n else 55 + n

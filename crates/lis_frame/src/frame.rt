@@ -71,7 +71,7 @@ impl<const N: usize> FrameOf<N> {
         requires { number ≤ 7 }
         ensures { result ≡ record { number = number; last = last; text = text.entry } }
     {
-        // That the text is one is known from its bytes.
+        // proof: that the text is one is known from its bytes.
         let _ = text.as_slice();
         FrameOf { number, last, text }
     }

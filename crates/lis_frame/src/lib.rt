@@ -14,7 +14,9 @@ mod write;
 pub use arrayvec::ArrayVec;
 pub use frame::{Frame, FrameFault, FrameOf};
 pub use lent::LentFrame;
-pub use lis_text::{LinkText, List, TextFault};
+pub use lis_text::{
+    LONGEST_TEXT, LinkText, List, MOST_TEXTS, TextFault, TextRefused, Texts, check_text,
+};
 pub use read::{read_frame, read_frame_of};
 pub use scanner::{Heard, Scanner, ScannerOf, Signal, SignalOf};
 pub use split::{Frames, FramesOf, next_number, split_all, split_all_of, split_at, split_at_of};

@@ -1,11 +1,11 @@
 //! Reading a frame from the bytes between its STX and its LF.
 
 ghost use Rattle.std.specs.Prelude.{◌≡◌, ◌+◌, ◌-◌, ◌%◌, ◌≤◌, ◌<◌, ◌==◌, ◌&&◌, ◌||◌, false, true, [], ◌∷◌, ◌++◌, None};
-ghost use Rattle.std.specs.Prelude.{Some, Ok, IfOk, IfErr, IfNone, IfSome, MatchResult, length, take, drop};
+ghost use Rattle.std.specs.Prelude.{Some, Ok, IfOk, IfErr, IfNone, IfSome, MatchOption, MatchResult, length, take, drop};
 ghost use Rattle.std.specs.Prelude.{slice_index};
 ghost use Rattle.std.specs.List.{sum};
 ghost use Rattle.lis_frame.specs.Limit.{IsLimit};
-ghost use Rattle.lis_frame.specs.Frame.{FrameContent, IsContent, IsFrame, digit_value};
+ghost use Rattle.lis_frame.specs.Frame.{BeginsWith, FrameContent, IsContent, IsFrame, digit_value};
 ghost use Rattle.lis_text.specs.Text.{first_forbidden};
 ghost use Rattle.lis_frame.specs.Stretch.{stretch_of, stretch_fault, content_of, first_fault, is_number_byte, is_value};
 ghost use Rattle.lis_frame.specs.Stretch.{pair_value};
@@ -160,6 +160,8 @@ impl<'a> Parts<'a> {
 pub(crate) fn front_frame<const N: usize>(bytes: &[u8]) -> Option<(LentFrame<'_>, usize)>
     ensures bound { IfSome result (λ found. found.1 ≤ length bytes.now) }
     ensures frame { IfSome result (λ found. IsFrame N (STX ∷ take found.1 bytes.now) found.0) }
+    ensures whole { (frame : FrameContent) → BeginsWith N (STX ∷ bytes.now) frame →
+        MatchOption result ⊥ (λ found. found.0 ≡ frame) }
 {
     let Some((number, behind)) = bytes.split_first() else {
         return None;
@@ -188,6 +190,8 @@ fn front_text<const N: usize>(number: u8, behind: &[u8]) -> Option<usize>
           last = slice_index (drop place behind.now) 0 == ETX;
           text = take place behind.now;
         })) }
+    ensures whole { (frame : FrameContent) → BeginsWith N (STX ∷ number ∷ behind.now) frame →
+        result ≡ Some (length frame.text) }
 {
     let (forbidden, sum) = text_and_sum(behind);
     let Some(place) = forbidden else {

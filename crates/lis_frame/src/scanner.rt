@@ -1,7 +1,7 @@
 //! The scanner: bytes of the link in, signals out (LIS01-A2, 6.2 to 6.5).
 
 ghost use Rattle.std.specs.Prelude.{◌≡◌, ◌+◌, ◌≤◌, ℕ, List, [], ◌∷◌, Some, IfNone, IfSome, length, take};
-ghost use Rattle.lis_frame.specs.Frame.{IsFrame};
+ghost use Rattle.lis_frame.specs.Frame.{BeginsWith, FrameContent, IsFrame};
 ghost use Rattle.lis_frame.specs.Limit.{IsLimit};
 ghost use Rattle.lis_frame.specs.Stream.{is_mark, signal_after, signals_after, stream_with};
 ghost use Rattle.lis_frame.specs.Scanner.{HoldsAtMost, IsHeardWithin, StandsFor, held_signal, held_after, heard_signal};
@@ -184,6 +184,7 @@ impl<const N: usize> ScannerOf<N> {
     pub fn scan<'a>(&mut self, bytes: &'a [u8]) -> (usize, Option<LentFrame<'a>>)
         ensures bound { result.0 ≤ length bytes.now }
         ensures frame { IfSome result.1 (λ frame. IsFrame N (take result.0 bytes.now) frame) }
+        ensures whole { (frame : FrameContent) → BeginsWith N bytes.now frame → result.1 ≡ Some frame }
         ensures run { IfNone result.1 (result.0 ≡ quiet_length bytes.now) }
         ensures signal { (past : List ℕ) → StandsFor N self.old past →
             signals_after N past (take result.0 bytes.now) ≡ lent_signals result.1 }
@@ -191,7 +192,7 @@ impl<const N: usize> ScannerOf<N> {
             StandsFor N self.new (stream_with past (take result.0 bytes.now)) }
         ensures kept { HoldsAtMost (N + 5) self.new }
     {
-        // What is held stays bounded where no byte is read too.
+        // proof: what is held stays bounded where no byte is read too.
         let _is_open = self.is_open;
         let Some((byte, behind)) = bytes.split_first() else {
             return (0, None);

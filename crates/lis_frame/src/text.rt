@@ -92,5 +92,6 @@ pub(crate) fn append<const B: usize>(buffer: &mut ArrayVec<u8, B>, bytes: &[u8])
     requires { array_vec_len buffer.old + length bytes.now ≤ B }
     ensures { buffer.new.items ≡ buffer.old.items ++ bytes.now }
 {
+    // There is room for them.
     let _ = buffer.try_extend_from_slice(bytes);
 }

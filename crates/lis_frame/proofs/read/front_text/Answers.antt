@@ -1,11 +1,15 @@
-use Rattle.std.proofs.Common.{◌≡◌, ◌∙◌, ◌+◌, ◌%◌, None, get_or, refl, sym, arith}
+use Rattle.std.proofs.Common.{◌≡◌, ◌∙◌, ◌+◌, ◌%◌, None, ap, get_or, length, refl, sym, arith}
 use Rattle.std.specs.List.{sum}
 use Rattle.lis_frame.specs.Stretch.{stretch_of, stretch_fault}
 use Rattle.lis_text.specs.Text.{is_forbidden, first_forbidden}
 use Rattle.lis_text.proofs.SearchLemmas.{clean-before}
-use Rattle.lis_frame.proofs.FrontLemmas.{front-frame}
+use Rattle.lis_frame.proofs.FrontLemmas.{front-frame, front_parts, same_place}
 use Rattle.lis_frame.proofs.StretchLemmas.{content_of-stretch_of, stretch_fault-parts}
 use Rattle.lis_frame.proofs.read.front_text.Goals as goal
+use Rattle.lis_frame.proofs.read.front_text.Goals.{then-place-via-then-place}
+use Rattle.lis_frame.proofs.read.front_text.Goals.{then-place-via-else-place+then-line_feed-ne-LF}
+use Rattle.lis_frame.proofs.read.front_text.Goals.{then-place-via-else-place+else-line_feed-ne-LF+then-not-is_shaped}
+use Rattle.lis_frame.proofs.read.front_text.Goals.{then-place-via-else-place+else-line_feed-ne-LF+else-not-is_shaped+then-not-is_summed}
 
 pub split_at-requires : goal.split_at-requires
 split_at-requires g c =
@@ -47,3 +51,35 @@ returns-clause-frame g c =
     (rw c.split_at.ensures.back at c.if-line_feed-ne-LF.false)
     (rw (c.split_at.ensures.front, c.split_at.ensures.back) at sound)
     (rw (c.split_at.ensures.front, c.split_at.ensures.back) at is)
+
+pub returns-in_default-clause-whole : goal.returns-in_default-clause-whole
+returns-in_default-clause-whole g c frame begins =
+    let parts = front_parts g.row.N c.args.number c.args.behind.now frame begins in
+    sym c.in_default.is ∙ c.text_and_sum-forbidden.ensures.first ∙ parts.first_is
+
+pub returns-in_default-rest-clause-whole : goal.returns-in_default-rest-clause-whole
+returns-in_default-rest-clause-whole g c frame begins =
+    let parts = front_parts g.row.N c.args.number c.args.behind.now frame begins in
+    let at = same_place (sym c.in-Some.is ∙ c.text_and_sum-forbidden.ensures.first ∙ parts.first_is) in
+    let rest_is = rw at at c.split_at.ensures.back ∙ parts.rest_is in
+    absurd (omega (arith, c.in_default-rest.len_below, ap length rest_is))
+
+pub returns-then-place-clause-whole : goal.returns-then-place-clause-whole
+returns-then-place-clause-whole g c frame begins =
+    let parts = front_parts g.row.N c.args.number c.args.behind.now frame begins in
+    let at = same_place (sym c.in-Some.is ∙ c.text_and_sum-forbidden.ensures.first ∙ parts.first_is) in
+    let rest_is = rw at at c.split_at.ensures.back ∙ parts.rest_is in
+    let sum_is = rw (c.in-Some.is, at, parts.text_is) at c.text_and_sum-forbidden.ensures.sum in
+    elim c.then-place.branch [
+      | then-place-via-then-place w ↦ absurd (omega (arith, at, parts.short, w.if-place.true))
+      | then-place-via-else-place+then-line_feed-ne-LF w ↦ absurd (rw rest_is at w.if-line_feed-ne-LF.true refl)
+      | then-place-via-else-place+else-line_feed-ne-LF+then-not-is_shaped w ↦
+          let shaped = rw rest_is at w.is_shaped.ensures ∙ parts.shaped in cc
+      | then-place-via-else-place+else-line_feed-ne-LF+else-not-is_shaped+then-not-is_summed w ↦
+          let summed = rw (rest_is, sum_is) at w.is_summed.ensures ∙ parts.summed in cc
+    ]
+
+pub returns-clause-whole : goal.returns-clause-whole
+returns-clause-whole g c frame begins =
+    let parts = front_parts g.row.N c.args.number c.args.behind.now frame begins in
+    sym c.in-Some.is ∙ c.text_and_sum-forbidden.ensures.first ∙ parts.first_is

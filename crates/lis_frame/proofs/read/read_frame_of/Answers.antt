@@ -12,6 +12,3 @@ returns-in-Ok-clause-only g c = rw c.from_lent.ensures
 
 pub returns-in-Err-clause-only : goal.returns-in-Err-clause-only
 returns-in-Err-clause-only g c = by_places-only g.row.N c.args.stretch.now (Err c.in-Err.fault) c.in-Err.ensures.places
-
-pub returns-in-Err-clause-fault : goal.returns-in-Err-clause-fault
-returns-in-Err-clause-fault g c = c.in-Err.ensures.places

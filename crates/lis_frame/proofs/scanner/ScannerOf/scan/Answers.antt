@@ -1,4 +1,4 @@
-use Rattle.std.proofs.Common.{◌≡◌, ◌∙◌, add-one, arith, false}
+use Rattle.std.proofs.Common.{◌≡◌, ◌∙◌, Some, add-one, ap, arith, false}
 use Rattle.std.specs.Prelude.{◌==◌}
 use Rattle.std.proofs.lemmas.Bool.Decides.{nat_tests}
 use Rattle.lis_text.specs.Control.{STX}
@@ -56,3 +56,15 @@ returns-clause-after g c = λ past stands.
       c.hold.ensures,
     )
     (started_run g.row.N c.args.self.now c.in-Some.behind.now past stands).1
+
+pub returns-in-Some-front_frame-clause-whole : goal.returns-in-Some-front_frame-clause-whole
+returns-in-Some-front_frame-clause-whole g c frame begins =
+    ap Some
+    (c.in-Some-front_frame.ensures.whole frame
+    (rw (c.in-Some.ensures.cases.0, c.if-byte-ne-STX.false) at begins))
+
+pub returns-clause-whole : goal.returns-clause-whole
+returns-clause-whole g c frame begins =
+    absurd
+    (c.in_default-front_frame.ensures.whole frame
+    (rw (c.in-Some.ensures.cases.0, c.if-byte-ne-STX.false) at begins))

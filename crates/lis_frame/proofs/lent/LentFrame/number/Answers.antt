@@ -1,6 +1,0 @@
-use Rattle.std.proofs.Common.{ap}
-use Rattle.lis_frame.specs.Frame.{FrameContent}
-use Rattle.lis_frame.proofs.lent.LentFrame.number.Goals as goal
-
-pub returns : goal.returns
-returns c = ap (λ (f : FrameContent). f.number) c.self.view_is
