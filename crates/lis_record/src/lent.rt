@@ -182,7 +182,7 @@ impl<'a> LentParts<'a, Repeat> {
         ensures other { IfNone result ((bytes : List ℕ) → LacksDelimiters self.now.delimiters bytes
             → self.now.content ≢ plain_field bytes) }
     {
-        // What an escape means is a delimiter or no character, since delimiters are apart.
+        // proof: what an escape means is a delimiter or no character, since delimiters are apart.
         let _ = self.delimiters.field();
         if is_plain(self.delimiters, self.text) {
             Some(self.text)
@@ -203,6 +203,7 @@ impl<'a> LentParts<'a, Repeat> {
         ensures { OnOk result (text.new.items ≡ text.old.items
             ++ spelled_field self.now.delimiters self.now.content) }
     {
+        // proof: what is added is the field's spelling, since delimiters are apart.
         let _ = self.delimiters.field();
         add_respelled(text, self.delimiters, self.text)?;
         Ok(())
@@ -221,7 +222,7 @@ impl<'a> LentParts<'a, Repeat> {
         if place_of(self.text, self.delimiters.escape()).is_some() {
             return put_spelling(sink, LentCursor::of_field(self.delimiters, self.text));
         }
-        // Without an escape byte the field is spelled as it stands, since delimiters are apart.
+        // proof: without an escape byte the field is spelled as it stands, since delimiters are apart.
         let _ = self.delimiters.field();
         match write_all(sink, self.text) {
             Ok(()) => Ok(()),

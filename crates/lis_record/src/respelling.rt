@@ -104,6 +104,7 @@ fn begins_letter(delimiters: Delimiters, text: &[u8]) -> bool
     ensures { IsTrue result → (2 ≤ length text.now) × (respelled delimiters (delimiters.escape ∷ text.now)
         ≡ delimiters.escape ∷ take 2 text.now ++ respelled delimiters (drop 2 text.now)) }
 {
+    // proof: an escape of one letter is spelled as it stands, since delimiters are apart.
     let _ = delimiters.field();
     let [letter, end, ..] = text else {
         return false;
@@ -122,6 +123,7 @@ fn add_escape<'a>(
         ≡ out.old.items ++ respelled delimiters (delimiters.escape ∷ text.now)) }
     ensures shorter { IfOk result (λ rest. length rest.now ≤ length text.now) }
 {
+    // proof: an escape byte alone is spelled as an escape, since delimiters are apart.
     let _ = delimiters.field();
     let escape = delimiters.escape();
     if let Some(end) = place_of(text, escape) {

@@ -188,6 +188,7 @@ pub fn check_record(delimiters: &Delimiters, entry: &Record) -> WriteResult
     // What can be written is a text of the record.
     ensures related { OnOk result (IsRecord delimiters.now (spelled delimiters.now entry.now) entry.now) }
 {
+    // proof: what is spelled is read back, since delimiters are apart.
     let _ = delimiters.field();
     if let Some(number) = bad_field_number(entry) {
         return Err(WriteFault::CharNotText(number));

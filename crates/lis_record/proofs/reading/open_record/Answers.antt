@@ -26,15 +26,3 @@ returns-in-Some-record_text_fault-clause-opened c =
     (ap (λ (f : ℕ). trailing_byte f c.in-Some.rest.now) (sym c.field-field.ensures.byte)
     ∙ sym c.trailing_byte.ensures ∙ c.in_default-trailing_byte.is)
     (sym c.record_text_fault.ensures ∙ c.in-Some-record_text_fault.is)
-
-pub returns-clause-opened : goal.returns-clause-opened
-returns-clause-opened c =
-    let kind = c.in-Some-other_kind.ensures in
-    let byte = ap (λ (f : ℕ). trailing_byte f c.in-Some.rest.now) (sym c.field-field.ensures.byte) in record {
-      letter = c.in-Some.letter.now;
-      whole = c.in-Some.ensures.cases.0;
-      kind_is = kind.0;
-      other = λ is. absurd (false≢true (rw (kind.0, is) at kind.1));
-      second = byte ∙ sym c.trailing_byte.ensures ∙ c.in_default-trailing_byte.is;
-      texts = sym c.record_text_fault.ensures ∙ c.in_default-record_text_fault.is;
-    }

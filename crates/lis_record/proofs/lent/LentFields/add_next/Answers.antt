@@ -22,25 +22,3 @@ returns-clause-added c = λ added.
     let left : fields_of d c.in-Some.rest.now ≡ drop c.args.count (fields_of d all) =
     ap (map (repeats_of d)) told.2 ∙ sym (drop-map (repeats_of d) c.args.count (parts_behind d.field all)) in
     rw (sym c.self.view_is) (spelled, ap (lent d) left)
-
-pub returns-clause-enough : goal.returns-clause-enough
-returns-clause-enough c =
-    let told = rw c.field-mark.ensures.byte at c.in-Some.ensures.split in
-    (λ _. rw (sym c.self.view_is, length-map) told.0, λ _. refl)
-
-pub returns-clause-left : goal.returns-clause-left
-returns-clause-left c = λ is. absurd (true≢false is)
-
-pub returns-in_default-clause-enough : goal.returns-in_default-clause-enough
-returns-in_default-clause-enough c =
-    let few = rw c.field-mark.ensures.byte at c.in_default.ensures.split in
-    (λ is. absurd (false≢true is), rw (sym c.self.view_is, length-map) (λ within. absurd (omega (arith, few, within))))
-
-pub returns-in_default-clause-added : goal.returns-in_default-clause-added
-returns-in_default-clause-added c = λ is. absurd (false≢true is)
-
-pub returns-in_default-clause-left : goal.returns-in_default-clause-left
-returns-in_default-clause-left c = λ _. (refl, refl)
-
-pub invariant_of-self : goal.invariant_of-self
-invariant_of-self c = rw c.field-mark.ensures.byte at c.in-Some.ensures.marks

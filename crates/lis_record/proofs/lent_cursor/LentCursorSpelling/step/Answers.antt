@@ -64,15 +64,3 @@ returns-clause-done c = λ _.
           (behind_none (components_of d) d.repeat i.repeats.now c.in_default-split_first-2.ensures.cases) refl refl,
       refl,
     )
-
-pub returns-in-Some-clause-more : goal.returns-in-Some-clause-more
-returns-in-Some-clause-more c = λ _. c.push_symbol.ensures.more
-
-pub returns-in-Some-split_first-clause-more : goal.returns-in-Some-split_first-clause-more
-returns-in-Some-split_first-clause-more c = λ _.
-    put-more c.args.chunk.now c.push.new.self c.component-mark.result c.push.ensures
-
-pub returns-in-Some-split_first-2-clause-more : goal.returns-in-Some-split_first-2-clause-more
-returns-in-Some-split_first-2-clause-more c = λ _.
-    put-more c.args.chunk.now c.push-in-Some-split_first-2.new.self c.repeat-outer.result
-    c.push-in-Some-split_first-2.ensures
