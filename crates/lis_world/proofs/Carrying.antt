@@ -370,7 +370,7 @@ session_over limit c texts w finished =
     same_session x y p q r s t u =
         λ i. record { texts = p i; sent = q i; accepted = r i; acknowledged = s i; handed = t i; outcome = u i }
 
-carried :
+pub carried :
     (limit : ℕ) (texts : List (List ℕ)) (rounds : List Round) (w : World)
     → IsLimit limit
     → Holds limit w

@@ -15,14 +15,14 @@ use Rattle.lis_world.specs.Recovery.{unit_is_lost, unit_is_unheard, reply_is_los
 use Rattle.lis_world.specs.Session.{Session}
 use Rattle.lis_world.specs.Steps.{world}
 
-abbrev one_letter : ℕ → FrameContent
+abbrev pub one_letter : ℕ → FrameContent
 one_letter letter = record { number = 1; last = true; text = letter ∷ [] }
 
-abbrev start : ℕ → Event
+abbrev pub start : ℕ → Event
 start letter = Start ((letter ∷ []) ∷ [])
 
 -- the session of this text: done, given up after the frame was accepted, or just begun
-abbrev done_letter : ℕ → Session
+abbrev pub done_letter : ℕ → Session
 done_letter letter =
     record {
       texts = (letter ∷ []) ∷ [];
@@ -33,10 +33,10 @@ done_letter letter =
       outcome = Some Done;
     }
 
-abbrev unheard_letter : ℕ → Session
+abbrev pub unheard_letter : ℕ → Session
 unheard_letter letter = record (done_letter letter) { acknowledged = 0; outcome = Some TimedOut }
 
-abbrev begun_letter : ℕ → Session
+abbrev pub begun_letter : ℕ → Session
 begun_letter letter =
     record (done_letter letter) { sent = []; accepted = []; acknowledged = 0; handed = []; outcome = None }
 

@@ -1,5 +1,5 @@
 -- Why the world is safe: an invariant that joins both ends and the link.
-mod DefinitionRows
+pub mod DefinitionRows
 pub mod SessionLemmas
 pub mod Invariant
 pub mod Leaving
@@ -15,10 +15,14 @@ pub mod Replies
 pub mod Timers
 pub mod Starting
 pub mod Safety
+pub mod LateSafety
+pub mod LateDiscipline
+pub mod LateRows
 pub mod Fitting
 pub mod Rounds
 pub mod Room
 pub mod Carrying
 pub mod Recovering
 pub mod Overcoming
+pub mod LateCarrying
 pub mod PlayingLaws

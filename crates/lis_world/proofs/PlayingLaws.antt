@@ -3,7 +3,7 @@ use Rattle.std.proofs.Common.{IsOk, ◌≡◌, ◌≢◌, ℕ, suc, ◌+◌, Boo
 use Rattle.std.proofs.Common.{◌++◌, ◌==◌, drop, refl, sym, ap, ◌∙◌, subst, arith}
 use Rattle.std.proofs.lemmas.Bool.Decides.{nat_tests}
 use Rattle.std.specs.Option.{option_to_list}
-use Rattle.std.specs.Prelude.{Result, Ok, Err}
+use Rattle.std.specs.Prelude.{Result, Ok, Err, IfOk}
 use Rattle.lis_text.specs.Control.{ENQ, EOT, ACK}
 use Rattle.lis_frame.specs.declared.scanner.SignalOf.{SignalOf}
 use Rattle.lis_frame.specs.declared.scanner.SignalOf.TheVariants.{Enq, Eot, Good, Bad}
@@ -22,18 +22,17 @@ use Rattle.lis_link.specs.Receiver.{heard, on_byte, on_bytes, heard_on, with_hea
 use Rattle.lis_link.specs.inside.Kept.{Kept}
 use Rattle.lis_link.specs.inside.Stands.{IsIn, IsStep, Makes}
 use Rattle.lis_link.proofs.HearingLaws.{on_byte-quiet}
-use Rattle.lis_link.specs.declared.sender.Phase.{Phase}
-use Rattle.lis_link.specs.declared.sender.Phase.TheVariants as Phases
-use Rattle.lis_link.specs.declared.sender.EmitOf.{EmitOf}
-use Rattle.lis_link.specs.Sender.{SenderState, SenderStep, on_reply, on_sender_timer}
+use Rattle.lis_link.specs.Sender.{on_reply}
 use Rattle.lis_world.specs.declared.event.Event.{Event}
+use Rattle.lis_world.specs.declared.event.LateEvent.{LateEvent}
 use Rattle.lis_world.proofs.Heard.{heard_leaves, noted_after}
 use Rattle.lis_world.specs.Unit.{Load, Travelling, one_frame}
-use Rattle.lis_world.specs.World.{World, Desk, new_world, booked, noted, hears}
+use Rattle.lis_world.specs.World.{World, Desk, booked, noted, hears}
 use Rattle.lis_world.specs.World.{replies_with, lowered, settled}
-use Rattle.lis_world.specs.Steps.{emitted, with_sender, sender_steps, given_up, after_event, is_noticed}
-use Rattle.lis_world.specs.Steps.{damaged, reply_damaged, room_at, runs, world}
-use Rattle.lis_world.specs.inside.Playing.{KeptWorld, world_at, IsWorld, IsPlaying, kept_given_up, KeptDesk, desk_at}
+use Rattle.lis_world.specs.Steps.{sender_steps, after_event, is_noticed}
+use Rattle.lis_world.specs.Steps.{damaged, reply_damaged, room_at, runs}
+use Rattle.lis_world.specs.Late.{after_late_event, runs_late}
+use Rattle.lis_world.specs.inside.Playing.{KeptWorld, world_at, IsWorld, IsPlaying, run_by, KeptDesk, desk_at}
 use Rattle.lis_world.specs.inside.Playing.{IsDesk, OnlyLoad, IsLoad, TakesLoad, IsNoticing, front_noticed}
 use Rattle.lis_world.specs.inside.Playing.{still_noticed}
 
@@ -296,83 +295,51 @@ without_room (Ok x) limit s bytes old without heard_it new r closed comes opens 
     subst (λ (d : Desk). IsDesk limit new (room_at true d)) came.desk_is (opens _ came.receiver_is)
 without_room (Err x) limit s bytes old without heard_it new r closed comes opens is_ok = absurd cc
 
--- the sender's timer
-given_up_sender : (phase : Phase) (kept : KeptWorld) → (kept_given_up phase kept).sender ≡ kept.sender
-given_up_sender Phases.Neutral kept = refl
-given_up_sender _ kept = refl
-
-timer_at :
-    {A E : Type 0} (outcome : Result A E) (limit : ℕ) (phase : Phase) (kept new : KeptWorld) (r : ReceiverState)
-    → IsIn limit kept.desk.receiver r
-    → (step : SenderStep limit)
-    → ((q : ReceiverState)
-    → IsIn limit (kept_given_up phase kept).desk.receiver q
-    → OnOk outcome (IsWorld limit new (emitted step.emit
-    (with_sender step.after (world_at (record (kept_given_up phase kept) { sender = step.after }) q)))))
-    → OnOk outcome (IsWorld limit new (sender_steps step (given_up phase (world_at kept r))))
-timer_at outcome limit Phases.Neutral kept new r is_in step stepped = stepped r is_in
-timer_at outcome limit _ kept new r is_in step stepped = stepped r is_in
-
-pub timer_world :
-    {A E : Type 0} (outcome : Result A E) (limit : ℕ) (kept given new : KeptWorld) (r : ReceiverState)
-    (emit : EmitOf limit) (after : SenderState)
-    → given ≡ kept_given_up kept.sender.phase kept
-    → emit ≡ (on_sender_timer {limit = limit} given.sender).emit
-    → after ≡ (on_sender_timer {limit = limit} given.sender).after
-    → IsIn limit kept.desk.receiver r
-    → ((q : ReceiverState)
-    → IsIn limit given.desk.receiver q
-    → OnOk outcome (IsWorld limit new (emitted emit
-    (with_sender after (world_at (record given { sender = after }) q)))))
-    → OnOk outcome (IsWorld limit new (sender_steps (on_sender_timer {limit = limit} kept.sender)
-    (given_up kept.sender.phase (world_at kept r))))
-timer_world outcome limit kept given new r emit after given_is emit_is after_is is_in stepped =
-    let step : SenderStep limit = on_sender_timer {limit = limit} kept.sender in
-    let up : KeptWorld = kept_given_up kept.sender.phase kept in
-    let sender_is : given.sender ≡ kept.sender = ap (λ (k : KeptWorld). k.sender) given_is
-    ∙ given_up_sender kept.sender.phase kept in
-    let emits : emit ≡ step.emit = emit_is ∙ ap (λ s. (on_sender_timer {limit = limit} s).emit) sender_is in
-    let leaves : after ≡ step.after = after_is ∙ ap (λ s. (on_sender_timer {limit = limit} s).after) sender_is in
-    timer_at outcome limit kept.sender.phase kept new r is_in step (λ q in_q.
-    subst (λ x. OnOk outcome (IsWorld limit new (emitted x
-    (with_sender step.after (world_at (record up { sender = step.after }) q))))) emits
-    (subst (λ x. OnOk outcome (IsWorld limit new (emitted emit
-    (with_sender x (world_at (record up { sender = x }) q))))) leaves
-    (subst (λ (k : KeptWorld). OnOk outcome (IsWorld limit new
-    (emitted emit (with_sender after (world_at (record k { sender = after }) q))))) given_is
-    (stepped q (subst (λ (k : KeptWorld). IsIn limit k.desk.receiver q) (sym given_is) in_q)))))
+-- what follows of a value, where there is one
+pub if_ok : {A E : Type 0} {P Q : A → Type 0} (result : Result A E) → ((value : A) → P value → Q value)
+    → IfOk result P → IfOk result Q
+if_ok (Ok value) follows h = follows value h
+if_ok (Err fault) follows h = tt
 
 -- events, one by one
-pub playing_first : (limit : ℕ) (kept : KeptWorld) (events left : List Event) → IsWorld limit kept new_world
-    → left ≡ events → IsPlaying limit kept left (world limit events)
-playing_first limit kept events left is_world all = record {
-  state = new_world.receiver;
-  is_in = is_world.receiver_is;
-  goes_on = ap (λ es. runs limit es (world_at kept new_world.receiver)) all ∙ ap (runs limit events) is_world.world_is;
-}
-
 pub playing_next :
-    {A E : Type 0} (outcome : Result A E) (limit : ℕ) (old new : KeptWorld) (event : Event)
-    (left later : List Event) (goal : World)
+    {A X E : Type 0} {after : E → World → World} (outcome : Result A X) (limit : ℕ) (old new : KeptWorld) (event : E)
+    (left later : List E) (goal : World)
     → left ≡ event ∷ later
-    → (playing : IsPlaying limit old left goal)
-    → OnOk outcome (IsWorld limit new (after_event limit event (world_at old playing.state)))
+    → (playing : IsPlaying after limit old left goal)
+    → OnOk outcome (IsWorld limit new (after event (world_at old playing.state)))
     → IsOk outcome
-    → IsPlaying limit new later goal
-playing_next (Ok x) limit old new event left later goal e playing here is_ok = record {
-  state = (after_event limit event (world_at old playing.state)).receiver;
+    → IsPlaying after limit new later goal
+playing_next {after = after} (Ok x) limit old new event left later goal e playing here is_ok = record {
+  state = (after event (world_at old playing.state)).receiver;
   is_in = here.receiver_is;
   goes_on =
-      ap (runs limit later) here.world_is
-      ∙ ap (λ es. runs limit es (world_at old playing.state)) (sym e)
+      ap (run_by after later) here.world_is
+      ∙ ap (λ es. run_by after es (world_at old playing.state)) (sym e)
       ∙ playing.goes_on;
 }
 playing_next (Err x) limit old new event left later goal e playing here is_ok = absurd cc
 
-pub played : (limit : ℕ) (kept : KeptWorld) (left : List Event) (goal : World) → IsPlaying limit kept left goal
-    → left ≡ [] → kept.desk.sessions ≡ goal.sessions
-played limit kept left goal playing none =
-    ap (λ (w : World). w.sessions) (ap (λ es. runs limit es (world_at kept playing.state)) (sym none) ∙ playing.goes_on)
+pub played :
+    {E : Type 0} {after : E → World → World} (limit : ℕ) (kept : KeptWorld) (left : List E) (goal : World)
+    → IsPlaying after limit kept left goal
+    → left ≡ []
+    → kept.desk.sessions ≡ goal.sessions
+played {after = after} limit kept left goal playing none =
+    ap (λ (w : World). w.sessions)
+    (ap (λ es. run_by after es (world_at kept playing.state)) (sym none) ∙ playing.goes_on)
+
+-- in each of the two worlds
+pub run_by-runs : (limit : ℕ) (events : List Event) (w : World)
+    → run_by (after_event limit) events w ≡ runs limit events w
+run_by-runs limit [] w = refl
+run_by-runs limit (event ∷ events) w = run_by-runs limit events (after_event limit event w)
+
+pub run_by-runs_late : (may_start : World → Bool) (limit : ℕ) (events : List LateEvent) (w : World)
+    → run_by (after_late_event may_start limit) events w ≡ runs_late may_start limit events w
+run_by-runs_late may_start limit [] w = refl
+run_by-runs_late may_start limit (event ∷ events) w =
+    run_by-runs_late may_start limit events (after_late_event may_start limit event w)
 
 -- where the computer's side alone has changed
 pub desk_world :

@@ -122,7 +122,7 @@ sender-timer limit w =
     let step = on_sender_timer {limit = limit} w.sender in
     sender-emitted step.emit (with_sender step.after (given_up w.sender.phase w))
 
-restarted : (phase : Phase) (s : SenderState) → s.phase ≡ phase → (restart_in phase s).phase ≡ Neutral
+pub restarted : (phase : Phase) (s : SenderState) → s.phase ≡ phase → (restart_in phase s).phase ≡ Neutral
 restarted Neutral s is = is
 restarted AwaitLine s is = refl
 restarted Busy s is = refl

@@ -22,7 +22,7 @@ use Rattle.lis_world.proofs.Base.{current_followed, unsent_same, are_same_follow
 use Rattle.lis_world.proofs.Sending.{zero_mute, ended_holds, ended_with_ending}
 use Rattle.lis_world.proofs.Replies.{can_follow, can_follow_as}
 
-all_muted : (us : List Travelling) → AllEndings (drop (length us) us)
+pub all_muted : (us : List Travelling) → AllEndings (drop (length us) us)
 all_muted us = subst AllEndings (sym (drop_all (length us) us (omega arith))) tt
 
 -- a session that ends for another reason than that it is done
@@ -73,7 +73,7 @@ asks_again limit w h kept waiting =
       traffic = inl (waiting.no_reply, subst (Bids w.current) (sym live) ((refl, refl), λ e. tt));
     })
 
-sender_timer_phase :
+pub sender_timer_phase :
     (limit : ℕ) (w : World) (p : Phase)
     → Holds limit w
     → KeepsFrames p w.sender.frames (session_frames limit (session_at w.current w.sessions).texts)
@@ -100,7 +100,7 @@ restarted_in limit w h within =
     (base_forgotten limit w (base_of limit w h)) within (can_stop limit w Restarted h (λ e. cc)) refl refl
     (all_muted w.units)
 
-restart_phase :
+pub restart_phase :
     (limit : ℕ) (w : World) (p : Phase)
     → Holds limit w
     → w.sender.phase ≡ p

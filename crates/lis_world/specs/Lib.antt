@@ -4,6 +4,9 @@ pub mod Session
 pub mod World
 pub mod Steps
 pub mod Safe
+pub mod Late
+pub mod LateDiscipline
 pub mod Progress
 pub mod Recovery
+pub mod LateRecovery
 pub mod inside

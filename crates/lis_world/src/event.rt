@@ -39,3 +39,17 @@ pub enum Event {
 
 /// Events, in their order.
 pub type Events = List<Event>;
+
+/// One event on a line that answers late: there a reply that comes after the sender's timer or restart is delivered
+/// like any other.
+#[derive(Drop)]
+pub enum LateEvent {
+    /// An event of the link. A start is possible only on an empty link; the sender's timer and its restart leave on the
+    /// link what is there.
+    Happens(Event),
+    /// The line is connected anew: nothing is on it any more, and the receiver is restarted.
+    Reconnect,
+}
+
+/// Events on a line that answers late, in their order.
+pub type LateEvents = List<LateEvent>;

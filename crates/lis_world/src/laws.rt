@@ -2,6 +2,10 @@
 
 ghost use Rattle.lis_frame.specs.Limit.{IsLimit};
 ghost use Rattle.lis_world.specs.Safe.{AlwaysSafe};
+ghost use Rattle.lis_world.specs.Late.{SafeWhere, UnsafeWhere, is_empty, is_quiet, is_answered};
+ghost use Rattle.lis_world.specs.Late.{at_any_time, has_no_reply, has_no_unit};
+ghost use Rattle.lis_world.specs.LateDiscipline.{SafeOnNewLines};
+ghost use Rattle.lis_world.specs.LateRecovery.{CarriesOnNewLine};
 ghost use Rattle.lis_world.specs.Progress.{RunsQuietly, CarriesThrough};
 ghost use Rattle.lis_world.specs.Recovery.{OvercomesLoss, Recovers, RecoversQuietly};
 
@@ -16,6 +20,37 @@ pub fn safe_of<const N: usize>()
 /// The same with the usual limit on a frame's text.
 pub fn safe()
     ensures { AlwaysSafe 240 }
+{}
+
+/// The same on a line that answers late: there a reply that comes after the sender's timer or restart is delivered like
+/// any other, in whatever phase the sender then is, and the line may be connected anew. Each session is safe by each
+/// of these rules. `empty`: sessions start only while the link holds no unit and no reply. `quiet`: only while it holds
+/// no reply and no unit but EOT, which nobody answers. `answered`: after a session that timed out or was restarted only
+/// while the link is quiet, else at any time. `new_line`: after such a session the line is connected anew before the
+/// next start; a program can keep this without seeing the link. By the last two rules, a process that is new on an old
+/// line counts as restarted. At every limit on a frame's text.
+pub fn safe_on_quiet_starts_of<const N: usize>()
+    requires { IsLimit N }
+    ensures empty { SafeWhere is_empty N }
+    ensures quiet { SafeWhere is_quiet N }
+    ensures answered { SafeWhere is_answered N }
+    ensures new_line { SafeOnNewLines N }
+{}
+
+/// The same with the usual limit on a frame's text.
+pub fn safe_on_quiet_starts()
+    ensures empty { SafeWhere is_empty 240 }
+    ensures quiet { SafeWhere is_quiet 240 }
+    ensures answered { SafeWhere is_answered 240 }
+    ensures new_line { SafeOnNewLines 240 }
+{}
+
+/// These rules are needed. If sessions start on that line at any time, or whenever no reply is on it, or whenever no
+/// unit is, some session is not safe: a late ACK acknowledges a frame that the receiver never took.
+pub fn unsafe_on_early_starts()
+    ensures any_time { UnsafeWhere at_any_time 240 }
+    ensures unit { UnsafeWhere has_no_reply 240 }
+    ensures reply { UnsafeWhere has_no_unit 240 }
 {}
 
 /// On an undisturbed link a session whose start isn't refused is done after as many rounds as it
@@ -57,6 +92,23 @@ pub fn recovers_of<const N: usize>()
 pub fn recovers()
     ensures enough { Recovers 240 }
     ensures undisturbed { RecoversQuietly 240 }
+{}
+
+/// No state of the two ends blocks a line that answers late for good: after whatever events, once the sender was
+/// restarted and the line is connected anew, a session is carried through if it has enough rounds. At every limit on a
+/// frame's text.
+pub fn carries_on_new_line_of<const N: usize>()
+    requires { IsLimit N }
+    ensures empty { CarriesOnNewLine is_empty N }
+    ensures quiet { CarriesOnNewLine is_quiet N }
+    ensures answered { CarriesOnNewLine is_answered N }
+{}
+
+/// The same with the usual limit on a frame's text.
+pub fn carries_on_new_line()
+    ensures empty { CarriesOnNewLine is_empty 240 }
+    ensures quiet { CarriesOnNewLine is_quiet 240 }
+    ensures answered { CarriesOnNewLine is_answered 240 }
 {}
 
 /// Where the sender awaits the reply to the one unit on the link, and that ENQ or frame is lost or comes as bytes that

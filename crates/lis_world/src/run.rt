@@ -4,7 +4,7 @@ ghost use Rattle.std.specs.Prelude.{◌≡◌, ◌∷◌, ◌++◌, [], None, le
 ghost use Rattle.lis_frame.specs.Limit.{IsLimit};
 ghost use Rattle.lis_frame.specs.Stream.{signals_after};
 ghost use Rattle.lis_link.specs.Receiver.{ReceiverState};
-ghost use Rattle.lis_link.specs.Sender.{start_fault};
+ghost use Rattle.lis_link.specs.Sender.{start_fault, on_sender_timer, sender_restarted};
 ghost use Rattle.lis_link.specs.inside.Stands.{IsIn};
 ghost use Rattle.lis_world.specs.inside.Loads.{load_of};
 ghost use Rattle.lis_world.specs.inside.Playing.{IsWorld, world_at, front_noticed, kept_given_up, kept_forgotten};
@@ -12,8 +12,8 @@ ghost use Rattle.lis_world.specs.inside.Playing.{kept_following, kept_sending, k
 ghost use Rattle.lis_world.specs.Session.{new_session};
 ghost use Rattle.lis_world.specs.Unit.{enquiry};
 ghost use Rattle.lis_world.specs.World.{new_world, replies_with, lowered};
-ghost use Rattle.lis_world.specs.Steps.{emitted, with_sender, begins, is_noticed, delivered, delivered_no_room};
-ghost use Rattle.lis_world.specs.Steps.{damaged, lost, replied, reply_damaged, reply_lost, after_event};
+ghost use Rattle.lis_world.specs.Steps.{emitted, with_sender, sender_steps, begins, is_noticed, delivered};
+ghost use Rattle.lis_world.specs.Steps.{delivered_no_room, damaged, lost, replied, reply_damaged, reply_lost, after_event};
 ghost use Rattle.lis_world.specs.declared.event.Event.TheVariants.{SenderTimer, RestartSender};
 
 use crate::desk::DeskOf;
@@ -32,10 +32,10 @@ use std::marker::Model;
 #[derive(Drop)]
 pub(crate) struct RunOf<const N: usize> {
     alloc: Global,
-    sender: SenderOf<N>,
-    desk: DeskOf<N>,
-    units: VecDeque<TravellingOf<N>>,
-    replies: VecDeque<u8>,
+    pub(crate) sender: SenderOf<N>,
+    pub(crate) desk: DeskOf<N>,
+    pub(crate) units: VecDeque<TravellingOf<N>>,
+    pub(crate) replies: VecDeque<u8>,
     mute: usize,
     current: usize,
 }
@@ -111,7 +111,7 @@ impl<const N: usize> RunOf<N> {
 
     /// The sender is started, if the start isn't refused. One that is refused takes no memory, so it can't end the
     /// play.
-    fn start(&mut self, texts: Texts) -> Result<(), AllocError>
+    pub(crate) fn start(&mut self, texts: Texts) -> Result<(), AllocError>
         ensures world { (r : ReceiverState) → IsIn N self.old.desk.receiver r →
             OnOk result (IsWorld N self.new (begins N (start_fault self.old.sender texts) texts
             (world_at self.old r))) }
@@ -243,6 +243,15 @@ impl<const N: usize> RunOf<N> {
             OnOk result (IsWorld N self.new (after_event N SenderTimer (world_at self.old r))) }
     {
         self.give_up();
+        self.time_out()
+    }
+
+    /// The sender's timer runs out, and what is on its way stays there.
+    pub(crate) fn time_out(&mut self) -> Result<(), AllocError>
+        ensures { (r : ReceiverState) → IsIn N self.old.desk.receiver r →
+            OnOk result (IsWorld N self.new (sender_steps {limit = N} (on_sender_timer self.old.sender)
+            (world_at self.old r))) }
+    {
         let emit = self.sender.timer();
         self.step(emit)
     }
@@ -263,6 +272,14 @@ impl<const N: usize> RunOf<N> {
             IsWorld N self.new (after_event N RestartSender (world_at self.old r)) }
     {
         self.forget();
+        self.end_session();
+    }
+
+    /// The sender is restarted, and what is on its way stays there.
+    pub(crate) fn end_session(&mut self)
+        ensures { (r : ReceiverState) → IsIn N self.old.desk.receiver r →
+            IsWorld N self.new (with_sender (sender_restarted self.old.sender) (world_at self.old r)) }
+    {
         self.sender.restart();
         self.follow();
     }

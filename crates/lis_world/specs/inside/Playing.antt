@@ -15,8 +15,7 @@ use Rattle.lis_link.specs.declared.sender.Phase.TheVariants as Phases
 use Rattle.lis_link.specs.Sender.{SenderState}
 use Rattle.lis_world.specs.Unit.{Load, Travelling, one_frame}
 use Rattle.lis_world.specs.World.{World, Desk}
-use Rattle.lis_world.specs.declared.event.Event.{Event}
-use Rattle.lis_world.specs.Steps.{is_noticed, runs}
+use Rattle.lis_world.specs.Steps.{is_noticed}
 use Rattle.lis_frame.specs.Stream.{signals_after}
 
 -- the computer's side, with what the receiver keeps
@@ -142,8 +141,14 @@ kept_sending frame kept =
       desk = record kept.desk { sessions = changed kept.current (sends frame) kept.desk.sessions };
     })
 
+-- what happens, one by one, in order
+abbrev pub run_by : {E : Type 0} → (E → World → World) → List E → World → World
+run_by after [] w = w
+run_by after (event ∷ events) w = run_by after events (after event w)
+
 -- while events are played: those that are left, played from here, lead to the same world
-pub record IsPlaying (limit : ℕ) (kept : KeptWorld) (left : List Event) (goal : World) : Type 0 where
+pub record IsPlaying {E : Type 0} (after : E → World → World) (limit : ℕ) (kept : KeptWorld) (left : List E)
+    (goal : World) : Type 0 where
   pub state : ReceiverState
   pub is_in : IsIn limit kept.desk.receiver state
-  pub goes_on : runs limit left (world_at kept state) ≡ goal
+  pub goes_on : run_by after left (world_at kept state) ≡ goal
