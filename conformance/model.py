@@ -4,7 +4,7 @@ record_model.py.
 They are written from docs/FORMATS.md, LINK.md and RECORDS.md, by the definitions and not by any program: a stream's
 signals are looked for by places, a message is read whole. Speed is no aim, but each function is linear in its input.
 
-    conformance/run 'python3 conformance/model.py answer' headers records scanner receiver sender texts
+    conformance/run 'python3 conformance/model.py answer' headers records scanner receiver sender texts link late
     conformance/run 'python3 conformance/model.py' commands
 
 Calls that it does not know it answers by 'no call'.
@@ -231,6 +231,156 @@ class Receiver:
         return None
 
 
+# The link between them
+
+class Session:
+    """What a session had to send, and what came of it."""
+
+    def __init__(self, texts):
+        self.texts, self.sent, self.accepted, self.acknowledged, self.handed = texts, [], [], 0, []
+        self.outcome = "none"
+
+    def word(self):
+        sent, accepted = (",".join(map(frame_word, made)) or "none" for made in (self.sent, self.accepted))
+        return (f"session texts={texts_word(self.texts)} sent={sent} accepted={accepted} "
+                f"acknowledged={self.acknowledged} handed={texts_word(self.handed)} outcome={self.outcome}")
+
+
+class Link:
+    """A link between a new sender and a new receiver, by docs/LINK.md. Each event is a method. On a line that answers late
+    a reply that comes after the sender's timer or restart is delivered like any other, a session starts only on an empty
+    link, and the line can be connected anew."""
+
+    def __init__(self, limit, is_late):
+        self.limit, self.is_late = limit, is_late
+        self.sender, self.receiver = Sender(limit), Receiver(limit)
+        self.units, self.replies, self.mute = [], [], 0  # a unit: its session, and 'Enq', 'Eot' or a Frame
+        self.sessions, self.current, self.opened = [], 0, 0
+
+    def happen(self, word):
+        """One event, if it is possible."""
+        name, *argument = word.split(":")
+        getattr(self, name)(*argument)
+
+    def Start(self, texts):
+        texts = texts_of(texts)
+        if self.is_late and (self.units or self.replies) or self.sender.start_fault(texts):
+            return
+        self.current = len(self.sessions)
+        self.sessions.append(Session(texts))
+        self.emit(self.sender.start(texts))
+
+    def Deliver(self):
+        if self.units:
+            self.comes(unit_bytes(self.units[0][1]))
+
+    def DeliverNoRoom(self):
+        self.receiver.room = False
+        self.Deliver()
+        self.receiver.room = True
+
+    def Damage(self, data):
+        if self.units and self.is_noticed(bytes_of(data)):
+            self.comes(bytes_of(data))
+
+    def is_noticed(self, data):
+        """Whether bytes in the place of the front unit are no signal, or one bad frame in the place of a frame."""
+        tail = self.receiver.tail
+        heard = [signal for _, signal in signals(tail + data, self.limit, len(tail))]
+        is_bad_frame = len(heard) == 1 and isinstance(heard[0], str) and isinstance(self.units[0][1], Frame)
+        return not heard or is_bad_frame
+
+    def Lose(self):
+        if self.units:
+            self.comes(b"")
+
+    def comes(self, data):
+        """Bytes come in the place of the front unit; the replies to it are dropped if they would come too late."""
+        session, load = self.units.pop(0)
+        caused = []
+        for step in self.receiver.hear(data):
+            if step.note == "Opened":
+                self.opened = session
+            if step.note.startswith("Accepted"):
+                self.sessions[self.opened].accepted.append(load)
+            if step.text is not None:
+                self.sessions[self.opened].handed.append(step.text)
+            if step.reply is not None:
+                caused.append(step.reply)
+        if self.mute > 0:
+            self.mute -= 1
+        else:
+            self.replies += caused
+
+    def Reply(self):
+        if self.replies:
+            self.emit(self.sender.reply(self.replies.pop(0)))
+
+    def DamageReply(self, byte):
+        if self.replies and int(byte, 16) not in (ACK, EOT):
+            self.replies.pop(0)
+            self.emit(self.sender.reply(int(byte, 16)))
+
+    def LoseReply(self):
+        del self.replies[:1]
+
+    def SenderTimer(self):
+        if self.sender.phase in ("AwaitLine", "AwaitReply"):
+            self.drop_replies()
+        self.emit(self.sender.timer())
+
+    def RestartSender(self):
+        self.drop_replies()
+        self.sender.restart()
+        self.emit("Nothing")
+
+    def drop_replies(self):
+        """No reply to what is on its way comes any more; on a line that answers late it does."""
+        if not self.is_late:
+            self.replies, self.mute = [], len(self.units)
+
+    def ReceiverTimer(self):
+        self.receiver.timer()
+
+    def RestartReceiver(self):
+        self.receiver.restart()
+
+    def Reconnect(self):
+        self.units, self.replies = [], []
+        self.receiver.restart()
+
+    def Ready(self):
+        self.receiver.ready = "ready"
+
+    def Busy(self):
+        self.receiver.ready = "busy"
+
+    def Contending(self):
+        self.receiver.ready = "contending"
+
+    def emit(self, emitted):
+        """The sender made a step: its session follows, and what it emits goes on the link."""
+        if not self.sessions:
+            return
+        session = self.sessions[self.current]
+        session.acknowledged, session.outcome = self.sender.acknowledged, self.sender.outcome
+        if emitted in ("Enq", "Eot"):
+            self.units.append((self.current, emitted))
+        elif emitted.startswith("frame:"):
+            frame = self.sender.frames[self.sender.acknowledged]
+            if session.acknowledged == len(session.sent):
+                session.sent.append(frame)
+            self.units.append((self.current, frame))
+
+
+def unit_bytes(load):
+    """The bytes of a unit."""
+    if not isinstance(load, Frame):
+        return bytes([ENQ if load == "Enq" else EOT])
+    body = bytes([0x30 + load.number]) + load.text + bytes([ETX if load.last else ETB])
+    return bytes([STX]) + body + b"%02X" % (sum(body) % 256) + bytes([CR, LF])
+
+
 # Captures
 
 Line = namedtuple("Line", "number kind value")
@@ -384,6 +534,14 @@ def word_of(data):
     return data.hex() or "-"
 
 
+def texts_of(word):
+    return [] if word == "none" else [bytes_of(text) for text in word.split(",")]
+
+
+def texts_word(texts):
+    return ",".join(map(word_of, texts)) or "none"
+
+
 def frame_word(frame):
     return f"{frame.number}:{'end' if frame.last else 'more'}:{word_of(frame.text)}"
 
@@ -435,7 +593,7 @@ class Answers:
         return self.sender.state()
 
     def sender_start(self, texts):
-        split = [] if texts == "none" else [bytes_of(text) for text in texts.split(",")]
+        split = texts_of(texts)
         fault = self.sender.start_fault(split)
         emitted = f"refused:{fault}:{texts}" if fault else self.sender.start(split)
         return f"{emitted} {self.sender.state()}"
@@ -474,6 +632,17 @@ class Answers:
 
     def receiver_reserve(self, _):
         return "ok " + self.receiver.state()
+
+    def link_play(self, *events):
+        return self.played(Link(self.limit, False), events)
+
+    def late_play(self, *events):
+        return self.played(Link(self.limit, True), events)
+
+    def played(self, link, events):
+        for event in events:
+            link.happen(event)
+        return " ".join([f"sessions={len(link.sessions)}"] + [session.word() for session in link.sessions])
 
     def steps(self, steps):
         return " ".join([step_word(step) for step in steps] + [self.receiver.state()])

@@ -1,6 +1,6 @@
 -- The definitions of the line that answers late, at lists of events, by computation; and why a session may not start on
 -- it at any time.
-use Rattle.std.proofs.Common.{◌≡◌, ℕ, ◌≤◌, Bool, List, [], ◌∷◌, ◌++◌, length, map, Some, refl, subst, arith}
+use Rattle.std.proofs.Common.{◌≡◌, ℕ, ◌≤◌, Bool, true, false, List, [], ◌∷◌, ◌++◌, length, map, Some, refl, subst, arith}
 use Rattle.std.specs.Prelude.{All}
 use Rattle.lis_frame.specs.Frame.{frame_bytes}
 use Rattle.lis_frame.specs.Stretch.{stretch_fault}
@@ -12,10 +12,11 @@ use Rattle.lis_world.specs.declared.event.Event.TheVariants.{Deliver, Lose, Repl
 use Rattle.lis_world.specs.declared.event.LateEvent.{LateEvent}
 use Rattle.lis_world.specs.declared.event.LateEvent.TheVariants.{Happens, Reconnect}
 use Rattle.lis_world.specs.Session.{Session}
-use Rattle.lis_world.specs.World.{World}
+use Rattle.lis_world.specs.World.{World, new_world}
 use Rattle.lis_world.specs.Safe.{IsSafe}
 use Rattle.lis_world.specs.Late.{late_world, is_empty, is_quiet, is_answered, at_any_time, has_no_unit, has_no_reply}
 use Rattle.lis_world.specs.Late.{UnsafeWhere}
+use Rattle.lis_world.specs.LateDiscipline.{StartInTime}
 use Rattle.lis_world.proofs.DefinitionRows.{start, done_letter, unheard_letter, begun_letter}
 
 abbrev ComesTo : (World → Bool) → List LateEvent → List Session → Type 0
@@ -101,6 +102,31 @@ done_and_at_once = refl
 timed_out_and_not_at_once : ComesTo is_answered (map Happens early_start) (timed_out_letter 0x41 ∷ [])
 unfolding signal_after open_stretch stretch_fault session_frames pieces frame_bytes
 timed_out_and_not_at_once = refl
+
+-- ---- what a program can keep
+
+-- a new line after a session that timed out
+renewed_in_time : StartInTime 240
+    (map Happens (start 0x41 ∷ Deliver ∷ SenderTimer ∷ []) ++ Reconnect ∷ map Happens (start 0x42 ∷ [])) new_world true
+unfolding signal_after open_stretch stretch_fault session_frames pieces frame_bytes
+renewed_in_time = ((λ e. refl), (tt, (tt, (tt, ((λ e. refl), tt)))))
+
+-- none
+early_is_not_in_time : StartInTime 240 (map Happens early_start) new_world true → ⊥
+unfolding signal_after open_stretch stretch_fault session_frames pieces frame_bytes
+early_is_not_in_time in_time =
+    let early : true ≡ false = in_time.1.1.1.0 refl in
+    absurd (cc)
+
+-- one that comes during the session
+during_is_not_in_time :
+    StartInTime 240
+    (map Happens (start 0x41 ∷ Deliver ∷ []) ++ Reconnect ∷ map Happens (SenderTimer ∷ start 0x42 ∷ [])) new_world true
+    → ⊥
+unfolding signal_after open_stretch stretch_fault session_frames pieces frame_bytes
+during_is_not_in_time in_time =
+    let early : true ≡ false = in_time.1.1.1.1.0 refl in
+    absurd (cc)
 
 -- ---- what is not safe
 

@@ -375,9 +375,6 @@ reconnect_late limit w false unmuted h = reconnected_holds limit w unmuted h
 
 -- ---- nothing is ever muted
 
-unmuted_settled : (units : List Travelling) (desk : Desk) (w : World) → w.mute ≡ 0 → (settled units desk w).mute ≡ 0
-unmuted_settled units desk w unmuted = ap lowered unmuted
-
 unmuted_emitted : {limit : ℕ} (emit : EmitOf limit) (w : World) → (emitted emit w).mute ≡ w.mute
 unmuted_emitted Emits.Nothing w = refl
 unmuted_emitted Emits.Enq w = refl

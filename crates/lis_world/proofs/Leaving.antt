@@ -52,10 +52,7 @@ current_kept limit sender x y kept h = record {
   outcome_is = h.outcome_is ∙ sym kept.outcome_same;
 }
 
--- the replies after a unit that caused none, and after one whose reply counts
-muted_replies : (m : ℕ) (caused : List ℕ) → replies_with (suc m) caused [] ≡ []
-muted_replies m caused = refl
-
+-- the replies after a unit whose reply counts
 pub heard_replies : (m : ℕ) (caused replies : List ℕ) → m ≡ 0 → replies ≡ [] → replies_with m caused replies ≡ caused
 heard_replies zero caused replies zero_is none = ap (λ xs. xs ++ caused) none
 heard_replies (suc m) caused replies zero_is none = absurd (omega arith)

@@ -1,14 +1,11 @@
 -- What the program that plays events keeps is the computer's side of the definition.
 use Rattle.std.proofs.Common.{IsOk, ◌≡◌, ◌≢◌, ℕ, suc, ◌+◌, Bool, true, false, List, [], ◌∷◌, Option, None, Some, OnOk}
-use Rattle.std.proofs.Common.{◌++◌, ◌==◌, drop, refl, sym, ap, ◌∙◌, subst, arith}
-use Rattle.std.proofs.lemmas.Bool.Decides.{nat_tests}
-use Rattle.std.specs.Option.{option_to_list}
+use Rattle.std.proofs.Common.{drop, refl, sym, ap, ◌∙◌, subst, arith}
 use Rattle.std.specs.Prelude.{Result, Ok, Err, IfOk}
-use Rattle.lis_text.specs.Control.{ENQ, EOT, ACK}
+use Rattle.lis_text.specs.Control.{ENQ, EOT}
 use Rattle.lis_frame.specs.declared.scanner.SignalOf.{SignalOf}
 use Rattle.lis_frame.specs.declared.scanner.SignalOf.TheVariants.{Enq, Eot, Good, Bad}
 use Rattle.lis_frame.specs.Frame.{FrameContent, IsContent, frame_bytes}
-use Rattle.lis_frame.specs.Scanner.{Held}
 use Rattle.lis_frame.specs.Stream.{signal_after, signals_after, with_signal}
 use Rattle.lis_frame.proofs.StreamLaws.{signals-frame_bytes}
 use Rattle.lis_link.specs.declared.receiver.Hearing.{Hearing}
@@ -22,19 +19,16 @@ use Rattle.lis_link.specs.Receiver.{heard, on_byte, on_bytes, heard_on, with_hea
 use Rattle.lis_link.specs.inside.Kept.{Kept}
 use Rattle.lis_link.specs.inside.Stands.{IsIn, IsStep, Makes}
 use Rattle.lis_link.proofs.HearingLaws.{on_byte-quiet}
-use Rattle.lis_link.specs.Sender.{on_reply}
 use Rattle.lis_world.specs.declared.event.Event.{Event}
 use Rattle.lis_world.specs.declared.event.LateEvent.{LateEvent}
 use Rattle.lis_world.proofs.Heard.{heard_leaves, noted_after}
-use Rattle.lis_world.specs.Unit.{Load, Travelling, one_frame}
+use Rattle.lis_world.specs.Unit.{Load, one_frame}
 use Rattle.lis_world.specs.World.{World, Desk, booked, noted, hears}
-use Rattle.lis_world.specs.World.{replies_with, lowered, settled}
-use Rattle.lis_world.specs.Steps.{sender_steps, after_event, is_noticed}
-use Rattle.lis_world.specs.Steps.{damaged, reply_damaged, room_at, runs}
+use Rattle.lis_world.specs.Steps.{after_event}
+use Rattle.lis_world.specs.Steps.{room_at, runs}
 use Rattle.lis_world.specs.Late.{after_late_event, runs_late}
 use Rattle.lis_world.specs.inside.Playing.{KeptWorld, world_at, IsWorld, IsPlaying, run_by, KeptDesk, desk_at}
-use Rattle.lis_world.specs.inside.Playing.{IsDesk, OnlyLoad, IsLoad, TakesLoad, IsNoticing, front_noticed}
-use Rattle.lis_world.specs.inside.Playing.{still_noticed}
+use Rattle.lis_world.specs.inside.Playing.{IsDesk, OnlyLoad, IsLoad, TakesLoad}
 
 -- what is accepted is a good frame that was heard
 record IsGood {limit : ℕ} (signal : Option (SignalOf limit)) (step : ReceiverStep) : Type 0 where
@@ -234,16 +228,6 @@ heard_all limit s load kept left goal h none =
     let e : desk_at kept h.state ≡ goal = subst (λ xs. hears limit s xs (desk_at kept h.state) ≡ goal) none h.goes_on in
     subst (λ d. IsDesk limit kept d) e (record { receiver_is = h.is_in; desk_is = refl })
 
--- damage that is noticed holds no frame
-pub noticed_only :
-    {limit : ℕ} (load : Load) (signals : List (SignalOf limit)) → is_noticed load signals ≡ true → OnlyLoad load signals
-noticed_only load [] e = tt
-noticed_only load (Enq ∷ signals) e = absurd cc
-noticed_only load (Eot ∷ signals) e = absurd cc
-noticed_only load (Good frame ∷ signals) e = absurd cc
-noticed_only load (Bad fault ∷ []) e = (tt, tt)
-noticed_only load (Bad fault ∷ signal ∷ signals) e = absurd cc
-
 -- nor do an enquiry and an ending
 pub enquiry_only : (limit : ℕ) (load : Load) (past : List ℕ) → OnlyLoad load (signals_after limit past (ENQ ∷ []))
 unfolding signal_after
@@ -264,16 +248,6 @@ frame_only limit load past frame load_is content =
 pub with_receiver : (first second : KeptDesk) (kept : Kept) → first ≡ second
     → record first { receiver = kept } ≡ record second { receiver = kept }
 with_receiver first second kept same = ap (λ (d : KeptDesk). record d { receiver = kept }) same
-
--- the receiver was not touched
-pub is_world :
-    (limit : ℕ) (old new : KeptWorld) (r : ReceiverState) (w : World)
-    → IsIn limit old.desk.receiver r
-    → new.desk.receiver ≡ old.desk.receiver
-    → world_at new r ≡ w
-    → IsWorld limit new w
-is_world limit old new r w is_in same e =
-    subst (IsWorld limit new) e (record { receiver_is = subst (λ k. IsIn limit k r) (sym same) is_in; world_is = refl })
 
 -- bytes that came while there was no room
 pub without_room :
@@ -340,100 +314,3 @@ pub run_by-runs_late : (may_start : World → Bool) (limit : ℕ) (events : List
 run_by-runs_late may_start limit [] w = refl
 run_by-runs_late may_start limit (event ∷ events) w =
     run_by-runs_late may_start limit events (after_late_event may_start limit event w)
-
--- where the computer's side alone has changed
-pub desk_world :
-    {limit : ℕ} {was now : KeptWorld} {desk : KeptDesk} {r after : ReceiverState}
-    → was ≡ now
-    → (IsIn limit was.desk.receiver r → IsDesk limit desk (record (desk_at was.desk r) { receiver = after }))
-    → IsIn limit now.desk.receiver r
-    → IsWorld limit (record was { desk = desk }) (record (world_at now r) { receiver = after })
-desk_world {was = was} {r = r} same heard is_in =
-    let is_desk = heard (rw (← same) at is_in) in
-    rw (← same) (record {
-      receiver_is = is_desk.receiver_is;
-      world_is = ap (λ (d : Desk). record (world_at was r) {
-        receiver = d.receiver;
-        opened = d.opened;
-        sessions = d.sessions;
-      }) is_desk.desk_is;
-    })
-
--- the units before the front one left
-pub front_left :
-    {units rest : List Travelling} {front : Option Travelling} {unit : Travelling}
-    → units ≡ option_to_list front ++ rest
-    → front ≡ Some unit
-    → units ≡ unit ∷ rest
-front_left {rest = rest} left some = left ∙ ap (λ front. option_to_list front ++ rest) some
-
--- and where the front unit has left the link, and what it caused is settled
-pub settled_world :
-    {A E : Type 0} (outcome : Result A E) (limit : ℕ) {was now : KeptWorld} (new : KeptWorld) (desk : KeptDesk)
-    (meant : Desk) (units : List Travelling) (r : ReceiverState)
-    → was ≡ now
-    → IsDesk limit desk meant
-    → OnOk outcome (new ≡ record was {
-      desk = record desk { replies = [] };
-      units = units;
-      replies = replies_with was.mute desk.replies was.replies;
-      mute = lowered was.mute;
-    })
-    → OnOk outcome (IsWorld limit new (settled units meant (world_at was r)))
-settled_world (Err fault) limit new desk meant units r same is_desk new_is = tt
-settled_world (Ok done) limit {was} new desk meant units r same is_desk new_is =
-    rw new_is (record {
-      receiver_is = is_desk.receiver_is;
-      world_is = ap (λ (d : Desk). settled units d (world_at was r)) is_desk.desk_is;
-    })
-
--- what a unit caused goes behind the replies on the link, where it comes in time
-pub answered_in_time :
-    {A E : Type 0} (outcome : Result A E) {was kept : KeptWorld} (desk : KeptDesk) (replies : List ℕ)
-    → was ≡ kept
-    → was.mute ≡ 0
-    → OnOk outcome ((replies ≡ was.replies ++ was.desk.replies) × (desk ≡ record was.desk { replies = [] }))
-    → OnOk outcome (record was { desk = desk; replies = replies } ≡ record kept {
-      replies = replies_with kept.mute kept.desk.replies kept.replies;
-      mute = lowered kept.mute;
-      desk = record kept.desk { replies = [] };
-    })
-answered_in_time (Err fault) desk replies same in_time answered = tt
-answered_in_time (Ok done) {was} desk replies same in_time answered =
-    rw (← same, answered.0, answered.1) (rw in_time refl)
-
--- a byte that is neither ACK nor EOT comes in the place of a reply
-pub reply_damaged-other :
-    (limit damage b : ℕ) (replies : List ℕ) (w : World) → damage ≢ ACK → damage ≢ EOT
-    → reply_damaged limit damage (b ∷ replies) w
-    ≡ sender_steps {limit = limit} (on_reply damage w.sender) (record w { replies = replies })
-reply_damaged-other limit damage b replies w no_ack no_eot =
-    let first : (damage == ACK) ≡ false = grind (arith, nat_tests) in
-    let second : (damage == EOT) ≡ false = grind (arith, nat_tests) in
-    rw (first, second)
-
--- damage that isn't noticed does nothing
-damaged-unnoticed :
-    (limit : ℕ) (bytes : List ℕ) (units : List Travelling) (w : World)
-    → front_noticed units (λ load. is_noticed load (signals_after limit w.receiver.past bytes)) ≡ false
-    → damaged limit bytes units w ≡ w
-damaged-unnoticed limit bytes [] w unnoticed = refl
-damaged-unnoticed limit bytes (front ∷ units) w unnoticed = rw unnoticed refl
-
-pub unnoticed_world :
-    (limit : ℕ) (bytes : List ℕ) (kept : KeptWorld) (r : ReceiverState)
-    → IsIn limit kept.desk.receiver r
-    → front_noticed kept.units (λ load. is_noticed load (signals_after limit r.past bytes)) ≡ false
-    → IsWorld limit kept (damaged limit bytes kept.units (world_at kept r))
-unnoticed_world limit bytes kept r is_in unnoticed =
-    rw (damaged-unnoticed limit bytes kept.units (world_at kept r) unnoticed)
-    (record { receiver_is = is_in; world_is = refl })
-
--- while damage is heard, nothing is left of it
-pub all_noticed :
-    {limit : ℕ} {load : Load} {is_bad : Bool} {scanner : Held} {left : List ℕ} {goal : Bool}
-    → IsNoticing limit load is_bad scanner left goal → left ≡ [] → true ≡ goal
-all_noticed {limit} {load} {is_bad = false} noticing none =
-    ap (λ left. is_noticed load (signals_after limit noticing.past left)) (sym none) ∙ noticing.goes_on
-all_noticed {limit} {load} {is_bad = true} noticing none =
-    ap (λ left. still_noticed true load (signals_after limit noticing.past left)) (sym none) ∙ noticing.goes_on

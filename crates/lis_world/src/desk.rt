@@ -234,7 +234,7 @@ impl<const N: usize> DeskOf<N> {
         ensures { (r : ReceiverState) → IsIn N self.old.receiver r →
             OnOk result (IsDesk N self.new (hears N unit.now.session (frame_bytes frame.now) (desk_at self.old r))) }
     {
-        // That it can be written, and is heard as itself, is known from its number.
+        // proof: what `number` promises is that the frame can be written, and is heard as itself.
         let _ = frame.number();
         let bytes: ArrayVec<u8, B> = frame_bytes_of(frame);
         self.hear(unit, bytes.as_slice())

@@ -7,7 +7,7 @@ use crate::frame_rows::put_frame;
 use crate::sender_rows::put_outcome;
 use crate::words::{Call, byte_of, link_text_of, texts_of};
 use lis_frame::FramesOf;
-use lis_world::{Event, Events, SessionOf, play_of};
+use lis_world::{Event, Events, HistoryOf, LateEvent, LateEvents, PlayFault, SessionOf, play_late_of, play_of};
 use std::mem::drop;
 
 /// Answers a call on a link.
@@ -18,7 +18,25 @@ pub(crate) fn link_call<const N: usize>(call: Call<'_>, answer: &mut Answer)
         return answer.no_call();
     }
     let history = play_of::<N>(answer.alloc, events_of(call.words, answer));
-    if let Some(history) = answer.made(history) {
+    put_played(history, answer);
+}
+
+/// Answers a call on a line that answers late.
+pub(crate) fn late_call<const N: usize>(call: Call<'_>, answer: &mut Answer)
+    requires { IsLimit N }
+{
+    if call.name != "play" {
+        return answer.no_call();
+    }
+    let history = play_late_of::<N>(answer.alloc, late_events_of(call.words, answer));
+    put_played(history, answer);
+}
+
+/// Puts what was played, if memory was there.
+fn put_played<const N: usize>(played: Result<HistoryOf<N>, PlayFault>, answer: &mut Answer)
+    requires { IsLimit N }
+{
+    if let Some(history) = answer.made(played) {
         put_history(history.as_slice(), answer);
         drop(history);
     }
@@ -34,6 +52,26 @@ fn events_of(words: &[&str], answer: &mut Answer) -> Events {
         }
     }
     events
+}
+
+/// The events on a line that answers late that words tell.
+fn late_events_of(words: &[&str], answer: &mut Answer) -> LateEvents {
+    let mut events = LateEvents::new(answer.alloc);
+    for word in words {
+        match late_event_of(*word, answer) {
+            Some(event) => answer.needs(events.push(event)),
+            None => answer.no_call(),
+        }
+    }
+    events
+}
+
+/// The event on a line that answers late that a word tells.
+fn late_event_of(word: &str, answer: &mut Answer) -> Option<LateEvent> {
+    match word {
+        "Reconnect" => Some(LateEvent::Reconnect),
+        _ => event_of(word, answer).map(LateEvent::Happens),
+    }
 }
 
 /// The event that a word tells.

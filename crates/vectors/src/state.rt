@@ -4,7 +4,7 @@ ghost use Rattle.lis_frame.specs.Limit.{IsLimit};
 
 use crate::answer::Answer;
 use crate::frame_rows::{frame_call, text_call};
-use crate::link_rows::link_call;
+use crate::link_rows::{late_call, link_call};
 use crate::message_rows::Reading;
 use crate::record_rows::record_call;
 use crate::words::Call;
@@ -47,6 +47,7 @@ impl<const N: usize> Ends<N> {
             "sender" => self.sender_call(call, answer),
             "receiver" => self.receiver_call(call, answer),
             "link" => link_call::<N>(call, answer),
+            "late" => late_call::<N>(call, answer),
             _ => answer.no_call(),
         }
     }
