@@ -247,9 +247,9 @@ class Session:
 
 
 class Link:
-    """A link between a new sender and a new receiver, by docs/LINK.md. Each event is a method. On a line that answers late
-    a reply that comes after the sender's timer or restart is delivered like any other, a session starts only on an empty
-    link, and the line can be connected anew."""
+    """A link between a new sender and a new receiver, by docs/LINK.md. Each event is a method. On a line that answers
+    late a reply that comes after the sender's timer or restart is delivered like any other, a session starts only on an
+    empty link, and the line can be connected anew."""
 
     def __init__(self, limit, is_late):
         self.limit, self.is_late = limit, is_late

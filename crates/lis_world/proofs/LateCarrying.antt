@@ -1,6 +1,7 @@
 -- A line that was connected anew carries a session as the other link does: the events of one session do the same on
 -- both.
-use Rattle.std.proofs.Common.{◌≡◌, ℕ, Bool, true, false, List, [], ◌∷◌, ◌++◌, length, map, refl, sym, ap, ◌∙◌, subst, arith}
+use Rattle.std.proofs.Common.{◌≡◌, ℕ, Bool, true, false, List, [], ◌∷◌, ◌++◌, length, map, refl, sym, ap, ◌∙◌, subst}
+use Rattle.std.proofs.Common.{arith}
 use Rattle.std.specs.Prelude.{not, ◌||◌, ◌==◌}
 use Rattle.std.proofs.lemmas.Bool.{cond-true, and_parts, and_from, eqb-true}
 use Rattle.lis_frame.specs.Limit.{IsLimit}
@@ -14,9 +15,9 @@ use Rattle.lis_world.specs.declared.event.LateEvent.TheVariants.{Happens}
 use Rattle.lis_world.specs.Unit.{Travelling}
 use Rattle.lis_world.specs.World.{World, new_world}
 use Rattle.lis_world.specs.Steps.{after_event, runs}
-use Rattle.lis_world.specs.Progress.{Round, undisturbed, without_room, bad_frame, bad_reply, round_events, rounds_events}
-use Rattle.lis_world.specs.Progress.{session_events, IsCarried, AreSendable, quiet_events, undisturbed_rounds}
-use Rattle.lis_world.specs.Progress.{done_session}
+use Rattle.lis_world.specs.Progress.{Round, undisturbed, without_room, bad_frame, bad_reply, round_events}
+use Rattle.lis_world.specs.Progress.{rounds_events, session_events, IsCarried, AreSendable, quiet_events}
+use Rattle.lis_world.specs.Progress.{undisturbed_rounds, done_session}
 use Rattle.lis_world.specs.Late.{happens_late, after_late_event, runs_late, late_world, has_no_unit, has_no_reply}
 use Rattle.lis_world.specs.Late.{is_empty, is_quiet, only_endings, is_answered, reply_may_come}
 use Rattle.lis_world.specs.LateRecovery.{renewal, CarriesOnNewLine}

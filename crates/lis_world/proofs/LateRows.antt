@@ -1,6 +1,7 @@
 -- The definitions of the line that answers late, at lists of events, by computation; and why a session may not start on
 -- it at any time.
-use Rattle.std.proofs.Common.{◌≡◌, ℕ, ◌≤◌, Bool, true, false, List, [], ◌∷◌, ◌++◌, length, map, Some, refl, subst, arith}
+use Rattle.std.proofs.Common.{◌≡◌, ℕ, ◌≤◌, Bool, true, false, List, [], ◌∷◌, ◌++◌, length, map, Some, refl, subst}
+use Rattle.std.proofs.Common.{arith}
 use Rattle.std.specs.Prelude.{All}
 use Rattle.lis_frame.specs.Frame.{frame_bytes}
 use Rattle.lis_frame.specs.Stretch.{stretch_fault}

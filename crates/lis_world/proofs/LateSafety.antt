@@ -109,7 +109,8 @@ usual :
     → (IsDeaf w → Holds limit (forgotten w) → Holds limit (after_event limit event (forgotten w))
     → HoldsHushed limit (after_event limit event w))
     → HoldsHushed limit (after_event limit event w)
-usual limit event w is_limit h = usual_holds limit event w (is_deaf w.sender.phase w.sender.outcome) is_limit refl h.hushed
+usual limit event w is_limit h =
+    usual_holds limit event w (is_deaf w.sender.phase w.sender.outcome) is_limit refl h.hushed
 
 -- the sender is deaf: a unit leaves the link
 deaf_settled : (limit : ℕ) (units : List Travelling) (desk : Desk) (w : World) → IsDeaf w

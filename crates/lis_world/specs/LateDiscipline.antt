@@ -42,4 +42,5 @@ StartInTime limit (event ∷ events) w is_new =
 -- then each session is safe; the first one begins on a new line
 abbrev pub SafeOnNewLines : ℕ → Type 0
 SafeOnNewLines limit =
-    (events : List LateEvent) → StartInTime limit events new_world true → Safe limit (late_world at_any_time limit events)
+    (events : List LateEvent) → StartInTime limit events new_world true
+    → Safe limit (late_world at_any_time limit events)

@@ -12,7 +12,8 @@ use Rattle.lis_world.specs.Late.{late_world}
 abbrev pub renewal : List LateEvent
 renewal = Happens RestartSender ∷ Reconnect ∷ []
 
--- after whatever events and these two, a session of texts that a sender takes is carried through, if it has enough rounds
+-- after whatever events and these two, a session of texts that a sender takes is carried through, if it has enough
+-- rounds
 abbrev pub CarriesOnNewLine : (World → Bool) → ℕ → Type 0
 CarriesOnNewLine may_start limit =
     (events : List LateEvent) (texts : List (List ℕ)) (rounds : List Round)

@@ -13,7 +13,8 @@ ghost use Rattle.lis_world.specs.Session.{new_session};
 ghost use Rattle.lis_world.specs.Unit.{enquiry};
 ghost use Rattle.lis_world.specs.World.{new_world, replies_with, lowered};
 ghost use Rattle.lis_world.specs.Steps.{emitted, with_sender, sender_steps, begins, is_noticed, delivered};
-ghost use Rattle.lis_world.specs.Steps.{delivered_no_room, damaged, lost, replied, reply_damaged, reply_lost, after_event};
+ghost use Rattle.lis_world.specs.Steps.{delivered_no_room, damaged, lost, replied, reply_damaged, reply_lost};
+ghost use Rattle.lis_world.specs.Steps.{after_event};
 ghost use Rattle.lis_world.specs.declared.event.Event.TheVariants.{SenderTimer, RestartSender};
 
 use crate::desk::DeskOf;
@@ -234,7 +235,7 @@ impl<const N: usize> RunOf<N> {
         ensures { (r : ReceiverState) → IsIn N self.old.desk.receiver r →
             IsWorld N self.new (reply_lost self.old.replies (world_at self.old r)) }
     {
-        let _ = self.replies.pop_front();
+        self.replies.pop_front();
     }
 
     /// The sender's timer runs out.
