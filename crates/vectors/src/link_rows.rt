@@ -7,7 +7,9 @@ use crate::frame_rows::put_frame;
 use crate::sender_rows::put_outcome;
 use crate::words::{Call, byte_of, link_text_of, texts_of};
 use lis_frame::FramesOf;
-use lis_world::{Event, Events, HistoryOf, LateEvent, LateEvents, PlayFault, SessionOf, play_late_of, play_of};
+use lis_world::{
+    Event, Events, HistoryOf, LateEvent, LateEvents, PlayFault, SessionOf, play_late_of, play_of,
+};
 use std::mem::drop;
 
 /// Answers a call on a link.
