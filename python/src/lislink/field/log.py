@@ -5,6 +5,7 @@ from typing import List, NamedTuple, Optional
 
 SECOND = 1_000_000_000
 _DAY = 86400 * SECOND
+_LAST = 253_402_300_800 * SECOND  # the year 10000
 
 
 class LogError(Exception):
@@ -93,7 +94,7 @@ def in_order(pieces: List[Piece]) -> List[Piece]:
     told: List[Piece] = []
     last, days = None, 0
     for piece in pieces:
-        time = piece.time
+        time = piece.time if piece.time is not None and piece.time < _LAST else None
         if time is not None and time < _DAY:
             if last is not None and last - time > _DAY // 2:
                 days += 1

@@ -34,6 +34,8 @@ _MARKS: List[Tuple["re.Pattern[str]", Callable[["re.Match[str]"], str]]] = [
     (re.compile(r"\b(?P<a>com\d+|(?<=/dev/)tty\w+)\b", re.I), lambda found: found["a"].lower()),
     (re.compile(r"^(?P<a>[<>])(?=\s)"), lambda found: found["a"]),
 ]
+#: What a line must hold for these of the directions.
+_ARROWS = {0: ("->", "=>", "→", "»", "⇒"), 1: ("<-", "<=", "←", "«", "⇐"), 2: (" > ",)}
 _CLOCK_FIRST = re.compile(r"^(?:\d{1,4}[-/.]\d{1,2}[-/.]\d{1,4}[T ])?\d{1,2}:\d\d:\d\d(?:[.,]\d+)?[\s,;|]+")
 _SEPARATOR = re.compile(r"\s*(?:\(?\d+\s*(?:bytes?|chars?|B)\)?|len(?:gth)?\s*[=:]?\s*\d+)?\s*(?:(?:[:\-=|>,;\]]|<(?=\s))\s?)*\s*", re.I)
 
@@ -139,7 +141,7 @@ def traces(text: str) -> Log:
     kind = _kind(text)
     grammar = next(one for one in GRAMMARS if one.name == kind)
     lines = text.splitlines()
-    marked = [_split(line, grammar) for line in lines]
+    marked = [_split(line, grammar) if line.strip() else None for line in lines]
     if sum(one is not None for one in marked) == 0:
         return _unmarked(lines, grammar)
     sure = [(number, line) for number, line in enumerate(lines, 1) if _SURE.search(line)]
@@ -278,6 +280,8 @@ def _split(line: str, grammar: Grammar) -> Optional[Tuple[str, str, bytes]]:
             limit = sure.start()
     best: Optional[Tuple[int, str, str, bytes]] = None
     for rank, (pattern, side) in enumerate(_MARKS):
+        if rank in _ARROWS and not any(one in line for one in _ARROWS[rank]):
+            continue
         for found in pattern.finditer(line):
             if found.start() >= limit or not _is_head(line[:found.start()]):
                 continue
