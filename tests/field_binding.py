@@ -7,6 +7,7 @@ import sysconfig
 import threading
 import venv
 
+import lislink
 from field_kit import ROOT
 from lislink import (FrameFault, Kind, LinkError, MessageError, Note, Outcome, Phase, Readiness, Reader, Reason, Receiver, Record,
                      Scanner, Sender, Status, Writer, WrongThread, frame_bytes, messages, records)
@@ -22,8 +23,20 @@ def run(count):
     of_threads(count)
     of_pieces(count)
     of_long_input(count)
+    of_docstrings(count)
     of_package(count)
     of_mypy(count)
+
+
+def of_docstrings(count):
+    """Each public name says what it is."""
+    for name in lislink.__all__:
+        one = getattr(lislink, name)
+        if callable(one):
+            count.true(f"{name} has a docstring", bool(one.__doc__))
+            for part, value in vars(one).items() if isinstance(one, type) else ():
+                if not part.startswith("_") and (callable(value) or isinstance(value, property)) and value.__class__.__name__ != "member":
+                    count.true(f"{name}.{part} has a docstring", bool(value.__doc__))
 
 
 def rejected(count, name, call, status):

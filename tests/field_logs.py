@@ -78,6 +78,9 @@ def of_packets(count):
     plain = field_packets.segments(session)
     gap = count.path("gap.pcap", field_packets.pcap(plain[:5] + plain[6:]))
     count.has("a packet is missing", lislab("capture", gap).error, "bytes are missing")
+    ran = lislab("capture", gap, "--skip-missing")
+    count.same("a packet is missing, and passed over", ran.text, wanted.replace("> 0231487c5c5e260d\n", ""))
+    count.has("a packet is missing, told", ran.error, "8 bytes aren't in the file")
     cut = count.path("cut.pcap", field_packets.pcap(plain)[:-9])
     count.same("a last packet that is cut", lislab("capture", cut).status, 0)
     twice = count.path("twice.pcap", field_packets.pcap(plain + [

@@ -5,9 +5,9 @@ ANALYZER, COMPUTER = ("10.0.0.1", 51234), ("10.0.0.2", 4001)
 START = 1795166102
 
 
-def tcp(source, target, sequence, data=b"", flags=0x18, version=4):
+def tcp(source, target, sequence, data=b"", flags=0x18, version=4, acknowledged=0):
     """The IP packet of a segment."""
-    head = struct.pack(">HHIIBBHHH", source[1], target[1], sequence & 0xFFFFFFFF, 0, 0x50, flags, 8192, 0, 0)
+    head = struct.pack(">HHIIBBHHH", source[1], target[1], sequence & 0xFFFFFFFF, acknowledged & 0xFFFFFFFF, 0x50, flags, 8192, 0, 0)
     body = head + data
     if version == 6:
         ends = b"".join(bytes(12) + bytes(map(int, one[0].split("."))) for one in (source, target))
@@ -62,7 +62,7 @@ def segments(session, first=(1000, 9000), version=4):
             (0.0, tcp(*ends["<"], sequence["<"] - 1, flags=0x12, version=version)),
             (0.0, tcp(*ends[">"], sequence[">"], flags=0x10, version=version))]
     for mark, time, data in session:
-        told.append((time, tcp(*ends[mark], sequence[mark], data, version=version)))
+        told.append((time, tcp(*ends[mark], sequence[mark], data, version=version, acknowledged=sequence["<" if mark == ">" else ">"])))
         sequence[mark] += len(data)
     told.append((session[-1][1], tcp(*ends[">"], sequence[">"], flags=0x11, version=version)))
     return told

@@ -29,6 +29,18 @@ def run(count):
     of_versions(count)
     of_dialects(count)
     of_words(count)
+    of_manual(count)
+
+
+def of_manual(count):
+    """What python/README.md shows of a command is what it prints."""
+    with open(os.path.join(ROOT, "python", "README.md"), encoding="utf-8") as file:
+        text = file.read()
+    shown = re.findall(r"^    \$ lislab (.*)\n((?:    .*\n|\n(?=\n*    ))*)", text, re.M)
+    count.true("the manual shows commands", len(shown) > 0)
+    for words, block in shown:
+        wanted = "".join(line[4:].rstrip() + "\n" for line in block.splitlines())
+        count.same(f"the manual: lislab {words}", "".join(line.rstrip() + "\n" for line in lislab(*words.split()).lines), wanted)
 
 
 def agrees(count, name, data):
@@ -163,9 +175,12 @@ def of_words(count):
                   "the receiver would answer <ACK>: the computer rejects a good frame", "the receiver is restarted",
                   "the receiver's 30 seconds are over", "the computer wants to send", "summary: ENQ 4, frames 6"):
         count.has("the words of a ladder", text, words)
-    out_of_turn = b"> 05\n> 02331035320d0a\n> 0233410337370d0a\n> 04\n"
-    count.has("a frame out of turn", lislab("ladder", "-", data=out_of_turn).text, "rejected: out of turn, 1 is due -> <NAK>")
+    out_of_turn = b"> 05\n> 0233410337370d0a\n> 04\n"
+    count.has("a frame out of turn", lislab("ladder", "-", data=out_of_turn).text, "rejected: out of turn, 1 is due (checksum 77) -> <NAK>")
     count.has("no replies at all", lislab("ladder", "-", data=out_of_turn).text, "no bytes of the computer")
+    swapped = lislab("ladder", "--swap", os.path.join(ROOT, "samples", "session.capture")).text
+    count.has("the sides are swapped", swapped, "the sides are swapped")
+    count.has("a right checksum", text, "(checksum EC) -> <ACK>")
     late = count.path("late.capture", b"> 05\n< 06\n> 0231410337350d0a\n< 06\n> 04\n")
     count.path("late.capture.times", b"09:00:00.000\n09:00:20.000\n09:01:00.000\n09:01:00.100\n09:01:00.200\n")
     shown = lislab("ladder", late).text

@@ -56,11 +56,13 @@ def _import_options(parser: argparse.ArgumentParser) -> None:
     parser.add_argument("--fd", type=int, metavar="N", help="which descriptor of an strace")
     parser.add_argument("--timer", type=float, metavar="SECONDS", help="put a line T where the analyzer is silent for longer")
     parser.add_argument("--mixed", action="store_true", help="one stream holds both sides: take ACK and NAK apart")
+    parser.add_argument("--skip-missing", action="store_true", help="go on where bytes of a TCP line aren't in the file")
     parser.add_argument("--units", action="store_true", help="a line for each unit, whatever pieces the log has")
 
 
 def _options(ask: argparse.Namespace) -> sniffers.Options:
-    return sniffers.Options(ask.form, ask.analyzer_side, ask.swap, ask.port, ask.stream, ask.fd, ask.timer, ask.mixed, ask.units)
+    return sniffers.Options(ask.form, ask.analyzer_side, ask.swap, ask.port, ask.stream, ask.fd, ask.timer, ask.mixed, ask.units,
+                            ask.skip_missing)
 
 
 def _imported(data: bytes, ask: argparse.Namespace) -> Tuple[Capture, List[str]]:

@@ -53,7 +53,10 @@ def _no_protocol(ladder: Ladder) -> Iterator[Look]:
         yield Look("parity", "bad", f"each byte carries an {parity} parity bit: the line has 7 data bits, and was read with 8",
                    f"set both ends alike, 8N1 or 7{parity[0].upper()}1", [])
         return
-    if not data:
+    if 5 not in data and 2 not in data and 5 in ladder.computer and 2 in ladder.computer:
+        yield Look("swapped", "bad", "ENQ and frames come from the computer's side alone: the sides are swapped",
+                   "lislab ladder --swap", [])
+    elif not data:
         yield Look("no-bytes", "bad", "the capture has no bytes of the analyzer",
                    "look whether the sides are swapped (lislab capture --swap), or the wire is", [])
     elif 5 not in data and 2 not in data:

@@ -29,6 +29,7 @@ class Segment(NamedTuple):
     sequence: int
     flags: int
     data: bytes
+    acknowledged: int = 0
 
 
 def is_packets(data: bytes) -> bool:
@@ -152,11 +153,12 @@ def segment_of(packet: Packet) -> Optional[Segment]:
     if len(ip) < start + 20:
         return None
     end = total if total > start else len(ip)
-    source_port, target_port, sequence = struct.unpack_from(">HHI", ip, start)
+    source_port, target_port, sequence, acknowledged = struct.unpack_from(">HHII", ip, start)
     data = ip[start + (ip[start + 12] >> 4) * 4:end]
     if packet.cut and end > len(ip):
         raise LogError(f"{packet.cut} bytes of a packet weren't kept: capture whole packets (tcpdump -s 0)")
-    return Segment(packet.time, source, source_port, target, target_port, sequence, ip[start + 13], data)
+    return Segment(packet.time, source, source_port, target, target_port, sequence, ip[start + 13], data,
+                   acknowledged)
 
 
 class Connection:
@@ -171,12 +173,15 @@ class Connection:
         self.waiting: Dict[str, List[Tuple[int, bytes]]] = {}
         self.first: Dict[str, int] = {}
         self.begun = self.ended = segment.time
-        self.repeated = self.early = 0
+        self.repeated = self.early = self.skipped = 0
 
-    def take(self, segment: Segment) -> None:
-        """Takes a segment: bytes that came before are left out, those that come too early wait."""
+    def take(self, segment: Segment, skip_missing: bool = False) -> None:
+        """Takes a segment: bytes that came before are left out, those that come too early wait. With `skip_missing` they
+        wait until the other end has acknowledged what isn't in the file."""
         side = f"{segment.source}:{segment.source_port}"
         self.ended = segment.time
+        if skip_missing and segment.flags & 16:
+            self._pass_over(f"{segment.target}:{segment.target_port}", segment)
         if segment.flags & 2:
             self.first[side] = segment.sequence
             self.due.setdefault(side, (segment.sequence + 1) & 0xFFFFFFFF)
@@ -190,7 +195,34 @@ class Connection:
         start = segment.sequence + (1 if segment.flags & 2 else 0)
         waiting = self.waiting.setdefault(side, [])
         waiting.append((start & 0xFFFFFFFF, segment.data))
-        moved = True
+        self._take_waiting(side, segment.time)
+        if waiting:
+            self.early += 1
+
+    def _pass_over(self, side: str, segment: Segment) -> None:
+        """What a side acknowledges came to it: bytes before that which aren't in the file are passed over."""
+        waiting, due = self.waiting.get(side, []), self.due.get(side)
+        while waiting and due is not None and 0 < (segment.acknowledged - due) & 0xFFFFFFFF < 1 << 31:
+            first = min((sequence - due) & 0xFFFFFFFF for sequence, _ in waiting)
+            if first > (segment.acknowledged - due) & 0xFFFFFFFF:
+                return
+            self._jump(side, first, segment.time)
+            due = self.due[side]
+
+    def _jump(self, side: str, count: int, time: Optional[int]) -> None:
+        self.skipped += count
+        self.due[side] = (self.due[side] + count) & 0xFFFFFFFF
+        self._take_waiting(side, time)
+
+    def pass_over_all(self) -> None:
+        """At the end of the file: what waits is taken, and the bytes before it are passed over."""
+        for side, waiting in self.waiting.items():
+            while waiting:
+                self._jump(side, min((sequence - self.due[side]) & 0xFFFFFFFF for sequence, _ in waiting), self.ended)
+
+    def _take_waiting(self, side: str, time: Optional[int]) -> None:
+        """Takes what waits, as far as no byte is missing before it."""
+        waiting, moved = self.waiting.get(side, []), True
         while moved:
             moved = False
             for place, (sequence, data) in enumerate(waiting):
@@ -201,12 +233,10 @@ class Connection:
                 if skip:
                     self.repeated += 1
                 if skip < len(data):
-                    self.pieces.append(Piece(segment.time, side, data[skip:]))
+                    self.pieces.append(Piece(time, side, data[skip:]))
                     self.due[side] = (sequence + len(data)) & 0xFFFFFFFF
                 moved = True
                 break
-        if waiting:
-            self.early += 1
 
     def missing(self) -> int:
         """How many bytes wait for ones that aren't in the file."""
@@ -239,7 +269,7 @@ def _starts_of(segments: List[Segment]) -> List[Segment]:
     return told
 
 
-def connections_of(segments: List[Segment]) -> List[Connection]:
+def connections_of(segments: List[Segment], skip_missing: bool = False) -> List[Connection]:
     """The connections of segments, in the order of their beginning."""
     told: List[Connection] = []
     current: Dict[Tuple[frozenset, frozenset], Connection] = {}  # type: ignore[type-arg]
@@ -251,7 +281,10 @@ def connections_of(segments: List[Segment]) -> List[Connection]:
         if known is None or is_new:
             known = current[key] = Connection(segment)
             told.append(known)
-        known.take(segment)
+        known.take(segment, skip_missing)
+    if skip_missing:
+        for one in told:
+            one.pass_over_all()
     return told
 
 
@@ -262,14 +295,15 @@ def _serial(packets: List[Packet], form: str) -> Log:
                       if len(one.data) > 12 and one.data[8] in names], [])
 
 
-def read_packets(every_packet: Iterator[Packet], form: str, stream: Optional[int] = None, port: Optional[int] = None) -> Log:
+def read_packets(every_packet: Iterator[Packet], form: str, stream: Optional[int] = None, port: Optional[int] = None,
+                 skip_missing: bool = False) -> Log:
     """The bytes of the TCP line in packets. If there are several, those between the same two ends follow one another;
     else one is chosen by its number, or by its port."""
     packets = list(every_packet)
     if packets and all(one.link == 250 for one in packets):
         return _serial(packets, form)
     segments = [one for one in map(segment_of, packets) if one is not None]
-    every = connections_of(segments)
+    every = connections_of(segments, skip_missing)
     if port is not None:
         every = [one for one in every if port in one.ports]
     found = [one for one in every if one.has_link_bytes()]
@@ -302,7 +336,8 @@ def _joined(found: List[Connection], form: str) -> Log:
     shared = next((end for end in found[0].ends if len(found) > 1 and int(end.rsplit(":", 1)[1]) in common), None)
     for number, one in enumerate(found):
         if one.missing():
-            raise LogError(f"bytes are missing in the file: {one.missing()} bytes of {one.name()} have none before them")
+            raise LogError(f"bytes are missing in the file: {one.missing()} bytes of {one.name()} have none before them "
+                           "(--skip-missing goes on without them)")
         if number:
             pieces.append(Piece(one.begun, NEW, b""))
         for piece in one.pieces:
@@ -313,6 +348,8 @@ def _joined(found: List[Connection], form: str) -> Log:
         remarks.append(f"{len(found)} connections follow one another; a line R is where each new one begins")
     if sum(one.repeated for one in found):
         remarks.append(f"{sum(one.repeated for one in found)} segments came again, and were left out")
+    if sum(one.skipped for one in found):
+        remarks.append(f"{sum(one.skipped for one in found)} bytes aren't in the file, and were passed over: units are missing or torn")
     if sum(one.early for one in found):
         remarks.append(f"{sum(one.early for one in found)} segments came out of order, and were put in their place")
     remarks.append("connection " + found[0].name())

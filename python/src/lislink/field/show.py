@@ -32,6 +32,8 @@ def _row(row: Row) -> Iterator[str]:
     else:
         line = "│" + row.title[:_WIDTH].center(_WIDTH) + "│"
     note = row.note
+    if row.checksum and row.checksum.found.upper() == row.checksum.wanted:
+        note += f" (checksum {row.checksum.found})"
     if row.side == ">" and row.reply:
         note += f" -> {words(row.reply)}"
     yield (head + line + "  " + note).rstrip()

@@ -23,6 +23,7 @@ class Options(NamedTuple):
     timer: Optional[float] = None
     mixed: bool = False
     units: bool = False
+    skip_missing: bool = False
 
 
 #: The forms by their names: whether a text looks so, and its reader.
@@ -118,7 +119,7 @@ def _read_log(data: bytes, ask: Options) -> Log:
         raise LogError("the file is empty")
     if ask.form in ("pcap", None) and packets.is_packets(data):
         remarks: List[str] = []
-        log = packets.read_packets(packets.packets_of(data, remarks), "pcap", ask.stream, ask.port)
+        log = packets.read_packets(packets.packets_of(data, remarks), "pcap", ask.stream, ask.port, ask.skip_missing)
         return log._replace(remarks=log.remarks + remarks)
     if ask.form == "raw" or ask.form is None and _is_raw(data):
         mixed = traces.with_control_bytes(data) if ask.form is None else None
