@@ -1,8 +1,12 @@
 //! The list that texts, frames and what stands above them are kept in.
 
-ghost use Rattle.std.specs.Prelude.{◌≡◌, ◌==◌, ◌++◌, ◌∷◌, [], length, slice_get, IfErr, IfOk, OnOk, OnErr};
+ghost use Rattle.std.specs.Prelude.{◌≡◌, ◌==◌, ◌++◌, ◌∷◌, ◌-◌, [], length, slice_get, slice_set, IfErr, IfOk, OnOk};
+ghost use Rattle.std.specs.Prelude.{OnErr};
+ghost use Rattle.std.specs.Borrow.{LendsIf, sem};
 ghost use Rattle.std.specs.Cmp.Lexicographic.{pointwise, lists_equiv, lists_per};
+ghost use Rattle.std.specs.List.{ItemMut};
 ghost use Rattle.std.specs.Option.{option_copied};
+ghost use Rattle.lis_text.specs.contracts.list.List.{the_row};
 
 use std::alloc::{AllocError, AllocFailed, Global};
 use std::marker::Model;
@@ -73,6 +77,15 @@ impl<T> List<T> {
         ensures { option_copied result ≡ slice_get self.now place }
     {
         self.items.get(place)
+    }
+
+    /// The last item, to change it where it stands.
+    pub fn last_mut(&mut self) -> Option<&mut T>
+        ensures* writes_back { sem 𝓛 (LendsIf (the_row T.row) T.row self.entry result
+            (slice_set self.old (length self.old - 1)) self.old) }
+        ensures item { ItemMut self.old 0 (length self.old - 1) result }
+    {
+        self.items.last_mut()
     }
 
     /// The items, as a slice.
