@@ -1,23 +1,19 @@
 -- Where the next record stands after the records of a tree's parts, and that each of these stands where it may.
-use Rattle.std.proofs.Common.{◌≡◌, ◌≢◌, List, [], ◌∷◌, ◌++◌, None, Some, Option, refl, sym, ◌∙◌, ap, subst, append-nil}
+use Rattle.std.proofs.Common.{◌≡◌, ◌≢◌, List, [], ◌∷◌, ◌++◌, None, Some, refl, sym, ◌∙◌, ap, subst}
 use Rattle.std.specs.List.{AllByRecursion, flat_map}
 use Rattle.lis_field.specs.declared.kinds.Kind.{Kind}
 use Rattle.lis_field.specs.declared.kinds.Kind.TheVariants as kinds
 use Rattle.lis_field.specs.Shape.{RecordContent}
 use Rattle.lis_field.specs.declared.faults.Reason.TheVariants as reasons
 use Rattle.lis_tree.specs.Nodes.{Branch, Noted, OrderTree, PatientTree}
-use Rattle.lis_tree.specs.inside.Front.{IsFront, front_records}
+use Rattle.lis_tree.specs.inside.Front.{IsFront, front_level, front_records, group_level, groups_level, orders_level}
 use Rattle.lis_tree.proofs.Flatten.{front_is, front_tree}
 use Rattle.lis_tree.specs.declared.tree.Group.{Group}
 use Rattle.lis_tree.specs.declared.tree.Group.TheVariants as groups
-use Rattle.lis_tree.specs.declared.spine.Spine.{Spine}
-use Rattle.lis_tree.specs.declared.spine.Spine.TheVariants as spines
 use Rattle.lis_tree.specs.Level.{Level, outside, in_header, in_patient, in_order, in_query, closed, next_level}
 use Rattle.lis_tree.specs.Level.{level_after, misplaced, StandsFrom, kinds_of}
 use Rattle.lis_tree.specs.Tree.{MessageTree, noted_records, order_records, patient_records, group_records, IsNote}
 use Rattle.lis_tree.specs.Tree.{AreNotes, IsNoted, IsOrder, IsPatient, IsGroup, IsTree}
-use Rattle.lis_tree.specs.inside.Spine.{last_records, open_records, spine_records, spine_level}
-use Rattle.lis_tree.specs.inside.Spine.{IsLast, IsSpine}
 
 -- a run of kinds that all stand, and where it leads
 pub record Leads (from : Level) (ks : List Kind) (to : Level) : Type 0 where
@@ -120,25 +116,29 @@ takes_order in_patient u = refl
 takes_order in_order u = refl
 takes_order l u = elim u [ ]
 
-orders_lead : (l : Level) (os : List OrderTree) → IsUnderPatient l → AllByRecursion IsOrder os → (to : Level)
-    × IsUnderPatient to × LeadsBy l (flat_map order_records os) to
-orders_lead l [] u a = (l, u, record { stands = tt; arrives = refl })
-orders_lead l (o ∷ os) u a =
-    let rest = orders_lead in_order os later a.1 in (
-      rest.0,
-      rest.1,
-      leads_then l in_order rest.0 (order_records o) (flat_map order_records os)
-          (order_leads l o a.0 (takes_order l u)) rest.2,
-    )
+more_orders : (os : List OrderTree) → AllByRecursion IsOrder os → LeadsBy in_order (flat_map order_records os) in_order
+more_orders [] a = record { stands = tt; arrives = refl }
+more_orders (o ∷ os) a =
+    leads_then in_order in_order in_order (order_records o) (flat_map order_records os)
+    (order_leads in_order o a.0 refl) (more_orders os a.1)
 
-pub patient_leads : (l : Level) (p : PatientTree) → IsPatient p → misplaced l kinds.P ≡ None → (to : Level)
-    × IsUnderPatient to × LeadsBy l (patient_records p) to
+orders_lead : (l : Level) (os : List OrderTree) → IsUnderPatient l → AllByRecursion IsOrder os
+    → IsUnderPatient (orders_level l os) × LeadsBy l (flat_map order_records os) (orders_level l os)
+orders_lead l [] u a = (u, record { stands = tt; arrives = refl })
+orders_lead l (o ∷ os) u a = (
+  later,
+  leads_then l in_order in_order (order_records o) (flat_map order_records os) (order_leads l o a.0 (takes_order l u))
+      (more_orders os a.1),
+)
+
+pub patient_leads : (l : Level) (p : PatientTree) → IsPatient p → misplaced l kinds.P ≡ None
+    → IsUnderPatient (orders_level in_patient p.below)
+    × LeadsBy l (patient_records p) (orders_level in_patient p.below)
 patient_leads l p is placed =
     let rest = orders_lead in_patient p.below first is.below in (
       rest.0,
-      rest.1,
-      leads_then l in_patient rest.0 (noted_records p.top) (flat_map order_records p.below)
-          (noted_leads l p.top kinds.P in_patient is.top placed refl patient) rest.2,
+      leads_then l in_patient (orders_level in_patient p.below) (noted_records p.top)
+          (flat_map order_records p.below) (noted_leads l p.top kinds.P in_patient is.top placed refl patient) rest.1,
     )
 
 inside_under : (l : Level) → IsUnderPatient l → IsInside l
@@ -153,64 +153,44 @@ inside_takes outside i = elim i [ ]
 inside_takes closed i = elim i [ ]
 inside_takes l i = (refl, refl, refl)
 
-group_leads : (l : Level) (g : Group) → IsInside l → IsGroup g → (to : Level) × IsInside to
-    × LeadsBy l (group_records g) to
+group_leads : (l : Level) (g : Group) → IsInside l → IsGroup g
+    → IsInside (group_level g) × LeadsBy l (group_records g) (group_level g)
 group_leads l (groups.Patient p) i is =
-    let r = patient_leads l p is (inside_takes l i).0 in (r.0, inside_under r.0 r.1, r.2)
-group_leads l (groups.Query q) i is =
-    (in_query, query, noted_leads l q kinds.Q in_query is (inside_takes l i).1 refl query)
+    let r = patient_leads l p is (inside_takes l i).0 in
+    (inside_under (orders_level in_patient p.below) r.0, r.1)
+group_leads l (groups.Query q) i is = (query, noted_leads l q kinds.Q in_query is (inside_takes l i).1 refl query)
 
-pub groups_lead : (l : Level) (gs : List Group) → IsInside l → AllByRecursion IsGroup gs → (to : Level) × IsInside to
-    × LeadsBy l (flat_map group_records gs) to
-groups_lead l [] i a = (l, i, record { stands = tt; arrives = refl })
+pub groups_lead : (l : Level) (gs : List Group) → IsInside l → AllByRecursion IsGroup gs
+    → IsInside (groups_level l gs) × LeadsBy l (flat_map group_records gs) (groups_level l gs)
+groups_lead l [] i a = (i, record { stands = tt; arrives = refl })
 groups_lead l (g ∷ gs) i a =
     let here = group_leads l g i a.0 in
-    let rest = groups_lead here.0 gs here.1 a.1 in
-    (rest.0, rest.1, leads_then l here.0 rest.0 (group_records g) (flat_map group_records gs) here.2 rest.2)
+    let to = groups_level (group_level g) gs in
+    let rest = groups_lead (group_level g) gs here.0 a.1 in
+    (rest.0, leads_then l (group_level g) to (group_records g) (flat_map group_records gs) here.1 rest.1)
 
-pub front_leads : (f : Branch Group) → IsFront f → (to : Level) × IsInside to × LeadsBy outside (front_records f) to
+-- the records of a message that isn't closed lead to where the next one will stand
+pub front_leads : (f : Branch Group) → IsFront f
+    → IsInside (front_level f) × LeadsBy outside (front_records f) (front_level f)
 front_leads f is =
     let rest = groups_lead in_header f.below header is.below in (
       rest.0,
-      rest.1,
-      leads_then outside in_header rest.0 (noted_records f.top) (flat_map group_records f.below)
-          (noted_leads outside f.top kinds.H in_header is.top refl refl header) rest.2,
+      leads_then outside in_header (front_level f) (noted_records f.top) (flat_map group_records f.below)
+          (noted_leads outside f.top kinds.H in_header is.top refl refl header) rest.1,
     )
 
-last_leads : (o : OrderTree) (last : Option Noted) → IsLast o last → LeadsBy in_order (last_records last) in_order
-last_leads o None is = record { stands = tt; arrives = refl }
-last_leads o (Some item) is = noted_leads in_order item kinds.R in_order is refl refl order
-
--- the records of a message that isn't whole lead to where the next one will stand
-pub spine_leads : (s : Spine) → IsSpine s → LeadsBy outside (spine_records s) (spine_level s)
-spine_leads (spines.Header item) is = noted_leads outside item kinds.H in_header is refl refl header
-spine_leads (spines.Query f item) is =
-    let front = front_leads f is.0 in
-    leads_then outside front.0 in_query (front_records f) (noted_records item) front.2
-    (noted_leads front.0 item kinds.Q in_query is.1 (inside_takes front.0 front.1).1 refl query)
-spine_leads (spines.Patient f p None) is =
-    let front = front_leads f is.0 in
-    let bare : patient_records p ≡ noted_records p.top =
-    ap (λ (os : List OrderTree). noted_records p.top ++ flat_map order_records os) is.2
-    ∙ append-nil (noted_records p.top) in
-    subst (λ (rs : List RecordContent). LeadsBy outside rs in_patient)
-    (sym (append-nil (front_records f ++ patient_records p)
-    ∙ ap (λ (rs : List RecordContent). front_records f ++ rs) bare))
-    (leads_then outside front.0 in_patient (front_records f) (noted_records p.top) front.2
-    (noted_leads front.0 p.top kinds.P in_patient is.1.top (inside_takes front.0 front.1).0 refl patient))
-spine_leads (spines.Patient f p (Some o)) is =
-    let front = front_leads f is.0 in
-    let above = patient_leads front.0 p is.1 (inside_takes front.0 front.1).0 in
-    let order = order_leads above.0 o.order is.2.0 (takes_order above.0 above.1) in
-    leads_then outside above.0 in_order (front_records f ++ patient_records p) (open_records o)
-    (leads_then outside front.0 above.0 (front_records f) (patient_records p) front.2 above.2)
-    (leads_then above.0 in_order in_order (order_records o.order) (last_records o.last) order
-    (last_leads o.order o.last is.2.1))
+-- so what is misplaced by the tree is misplaced by the records
+pub front_misplaced : (f : Branch Group) → IsFront f → (records : List RecordContent) → front_records f ≡ records
+    → (k : Kind) → misplaced (front_level f) k ≡ misplaced (level_after outside (kinds_of records)) k
+front_misplaced f is records same k =
+    ap (λ l. misplaced l k) (sym (front_leads f is).1.arrives
+    ∙ ap (λ (rs : List RecordContent). level_after outside (kinds_of rs)) same)
 
 -- the records of a whole message stand, and lead to its end
 pub tree_leads : (m : MessageTree) → IsTree m → (to : Level) × IsInside to
     × LeadsBy outside (front_records (front_tree m)) to
-tree_leads m is = front_leads (front_tree m) (front_is m is)
+tree_leads m is =
+    let leads = front_leads (front_tree m) (front_is m is) in (front_level (front_tree m), leads.0, leads.1)
 
 -- ---- one record more
 

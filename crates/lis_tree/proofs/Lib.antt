@@ -3,7 +3,8 @@ pub mod Copies
 pub mod Counting
 pub mod DefinitionRows
 pub mod Flatten
-pub mod Growing
+pub mod Joining
+pub mod Last
 pub mod Levels
 pub mod ListFaults
 pub mod Notes

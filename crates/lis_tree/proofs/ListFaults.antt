@@ -3,7 +3,8 @@ use Rattle.std.proofs.Common.{◌≡◌, ◌≢◌, suc, ◌+◌, List, [], ◌�
 use Rattle.std.proofs.Common.{⊎_elim, refl, sym, ◌∙◌, ap, subst, append_assoc, arith, length-append}
 use Rattle.std.specs.List.{flat_map}
 use Rattle.std.specs.Option.{option_to_list}
-use Rattle.std.specs.Prelude.{MatchOption}
+use Rattle.std.specs.Prelude.{IfErr, IfOk, MatchOption, MatchResult, Result, Ok, Err}
+use Rattle.lis_tree.proofs.Flatten.{flatten_one}
 use Rattle.std.proofs.lemmas.List.{append-nil}
 use Rattle.lis_field.specs.declared.kinds.Kind.{Kind}
 use Rattle.lis_field.specs.declared.kinds.Kind.TheVariants as kinds
@@ -181,10 +182,10 @@ pub close_told : (d : DelimiterBytes) (records : List RecordContent) (begun : Be
     → IsSoFar d records begun rest → rest ≡ closing ∷ after
     → after ≡ option_to_list next ++ later → closing.kind ≡ kinds.L
     → misplaced (level_of (Some begun)) closing.kind ≡ None
-    → MatchOption next (fault.reason ≡ reasons.OutOfMemory)
+    → MatchOption next ⊥
     (λ r. (misplaced closed r.kind ≡ Some fault.reason) × (fault.place ≡ capped (length begun.records + 2)))
     → (fault.reason ≡ reasons.OutOfMemory) ⊎ IsListFault (kinds_of records) fault
-close_told d records begun closing rest after later None fault s is behind kind placed why = inl why
+close_told d records begun closing rest after later None fault s is behind kind placed why = absurd why
 close_told d records begun closing rest after later (Some r) fault s is behind kind placed why =
     inr (extra_fault d records begun closing r rest later fault s (is ∙ ap (λ l. closing ∷ l) behind) kind placed
     why.0 why.1)
@@ -197,3 +198,48 @@ pub closed_records : (d : DelimiterBytes) (records : List RecordContent) (begun 
 closed_records d records begun closing rest after later next s is behind none empty =
     s.whole ∙ ap (λ l. begun.records ++ l) (is ∙ ap (λ l. closing ∷ l)
     (behind ∙ ap (λ o. option_to_list o ++ later) none ∙ empty))
+
+-- ---- at the record that closes a list
+
+-- what is told of a list
+abbrev IsTold : DelimiterBytes → List RecordContent → Result MessageTree MessageFault → Type 0
+IsTold d list result = record {
+  delimiters : IfOk result (λ m. m.delimiters ≡ d);
+  records : IfOk result (λ m. flatten m ≡ list);
+  shape : IfOk result IsTree;
+  only : (m : MessageTree) → IsTree m → m.delimiters ≡ d → flatten m ≡ list
+      → MatchResult result (λ found. found ≡ m) (λ fault. fault.reason ≡ reasons.OutOfMemory);
+  err : IfErr result (λ fault. (fault.reason ≡ reasons.OutOfMemory) ⊎ IsListFault (kinds_of list) fault);
+}
+
+pub closed_list : (d : DelimiterBytes) (records : List RecordContent) (begun : Begun) (closing : RecordContent)
+    (rest after later : List RecordContent) (next : Option RecordContent) (result : Result MessageTree MessageFault)
+    → IsSoFar d records begun rest → rest ≡ closing ∷ after → after ≡ option_to_list next ++ later
+    → closing.kind ≡ kinds.L → misplaced (level_of (Some begun)) closing.kind ≡ None → (next ≡ None → later ≡ [])
+    → IfOk result (λ m. next ≡ None) → IfOk result (λ m. m.delimiters ≡ begun.delimiters)
+    → IfOk result (λ m. flatten m ≡ begun.records ++ closing ∷ []) → IfOk result IsTree
+    → IfErr result (λ fault. MatchOption next ⊥
+    (λ r. (misplaced closed r.kind ≡ Some fault.reason) × (fault.place ≡ capped (length begun.records + 2))))
+    → IsTold d records result
+closed_list d records begun closing rest after later next (Ok found) s is behind kind placed ends alone marks flat shape
+    err =
+    let marked = marks ∙ s.marks in
+    let whole = flat
+    ∙ sym (closed_records d records begun closing rest after later next s is behind alone (ends alone)) in
+    record {
+      delimiters = marked;
+      records = whole;
+      shape = shape;
+      only = λ m tree same e. flatten_one found m shape tree (marked ∙ sym same) (whole ∙ sym e);
+      err = tt;
+    }
+closed_list d records begun closing rest after later next (Err fault) s is behind kind placed ends alone marks flat
+    shape err =
+    let why = close_told d records begun closing rest after later next fault s is behind kind placed err in
+    record {
+      delimiters = tt;
+      records = tt;
+      shape = tt;
+      only = λ m tree same e. only_memory records fault why m tree e;
+      err = why;
+    }

@@ -2,13 +2,13 @@
 //! and the findings on sequence numbers.
 #![tactic(auto)]
 
+mod front;
 pub mod laws;
 mod lists;
 mod message;
 mod numbering;
 mod open;
 mod results;
-mod spine;
 mod standing;
 mod tree;
 mod walk;

@@ -95,18 +95,14 @@ impl Message {
                 return Err(MessageFault { place, reason });
             }
             if let Kind::L = kind {
-                match close(alloc, begun, entry, rest.next()) {
-                    Ok(message) => return Ok(message),
-                    Err(fault) => return Err(fault),
-                }
+                return close(begun, entry, rest.next());
             }
-            match begun.with_record(alloc, entry) {
-                Ok(next) => begun = next,
-                Err(_) => return Err(MessageFault {
+            let Ok(()) = begun.push(alloc, entry) else {
+                return Err(MessageFault {
                     place,
                     reason: Reason::OutOfMemory,
-                }),
-            }
+                });
+            };
         }
         let place = begun.next_place();
         drop(begun);
@@ -179,38 +175,24 @@ impl Message {
     }
 }
 
-// The message that a record closes, where none follows.
-fn close(
-    alloc: Global,
-    begun: OpenMessage,
-    closing: Record,
-    next: Option<Record>,
-) -> Result<Message, MessageFault>
+/// The message that a record closes, where none follows.
+fn close(begun: OpenMessage, closing: Record, next: Option<Record>) -> Result<Message, MessageFault>
     requires { closing.kind ≡ kinds.L }
     ensures alone { IfOk result (λ m. next ≡ None) }
     ensures delimiters { IfOk result (λ m. m.delimiters ≡ begun.delimiters) }
     ensures records { IfOk result (λ m. flatten m ≡ begun.records ++ closing ∷ []) }
     ensures shape { IfOk result IsTree }
-    ensures err { IfErr result (λ fault. MatchOption next (fault.reason ≡ reasons.OutOfMemory)
-        (λ r. (misplaced closed r.kind ≡ Some fault.reason) × (fault.place ≡ capped (length begun.records + 2)))) }
+    ensures err { IfErr result (λ fault. MatchOption next ⊥ (λ r. (misplaced closed r.kind ≡ Some fault.reason)
+        × (fault.place ≡ capped (length begun.records + 2)))) }
 {
-    let place = begun.next_place();
-    if let Some(extra) = next {
-        drop(begun);
-        let reason = match extra.kind() {
-            Kind::H => Reason::SecondHeader,
-            _ => Reason::NotHeader,
-        };
-        return Err(MessageFault {
-            place: place.saturating_add(1),
-            reason,
-        });
-    }
-    match begun.closed(alloc, closing) {
-        Ok(message) => Ok(message),
-        Err(_) => Err(MessageFault {
-            place,
-            reason: Reason::OutOfMemory,
-        }),
-    }
+    let Some(extra) = next else {
+        return Ok(begun.closed(closing));
+    };
+    let place = begun.next_place().saturating_add(1);
+    drop(begun);
+    let reason = match extra.kind() {
+        Kind::H => Reason::SecondHeader,
+        _ => Reason::NotHeader,
+    };
+    Err(MessageFault { place, reason })
 }

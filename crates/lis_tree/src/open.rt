@@ -1,5 +1,5 @@
 //! A message whose closing record hasn't come yet.
-ghost use Rattle.std.specs.Prelude.{◌≡◌, ◌≢◌, ◌+◌, ◌∷◌, [], ◌++◌, IfOk, None, OnOk, Some, length};
+ghost use Rattle.std.specs.Prelude.{◌≡◌, ◌≢◌, ◌+◌, ◌∷◌, [], ◌++◌, None, OnErr, OnOk, Some, length};
 ghost use Rattle.lis_field.specs.declared.kinds.Kind.TheVariants as kinds;
 ghost use Rattle.lis_field.specs.Delimiters.{IsDelimiters};
 ghost use Rattle.lis_tree.specs.Level.{misplaced};
@@ -7,19 +7,19 @@ ghost use Rattle.lis_tree.specs.inside.Begun.{level_of};
 ghost use Rattle.lis_text.specs.Capped.{capped};
 ghost use Rattle.lis_tree.specs.Tree.{flatten, IsTree};
 
+use crate::front::{Front, push_record, standing};
 use crate::message::Message;
-use crate::spine::{Spine, headed, let_go, push_record, standing, whole_front};
+use crate::tree::Noted;
 use lis_field::Reason;
 use lis_record::{Delimiters, Kind, Record};
 use std::alloc::{AllocError, Global};
 use std::marker::Model;
-use std::mem::drop;
 
 /// A message that isn't closed yet.
 #[derive(Drop)]
 pub struct OpenMessage {
     delimiters: Delimiters,
-    spine: Spine,
+    front: Front,
     /// How many records there are; it stays at the greatest number.
     count: u64,
 }
@@ -31,11 +31,11 @@ impl Model for OpenMessage {
     ghost Value = { Begun };
 
     ghost use Rattle.lis_tree.specs.inside.Open.{IsOpen};
-    ghost use Rattle.lis_tree.specs.inside.Spine.{spine_records};
+    ghost use Rattle.lis_tree.specs.inside.Front.{front_records};
 
-    ghost view = { λ m. record { delimiters = m.delimiters; records = spine_records m.spine } };
+    ghost view = { λ m. record { delimiters = m.delimiters; records = front_records m.front } };
 
-    ghost invariant = { λ m. IsOpen m.delimiters m.spine m.count };
+    ghost invariant = { λ m. IsOpen m.delimiters m.front m.count };
 }
 
 impl OpenMessage {
@@ -44,11 +44,11 @@ impl OpenMessage {
         requires { header.kind ≡ kinds.H }
         ensures { result ≡ record { delimiters = delimiters; records = header ∷ [] } }
     {
-        let _ = delimiters.field();
-        let _ = header.kind();
+        // proof: what delimiters and a record are made of is known once they are asked.
+        let _ = (delimiters.field(), header.kind());
         OpenMessage {
             delimiters,
-            spine: headed(alloc, header),
+            front: Front::new(alloc, Noted::new(alloc, header)),
             count: 1,
         }
     }
@@ -72,62 +72,33 @@ impl OpenMessage {
     pub fn place_fault(&self, kind: Kind) -> Option<Reason>
         ensures { result ≡ misplaced (level_of (Some self.now)) kind }
     {
-        standing(&self.spine).place_fault(kind)
+        standing(&self.front).place_fault(kind)
     }
 
-    /// The message with one more record, which may stand there and doesn't close it.
-    pub fn with_record(self, alloc: Global, entry: Record) -> Result<OpenMessage, AllocError>
-        requires placed { misplaced (level_of (Some self)) entry.kind ≡ None }
-        requires open { entry.kind ≢ kinds.L }
-        ensures { IfOk result (λ m. m ≡ record { delimiters = self.delimiters; records = self.records ++ entry ∷ [] }) }
-    {
-        let mut message = self;
-        match message.push(alloc, entry) {
-            Ok(()) => Ok(message),
-            Err(AllocError) => {
-                // By a call: what ends in place is let go of part by part, and the proof goes over each of them.
-                drop(message);
-                Err(AllocError)
-            }
-        }
-    }
-
-    /// Adds one more record, which may stand there and doesn't close the message. Where memory is refused, what is
-    /// left is a message of a header without fields.
+    /// Adds one more record, which may stand there and doesn't close the message. Where memory is refused the message
+    /// is as before.
     pub fn push(&mut self, alloc: Global, entry: Record) -> Result<(), AllocError>
         requires placed { misplaced (level_of (Some self.old)) entry.kind ≡ None }
         requires open { entry.kind ≢ kinds.L }
-        ensures { OnOk result (self.new
+        ensures ok { OnOk result (self.new
             ≡ record { delimiters = self.old.delimiters; records = self.old.records ++ entry ∷ [] }) }
+        ensures err { OnErr result (self.new ≡ self.old) }
     {
         let kind = entry.kind();
-        match push_record(alloc, &mut self.spine, kind, entry) {
-            Ok(()) => {
-                self.count = self.count.saturating_add(1);
-                Ok(())
-            }
-            Err(AllocError) => {
-                let_go(alloc, &mut self.spine);
-                self.count = 1;
-                Err(AllocError)
-            }
-        }
+        push_record(alloc, &mut self.front, kind, entry)?;
+        self.count = self.count.saturating_add(1);
+        Ok(())
     }
 
     /// The message that this record, an L record, closes.
-    pub fn closed(self, alloc: Global, closing: Record) -> Result<Message, AllocError>
+    pub fn closed(self, closing: Record) -> Message
         requires { closing.kind ≡ kinds.L }
-        ensures delimiters { IfOk result (λ m. m.delimiters ≡ self.delimiters) }
-        ensures records { IfOk result (λ m. flatten m ≡ self.records ++ closing ∷ []) }
-        ensures shape { IfOk result (λ m. IsTree m) }
+        ensures delimiters { result.delimiters ≡ self.delimiters }
+        ensures records { flatten result ≡ self.records ++ closing ∷ [] }
+        ensures shape { IsTree result }
     {
-        let OpenMessage {
-            delimiters,
-            spine,
-            count: _,
-        } = self;
+        // proof: what a record is made of is known once it is asked.
         let _ = closing.kind();
-        let front = whole_front(alloc, spine)?;
-        Ok(Message::new(delimiters, front, closing))
+        Message::new(self.delimiters, self.front, closing)
     }
 }

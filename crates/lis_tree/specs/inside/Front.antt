@@ -1,10 +1,12 @@
--- The front of a message that isn't whole yet: the header with its notes, and the groups that are whole.
-use Rattle.std.specs.Prelude.{List}
+-- A message that isn't closed yet: the header with its notes, and the patients and queries so far.
+use Rattle.std.specs.Prelude.{List, [], ◌∷◌}
 use Rattle.lis_field.specs.declared.kinds.Kind.TheVariants as kinds
 use Rattle.lis_field.specs.Delimiters.{DelimiterBytes}
 use Rattle.lis_field.specs.Shape.{RecordContent}
 use Rattle.lis_tree.specs.declared.tree.Group.{Group}
-use Rattle.lis_tree.specs.Nodes.{Branch}
+use Rattle.lis_tree.specs.declared.tree.Group.TheVariants as groups
+use Rattle.lis_tree.specs.Level.{Level, in_header, in_patient, in_order, in_query}
+use Rattle.lis_tree.specs.Nodes.{Branch, OrderTree}
 use Rattle.lis_tree.specs.Tree.{IsBranch, IsGroup, MessageTree, branch_records, group_records}
 
 abbrev pub front_records : Branch Group → List RecordContent
@@ -12,6 +14,24 @@ front_records = branch_records group_records
 
 abbrev pub IsFront : Branch Group → Type 0
 IsFront = IsBranch kinds.H IsGroup
+
+-- where the next record will stand behind these orders of a patient
+abbrev pub orders_level : Level → List OrderTree → Level
+orders_level level [] = level
+orders_level level (o ∷ orders) = in_order
+
+-- where it will stand behind a patient or a query
+abbrev pub group_level : Group → Level
+group_level (groups.Patient p) = orders_level in_patient p.below
+group_level (groups.Query q) = in_query
+
+abbrev pub groups_level : Level → List Group → Level
+groups_level level [] = level
+groups_level level (g ∷ groups) = groups_level (group_level g) groups
+
+-- where it will stand behind all of these
+abbrev pub front_level : Branch Group → Level
+front_level f = groups_level in_header f.below
 
 -- the message that a record closes
 abbrev pub message_tree : DelimiterBytes → Branch Group → RecordContent → MessageTree

@@ -1,4 +1,7 @@
-ghost use Rattle.std.specs.Prelude.{◌≡◌, ◌++◌, ◌∷◌, [], IfOk, OnOk};
+ghost use Rattle.std.specs.Prelude.{◌≡◌, ◌++◌, ◌∷◌, [], IfNone, IfOk, IfSome, OnErr, OnOk};
+ghost use Rattle.std.specs.Borrow.{LendsIf, sem};
+ghost use Rattle.lis_tree.specs.contracts.tree.branch.Branch.{the_row};
+ghost use Rattle.lis_tree.specs.inside.Last.{IsLast, with_last};
 
 use super::noted::Noted;
 use crate::lists::{Copied, Records, copy_list};
@@ -37,12 +40,22 @@ impl<T> Branch<T> {
 
     /// Adds a note at the end.
     pub(crate) fn push_note(&mut self, note: Record) -> Result<(), AllocError>
-        ensures { OnOk result (self.new ≡ record {
+        ensures ok { OnOk result (self.new ≡ record {
           top = record { head = self.old.top.head; notes = self.old.top.notes ++ note ∷ [] };
           below = self.old.below;
         }) }
+        ensures err { OnErr result (self.new ≡ self.old) }
     {
         self.top.push(note)
+    }
+
+    /// The last that stands below it, to change it there.
+    pub(crate) fn last_mut(&mut self) -> Option<&mut T>
+        ensures* writes_back { sem 𝓛 (LendsIf (the_row T.row) T.row self.entry result (with_last self.old) self.old) }
+        ensures some { IfSome result (λ item. IsLast self.old.below item.now) }
+        ensures none { IfNone result (self.old.below ≡ []) }
+    {
+        self.below.last_mut()
     }
 
     /// The O record of an order, the P record of a patient.
@@ -70,22 +83,12 @@ impl<T> Branch<T> {
 impl<T: Drop> Branch<T> {
     /// Adds one more below it, at the end.
     pub(crate) fn push(&mut self, item: T) -> Result<(), AllocError>
-        ensures { OnOk result (self.new ≡ record { top = self.old.top; below = self.old.below ++ item ∷ [] }) }
+        ensures ok { OnOk result (self.new ≡ record { top = self.old.top; below = self.old.below ++ item ∷ [] }) }
+        ensures err { OnErr result (self.new ≡ self.old) }
     {
         match self.below.push(item) {
             Ok(()) => Ok(()),
             Err(_) => Err(AllocError),
-        }
-    }
-
-    /// The same with one more below it, at the end.
-    #[inline(always)]
-    pub(crate) fn with(mut self, item: T) -> Result<Self, AllocError>
-        ensures { IfOk result (λ branch. branch ≡ record { top = self.top; below = self.below ++ item ∷ [] }) }
-    {
-        match self.push(item) {
-            Ok(()) => Ok(self),
-            Err(AllocError) => Err(AllocError),
         }
     }
 }

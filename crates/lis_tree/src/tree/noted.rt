@@ -1,4 +1,4 @@
-ghost use Rattle.std.specs.Prelude.{◌≡◌, ◌++◌, ◌∷◌, [], IfOk, OnOk};
+ghost use Rattle.std.specs.Prelude.{◌≡◌, ◌++◌, ◌∷◌, [], IfOk, OnErr, OnOk};
 
 use crate::lists::{Copied, Records, copy_list};
 use lis_record::Record;
@@ -41,7 +41,8 @@ impl Noted {
 
     /// Adds a note at the end.
     pub(crate) fn push(&mut self, note: Record) -> Result<(), AllocError>
-        ensures { OnOk result (self.new ≡ record { head = self.old.head; notes = self.old.notes ++ note ∷ [] }) }
+        ensures ok { OnOk result (self.new ≡ record { head = self.old.head; notes = self.old.notes ++ note ∷ [] }) }
+        ensures err { OnErr result (self.new ≡ self.old) }
     {
         match self.notes.push(note) {
             Ok(()) => Ok(()),

@@ -1,0 +1,122 @@
+//! The tree of a message while its records come: each joins the node that stands last or begins one below it, and no
+//! other node moves.
+ghost use Rattle.std.specs.Prelude.{◌≡◌, ◌≢◌, ◌∷◌, [], ◌++◌, None, OnErr, OnOk};
+ghost use Rattle.lis_field.specs.declared.kinds.Kind.TheVariants as kinds;
+ghost use Rattle.lis_tree.specs.Level.{misplaced};
+ghost use Rattle.lis_tree.specs.Tree.{group_records, order_records, patient_records, IsGroup, IsOrder, IsPatient};
+ghost use Rattle.lis_tree.specs.inside.Front.{IsFront, front_level, front_records};
+ghost use Rattle.lis_tree.specs.inside.Joining.{JoinsGroup, JoinsOrder, JoinsPatient};
+ghost use Rattle.lis_tree.specs.inside.Standing.{standing_level};
+
+use crate::standing::Standing;
+use crate::tree::{Branch, Group, Noted, Order, Patient};
+use lis_record::{Kind, Record};
+use std::alloc::{AllocError, Global};
+
+/// The header with its notes, and the patients and queries so far.
+pub(crate) type Front = Branch<Group>;
+
+/// Where the next record will stand.
+pub(crate) fn standing(front: &Front) -> Standing
+    ensures { standing_level result ≡ front_level front.now }
+{
+    match front.below().last() {
+        None => Standing::InHeader,
+        Some(Group::Query(_)) => Standing::InQuery,
+        Some(Group::Patient(patient)) => {
+            if patient.orders().is_empty() {
+                Standing::InPatient
+            } else {
+                Standing::InOrder
+            }
+        }
+    }
+}
+
+/// Adds a result to an order; a note joins the last result, or the order where it has none.
+fn push_in_order(
+    alloc: Global,
+    order: &mut Order,
+    kind: Kind,
+    entry: Record,
+) -> Result<(), AllocError>
+    requires { entry.kind ≡ kind }
+    ensures records { OnOk result (order_records order.new ≡ order_records order.old ++ entry ∷ []) }
+    ensures shape { OnOk result (IsOrder order.old → JoinsOrder kind → IsOrder order.new) }
+    ensures err { OnErr result (order.new ≡ order.old) }
+{
+    if let Kind::R = kind {
+        return order.push(Noted::new(alloc, entry));
+    }
+    match order.last_mut() {
+        Some(last) => last.push(entry),
+        None => order.push_note(entry),
+    }
+}
+
+/// Adds an order to a patient; another record joins the last order, or the patient where it has none.
+fn push_in_patient(
+    alloc: Global,
+    patient: &mut Patient,
+    kind: Kind,
+    entry: Record,
+) -> Result<(), AllocError>
+    requires { entry.kind ≡ kind }
+    ensures records { OnOk result (patient_records patient.new ≡ patient_records patient.old ++ entry ∷ []) }
+    ensures shape { OnOk result (IsPatient patient.old → JoinsPatient patient.old.below kind → IsPatient patient.new) }
+    ensures err { OnErr result (patient.new ≡ patient.old) }
+{
+    if let Kind::O = kind {
+        return patient.push(Order::new(alloc, Noted::new(alloc, entry)));
+    }
+    match patient.last_mut() {
+        Some(last) => push_in_order(alloc, last, kind, entry),
+        None => patient.push_note(entry),
+    }
+}
+
+/// Adds a record to a patient, or a note to a query.
+fn push_in_group(
+    alloc: Global,
+    group: &mut Group,
+    kind: Kind,
+    entry: Record,
+) -> Result<(), AllocError>
+    requires { entry.kind ≡ kind }
+    ensures records { OnOk result (group_records group.new ≡ group_records group.old ++ entry ∷ []) }
+    ensures shape { OnOk result (IsGroup group.old → JoinsGroup group.old kind → IsGroup group.new) }
+    ensures err { OnErr result (group.new ≡ group.old) }
+{
+    match group {
+        Group::Patient(patient) => push_in_patient(alloc, patient, kind, entry),
+        Group::Query(query) => query.push(entry),
+    }
+}
+
+/// Adds a patient or a query to a message; another record, which may stand there, joins the last of these, or the
+/// header where there is none. Where memory is refused all is as before.
+pub(crate) fn push_record(
+    alloc: Global,
+    front: &mut Front,
+    kind: Kind,
+    entry: Record,
+) -> Result<(), AllocError>
+    requires kind { entry.kind ≡ kind }
+    requires placed { misplaced (front_level front.old) kind ≡ None }
+    requires open { kind ≢ kinds.L }
+    ensures records { OnOk result (front_records front.new ≡ front_records front.old ++ entry ∷ []) }
+    ensures shape { OnOk result (IsFront front.old → IsFront front.new) }
+    ensures err { OnErr result (front.new ≡ front.old) }
+{
+    match kind {
+        Kind::P => {
+            return front.push(Group::Patient(Patient::new(alloc, Noted::new(alloc, entry))));
+        }
+        Kind::Q => return front.push(Group::Query(Noted::new(alloc, entry))),
+        _ => {}
+    }
+    match front.last_mut() {
+        Some(last) => push_in_group(alloc, last, kind, entry),
+        None => front.push_note(entry),
+    }
+}
