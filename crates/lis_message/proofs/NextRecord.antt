@@ -210,22 +210,26 @@ record_same before other after left bytes behind entry same r = record {
 
 -- of what the reader keeps before only the bytes that it holds count
 pub reads_same : (before other after : RecordsState) (left : Option Begun) (bytes behind : List ℕ) (f : Found)
-    → before.held ≡ other.held → Reads before after left bytes behind f → Reads other after left bytes behind f
-reads_same before other after left bytes behind found.Nothing same r = record {
+    → before.held ≡ other.held → before.opened ≡ other.opened → Reads before after left bytes behind f
+    → Reads other after left bytes behind f
+reads_same before other after left bytes behind found.Nothing same open' r = record {
   all = r.all;
   lacks = r.lacks;
   held = r.held ∙ ap (λ h. h ++ bytes) same;
   short = r.short;
   left_then = r.left_then;
+  uncut = r.uncut;
 }
-reads_same before other after left bytes behind (found.Record entry) same r =
-    record_same before other after left bytes behind entry same r
-reads_same before other after left bytes behind found.Held same r =
+reads_same before other after left bytes behind (found.Record entry) same open' r =
+    (r.0, record_same before other after left bytes behind entry same r.1)
+reads_same before other after left bytes behind found.Held same open' r =
     (r.0, r.1, record_same before other after left bytes behind r.0 same r.2)
-reads_same before other after left bytes behind (found.Refused fault) same r = record {
+reads_same before other after left bytes behind (found.Refused fault) same open' r = record {
   none_read = r.none_read;
   place = r.place;
   why = subst (λ (h : List ℕ). IsStopped left h bytes fault.reason) same r.why;
   kept = r.kept;
   empty = r.empty;
+  opened = r.opened ∙ open';
+  uncut = r.uncut;
 }

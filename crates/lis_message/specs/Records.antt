@@ -32,13 +32,14 @@ pub record ReadsRecord (before after : RecordsState) (left : Option Begun) (byte
   pub left_then : HasLeft after (left_after left entry entry.content.kind)
   pub empty : after.held ≡ []
 
--- No CR is among the bytes, and all of them are held.
+-- No CR is among the bytes, and all of them are held; no record was cut.
 pub record ReadsOn (before after : RecordsState) (left : Option Begun) (bytes behind : List ℕ) : Type 0 where
   pub all : behind ≡ []
   pub lacks : LacksReturn bytes
   pub held : after.held ≡ before.held ++ bytes
   pub short : length after.held ≤ record_limit
   pub left_then : HasLeft after left
+  pub uncut : after.cut ≡ None
 
 -- What was held and the first of the bytes are too long for a record, or a record that can't come next.
 pub record CantCome (left : Option Begun) (held bytes : List ℕ) (reason : Reason) : Type 0 where
@@ -54,7 +55,7 @@ abbrev pub IsStopped : Option Begun → (held bytes : List ℕ) → Reason → T
 IsStopped left held bytes reason =
     ((reason ≡ reasons.OutOfMemory) × (held ≡ [] → LacksReturn bytes)) ⊎ CantCome left held bytes reason
 
--- The reader tells the fault, from now on too, and holds nothing.
+-- The reader tells the fault, from now on too, and holds nothing; what was open stays open, and no record was cut.
 pub record Refuses (before after : RecordsState) (left : Option Begun) (bytes behind : List ℕ)
     (fault : MessageFault) : Type 0 where
   pub none_read : behind ≡ bytes
@@ -62,11 +63,14 @@ pub record Refuses (before after : RecordsState) (left : Option Begun) (bytes be
   pub why : IsStopped left before.held bytes fault.reason
   pub kept : after.fault ≡ Some fault
   pub empty : after.held ≡ []
+  pub opened : after.opened ≡ before.opened
+  pub uncut : after.cut ≡ None
 
--- What it answers to bytes, and what it then keeps: a record that was cut too.
+-- What it answers to bytes, and what it then keeps: a record that was cut too, and no other.
 abbrev pub Reads : RecordsState → RecordsState → Option Begun → (bytes behind : List ℕ) → Found → Type 0
 Reads before after left bytes behind found.Nothing = ReadsOn before after left bytes behind
-Reads before after left bytes behind (found.Record entry) = ReadsRecord before after left bytes behind entry
+Reads before after left bytes behind (found.Record entry) =
+    (after.cut ≡ None) × ReadsRecord before after left bytes behind entry
 Reads before after left bytes behind found.Held =
     (entry : Lent RecordContent) × (after.cut ≡ Some entry) × ReadsRecord before after left bytes behind entry
 Reads before after left bytes behind (found.Refused fault) = Refuses before after left bytes behind fault
@@ -109,10 +113,10 @@ pub record Adds (left : Option Begun) (entry : Lent RecordContent) (before after
 abbrev pub unended : Option Begun → RecordsState → Unended
 unended left reader = record { left = left; held = reader.held }
 
--- What is open for the reader of records is the open message, until a fault is met; then nothing is held.
+-- What is open for the reader of records is the open message, until a fault is met; then nothing is kept.
 abbrev pub IsOpenFor : RecordsState → Option Begun → Option MessageFault → Type 0
 IsOpenFor reader left None = HasLeft reader left
-IsOpenFor reader left (Some fault) = reader.held ≡ []
+IsOpenFor reader left (Some fault) = (reader.held ≡ []) × (left ≡ None)
 
 -- ---- the stream
 

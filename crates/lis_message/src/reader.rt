@@ -40,8 +40,7 @@ fn take_last(
     let Some(message) = begun.take() else {
         unreachable!()
     };
-    let whole = message.closed(alloc, closing)?;
-    messages.push(whole)?;
+    messages.push(message.closed(closing))?;
     Ok(())
 }
 
@@ -221,6 +220,8 @@ impl MessageReader {
             → ReadsStream (past ++ piece.now) (messages ++ result.messages) self.new result.fault }
         ensures failed { IfSome self.old.fault (λ fault.
             (result.messages ≡ []) × (result.fault ≡ Some fault) × (self.new ≡ self.old)) }
+        // After a fault nothing is kept.
+        ensures empty { OnSome result.fault ((self.new.left ≡ None) × (self.new.held ≡ [])) }
     {
         let mut messages = Messages::new(self.alloc);
         if let Some(fault) = self.fault {

@@ -2,7 +2,7 @@
 //! bytes of one record, and of the open message how its next record is read.
 
 ghost use Rattle.std.specs.Prelude.{◌≡◌, ◌≢◌, ℕ, true, false, ◌+◌, ◌<◌, ◌≤◌, ◌∷◌, [], ◌++◌, ◌⊎◌, ◌↔◌};
-ghost use Rattle.std.specs.Prelude.{List, Option, IfOk, IfErr, OnOk, OnSome};
+ghost use Rattle.std.specs.Prelude.{List, Option, IfOk, IfErr, OnErr, OnOk, OnSome};
 ghost use Rattle.std.specs.Prelude.{IfSome, IfNone, IsTrue, None, Some, Ok, Err, is_some, length};
 ghost use Rattle.lis_message.specs.declared.records.Found.TheVariants.{Record as IsFound, Refused as IsRefusal};
 ghost use Rattle.lis_message.specs.Feeding.{answer_at_end, next_place};
@@ -464,6 +464,7 @@ impl RecordReader {
             → Reads self.old self.new left bytes.now answer.0.now answer.1) }
         ensures err { IfErr result (λ reason. (left : Option Begun) → HasLeft self.old left
             → IsStopped left self.old.held bytes.now reason) }
+        ensures opened { OnErr result (self.new.opened ≡ self.old.opened) }
         ensures some { IfOk result (λ answer. ReadsSome self.new bytes.now answer.0.now answer.1) }
         ensures fault { self.new.fault ≡ self.old.fault }
     {
@@ -499,6 +500,7 @@ impl RecordReader {
         ensures err { IfErr result (λ reason. (left : Option Begun) → self.old.opened ≡ opened_of left
             → IsRecordRefusedFor left text.now reason) }
         ensures held { self.new.held ≡ self.old.held }
+        ensures cut { self.new.cut ≡ self.old.cut }
         ensures fault { self.new.fault ≡ self.old.fault }
         ensures same { IfErr result (λ _. self.new ≡ self.old) }
     {
@@ -522,6 +524,7 @@ impl RecordReader {
         ensures err { IfErr result (λ reason. (left : Option Begun) → self.old.opened ≡ opened_of left
             → (reason ≡ reasons.OutOfMemory) ⊎ IsRecordRefusedFor left (self.old.held ++ text.now) reason) }
         ensures told { OnOk result (is_some self.new.cut ≡ true) }
+        ensures opened { OnErr result (self.new.opened ≡ self.old.opened) }
         ensures fault { self.new.fault ≡ self.old.fault }
     {
         if let Err(reason) = self.kept.hold(text) {

@@ -7,6 +7,3 @@ pub returns-clause-back : goal.returns-clause-back
 returns-clause-back c = λ ms are writable e.
     reads_back ms are writable c.read_whole.result.messages c.read_whole.result.fault
     (subst (λ l. ReadsWhole l c.read_whole.result.messages c.read_whole.result.fault) e c.read_whole.ensures)
-
-pub returns-clause-read : goal.returns-clause-read
-returns-clause-read c = c.read_whole.ensures

@@ -19,7 +19,7 @@ returns-in-Ok-clause-on c =
     c.args.messages.now c.take_entry.new.messages
     (subst (λ (f : Found). Reads c.args.records.now c.read-found.new.self c.args.begun.now c.args.bytes.now
     c.read-found.result.0.now f) c.in-Record.is
-    (c.read-found.ensures.read c.args.begun.now c.requires))
+    (c.read-found.ensures.read c.args.begun.now c.requires)).1
     c.in-Ok.ensures.ok c.in-Ok.ensures.left
 
 pub returns-in-Ok-take_entry-clause-on : goal.returns-in-Ok-take_entry-clause-on

@@ -17,12 +17,12 @@ returns-clause-ok c =
     ] in
     let records : c.in-Some.message.records ≡ records_of c.args.begun.now = sym (ap records_of opened) in
     record {
-      message = Some c.in_ok-whole.whole;
+      message = Some c.closed.result;
       completes = (
         c.requires.last,
-        c.in_ok-whole.ensures.shape,
-        c.in_ok-whole.ensures.delimiters ∙ marks,
-        c.in_ok-whole.ensures.records
+        c.closed.ensures.shape,
+        c.closed.ensures.delimiters ∙ marks,
+        c.closed.ensures.records
             ∙ ap (λ (l : List RecordContent). l ++ c.in_ok-closing.closing ∷ []) records
             ∙ ap (λ (r : RecordContent). records_of c.args.begun.now ++ r ∷ []) c.in_ok-closing.ensures,
       );

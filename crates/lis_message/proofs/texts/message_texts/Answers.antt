@@ -1,8 +1,7 @@
-use Rattle.std.proofs.Common.{◌≡◌, None, ◌∙◌, ap, rules, sym, subst}
+use Rattle.std.proofs.Common.{◌≡◌, None, ◌∙◌, ap, sym, subst}
 use Rattle.std.specs.List.{AllByRecursion, flat_map}
 use Rattle.lis_text.specs.LinkText.{longest_text}
 use Rattle.lis_text.specs.Text.{text_fault}
-use Rattle.lis_message.specs.Texts.{FitsInTexts}
 use Rattle.lis_tree.specs.Tree.{flatten}
 use Rattle.lis_message.proofs.TextLaws.{text_sent, texts_joined}
 use Rattle.lis_message.proofs.WritingLaws.{all_writable, writable_as, written_as}
@@ -32,6 +31,3 @@ returns-in-Ok-clause-sent c =
     c.new.ensures (all_writable c.delimiters.result 1 c.new.result c.in_default.ensures) in
     subst (AllByRecursion (λ t. text_fault longest_text t ≡ None)) (sym texts)
     (text_sent m.delimiters shape.delimiters (flatten m) shape.records writable)
-
-pub returns-in-Err-texts_of-clause-err : goal.returns-in-Err-texts_of-clause-err
-returns-in-Err-texts_of-clause-err c = let fits : FitsInTexts c.args.message.now = search rules in fits

@@ -1,8 +1,8 @@
-use Rattle.std.proofs.Common.{◌-◌, None, Some, ap, drop, sym, ◌∙◌}
+use Rattle.std.proofs.Common.{◌-◌, ap, drop, sym, ◌∙◌}
 use Rattle.lis_tree.specs.Tree.{flatten}
 use Rattle.lis_message.proofs.ReadBack.{on_ok, written_back}
 use Rattle.lis_message.proofs.WritingLaws.{all_writable, refusal_no_io, refused_resumes, writable_as, wrote_as}
-use Rattle.lis_message.proofs.WritingLaws.{wrote_resumes, writable_drop, refusal_as, wrote_refused, wrote_rest}
+use Rattle.lis_message.proofs.WritingLaws.{wrote_resumes, writable_drop}
 use Rattle.lis_message.proofs.writer.write_message_from.Goals as goal
 
 pub returns-in-Err-clause-failed : goal.returns-in-Err-clause-failed
@@ -33,25 +33,6 @@ returns-clause-resume g c =
     let old = g.W.Sink.taken c.args.sink.now in
     let new = g.W.Sink.taken c.write_records.new.sink in
     wrote_resumes m c.args.place c.args.skip old new c.write_records.result c.requires.first c.requires.last
-    (wrote_as c.delimiters-2.result m.delimiters c.passed-walk.result (drop (c.args.place - 1) (flatten m))
-    c.args.place c.args.skip old new c.write_records.result c.delimiters-2.ensures.value
-    (c.passed-walk.ensures ∙ ap (drop (c.args.place - 1)) c.new-2.ensures) c.write_records.ensures.wrote)
-
-pub returns-in-Err-clause-wrote : goal.returns-in-Err-clause-wrote
-returns-in-Err-clause-wrote g c =
-    let m = c.args.message.now in
-    wrote_refused m c.args.place c.args.skip (g.W.Sink.taken c.args.sink.now) c.in-Err.fault
-    (refusal_as c.delimiters.result m.delimiters c.new.result (flatten m) (Some c.in-Err.fault)
-    c.delimiters.ensures.value c.new.ensures c.in-Err.ensures)
-
-pub returns-clause-wrote : goal.returns-clause-wrote
-returns-clause-wrote g c =
-    let m = c.args.message.now in
-    let old = g.W.Sink.taken c.args.sink.now in
-    let new = g.W.Sink.taken c.write_records.new.sink in
-    wrote_rest m c.args.place c.args.skip old new c.write_records.result
-    (refusal_as c.delimiters.result m.delimiters c.new.result (flatten m) None c.delimiters.ensures.value c.new.ensures
-    c.in_default.ensures)
     (wrote_as c.delimiters-2.result m.delimiters c.passed-walk.result (drop (c.args.place - 1) (flatten m))
     c.args.place c.args.skip old new c.write_records.result c.delimiters-2.ensures.value
     (c.passed-walk.ensures ∙ ap (drop (c.args.place - 1)) c.new-2.ensures) c.write_records.ensures.wrote)

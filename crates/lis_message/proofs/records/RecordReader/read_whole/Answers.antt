@@ -1,12 +1,8 @@
 use Rattle.std.proofs.Common.{◌≡◌, ◌∷◌, ◌++◌, [], ℕ, List, sym, ap, subst, ◌∙◌, drop, take-append-drop}
-use Rattle.std.proofs.Common.{true, false, is_some, arith}
 use Rattle.lis_message.specs.inside.Kept.{Holding, RecordsState}
 use Rattle.lis_message.specs.inside.Taking.{ComesNext}
 use Rattle.lis_message.proofs.Lines.{text_lacks}
 use Rattle.lis_message.proofs.WholeRecords.{bad_line, ended_line, no_line}
-use Rattle.lis_message.proofs.NextRecord.{nothing_kept}
-use Rattle.lis_message.proofs.records.RecordReader.read_whole.Goals.{then-is_some-via-then-is_some}
-use Rattle.lis_message.proofs.records.RecordReader.read_whole.Goals.{then-is_some-via-else-is_some+then-not-is_clear}
 use Rattle.lis_message.proofs.records.RecordReader.read_whole.Goals as goal
 
 pub returns-in-Ok-clause-read : goal.returns-in-Ok-clause-read
@@ -19,18 +15,22 @@ returns-in-Ok-clause-read c = λ left has.
     let none : c.args.self.now.held ≡ [] = ap (λ (r : RecordsState). r.held) (sym c.self.view_is)
     ∙ ap (λ (h : Holding). h.held) clear in
     let read = c.in-Ok.ensures.ok left has.opened in
-    record {
-      text = text;
-      whole =
-          sym (take-append-drop end bytes) ∙ ap (λ (l : List ℕ). l ++ drop end bytes) (sym c.split_at.ensures.front)
-          ∙ ap (λ (l : List ℕ). text ++ l)
-          (sym c.split_at.ensures.back ∙ c.in-Some-split_first.ensures.cases.0
-          ∙ ap (λ (b : ℕ). b ∷ rest) c.if-byte-ne-CR.false);
-      lacks = rw c.split_at.ensures.front (text_lacks _ c.in-Some.ensures.texts);
-      comes = subst (λ (h : List ℕ). ComesNext left (h ++ text) c.in-Ok.entry) (sym none) read.0;
-      left_then = record { no_fault = c.end_whole.ensures.fault ∙ has.no_fault; opened = read.1 };
-      empty = c.end_whole.ensures.held ∙ none;
-    }
+    let uncut = c.end_whole.ensures.cut ∙ ap (λ (r : RecordsState). r.cut) (sym c.self.view_is)
+    ∙ ap (λ (h : Holding). h.cut) clear in (
+      uncut,
+      record {
+        text = text;
+        whole =
+            sym (take-append-drop end bytes) ∙ ap (λ (l : List ℕ). l ++ drop end bytes) (sym c.split_at.ensures.front)
+            ∙ ap (λ (l : List ℕ). text ++ l)
+            (sym c.split_at.ensures.back ∙ c.in-Some-split_first.ensures.cases.0
+            ∙ ap (λ (b : ℕ). b ∷ rest) c.if-byte-ne-CR.false);
+        lacks = rw c.split_at.ensures.front (text_lacks _ c.in-Some.ensures.texts);
+        comes = subst (λ (h : List ℕ). ComesNext left (h ++ text) c.in-Ok.entry) (sym none) read.0;
+        left_then = record { no_fault = c.end_whole.ensures.fault ∙ has.no_fault; opened = read.1 };
+        empty = c.end_whole.ensures.held ∙ none;
+      },
+    )
 
 pub returns-in_default-clause-refused : goal.returns-in_default-clause-refused
 returns-in_default-clause-refused c = λ left has held cut text behind lacks whole.
@@ -52,18 +52,3 @@ returns-in-Err-clause-refused c = λ left has held cut text behind lacks whole.
     c.split_at.ensures.front (sym c.split_at.ensures.back ∙ c.in-Some-split_first.ensures.cases.0) c.if-byte-ne-CR.false
     (rw c.split_at.ensures.front c.in-Some.ensures.texts) lacks whole
     (c.in-Err.ensures.err left has.opened)
-
-pub returns-then-is_some-clause-refused : goal.returns-then-is_some-clause-refused
-returns-then-is_some-clause-refused c = λ left has held cut text behind lacks whole.
-    let s = c.self.inside in
-    elim c.then-is_some.branch [
-      | then-is_some-via-then-is_some w ↦ let no : true ≡ false = w.if-is_some.ensures
-          ∙ ap is_some (ap (λ (r : RecordsState). r.fault) c.self.view_is ∙ has.no_fault) in absurd cc
-      | then-is_some-via-else-is_some+then-not-is_clear w ↦ let no : true ≡ false =
-          sym (w.is_clear.ensures.1 (nothing_kept s.kept (ap (λ (r : RecordsState). r.held) c.self.view_is ∙ held)
-          (ap (λ (r : RecordsState). r.cut) c.self.view_is ∙ cut))) ∙ w.if-not-is_clear.true in absurd cc
-    ]
-
-pub returns-in_default-split_first-clause-refused : goal.returns-in_default-split_first-clause-refused
-returns-in_default-split_first-clause-refused c = λ left has held cut text behind lacks whole.
-    absurd (omega (arith, c.split_at.ensures.back_len, c.in_default-split_first.ensures.cases, c.in-Some.ensures.bound))

@@ -27,7 +27,7 @@ returns-in-Record-clause-steps g c = λ past text reading few.
     rw c.as_turn.ensures.turn
     (record_steps (g.C.MessageMachine.stands c.take.new.self.command) c.take.new.self.count _ _ c.args.written
     (turn_after c.args.written c.take.result) few reading
-    (rw c.in-Record.is at (c.read-found.ensures.read reading.left reading.has)) c.take.ensures.steps)
+    (rw c.in-Record.is at (c.read-found.ensures.read reading.left reading.has)).1 c.take.ensures.steps)
 
 pub returns-in-Some-clause-steps : goal.returns-in-Some-clause-steps
 returns-in-Some-clause-steps g c = λ past text reading few.
