@@ -2,7 +2,7 @@
 use Rattle.std.proofs.Common.{◌≡◌, ℕ, Bool, true, false, List, [], ◌∷◌, ◌++◌, Option, None, Some, Ok, Err, IfOk, refl}
 use Rattle.std.proofs.Common.{ap, sym, subst, ◌∙◌, append-nil, append_assoc, length, take, drop, take-append-drop}
 use Rattle.lis_frame.specs.declared.scanner.SignalOf.{SignalOf}
-use Rattle.lis_frame.specs.Stream.{with_signal, signals_after, stream_with}
+use Rattle.lis_frame.specs.Stream.{signal_after, with_signal, signals_after, stream_with}
 use Rattle.lis_frame.proofs.StreamLaws.{signals_after-append}
 use Rattle.lis_frame.specs.Frame.{FrameContent}
 use Rattle.lis_frame.specs.Scanner.{lent_signals}
@@ -13,7 +13,8 @@ use Rattle.lis_run.specs.declared.fault.ToolFault.TheVariants.{CaptureLine, Read
 use Rattle.lis_run.specs.declared.report.Report.{Report}
 use Rattle.lis_run.specs.Outcome.{Outcome, at_end, whole}
 use Rattle.lis_run.specs.Parts.{text_if_any}
-use Rattle.lis_run.specs.Output.{WentOut}
+use Rattle.lis_run.specs.Output.{Gathered, Out, WentOut}
+use Rattle.lis_run.proofs.GatherLaws.{gathered_stops}
 use Rattle.lis_run.specs.Runs.{RanOver, Seen, Shown, WroteOutcome, WroteText}
 use Rattle.lis_run.specs.Show.{Shows, clean, frame_line, show, signal_line, signal_lines}
 use Rattle.lis_link.proofs.HearingLaws.{stream_with-append}
@@ -61,6 +62,25 @@ front_lines limit n past bytes o is =
     let both = rw (take-append-drop n bytes) at (lines-append limit past (take n bytes) (drop n bytes)) in
     both ∙ ap (λ (l : List ℕ). l ++ signal_lines (signals_after limit (stream_with past (take n bytes))
     (drop n bytes))) (ap signal_lines is ∙ lent-lines limit o)
+
+-- the sink failed in the line of the first byte, or of the frame at the front
+pub byte_stops :
+    (limit : ℕ) (past : List ℕ) (byte : ℕ) (left : List ℕ) (a b : Out) (before : ℕ) (fault : ToolFault)
+    → Gathered a b before (Err fault) (signal_lines (with_signal (signal_after limit past byte) []))
+    → Gathered a b before (Err fault) (signal_lines (signals_after limit past (byte ∷ left)))
+byte_stops limit past byte left a b before fault gathered =
+    rw (signal_lines-with (signal_after limit past byte) (signals_after limit (byte ∷ past) left))
+    (gathered_stops a b before fault (signal_lines (with_signal (signal_after limit past byte) []))
+    (signal_lines (signals_after limit (byte ∷ past) left)) gathered)
+
+pub front_stops :
+    (limit n : ℕ) (past bytes : List ℕ) (o : Option FrameContent) (a b : Out) (before : ℕ) (fault : ToolFault)
+    → signals_after limit past (take n bytes) ≡ lent_signals o
+    → Gathered a b before (Err fault) (text_if_any frame_line o)
+    → Gathered a b before (Err fault) (signal_lines (signals_after limit past bytes))
+front_stops limit n past bytes o a b before fault is gathered =
+    rw (front_lines limit n past bytes o is) (gathered_stops a b before fault (text_if_any frame_line o)
+    (signal_lines (signals_after limit (stream_with past (take n bytes)) (drop n bytes))) gathered)
 
 pub front_stream : (n : ℕ) (past bytes : List ℕ)
     → stream_with (stream_with past (take n bytes)) (drop n bytes) ≡ stream_with past bytes

@@ -23,6 +23,16 @@ fn reads_are_counted(rt: HostRuntime) {
     }
 }
 
+#[test]
+fn a_read_has_room_for_4096_bytes(rt: HostRuntime) {
+    let mut source = Cut::new(&[b'x'; 8193], 10_000, Then::End);
+    let mut sink = Slow::new(100, 100);
+    let ended = run_show(&mut source, &mut sink, 10);
+    assert!(rt; ended.is_ok() && sink.took().is_empty());
+    // 4,096 bytes twice, the last one, and the end.
+    assert!(rt; source.made() == 4);
+}
+
 /// A message, and a patient outside a message.
 const REFUSED: &[u8] = b"H|\\^&\rL|1|N\rP|1\r";
 

@@ -1,6 +1,4 @@
-//! The loops that the guide quotes, over a line that follows a script.
-
-ghost use Rattle.std.specs.Prelude.{None};
+//! The loops that the guide quotes, over a line in memory that follows a script and keeps a log.
 
 use lis_link::{Outcome, Receiver};
 use lis_message::Message;
@@ -14,52 +12,13 @@ use uses::analyzer::send_texts;
 use uses::building::{result_message, result_texts};
 use uses::capture::is_as_played;
 use uses::computer::next_text;
-use uses::line::{Event, Line};
+use uses::line::Event;
 use uses::results::{Reading, count_results, readings};
 use uses::resuming::write_to_both;
+use uses::scripted::{Entry, ScriptedLine};
 
 /// ENQ, the text A in one frame, and EOT.
 const SESSION: &[u8] = b"\x05\x021A\x0375\r\n\x04";
-
-/// A line on which these events happen, one after another, until it is closed.
-#[derive(Drop)]
-struct Scripted<'a> {
-    events: &'a [Event],
-    sent: Vec<u8>,
-    seconds: Vec<u32>,
-}
-
-impl<'a> Scripted<'a> {
-    fn new(alloc: Global, events: &'a [Event]) -> Self {
-        Scripted {
-            events,
-            sent: Vec::new(alloc),
-            seconds: Vec::new(alloc),
-        }
-    }
-}
-
-// Its deeds are not known, so the contracts say nothing of it: the tests look at what it sent and which timers it
-// started.
-impl Line for Scripted<'_> {
-    ghost deeds = { λ _. None };
-
-    fn send(&mut self, bytes: &[u8]) {
-        let _ = self.sent.extend_from_slice(bytes);
-    }
-
-    fn start_timer(&mut self, seconds: u32) {
-        let _ = self.seconds.push(seconds);
-    }
-
-    fn wait(&mut self) -> Event {
-        let Some((event, rest)) = self.events.split_first() else {
-            return Event::Closed;
-        };
-        self.events = rest;
-        *event
-    }
-}
 
 /// Fails where the text A, sent on a line with these events, ends otherwise, or other bytes are sent or other timers
 /// started.
@@ -71,16 +30,29 @@ fn assert_sent(
     told: (&[u8], &[u32]),
 ) {
     let texts = Texts::from_slices(alloc, &[b"A".as_slice()]).expect(rt, "memory");
-    let mut line = Scripted::new(alloc, events);
+    let mut line = ScriptedLine::new(alloc, events);
     assert!(rt; send_texts(&mut line, texts) == Ok(Some(ended)));
-    assert_told(rt, &line, told);
+    assert_told(rt, alloc, &line, told);
     drop(line);
 }
 
 /// Fails where other bytes were sent on a line, or other timers started.
-fn assert_told(rt: &impl Abort, line: &Scripted<'_>, (sent, seconds): (&[u8], &[u32])) {
-    assert!(rt; line.sent.as_slice() == sent);
-    assert!(rt; line.seconds.as_slice() == seconds);
+fn assert_told(rt: &impl Abort, alloc: Global, line: &ScriptedLine<'_>, told: (&[u8], &[u32])) {
+    let log = line.log().expect(rt, "memory");
+    let mut bytes = Vec::new(alloc);
+    let mut timers = Vec::new(alloc);
+    for entry in log {
+        match entry {
+            Entry::Waited(_) => {}
+            Entry::Sent(sent) => bytes
+                .extend_from_slice(sent.as_slice())
+                .expect(rt, "memory"),
+            Entry::Timed(seconds) => timers.push(*seconds).expect(rt, "memory"),
+        }
+    }
+    assert!(rt; (bytes.as_slice(), timers.as_slice()) == told);
+    drop(bytes);
+    drop(timers);
 }
 
 #[test]
@@ -127,15 +99,85 @@ const RECEIVED: [Event; 10] = [
 
 #[test]
 fn a_text_is_received(rt: HostRuntime) {
-    let mut line = Scripted::new(rt.alloc(), &RECEIVED);
+    let mut line = ScriptedLine::new(rt.alloc(), &RECEIVED);
     let mut receiver = Receiver::new(rt.alloc());
     let text = next_text(&mut line, &mut receiver).expect(&rt, "a text");
     assert!(rt; text.as_slice() == b"A".as_slice());
     drop(text);
     assert!(rt; next_text(&mut line, &mut receiver).is_none());
     drop(receiver);
-    assert_told(&rt, &line, (&[ACK, ACK], &[30, 30]));
+    assert_told(&rt, rt.alloc(), &line, (&[ACK, ACK], &[30, 30]));
     drop(line);
+}
+
+/// The bytes that were sent on a line, as events on the other end's.
+fn sent_on(rt: &impl Abort, alloc: Global, line: &ScriptedLine<'_>) -> Vec<Event> {
+    let mut events = Vec::new(alloc);
+    for entry in line.log().expect(rt, "memory") {
+        if let Entry::Sent(bytes) = entry {
+            for byte in bytes.as_slice() {
+                events.push(Event::Byte(*byte)).expect(rt, "memory");
+            }
+        }
+    }
+    events
+}
+
+/// What the analyzer sends of the texts A and BC if these replies come, and how its session ends.
+fn sent_by_analyzer(
+    rt: &impl Abort,
+    alloc: Global,
+    replies: &[Event],
+) -> (Vec<Event>, Option<Outcome>) {
+    let texts = Texts::from_slices(alloc, &TEXTS).expect(rt, "memory");
+    let mut line = ScriptedLine::new(alloc, replies);
+    let ended = send_texts(&mut line, texts).ok().flatten();
+    let sent = sent_on(rt, alloc, &line);
+    drop(line);
+    (sent, ended)
+}
+
+/// What the computer replies if these bytes come; fails where it takes another text than the next of these.
+fn sent_by_computer(rt: &impl Abort, alloc: Global, bytes: &[Event]) -> (Vec<Event>, usize) {
+    let mut line = ScriptedLine::new(alloc, bytes);
+    let mut receiver = Receiver::new(alloc);
+    let mut count = 0;
+    for expected in TEXTS {
+        if let Some(text) = next_text(&mut line, &mut receiver) {
+            assert!(rt; text.as_slice() == expected);
+            count += 1;
+            drop(text);
+        }
+    }
+    let _ = next_text(&mut line, &mut receiver);
+    drop(receiver);
+    let sent = sent_on(rt, alloc, &line);
+    drop(line);
+    (sent, count)
+}
+
+/// The texts that are carried from one loop to the other.
+const TEXTS: [&[u8]; 2] = [b"A", b"BC"];
+
+// Neither loop runs beside the other: each round is played again from the start, with one more reply.
+#[test]
+fn one_loop_carries_texts_to_the_other(rt: HostRuntime) {
+    let mut replies = Vec::new(rt.alloc());
+    for _round in 0..3 {
+        let (sent, ended) = sent_by_analyzer(&rt, rt.alloc(), replies.as_slice());
+        assert!(rt; ended.is_none());
+        let (answers, _) = sent_by_computer(&rt, rt.alloc(), sent.as_slice());
+        assert!(rt; answers.len() == replies.len() + 1);
+        drop(sent);
+        replies = answers;
+    }
+    let (sent, ended) = sent_by_analyzer(&rt, rt.alloc(), replies.as_slice());
+    assert!(rt; ended == Some(Outcome::Done));
+    let (answers, count) = sent_by_computer(&rt, rt.alloc(), sent.as_slice());
+    assert!(rt; (answers.as_slice(), count) == (replies.as_slice(), 2));
+    drop(sent);
+    drop(answers);
+    drop(replies);
 }
 
 /// The records of one result, of the sample S7.

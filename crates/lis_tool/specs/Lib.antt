@@ -1,11 +1,11 @@
--- What the program writes for what it reads.
-pub mod Messages
-pub mod MessageRuns
-pub mod Check
-pub mod Results
-pub mod Words
-pub mod Commands
+-- What the program writes for what it reads, and the laws of it.
 pub mod Laws
+pub use Rattle.lis_commands.specs.Messages
+pub use Rattle.lis_commands.specs.MessageRuns
+pub use Rattle.lis_commands.specs.Check
+pub use Rattle.lis_commands.specs.Results
+pub use Rattle.lis_commands.specs.Words
+pub use Rattle.lis_commands.specs.Commands
 pub use Rattle.lis_run.specs.Output
 pub use Rattle.lis_run.specs.Outcome
 pub use Rattle.lis_run.specs.Runs

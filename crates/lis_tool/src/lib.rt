@@ -1,22 +1,11 @@
-//! What the program `lislink` does with its input, over sources and sinks that contracts can speak of.
+//! What the program `lislink` does with its input: its commands, which `lis_commands` has, and laws above them.
 #![tactic(auto)]
 
-pub mod check;
-pub mod commands;
-mod held_text;
 pub mod laws;
-pub mod messages;
-pub mod results;
-pub mod run;
-pub mod words;
 
-pub use check::run_check;
-pub use commands::Command;
-pub use lis_run::{
-    Ended, Halt, LineMachine, Lines, Machine, Refused, Report, SourceFor, ToolFault, Turn,
-    run_replay, run_replay_of, run_show, run_show_of, run_texts, run_texts_of, run_upgrade,
-    status_of,
+pub use lis_commands::{
+    Command, Ended, Halt, LineMachine, Lines, Machine, Refused, Report, SourceFor, ToolFault, Turn,
+    check, command, commands, messages, results, run, run_check, run_command, run_replay,
+    run_replay_of, run_results, run_show, run_show_of, run_texts, run_texts_of, run_upgrade,
+    status_of, words,
 };
-pub use results::run_results;
-pub use run::run_command;
-pub use words::command;

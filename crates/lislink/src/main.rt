@@ -4,8 +4,8 @@
 ghost use Rattle.std.specs.Prelude.{◌≡◌, IfOk, OnErr};
 ghost use Rattle.std.specs.Process.{exit_status};
 
+use lis_commands::{Command, Ended, Report, ToolFault, command, run_command, status_of};
 use lis_port::{Buffered, Once, ReadAhead};
-use lis_tool::{Command, Ended, Report, ToolFault, command, run_command, status_of};
 use std::io::{self, BufReader, BufWriter};
 use std::process::ExitCode;
 use std::{env, mem};

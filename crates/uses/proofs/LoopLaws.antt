@@ -16,8 +16,8 @@ goes_on_none past now deeds done = rw (append-nil deeds) done
 pub goes_on_then : (past now last : Option (List Deed)) (deeds more : List Deed) → GoesOn past now deeds
     → GoesOn now last more
     → GoesOn past last (deeds ++ more)
-goes_on_then None now last deeds more done behind = record {}
-goes_on_then (Some past) None last deeds more done behind = elim done [ ]
-goes_on_then (Some past) (Some now) None deeds more done behind = elim behind [ ]
+goes_on_then past now None deeds more done behind = record {}
+goes_on_then past None (Some last) deeds more done behind = elim behind [ ]
+goes_on_then None (Some now) (Some last) deeds more done behind = elim done [ ]
 goes_on_then (Some past) (Some now) (Some last) deeds more done behind =
     behind ∙ ap (λ (l : List Deed). l ++ more) done ∙ append_assoc past deeds more

@@ -6,3 +6,4 @@ pub mod Line
 pub mod Played
 pub mod Readings
 pub mod Resuming
+pub mod Scripted

@@ -8,10 +8,10 @@ pub data Deed : Type 0 where
   sent : List ℕ → Deed
   timed : ℕ → Deed
 
--- where the deeds on a line are known, these are the next ones
+-- Where the deeds on a line are still known, these are the next ones. What isn't known stays unknown.
 abbrev pub GoesOn : Option (List Deed) → Option (List Deed) → List Deed → Type 0
-GoesOn None new deeds = ⊤
-GoesOn (Some past) None deeds = ⊥
+GoesOn past None deeds = ⊤
+GoesOn None (Some all) deeds = ⊥
 GoesOn (Some past) (Some all) deeds = all ≡ past ++ deeds
 
 -- the events that a loop waits for at most: more than come in any life of a line

@@ -4,7 +4,7 @@ ghost use Rattle.std.specs.Prelude.{IfErr, IfOk};
 ghost use Rattle.uses.specs.Played.{WasNotPlayed, WasPlayed};
 
 use lis_port::{Discard, InMemory};
-use lis_tool::{ToolFault, run_replay};
+use lis_run::{ToolFault, run_replay};
 use std::alloc::Global;
 
 /// Whether each reply in a capture is the one that a receiver gives. A line that says nothing is told by its number.

@@ -16,7 +16,7 @@ pub enum Event {
 
 /// A serial line or a socket, with one timer beside it.
 pub trait Line {
-    // What happened on it and was done with it, oldest first, where that is known.
+    // What happened on it and was done with it, oldest first, as long as that is known.
     ghost deeds: { Self → Option (List Deed) };
 
     /// Sends bytes.

@@ -15,7 +15,7 @@ pub fn write_to_both<W: Sink, V: Sink>(
     requires first { W.failed first.old ≡ false }
     requires second { V.failed second.old ≡ false }
     ensures { WroteToBoth message.now (W.taken first.old) (W.taken first.new)
-        (V.taken second.old) (V.taken second.new) result }
+        (V.taken second.old) (V.taken second.new) (W.failed first.new) (V.failed second.new) result }
 {
     let Err(fault) = write_message(first, message) else {
         return Ok(());

@@ -65,27 +65,7 @@ returns-in-Err-clause-ran g c =
     unsent_ran s g.M.Machine.takes_memory g.M.Machine.means c.in-Err.fault c.loop-turn.invariant.not_ended
     (g.met.M.Machine.goes_on _ _ _ s.stood) c.in-Err.ensures.err
 
-pub returns-in-Err-clause-stops : goal.returns-in-Err-clause-stops
-returns-in-Err-clause-stops g c =
-    let is = c.loop-turn.invariant in
-    write_stops (part_failed _ _ _ _ _ c.in-Err.ensures.err) (λ closes. is.not_ended) is.not_failed
-    c.in-Err.ensures.failed (unended is.not_ended) (omega (arith, is.made, c.loop-turn-test.true))
-
-pub returns-in-Err-clause-each_gave : goal.returns-in-Err-clause-each_gave
-returns-in-Err-clause-each_gave g c =
-    gave_so_far c.loop-turn.invariant.so_far (omega (arith, c.loop-turn.invariant.made))
-
 -- ---- what a read asks for
-
-pub read_settled-requires-clause-sent : goal.read_settled-requires-clause-sent
-read_settled-requires-clause-sent g c = c.in-Ok.ensures.sent
-
-pub read_settled-requires-clause-empty : goal.read_settled-requires-clause-empty
-read_settled-requires-clause-empty g c = c.in-Ok.ensures.empty
-
-pub read_settled-requires-clause-countable : goal.read_settled-requires-clause-countable
-read_settled-requires-clause-countable g c =
-    omega (arith, c.loop-turn.invariant.made, c.loop-turn-test.true, c.ranges.reads)
 
 -- ---- the read failed
 
@@ -105,26 +85,6 @@ returns-in-Err-read_settled-clause-ran g c =
       );
     }
 
-pub returns-in-Err-read_settled-clause-stops : goal.returns-in-Err-read_settled-clause-stops
-returns-in-Err-read_settled-clause-stops g c =
-    let reading = c.in-Err-read_settled.ensures in
-    let going = failed_not_ended _ reading.ended in
-    record {
-      stopped = (going, reading.failed, c.in-Ok.ensures.failed);
-      sent_on = c.in-Ok.ensures.sent (failed_waited _ reading.ready);
-      all_read = unended going;
-      bounded = omega (arith, reading.made, c.loop-turn.invariant.made, c.loop-turn-test.true);
-    }
-
-pub returns-in-Err-read_settled-clause-each_gave : goal.returns-in-Err-read_settled-clause-each_gave
-returns-in-Err-read_settled-clause-each_gave g c =
-    let s = c.loop-turn.invariant.so_far in
-    let reading = c.in-Err-read_settled.ensures in (
-      s.bytes,
-      consumes_kept _ _ _ s.bytes s.read reading.bytes,
-      omega (arith, s.each_gave, c.loop-turn.invariant.made, reading.made),
-    )
-
 -- ---- it told the end
 
 pub returns-in-Ok-end_page-clause-ran : goal.returns-in-Ok-end_page-clause-ran
@@ -137,33 +97,6 @@ returns-in-Ok-end_page-clause-ran g c =
     reading.ready)
     _ c.in-Ok-end_page.halt c.halted.result puts puts.behind c.halted.ensures.taken c.halted.ensures.told
 
-pub returns-in-Ok-end_page-clause-stops : goal.returns-in-Ok-end_page-clause-stops
-returns-in-Ok-end_page-clause-stops g c =
-    let s = c.loop-turn.invariant.so_far in
-    let reading = c.in-Ok-read_settled.ensures in
-    let halt = c.in-Ok-end_page.halt in
-    let puts = c.in-Ok-end_page.ensures.ends s.bytes s.text s.stood (omega (arith, s.short)) in
-    halted_stops g.M.Machine.refuses g.M.Machine.closes g.M.Machine.takes_memory (g.M.Machine.means s.bytes true)
-    (s.text ++ puts.more) halt c.halted.result _ _ _ _ c.args.reads _ _ _ puts.behind c.halted.ensures.told
-    (well_at_end g.M.Machine.refuses halt.result _ (is_end _ c.in-Ok-read_settled.count c.if-count-eq0.true
-    reading.ended))
-    (λ closes failed. unended (c.halted.ensures.silent (c.closes-closes.ensures ∙ closes)).0 failed) reading.failed
-    (λ working. either c.closes-closes.result (λ wrote. c.halted.ensures.sent wrote working)
-    (λ silent.
-    let still = c.halted.ensures.silent silent in
-    let ended = c.in-Ok-end_page.ensures.silent (sym c.closes-closes.ensures ∙ silent) in
-    still.1 ∙ ended.1
-    ∙ c.in-Ok.ensures.sent (waited _ c.in-Ok-read_settled.count c.if-count-eq0.true reading.ready)
-    ∙ sym ended.2 ∙ sym still.2))
-    (λ ended. reading.bytes.1 c.if-count-eq0.true (omega (arith, c.read_settled.auto.buffer)))
-    (omega (arith, reading.made, c.loop-turn.invariant.made, c.loop-turn-test.true))
-
-pub returns-in-Ok-end_page-clause-each_gave : goal.returns-in-Ok-end_page-clause-each_gave
-returns-in-Ok-end_page-clause-each_gave g c =
-    let s = c.loop-turn.invariant.so_far in
-    let reading = c.in-Ok-read_settled.ensures in
-    gave s _ _ reading.bytes.0 (omega (arith, c.loop-turn.invariant.made, reading.made))
-
 pub returns-in-Err-end_page-clause-ran : goal.returns-in-Err-end_page-clause-ran
 returns-in-Err-end_page-clause-ran g c =
     let s = c.loop-turn.invariant.so_far in
@@ -173,22 +106,6 @@ returns-in-Err-end_page-clause-ran g c =
     reading.ready)
     c.in-Err-end_page.fault
     (c.in-Err-end_page.ensures.ends s.bytes s.text s.stood (omega (arith, s.short)))
-
-pub returns-in-Err-end_page-clause-stops : goal.returns-in-Err-end_page-clause-stops
-returns-in-Err-end_page-clause-stops g c =
-    let s = c.loop-turn.invariant.so_far in
-    let reading = c.in-Ok-read_settled.ensures in
-    let fails = c.in-Err-end_page.ensures.ends s.bytes s.text s.stood (omega (arith, s.short)) in
-    write_stops (put_failed _ _ _ _ _ fails.put)
-    (λ closes. unended refl (sym (c.in-Err-end_page.ensures.silent closes).0)) reading.failed
-    c.in-Err-end_page.ensures.failed
-    (λ ended. reading.bytes.1 c.if-count-eq0.true (omega (arith, c.read_settled.auto.buffer)))
-    (omega (arith, reading.made, c.loop-turn.invariant.made, c.loop-turn-test.true))
-
-pub returns-in-Err-end_page-clause-each_gave : goal.returns-in-Err-end_page-clause-each_gave
-returns-in-Err-end_page-clause-each_gave g c =
-    gave c.loop-turn.invariant.so_far _ _ c.in-Ok-read_settled.ensures.bytes.0
-    (omega (arith, c.loop-turn.invariant.made, c.in-Ok-read_settled.ensures.made))
 
 -- ---- it gave more
 
@@ -237,15 +154,6 @@ returns-in-Err-feed_page-clause-ran g c =
     c.if-count-eq0.false)
     c.in-Err-feed_page.fault (c.in-Err-feed_page.ensures.steps s.bytes s.text s.stood (omega (arith, s.short)))
 
-pub returns-in-Err-feed_page-clause-stops : goal.returns-in-Err-feed_page-clause-stops
-returns-in-Err-feed_page-clause-stops g c =
-    let s = c.loop-turn.invariant.so_far in
-    let reading = c.in-Ok-read_settled.ensures in
-    let fails = c.in-Err-feed_page.ensures.steps s.bytes s.text s.stood (omega (arith, s.short)) in
-    let going = no_end _ c.in-Ok-read_settled.count c.if-count-eq0.false reading.ended in
-    write_stops (put_failed _ _ _ _ _ fails.put) (λ closes. going) reading.failed c.in-Err-feed_page.ensures.failed
-    (unended going) (omega (arith, reading.made, c.loop-turn.invariant.made, c.loop-turn-test.true))
-
 pub returns-in-Err-feed_page-clause-each_gave : goal.returns-in-Err-feed_page-clause-each_gave
 returns-in-Err-feed_page-clause-each_gave g c =
     let reading = c.in-Ok-read_settled.ensures in
@@ -258,45 +166,3 @@ returns-clause-ran g c =
     let is = c.loop-turn.invariant in
     unsent_ran is.so_far g.M.Machine.takes_memory g.M.Machine.means c.in-Err-send_page.fault is.not_ended
     (g.met.M.Machine.goes_on _ _ _ is.so_far.stood) c.in-Err-send_page.ensures.err
-
-pub returns-clause-stops : goal.returns-clause-stops
-returns-clause-stops g c =
-    let is = c.loop-turn.invariant in
-    write_stops (part_failed _ _ _ _ _ c.in-Err-send_page.ensures.err) (λ closes. is.not_ended) is.not_failed
-    c.in-Err-send_page.ensures.failed (unended is.not_ended) (omega (arith, is.made))
-
-pub returns-clause-each_gave : goal.returns-clause-each_gave
-returns-clause-each_gave g c = gave_so_far c.loop-turn.invariant.so_far (omega (arith, c.loop-turn.invariant.made))
-
-pub returns-in-Ok-send_page-clause-ran : goal.returns-in-Ok-send_page-clause-ran
-returns-in-Ok-send_page-clause-ran g c =
-    let s = c.loop-turn.invariant.so_far in
-    let after = c.in-Ok-send_page.field-0 in
-    record {
-      given = s.bytes;
-      read = s.read;
-      outcome = going s.text;
-      meant = rw c.loop-turn.invariant.not_ended (g.met.M.Machine.goes_on _ _ _ s.stood);
-      wrote = (
-        refl,
-        so_far_out _ _ [] after s.text
-            (gathered_sent (out (g.W.Sink.taken c.args.sink.now) []) (g.W.Sink.taken c.loop-turn.sink)
-            (g.W.Sink.taken c.send_page.new.sink) c.loop-turn.page 0 c.loop-turn.written (Ok after) s.text s.wrote
-            c.in-Ok-send_page.ensures.ok) refl,
-      );
-    }
-
-pub returns-in-Ok-send_page-clause-each_gave : goal.returns-in-Ok-send_page-clause-each_gave
-returns-in-Ok-send_page-clause-each_gave g c =
-    gave_so_far c.loop-turn.invariant.so_far (omega (arith, c.loop-turn.invariant.made))
-
-pub returns-in-Ok-send_page-clause-stops : goal.returns-in-Ok-send_page-clause-stops
-returns-in-Ok-send_page-clause-stops g c =
-    let is = c.loop-turn.invariant in
-    let made = is.made in
-    record {
-      stopped = (is.not_ended, is.not_failed, c.in-Ok-send_page.ensures.failed, omega arith);
-      sent_on = c.in-Ok-send_page.ensures.sent;
-      all_read = unended is.not_ended;
-      bounded = omega arith;
-    }

@@ -8,6 +8,3 @@ pub returns-clause-status : goal.returns-clause-status
 returns-clause-status g c =
     shown_status g.row.N (g.R.SourceFor.seen c.args.source.now c.args.sink.now)
     (g.R.SourceFor.seen c.run.new.self c.run.new.sink) c.run.result c.run.ensures.ran
-
-pub returns-clause-stops : goal.returns-clause-stops
-returns-clause-stops g c = c.run.ensures.stops

@@ -4,8 +4,8 @@ use Rattle.lis_frame.specs.Stream.{signal_after, signals_after, stream_with, wit
 use Rattle.lis_run.specs.Show.{frame_line, signal_lines}
 use Rattle.lis_run.specs.Parts.{text_if_any}
 use Rattle.lis_run.specs.Output.{out}
-use Rattle.lis_run.proofs.GatherLaws.{gathered_then, gathered_stops, gathered_none}
-use Rattle.lis_run.proofs.ShowLaws.{signal_lines-with, no_lines, front_lines, front_stream}
+use Rattle.lis_run.proofs.GatherLaws.{gathered_then, gathered_none}
+use Rattle.lis_run.proofs.ShowLaws.{byte_stops, front_lines, front_stops, front_stream, no_lines, signal_lines-with}
 use Rattle.lis_run.proofs.show.show_bytes.Goals as goal
 
 pub loop-byte-preserved-then-taken-eq0 : goal.loop-byte-preserved-then-taken-eq0
@@ -60,31 +60,20 @@ loop-byte-preserved g c =
 pub returns-in-Err-clause-gathered : goal.returns-in-Err-clause-gathered
 returns-in-Err-clause-gathered g c = λ past stands.
     let point = c.loop-byte.invariant.goes_on past stands in
-    let split = c.in-Some.ensures.cases.0 in
-    let byte = c.in-Some.byte.now in
-    let left = c.in-Some.left.now in
     let same : StandsFor g.row.N c.scan-taken.new.self point.0 =
     rw c.if-taken-eq0.true at (c.scan-taken.ensures.after point.0 point.1) in
     let there = out (g.W.Sink.taken c.show_byte.new.sink) c.show_byte.new.page in
-    (rw split at point.3) there (Err c.in-Err.fault)
-    (rw (signal_lines-with (signal_after g.row.N point.0 byte) (signals_after g.row.N (byte ∷ point.0) left))
-    (gathered_stops (out (g.W.Sink.taken c.loop-byte.sink) c.loop-byte.page) there c.loop-byte.after
-    c.in-Err.fault
-    (signal_lines (with_signal (signal_after g.row.N point.0 byte) []))
-    (signal_lines (signals_after g.row.N (byte ∷ point.0) left))
-    (c.in-Err.ensures.gathered point.0 same)))
+    (rw c.in-Some.ensures.cases.0 at point.3) there (Err c.in-Err.fault)
+    (byte_stops g.row.N point.0 c.in-Some.byte.now c.in-Some.left.now _ there _ c.in-Err.fault
+    (c.in-Err.ensures.gathered point.0 same))
 
 pub returns-in-Err-tell_lent-clause-gathered : goal.returns-in-Err-tell_lent-clause-gathered
 returns-in-Err-tell_lent-clause-gathered g c = λ past stands.
     let point = c.loop-byte.invariant.goes_on past stands in
-    let n = c.scan-taken.result.0 in
-    let frame = c.scan-taken.result.1 in
-    let rest = c.loop-byte.rest.now in
-    point.3 (out (g.W.Sink.taken c.tell_lent.new.sink) c.tell_lent.new.page) (Err c.in-Err-tell_lent.fault)
-    (rw (front_lines g.row.N n point.0 rest frame (c.scan-taken.ensures.signal point.0 point.1))
-    (gathered_stops (out (g.W.Sink.taken c.loop-byte.sink) c.loop-byte.page)
-    (out (g.W.Sink.taken c.tell_lent.new.sink) c.tell_lent.new.page)
-    c.loop-byte.after c.in-Err-tell_lent.fault (text_if_any frame_line frame) _ c.in-Err-tell_lent.ensures.gathered))
+    let there = out (g.W.Sink.taken c.tell_lent.new.sink) c.tell_lent.new.page in
+    point.3 there (Err c.in-Err-tell_lent.fault)
+    (front_stops g.row.N c.scan-taken.result.0 point.0 c.loop-byte.rest.now c.scan-taken.result.1 _ there _
+    c.in-Err-tell_lent.fault (c.scan-taken.ensures.signal point.0 point.1) c.in-Err-tell_lent.ensures.gathered)
 
 pub returns-clause-gathered : goal.returns-clause-gathered
 returns-clause-gathered g c = λ past stands.

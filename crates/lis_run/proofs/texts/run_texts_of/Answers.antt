@@ -6,6 +6,3 @@ use Rattle.lis_run.proofs.texts.run_texts_of.Goals as goal
 pub returns-clause-status : goal.returns-clause-status
 returns-clause-status g c =
     report_status (texts_writes g.row.N) c.run_lines.result (λ lines. refl) c.run_lines.ensures.ran
-
-pub returns-clause-ran : goal.returns-clause-ran
-returns-clause-ran g c = c.run_lines.ensures.ran

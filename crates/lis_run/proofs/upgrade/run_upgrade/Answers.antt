@@ -5,6 +5,3 @@ use Rattle.lis_run.proofs.upgrade.run_upgrade.Goals as goal
 
 pub returns-clause-status : goal.returns-clause-status
 returns-clause-status g c = report_status upgrade_writes c.run_lines.result (λ lines. refl) c.run_lines.ensures.ran
-
-pub returns-clause-stops : goal.returns-clause-stops
-returns-clause-stops g c = c.run_lines.ensures.stops

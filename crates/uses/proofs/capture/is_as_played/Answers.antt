@@ -1,6 +1,6 @@
 use Rattle.std.proofs.Common.{rules, None, Some, sym, Option, List, ℕ, subst}
 use Rattle.std.specs.Io.KnownBytes.{Consumes}
-use Rattle.lis_tool.specs.Runs.{EachGave}
+use Rattle.lis_run.specs.Runs.{EachGave}
 use Rattle.uses.specs.Played.{WasNotPlayed}
 use Rattle.uses.proofs.PlayedLaws.{not_played, was_played}
 use Rattle.uses.proofs.ReadingLaws.{if_err}
@@ -20,6 +20,3 @@ returns-in_err-report-clause-err c =
     read ran.answer stops.stops.stopped stops.stops.all_read gave in
     if_err _ _ c.from_residual.result c.from_residual.ensures.1
     (λ e gives. subst (WasNotPlayed c.args.capture.now) (sym gives) known)
-
-pub returns-clause-ok : goal.returns-clause-ok
-returns-clause-ok c = was_played c.args.capture.now c.in_ok-report.report.status (search rules) (search rules)

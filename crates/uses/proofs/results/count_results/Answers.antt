@@ -64,12 +64,3 @@ returns-in-Err-clause-err c =
         },
       );
     }
-
-pub returns-in-Ok-clause-ok : goal.returns-in-Ok-clause-ok
-returns-in-Ok-clause-ok c =
-    let so_far = c.loop-piece.invariant in (
-      so_far.0,
-      ends_well c.loop-piece.reader c.args.pieces.now c.loop-piece.piece-index so_far.0 c.loop-piece-test.false so_far.1
-          (sym c.finish.ensures ∙ c.in-Ok.is) so_far.2,
-      so_far.3,
-    )

@@ -1,7 +1,7 @@
-use Rattle.std.proofs.Common.{◌≡◌, ℕ, ◌+◌, List, false, take, length, refl, arith}
+use Rattle.std.proofs.Common.{◌≡◌, ℕ, ◌+◌, List, false, take, length, arith}
 use Rattle.std.proofs.lemmas.List.{take_all}
 use Rattle.lis_capture.specs.Reader.{HasRead}
-use Rattle.lis_capture.proofs.ReaderLemmas.{ReadsOn, reads_end, reads_within, front_of_line, no_line, refused_again}
+use Rattle.lis_capture.proofs.ReaderLemmas.{ReadsOn, reads_end, reads_within, front_of_line, no_line}
 use Rattle.lis_capture.proofs.reader.LineReader.read.Goals as goal
 
 -- behind the first LF a line is ended
@@ -37,13 +37,3 @@ returns-in-None-clause-found c = λ past has. (held c past has).found_is
 
 pub returns-in-None-clause-after : goal.returns-in-None-clause-after
 returns-in-None-clause-after c = λ past has. (held c past has).has_read
-
-pub returns-then-self-clause-refused : goal.returns-then-self-clause-refused
-returns-then-self-clause-refused c is = (refl, refl)
-
-pub returns-then-self-clause-found : goal.returns-then-self-clause-found
-returns-then-self-clause-found c = λ past has.
-    refused_again c.args.self.now past has (rw (← c.self.view_is, ← c.self-inside.view_is) c.if-self.true)
-
-pub returns-then-self-clause-after : goal.returns-then-self-clause-after
-returns-then-self-clause-after c = λ past has. has

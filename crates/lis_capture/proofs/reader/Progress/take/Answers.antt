@@ -1,7 +1,7 @@
 use Rattle.std.proofs.Common.{sym, ◌∙◌, ap}
 use Rattle.lis_capture.specs.Line.{line_of, version_after}
 use Rattle.lis_capture.specs.Reader.{Known}
-use Rattle.lis_capture.proofs.ReaderLemmas.{known_taken, found_taken, found_refused}
+use Rattle.lis_capture.proofs.ReaderLemmas.{known_taken, found_taken}
 use Rattle.lis_capture.proofs.reader.Progress.take.Goals as goal
 
 pub returns-clause-after : goal.returns-clause-after
@@ -23,9 +23,3 @@ pub returns-clause-found : goal.returns-clause-found
 returns-clause-found c =
     rw (← c.self.view_is)
     (found_taken (line_of c.self.inside.version c.args.text.now) (sym c.read.ensures.said ∙ c.if-not-read.false))
-
-pub returns-then-not-read-clause-found : goal.returns-then-not-read-clause-found
-returns-then-not-read-clause-found c =
-    rw (← c.self.view_is)
-    (c.refuse.ensures.found
-    ∙ found_refused (line_of c.self.inside.version c.args.text.now) c.if-not-read.ensures.said)

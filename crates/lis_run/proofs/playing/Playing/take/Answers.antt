@@ -22,23 +22,3 @@ returns-then-not-collect g c = record {
   differences = c.collect.ensures.differences;
   failed = c.requires;
 }
-
-pub returns-in-Ok-clause-took : goal.returns-in-Ok-clause-took
-returns-in-Ok-clause-took g c = (
-  c.in_default.not-OutOfMemory,
-  λ lines. rw c.reuse.ensures.replies (c.collect.ensures.kept c.if-not-collect.false lines),
-  omega (arith, c.reuse.ensures.texts, c.saturating_add-self.ensures, c.collect.ensures.texts, c.count_of.ensures),
-  rw c.account-account.ensures at c.in-Ok.ensures.gathered,
-)
-
-pub returns-in-Err-clause-took : goal.returns-in-Err-clause-took
-returns-in-Err-clause-took g c =
-    (c.in_default.not-OutOfMemory, rw c.account-account.ensures at c.in-Err.ensures.gathered)
-
-pub returns-in-Ok-clause-receiver : goal.returns-in-Ok-clause-receiver
-returns-in-Ok-clause-receiver g c = λ r is.
-    c.reuse.ensures.receiver r (subst (λ (k : Kept). IsIn g.row.N k r) (sym c.collect.ensures.receiver) is)
-
-pub returns-in-Err-clause-receiver : goal.returns-in-Err-clause-receiver
-returns-in-Err-clause-receiver g c = λ r is.
-    c.reuse.ensures.receiver r (subst (λ (k : Kept). IsIn g.row.N k r) (sym c.collect.ensures.receiver) is)
