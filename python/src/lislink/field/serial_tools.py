@@ -119,10 +119,10 @@ def interceptty(text: str) -> Log:
 
 
 def portmon(text: str) -> Log:
-    """Portmon: IRP_MJ_READ and IRP_MJ_WRITE with `Length 5: 02 31 ..`."""
+    """Portmon and AccessPort: IRP_MJ_READ and IRP_MJ_WRITE with `Length 5: 02 31 ..` or `Length: 5, Data: 02 31 ..`."""
     pieces = []
     for number, line in enumerate(text.splitlines(), 1):
-        found = re.search(r"\bIRP_MJ_(READ|WRITE)\b.*?\bLength:? (\d+):\s*(.*?)\s*$", line)
+        found = re.search(r"\bIRP_MJ_(READ|WRITE)\b.*?\bLength:? *(\d+)(?::|, *Data:)\s*(.*?)\s*$", line)
         if not found:
             if re.search(r"IRP_MJ_(READ|WRITE)\b.*\bLength:? \d+:", line):
                 raise LogError(f"no line of Portmon: {line[:60]!r}", number)

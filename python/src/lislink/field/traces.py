@@ -29,6 +29,7 @@ _MARKS: List[Tuple["re.Pattern[str]", Callable[["re.Match[str]"], str]]] = [
     (re.compile(r"(?P<a>>{2,3}|<{2,3}(?!\w))"), lambda found: found["a"][0] * 2),
     (re.compile(r"(?P<a>-{1,3}>|={1,2}>|→|⇒)"), lambda found: "->"),
     (re.compile(r"(?P<a><-{1,3}|<={1,2}|←|⇐)"), lambda found: "<-"),
+    (re.compile(r"\b(?P<a>[A-Za-z]\w*)>(?P<b>[A-Za-z]\w*)(?=\s|:)"), lambda found: found["a"]),
     (re.compile(r"\b(?P<a>analy[sz]er|instrument|device|host|lis|lims|his|pc|computer|client|server|com\d+|middleware|"
                 r"dte|dce|a|b|s|r)\s*(?=[:>|\])])", re.I), lambda found: found["a"].lower()),
     (re.compile(r"\b(?P<a>com\d+|(?<=/dev/)tty\w+)\b", re.I), lambda found: found["a"].lower()),
@@ -69,6 +70,7 @@ def _escaped(text: str) -> Optional[bytes]:
 
 def _hex(text: str) -> Optional[bytes]:
     bare = text.strip().strip("\"'[](){}")
+    bare = re.sub(r"^(?:[0-9A-Fa-f]{4}|[0-9A-Fa-f]{8}):?\s+(?=[0-9A-Fa-f]{2}(?:\s|$))", "", bare)  # an offset before pairs
     bare = re.sub(r"(?<=[0-9A-Fa-f]{2})[:\-,;](?=\s*(?:0[xX])?[0-9A-Fa-f]{2})", " ", bare).rstrip(" ,;:")
     bare = re.sub(r"\b([0-9A-Fa-f]{2})h\b", r"\1", bare)
     if re.match(r"(?:[0-9A-Fa-f]{2})+$", bare):
@@ -172,9 +174,11 @@ def traces(text: str) -> Log:
 
 def _no_text_around(pieces: List[Piece]) -> None:
     """Where each ENQ and each reply has text around it, that text belongs to the log and not to the line."""
-    short = [piece.data for piece in pieces if 2 not in piece.data and re.search(rb"[\x05\x06\x15]", piece.data)]
-    if short and not any(re.match(rb"[\x04-\x06\x15]+$", data) for data in short):
-        raise LogError(f"each reply has text around it: what belongs to the line isn't clear ({short[0][:40]!r})")
+    for side in {piece.side for piece in pieces}:
+        short = [piece.data for piece in pieces if piece.side == side and 2 not in piece.data and
+                 re.search(rb"[\x05\x06\x15]", piece.data)]
+        if short and not any(re.match(rb"[\x04-\x06\x15]+$", data) for data in short):
+            raise LogError(f"each reply has text around it: what belongs to the line isn't clear ({short[0][:40]!r})")
 
 
 def _with_line_ends(pieces: List[Piece], remarks: List[str]) -> List[Piece]:
@@ -294,7 +298,7 @@ def _split(line: str, grammar: Grammar) -> Optional[Tuple[str, str, bytes]]:
             body = _CLOCK_FIRST.sub("", body)
             data = grammar.read(body)
             if not data:
-                data = grammar.read(re.sub(r"^\s*[\[(]\d+[\])]\s*", "", body))
+                data = grammar.read(re.sub(r"^\s*[\[(]\d+[\])]\s*[:\-=|]*\s*", "", body))
             if data:
                 if best is None:
                     best = (rank, line[:found.start()], side(found), data)
@@ -309,16 +313,26 @@ def _is_head(text: str) -> bool:
     return len(text) < 120 and not _SURE.search(text)
 
 
+_NAME_FIRST = r"\W*(?:[\d/.\-]*[ T]?\d{1,2}:\d\d:\d\d(?:[.,]\d+)?)?\W*([A-Za-z][\w ]{0,24}?)\s*"
+_NAMED, _NAMED_HEX = re.compile(_NAME_FIRST + r"[:>|\]]+\s*(.+)$"), re.compile(_NAME_FIRST + r"(?:[:>|\]]+\s*|\s)(.+)$")
+
+
 def _named(read: List[Tuple[int, str]], grammar: Grammar) -> Optional[Log]:
-    """A log whose lines each begin with one of two names."""
-    pieces = []
-    for _, line in read:
-        found = re.match(r"\W*(?:[\d/.\-]*[ T]?\d{1,2}:\d\d:\d\d(?:[.,]\d+)?)?\W*([A-Za-z][\w ]{0,24}?)\s*[:>|\]]+\s*(.+)$", line)
+    """A log whose lines each begin with one of two names; a line of hex may have another beginning, and no bytes then."""
+    pieces, left = [], []
+    for number, line in read:
+        found = (_NAMED if grammar.name == "words" else _NAMED_HEX).match(line)
         data = grammar.read(found[2]) if found else None
-        if not found or not data:
+        if found and data:
+            pieces.append(Piece(find_time(line), found[1], data))
+        elif grammar.name == "words":
             return None
-        pieces.append(Piece(find_time(line), found[1], data))
-    return Log("trace-" + grammar.name, pieces, []) if len({one.side for one in pieces}) == 2 else None
+        else:
+            left.append(number)
+    if grammar.name == "words":
+        _no_text_around(pieces)
+    remarks = ["lines without bytes were left out: " + ", ".join(map(str, left[:20]))] if left else []
+    return Log("trace-" + grammar.name, pieces, remarks) if len({one.side for one in pieces}) == 2 else None
 
 
 def _unmarked(lines: List[str], grammar: Grammar) -> Log:
@@ -329,6 +343,10 @@ def _unmarked(lines: List[str], grammar: Grammar) -> Log:
         raise LogError("no line has a direction")
     read = [(number, line) for number, line in enumerate(lines, 1) if line.strip() and
             (_SURE.search(line) if grammar.name == "words" else grammar.read(line.strip()) is not None)]
+    named = _named(read if grammar.name == "words" else
+                   [(number, line) for number, line in enumerate(lines, 1) if line.strip()], grammar)
+    if named is not None:
+        return named
     if not read:
         raise LogError("no line holds ENQ, a frame or a reply")
     for _, line in read:
@@ -349,9 +367,8 @@ def _unmarked(lines: List[str], grammar: Grammar) -> Log:
         else:
             side = "replies" if data in (b"\x06", b"\x15") else "rest"
         pieces.append(Piece(find_time(line), side, data))
-    named = _named(read, grammar)
-    if named is not None:
-        return named
+    if grammar.name == "words":
+        _no_text_around(pieces)
     remarks = ["no line has a direction: " + ("the columns are taken for the two sides" if wide else
                                               "lines that are one ACK or NAK are taken for the computer's")]
     left = [number for number, line in enumerate(lines, 1) if line.strip() and number not in {one for one, _ in read}]
