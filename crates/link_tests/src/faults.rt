@@ -1,8 +1,7 @@
 //! What each fault of texts, frames and sessions says of itself.
 
-use lis_frame::FrameFault;
+use lis_frame::{FrameFault, LinkText, TextFault, TextRefused, Texts};
 use lis_link::{Sender, StartFault};
-use lis_text::{LinkText, TextFault, TextRefused, Texts};
 use std::alloc::Global;
 use std::fmt::Display;
 use std::mem::drop;

@@ -8,11 +8,17 @@ mod borrowed;
 #[cfg(test)]
 mod capture;
 #[cfg(test)]
+mod faltering;
+#[cfg(test)]
 mod faults;
 #[cfg(test)]
 mod link_text;
 #[cfg(test)]
 mod port;
+#[cfg(test)]
+mod ports_in_memory;
+#[cfg(test)]
+mod receiving;
 #[cfg(test)]
 mod scanning;
 #[cfg(test)]

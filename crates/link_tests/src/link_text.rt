@@ -47,3 +47,19 @@ fn assert_texts(rt: &impl Abort, texts: &[LinkText]) {
     assert!(rt; first.as_slice() == b"AB".as_slice());
     assert!(rt; second.is_empty());
 }
+
+#[test]
+fn lists_are_equal_by_their_items(rt: HostRuntime) {
+    let texts = Texts::from_slices(rt.alloc(), &[b"AB".as_slice(), b"AC", b"AB"]);
+    let texts = texts.expect(&rt, "memory");
+    let [first, second, third] = texts.as_slice() else {
+        panic!(rt; "not three texts");
+    };
+    assert!(rt; first == third && first != second);
+    drop(texts);
+}
+
+#[test]
+fn a_new_list_reserves_nothing(rt: HostRuntime) {
+    assert!(rt; LinkText::new(rt.alloc()).into_vec().capacity() == 0);
+}

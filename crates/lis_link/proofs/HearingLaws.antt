@@ -59,7 +59,7 @@ bid_with-quiet Ready r e = cc
 bid_with-quiet Busy r e = cc
 bid_with-quiet Contending r e = cc
 
-pub heard_by-quiet :
+heard_by-quiet :
     {limit : ℕ} (is_open : Bool) (signal : SignalOf limit) (r : ReceiverState)
     → (heard_by is_open signal r).note ≡ Quiet →
     heard_by is_open signal r ≡ answers None Quiet r
@@ -76,7 +76,7 @@ heard_by-quiet false (Good frame) r e = refl
 heard_by-quiet false (Bad fault) r e = refl
 
 -- a quiet step changes nothing and hands nothing out
-pub heard-quiet :
+heard-quiet :
     {limit : ℕ} (signal : Option (SignalOf limit)) (r : ReceiverState) → (heard signal r).note ≡ Quiet
     → heard signal r ≡ answers None Quiet r
 heard-quiet None r e = refl
@@ -97,19 +97,19 @@ passed-none behind =
     let none : behind.count ≡ 0 + behind.count = omega arith in
     ap (λ (n : ℕ). record behind { count = n }) none
 
-pub passed-passed : (m n : ℕ) (behind : ReceiverHearing) → passed m (passed n behind) ≡ passed (m + n) behind
+passed-passed : (m n : ℕ) (behind : ReceiverHearing) → passed m (passed n behind) ≡ passed (m + n) behind
 passed-passed m n behind =
     let sum : m + (n + behind.count) ≡ m + n + behind.count = omega arith in
     ap (λ (k : ℕ). record behind { count = k }) sum
 
-pub passed-heard_on :
+passed-heard_on :
     (m n : ℕ) (note : Note) (step : ReceiverStep) (behind : ReceiverHearing) →
     passed m (heard_on n note step behind) ≡ heard_on (m + n) note step behind
 passed-heard_on m n Quiet step behind = passed-passed m n behind
 passed-heard_on m n _ step behind = refl
 
 -- bytes that give no signal are quiet
-pub on_bytes-silent :
+on_bytes-silent :
     (limit : ℕ) (run behind : List ℕ) (r : ReceiverState) → signals_after limit r.past run ≡ [] →
     on_bytes limit (run ++ behind) r ≡ passed (length run) (on_bytes limit behind (with_heard run r))
 on_bytes-silent limit [] behind r silent = passed-none (on_bytes limit behind r)
@@ -134,7 +134,7 @@ on_bytes-silent limit (b ∷ run) behind r silent = by (signal_after limit r.pas
     by (Some signal) none later = absurd cc
 
 -- and a byte behind them is answered as it is by itself
-pub on_bytes-last :
+on_bytes-last :
     (limit b : ℕ) (run behind : List ℕ) (r : ReceiverState) → signals_after limit r.past run ≡ [] →
     on_bytes limit (run ++ b ∷ behind) r
     ≡ heard_on (length run + 1) (on_byte limit b (with_heard run r)).note (on_byte limit b (with_heard run r))

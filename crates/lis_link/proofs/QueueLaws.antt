@@ -30,14 +30,14 @@ within-at (x ∷ xs) (suc index) text e =
     let later = within-at xs index text e in
     (omega arith, later.1)
 
-pub past-none : (texts : List (List ℕ)) (index : ℕ) → slice_get texts index ≡ None → length texts ≤ index
+past-none : (texts : List (List ℕ)) (index : ℕ) → slice_get texts index ≡ None → length texts ≤ index
 past-none [] index e = omega arith
 past-none (x ∷ xs) zero e = absurd (cc)
 past-none (x ∷ xs) (suc index) e =
     let later = past-none xs index e in
     omega arith
 
-pub left-none : (limit : ℕ) (texts : List (List ℕ)) (index offset number : ℕ) → length texts ≤ index
+left-none : (limit : ℕ) (texts : List (List ℕ)) (index offset number : ℕ) → length texts ≤ index
     → frames_left limit texts index offset number ≡ []
 unfolding frames_left
 left-none limit texts index offset number past = ap (λ ts. numbered number (pieces_left limit offset ts))

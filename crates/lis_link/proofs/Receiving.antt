@@ -1,9 +1,9 @@
 -- Steps of the receiver that its program makes.
-use Rattle.std.proofs.Common.{◌≡◌, ℕ, ◌+◌, true, false, [], ◌∷◌, ◌++◌, None, length, refl, sym, ap, ◌∙◌, subst}
+use Rattle.std.proofs.Common.{◌≡◌, ℕ, ◌+◌, true, [], ◌∷◌, ◌++◌, length, sym, ap, ◌∙◌, subst}
 use Rattle.std.proofs.lemmas.List.{length_push}
-use Rattle.lis_frame.specs.declared.scanner.SignalOf.TheVariants.{Good, Eot}
+use Rattle.lis_frame.specs.declared.scanner.SignalOf.TheVariants.{Good}
 use Rattle.lis_frame.specs.Frame.{FrameContent}
-use Rattle.lis_link.specs.declared.receiver.Note.TheVariants.{Accepted, Ended}
+use Rattle.lis_link.specs.declared.receiver.Note.TheVariants.{Accepted}
 use Rattle.lis_link.specs.declared.receiver.Step.{Step}
 use Rattle.lis_link.specs.Joining.{held_with, completed}
 use Rattle.lis_frame.specs.Scanner.{Held}
@@ -59,25 +59,3 @@ accepted_step limit scanner old new r f n result is_in is_open found taken =
     let step = taken_step limit scanner old new r f n result is_in open_is taken in
     subst (λ o. Makes limit (heard_by {limit = limit} o (Good f) r) result (kept_of new scanner)) (sym open_is)
     (subst (λ note. Makes limit (on_judged r f note) result (kept_of new scanner)) found_is step)
-
--- EOT on an open line
-pub ended_step :
-    (limit : ℕ) (scanner : Held) (old new : KeptLine) (r : ReceiverState) (result : Step)
-    → IsIn limit (kept_of old scanner) r
-    → old.is_open ≡ true
-    → new ≡ record old { is_open = false; held = []; spare = new.spare }
-    → result ≡ record { reply = None; message = None; note = Ended }
-    → Makes limit (heard_by {limit = limit} r.is_open Eot r) result (kept_of new scanner)
-ended_step limit scanner old new r result is_in is_open new_is result_is =
-    let open_is : r.is_open ≡ true = sym is_in.open_is ∙ is_open in
-    rw (open_is, result_is, new_is) (record {
-      answer = record { reply_is = refl; message_is = refl; note_is = refl };
-      state = record {
-        open_is = refl;
-        accepted_is = is_in.accepted_is;
-        readiness_is = is_in.readiness_is;
-        room_is = is_in.room_is;
-        held_is = refl;
-        stream_is = is_in.stream_is;
-      };
-    })

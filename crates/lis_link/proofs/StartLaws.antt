@@ -1,5 +1,5 @@
 -- What a start that is not refused tells of the texts.
-use Rattle.std.proofs.Common.{◌≡◌, ◌≢◌, ℕ, ◌+◌, List, [], ◌∷◌, Option, None, Some, refl, drop, add-one}
+use Rattle.std.proofs.Common.{◌≡◌, ℕ, ◌+◌, List, [], ◌∷◌, Option, None, Some, refl, drop, add-one}
 use Rattle.std.specs.Prelude.{All, slice_get}
 use Rattle.std.proofs.lemmas.List.Elements.{All-nil, All-cons, All-weaker}
 use Rattle.lis_text.specs.declared.text.TextFault.{TextFault}
@@ -8,9 +8,8 @@ use Rattle.lis_text.specs.Text.{IsText, text_fault}
 use Rattle.lis_text.proofs.TextLemmas.{text_fault-none}
 use Rattle.lis_link.specs.declared.sender.Phase.{Phase}
 use Rattle.lis_link.specs.declared.sender.Phase.TheVariants.{Neutral, AwaitLine, Busy, Contention, AwaitReply}
-use Rattle.lis_link.specs.declared.sender.Outcome.TheVariants.{Restarted}
-use Rattle.lis_link.specs.declared.sender.StartFault.TheVariants.{InSession, BadText}
-use Rattle.lis_link.specs.Sender.{SenderState, bad_text_or, bad_text, over, restart_in, start_fault_in}
+use Rattle.lis_link.specs.declared.sender.StartFault.TheVariants.{BadText}
+use Rattle.lis_link.specs.Sender.{bad_text_or, bad_text, start_fault_in}
 use Rattle.lis_link.proofs.QueueLaws.{drop-at}
 
 abbrev pub Faultless : List ℕ → Type 0
@@ -34,33 +33,19 @@ faultless-bad_text index (text ∷ texts) e = go (text_fault longest_text text) 
     go (Some fault) is none later = absurd (cc)
 
 -- the text at a place is the first bad one from there on, or the search goes on behind it
-pub bad_text-here :
+pub bad_text_here :
     (texts : List (List ℕ)) (index : ℕ) (text : List ℕ) (fault : TextFault)
     → slice_get texts index ≡ Some text
     → text_fault longest_text text ≡ Some fault
     → bad_text index (drop index texts) ≡ Some (BadText index fault)
-bad_text-here texts index text fault at is = rw (drop-at texts index text at, is) refl
+bad_text_here texts index text fault at is = rw (drop-at texts index text at, is) refl
 
-pub bad_text-behind :
+pub bad_text_behind :
     (texts : List (List ℕ)) (index : ℕ) (text : List ℕ)
     → slice_get texts index ≡ Some text
     → text_fault longest_text text ≡ None
     → bad_text (index + 1) (drop (index + 1) texts) ≡ bad_text index (drop index texts)
-bad_text-behind texts index text at none = rw (drop-at texts index text at, none, add-one index) refl
-
-pub started-in_session : (p : Phase) (texts : List (List ℕ)) → p ≢ Neutral → start_fault_in p texts ≡ Some InSession
-started-in_session Neutral texts other = absurd (other refl)
-started-in_session AwaitLine texts other = refl
-started-in_session Busy texts other = refl
-started-in_session Contention texts other = refl
-started-in_session AwaitReply texts other = refl
-
-pub restarted-in_session : (p : Phase) (s : SenderState) → p ≢ Neutral → restart_in p s ≡ over Restarted s
-restarted-in_session Neutral s other = absurd (other refl)
-restarted-in_session AwaitLine s other = refl
-restarted-in_session Busy s other = refl
-restarted-in_session Contention s other = refl
-restarted-in_session AwaitReply s other = refl
+bad_text_behind texts index text at none = rw (drop-at texts index text at, none, add-one index) refl
 
 pub faultless-start : (p : Phase) (texts : List (List ℕ)) → start_fault_in p texts ≡ None → All Faultless texts
 faultless-start Neutral [] none = absurd (cc)

@@ -42,7 +42,7 @@ impl<const N: usize, T: SessionTexts> QueueOf<N, T> {
         ensures left { result.left ≡ session_frames N (T.texts texts) }
         ensures few { length (T.texts texts) ≤ 65536 }
     {
-        // That there are few texts is known from their number.
+        // proof: that there are few texts is known from their number.
         let _ = texts.count();
         QueueOf {
             texts,

@@ -1,13 +1,13 @@
 //! The receiving end (LIS01-A2, 6.3 to 6.6).
 
-ghost use Rattle.std.specs.Prelude.{◌≡◌, ◌≢◌, ◌≤◌, ◌<◌, ◌∷◌, length, take, OnOk, None};
+ghost use Rattle.std.specs.Prelude.{◌≡◌, ◌≢◌, ◌≤◌, ◌<◌, ◌∷◌, length, take, OnOk, OnErr, None};
 ghost use Rattle.lis_frame.specs.Limit.{IsLimit};
 ghost use Rattle.lis_text.specs.LinkText.{longest_text};
 ghost use Rattle.lis_frame.specs.Scanner.{StandsFor};
 ghost use Rattle.lis_link.specs.Receiver.{ReceiverState, new_receiver, on_byte, on_bytes, on_receiver_timer};
 ghost use Rattle.lis_link.specs.Receiver.{receiver_restarted, with_heard, with_readiness, with_room};
 ghost use Rattle.lis_link.specs.declared.receiver.Note.TheVariants as Notes;
-ghost use Rattle.lis_link.specs.inside.Stands.{IsIn, Makes, RefusesFrame, SpareAfter, HearsFront};
+ghost use Rattle.lis_link.specs.inside.Stands.{IsIn, Makes, RefusesFrame, SpareAfter, HearsFront, KeepsRoom, room_of};
 
 use crate::receiver::line::Line;
 use lis_frame::{FrameFault, ScannerOf};
@@ -119,7 +119,8 @@ impl<const N: usize> ReceiverOf<N> {
     /// from 240 to 63,993 bytes.
     pub fn new(alloc: Global) -> Self
         requires { IsLimit N }
-        ensures { IsIn N result new_receiver }
+        ensures state { IsIn N result new_receiver }
+        ensures spare { result.spare ≡ 0 }
     {
         ReceiverOf {
             line: Line::new(alloc),
@@ -155,6 +156,7 @@ impl<const N: usize> ReceiverOf<N> {
     pub fn restart(&mut self)
         ensures state { (r : ReceiverState) → IsIn N self.old r → IsIn N self.new (receiver_restarted r) }
         ensures spare { self.old.spare ≤ self.new.spare }
+        ensures room { room_of self.new ≡ room_of self.old }
     {
         self.line.restart();
         self.scanner = ScannerOf::new();
@@ -164,15 +166,17 @@ impl<const N: usize> ReceiverOf<N> {
     pub fn timer(&mut self) -> Step
         ensures step { (r : ReceiverState) → IsIn N self.old r → Makes N (on_receiver_timer r) result self.new }
         ensures spare { self.old.spare ≤ self.new.spare }
+        ensures room { room_of self.new ≡ room_of self.old }
     {
         self.line.timer()
     }
 
     /// Makes room for `bytes` more bytes of held text, at most 1,048,576, so that taking them takes no memory. Where
-    /// memory is refused the receiver is as before.
+    /// memory is refused the receiver is as before, and that is so only where it had less room.
     pub fn reserve(&mut self, bytes: u64) -> Result<(), AllocError>
         requires { bytes ≤ longest_text }
         ensures ok { OnOk result (bytes ≤ self.new.spare) }
+        ensures refused { OnErr result (self.old.spare < bytes) }
         ensures state { (r : ReceiverState) → IsIn N self.old r → IsIn N self.new r }
         ensures spare { self.old.spare ≤ self.new.spare }
     {
@@ -202,6 +206,7 @@ impl<const N: usize> ReceiverOf<N> {
             RefusesFrame N self.old.spare (on_byte N byte r) (record r { past = byte ∷ r.past }) result self.new }
         ensures spare { (r : ReceiverState) → IsIn N self.old r
             → SpareAfter self.old.spare self.new.spare (on_byte N byte r).taken }
+        ensures room { KeepsRoom result.note (room_of self.old) (room_of self.new) }
     {
         let step = self.line.hear(self.scanner.told(byte));
         self.scanner.take(byte);
@@ -223,6 +228,7 @@ impl<const N: usize> ReceiverOf<N> {
             result.step self.new }
         ensures spare { (r : ReceiverState) → IsIn N self.old r →
             SpareAfter self.old.spare self.new.spare (on_bytes N bytes.now r).step.taken }
+        ensures room { KeepsRoom result.step.note (room_of self.old) (room_of self.new) }
 
         // What is told without a state: some bytes are heard, and all of them where the step is quiet.
         ensures bound { result.count ≤ length bytes.now }
@@ -252,6 +258,7 @@ impl<const N: usize> ReceiverOf<N> {
         ensures bound { result.count ≤ length bytes.now }
         ensures front { (r : ReceiverState) → IsIn N self.old r →
             HearsFront N bytes.now r self.old.spare result self.new }
+        ensures room { KeepsRoom result.step.note (room_of self.old) (room_of self.new) }
     {
         let (count, frame) = self.scanner.scan(bytes);
         if count == 0 {

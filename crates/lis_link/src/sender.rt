@@ -351,6 +351,7 @@ impl<const N: usize, T: SessionTexts> SenderOver<N, T> {
 }
 
 /// The first text that is no link text.
+#[tactic(auto, using(crate::proofs::StartLaws::bad_text_here, crate::proofs::StartLaws::bad_text_behind))]
 fn bad_text<T: SessionTexts>(texts: &T) -> Option<StartFault>
     ensures { result ≡ bad_text 0 (T.texts texts.now) }
 {

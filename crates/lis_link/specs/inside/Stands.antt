@@ -1,9 +1,10 @@
 -- What a receiver of the program stands for: it counts the frames that it accepted and keeps the held text alone.
-use Rattle.std.specs.Prelude.{◌≡◌, ◌≢◌, ℕ, ◌+◌, ◌<◌, ◌≤◌, false, List, length, take, drop, Option, None, Some}
+use Rattle.std.specs.Prelude.{◌≡◌, ◌≢◌, ⊤, ℕ, ◌+◌, ◌<◌, ◌≤◌, false, List, length, take, drop, Option, None, Some}
 use Rattle.lis_text.specs.Control.{ACK, NAK}
 use Rattle.lis_frame.specs.Frame.{FrameContent}
 use Rattle.lis_frame.specs.Scanner.{StandsFor}
 use Rattle.lis_link.specs.declared.receiver.Hearing.{Hearing}
+use Rattle.lis_link.specs.declared.receiver.Note.{Note}
 use Rattle.lis_link.specs.declared.receiver.Note.TheVariants.{Accepted, OutOfMemory, Quiet}
 use Rattle.lis_link.specs.declared.receiver.Step.{Step}
 use Rattle.lis_link.specs.Joining.{completed, held_with}
@@ -48,6 +49,19 @@ pub record RefusesFrame (limit spare : ℕ) (step : ReceiverStep) (r : ReceiverS
 abbrev pub SpareAfter : ℕ → ℕ → Option FrameContent → Type 0
 SpareAfter before after None = before ≤ after
 SpareAfter before after (Some frame) = frame.last ≡ false → before ≤ after + length frame.text
+
+-- the bytes of text for which there is memory, held or spare
+abbrev pub room_of : Kept → ℕ
+room_of kept = length kept.held + kept.spare
+
+abbrev pub room_in : KeptLine → ℕ
+room_in line = length line.held + line.spare
+
+-- it stays where no frame is accepted; where memory was refused it is no less
+abbrev pub KeepsRoom : Note → ℕ → ℕ → Type 0
+KeepsRoom (Accepted number) before after = ⊤
+KeepsRoom OutOfMemory before after = before ≤ after
+KeepsRoom note before after = after ≡ before
 
 -- a frame was taken: what is held and handed out, and that nothing else but the count has changed
 pub record IsTaken (old : KeptLine) (frame : FrameContent) (number : ℕ) (result : Step) (new : KeptLine) : Type 0 where

@@ -1,7 +1,7 @@
 //! The line as a receiver has it: all of its state but the scanner. It answers what the scanner tells.
 
-ghost use Rattle.std.specs.Prelude.{◌≡◌, ◌≢◌, ◌≤◌, ◌<◌, ◌+◌, ◌^◌, ℕ, length, [], IsTrue, OnOk, None, Some, false};
-ghost use Rattle.std.specs.Prelude.{◌&&◌, ◌==◌, ◌%◌, nat_lt};
+ghost use Rattle.std.specs.Prelude.{◌≡◌, ◌≢◌, ◌≤◌, ◌<◌, ◌+◌, ◌^◌, ℕ, length, [], IsTrue, OnOk, OnErr, None, Some};
+ghost use Rattle.std.specs.Prelude.{◌&&◌, ◌==◌, ◌%◌, false, nat_lt};
 ghost use Rattle.lis_text.specs.LinkText.{longest_text};
 ghost use Rattle.lis_frame.specs.Scanner.{Held, heard_signal};
 ghost use Rattle.lis_frame.specs.declared.scanner.SignalOf.TheVariants as Signals;
@@ -10,7 +10,7 @@ ghost use Rattle.lis_link.specs.declared.receiver.Note.TheVariants as Notes;
 ghost use Rattle.lis_link.specs.inside.Kept.{idle_line, kept_of};
 ghost use Rattle.lis_link.specs.Receiver.{ReceiverState, bid_with, judged_by, found_reply, heard_by, heard};
 ghost use Rattle.lis_link.specs.Receiver.{on_receiver_timer};
-ghost use Rattle.lis_link.specs.inside.Stands.{IsIn, Makes, RefusesFrame, IsTaken, SpareAfter};
+ghost use Rattle.lis_link.specs.inside.Stands.{IsIn, Makes, RefusesFrame, IsTaken, SpareAfter, KeepsRoom, room_in};
 
 use crate::receiver::{MOST_FRAMES, Note, Readiness, Step};
 use lis_frame::{FrameFault, Heard, LentFrame};
@@ -105,6 +105,7 @@ impl Line {
     pub(crate) fn restart(&mut self)
         ensures line { self.new ≡ record idle_line { accepted = self.old.accepted; spare = self.new.spare } }
         ensures spare { self.old.spare ≤ self.new.spare }
+        ensures room { room_in self.new ≡ room_in self.old }
     {
         self.close();
         self.readiness = Readiness::Ready;
@@ -115,6 +116,7 @@ impl Line {
     pub(crate) fn reserve(&mut self, bytes: u64) -> Result<(), AllocError>
         requires { bytes ≤ longest_text }
         ensures ok { OnOk result (bytes ≤ self.new.spare) }
+        ensures refused { OnErr result (self.old.spare < bytes) }
         ensures line { self.new ≡ record self.old { spare = self.new.spare } }
         ensures spare { self.old.spare ≤ self.new.spare }
     {
@@ -138,6 +140,7 @@ impl Line {
         ensures step { (limit : ℕ) (scanner : Held) (r : ReceiverState) → IsIn limit (kept_of self.old scanner) r →
             Makes limit (on_receiver_timer r) result (kept_of self.new scanner) }
         ensures spare { self.old.spare ≤ self.new.spare }
+        ensures room { room_in self.new ≡ room_in self.old }
     {
         if !self.is_open {
             return Step::of(None, Note::Quiet);
@@ -150,6 +153,7 @@ impl Line {
     fn close(&mut self)
         ensures line { self.new ≡ record self.old { is_open = false; held = []; spare = self.new.spare } }
         ensures spare { self.old.spare ≤ self.new.spare }
+        ensures room { self.new.spare ≡ room_in self.old }
     {
         self.is_open = false;
         self.held.clear();
@@ -170,6 +174,7 @@ impl Line {
             (kept_of self.new scanner) }
         ensures spare { (limit : ℕ) (scanner : Held) (r : ReceiverState) → IsIn limit (kept_of self.old scanner) r →
             SpareAfter self.old.spare self.new.spare (heard {limit = limit} (heard_signal told.entry) r).taken }
+        ensures room { KeepsRoom result.note (room_in self.old) (room_in self.new) }
     {
         match told {
             None => Step::of(None, Note::Quiet),
@@ -186,6 +191,7 @@ impl Line {
             Makes limit (bid_with r.readiness r) result (kept_of self.new scanner) }
         ensures note { result.note ≢ Notes.OutOfMemory }
         ensures spare { self.old.spare ≤ self.new.spare }
+        ensures room { KeepsRoom result.note (room_in self.old) (room_in self.new) }
     {
         self.close();
         match self.readiness {
@@ -208,6 +214,7 @@ impl Line {
             Makes limit (heard_by {limit = limit} r.is_open Signals.Eot r) result (kept_of self.new scanner) }
         ensures note { result.note ≢ Notes.OutOfMemory }
         ensures spare { self.old.spare ≤ self.new.spare }
+        ensures room { KeepsRoom result.note (room_in self.old) (room_in self.new) }
     {
         if !self.is_open {
             return Step::of(None, Note::Quiet);
@@ -222,6 +229,7 @@ impl Line {
             Makes limit (heard_by {limit = limit} r.is_open (Signals.Bad fault) r) result (kept_of self.new scanner) }
         ensures note { result.note ≢ Notes.OutOfMemory }
         ensures spare { self.old.spare ≤ self.new.spare }
+        ensures room { KeepsRoom result.note (room_in self.old) (room_in self.new) }
     {
         if !self.is_open {
             return Step::of(None, Note::Quiet);
@@ -243,6 +251,7 @@ impl Line {
         ensures spare { (limit : ℕ) (scanner : Held) (r : ReceiverState) → IsIn limit (kept_of self.old scanner) r →
             SpareAfter self.old.spare self.new.spare (heard_by {limit = limit} r.is_open (Signals.Good frame.now)
             r).taken }
+        ensures room { KeepsRoom result.note (room_in self.old) (room_in self.new) }
     {
         if !self.is_open {
             return Step::of(None, Note::Quiet);
@@ -264,6 +273,7 @@ impl Line {
             × (result.reply ≡ Some NAK) × (result.message ≡ None)
             × (self.old.spare ≤ self.new.spare) × (self.new ≡ record self.old { spare = self.new.spare }) }
         ensures spare { frame.now.last ≡ false → self.old.spare ≤ self.new.spare + length frame.now.text }
+        ensures room { KeepsRoom result.note (room_in self.old) (room_in self.new) }
     {
         if let Err(_) = self.held.extend_from_slice(frame.text()) {
             return Step::of(Some(NAK), Note::OutOfMemory);

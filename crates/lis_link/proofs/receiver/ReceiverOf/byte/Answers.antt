@@ -10,21 +10,3 @@ returns-clause-step g c r is_in fine =
     c.self.view_is is_in (c.take.ensures.after r.past was.stream_is) in
     rw (c.told.ensures.signal r.past was.stream_is) at
     (c.hear-step.ensures.step g.row.N c.take.new.self (with_heard (c.args.byte ∷ []) r) here fine)
-
-pub returns-clause-refused : goal.returns-clause-refused
-returns-clause-refused g c r is_in refused =
-    let was = rw (← c.self.view_is) at is_in in
-    let here = beside g.row.N c.self.inside.line c.self.inside.scanner c.take.new.self _ r (c.args.byte ∷ [])
-    c.self.view_is is_in (c.take.ensures.after r.past was.stream_is) in
-    rw (← c.self.view_is)
-    (rw (c.told.ensures.signal r.past was.stream_is) at
-    (c.hear-step.ensures.refused g.row.N c.take.new.self (with_heard (c.args.byte ∷ []) r) here refused))
-
-pub returns-clause-spare : goal.returns-clause-spare
-returns-clause-spare g c r is_in =
-    let was = rw (← c.self.view_is) at is_in in
-    let here = beside g.row.N c.self.inside.line c.self.inside.scanner c.take.new.self _ r (c.args.byte ∷ [])
-    c.self.view_is is_in (c.take.ensures.after r.past was.stream_is) in
-    rw (← c.self.view_is)
-    (rw (c.told.ensures.signal r.past was.stream_is) at
-    (c.hear-step.ensures.spare g.row.N c.take.new.self (with_heard (c.args.byte ∷ []) r) here))

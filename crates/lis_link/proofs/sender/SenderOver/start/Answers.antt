@@ -1,5 +1,4 @@
-use Rattle.std.proofs.Common.{ap, arith, refl, sym, ◌∙◌}
-use Rattle.lis_link.specs.Sender.{started}
+use Rattle.std.proofs.Common.{arith, sym, ◌∙◌}
 use Rattle.lis_link.proofs.StartLaws.{faultless-start}
 use Rattle.lis_link.proofs.SenderLaws.{started_sender}
 use Rattle.lis_link.proofs.sender.SenderOver.start.Goals as goal
@@ -20,6 +19,3 @@ invariant_of-self g c =
     started_sender g.row.N c.new.result texts c.self.invariant.is_limit
     (faultless-start c.args.self.now.phase texts (sym c.start_fault.ensures ∙ c.in_default.is))
     c.new.ensures.few c.new.ensures.texts c.new.ensures.left
-
-pub returns : goal.returns
-returns g c = (sym c.start_fault.ensures ∙ c.in_default.is, refl, ap (started g.row.N) c.new.ensures.texts)

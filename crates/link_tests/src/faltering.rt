@@ -1,0 +1,147 @@
+//! Ports over a reader or a writer that fails at one call and works again behind it: a call that was made again would
+//! be seen to succeed.
+
+use lis_port::{Buffered, Faltering, Once, ReadAhead, Reading, Sink, Source, Writing, read_sent};
+use std::io::{BufReader, BufWriter, ErrorKind, Read, Write};
+
+#[test]
+fn a_faltering_reader_fails_at_one_read(rt: HostRuntime) {
+    let mut buffer = [0; 2];
+    let mut reader = Faltering::new(b"abc".as_slice(), 1, ErrorKind::TimedOut);
+    assert!(rt; matches!(reader.read(&mut buffer), Ok(2)));
+    assert!(rt; buffer.as_slice() == b"ab".as_slice());
+    let failed = reader.read(&mut buffer);
+    assert!(rt; failed.is_err_and(|error| error.kind() == ErrorKind::TimedOut));
+    assert!(rt; matches!(reader.read(&mut buffer), Ok(1)));
+    assert!(rt; buffer.as_slice() == b"cb".as_slice());
+    assert!(rt; matches!(reader.read(&mut buffer), Ok(0)));
+    assert!(rt; reader.calls() == 4);
+}
+
+#[test]
+fn a_faltering_writer_fails_at_one_call(rt: HostRuntime) {
+    let mut room = [0; 4];
+    let mut writer = Faltering::new(room.as_mut_slice(), 0, ErrorKind::BrokenPipe);
+    let failed = writer.write(b"ab");
+    assert!(rt; failed.is_err_and(|error| error.kind() == ErrorKind::BrokenPipe));
+    assert!(rt; matches!(writer.write(b"cd"), Ok(2)));
+    assert!(rt; writer.flush().is_ok());
+    assert!(rt; writer.calls() == 3);
+    assert!(rt; room.as_slice() == b"cd\0\0".as_slice());
+}
+
+#[test]
+fn a_faltering_writer_fails_at_a_flush(rt: HostRuntime) {
+    let mut room = [0; 4];
+    let mut writer = Faltering::new(room.as_mut_slice(), 1, ErrorKind::BrokenPipe);
+    assert!(rt; matches!(writer.write(b"ab"), Ok(2)));
+    assert!(rt; writer.flush().is_err());
+    assert!(rt; matches!(writer.write(b"cd"), Ok(2)));
+    assert!(rt; writer.calls() == 3);
+    assert!(rt; room.as_slice() == b"abcd".as_slice());
+}
+
+#[test]
+fn an_interrupted_write_is_told_once(rt: HostRuntime) {
+    let mut room = [0; 4];
+    let mut writer = Once::new(Faltering::new(room.as_mut_slice(), 0, ErrorKind::Interrupted));
+    let failed = writer.write(b"ab");
+    assert!(rt; failed.is_err_and(|error| error.kind() == ErrorKind::Other));
+    assert!(rt; matches!(writer.write(b"cd"), Ok(2)));
+    assert!(rt; matches!(writer.write(b"efg"), Ok(2)));
+    assert!(rt; room.as_slice() == b"cdef".as_slice());
+}
+
+#[test]
+fn a_flush_that_fails_is_told_once(rt: HostRuntime) {
+    let kinds = [
+        (ErrorKind::Interrupted, ErrorKind::Other),
+        (ErrorKind::BrokenPipe, ErrorKind::BrokenPipe),
+    ];
+    for (kind, told) in &kinds {
+        let mut room = [0; 4];
+        let mut writer = Once::new(Faltering::new(room.as_mut_slice(), 1, *kind));
+        assert!(rt; matches!(writer.write(b"ab"), Ok(2)));
+        let failed = writer.flush();
+        assert!(rt; failed.is_err_and(|error| error.kind() == *told));
+        assert!(rt; writer.flush().is_ok());
+    }
+}
+
+#[test]
+fn a_buffered_sink_fails_with_its_flush(rt: HostRuntime) {
+    // The first call of the writer is the write that a flush begins with, the second its flush.
+    for before in 0..2u32 {
+        let mut room = [0; 4];
+        let faltering = Faltering::new(room.as_mut_slice(), before, ErrorKind::Interrupted);
+        let writer = BufWriter::with_capacity(rt.alloc(), 8, Once::new(faltering));
+        let mut sink = Buffered::new(writer.expect(&rt, "memory"));
+        assert!(rt; !sink.failed());
+        assert!(rt; sink.write(b"abc") == Ok(3));
+        assert!(rt; !sink.failed());
+        assert!(rt; sink.flush().is_err());
+        assert!(rt; sink.failed());
+    }
+}
+
+#[test]
+fn a_sink_fails_where_its_writer_takes_nothing(rt: HostRuntime) {
+    let mut none = [0; 0];
+    let writer = BufWriter::with_capacity(rt.alloc(), 2, none.as_mut_slice());
+    let mut buffered = Buffered::new(writer.expect(&rt, "memory"));
+    assert!(rt; buffered.write(b"abc").is_err());
+    assert!(rt; buffered.failed());
+    let mut empty = [0; 0];
+    let mut sink = Writing::new(empty.as_mut_slice());
+    assert!(rt; sink.write(b"abc").is_err());
+    assert!(rt; sink.failed());
+}
+
+#[test]
+fn a_sink_tells_whether_its_flush_failed(rt: HostRuntime) {
+    let mut room = [0; 4];
+    let writer = Faltering::new(room.as_mut_slice(), 1, ErrorKind::BrokenPipe);
+    let mut sink = Writing::new(writer);
+    assert!(rt; sink.flush().is_ok() && !sink.failed());
+    assert!(rt; sink.flush().is_err() && sink.failed());
+}
+
+#[test]
+fn a_source_that_reads_ahead_reads_once(rt: HostRuntime) {
+    let mut buffer = [0; 8];
+    let faltering = Faltering::new(b"abc".as_slice(), 1, ErrorKind::Interrupted);
+    let reader = BufReader::with_capacity(rt.alloc(), 4, faltering);
+    let mut source = ReadAhead::new(reader.expect(&rt, "memory"));
+    assert!(rt; source.may_wait() && !source.failed() && !source.ended());
+    assert!(rt; source.read(&mut buffer) == Ok(3));
+    assert!(rt; source.may_wait() && !source.ended());
+    assert!(rt; source.read(&mut buffer).is_err());
+    assert!(rt; source.failed() && !source.ended());
+    assert!(rt; source.made() == 2);
+    assert!(rt; source.into_inner().get_ref().calls() == 2);
+}
+
+#[test]
+fn a_source_that_reads_ahead_tells_its_end(rt: HostRuntime) {
+    let mut buffer = [0; 2];
+    let reader = BufReader::with_capacity(rt.alloc(), 4, b"abc".as_slice());
+    let mut source = ReadAhead::new(reader.expect(&rt, "memory"));
+    assert!(rt; source.read(&mut buffer) == Ok(2));
+    assert!(rt; buffer.as_slice() == b"ab".as_slice());
+    assert!(rt; source.read(&mut buffer) == Ok(1));
+    assert!(rt; buffer.as_slice() == b"cb".as_slice());
+    assert!(rt; source.read(&mut buffer) == Ok(0));
+    assert!(rt; source.ended() && !source.failed());
+}
+
+#[test]
+fn a_read_behind_what_was_sent_is_made_once(rt: HostRuntime) {
+    let mut buffer = [0; 4];
+    let mut room = [0; 4];
+    let sink = Writing::new(room.as_mut_slice());
+    let faltering = Faltering::new(b"abc".as_slice(), 0, ErrorKind::Interrupted);
+    let mut source = Reading::new(faltering);
+    assert!(rt; read_sent(&mut source, &sink, &mut buffer).is_err());
+    assert!(rt; source.failed() && source.made() == 1);
+    assert!(rt; source.into_inner().calls() == 1);
+}
