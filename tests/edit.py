@@ -13,6 +13,7 @@ ROOT = os.path.dirname(os.path.dirname(os.path.abspath(__file__)))
 # What a copy of the crates for a trial leaves out.
 LEFT_OUT = ("out", "must-fail", "mutants", "harmless")
 PUBLIC = re.compile(r"^\s*pub (?:(?:const|unsafe|extern \"C\") )*fn (\w+)")
+NAME = r"\w+(?:::\w+)*"
 BLOCK = re.compile(r"^(?:unsafe )?(impl\b|pub trait )(.*)")
 
 
@@ -74,39 +75,49 @@ def copy_crates(to, also=()):
         shutil.copy(f"{ROOT}/{name}", to)
 
 
-def type_of(head):
-    """The type or trait of an impl's head, without paths and parameters."""
-    head = re.sub(r"\bwhere\b.*", "", head)
+def names_of(head):
+    """The trait of an impl's head, if it has one, and the type; without paths and parameters."""
     depth, bare = 0, ""
-    for place, letter in enumerate(head):
-        if letter == "<":
-            depth += 1
-        elif letter == ">" and head[place - 1] != "-":
-            depth -= 1
-        elif depth == 0:
-            bare += letter
-    is_trait_for = " for " in bare
-    names = re.findall(r"\w+", bare.rpartition(" for ")[2])
-    return None if is_trait_for or not names else names[0] if "::" not in bare else names[-1]
+    for place, letter in enumerate(re.sub(r"\bwhere\b.*", "", head)):
+        depth += (letter == "<") - (letter == ">" and head[place - 1] != "-")
+        bare += letter * (depth == 0 and letter != ">")
+    trait, is_for, of = bare.partition(" for ")
+    words = re.findall(NAME, of if is_for else trait)
+    last = lambda it: it.split("::")[-1]
+    return (last(re.findall(NAME, trait)[-1]) if is_for else None), (last(words[0]) if words else None)
 
 
-def public_functions(crate):
-    """The public functions of a crate as NAME, or TYPE::NAME for a method; those of a public trait too."""
-    found = set()
-    for path in glob.glob(f"{ROOT}/crates/{crate}/src/**/*.rt", recursive=True):
-        with open(path, encoding="utf-8") as file:
-            lines = file.read().splitlines()
-        block, is_trait = None, False
+class Functions:
+    """The functions of a crate that others can call: `public`, as NAME or TYPE::NAME, those of its traits too, and of each
+    method of a trait the names by which its implementations are called."""
+
+    def __init__(self, crate):
+        self.public, self.implemented = set(), {}
+        for path in glob.glob(f"{ROOT}/crates/{crate}/src/**/*.rt", recursive=True):
+            with open(path, encoding="utf-8") as file:
+                self.read(file.read().splitlines())
+
+    def read(self, lines):
+        kind, trait, of = None, None, None
         for line in lines:
             if line and not line[0].isspace() and line[0] not in ")}":
                 head = BLOCK.match(line)
-                block, is_trait = (type_of(head[2]), head[1] != "impl") if head else (None, False)
-                is_block = bool(head)
-            function = PUBLIC.match(line)
-            if function and (not line[0].isspace() or is_block and block):
-                found.add(f"{block}::{function[1]}" if line[0].isspace() else function[1])
-            elif is_trait and block:
-                method = re.match(r"^    (?:unsafe )?fn (\w+)", line)
-                if method:
-                    found.add(f"{block}::{method[1]}")
-    return found
+                kind = head and ("impl" if head[1] == "impl" else "trait")
+                trait, of = names_of(head[2]) if head else (None, None)
+            function, method = PUBLIC.match(line), re.match(r"^    (?:unsafe )?fn (\w+)", line)
+            if function and not line[0].isspace():
+                self.public.add(function[1])
+            elif function and kind == "impl" and of:
+                self.public.add(f"{of}::{function[1]}")
+            elif method and kind == "trait":
+                self.public.add(f"{of}::{method[1]}")
+            elif method and kind == "impl" and trait:
+                self.implemented.setdefault(f"{trait}::{method[1]}", set()).add(f"{of}::{method[1]}")
+
+    def known(self):
+        """All names by which a mutant may name a call."""
+        return self.public.union(*self.implemented.values())
+
+    def unnamed(self, named):
+        """The public functions that are named neither themselves nor, for a trait's method, by an implementation."""
+        return sorted(it for it in self.public - named if not self.implemented.get(it, set()) & named)
