@@ -1,4 +1,5 @@
 """Logs of tools: each gives the capture of the one session that all were made of."""
+import base64
 import glob
 import json
 import os
@@ -157,7 +158,9 @@ def of_round_trips(count):
     """Random sessions written in the form of tools come back as they were."""
     chance = random.Random(7)
     for trial in range(12):
-        pieces = [(chance.choice("<>"), 0.001 * number, bytes(chance.choices(range(256), k=chance.randrange(1, 70))))
+        # Letters that look like a dump's own digits and columns are in half of them.
+        letters = range(256) if trial % 2 else b"0123456789ABCDEFabcdef ..|<>:-x\r\n"
+        pieces = [(chance.choice("<>"), 0.001 * number, bytes(chance.choices(letters, k=chance.randrange(1, 70))))
                   for number in range(12)]
         pieces.insert(0, (">", 0.0, b"\x05\x021H|\\^&\r\x03E5\r\n"))
         pieces = [(mark, time, data if mark == ">" else data.replace(b"\x05", b"e").replace(b"\x02", b"s")) for mark, time, data
@@ -191,6 +194,7 @@ def written(pieces):
         f"[20/11/2026 09:15:02] {'Read' if mark == '>' else 'Written'} data (COM3)\n" + "".join(
             f"\t{data[at:at + 16].hex(' '):50} {shown(data[at:at + 16])}\n" for at in range(0, len(data), 16))
         for mark, _, data in rows).encode()
+    yield from written_in_rows(rows)
     yield "json", "".join(json.dumps({"dir": "rx" if mark == ">" else "tx", "data": data.hex()}) + "\n" for mark, _, data in rows).encode()
     yield "pcapng", field_packets.pcapng(field_packets.segments(pieces))
 
@@ -212,3 +216,33 @@ def of_bytes(count):
     count.has("text around each reply", lislab("capture", count.path("log", b"RX: a <ENQ>\nTX: b <ACK>\n")).error, "text around it")
     swapped = lislab("capture", SESSION, "--swap").text
     count.same("a capture is turned round", swapped, wanted.replace(">", "x").replace("<", ">").replace("x", "<"))
+
+
+def written_in_rows(rows):
+    """The same as tools with rows of 16 bytes write it, and others."""
+    def dump(data, form, width=16):
+        return "".join(form.format(data[at:at + width].hex(" "), shown(data[at:at + width])) + "\n"
+                       for at in range(0, len(data), width))
+
+    yield "free-serial-port-monitor", "".join(
+        f"{'Answer' if mark == '>' else 'Request'}: 11/20/2026 9:15:02 AM.00012 (+0.0010 seconds)\n\n"
+        + dump(data, " {0:50}{1}") + "\n" for mark, _, data in rows).encode()
+    yield "jpnevulator", "".join(f"2026-11-20 {stamp}: /dev/ttyS{0 if mark == '>' else 1}\n" + dump(data, "{0:47}\t{1}")
+                                 for mark, stamp, data in rows).encode()
+    yield "ngrep", "".join(
+        f"T 10.0.0.{1 if mark == '>' else 2}:1 -> 10.0.0.{2 if mark == '>' else 1}:1 [AP] #4\n" + dump(data, "  {0:52}{1}") + "#\n"
+        for mark, _, data in rows).encode()
+    yield "docklight", "".join(f"20.11.2026 {stamp} [{'RX' if mark == '>' else 'TX'}] - {data.hex(' ').upper()} \n\n"
+                               for mark, stamp, data in rows).encode()
+    yield "portmon", "".join(f"{at}\t0.1\tlis.exe\tIRP_MJ_{'READ' if mark == '>' else 'WRITE'}\tSerial0\tSUCCESS\tLength {len(data)}: "
+                             f"{data.hex(' ').upper()} \n" for at, (mark, _, data) in enumerate(rows)).encode()
+    yield "slsnif", "".join(f"{'Device' if mark == '>' else 'Host  '} --> " + "".join(f"{chr(byte) if 32 < byte < 127 else '.'}({byte:03})"
+                            for byte in data) + "\n" for mark, _, data in rows).encode()
+    yield "C arrays", "".join(f"char peer{0 if mark == '>' else 1}_{at}[] = {{ /* Packet {at} */\n"
+                              + ",\n".join(", ".join(f"0x{byte:02x}" for byte in data[cut:cut + 8]) for cut in range(0, len(data), 8))
+                              + " };\n" for at, (mark, _, data) in enumerate(rows)).encode()
+    yield "YAML", "".join(f"# Packet {at}\npeer{0 if mark == '>' else 1}_{at}: !!binary |\n"
+                          + "".join(f"  {line}\n" for line in base64.encodebytes(data).decode().split())
+                          for at, (mark, _, data) in enumerate(rows)).encode()
+    yield "escaped", "".join(f"{stamp} {'recv' if mark == '>' else 'send'}: \"{''.join(f'{chr(92)}x{byte:02x}' for byte in data)}\"\n"
+                             for mark, stamp, data in rows).encode()

@@ -151,13 +151,20 @@ def hex_row(text: str, most: int = 64) -> Optional[bytes]:
         if not re.match(r"(?:0[xX])?(?:[0-9A-Fa-f]{2})+,?$", word):
             break
         pairs.append(len(bytes.fromhex(re.sub("^0[xX]|,$", "", word))))
-    for count in range(len(pairs), 0, -1):
-        data = bytes.fromhex("".join(re.sub("^0[xX]|,$", "", word) for word, _ in tokens[:count]))
-        if count == len(tokens):
-            return data
+    def front(count: int) -> bytes:
+        return bytes.fromhex("".join(re.sub("^0[xX]|,$", "", word) for word, _ in tokens[:count]))
+
+    # A column of text may look like digits: behind a gap it is text, if it shows the bytes before it.
+    for count in range(min(len(pairs), len(tokens) - 1), 0, -1):
         rest = text[tokens[count - 1][1]:]
-        if len(data) <= most and rest[:1].isspace() and _shows(rest, data):
-            return data
+        if re.match(r"\s{2}|\t", rest) and sum(pairs[:count]) <= most and _shows(rest, front(count)):
+            return front(count)
+    if pairs and len(pairs) == len(tokens):
+        return front(len(pairs))
+    for count in range(len(pairs), 0, -1):
+        rest = text[tokens[count - 1][1]:]
+        if rest[:1].isspace() and sum(pairs[:count]) <= most and _shows(rest, front(count)):
+            return front(count)
     return None
 
 
