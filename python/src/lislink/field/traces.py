@@ -137,9 +137,7 @@ def _kind(text: str) -> str:
 def traces(text: str) -> Log:
     """A log with a line for each piece."""
     if re.match(r"\s*<(?:!doctype|html)", text, re.I):
-        text = html.unescape(re.sub(r"<br\s*/?>|</p>|</div>|</tr>", "\n", re.sub(r"\n", " ", text), flags=re.I)
-                             if "<br" in text.lower() else re.sub(r"<(?!(?:%s)>)[^>]*>" % _NAMES, "", text))
-        text = re.sub(r"<(?!(?:%s)>)/?\w[^>]*>" % _NAMES, "", text)
+        text = _of_html(text)
     kind = _kind(text)
     grammar = next(one for one in GRAMMARS if one.name == kind)
     lines = text.splitlines()
@@ -170,6 +168,13 @@ def traces(text: str) -> Log:
         _no_text_around(pieces)
         pieces = _with_line_ends(pieces, remarks)
     return Log("trace-" + kind, pieces, remarks)
+
+
+def _of_html(text: str) -> str:
+    """The text of a page: Docklight and others write one. Words such as <STX> are no tags."""
+    text = re.sub(r"<br\s*/?>|</(?:p|div|tr|pre|li)>", "\n", text, flags=re.I)
+    text = re.sub(r"</t[dh]>", "\t", text, flags=re.I)
+    return html.unescape(re.sub(r"<(?!(?:%s)>)[/!]?\w[^>]*>" % _NAMES, "", text)).replace("\xa0", " ")
 
 
 def _no_text_around(pieces: List[Piece]) -> None:
