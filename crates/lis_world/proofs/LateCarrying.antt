@@ -19,12 +19,14 @@ use Rattle.lis_world.specs.Progress.{Round, undisturbed, without_room, bad_frame
 use Rattle.lis_world.specs.Progress.{rounds_events, session_events, IsCarried, AreSendable, quiet_events}
 use Rattle.lis_world.specs.Progress.{undisturbed_rounds, done_session}
 use Rattle.lis_world.specs.Late.{happens_late, after_late_event, runs_late, late_world, has_no_unit, has_no_reply}
-use Rattle.lis_world.specs.Late.{is_empty, is_quiet, only_endings, is_answered, reply_may_come}
-use Rattle.lis_world.specs.LateRecovery.{renewal, CarriesOnNewLine}
+use Rattle.lis_world.specs.Late.{is_empty, is_quiet, only_endings, is_answered, reply_may_come, at_any_time}
+use Rattle.lis_world.specs.LateRecovery.{renewal, CarriesAfter, CarriesOnNewLine, CarriesOnNewLines}
 use Rattle.lis_world.proofs.Invariant.{Holds}
 use Rattle.lis_world.proofs.Carrying.{carried, runs_quietly}
 use Rattle.lis_world.proofs.Recovering.{restarted}
 use Rattle.lis_world.proofs.LateSafety.{HoldsLate, from_quiet, StartsSafely, runs_late_hold, new_late}
+use Rattle.lis_world.proofs.LateSafety.{empty_starts}
+use Rattle.lis_world.proofs.LateDiscipline.{holds_in_time}
 
 -- events that do the same on both links
 abbrev IsPlain : (World → Bool) → ℕ → Event → Type 0
@@ -84,16 +86,17 @@ module _ (may_start : World → Bool) (limit : ℕ) where
       (cond-true (may_start w) (after_event limit (Start texts) w) w may)
       ∙ plain_runs left (after_event limit (Start texts) w) plain
 
-  pub carries_on_new_line :
-      IsLimit limit
-      → StartsSafely limit may_start
+  carries_after :
+      (events : List LateEvent)
+      → IsLimit limit
+      → HoldsLate limit (late_world may_start limit events)
       → ((w : World) → is_empty w ≡ true → may_start w ≡ true)
-      → CarriesOnNewLine may_start limit
-  carries_on_new_line is_limit safely starts events texts rounds are enough =
+      → CarriesAfter may_start limit events
+  carries_after events is_limit holds_before starts texts rounds are enough =
       let w : World = late_world may_start limit events in
       let v : World = runs_late may_start limit renewal w in
-      let late : HoldsLate limit v = runs_late_hold may_start limit renewal w is_limit safely
-      (runs_late_hold may_start limit events new_world is_limit safely (new_late limit)) in
+      let late : HoldsLate limit v =
+      runs_late_hold is_empty limit renewal w is_limit (empty_starts limit) holds_before in
       let neutral : v.sender.phase ≡ Neutral = restarted w.sender.phase w.sender refl in
       let holds : Holds limit v = from_quiet limit v late neutral (record { no_reply = refl; endings = tt }) in
       let before : late_world may_start limit (events ++ renewal) ≡ v = late-append events renewal new_world in
@@ -108,6 +111,20 @@ module _ (may_start : World → Bool) (limit : ℕ) where
       subst (λ a. IsCarried limit texts a
       (late_world may_start limit ((events ++ renewal) ++ map Happens (session_events texts rounds)))) (sym before)
       (subst (IsCarried limit texts v) (sym after) result)
+
+pub carries_on_new_line :
+    (may_start : World → Bool) (limit : ℕ)
+    → IsLimit limit
+    → StartsSafely limit may_start
+    → ((w : World) → is_empty w ≡ true → may_start w ≡ true)
+    → CarriesOnNewLine may_start limit
+carries_on_new_line may_start limit is_limit safely starts events =
+    carries_after may_start limit events is_limit
+    (runs_late_hold may_start limit events new_world is_limit safely (new_late limit)) starts
+
+pub carries_on_new_lines : (limit : ℕ) → IsLimit limit → CarriesOnNewLines limit
+carries_on_new_lines limit is_limit events in_time =
+    carries_after at_any_time limit events is_limit (holds_in_time limit events is_limit in_time) (λ w empty. refl)
 
 -- ---- each rule lets a session start on an empty link
 

@@ -185,8 +185,15 @@ runs_in_time limit (event ∷ events) w is_new is_limit h new in_time =
     runs_in_time limit events (after_late_event at_any_time limit event w) (is_new_after event w is_new) is_limit
     after.0 after.1 in_time.1
 
+pub holds_in_time :
+    (limit : ℕ) (events : List LateEvent)
+    → IsLimit limit
+    → StartInTime limit events new_world true
+    → HoldsLate limit (late_world at_any_time limit events)
+holds_in_time limit events is_limit in_time =
+    runs_in_time limit events new_world true is_limit (new_late limit)
+    (λ e. record { neutral = refl; no_unit = refl; no_reply = refl }) in_time
+
 pub safe_on_new_lines : (limit : ℕ) → IsLimit limit → SafeOnNewLines limit
 safe_on_new_lines limit is_limit events in_time =
-    safe_from_late limit (late_world at_any_time limit events)
-    (runs_in_time limit events new_world true is_limit (new_late limit)
-    (λ e. record { neutral = refl; no_unit = refl; no_reply = refl }) in_time)
+    safe_from_late limit (late_world at_any_time limit events) (holds_in_time limit events is_limit in_time)

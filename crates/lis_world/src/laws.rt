@@ -5,7 +5,7 @@ ghost use Rattle.lis_world.specs.Safe.{AlwaysSafe};
 ghost use Rattle.lis_world.specs.Late.{SafeWhere, UnsafeWhere, is_empty, is_quiet, is_answered};
 ghost use Rattle.lis_world.specs.Late.{at_any_time, has_no_reply, has_no_unit};
 ghost use Rattle.lis_world.specs.LateDiscipline.{SafeOnNewLines};
-ghost use Rattle.lis_world.specs.LateRecovery.{CarriesOnNewLine};
+ghost use Rattle.lis_world.specs.LateRecovery.{CarriesOnNewLine, CarriesOnNewLines};
 ghost use Rattle.lis_world.specs.Progress.{RunsQuietly, CarriesThrough};
 ghost use Rattle.lis_world.specs.Recovery.{OvercomesLoss, Recovers, RecoversQuietly};
 
@@ -95,13 +95,14 @@ pub fn recovers()
 {}
 
 /// No state of the two ends blocks a line that answers late for good: after whatever events, once the sender was
-/// restarted and the line is connected anew, a session is carried through if it has enough rounds. At every limit on a
-/// frame's text.
+/// restarted and the line is connected anew, a session is carried through if it has enough rounds. This holds under
+/// each of the rules by which sessions are safe. At every limit on a frame's text.
 pub fn carries_on_new_line_of<const N: usize>()
     requires { IsLimit N }
     ensures empty { CarriesOnNewLine is_empty N }
     ensures quiet { CarriesOnNewLine is_quiet N }
     ensures answered { CarriesOnNewLine is_answered N }
+    ensures new_line { CarriesOnNewLines N }
 {}
 
 /// The same with the usual limit on a frame's text.
@@ -109,6 +110,7 @@ pub fn carries_on_new_line()
     ensures empty { CarriesOnNewLine is_empty 240 }
     ensures quiet { CarriesOnNewLine is_quiet 240 }
     ensures answered { CarriesOnNewLine is_answered 240 }
+    ensures new_line { CarriesOnNewLines 240 }
 {}
 
 /// Where the sender awaits the reply to the one unit on the link, and that ENQ or frame is lost or comes as bytes that
