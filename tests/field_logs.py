@@ -89,6 +89,11 @@ def of_packets(count):
     ran = lislab("capture", twice)
     count.same("a second connection follows", ran.text, "capture 2\n" + wanted + "R\n" + wanted)
     count.same("the second connection alone", lislab("capture", twice, "--stream", "2").text, wanted)
+    noise = random.Random(3)
+    other = [(0.001 * at, field_packets.tcp(("10.0.0.9", 40000), ("10.0.0.8", 22), 5 + 900 * at, bytes(noise.choices(range(256), k=900))))
+             for at in range(300)]
+    mixed = count.path("mixed.pcap", field_packets.pcap(sorted(plain + other)))
+    count.same("among connections of other kinds", lislab("capture", mixed).text, wanted)
     both = count.path("both.pcap", field_packets.pcap(sorted(plain + [
         (time, packet.replace(b"\x0a\0\0\x01", b"\x0a\0\0\x07")) for time, packet in plain])))
     count.has("two lines at once", lislab("capture", both).error, "--stream 2: ")
@@ -112,6 +117,7 @@ def of_errors(count):
             ("a block that lacks a byte", b"> 2026/11/20 09:15:02.000012  length=2 from=0 to=1\n 05\n", "lacks"),
             ("a cut strace", b'1 read(5, "\\5", 4096) = 1\n1 read(5, "\\0021H|"..., 4096) = 40\n', "-s 4096"),
             ("a row that is missing", b"00000000  05 02 31\n00000010  48\n", "row is missing"),
+            ("two descriptors", b'1 read(5, "\\5", 9) = 1\n1 write(5, "\\6", 1) = 1\n1 read(6, "\\5", 9) = 1\n', "choose one by --fd"),
             ("a Portmon line that is cut", b"1\t0.1\ta.exe\tIRP_MJ_READ\tSerial0\tSUCCESS\tLength 3: 05 02\n", "Portmon"),
             ("an empty pcap", field_packets.pcap([]), "no TCP connection"),
             ("a capture of a bus", field_packets.pcap(field_packets.segments(timed_session())).replace(
@@ -130,6 +136,9 @@ def of_options(count):
     """The side of the analyzer, the timer, modes and times."""
     log = os.path.join(LOGS, "socat-x.txt")
     swapped = lislab("capture", log, "--swap").lines
+    elf = b'1 read(3, "\\177ELF\\2\\1\\1\\0\\5", 832) = 9\n'
+    strace = elf + bytes_of(os.path.join(LOGS, "strace.txt")) + elf.replace(b"3,", b"4,")
+    count.same("descriptors of other kinds", lislab("capture", count.path("log", strace)).text, bytes_of(SESSION).decode())
     count.same("--swap", swapped[:2], ["< 05", "> 06"])
     count.same("--analyzer-side", lislab("capture", log, "--analyzer-side", "<").lines, swapped)
     count.has("--analyzer-side of none", lislab("capture", log, "--analyzer-side", "x").error, "isn't one of the two sides")

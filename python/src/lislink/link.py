@@ -15,7 +15,6 @@ from ._checks import as_bytes, as_flag, as_number
 REPLY, BUSY, CONTENTION, RECEIVER = 15, 10, 1, 30
 #: The most bytes of a frame's text.
 FRAME_TEXT = 240
-_SIZE_MOST = (1 << 63) - 1
 
 
 class Status(enum.IntEnum):

@@ -4,7 +4,7 @@ import itertools
 from typing import Dict, Iterator, List, NamedTuple, Optional, Tuple, Union
 
 from ..capture import Capture, Line
-from ..link import FrameFault, Kind, Note, Readiness, Receiver, Scanner, Signal, Step
+from ..link import Kind, Note, Readiness, Receiver, Scanner, Signal, Step
 from ..message import Fault, Found, read_all
 from .faults import Cause, Sum, cause_of_frame, checksum_of, words
 from .log import SECOND
@@ -279,6 +279,3 @@ class Ladder:
             "findings": sum(len(one.message.findings()) for one in found),
             "rejected messages": len(self.messages) - len(found),
         }
-
-
-__all__ = ["Cause", "FrameFault", "Ladder", "Look", "Row", "Text"]

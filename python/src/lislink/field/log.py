@@ -36,6 +36,20 @@ class Log(NamedTuple):
 
 
 _MONTHS = {name: number for number, name in enumerate("jan feb mar apr may jun jul aug sep oct nov dec".split(), 1)}
+_FRAME = re.compile(rb"\x02[0-7][\x20-\xff\t\r]*[\x03\x17][0-9A-Fa-f]{2}\r")
+
+
+def likeness(pieces: List[Piece]) -> int:
+    """How much pieces look like this link: 2 if a piece is ENQ alone or a side sends a frame, 1 if ENQ or STX is among the
+    bytes, as it is in any binary data, and 0 otherwise."""
+    if any(piece.data == b"\x05" for piece in pieces):
+        return 2
+    sides = {piece.side for piece in pieces}
+    if any(_FRAME.search(b"".join(piece.data for piece in pieces if piece.side == side)) for side in sides):
+        return 2
+    return int(any(byte in piece.data for piece in pieces for byte in (5, 2)))
+
+
 _CLOCK = r"(?P<h>\d{1,2}):(?P<m>\d\d):(?P<s>\d\d)(?:\s?(?P<ap>[AaPp][Mm]))?(?:[.,:](?P<f>\d{1,9}))?(?:\s?(?P<ap2>[AaPp][Mm]))?(?!:?\d)"
 _DATES = [re.compile(pattern + _CLOCK) for pattern in (
     r"(?P<y>\d{4})[-/.](?P<mo>\d{1,2})[-/.](?P<d>\d{1,2})[T ,;]*", r"(?P<d>\d{1,2})[-/.](?P<mo>\d{1,2})[-/.](?P<y>\d{4})[T ,;]*",
@@ -127,7 +141,6 @@ CONTROL = {name: number for number, name in enumerate(
     """NUL SOH STX ETX EOT ENQ ACK BEL BS HT LF VT FF CR SO SI DLE DC1 DC2 DC3 DC4 NAK SYN ETB CAN EM SUB ESC FS GS RS
     US""".split())}
 CONTROL.update({"TAB": 9, "NL": 10, "DEL": 127, "XON": 17, "XOFF": 19, "SP": 32, "SPACE": 32})
-_HEX_PAIRS = re.compile(r"(?:0[xX])?[0-9A-Fa-f]{2}")
 
 
 def ascii_fits(text: str, data: bytes) -> bool:

@@ -1,7 +1,7 @@
 """What looks wrong in a session, even where each rule is kept: in words, with the command that helps."""
 import re
 from collections import Counter
-from typing import Callable, Iterator, List, Optional
+from typing import Iterator, List, Optional
 
 from ..link import Note
 from ..message import Fault, Found
@@ -327,6 +327,3 @@ def _sequence(ladder: Ladder) -> Iterator[Look]:
     if count:
         yield Look("sequence", "warn", f"{_many(count, 'sequence number')} of records isn't the position: not counted from 1, or not in order",
                    "readers that rely on it may mix results up", [])
-
-
-Looker = Callable[[Ladder], Iterator[Look]]

@@ -1,6 +1,6 @@
 """Record files of dialects made readable: each change is asked for by its own option and told with its line."""
 import re
-from typing import Callable, Dict, Iterator, List, NamedTuple, Set, Tuple
+from typing import Dict, Iterator, List, NamedTuple, Set, Tuple
 
 from ..message import Fault, read_all
 from .faults import cause_of_record, code_of, words
@@ -269,6 +269,3 @@ def explain(data: bytes) -> Iterator[str]:
     else:
         yield "still rejected with these options:" if needed else "no option mends it without a loss:"
         yield from ("  " + line for line in left)
-
-
-Change = Callable[[Work, List[Record]], Iterator[Record]]

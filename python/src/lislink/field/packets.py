@@ -4,7 +4,7 @@ import re
 import struct
 from typing import Dict, Iterator, List, NamedTuple, Optional, Tuple
 
-from .log import NEW, SECOND, Log, LogError, Piece, find_time
+from .log import NEW, SECOND, Log, LogError, Piece, find_time, likeness
 
 _PCAP = {b"\xd4\xc3\xb2\xa1": ("<", 1000), b"\xa1\xb2\xc3\xd4": (">", 1000), b"\x4d\x3c\xb2\xa1": ("<", 1),
          b"\xa1\xb2\x3c\x4d": (">", 1), b"\x34\xcd\xb2\xa1": ("<", 1000), b"\xa1\xb2\xcd\x34": (">", 1000)}
@@ -242,10 +242,6 @@ class Connection:
         """How many bytes wait for ones that aren't in the file."""
         return sum(len(data) for waiting in self.waiting.values() for _, data in waiting)
 
-    def has_link_bytes(self) -> bool:
-        """Whether ENQ or STX was sent."""
-        return any(byte in piece.data for piece in self.pieces for byte in (5, 2))
-
     def name(self) -> str:
         """The two ends, and when it began."""
         return " - ".join(self.ends)
@@ -306,7 +302,7 @@ def read_packets(every_packet: Iterator[Packet], form: str, stream: Optional[int
     every = connections_of(segments, skip_missing)
     if port is not None:
         every = [one for one in every if port in one.ports]
-    found = [one for one in every if one.has_link_bytes()]
+    found = linked(every)
     if not every:
         raise LogError("no TCP connection is in the file" + (f" at port {port}" if port is not None else ""))
     if stream is not None:
@@ -319,6 +315,12 @@ def read_packets(every_packet: Iterator[Packet], form: str, stream: Optional[int
         names = "; ".join(f"--stream {every.index(one) + 1}: {one.name()}" for one in found)
         raise LogError(f"{len(found)} connections have ENQ or STX, choose one: {names}")
     return _joined(found, form)
+
+
+def linked(every: List[Connection]) -> List[Connection]:
+    """The connections that look most like this link; none if none has ENQ or STX."""
+    likes = [likeness(one.pieces) for one in every]
+    return [one for one, like in zip(every, likes) if like and like == max(likes)]
 
 
 def _one_after_another(found: List[Connection]) -> bool:

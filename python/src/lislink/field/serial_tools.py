@@ -4,7 +4,7 @@ import ast
 import re
 from typing import Dict, List, Optional
 
-from .log import Log, LogError, Piece, find_time, hex_row
+from .log import Log, LogError, Piece, find_time, hex_row, likeness
 
 _SOCAT = re.compile(r"([<>]) (\d+/\d+/\d+ \d+:\d+:\d+)\.(\d+) +length=(\d+) from=\d+ to=\d+\s*$")
 
@@ -62,11 +62,8 @@ def strace(text: str, fd: Optional[int] = None) -> Log:
         count = re.search(r"\)\s*=\s*(\d+)\b[^\"]*$", line)
         if not call or not count or count[1] == "0":
             continue
-        data, cut = _string_bytes(call[4])
+        data = _string_bytes(call[4])
         if len(data) < int(count[1]):
-            if int(call[2]) in (0, 1, 2) or not (b"\x05" in data or b"\x02" in data) and cut and len(found) > 8:
-                continue
-            data = data if not cut else data + b"\0" * 0
             found.setdefault(int(call[2]), []).append(Piece(None, "cut", str(number).encode()))
             continue
         side = "read" if call[1].startswith(("read", "recv")) else "write"
@@ -74,27 +71,23 @@ def strace(text: str, fd: Optional[int] = None) -> Log:
     return Log("strace", _descriptor(found, fd), [])
 
 
-def _string_bytes(text: str) -> "tuple[bytes, bool]":
-    data, cut = b"", False
+def _string_bytes(text: str) -> bytes:
+    data = b""
     for one in _STRING.finditer(text):
         try:
             data += ast.literal_eval('b"' + re.sub(r"[^\x00-\x7f]", "?", one[1]) + '"')
         except (ValueError, SyntaxError):
             raise LogError(f"no string of strace: {one[1][:40]!r}") from None
-        cut = cut or bool(one[2])
         if "iov_base" not in text:
             break
-    return data, cut
+    return data
 
 
 def _descriptor(found: Dict[int, List[Piece]], fd: Optional[int]) -> List[Piece]:
     if fd is not None and fd not in found:
         raise LogError(f"descriptor {fd} is neither read nor written in the log")
-    linked = [one for one, pieces in found.items() if one == fd or fd is None and any(
-        piece.side != "cut" and piece.data and (piece.data[0] == 5 or 2 in piece.data) for piece in pieces)]
-    if len(linked) > 1:
-        enq = [one for one in linked if any(piece.data == b"\x05" for piece in found[one])]
-        linked = enq or linked
+    likes = {one: likeness([piece for piece in pieces if piece.side != "cut"]) for one, pieces in found.items()}
+    linked = [one for one, like in likes.items() if one == fd or fd is None and like and like == max(likes.values())]
     if not linked:
         raise LogError("no descriptor carries ENQ or STX")
     if len(linked) > 1:

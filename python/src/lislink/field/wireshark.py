@@ -7,7 +7,7 @@ import re
 from typing import Any, Dict, Iterator, List, Optional, Tuple
 
 from .log import SECOND, Log, LogError, Piece, find_time, hex_row
-from .packets import Packet, Segment, connections_of, read_packets
+from .packets import Packet, Segment, connections_of, linked, read_packets
 
 _HEX = re.compile(r"^(?:[0-9A-Fa-f]{2})(?:[:\- ]?[0-9A-Fa-f]{2})*$")
 
@@ -213,7 +213,7 @@ def _segments(told: List[Dict[str, str]], payload: str, form: str, port: Optiona
     every = [one for group in groups.values() for one in connections_of(group)]
     if port is not None:
         every = [one for one in every if port in one.ports]
-    found = [one for one in every if one.has_link_bytes()]
+    found = linked(every)
     if stream is not None and 1 <= stream <= len(every):
         found = [every[stream - 1]]
     if not found:
