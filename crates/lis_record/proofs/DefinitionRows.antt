@@ -1,5 +1,5 @@
 -- The definitions at texts and records whose reading is known from outside, by computation.
-use Rattle.std.proofs.Common.{◌≡◌, [], ◌∷◌, None, Some, refl}
+use Rattle.std.proofs.Common.{◌≡◌, ℕ, List, [], ◌∷◌, None, Some, ap, arith, length, refl}
 use Rattle.hex.specs.Hex.{encode_with, decode_pairs}
 use Rattle.lis_field.specs.declared.delimiting.DelimiterFault.TheVariants.{Repeated}
 use Rattle.lis_field.specs.declared.faults.DelimiterPartFault.TheVariants.{Short, Fault, Trailing}
@@ -7,14 +7,19 @@ use Rattle.lis_field.specs.declared.faults.RecordFault.TheVariants.{Empty, Unkno
 use Rattle.lis_spelling.specs.declared.faults.WriteFault.TheVariants.{CharNotText}
 use Rattle.lis_field.specs.declared.kinds.Kind.TheVariants as kinds
 use Rattle.lis_field.specs.declared.symbols.Sym.TheVariants.{Char, Raw}
-use Rattle.lis_field.specs.Delimiters.{DelimiterBytes, delimiters_of, delimiter_fault, is_punctuation}
-use Rattle.lis_field.specs.Escapes.{escape_of}
+use Rattle.lis_field.specs.Delimiters.{DelimiterBytes, IsDelimiters, delimiters_of, delimiter_fault, is_punctuation}
+use Rattle.lis_field.specs.Escapes.{IsComponent, escape, escape_of, nothing, plain}
+use Rattle.lis_field.specs.Relation.{IsRecord}
+use Rattle.lis_field.specs.Shape.{Fields, RecordContent}
 use Rattle.lis_record.specs.Faults.{record_text_fault, record_fault, delimiter_part_fault, header_fault}
 use Rattle.lis_spelling.specs.WriteFaults.{check_fault}
 use Rattle.lis_part.specs.inside.FrontReading.{escape_at, symbols_after, symbols_of}
 use Rattle.lis_field.specs.Kinds.{kind_of}
 use Rattle.lis_spelling.specs.Spelling.{spelled_symbol, spelled}
 use Rattle.lis_field.specs.Text.{is_text_byte}
+use Rattle.lis_part.proofs.Components.{IsComponent-symbols_of, symbols_of-IsComponent}
+use Rattle.lis_record.proofs.FaultLaws.{record_text_fault-none}
+use Rattle.lis_record.proofs.RecordTexts.{AreFieldTexts-fields_of, AreFieldTexts-none, IsRecord-one}
 
 -- | \ ^ &
 usual : DelimiterBytes
@@ -102,3 +107,101 @@ bad_character :
     ≡ Some (CharNotText 4)
 unfolding check_fault spelled_symbol usual is_text_byte
 bad_character = refl
+
+-- |, \, ^ and & are delimiters
+usual_are_delimiters : IsDelimiters usual
+unfolding usual is_punctuation
+usual_are_delimiters = record {
+  field_is = refl;
+  repeat_is = refl;
+  component_is = refl;
+  escape_is = refl;
+  field_repeat = omega arith;
+  field_component = omega arith;
+  field_escape = omega arith;
+  repeat_component = omega arith;
+  repeat_escape = omega arith;
+  component_escape = omega arith;
+}
+
+-- A&F&B is A, | and B by the cases of the definition alone, and not its bytes
+escape_in_a_component : IsComponent usual (0x41 ∷ 0x26 ∷ 0x46 ∷ 0x26 ∷ 0x42 ∷ [])
+    (Char 0x41 ∷ Char 0x7c ∷ Char 0x42 ∷ [])
+unfolding usual escape_of
+escape_in_a_component =
+    plain 0x41 (0x26 ∷ 0x46 ∷ 0x26 ∷ 0x42 ∷ []) (Char 0x7c ∷ Char 0x42 ∷ []) refl refl (omega arith)
+    (escape (0x46 ∷ []) (0x42 ∷ []) (Char 0x7c ∷ []) (Char 0x42 ∷ []) refl refl refl
+    (plain 0x42 [] [] refl refl (omega arith) (nothing refl refl)))
+
+escape_is_not_its_bytes : ¬ (IsComponent usual (0x26 ∷ 0x46 ∷ 0x26 ∷ []) (Char 0x26 ∷ Char 0x46 ∷ Char 0x26 ∷ []))
+unfolding symbols_after escape_at escape_of usual
+escape_is_not_its_bytes is =
+    absurd (omega (
+      arith,
+      ap length (symbols_of-IsComponent usual usual_are_delimiters (0x26 ∷ 0x46 ∷ 0x26 ∷ [])
+          (Char 0x26 ∷ Char 0x46 ∷ Char 0x26 ∷ []) is),
+    ))
+
+-- in S&S the escape byte is itself, and isn't dropped
+lone_escape_in_a_component : IsComponent usual (0x53 ∷ 0x26 ∷ 0x53 ∷ []) (Char 0x53 ∷ Char 0x26 ∷ Char 0x53 ∷ [])
+unfolding symbols_after escape_at escape_of usual
+lone_escape_in_a_component = IsComponent-symbols_of usual usual_are_delimiters (0x53 ∷ 0x26 ∷ 0x53 ∷ [])
+
+lone_escape_is_not_dropped : ¬ (IsComponent usual (0x53 ∷ 0x26 ∷ 0x53 ∷ []) (Char 0x53 ∷ Char 0x53 ∷ []))
+unfolding symbols_after escape_at escape_of usual
+lone_escape_is_not_dropped is =
+    absurd (omega (
+      arith,
+      ap length (symbols_of-IsComponent usual usual_are_delimiters (0x53 ∷ 0x26 ∷ 0x53 ∷ [])
+          (Char 0x53 ∷ Char 0x53 ∷ []) is),
+    ))
+
+-- R|1|A^B\C| is a result with three fields, the last of them empty
+result_text : List ℕ
+result_text = 0x52 ∷ 0x7c ∷ 0x31 ∷ 0x7c ∷ 0x41 ∷ 0x5e ∷ 0x42 ∷ 0x5c ∷ 0x43 ∷ 0x7c ∷ []
+
+result_fields : Fields
+result_fields = (((Char 0x31 ∷ []) ∷ []) ∷ []) ∷ (((Char 0x41 ∷ []) ∷ (Char 0x42 ∷ []) ∷ []) ∷ ((Char 0x43 ∷ []) ∷ []) ∷ [])
+    ∷ (([] ∷ []) ∷ []) ∷ []
+
+result_is_a_record : IsRecord usual result_text (record { kind = kinds.R; fields = result_fields })
+unfolding result_text result_fields usual symbols_after kind_of record_text_fault is_text_byte
+result_is_a_record =
+    let texts = record_text_fault-none result_text refl in record {
+      letter = 0x52;
+      fields_text = 0x7c ∷ 0x31 ∷ 0x7c ∷ 0x41 ∷ 0x5e ∷ 0x42 ∷ 0x5c ∷ 0x43 ∷ 0x7c ∷ [];
+      whole = refl;
+      kind_is = refl;
+      fields_are = AreFieldTexts-fields_of usual usual_are_delimiters
+          (0x31 ∷ 0x7c ∷ 0x41 ∷ 0x5e ∷ 0x42 ∷ 0x5c ∷ 0x43 ∷ 0x7c ∷ []);
+      is_text = texts.0;
+      short = texts.1;
+    }
+
+-- and it is no record without its last field
+empty_field_is_not_dropped : ¬ (IsRecord usual result_text (record {
+  kind = kinds.R;
+  fields = (((Char 0x31 ∷ []) ∷ []) ∷ [])
+      ∷ (((Char 0x41 ∷ []) ∷ (Char 0x42 ∷ []) ∷ []) ∷ ((Char 0x43 ∷ []) ∷ []) ∷ []) ∷ [];
+}))
+unfolding result_fields
+empty_field_is_not_dropped is =
+    absurd (omega (
+      arith,
+      ap (λ (r : RecordContent). length r.fields)
+          (IsRecord-one usual usual_are_delimiters result_text _ _ is result_is_a_record),
+    ))
+
+-- L without a field is a terminator
+terminator_is_a_record : IsRecord usual (0x4c ∷ []) (record { kind = kinds.L; fields = [] })
+unfolding usual kind_of record_text_fault is_text_byte
+terminator_is_a_record =
+    let texts = record_text_fault-none (0x4c ∷ []) refl in record {
+      letter = 0x4c;
+      fields_text = [];
+      whole = refl;
+      kind_is = refl;
+      fields_are = AreFieldTexts-none usual usual_are_delimiters;
+      is_text = texts.0;
+      short = texts.1;
+    }

@@ -2,6 +2,7 @@ pub mod AsIs
 mod DefinitionRows
 pub mod FaultLaws
 pub mod FaultlessTexts
+pub mod Grown
 pub mod LeftMarks
 pub mod LentTexts
 pub mod Marks

@@ -1,12 +1,14 @@
 //! What holds of all records, over the definitions that the contracts cite.
 
-ghost use Rattle.std.specs.Prelude.{◌≡◌, ℕ, List, None};
+ghost use Rattle.std.specs.Prelude.{◌≡◌, ◌↔◌, ◌∷◌, [], ℕ, List, None};
 ghost use Rattle.lis_field.specs.Delimiters.{DelimiterBytes, IsDelimiters};
 ghost use Rattle.lis_record.specs.Faultless.{IsSomeHeader, IsSomeRecord};
 ghost use Rattle.lis_spelling.specs.WriteFaults.{check_fault};
 ghost use Rattle.lis_record.specs.Faults.{header_fault, record_fault};
-ghost use Rattle.lis_field.specs.Relation.{IsRecord};
-ghost use Rattle.lis_field.specs.Shape.{IsRecordShape, RecordContent};
+ghost use Rattle.lis_field.specs.Escapes.{IsComponent};
+ghost use Rattle.lis_field.specs.Relation.{AreFieldTexts, IsField, IsRecord, IsRepeat};
+ghost use Rattle.lis_field.specs.Shape.{Components, Fields, IsRecordShape, RecordContent, Repeats, Symbols};
+ghost use Rattle.lis_part.specs.inside.FrontReading.{components_of, fields_of, repeats_of, symbols_of};
 ghost use Rattle.lis_spelling.specs.Spelling.{spelled};
 ghost use Rattle.lis_field.specs.declared.kinds.Kind.TheVariants as kinds;
 
@@ -36,4 +38,20 @@ pub fn record_or_fault()
     ensures no_fault { (d : DelimiterBytes) (text : List ℕ) → IsSomeRecord d text → record_fault d text ≡ None }
     ensures header_found { (text : List ℕ) → header_fault text ≡ None → IsSomeHeader text }
     ensures no_header_fault { (text : List ℕ) → IsSomeHeader text → header_fault text ≡ None }
+{}
+
+/// What is read from a text's front is what the text is, and nothing else is: a component, as `LentSymbols::of_text` reads
+/// it, a repeat, a field, as `read_field` does, and the fields behind a letter, as `read_fields` does (LIS02-A2,
+/// Delimiters). Behind a letter stands nothing, or a field delimiter first.
+pub fn front_reading()
+    ensures component { (d : DelimiterBytes) (text : List ℕ) (symbols : Symbols) → IsDelimiters d
+        → IsComponent d text symbols ↔ (symbols ≡ symbols_of d text) }
+    ensures repeat { (d : DelimiterBytes) (text : List ℕ) (components : Components) → IsDelimiters d
+        → IsRepeat d text components ↔ (components ≡ components_of d text) }
+    ensures field { (d : DelimiterBytes) (text : List ℕ) (repeats : Repeats) → IsDelimiters d
+        → IsField d text repeats ↔ (repeats ≡ repeats_of d text) }
+    ensures fields { (d : DelimiterBytes) (bytes : List ℕ) (fields : Fields) → IsDelimiters d
+        → AreFieldTexts d (d.field ∷ bytes) fields ↔ (fields ≡ fields_of d (d.field ∷ bytes)) }
+    ensures no_field { (d : DelimiterBytes) (fields : Fields) → IsDelimiters d
+        → AreFieldTexts d [] fields ↔ (fields ≡ []) }
 {}

@@ -1,8 +1,9 @@
 //! Records and their parts where they stand in a text, without memory (LIS02-A2, Delimiters).
 
 ghost use Rattle.std.specs.Prelude.{◌≡◌, ◌≢◌, ◌<◌, ◌≤◌, ◌++◌, ◌∷◌, ◌↔◌, [], IfNone, IfOk, IfSome, IsFalse, IsTrue};
-ghost use Rattle.std.specs.Prelude.{List, MatchOption, OnOk, Some, ℕ, ⊤, drop, false, length, map, option_map};
+ghost use Rattle.std.specs.Prelude.{List, MatchOption, OnErr, OnOk, Some, ℕ, ⊤, drop, false, length, map, option_map};
 ghost use Rattle.std.specs.Prelude.{slice_get, take};
+ghost use Rattle.std.specs.Io.{StartsWith};
 ghost use Rattle.std.specs.Option.{option_copied};
 ghost use Rattle.lis_field.specs.Delimiters.{DelimiterBytes};
 ghost use Rattle.lis_field.specs.Shape.{field_at, plain_field};
@@ -198,10 +199,11 @@ impl<'a> LentParts<'a, Repeat> {
         read_field(alloc, self.delimiters, self.text)
     }
 
-    /// Adds the field's spelling to a text.
+    /// Adds the field's spelling to a text. Where memory is refused the text still begins with what it was.
     pub fn add_to(&self, text: &mut Vec<u8>) -> Result<(), AllocError>
-        ensures { OnOk result (text.new.items ≡ text.old.items
+        ensures ok { OnOk result (text.new.items ≡ text.old.items
             ++ spelled_field self.now.delimiters self.now.content) }
+        ensures err { OnErr result (StartsWith text.new.items text.old.items) }
     {
         // proof: what is added is the field's spelling, since delimiters are apart.
         let _ = self.delimiters.field();
@@ -271,7 +273,8 @@ impl<'a> LentFields<'a> {
     }
 
     /// Takes so many fields and adds them to a text by their spelling, each behind a field delimiter; false where there
-    /// are fewer, and then all are left and nothing is added. At least one is asked for.
+    /// are fewer, and then all are left and nothing is added. At least one is asked for. Where memory is refused no field
+    /// is taken, and the text still begins with what it was.
     #[inline(always)]
     pub fn add_next(&mut self, count: usize, text: &mut Vec<u8>) -> Result<bool, AllocError>
         requires { 0 < count }
@@ -280,6 +283,7 @@ impl<'a> LentFields<'a> {
             → (text.new.items ≡ text.old.items ++ more_fields self.old.delimiters (take count self.old.content))
             × (self.new ≡ lent self.old.delimiters (drop count self.old.content))) }
         ensures left { IfOk result (λ added. IsFalse added → (text.new ≡ text.old) × (self.new ≡ self.old)) }
+        ensures refused { OnErr result (StartsWith text.new.items text.old.items × (self.new ≡ self.old)) }
     {
         let mark = self.delimiters.field();
         // Known marks last for the fields behind these too; where none is known, they are looked for at once.

@@ -1,6 +1,8 @@
 //! The spelling of what a text tells, taken from the text run by run (LIS02-A2, Delimiters).
 
-ghost use Rattle.std.specs.Prelude.{◌≡◌, ◌<◌, ◌≤◌, ◌++◌, ◌∷◌, IfOk, IsTrue, None, OnOk, drop, length, take};
+ghost use Rattle.std.specs.Prelude.{◌≡◌, ◌<◌, ◌≤◌, ◌++◌, ◌∷◌, IfOk, IsTrue, None, OnErr, OnOk, drop, length};
+ghost use Rattle.std.specs.Prelude.{take};
+ghost use Rattle.std.specs.Io.{StartsWith};
 ghost use Rattle.lis_field.specs.Text.{trailing_byte};
 ghost use Rattle.lis_spelling.specs.Spelling.{spelled_component};
 ghost use Rattle.lis_part.specs.inside.FrontReading.{ArePairs, digit_symbols};
@@ -18,7 +20,8 @@ pub(crate) fn add_respelled(
     delimiters: Delimiters,
     text: &[u8],
 ) -> Result<(), AllocError>
-    ensures { OnOk result (out.new.items ≡ out.old.items ++ respelled delimiters text.now) }
+    ensures ok { OnOk result (out.new.items ≡ out.old.items ++ respelled delimiters text.now) }
+    ensures err { OnErr result (StartsWith out.new.items out.old.items) }
 {
     if place_of(text, delimiters.escape()).is_some() {
         return add_runs(out, delimiters, text);
@@ -35,7 +38,9 @@ pub(crate) fn add_behind(
     text: &[u8],
 ) -> Result<(), AllocError>
     requires { 0 < length text.now }
-    ensures { OnOk result (out.new.items ≡ out.old.items ++ delimiters.field ∷ respelled delimiters (drop 1 text.now)) }
+    ensures ok { OnOk result (out.new.items
+        ≡ out.old.items ++ delimiters.field ∷ respelled delimiters (drop 1 text.now)) }
+    ensures err { OnErr result (StartsWith out.new.items out.old.items) }
 {
     let mark = delimiters.field();
     let Some((byte, behind)) = text.split_first() else {
@@ -59,7 +64,8 @@ pub(crate) fn add_behind(
 // The same, of a text with an escape byte: what is spelled as it stands goes out at once.
 #[inline(never)]
 fn add_runs(out: &mut Vec<u8>, delimiters: Delimiters, text: &[u8]) -> Result<(), AllocError>
-    ensures { OnOk result (out.new.items ≡ out.old.items ++ respelled delimiters text.now) }
+    ensures ok { OnOk result (out.new.items ≡ out.old.items ++ respelled delimiters text.now) }
+    ensures err { OnErr result (StartsWith out.new.items out.old.items) }
 {
     let mut rest = text;
     loop {
@@ -122,6 +128,7 @@ fn add_escape<'a>(
     ensures same { IfOk result (λ rest. out.new.items ++ respelled delimiters rest.now
         ≡ out.old.items ++ respelled delimiters (delimiters.escape ∷ text.now)) }
     ensures shorter { IfOk result (λ rest. length rest.now ≤ length text.now) }
+    ensures begins { StartsWith out.new.items out.old.items }
 {
     // proof: an escape byte alone is spelled as an escape, since delimiters are apart.
     let _ = delimiters.field();
@@ -142,7 +149,9 @@ fn add_escape<'a>(
 #[inline(always)]
 fn add_raw(out: &mut Vec<u8>, delimiters: Delimiters, digits: &[u8]) -> Result<(), AllocError>
     requires { ArePairs digits.now }
-    ensures { OnOk result (out.new.items ≡ out.old.items ++ spelled_component delimiters (digit_symbols digits.now)) }
+    ensures ok { OnOk result (out.new.items
+        ≡ out.old.items ++ spelled_component delimiters (digit_symbols digits.now)) }
+    ensures begins { StartsWith out.new.items out.old.items }
 {
     let mut rest = digits;
     while let Some((byte, others)) = first_pair(rest) {

@@ -1,6 +1,6 @@
 //! A fixed buffer that a record goes through on its way to a sink.
 
-ghost use Rattle.std.specs.Prelude.{◌≡◌, ◌+◌, ◌<◌, ◌≤◌, ◌++◌, ◌∷◌, [], ◌==◌, OnOk, length};
+ghost use Rattle.std.specs.Prelude.{◌≡◌, ◌+◌, ◌<◌, ◌≤◌, ◌++◌, ◌∷◌, [], ◌==◌, OnErr, OnOk, length};
 ghost use Rattle.lis_spelling.specs.Spelling.{delimiter_letter, letter_spelling, spelled_component, spelled_symbol};
 ghost use Rattle.lis_field.specs.declared.symbols.Sym.TheVariants.{Char, Raw};
 
@@ -184,10 +184,11 @@ impl<const N: usize> ChunkOf<N> {
     }
 }
 
-/// Adds a symbol's spelling to a text.
+/// Adds a symbol's spelling to a text. Where memory is refused the text is as before.
 #[inline(always)]
 pub fn add_symbol(out: &mut Vec<u8>, delimiters: Delimiters, symbol: Sym) -> Result<(), AllocError>
-    ensures { OnOk result (out.new.items ≡ out.old.items ++ spelled_symbol delimiters symbol) }
+    ensures ok { OnOk result (out.new.items ≡ out.old.items ++ spelled_symbol delimiters symbol) }
+    ensures err { OnErr result (out.new.items ≡ out.old.items) }
 {
     let mut chunk = SymbolChunk::new();
     chunk.push_symbol(delimiters, symbol);

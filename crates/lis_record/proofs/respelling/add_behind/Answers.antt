@@ -3,8 +3,8 @@ use Rattle.lis_record.specs.inside.Respelling.{respelled}
 use Rattle.lis_record.proofs.Respelled.{one_as_is, respelled-mark}
 use Rattle.lis_record.proofs.respelling.add_behind.Goals as goal
 
-pub returns-then-byte-mark : goal.returns-then-byte-mark
-returns-then-byte-mark c =
+pub returns-then-byte-mark-clause-ok : goal.returns-then-byte-mark-clause-ok
+returns-then-byte-mark-clause-ok c =
     let d = c.args.delimiters in
     let good = c.field-mark.ensures.shape in
     let behind = c.in-Some.behind.now in
@@ -13,10 +13,10 @@ returns-then-byte-mark c =
     ap (respelled d) (is ∙ ap (λ (b : ℕ). b ∷ behind) (c.if-byte-mark.true ∙ c.field-mark.ensures.byte))
     ∙ respelled-mark d good d.field good.field_is good.field_escape behind
     ∙ ap (λ (l : List ℕ). d.field ∷ respelled d (drop 1 l)) (sym is) in
-    rw (← same) c.add_respelled.ensures
+    rw (← same) c.add_respelled.ensures.ok
 
-pub returns : goal.returns
-returns c =
+pub returns-clause-ok : goal.returns-clause-ok
+returns-clause-ok c =
     let d = c.args.delimiters in
     let behind = c.in-Some.behind.now in
     let told : respelled d (drop 1 c.args.text.now) ≡ get_or behind 0 0 ∷ [] =

@@ -17,7 +17,7 @@ returns-in-Some-escape_meaning-clause-same c =
     c.in-Some-escape_meaning.digits.now c.in-Some.end c.in-Some-escape_meaning.symbol
     (sym c.place_of.ensures ∙ c.in-Some.is)
     (ap (escape_of c.args.delimiters) (sym c.split_at.ensures.front) ∙ c.in-Some-escape_meaning.ensures.0)
-    c.split_at.ensures.back c.in_ok-add_symbol.ensures c.in_ok-add_raw.ensures
+    c.split_at.ensures.back c.in_ok-add_symbol.ensures.ok c.in_ok-add_raw.ensures.ok
 
 pub returns-clause-same : goal.returns-clause-same
 returns-clause-same c =

@@ -1,13 +1,14 @@
-use Rattle.std.proofs.Common.{◌≡◌, ◌++◌, length}
+use Rattle.std.proofs.Common.{length}
 use Rattle.lis_spelling.specs.Spelling.{spelled_component}
 use Rattle.lis_part.specs.inside.FrontReading.{ArePairs, digit_symbols}
+use Rattle.lis_record.proofs.Grown.{Adds}
 use Rattle.lis_record.proofs.respelling.add_raw.Given as goal
 
 -- pairs are left, and what was added and what they spell is the whole
 abbrev pub invariant-loop-byte : goal.invariant-loop-byte
 invariant-loop-byte l = ArePairs l.rest
-    × (l.out.items ++ spelled_component l.fn.delimiters (digit_symbols l.rest)
-    ≡ l.initial.out.items ++ spelled_component l.fn.delimiters (digit_symbols l.fn.digits))
+    × Adds l.initial.out.items (spelled_component l.fn.delimiters (digit_symbols l.fn.digits)) l.out.items
+    (spelled_component l.fn.delimiters (digit_symbols l.rest))
 
 abbrev pub decreases-loop-byte : goal.decreases-loop-byte
 decreases-loop-byte l = length (digit_symbols l.rest)

@@ -3,8 +3,8 @@ use Rattle.lis_part.proofs.Places.{Lacks-position, is_some_none}
 use Rattle.lis_record.proofs.Respelled.{respelled_as_is}
 use Rattle.lis_record.proofs.respelling.add_respelled.Goals as goal
 
-pub returns : goal.returns
-returns c =
+pub returns-clause-ok : goal.returns-clause-ok
+returns-clause-ok c =
     let none = is_some_none c.place_of.result (sym c.is_some.ensures ∙ c.if-is_some.false) in
     let free = rw c.escape.ensures at (Lacks-position c.escape.result c.args.text.now
     (sym c.place_of.ensures ∙ none)) in

@@ -1,7 +1,6 @@
-use Rattle.std.proofs.Common.{ℕ, ◌+◌, ◌^◌, ◌-◌, min, refl, ◌∙◌, ap, sym, length, length-append, append-nil, arith}
+use Rattle.std.proofs.Common.{◌∙◌, ap, sym, length, length-append, append-nil, arith}
 use Rattle.std.proofs.lemmas.Bool.{eqb-true}
 use Rattle.lis_spelling.specs.Spelling.{spelled}
-use Rattle.lis_spelling.proofs.Sinks.{sum_told}
 use Rattle.lis_spelling.proofs.writing.spelled_length.Goals as goal
 
 pub returns : goal.returns

@@ -1,6 +1,4 @@
-use Rattle.std.proofs.Common.{◌≡◌, ◌++◌, List, ℕ, ap, sym, refl, ◌∙◌, map, take, drop, arith}
-use Rattle.std.proofs.lemmas.Bool.{false≢true, true≢false}
-use Rattle.std.proofs.lemmas.List.{length-map}
+use Rattle.std.proofs.Common.{◌≡◌, ◌++◌, List, ℕ, ap, sym, ◌∙◌, map, take, drop}
 use Rattle.std.specs.List.{drop-map}
 use Rattle.lis_record.specs.Lent.{lent}
 use Rattle.lis_part.specs.inside.FrontReading.{fields_of, parts_behind, repeats_of}
@@ -16,7 +14,7 @@ returns-clause-added c = λ added.
     let all = i.text.now in
     let told = rw c.field-mark.ensures.byte at c.in-Some.ensures.split in
     let spelled : c.add_behind.new.out.items ≡ old ++ more_fields d (take c.args.count (fields_of d all)) =
-    c.in_ok-add_behind.ensures
+    c.in_ok-add_behind.ensures.ok
     ∙ ap (λ (l : List ℕ). old ++ l) (fields_added d c.field-mark.ensures.shape all (drop 1 c.in-Some.fields.now)
     c.args.count told.1) in
     let left : fields_of d c.in-Some.rest.now ≡ drop c.args.count (fields_of d all) =

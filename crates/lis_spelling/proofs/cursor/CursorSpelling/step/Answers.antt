@@ -1,6 +1,5 @@
 use Rattle.std.proofs.Common.{sym, ◌∙◌, length, refl}
 use Rattle.std.proofs.lemmas.Bool.{eqb-true}
-use Rattle.lis_spelling.proofs.Pushes.{put-more}
 use Rattle.lis_spelling.proofs.Steps.{component_case, end_case, field_case, nothing_left, repeat_case, symbols_case}
 use Rattle.lis_spelling.proofs.cursor.CursorSpelling.step.Goals as goal
 
