@@ -127,6 +127,7 @@ def of_errors(count):
         count.same(f"{name}: status", ran.status, 3)
         count.same(f"{name}: no capture", ran.output, b"")
         count.has(name, ran.error, words)
+    count.has("records are no line", lislab("ladder", os.path.join(ROOT, "samples", "panel.records")).error, "normalize --explain")
     out = count.path("never")
     lislab("capture", count.path("log", b"nothing here\n"), "-o", out)
     count.true("no file is made of nothing", not os.path.exists(out))

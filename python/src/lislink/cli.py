@@ -2,6 +2,7 @@
 import argparse
 import codecs
 import os
+import re
 import stat
 import sys
 from typing import List, Optional, Set, Tuple
@@ -78,7 +79,14 @@ def load(path: str, ask: argparse.Namespace) -> Tuple[Capture, List[str]]:
         if beside and os.path.exists(beside):
             capture = _with_times(capture, beside)
         return (sniffers.swapped(capture) if ask.swap else capture), []
+    if ask.form is None and _looks_like_records(data):
+        raise LogError("these are records, and no line: see lislab normalize --explain, and lislab table")
     return _imported(data, ask)
+
+
+def _looks_like_records(data: bytes) -> bool:
+    """Whether a file begins with a header: H and punctuation."""
+    return re.match(rb"(?:\xef\xbb\xbf)?[\r\n ]*[Hh][!-/:-@\[-`{-~]{3}", data[:40]) is not None
 
 
 def _with_times(capture: Capture, path: str) -> Capture:
@@ -165,8 +173,7 @@ def run_normalize(ask: argparse.Namespace) -> int:
 def records_of(path: str, ask: argparse.Namespace) -> bytes:
     """The records of a file: record text as it is, and those that the receiver delivers of a capture or a log."""
     data = read_input(path)
-    bare = data.lstrip(b"\xef\xbb\xbf\r\n \0")
-    if ask.form is None and (bare[:1] in (b"H", b"h") and not bare[1:2].isalnum() or not bare):
+    if ask.form is None and (_looks_like_records(data) or not data.strip()):
         return data
     from .field.ladder import Ladder
     capture, remarks = (read_capture(data), []) if looks_like_capture(data) else _imported(data, ask)
@@ -251,6 +258,8 @@ def main(words: Optional[List[str]] = None) -> int:
     ask = parser().parse_args(words)
     try:
         return int(ask.run(ask))
+    except KeyboardInterrupt:
+        return 130
     except BrokenPipeError:
         os.dup2(os.open(os.devnull, os.O_WRONLY), 1)
         return STOPPED
