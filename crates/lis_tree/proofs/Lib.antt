@@ -8,6 +8,7 @@ pub mod Last
 pub mod Levels
 pub mod ListFaults
 pub mod Notes
+pub mod Places
 pub mod Refusing
 pub mod ResultLaws
 pub mod Trees

@@ -124,7 +124,7 @@ unclosed_fault d records begun rest fault s is why place =
     })
 
 -- The records of a tree have no fault.
-tree_kinds : (m : MessageTree) → IsTree m → StandsFrom outside (kinds_of (flatten m))
+pub tree_kinds : (m : MessageTree) → IsTree m → StandsFrom outside (kinds_of (flatten m))
     × (level_after outside (kinds_of (flatten m)) ≡ closed)
 tree_kinds m is =
     let front = (m.header ∷ m.notes) ++ flat_map group_records m.groups in

@@ -5,6 +5,7 @@ pub mod ListFaults
 pub mod Nodes
 pub mod Notes
 pub mod Numbers
+pub mod Places
 pub mod Refusing
 pub mod Results
 pub mod Tree

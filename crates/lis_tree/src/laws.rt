@@ -2,10 +2,12 @@
 ghost use Rattle.std.specs.Prelude.{◌≡◌, List, [], ◌∷◌, ◌++◌, Some, None, map};
 ghost use Rattle.lis_field.specs.declared.kinds.Kind.{Kind};
 ghost use Rattle.lis_field.specs.declared.faults.Reason.{Reason};
+ghost use Rattle.lis_tree.specs.Findings.{findings_of};
 ghost use Rattle.lis_tree.specs.Hierarchy.{IsViable};
-ghost use Rattle.lis_tree.specs.Level.{StandsFrom, level_after, misplaced, outside};
+ghost use Rattle.lis_tree.specs.Level.{StandsFrom, kinds_of, level_after, misplaced, outside};
 ghost use Rattle.lis_tree.specs.Notes.{IsNotedOn, Placed, placed};
-ghost use Rattle.lis_tree.specs.Refusing.{IsRefusedFor};
+ghost use Rattle.lis_tree.specs.Places.{number_findings, tree_numbers};
+ghost use Rattle.lis_tree.specs.Refusing.{IsClosed, IsRefusedFor};
 ghost use Rattle.lis_tree.specs.Results.{result_record, results_among, results_of};
 ghost use Rattle.lis_tree.specs.Tree.{IsTree, MessageTree, flatten};
 
@@ -13,6 +15,14 @@ ghost use Rattle.lis_tree.specs.Tree.{IsTree, MessageTree, flatten};
 pub fn hierarchy()
     ensures viable { (ks : List Kind) → StandsFrom outside ks → IsViable ks }
     ensures stands { (ks : List Kind) → IsViable ks → StandsFrom outside ks }
+{}
+
+/// The records of a tree stand in the hierarchy, and the last of them closes the message: what `Message::from_records`
+/// takes is what a tree has.
+pub fn trees()
+    ensures viable { (m : MessageTree) → IsTree m → IsViable (kinds_of (flatten m)) }
+    ensures stands { (m : MessageTree) → IsTree m → StandsFrom outside (kinds_of (flatten m)) }
+    ensures closed { (m : MessageTree) → IsTree m → IsClosed (kinds_of (flatten m)) }
 {}
 
 /// Why a record can't come next, by its place, is why it can't in the standard's words: no message is open, one is
@@ -35,6 +45,12 @@ pub fn notes()
     ensures records { (m : MessageTree) → map (λ p. p.content) (placed m) ≡ flatten m }
     ensures notes { (m : MessageTree) → IsTree m → (before behind : List Placed) (p : Placed)
         → placed m ≡ before ++ p ∷ behind → IsNotedOn (map (λ q. q.content) before) p.content p.note_on }
+{}
+
+/// The findings on a message are those that its tree has: the number that a record should have is its position among
+/// the records of its kind under its parent, read off the tree (LIS02-A2).
+pub fn numbers()
+    ensures { (m : MessageTree) → IsTree m → findings_of m ≡ number_findings 1 (tree_numbers m) (flatten m) }
 {}
 
 /// The results that a tree has are the result records of the message, each under the last order record and the last
