@@ -1,5 +1,6 @@
 """The binding: each call at values known from outside, what it rejects, threads, pieces; the package as a wheel."""
 import glob
+import importlib.util
 import os
 import subprocess
 import sys
@@ -174,6 +175,9 @@ def of_long_input(count):
 
 def of_package(count):
     """The wheel is built without a network, installed in a folder of its own, and found from anywhere."""
+    if importlib.util.find_spec("pip") is None:
+        print("field: no pip here: the wheel was not built")
+        return
     folder = count.path("wheel")
     done = subprocess.run([sys.executable, "-m", "pip", "wheel", "--quiet", "--no-index", "--no-deps", "-w", folder, PYTHON],
                           capture_output=True, text=True, check=False)
