@@ -2,6 +2,7 @@
 pub mod Output
 pub mod Outcome
 pub mod Runs
+pub mod Reads
 pub mod Parts
 pub mod LineOutcome
 pub mod CaptureRuns

@@ -6,6 +6,7 @@ ghost use Rattle.std.specs.Io.KnownBytes.{ReadConsumes};
 ghost use Rattle.hex.specs.Hex.{encode_lower};
 ghost use Rattle.lis_capture.specs.declared.page.TheConstants.{PAGE_ROOM};
 ghost use Rattle.lis_run.specs.Output.{Gathered, PartWentOut, Put, out};
+ghost use Rattle.lis_run.specs.Reads.{read_room};
 
 use crate::fault::Written;
 use crate::output::{put, send};
@@ -73,8 +74,9 @@ pub(crate) fn send_page_before_a_wait<R: Source, W: Sink>(
     Ok(written)
 }
 
-/// Reads from a source that has not failed: where the read may wait, nothing waits on the page or is held back by the
-/// sink.
+/// Reads from a source that has not failed, with room for 4,096 bytes: where the read may wait, nothing waits on the
+/// page or is held back by the sink.
+// proof: the page is passed so that the contract can say that nothing waits on it.
 #[inline(always)]
 pub(crate) fn read_settled<R: Source, W: Sink>(
     source: &mut R,
@@ -83,7 +85,7 @@ pub(crate) fn read_settled<R: Source, W: Sink>(
     buffer: &mut [u8],
 ) -> Result<usize, Failed>
     requires unfailed { R.failed source.old ≡ false }
-    requires room { 0 < length buffer.old }
+    requires room { length buffer.old ≡ read_room }
     requires countable { R.made source.old < 4294967295 }
     requires sent { R.may_wait source.old ≡ true → W.sent sink.now ≡ W.taken sink.now }
     requires empty { R.may_wait source.old ≡ true → _page.now ≡ [] }

@@ -83,8 +83,8 @@ pub trait Machine: Drop {
 
 // Each command has a frame of its own on the stack: that of the longest link frames has 200 KB, which others need not
 // touch.
-/// Feeds a machine with what a source gives, to its end, by at most `reads` calls of read. All text goes
-/// out before each that may wait for bytes, so that no line waits with it, and where the run ends.
+/// Feeds a machine with what a source gives, to its end, by at most `reads` calls of read, each with room for 4,096
+/// bytes. All text goes out before each that may wait for bytes, so that no line waits with it, and where the run ends.
 #[inline(never)]
 #[tactic(auto, using(crate::proofs::RunLaws::gave))]
 pub fn run<M: Machine, R: Source, W: Sink>(
