@@ -181,6 +181,8 @@ def of_words(count):
     swapped = lislab("ladder", "--swap", os.path.join(ROOT, "samples", "session.capture")).text
     count.has("the sides are swapped", swapped, "the sides are swapped")
     count.has("a right checksum", text, "(checksum EC) -> <ACK>")
+    wrong = lislab("ladder", "--wrong", os.path.join(ROOT, "samples", "session.capture")).lines
+    count.same("only what looks wrong", sum("\u251c" in line or "\u2524" in line for line in wrong), 1)
     late = count.path("late.capture", b"> 05\n< 06\n> 0231410337350d0a\n< 06\n> 04\n")
     count.path("late.capture.times", b"09:00:00.000\n09:00:20.000\n09:01:00.000\n09:01:00.100\n09:01:00.200\n")
     shown = lislab("ladder", late).text

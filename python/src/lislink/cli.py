@@ -143,7 +143,7 @@ def run_ladder(ask: argparse.Namespace) -> int:
         if ask.html != "-":
             say(f"page: {ask.html}")
     else:
-        write_output(None, text_of(ladder).encode("utf-8"))
+        write_output(None, text_of(ladder, ask.wrong).encode("utf-8"))
     return LOOKS_WRONG if any(look.level == "bad" for look in looks_of(ladder)) else GOOD
 
 
@@ -220,6 +220,7 @@ def parser() -> argparse.ArgumentParser:
     one = commands.add_parser("ladder", help="show a capture or a log as a ladder, and what looks wrong")
     one.add_argument("capture", help="a capture, or a log of a sniffer (pcap, socat, ..); - is standard input")
     one.add_argument("--html", metavar="FILE", help="write a page of HTML, for a browser without a network")
+    one.add_argument("--wrong", action="store_true", help="only the rows that look wrong, and the summary")
     one.add_argument("--times", metavar="FILE", help="times of the capture's lines (CAPTURE.times if it is there)")
     one.add_argument("--encoding", type=_encoding, default="utf-8", help="of the records' text (utf-8)")
     _import_options(one)

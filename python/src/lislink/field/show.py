@@ -39,11 +39,14 @@ def _row(row: Row) -> Iterator[str]:
     yield (head + line + "  " + note).rstrip()
 
 
-def ladder_lines(ladder: Ladder) -> Iterator[str]:
-    """The rows of the ladder, with silences of over a second between them."""
+def ladder_lines(ladder: Ladder, only_wrong: bool = False) -> Iterator[str]:
+    """The rows of the ladder, with silences of over a second between them; or only those that look wrong."""
     yield f"{'line':>6} {'time':12}   {'analyzer'.ljust(_WIDTH - 7)} computer"
     before: Optional[int] = None
     for row in ladder.rows:
+        if only_wrong:
+            yield from _row(row) if row.level in ("bad", "warn") else ()
+            continue
         if row.time is not None and before is not None and row.time - before > SECOND:
             yield f"{'':19}   │" + f"{(row.time - before) / SECOND:.1f} s later".center(_WIDTH) + "│"
         before = row.time if row.time is not None else before
@@ -93,11 +96,11 @@ def look_lines(looks: List[Look]) -> Iterator[str]:
             yield f"    {look.advice}"
 
 
-def text_of(ladder: Ladder) -> str:
-    """The whole picture as text."""
+def text_of(ladder: Ladder, only_wrong: bool = False) -> str:
+    """The whole picture as text, or only what looks wrong."""
     looks = looks_of(ladder)
-    parts = ["\n".join(ladder_lines(ladder))]
-    if ladder.messages:
+    parts = ["\n".join(ladder_lines(ladder, only_wrong))]
+    if ladder.messages and not only_wrong:
         parts.append("\n".join(message_lines(ladder)))
     parts.append("summary: " + summary(ladder))
     parts.append("What looks wrong:\n" + "\n".join(look_lines(looks)) if any(one.level != "plain" for one in looks) else
