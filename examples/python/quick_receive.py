@@ -1,6 +1,6 @@
 #!/usr/bin/env python3
-"""Receives from an analyzer on a TCP port: appends each text to a file before it is acknowledged, and prints the letters
-of a session's records at its end.
+"""Receives from an analyzer on a TCP port: appends each text to a file before it is acknowledged, and prints the
+letters of a session's records at its end.
 
     quick_receive.py PORT FILE          PORT 0 is one that is free, and is told
 
