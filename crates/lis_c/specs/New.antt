@@ -10,8 +10,8 @@ use Rattle.lis_frame.specs.Scanner.{StandsFor}
 use Rattle.lis_link.specs.Receiver.{new_receiver}
 use Rattle.lis_link.specs.Sender.{new_sender}
 use Rattle.lis_link.specs.inside.Stands.{IsIn}
-use Rattle.lis_message.specs.Records.{HasLeft}
 use Rattle.lis_field.specs.Delimiters.{usual}
+use Rattle.lis_c.specs.Reading.{new_reader}
 use Rattle.lis_c.specs.contracts.draft.WriterDesk as writer_desk
 use Rattle.lis_c.specs.contracts.desk.ReaderDesk as reader_desk
 use Rattle.lis_c.specs.contracts.desk.ScannerDesk as scanner_desk
@@ -36,7 +36,7 @@ IsNewReceiver = IsNew receiver_desk.the_row (λ d. IsIn 240 d.receiver new_recei
 
 -- a desk with a reader at the start of a stream
 abbrev pub IsNewReader : Ptr → Fml
-IsNewReader = IsNew reader_desk.the_row (λ d. HasLeft d.reader None)
+IsNewReader = IsNew reader_desk.the_row (λ d. d.reader ≡ new_reader)
 
 -- a desk outside a message with the usual delimiters, and no text
 abbrev pub IsNewWriter : Ptr → Fml

@@ -1,5 +1,5 @@
 -- What C is told of the records of a stream.
-use Rattle.std.specs.Prelude.{◌≡◌, ℕ, ◌-◌, ◌==◌, List, Option, None, Some, Result, Ok, Err, if◌then◌else◌, length}
+use Rattle.std.specs.Prelude.{◌≡◌, ℕ, ◌-◌, ◌==◌, List, [], Option, None, Some, Result, Ok, Err, if◌then◌else◌, length}
 use Rattle.std.specs.Prelude.{position, take}
 use Rattle.lis_text.specs.Control.{CR}
 use Rattle.lis_field.specs.Kinds.{letter_of}
@@ -79,6 +79,10 @@ pub record ReadsAndTells (before after : RecordsState) (left : Option Begun) (pi
 abbrev pub ReadsPiece : RecordsState → RecordsState → Option Begun → List ℕ → ℕ → LisFound → Type 0
 ReadsPiece before after left bytes count out =
     ReadsAndTells before after left (take (piece_length bytes) bytes) count out
+
+-- at the start of a stream: no message is open, nothing is held, no record was cut, and no fault was met
+abbrev pub new_reader : RecordsState
+new_reader = record { opened = None; held = []; cut = None; fault = None }
 
 -- a part of the record that was read last
 abbrev pub IsCutPart : Option (Lent RecordContent) → (field repeat component : ℕ) → (status : ℕ) (out : List ℕ)

@@ -41,6 +41,10 @@ pub record TellsRecord (content : RecordContent) (status : ℕ) (out : LisRecord
   pub fields_are : out.fields ≡ length content.fields
   pub place_is : out.place ≡ 0
 
+-- nothing is told of a text where the delimiters are none
+abbrev pub no_record : LisRecord
+no_record = record { letter = 0; fields = 0; place = 0 }
+
 pub record TellsRecordFault (fault : RecordFault) (status : ℕ) (out : LisRecord) : Type 0 where
   pub why : status ≡ record_status fault
   pub letter_is : out.letter ≡ 0

@@ -1,5 +1,5 @@
 -- What C is told of a signal.
-use Rattle.std.specs.Prelude.{◌≡◌, ℕ, Bool, false, List, [], Option, None, Some, take}
+use Rattle.std.specs.Prelude.{◌≡◌, ℕ, Bool, false, List, [], Option, None, Some, length, take}
 use Rattle.lis_frame.specs.declared.scanner.SignalOf.{SignalOf}
 use Rattle.lis_frame.specs.declared.scanner.SignalOf.TheVariants.{Enq, Eot, Good, Bad}
 use Rattle.lis_c.specs.Codes.{fault_code, fault_place}
@@ -12,6 +12,7 @@ pub record HasParts (out : LisSignal) (kind number : ℕ) (last : Bool) (fault p
   pub last_is : out.last ≡ last
   pub fault_is : out.fault ≡ fault
   pub place_is : out.place ≡ place
+  pub length_is : out.len ≡ length text
   pub text_is : take out.len out.text ≡ text
 
 abbrev pub TellsSignal : Option (SignalOf 240) → LisSignal → Type 0

@@ -1,5 +1,5 @@
 -- What C is told of a receiver's step.
-use Rattle.std.specs.Prelude.{◌≡◌, ◌≢◌, ℕ, ◌<◌, Bool, true, false, List, length, Option, None, Some}
+use Rattle.std.specs.Prelude.{◌≡◌, ◌≢◌, ℕ, ◌<◌, ◌≤◌, Bool, true, false, List, length, Option, None, Some}
 use Rattle.lis_text.specs.Control.{NAK}
 use Rattle.lis_frame.specs.Frame.{FrameContent}
 use Rattle.lis_link.specs.declared.receiver.Note.TheVariants.{OutOfMemory}
@@ -39,12 +39,16 @@ pub record MakesStep (step : ReceiverStep) (old : ReceiverDesk) (out : LisStep) 
   pub text_is : HoldsText step.message out.has_text old.text new.text
   pub state : IsIn 240 new.receiver step.after
 
--- memory was refused for a frame that would be accepted and is longer than the spare room: NAK, and nothing else
+-- memory was refused for a frame that would be accepted and is longer than the spare room: NAK, and nothing else; what
+-- was reserved stays
 pub record TellsRefusedFrame (step : ReceiverStep) (r : ReceiverState) (old : ReceiverDesk) (out : LisStep)
     (new : ReceiverDesk) : Type 0 where
   pub frame : FrameContent
   pub would_accept : step.taken ≡ Some frame
   pub too_long : old.receiver.spare < length frame.text
   pub reply_is : out.reply ≡ NAK
+  pub detail_is : out.detail ≡ 0
+  pub place_is : out.place ≡ 0
   pub text_is : HoldsText None out.has_text old.text new.text
+  pub spare_kept : old.receiver.spare ≤ new.receiver.spare
   pub state : IsIn 240 new.receiver r

@@ -1,6 +1,6 @@
 //! What stands in the caller's blocks, behind the pointers.
 
-ghost use Rattle.std.specs.Prelude.{◌≡◌, ◌≢◌, ◌++◌, ◌∷◌, [], length, None, Some, MatchResult, take};
+ghost use Rattle.std.specs.Prelude.{◌≡◌, ◌≢◌, ◌≤◌, ◌++◌, ◌∷◌, [], length, None, Some, MatchResult, take};
 ghost use Rattle.lis_c.specs.Codes.{note_code, note_detail, note_place};
 ghost use Rattle.lis_c.specs.Status.{AddStatus, OK};
 ghost use Rattle.lis_c.specs.Steps.{IsNotOutOfMemory, IsOutOfMemory, MakesStep, TellsRefusedFrame, TellsStep};
@@ -8,9 +8,9 @@ ghost use Rattle.lis_frame.specs.Scanner.{StandsFor};
 ghost use Rattle.lis_link.specs.Receiver.{ReceiverState, new_receiver, on_byte, on_bytes, on_receiver_timer};
 ghost use Rattle.lis_link.specs.Receiver.{with_heard};
 ghost use Rattle.lis_link.specs.Sender.{new_sender, start_fault, started};
-ghost use Rattle.lis_link.specs.inside.Stands.{IsIn};
+ghost use Rattle.lis_link.specs.inside.Stands.{IsIn, SpareAfter};
 ghost use Rattle.lis_link.specs.declared.sender.EmitOf.TheVariants as Emits;
-ghost use Rattle.lis_message.specs.Records.{HasLeft};
+ghost use Rattle.lis_c.specs.Reading.{new_reader};
 
 use crate::lent::{DeskTexts, LentTexts};
 use crate::out::{LisStep, fault_code, fault_place};
@@ -63,7 +63,7 @@ pub(crate) fn let_go_reader(_desk: ReaderDesk) {}
 
 impl ReaderDesk {
     pub(crate) fn new(alloc: Global) -> Self
-        ensures { HasLeft result.reader None }
+        ensures { result.reader ≡ new_reader }
     {
         ReaderDesk {
             reader: RecordReader::new(alloc),
@@ -167,6 +167,7 @@ impl ReceiverDesk {
     pub(crate) fn tell(&mut self, step: Step, out: &mut LisStep)
         ensures told { TellsStep step self.old.text out.new self.new.text }
         ensures receiver { (r : ReceiverState) → IsIn 240 self.old.receiver r → IsIn 240 self.new.receiver r }
+        ensures spare { self.old.receiver.spare ≤ self.new.receiver.spare }
     {
         let Step {
             reply,
@@ -187,17 +188,21 @@ impl ReceiverDesk {
         }
     }
 
+    #[tactic(auto, using(crate::proofs::StepLaws::refused))]
     /// Hears one byte, and tells the step.
     pub(crate) fn byte(&mut self, byte: u8, out: &mut LisStep)
         ensures step { (r : ReceiverState) → IsIn 240 self.old.receiver r → IsNotOutOfMemory out.new
             → MakesStep (on_byte 240 byte r) self.old out.new self.new }
         ensures refused { (r : ReceiverState) → IsIn 240 self.old.receiver r → IsOutOfMemory out.new
             → TellsRefusedFrame (on_byte 240 byte r) (record r { past = byte ∷ r.past }) self.old out.new self.new }
+        ensures spare { (r : ReceiverState) → IsIn 240 self.old.receiver r
+            → SpareAfter self.old.receiver.spare self.new.receiver.spare (on_byte 240 byte r).taken }
     {
         let step = self.receiver.byte(byte);
         self.tell(step, out);
     }
 
+    #[tactic(auto, using(crate::proofs::StepLaws::refused, crate::proofs::StepLaws::with_more))]
     /// Hears bytes up to the first that means something, tells the step, and answers how many it heard.
     pub(crate) fn hear(&mut self, bytes: &[u8], out: &mut LisStep) -> usize
         ensures count { (r : ReceiverState) → IsIn 240 self.old.receiver r →
@@ -207,6 +212,8 @@ impl ReceiverDesk {
         ensures refused { (r : ReceiverState) → IsIn 240 self.old.receiver r → IsOutOfMemory out.new
             → TellsRefusedFrame (on_bytes 240 bytes.now r).step (with_heard (take result bytes.now) r) self.old out.new
             self.new }
+        ensures spare { (r : ReceiverState) → IsIn 240 self.old.receiver r
+            → SpareAfter self.old.receiver.spare self.new.receiver.spare (on_bytes 240 bytes.now r).step.taken }
     {
         let Hearing { count, step } = self.receiver.bytes(bytes);
         self.tell(step, out);
@@ -215,8 +222,9 @@ impl ReceiverDesk {
 
     /// The receiver's timer runs out.
     pub(crate) fn timer(&mut self, out: &mut LisStep)
-        ensures { (r : ReceiverState) → IsIn 240 self.old.receiver r →
+        ensures step { (r : ReceiverState) → IsIn 240 self.old.receiver r →
             MakesStep (on_receiver_timer r) self.old out.new self.new }
+        ensures spare { self.old.receiver.spare ≤ self.new.receiver.spare }
     {
         let step = self.receiver.timer();
         self.tell(step, out);

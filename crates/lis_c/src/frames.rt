@@ -1,6 +1,7 @@
 //! Frames for programs in C.
 
-ghost use Rattle.std.specs.Prelude.{◌≡◌, ◌≢◌, take};
+ghost use Rattle.std.specs.Prelude.{◌≡◌, ◌≢◌};
+ghost use Rattle.lis_c.specs.Emitted.{HoldsBytes};
 ghost use Rattle.lis_c.specs.Status.{OK, frame_status, text_place};
 ghost use Rattle.lis_frame.specs.Frame.{frame_bytes};
 ghost use Rattle.lis_text.specs.Text.{text_fault};
@@ -21,8 +22,8 @@ pub extern "C" fn lis_frame_write(
 ) -> u8
     ensures status { result ≡ frame_status number (text_fault 240 text.now) }
     ensures place { place.new ≡ text_place (text_fault 240 text.now) }
-    ensures written { result ≡ OK → take out.new.len out.new.bytes
-        ≡ frame_bytes (record { number = number; last = last; text = text.now }) }
+    ensures written { result ≡ OK → HoldsBytes out.new
+        (frame_bytes (record { number = number; last = last; text = text.now })) }
     ensures refused { result ≢ OK → out.new ≡ out.old }
 {
     *place = 0;

@@ -1,8 +1,8 @@
 //! Where an answer is put: structs of the caller's, each of one size, so that no length is owed, and a buffer.
 
-ghost use Rattle.std.specs.Prelude.{◌≡◌, ◌≢◌, ◌≤◌, length, take};
+ghost use Rattle.std.specs.Prelude.{◌≡◌, ◌≢◌, ◌≤◌, length};
 ghost use Rattle.lis_c.specs.Codes.{fault_code, fault_place};
-ghost use Rattle.lis_c.specs.Emitted.{emitted_bytes};
+ghost use Rattle.lis_c.specs.Emitted.{HoldsBytes, emitted_bytes};
 ghost use Rattle.lis_c.specs.Records.{IsCopied};
 ghost use Rattle.lis_c.specs.Signals.{TellsSignal};
 ghost use Rattle.lis_c.specs.Status.{OK, copy_status};
@@ -23,7 +23,7 @@ pub struct LisBytes {
 /// Puts bytes to the front.
 pub(crate) fn put(out: &mut LisBytes, bytes: &[u8])
     requires { length bytes.now ≤ 247 }
-    ensures { take out.new.len out.new.bytes ≡ bytes.now }
+    ensures { HoldsBytes out.new bytes.now }
 {
     out.bytes[..bytes.len()].copy_from_slice(bytes);
     out.len = bytes.len();
@@ -31,7 +31,7 @@ pub(crate) fn put(out: &mut LisBytes, bytes: &[u8])
 
 /// Puts what an emit is on the link.
 pub(crate) fn put_emit(out: &mut LisBytes, emit: &Emit)
-    ensures { take out.new.len out.new.bytes ≡ emitted_bytes emit.now }
+    ensures { HoldsBytes out.new (emitted_bytes emit.now) }
 {
     match emit {
         EmitOf::Nothing => put(out, &[]),

@@ -1,6 +1,7 @@
 //! The reader of records for programs in C: a stream in pieces, each record in its place (LIS02-A2).
 
 ghost use Rattle.std.specs.Prelude.{◌≡◌, ◌==◌, ◌≤◌, ◌<◌, Option, IfSome, length, position};
+ghost use Rattle.lis_c.specs.Status.{UNFINISHED};
 ghost use Rattle.lis_c.specs.declared.desk.ReaderDesk.{ReaderDesk};
 ghost use Rattle.lis_c.specs.New.{IsNewReader, type_align};
 ghost use Rattle.lis_c.specs.Reading.{AtEnd, IsCutPart, ReadsAndTells, ReadsPiece};
@@ -100,8 +101,10 @@ pub unsafe extern "C" fn lis_reader_init(alloc: Global, at: *mut u8)
 /// may be refused for bytes that are held, which is told as a fault too.
 #[unsafe(no_mangle)]
 pub extern "C" fn lis_reader_read(s: &mut LisReader, bytes: &[u8], out: &mut LisFound) -> usize
-    ensures { (left : Option Begun) → HasLeft s.old.state.reader left →
+    ensures read { (left : Option Begun) → HasLeft s.old.state.reader left →
         ReadsPiece s.old.state.reader s.new.state.reader left bytes.now result out.new }
+    ensures failed { IfSome s.old.state.reader.fault (λ fault. (result ≡ 0) × (out.new ≡ told_fault fault)
+        × (s.new.state ≡ s.old.state)) }
 {
     let piece = &bytes[..piece_length(bytes)];
     s.lend().read(piece, out)
@@ -133,6 +136,7 @@ pub extern "C" fn lis_reader_part(
 pub extern "C" fn lis_reader_finish(s: &mut LisReader, out: &mut LisFound) -> u8
     ensures read { (left : Option Begun) → HasLeft s.old.state.reader left →
         AtEnd (answer_at_end left s.old.state.reader.held) result out.new }
+    ensures failed { IfSome s.old.state.reader.fault (λ fault. (result ≡ UNFINISHED) × (out.new ≡ told_fault fault)) }
     ensures same { s.new.state ≡ s.old.state }
 {
     clear(out);
@@ -156,8 +160,10 @@ pub extern "C" fn lis_reader_end(s: LisReader)
 
 impl ReaderDesk {
     fn read(&mut self, piece: &[u8], out: &mut LisFound) -> usize
-        ensures { (left : Option Begun) → HasLeft self.old.reader left →
+        ensures read { (left : Option Begun) → HasLeft self.old.reader left →
             ReadsAndTells self.old.reader self.new.reader left piece.now result out.new }
+        ensures failed { IfSome self.old.reader.fault (λ fault. (result ≡ 0) × (out.new ≡ told_fault fault)
+            × (self.new ≡ self.old)) }
     {
         clear(out);
         let (behind, found) = self.reader.read(piece);

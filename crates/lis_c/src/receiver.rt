@@ -10,7 +10,7 @@ ghost use Rattle.lis_c.specs.contracts.desk.ReceiverDesk.{the_row as desk_row};
 ghost use Rattle.lis_link.specs.declared.receiver.Readiness.{Readiness};
 ghost use Rattle.lis_link.specs.Receiver.{ReceiverState, on_byte, on_bytes, on_receiver_timer, receiver_restarted};
 ghost use Rattle.lis_link.specs.Receiver.{held_length, with_heard, with_readiness, with_room};
-ghost use Rattle.lis_link.specs.inside.Stands.{IsIn};
+ghost use Rattle.lis_link.specs.inside.Stands.{IsIn, SpareAfter};
 ghost use Rattle.std.specs.Borrow.{sem};
 ghost use Rattle.std.specs.Mem.{type_size};
 ghost use Rattle.std.specs.Ptr.{room_at};
@@ -86,6 +86,8 @@ pub extern "C" fn lis_receiver_byte(s: &mut LisReceiver, byte: u8, out: &mut Lis
         → MakesStep (on_byte 240 byte r) s.old.state out.new s.new.state }
     ensures refused { (r : ReceiverState) → IsIn 240 s.old.state.receiver r → IsOutOfMemory out.new
         → TellsRefusedFrame (on_byte 240 byte r) (record r { past = byte ∷ r.past }) s.old.state out.new s.new.state }
+    ensures spare { (r : ReceiverState) → IsIn 240 s.old.state.receiver r
+        → SpareAfter s.old.state.receiver.spare s.new.state.receiver.spare (on_byte 240 byte r).taken }
 {
     s.lend().byte(byte, out);
 }
@@ -101,6 +103,8 @@ pub extern "C" fn lis_receiver_hear(s: &mut LisReceiver, bytes: &[u8], out: &mut
     ensures refused { (r : ReceiverState) → IsIn 240 s.old.state.receiver r → IsOutOfMemory out.new
         → TellsRefusedFrame (on_bytes 240 bytes.now r).step (with_heard (take result bytes.now) r) s.old.state out.new
         s.new.state }
+    ensures spare { (r : ReceiverState) → IsIn 240 s.old.state.receiver r
+        → SpareAfter s.old.state.receiver.spare s.new.state.receiver.spare (on_bytes 240 bytes.now r).step.taken }
 {
     s.lend().hear(bytes, out)
 }
@@ -108,8 +112,9 @@ pub extern "C" fn lis_receiver_hear(s: &mut LisReceiver, bytes: &[u8], out: &mut
 /// The receiver's timer runs out.
 #[unsafe(no_mangle)]
 pub extern "C" fn lis_receiver_timer(s: &mut LisReceiver, out: &mut LisStep)
-    ensures { (r : ReceiverState) → IsIn 240 s.old.state.receiver r →
+    ensures step { (r : ReceiverState) → IsIn 240 s.old.state.receiver r →
         MakesStep (on_receiver_timer r) s.old.state out.new s.new.state }
+    ensures spare { s.old.state.receiver.spare ≤ s.new.state.receiver.spare }
 {
     s.lend().timer(out);
 }
@@ -120,6 +125,7 @@ pub extern "C" fn lis_receiver_restart(s: &mut LisReceiver)
     ensures state { (r : ReceiverState) → IsIn 240 s.old.state.receiver r →
         IsIn 240 s.new.state.receiver (receiver_restarted r) }
     ensures text { s.new.state.text ≡ s.old.state.text }
+    ensures spare { s.old.state.receiver.spare ≤ s.new.state.receiver.spare }
 {
     s.lend().receiver.restart();
 }
@@ -130,6 +136,7 @@ pub extern "C" fn lis_receiver_set_room(s: &mut LisReceiver, room: bool)
     ensures state { (r : ReceiverState) → IsIn 240 s.old.state.receiver r →
         IsIn 240 s.new.state.receiver (with_room room r) }
     ensures text { s.new.state.text ≡ s.old.state.text }
+    ensures spare { s.new.state.receiver.spare ≡ s.old.state.receiver.spare }
 {
     s.lend().receiver.set_room(room);
 }
@@ -143,6 +150,7 @@ pub extern "C" fn lis_receiver_set_ready(s: &mut LisReceiver, readiness: u8) -> 
         (result ≡ OK) × IsIn 240 s.new.state.receiver (with_readiness known r) }
     ensures refused { 3 ≤ readiness → (result ≡ BAD_NUMBER) × (s.new.state ≡ s.old.state) }
     ensures text { s.new.state.text ≡ s.old.state.text }
+    ensures spare { s.new.state.receiver.spare ≡ s.old.state.receiver.spare }
 {
     let readiness = match readiness {
         0 => Readiness::Ready,
@@ -160,6 +168,7 @@ pub extern "C" fn lis_receiver_set_ready(s: &mut LisReceiver, readiness: u8) -> 
 pub extern "C" fn lis_receiver_reserve(s: &mut LisReceiver, bytes: u64) -> u8
     ensures status { ReserveStatus result bytes }
     ensures spare { result ≡ OK → bytes ≤ s.new.state.receiver.spare }
+    ensures kept { s.old.state.receiver.spare ≤ s.new.state.receiver.spare }
     ensures state { (r : ReceiverState) → IsIn 240 s.old.state.receiver r → IsIn 240 s.new.state.receiver r }
     ensures text { s.new.state.text ≡ s.old.state.text }
 {

@@ -4,7 +4,7 @@ ghost use Rattle.std.specs.Prelude.{◌≡◌, ◌≢◌, ◌<◌, length, take,
 ghost use Rattle.std.specs.Prelude.{IfOk, IfErr, IfSome, IfNone, MatchOption, MatchResult};
 ghost use Rattle.std.specs.Option.{option_to_list};
 ghost use Rattle.lis_c.specs.Records.{IsPart, TellsRecordFault, TellsRecord, delimiters_in, part_at, plain};
-ghost use Rattle.lis_c.specs.Records.{record_place, record_status, symbol_bytes};
+ghost use Rattle.lis_c.specs.Records.{no_record, record_place, record_status, symbol_bytes};
 ghost use Rattle.lis_c.specs.Status.{BAD_DELIMITERS};
 ghost use Rattle.lis_field.specs.declared.kinds.Kind.TheVariants as kinds;
 ghost use Rattle.lis_field.specs.Delimiters.{DelimiterBytes, IsDelimiters};
@@ -57,10 +57,7 @@ pub extern "C" fn lis_header_read(
     match lend_header(text) {
         Ok(entry) => {
             let declared = entry.delimiters();
-            delimiters.field = declared.field();
-            delimiters.repeat = declared.repeat();
-            delimiters.component = declared.component();
-            delimiters.escape = declared.escape();
+            tell_delimiters(declared, delimiters);
             tell(&entry, out)
         }
         Err(fault) => refuse(fault, out),
@@ -80,7 +77,8 @@ pub extern "C" fn lis_record_read(
         → TellsRecord content result out.new }
     ensures fault { (fault : RecordFault) → IsDelimiters (delimiters_in delimiters.now)
         → record_fault (delimiters_in delimiters.now) text.now ≡ Some fault → TellsRecordFault fault result out.new }
-    ensures delimiters { (IsDelimiters (delimiters_in delimiters.now) → ⊥) → result ≡ BAD_DELIMITERS }
+    ensures delimiters { (IsDelimiters (delimiters_in delimiters.now) → ⊥)
+        → (result ≡ BAD_DELIMITERS) × (out.new ≡ no_record) }
 {
     match record_under(delimiters, text) {
         Ok(entry) => tell(&entry, out),
@@ -102,11 +100,12 @@ pub extern "C" fn lis_header_part(
 ) -> u8
     ensures part { (d : DelimiterBytes) (content : RecordContent) → IsDelimiters d → IsRecord d text.now content
         → content.kind ≡ kinds.H → IsPart (part_at content field repeat component) result out.new size.new }
-    ensures fault { (fault : RecordFault) → header_fault text.now ≡ Some fault → result ≡ record_status fault }
+    ensures fault { (fault : RecordFault) → header_fault text.now ≡ Some fault
+        → (result ≡ record_status fault) × (size.new ≡ 0) × (out.new ≡ out.old) }
 {
     *size = 0;
     match lend_header(text) {
-        Ok(entry) => copy_part(&entry, field, repeat, component, out, size),
+        Ok(header) => copy_part(&header, field, repeat, component, out, size),
         Err(fault) => record_status(fault),
     }
 }
@@ -126,8 +125,10 @@ pub extern "C" fn lis_record_part(
         → IsRecord (delimiters_in delimiters.now) text.now content → content.kind ≢ kinds.H
         → IsPart (part_at content field repeat component) result out.new size.new }
     ensures fault { (fault : RecordFault) → IsDelimiters (delimiters_in delimiters.now)
-        → record_fault (delimiters_in delimiters.now) text.now ≡ Some fault → result ≡ record_status fault }
-    ensures delimiters { (IsDelimiters (delimiters_in delimiters.now) → ⊥) → result ≡ BAD_DELIMITERS }
+        → record_fault (delimiters_in delimiters.now) text.now ≡ Some fault
+        → (result ≡ record_status fault) × (size.new ≡ 0) × (out.new ≡ out.old) }
+    ensures delimiters { (IsDelimiters (delimiters_in delimiters.now) → ⊥)
+        → (result ≡ BAD_DELIMITERS) × (size.new ≡ 0) × (out.new ≡ out.old) }
 {
     *size = 0;
     match record_under(delimiters, text) {
@@ -160,12 +161,23 @@ fn record_under<'a>(
     ensures fault { (fault : RecordFault) → IsDelimiters (delimiters_in delimiters.now)
         → record_fault (delimiters_in delimiters.now) text.now ≡ Some fault → result ≡ Err fault }
     ensures delimiters { (IsDelimiters (delimiters_in delimiters.now) → ⊥)
-        → MatchResult result (λ _. ⊥) (λ fault. record_status fault ≡ BAD_DELIMITERS) }
+        → MatchResult result (λ _. ⊥)
+        (λ fault. (record_status fault ≡ BAD_DELIMITERS) × (record_place fault ≡ 0)) }
 {
     match known(delimiters) {
         Ok(known) => lend_record(&known, text),
         Err(fault) => Err(RecordFault::DelimiterPart(DelimiterPartFault::Fault(fault))),
     }
+}
+
+/// Tells the delimiters of a message.
+fn tell_delimiters(known: Delimiters, out: &mut LisDelimiters)
+    ensures { delimiters_in out.new ≡ known }
+{
+    out.field = known.field();
+    out.repeat = known.repeat();
+    out.component = known.component();
+    out.escape = known.escape();
 }
 
 /// Tells a record.

@@ -1,9 +1,9 @@
 //! The sender for programs in C.
 
-ghost use Rattle.std.specs.Prelude.{◌≡◌, ◌≢◌, ◌++◌, ◌∷◌, [], MatchResult, Some, length, take};
+ghost use Rattle.std.specs.Prelude.{◌≡◌, ◌≢◌, ◌++◌, ◌∷◌, [], MatchResult, Some, length};
 ghost use Rattle.lis_c.specs.declared.desk.SenderDesk.{SenderDesk};
 ghost use Rattle.lis_c.specs.Codes.{outcome_code, phase_code};
-ghost use Rattle.lis_c.specs.Emitted.{emitted_bytes};
+ghost use Rattle.lis_c.specs.Emitted.{HoldsBytes, emitted_bytes};
 ghost use Rattle.lis_c.specs.Lent.{lent_bytes, lent_status};
 ghost use Rattle.lis_c.specs.New.{IsNewSender, type_align};
 ghost use Rattle.lis_c.specs.Status.{AddStatus, FULL, OK, start_index, start_place, start_status};
@@ -110,7 +110,7 @@ pub extern "C" fn lis_sender_start(
     ensures status { result ≡ start_status (start_fault s.old.state.sender s.old.state.texts) }
     ensures index { fault.new.index ≡ start_index (start_fault s.old.state.sender s.old.state.texts) }
     ensures place { fault.new.place ≡ start_place (start_fault s.old.state.sender s.old.state.texts) }
-    ensures emit { result ≡ OK → take out.new.len out.new.bytes ≡ ENQ ∷ [] }
+    ensures emit { result ≡ OK → HoldsBytes out.new (ENQ ∷ []) }
     ensures started { result ≡ OK →
         s.new.state ≡ record s.old.state { sender = started 240 s.old.state.texts; texts = [] } }
     ensures refused { result ≢ OK → (out.new ≡ out.old) × (s.new.state ≡ s.old.state) }
@@ -137,7 +137,7 @@ pub extern "C" fn lis_sender_start_lent(
     ensures place { result ≢ FULL →
         fault.new.place ≡ start_place (start_fault s.old.state.sender (lent_bytes texts.now)) }
     ensures full { result ≡ FULL → (fault.new.index ≡ 0) × (fault.new.place ≡ 0) }
-    ensures emit { result ≡ OK → take out.new.len out.new.bytes ≡ ENQ ∷ [] }
+    ensures emit { result ≡ OK → HoldsBytes out.new (ENQ ∷ []) }
     ensures started { result ≡ OK →
         s.new.state ≡ record s.old.state { sender = started 240 (lent_bytes texts.now) } }
     ensures refused { result ≢ OK → (out.new ≡ out.old) × (s.new.state ≡ s.old.state) }
@@ -153,7 +153,7 @@ pub extern "C" fn lis_sender_start_lent(
 /// Tells how a start went, and puts what goes on the link.
 fn tell_start(start: Result<Emit, StartFault>, out: &mut LisBytes, place: &mut LisPlace) -> u8
     ensures { MatchResult start
-        (λ emit. (result ≡ OK) × (take out.new.len out.new.bytes ≡ emitted_bytes emit)
+        (λ emit. (result ≡ OK) × HoldsBytes out.new (emitted_bytes emit)
         × (place.new.index ≡ 0) × (place.new.place ≡ 0))
         (λ fault. (result ≡ start_status (Some fault)) × (out.new ≡ out.old)
         × (place.new.index ≡ start_index (Some fault)) × (place.new.place ≡ start_place (Some fault))) }
@@ -176,8 +176,7 @@ fn tell_start(start: Result<Emit, StartFault>, out: &mut LisBytes, place: &mut L
 /// A reply byte comes: what goes on the link.
 #[unsafe(no_mangle)]
 pub extern "C" fn lis_sender_reply(s: &mut LisSender, byte: u8, out: &mut LisBytes)
-    ensures emit { take out.new.len out.new.bytes
-        ≡ emitted_bytes (on_reply {limit = 240} byte s.old.state.sender).emit }
+    ensures emit { HoldsBytes out.new (emitted_bytes (on_reply {limit = 240} byte s.old.state.sender).emit) }
     ensures after { s.new.state
         ≡ record s.old.state { sender = (on_reply {limit = 240} byte s.old.state.sender).after } }
 {
@@ -188,8 +187,7 @@ pub extern "C" fn lis_sender_reply(s: &mut LisSender, byte: u8, out: &mut LisByt
 /// The timer runs out: what goes on the link.
 #[unsafe(no_mangle)]
 pub extern "C" fn lis_sender_timer(s: &mut LisSender, out: &mut LisBytes)
-    ensures emit { take out.new.len out.new.bytes
-        ≡ emitted_bytes (on_sender_timer {limit = 240} s.old.state.sender).emit }
+    ensures emit { HoldsBytes out.new (emitted_bytes (on_sender_timer {limit = 240} s.old.state.sender).emit) }
     ensures after { s.new.state
         ≡ record s.old.state { sender = (on_sender_timer {limit = 240} s.old.state.sender).after } }
 {

@@ -10,13 +10,7 @@ returns-in-Ok-clause-found c d content is_d is_record is_h =
     found_is c.lend_header.result c.in-Ok.entry (lent d content) c.in-Ok.is
     (c.lend_header.ensures.only d content is_d is_record is_h) in (
       subst (λ e. TellsRecord e.content c.tell.result c.tell.new.out) same c.tell.ensures,
-      rw (
-        c.field-delimiters.ensures.byte,
-        c.repeat-delimiters.ensures,
-        c.component-delimiters.ensures,
-        c.escape-delimiters.ensures,
-      )
-          (c.delimiters-declared.ensures ∙ ap (λ e. e.delimiters) same),
+      c.tell_delimiters.ensures ∙ c.delimiters-declared.ensures ∙ ap (λ e. e.delimiters) same,
     )
 
 pub returns-in-Err-clause-found : goal.returns-in-Err-clause-found

@@ -1,4 +1,0 @@
-use Rattle.lis_c.proofs.receiver.lis_receiver_held.Goals as goal
-
-pub returns-clause-value : goal.returns-clause-value
-returns-clause-value c = rw c.lend.ensures.value at c.held.ensures.value
