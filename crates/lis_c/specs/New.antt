@@ -30,9 +30,10 @@ IsNewScanner = IsNew scanner_desk.the_row (λ d. StandsFor 240 d.scanner [])
 abbrev pub IsNewSender : Ptr → Fml
 IsNewSender = IsNew sender_desk.the_row (λ d. (d.sender ≡ new_sender) × (d.texts ≡ []))
 
--- a desk with a new receiver, and no text
+-- a desk with a new receiver, which has reserved nothing, and no text
 abbrev pub IsNewReceiver : Ptr → Fml
-IsNewReceiver = IsNew receiver_desk.the_row (λ d. IsIn 240 d.receiver new_receiver × (d.text ≡ []))
+IsNewReceiver = IsNew receiver_desk.the_row (λ d. IsIn 240 d.receiver new_receiver × (d.receiver.spare ≡ 0)
+    × (d.text ≡ []))
 
 -- a desk with a reader at the start of a stream
 abbrev pub IsNewReader : Ptr → Fml

@@ -155,7 +155,7 @@ impl SenderDesk {
 
 impl ReceiverDesk {
     pub(crate) fn new(alloc: Global) -> Self
-        ensures { IsIn 240 result.receiver new_receiver × (result.text ≡ []) }
+        ensures { IsIn 240 result.receiver new_receiver × (result.receiver.spare ≡ 0) × (result.text ≡ []) }
     {
         ReceiverDesk {
             receiver: Receiver::new(alloc),

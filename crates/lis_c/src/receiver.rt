@@ -1,10 +1,10 @@
 //! The receiver for programs in C.
 
-ghost use Rattle.std.specs.Prelude.{◌≡◌, ◌≢◌, ◌≤◌, ◌∷◌, length, take};
+ghost use Rattle.std.specs.Prelude.{◌≡◌, ◌≢◌, ◌≤◌, ◌<◌, ◌∷◌, length, take};
 ghost use Rattle.lis_c.specs.declared.desk.ReceiverDesk.{ReceiverDesk};
 ghost use Rattle.lis_c.specs.Codes.{readiness_code};
 ghost use Rattle.lis_c.specs.New.{IsNewReceiver, type_align};
-ghost use Rattle.lis_c.specs.Status.{BAD_NUMBER, OK, ReserveStatus, copy_status};
+ghost use Rattle.lis_c.specs.Status.{BAD_NUMBER, OK, OUT_OF_MEMORY, ReserveStatus, copy_status};
 ghost use Rattle.lis_c.specs.Steps.{IsNotOutOfMemory, IsOutOfMemory, TellsRefusedFrame, MakesStep};
 ghost use Rattle.lis_c.specs.contracts.desk.ReceiverDesk.{the_row as desk_row};
 ghost use Rattle.lis_link.specs.declared.receiver.Readiness.{Readiness};
@@ -163,12 +163,13 @@ pub extern "C" fn lis_receiver_set_ready(s: &mut LisReceiver, readiness: u8) -> 
 }
 
 /// Makes room for `bytes` more bytes of held text, so that taking them takes no memory: `OK`, `TOO_LONG` where no text
-/// has as many, or `OUT_OF_MEMORY`. The state stays.
+/// has as many, or `OUT_OF_MEMORY`, and then there was less room. The state stays.
 #[unsafe(no_mangle)]
 pub extern "C" fn lis_receiver_reserve(s: &mut LisReceiver, bytes: u64) -> u8
     ensures status { ReserveStatus result bytes }
     ensures spare { result ≡ OK → bytes ≤ s.new.state.receiver.spare }
     ensures kept { s.old.state.receiver.spare ≤ s.new.state.receiver.spare }
+    ensures refused { result ≡ OUT_OF_MEMORY → s.old.state.receiver.spare < bytes }
     ensures state { (r : ReceiverState) → IsIn 240 s.old.state.receiver r → IsIn 240 s.new.state.receiver r }
     ensures text { s.new.state.text ≡ s.old.state.text }
 {
