@@ -75,6 +75,7 @@ install: build library
 	install -D -m 644 include/lislink.h $(DESTDIR)$(PREFIX)/include/lislink.h
 	install -D -m 644 examples/python/lislink.py $(DESTDIR)$(PREFIX)/share/lislink/lislink.py
 	install -D -m 644 docs/man/lislink.1 $(DESTDIR)$(PREFIX)/share/man/man1/lislink.1
+	install -D -m 644 docs/man/lislab.1 $(DESTDIR)$(PREFIX)/share/man/man1/lislab.1
 	install -D -m 644 docs/man/lislink.3 $(DESTDIR)$(PREFIX)/share/man/man3/lislink.3
 	install -d $(DESTDIR)$(PREFIX)/lib/pkgconfig
 	sed 's|@PREFIX@|$(PREFIX)|; s|@VERSION@|$(VERSION)|' docs/lislink.pc > $(DESTDIR)$(PREFIX)/lib/pkgconfig/lislink.pc

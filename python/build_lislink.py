@@ -1,7 +1,7 @@
 """Builds the wheel of lislink with the standard library alone, so that `pip install ./python` works without a network.
 
-The wheel holds liblislink.so: that of LISLINK_LIBRARY, of src/lislink, or of the repository's build/, which `make library`
-makes.
+The wheel holds liblislink.so: that of LISLINK_LIBRARY, of src/lislink, or of the repository's build/, which `make
+library` makes.
 """
 import base64
 import hashlib
@@ -19,8 +19,10 @@ LIBRARY = "liblislink.so"
 def _project():
     with open(os.path.join(HERE, "pyproject.toml"), encoding="utf-8") as file:
         text = file.read()
-    return {name: re.search(rf'^{name} = "(.*)"$', text, re.M)[1]
-            for name in ("name", "version", "description", "readme", "requires-python")}
+    return {
+        name: re.search(rf'^{name} = "(.*)"$', text, re.M)[1]
+        for name in ("name", "version", "description", "readme", "requires-python")
+    }
 
 
 def _library():
@@ -35,10 +37,12 @@ def _library():
 def _metadata(project):
     with open(os.path.join(HERE, project["readme"]), encoding="utf-8") as file:
         text = file.read()
-    return (f"Metadata-Version: 2.1\nName: {project['name']}\nVersion: {project['version']}\n"
-            f"Summary: {project['description']}\nRequires-Python: {project['requires-python']}\n"
-            "Provides-Extra: serial\nRequires-Dist: pyserial; extra == 'serial'\n"
-            f"Description-Content-Type: text/markdown\n\n{text}")
+    return (
+        f"Metadata-Version: 2.1\nName: {project['name']}\nVersion: {project['version']}\n"
+        f"Summary: {project['description']}\nRequires-Python: {project['requires-python']}\n"
+        "Provides-Extra: serial\nRequires-Dist: pyserial; extra == 'serial'\n"
+        f"Description-Content-Type: text/markdown\n\n{text}"
+    )
 
 
 def _tag():
@@ -59,7 +63,9 @@ def _write(wheel_directory, files):
     info = f"{project['name']}-{project['version']}.dist-info"
     name = f"{project['name']}-{project['version']}-{_tag()}.whl"
     files[f"{info}/METADATA"] = _metadata(project).encode()
-    files[f"{info}/WHEEL"] = f"Wheel-Version: 1.0\nGenerator: build_lislink\nRoot-Is-Purelib: false\nTag: {_tag()}\n".encode()
+    files[
+        f"{info}/WHEEL"
+    ] = f"Wheel-Version: 1.0\nGenerator: build_lislink\nRoot-Is-Purelib: false\nTag: {_tag()}\n".encode()
     files[f"{info}/entry_points.txt"] = b"[console_scripts]\nlislab = lislink.cli:main\n"
     rows = []
     with zipfile.ZipFile(os.path.join(wheel_directory, name), "w", zipfile.ZIP_DEFLATED) as wheel:

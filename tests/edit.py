@@ -1,8 +1,9 @@
 """Edits of the code, as mutants and harmless rewrites: how they are read, listed and made in a copy of the crates.
 
-An edit is a file NAME.edit with the lines 'file: src/x.rt' and then pairs 'old: TEXT' and 'new: TEXT', each TEXT one line;
-each old text stands in its file exactly once. Lines that begin with '#' say more of it: '# call:' the public calls whose
-mistake a mutant is, '# unseen:' why no test can notice it, '# only:' the functions that a rewrite must leave proved.
+An edit is a file NAME.edit with the lines 'file: src/x.rt' and then pairs 'old: TEXT' and 'new: TEXT', each TEXT one
+line; each old text stands in its file exactly once. Lines that begin with '#' say more of it: '# call:' the public
+calls whose mistake a mutant is, '# unseen:' why no test can notice it, '# only:' the functions that a rewrite must
+leave proved.
 """
 import glob
 import os
@@ -88,8 +89,8 @@ def names_of(head):
 
 
 class Functions:
-    """The functions of a crate that others can call: `public`, as NAME or TYPE::NAME, those of its traits too, and of each
-    method of a trait the names by which its implementations are called."""
+    """The functions of a crate that others can call: `public`, as NAME or TYPE::NAME, those of its traits too, and of
+    each method of a trait the names by which its implementations are called."""
 
     def __init__(self, crate):
         self.public, self.implemented = set(), {}

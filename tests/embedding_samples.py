@@ -1,4 +1,5 @@
-"""The samples that keep a text and then reply, killed in mid-session and with a text that can't be kept; and quick_send."""
+"""The samples that keep a text and then reply, killed in mid-session and with a text that can't be kept; and
+quick_send."""
 import os
 import signal
 import socket

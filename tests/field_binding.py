@@ -10,8 +10,28 @@ import venv
 
 import lislink
 from field_kit import ROOT
-from lislink import (FrameFault, Kind, LinkError, MessageError, Note, Outcome, Phase, Readiness, Reader, Reason, Receiver, Record,
-                     Scanner, Sender, Status, Writer, WrongThread, frame_bytes, messages, records)
+from lislink import (
+    FrameFault,
+    Kind,
+    LinkError,
+    MessageError,
+    Note,
+    Outcome,
+    Phase,
+    Readiness,
+    Reader,
+    Reason,
+    Receiver,
+    Record,
+    Scanner,
+    Sender,
+    Status,
+    Writer,
+    WrongThread,
+    frame_bytes,
+    messages,
+    records,
+)
 
 FIRST = bytes.fromhex("0231487c5c5e260d0345350d0a")
 PYTHON = os.path.join(ROOT, "python")
@@ -36,7 +56,11 @@ def of_docstrings(count):
         if callable(one):
             count.true(f"{name} has a docstring", bool(one.__doc__))
             for part, value in vars(one).items() if isinstance(one, type) else ():
-                if not part.startswith("_") and (callable(value) or isinstance(value, property)) and value.__class__.__name__ != "member":
+                if (
+                    not part.startswith("_")
+                    and (callable(value) or isinstance(value, property))
+                    and value.__class__.__name__ != "member"
+                ):
                     count.true(f"{name}.{part} has a docstring", bool(value.__doc__))
 
 
@@ -55,7 +79,9 @@ def of_values(count):
     rejected(count, "frame_bytes: too long", lambda: frame_bytes(1, True, b"a" * 241), Status.TOO_LONG)
     with Scanner() as scanner:
         signals = list(scanner.feed(b"\x05" + FIRST + b"\x021\x02\n\x04"))
-        count.same("scanner: kinds", [one.kind for one in signals], [Kind.ENQ, Kind.FRAME, Kind.BAD_FRAME, Kind.EOT])
+        count.same(
+            "scanner: kinds", [one.kind for one in signals], [Kind.ENQ, Kind.FRAME, Kind.BAD_FRAME, Kind.EOT]
+        )
         count.same("scanner: a frame", signals[1][1:], (1, True, FrameFault.NONE, 0, b"H|\\^&\r"))
         count.same("scanner: a place", [place for place, _ in scanner.feed_placed(b"x\x05" + FIRST)], [1, 14])
     with Sender() as sender:
@@ -64,22 +90,32 @@ def of_values(count):
         count.same("sender: start", (sender.start(), sender.phase, sender.seconds), (b"\x05", Phase.AWAIT_LINE, 15))
         count.same("sender: busy", (sender.reply(21), sender.seconds, sender.timer()), (b"", 10, b"\x05"))
         count.same("sender: a frame", (sender.reply(6), sender.reply(21)), (FIRST, FIRST))
-        count.same("sender: done", (sender.reply(6), sender.outcome, sender.acknowledged), (b"\x04", Outcome.DONE, 1))
+        count.same(
+            "sender: done", (sender.reply(6), sender.outcome, sender.acknowledged), (b"\x04", Outcome.DONE, 1)
+        )
     with Receiver() as receiver:
         steps = list(receiver.hear(b"noise\x05" + FIRST + FIRST + b"\x04"))
-        count.same("receiver: notes", [one.note for one in steps], [Note.OPENED, Note.ACCEPTED, Note.DUPLICATE, Note.ENDED])
+        count.same(
+            "receiver: notes", [one.note for one in steps], [Note.OPENED, Note.ACCEPTED, Note.DUPLICATE, Note.ENDED]
+        )
         count.same("receiver: texts", [one.text for one in steps], [None, b"H|\\^&\r", None, None])
         receiver.set_ready(Readiness.BUSY)
         count.same("receiver: busy", [one.reply for one in receiver.hear(b"\x05")], [b"\x15"])
         receiver.set_ready(Readiness.READY)
         receiver.set_room(False)
-        count.same("receiver: no room", [one.note for one in receiver.hear(b"\x05" + FIRST)], [Note.OPENED, Note.NO_ROOM])
+        count.same(
+            "receiver: no room", [one.note for one in receiver.hear(b"\x05" + FIRST)], [Note.OPENED, Note.NO_ROOM]
+        )
         count.same("receiver: timer", receiver.timer().note, Note.TIMED_OUT)
 
 
 def of_records(count):
     header = Record(b"H|\\^&|||Analyzer&F&7")
-    count.same("record: a header", (header.letter, header.fields, header.part(5), header.delimiters), ("H", 3, b"Analyzer|7", b"|\\^&"))
+    count.same(
+        "record: a header",
+        (header.letter, header.fields, header.part(5), header.delimiters),
+        ("H", 3, b"Analyzer|7", b"|\\^&"),
+    )
     result = Record(b"r|1|^^^GLU\\^^^NA|5.4", header)
     count.same("record: parts", (result.part(3, 1, 3), result.part(3, 2, 0), result.part(4)), (b"NA", None, b"5.4"))
     rejected(count, "record: delimiters", lambda: Record(b"H|\\^^"), Status.BAD_DELIMITERS)
@@ -93,46 +129,74 @@ def of_records(count):
         count.same("writer: texts", writer.texts(), [b"H|\\^&|||a\r", b"P|1|^x&F&y\r", b"L|1|N\r"])
     stream = b"H|\\^&\rP|1\rO|1|S7||^^^GLU\\^^^NA\rR|1|^^^GLU|5&X0D&\rL|1|N\r"
     for size in (1, 3, len(stream)):
-        told = list(messages([stream[at:at + size] for at in range(0, len(stream), size)]))
+        told = list(messages([stream[at : at + size] for at in range(0, len(stream), size)]))
         count.same(f"messages: pieces of {size}", [row.letter for row in told[0]], list("HPORL"))
-        count.same(f"messages: parts in pieces of {size}", (told[0][2].part(5, 1, 3), told[0][3].part(4)), (b"NA", b"5\r"))
+        count.same(
+            f"messages: parts in pieces of {size}", (told[0][2].part(5, 1, 3), told[0][3].part(4)), (b"NA", b"5\r")
+        )
     with Reader() as reader:
         list(reader.feed(b"H|\\^&\r"))
         try:
             list(reader.feed(b"R|1\r"))
         except MessageError as error:
-            count.same("reader: a fault", (error.number, error.reason, error.detail), (2, Reason.NO_PARENT, ord("R")))
+            count.same(
+                "reader: a fault", (error.number, error.reason, error.detail), (2, Reason.NO_PARENT, ord("R"))
+            )
 
 
 def of_types(count):
     """Wrong types and numbers are rejected, and change nothing."""
     with Scanner() as scanner, Receiver() as receiver, Sender() as sender, Reader() as reader, Writer() as writer:
-        for name, call in (("hear(5)", lambda: receiver.hear(5)), ("hear of text", lambda: receiver.hear("ENQ")),
-                           ("hear of None", lambda: receiver.hear(None)), ("hear of a list", lambda: receiver.hear([5])),
-                           ("feed(5)", lambda: scanner.feed(5)), ("feed of text", lambda: reader.feed("H")),
-                           ("add_text(5)", lambda: sender.add_text(5)), ("reply of bytes", lambda: sender.reply(b"\x06")),
-                           ("reply(True)", lambda: sender.reply(True)), ("reply(6.0)", lambda: sender.reply(6.0)),
-                           ("set_room(1)", lambda: receiver.set_room(1)), ("set_ready(True)", lambda: receiver.set_ready(True)),
-                           ("reserve of text", lambda: receiver.reserve("1")), ("frame_bytes of text", lambda: frame_bytes(1, True, "a")),
-                           ("frame_bytes, last of 1", lambda: frame_bytes(1, 1, b"a")), ("Record of text", lambda: Record("H|\\^&")),
-                           ("records of text", lambda: list(records(["H|\\^&"]))), ("record of a number", lambda: writer.record(72, [])),
-                           ("a field of text", lambda: writer.record("H", ["a"]))):
+        for name, call in (
+            ("hear(5)", lambda: receiver.hear(5)),
+            ("hear of text", lambda: receiver.hear("ENQ")),
+            ("hear of None", lambda: receiver.hear(None)),
+            ("hear of a list", lambda: receiver.hear([5])),
+            ("feed(5)", lambda: scanner.feed(5)),
+            ("feed of text", lambda: reader.feed("H")),
+            ("add_text(5)", lambda: sender.add_text(5)),
+            ("reply of bytes", lambda: sender.reply(b"\x06")),
+            ("reply(True)", lambda: sender.reply(True)),
+            ("reply(6.0)", lambda: sender.reply(6.0)),
+            ("set_room(1)", lambda: receiver.set_room(1)),
+            ("set_ready(True)", lambda: receiver.set_ready(True)),
+            ("reserve of text", lambda: receiver.reserve("1")),
+            ("frame_bytes of text", lambda: frame_bytes(1, True, "a")),
+            ("frame_bytes, last of 1", lambda: frame_bytes(1, 1, b"a")),
+            ("Record of text", lambda: Record("H|\\^&")),
+            ("records of text", lambda: list(records(["H|\\^&"]))),
+            ("record of a number", lambda: writer.record(72, [])),
+            ("a field of text", lambda: writer.record("H", ["a"])),
+        ):
             count.raises(name, TypeError, call)
-        for name, call in (("reply(300)", lambda: sender.reply(300)), ("reply(-1)", lambda: sender.reply(-1)),
-                           ("reserve(-1)", lambda: receiver.reserve(-1)), ("reserve(2 ** 64)", lambda: receiver.reserve(1 << 64)),
-                           ("set_ready(7)", lambda: receiver.set_ready(7)), ("frame 300", lambda: frame_bytes(300, True, b"")),
-                           ("part(-1)", lambda: Record(b"H|\\^&|x").part(-1)), ("five delimiters", lambda: writer.start(b"|\\^&~"))):
+        for name, call in (
+            ("reply(300)", lambda: sender.reply(300)),
+            ("reply(-1)", lambda: sender.reply(-1)),
+            ("reserve(-1)", lambda: receiver.reserve(-1)),
+            ("reserve(2 ** 64)", lambda: receiver.reserve(1 << 64)),
+            ("set_ready(7)", lambda: receiver.set_ready(7)),
+            ("frame 300", lambda: frame_bytes(300, True, b"")),
+            ("part(-1)", lambda: Record(b"H|\\^&|x").part(-1)),
+            ("five delimiters", lambda: writer.start(b"|\\^&~")),
+        ):
             count.raises(name, ValueError, call)
-        count.same("nothing was heard", (receiver.is_open, receiver.waiting, list(receiver.hear(b""))), (False, 0, []))
+        count.same(
+            "nothing was heard", (receiver.is_open, receiver.waiting, list(receiver.hear(b""))), (False, 0, [])
+        )
     count.raises("a closed receiver", ValueError, lambda: receiver.hear(b"\x05"))
     count.raises("a closed sender", ValueError, sender.timer)
 
 
 def of_threads(count):
     """A handle that is used from another thread raises, and lives on in its own."""
-    for kind, call in ((Receiver, lambda one: list(one.hear(b"\x05"))), (Scanner, lambda one: list(one.feed(b"\x05"))),
-                       (Sender, lambda one: one.add_text(b"a")), (Reader, lambda one: list(one.feed(b"H"))),
-                       (Writer, lambda one: one.texts()), (Receiver, lambda one: one.close())):
+    for kind, call in (
+        (Receiver, lambda one: list(one.hear(b"\x05"))),
+        (Scanner, lambda one: list(one.feed(b"\x05"))),
+        (Sender, lambda one: one.add_text(b"a")),
+        (Reader, lambda one: list(one.feed(b"H"))),
+        (Writer, lambda one: one.texts()),
+        (Receiver, lambda one: one.close()),
+    ):
         told = []
 
         def other(handle):
@@ -141,6 +205,7 @@ def of_threads(count):
                 told.append(None)
             except Exception as error:
                 told.append(type(error))
+
         with kind() as handle:
             thread = threading.Thread(target=other, args=(handle,))
             thread.start()
@@ -155,13 +220,18 @@ def of_pieces(count):
         for step in receiver.hear(b"\x05" + FIRST + b"\x04"):
             break
         count.same("receiver: what is left waits", receiver.waiting, len(FIRST) + 1)
-        count.same("receiver: it is heard next", [one.note for one in receiver.hear(b"\x05")],
-                   [Note.ACCEPTED, Note.ENDED, Note.OPENED])
+        count.same(
+            "receiver: it is heard next",
+            [one.note for one in receiver.hear(b"\x05")],
+            [Note.ACCEPTED, Note.ENDED, Note.OPENED],
+        )
         receiver.hear(FIRST)
         count.same("receiver: a piece without a loop", [one.note for one in receiver.hear(b"")], [Note.ACCEPTED])
     with Scanner() as scanner:
         next(scanner.feed(b"\x05\x04\x05"))
-        count.same("scanner: places of what was left", [place for place, _ in scanner.feed_placed(b"\x04")], [-2, -1, 0])
+        count.same(
+            "scanner: places of what was left", [place for place, _ in scanner.feed_placed(b"\x04")], [-2, -1, 0]
+        )
     with Reader() as reader:
         next(reader.feed(b"H|\\^&\rP|1\rO|1\r"))
         count.same("reader: what is left is read", [row.letter for row in reader.feed(b"L|1\r")], ["P", "O", "L"])
@@ -179,28 +249,53 @@ def of_package(count):
         print("field: no pip here: the wheel was not built")
         return
     folder = count.path("wheel")
-    done = subprocess.run([sys.executable, "-m", "pip", "wheel", "--quiet", "--no-index", "--no-deps", "-w", folder, PYTHON],
-                          capture_output=True, text=True, check=False)
+    done = subprocess.run(
+        [sys.executable, "-m", "pip", "wheel", "--quiet", "--no-index", "--no-deps", "-w", folder, PYTHON],
+        capture_output=True,
+        text=True,
+        check=False,
+    )
     wheels = glob.glob(os.path.join(folder, "*.whl"))
     if not count.true("the wheel is built offline", len(wheels) == 1, done.stderr[-1500:]):
         return
     home = count.path("home")
     venv.create(home, with_pip=False, symlinks=True)
     python = os.path.join(home, "bin", "python")
-    target = sysconfig.get_path("purelib", "venv" if "venv" in sysconfig.get_scheme_names() else "posix_prefix",
-                                vars={"base": home, "platbase": home})
-    done = subprocess.run([sys.executable, "-m", "pip", "install", "--quiet", "--no-index", "--no-deps", "--target", target, *wheels],
-                          capture_output=True, text=True, check=False)
+    target = sysconfig.get_path(
+        "purelib",
+        "venv" if "venv" in sysconfig.get_scheme_names() else "posix_prefix",
+        vars={"base": home, "platbase": home},
+    )
+    done = subprocess.run(
+        [sys.executable, "-m", "pip", "install", "--quiet", "--no-index", "--no-deps", "--target", target, *wheels],
+        capture_output=True,
+        text=True,
+        check=False,
+    )
     count.same("the wheel is installed", (done.returncode, done.stderr if done.returncode else ""), (0, ""))
     clean = {name: value for name, value in os.environ.items() if name not in ("LISLINK_LIBRARY", "PYTHONPATH")}
     sample = os.path.join(ROOT, "samples", "session.capture")
-    done = subprocess.run([python, "-m", "lislink", "ladder", sample], cwd="/", env=clean, capture_output=True, text=True, check=False)
+    done = subprocess.run(
+        [python, "-m", "lislink", "ladder", sample], cwd="/", env=clean, capture_output=True, text=True, check=False
+    )
     count.has("the installed package finds its library", done.stdout + done.stderr, "texts 2, differences 0")
-    done = subprocess.run([python, "-c", "import lislink; print(lislink.__version__, lislink.__doc__ != '')"], cwd="/", env=clean,
-                          capture_output=True, text=True, check=False)
+    done = subprocess.run(
+        [python, "-c", "import lislink; print(lislink.__version__, lislink.__doc__ != '')"],
+        cwd="/",
+        env=clean,
+        capture_output=True,
+        text=True,
+        check=False,
+    )
     count.same("the version", done.stdout, "0.1.0 True\n")
-    lost = subprocess.run([sys.executable, "-c", "import lislink; lislink.Scanner()"], cwd="/", capture_output=True, text=True,
-                          env={**clean, "PYTHONPATH": os.path.join(PYTHON, "src"), "LISLINK_LIBRARY": "/nowhere.so"}, check=False)
+    lost = subprocess.run(
+        [sys.executable, "-c", "import lislink; lislink.Scanner()"],
+        cwd="/",
+        capture_output=True,
+        text=True,
+        env={**clean, "PYTHONPATH": os.path.join(PYTHON, "src"), "LISLINK_LIBRARY": "/nowhere.so"},
+        check=False,
+    )
     count.has("a library that isn't there", lost.stderr, "make library")
 
 

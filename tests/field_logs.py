@@ -75,7 +75,9 @@ def of_packets(count):
         count.same(f"{name}: status ({ran.error})", ran.status, 0)
         count.same(name, bytes_of(out).decode(), wanted)
         times = bytes_of(out + ".times").decode().splitlines()
-        count.true(f"{name}: times", len(times) == 10 and times[0].startswith("2026-11-20T09:15:02.00001"), str(times[:2]))
+        count.true(
+            f"{name}: times", len(times) == 10 and times[0].startswith("2026-11-20T09:15:02.00001"), str(times[:2])
+        )
     plain = field_packets.segments(session)
     gap = count.path("gap.pcap", field_packets.pcap(plain[:5] + plain[6:]))
     count.has("a packet is missing", lislab("capture", gap).error, "bytes are missing")
@@ -84,50 +86,94 @@ def of_packets(count):
     count.has("a packet is missing, told", ran.error, "8 bytes aren't in the file")
     cut = count.path("cut.pcap", field_packets.pcap(plain)[:-9])
     count.same("a last packet that is cut", lislab("capture", cut).status, 0)
-    twice = count.path("twice.pcap", field_packets.pcap(plain + [
-        (time + 5, packet.replace(b"\xc8\x22", b"\xc8\x23")) for time, packet in plain]))
+    twice = count.path(
+        "twice.pcap",
+        field_packets.pcap(
+            plain + [(time + 5, packet.replace(b"\xc8\x22", b"\xc8\x23")) for time, packet in plain]
+        ),
+    )
     ran = lislab("capture", twice)
     count.same("a second connection follows", ran.text, "capture 2\n" + wanted + "R\n" + wanted)
     count.same("the second connection alone", lislab("capture", twice, "--stream", "2").text, wanted)
     noise = random.Random(3)
-    other = [(0.001 * at, field_packets.tcp(("10.0.0.9", 40000), ("10.0.0.8", 22), 5 + 900 * at, bytes(noise.choices(range(256), k=900))))
-             for at in range(300)]
+    other = [
+        (
+            0.001 * at,
+            field_packets.tcp(
+                ("10.0.0.9", 40000), ("10.0.0.8", 22), 5 + 900 * at, bytes(noise.choices(range(256), k=900))
+            ),
+        )
+        for at in range(300)
+    ]
     mixed = count.path("mixed.pcap", field_packets.pcap(sorted(plain + other)))
     count.same("among connections of other kinds", lislab("capture", mixed).text, wanted)
-    both = count.path("both.pcap", field_packets.pcap(sorted(plain + [
-        (time, packet.replace(b"\x0a\0\0\x01", b"\x0a\0\0\x07")) for time, packet in plain])))
+    both = count.path(
+        "both.pcap",
+        field_packets.pcap(
+            sorted(plain + [(time, packet.replace(b"\x0a\0\0\x01", b"\x0a\0\0\x07")) for time, packet in plain])
+        ),
+    )
     count.has("two lines at once", lislab("capture", both).error, "--stream 2: ")
     count.same("two lines at once, the first", lislab("capture", both, "--stream", "1").text, wanted)
 
 
 def of_two_dumps(count):
     """Two raw dumps, one of each direction."""
-    ran = lislab("capture", "--analyzer", os.path.join(LOGS, "analyzer.bin"), "--computer", os.path.join(LOGS, "computer.bin"))
+    ran = lislab(
+        "capture",
+        "--analyzer",
+        os.path.join(LOGS, "analyzer.bin"),
+        "--computer",
+        os.path.join(LOGS, "computer.bin"),
+    )
     count.same("two dumps", ran.text, lislab("capture", os.path.join(LOGS, "socat-x.txt"), "--units").text)
     count.has("two dumps: the order is unknown", ran.error, "their order isn't known")
-    count.same("a dump without the other", lislab("capture", "--analyzer", os.path.join(LOGS, "analyzer.bin")).status, 2)
+    count.same(
+        "a dump without the other", lislab("capture", "--analyzer", os.path.join(LOGS, "analyzer.bin")).status, 2
+    )
 
 
 def of_errors(count):
     """What is no log is an error, and never an empty capture."""
     for name, data, words in (
-            ("nothing", b"", "empty"), ("blanks", b"\n \n", "empty"), ("a letter", b"Dear Sir,\nthe line is down.\n", "no line"),
-            ("ASCII of Follow", b"Follow: tcp,ascii\nFilter: tcp.stream eq 0\n1\n.\n", "lost the control bytes"),
-            ("socat -v alone", b"> 2026/11/20 09:15:02.000012  length=1 from=0 to=0\n.--\n", "use socat -x"),
-            ("a block that lacks a byte", b"> 2026/11/20 09:15:02.000012  length=2 from=0 to=1\n 05\n", "lacks"),
-            ("a cut strace", b'1 read(5, "\\5", 4096) = 1\n1 read(5, "\\0021H|"..., 4096) = 40\n', "-s 4096"),
-            ("a row that is missing", b"00000000  05 02 31\n00000010  48\n", "row is missing"),
-            ("two descriptors", b'1 read(5, "\\5", 9) = 1\n1 write(5, "\\6", 1) = 1\n1 read(6, "\\5", 9) = 1\n', "choose one by --fd"),
-            ("a Portmon line that is cut", b"1\t0.1\ta.exe\tIRP_MJ_READ\tSerial0\tSUCCESS\tLength 3: 05 02\n", "Portmon"),
-            ("an empty pcap", field_packets.pcap([]), "no TCP connection"),
-            ("a capture of a bus", field_packets.pcap(field_packets.segments(timed_session())).replace(
-                b"\xff\xff\0\0\1\0\0\0", b"\xff\xff\0\0\xf9\0\0\0"), "type 249"),
-            ("replies alone", b"RX: 06\nRX: 06\n", "replies alone"), ("a capture", b"> 05\n", "already")):
+        ("nothing", b"", "empty"),
+        ("blanks", b"\n \n", "empty"),
+        ("a letter", b"Dear Sir,\nthe line is down.\n", "no line"),
+        ("ASCII of Follow", b"Follow: tcp,ascii\nFilter: tcp.stream eq 0\n1\n.\n", "lost the control bytes"),
+        ("socat -v alone", b"> 2026/11/20 09:15:02.000012  length=1 from=0 to=0\n.--\n", "use socat -x"),
+        ("a block that lacks a byte", b"> 2026/11/20 09:15:02.000012  length=2 from=0 to=1\n 05\n", "lacks"),
+        ("a cut strace", b'1 read(5, "\\5", 4096) = 1\n1 read(5, "\\0021H|"..., 4096) = 40\n', "-s 4096"),
+        ("a row that is missing", b"00000000  05 02 31\n00000010  48\n", "row is missing"),
+        (
+            "two descriptors",
+            b'1 read(5, "\\5", 9) = 1\n1 write(5, "\\6", 1) = 1\n1 read(6, "\\5", 9) = 1\n',
+            "choose one by --fd",
+        ),
+        (
+            "a Portmon line that is cut",
+            b"1\t0.1\ta.exe\tIRP_MJ_READ\tSerial0\tSUCCESS\tLength 3: 05 02\n",
+            "Portmon",
+        ),
+        ("an empty pcap", field_packets.pcap([]), "no TCP connection"),
+        (
+            "a capture of a bus",
+            field_packets.pcap(field_packets.segments(timed_session())).replace(
+                b"\xff\xff\0\0\1\0\0\0", b"\xff\xff\0\0\xf9\0\0\0"
+            ),
+            "type 249",
+        ),
+        ("replies alone", b"RX: 06\nRX: 06\n", "replies alone"),
+        ("a capture", b"> 05\n", "already"),
+    ):
         ran = lislab("capture", count.path("log", data))
         count.same(f"{name}: status", ran.status, 3)
         count.same(f"{name}: no capture", ran.output, b"")
         count.has(name, ran.error, words)
-    count.has("records are no line", lislab("ladder", os.path.join(ROOT, "samples", "panel.records")).error, "normalize --explain")
+    count.has(
+        "records are no line",
+        lislab("ladder", os.path.join(ROOT, "samples", "panel.records")).error,
+        "normalize --explain",
+    )
     out = count.path("never")
     lislab("capture", count.path("log", b"nothing here\n"), "-o", out)
     count.true("no file is made of nothing", not os.path.exists(out))
@@ -139,10 +185,16 @@ def of_options(count):
     swapped = lislab("capture", log, "--swap").lines
     elf = b'1 read(3, "\\177ELF\\2\\1\\1\\0\\5", 832) = 9\n'
     strace = elf + bytes_of(os.path.join(LOGS, "strace.txt")) + elf.replace(b"3,", b"4,")
-    count.same("descriptors of other kinds", lislab("capture", count.path("log", strace)).text, bytes_of(SESSION).decode())
+    count.same(
+        "descriptors of other kinds", lislab("capture", count.path("log", strace)).text, bytes_of(SESSION).decode()
+    )
     count.same("--swap", swapped[:2], ["< 05", "> 06"])
     count.same("--analyzer-side", lislab("capture", log, "--analyzer-side", "<").lines, swapped)
-    count.has("--analyzer-side of none", lislab("capture", log, "--analyzer-side", "x").error, "isn't one of the two sides")
+    count.has(
+        "--analyzer-side of none",
+        lislab("capture", log, "--analyzer-side", "x").error,
+        "isn't one of the two sides",
+    )
     count.has("--timer", lislab("capture", log, "--timer", "0.09").text, "\nT\n")
     count.true("no timer", "T" not in lislab("capture", log, "--timer", "30").lines)
     both = b"RX: 05\nTX: 06\nRX: 02 31 4F 7C 31 0D 03 42 35 0D 0A\nTX: 06\nRX: 04\nTX: 05\nRX: 06\nTX: 02 31 52 7C 31 0D 03 38 0D 0A\n"
@@ -160,8 +212,11 @@ def of_options(count):
         count.same(f"mode of {os.path.basename(path)}", stat.S_IMODE(os.stat(path).st_mode), 0o600)
     count.has("times beside a capture", lislab("ladder", out).text, "09:15:02.201")
     long = b"RX: 05\nTX: 06\nRX: " + b"41 " * 3000 + b"\n"
-    count.same("more bytes than a line has room for", [len(line) for line in lislab("capture", count.path("log", long)).lines],
-               [4, 4, 2 + 2 * 2047, 2 + 2 * 953])
+    count.same(
+        "more bytes than a line has room for",
+        [len(line) for line in lislab("capture", count.path("log", long)).lines],
+        [4, 4, 2 + 2 * 2047, 2 + 2 * 953],
+    )
 
 
 def of_round_trips(count):
@@ -170,11 +225,15 @@ def of_round_trips(count):
     for trial in range(12):
         # Letters that look like a dump's own digits and columns are in half of them.
         letters = range(256) if trial % 2 else b"0123456789ABCDEFabcdef ..|<>:-x\r\n"
-        pieces = [(chance.choice("<>"), 0.001 * number, bytes(chance.choices(letters, k=chance.randrange(1, 70))))
-                  for number in range(12)]
+        pieces = [
+            (chance.choice("<>"), 0.001 * number, bytes(chance.choices(letters, k=chance.randrange(1, 70))))
+            for number in range(12)
+        ]
         pieces.insert(0, (">", 0.0, b"\x05\x021H|\\^&\r\x03E5\r\n"))
-        pieces = [(mark, time, data if mark == ">" else data.replace(b"\x05", b"e").replace(b"\x02", b"s")) for mark, time, data
-                  in pieces]
+        pieces = [
+            (mark, time, data if mark == ">" else data.replace(b"\x05", b"e").replace(b"\x02", b"s"))
+            for mark, time, data in pieces
+        ]
         wanted = "".join(f"{mark} {data.hex()}\n" for mark, _, data in pieces)
         for name, text in written(pieces):
             ran = lislab("capture", count.path(f"log-{name}", text))
@@ -190,22 +249,42 @@ def written(pieces):
     clock = [f"09:15:{time:09.6f}" for _, time, _ in pieces]
     rows = [(mark, stamp, data) for (mark, _, data), stamp in zip(pieces, clock)]
     yield "socat", "".join(
-        f"{mark} 2026/11/20 {stamp}  length={len(data)} from=0 to=0\n" + "".join(
-            " " + data[at:at + 16].hex(" ") + "   " * (16 - len(data[at:at + 16])) + "  " + shown(data[at:at + 16]) + "\n"
-            for at in range(0, len(data), 16)) + "--\n" for mark, stamp, data in rows).encode()
-    yield "hex", "".join(f"{stamp} {'RX' if mark == '>' else 'TX'}: {data.hex(' ')}\n" for mark, stamp, data in rows).encode()
-    yield "python", "".join(f"{stamp} {'<-' if mark == '>' else '->'} {data!r}\n" for mark, stamp, data in rows).encode()
+        f"{mark} 2026/11/20 {stamp}  length={len(data)} from=0 to=0\n"
+        + "".join(
+            " "
+            + data[at : at + 16].hex(" ")
+            + "   " * (16 - len(data[at : at + 16]))
+            + "  "
+            + shown(data[at : at + 16])
+            + "\n"
+            for at in range(0, len(data), 16)
+        )
+        + "--\n"
+        for mark, stamp, data in rows
+    ).encode()
+    yield "hex", "".join(
+        f"{stamp} {'RX' if mark == '>' else 'TX'}: {data.hex(' ')}\n" for mark, stamp, data in rows
+    ).encode()
+    yield "python", "".join(
+        f"{stamp} {'<-' if mark == '>' else '->'} {data!r}\n" for mark, stamp, data in rows
+    ).encode()
     yield "strace", "".join(
         f"12 {stamp} {'read' if mark == '>' else 'write'}(5, \"{''.join(f'{chr(92)}x{byte:02x}' for byte in data)}\", 4096) = {len(data)}\n"
-        for mark, stamp, data in rows).encode()
-    yield "tshark", "".join(f"17951661{at:02}.5\t{51234 if mark == '>' else 4001}\t{data.hex()}\n"
-                            for at, (mark, _, data) in enumerate(rows)).encode()
+        for mark, stamp, data in rows
+    ).encode()
+    yield "tshark", "".join(
+        f"17951661{at:02}.5\t{51234 if mark == '>' else 4001}\t{data.hex()}\n"
+        for at, (mark, _, data) in enumerate(rows)
+    ).encode()
     yield "eltima", "".join(
-        f"[20/11/2026 09:15:02] {'Read' if mark == '>' else 'Written'} data (COM3)\n" + "".join(
-            f"\t{data[at:at + 16].hex(' '):50} {shown(data[at:at + 16])}\n" for at in range(0, len(data), 16))
-        for mark, _, data in rows).encode()
+        f"[20/11/2026 09:15:02] {'Read' if mark == '>' else 'Written'} data (COM3)\n"
+        + "".join(f"\t{data[at:at + 16].hex(' '):50} {shown(data[at:at + 16])}\n" for at in range(0, len(data), 16))
+        for mark, _, data in rows
+    ).encode()
     yield from written_in_rows(rows)
-    yield "json", "".join(json.dumps({"dir": "rx" if mark == ">" else "tx", "data": data.hex()}) + "\n" for mark, _, data in rows).encode()
+    yield "json", "".join(
+        json.dumps({"dir": "rx" if mark == ">" else "tx", "data": data.hex()}) + "\n" for mark, _, data in rows
+    ).encode()
     yield "pcapng", field_packets.pcapng(field_packets.segments(pieces))
 
 
@@ -214,45 +293,82 @@ def of_bytes(count):
     session = timed_session()
     wanted = bytes_of(SESSION).decode()
     for name, line in (("LF", b"\n"), ("CR LF", b"\r\n")):
-        text = b"".join(b"2026-11-20 09:15:02.%03d %s: " % (int(time * 1000), b"RX" if mark == ">" else b"TX") + data + line
-                        for mark, time, data in session)
+        text = b"".join(
+            b"2026-11-20 09:15:02.%03d %s: " % (int(time * 1000), b"RX" if mark == ">" else b"TX") + data + line
+            for mark, time, data in session
+        )
         count.same(f"control bytes in a log, {name}", lislab("capture", count.path("log", text)).text, wanted)
-    for name, letters in (("Latin-1", "é".encode("latin-1")), ("UTF-8", "é".encode("utf-8")), ("GBK", "病".encode("gbk"))):
+    for name, letters in (
+        ("Latin-1", "é".encode("latin-1")),
+        ("UTF-8", "é".encode("utf-8")),
+        ("GBK", "病".encode("gbk")),
+    ):
         text = b"RX: <ENQ>\nTX: <ACK>\nRX: <STX>1" + letters + b"<CR><ETX>00<CR><LF>\n"
         lines = lislab("capture", count.path("log", text)).lines
         count.same(f"letters of {name}", lines[2:], ["> 0231" + letters.hex() + "0d0330300d0a"])
     text = "RX: <ENQ>\r\nTX: <ACK>\r\nRX: <STX>1é<CR>\r\n".encode("utf-16")
     count.same("letters of UTF-16", lislab("capture", count.path("log", text)).lines[2:], ["> 0231e90d"])
-    count.has("text around each reply", lislab("capture", count.path("log", b"RX: a <ENQ>\nTX: b <ACK>\n")).error, "text around it")
+    count.has(
+        "text around each reply",
+        lislab("capture", count.path("log", b"RX: a <ENQ>\nTX: b <ACK>\n")).error,
+        "text around it",
+    )
     swapped = lislab("capture", SESSION, "--swap").text
     count.same("a capture is turned round", swapped, wanted.replace(">", "x").replace("<", ">").replace("x", "<"))
 
 
 def written_in_rows(rows):
     """The same as tools with rows of 16 bytes write it, and others."""
+
     def dump(data, form, width=16):
-        return "".join(form.format(data[at:at + width].hex(" "), shown(data[at:at + width])) + "\n"
-                       for at in range(0, len(data), width))
+        return "".join(
+            form.format(data[at : at + width].hex(" "), shown(data[at : at + width])) + "\n"
+            for at in range(0, len(data), width)
+        )
 
     yield "free-serial-port-monitor", "".join(
         f"{'Answer' if mark == '>' else 'Request'}: 11/20/2026 9:15:02 AM.00012 (+0.0010 seconds)\n\n"
-        + dump(data, " {0:50}{1}") + "\n" for mark, _, data in rows).encode()
-    yield "jpnevulator", "".join(f"2026-11-20 {stamp}: /dev/ttyS{0 if mark == '>' else 1}\n" + dump(data, "{0:47}\t{1}")
-                                 for mark, stamp, data in rows).encode()
+        + dump(data, " {0:50}{1}")
+        + "\n"
+        for mark, _, data in rows
+    ).encode()
+    yield "jpnevulator", "".join(
+        f"2026-11-20 {stamp}: /dev/ttyS{0 if mark == '>' else 1}\n" + dump(data, "{0:47}\t{1}")
+        for mark, stamp, data in rows
+    ).encode()
     yield "ngrep", "".join(
-        f"T 10.0.0.{1 if mark == '>' else 2}:1 -> 10.0.0.{2 if mark == '>' else 1}:1 [AP] #4\n" + dump(data, "  {0:52}{1}") + "#\n"
-        for mark, _, data in rows).encode()
-    yield "docklight", "".join(f"20.11.2026 {stamp} [{'RX' if mark == '>' else 'TX'}] - {data.hex(' ').upper()} \n\n"
-                               for mark, stamp, data in rows).encode()
-    yield "portmon", "".join(f"{at}\t0.1\tlis.exe\tIRP_MJ_{'READ' if mark == '>' else 'WRITE'}\tSerial0\tSUCCESS\tLength {len(data)}: "
-                             f"{data.hex(' ').upper()} \n" for at, (mark, _, data) in enumerate(rows)).encode()
-    yield "slsnif", "".join(f"{'Device' if mark == '>' else 'Host  '} --> " + "".join(f"{chr(byte) if 32 < byte < 127 else '.'}({byte:03})"
-                            for byte in data) + "\n" for mark, _, data in rows).encode()
-    yield "C arrays", "".join(f"char peer{0 if mark == '>' else 1}_{at}[] = {{ /* Packet {at} */\n"
-                              + ",\n".join(", ".join(f"0x{byte:02x}" for byte in data[cut:cut + 8]) for cut in range(0, len(data), 8))
-                              + " };\n" for at, (mark, _, data) in enumerate(rows)).encode()
-    yield "YAML", "".join(f"# Packet {at}\npeer{0 if mark == '>' else 1}_{at}: !!binary |\n"
-                          + "".join(f"  {line}\n" for line in base64.encodebytes(data).decode().split())
-                          for at, (mark, _, data) in enumerate(rows)).encode()
-    yield "escaped", "".join(f"{stamp} {'recv' if mark == '>' else 'send'}: \"{''.join(f'{chr(92)}x{byte:02x}' for byte in data)}\"\n"
-                             for mark, stamp, data in rows).encode()
+        f"T 10.0.0.{1 if mark == '>' else 2}:1 -> 10.0.0.{2 if mark == '>' else 1}:1 [AP] #4\n"
+        + dump(data, "  {0:52}{1}")
+        + "#\n"
+        for mark, _, data in rows
+    ).encode()
+    yield "docklight", "".join(
+        f"20.11.2026 {stamp} [{'RX' if mark == '>' else 'TX'}] - {data.hex(' ').upper()} \n\n"
+        for mark, stamp, data in rows
+    ).encode()
+    yield "portmon", "".join(
+        f"{at}\t0.1\tlis.exe\tIRP_MJ_{'READ' if mark == '>' else 'WRITE'}\tSerial0\tSUCCESS\tLength {len(data)}: "
+        f"{data.hex(' ').upper()} \n"
+        for at, (mark, _, data) in enumerate(rows)
+    ).encode()
+    yield "slsnif", "".join(
+        f"{'Device' if mark == '>' else 'Host  '} --> "
+        + "".join(f"{chr(byte) if 32 < byte < 127 else '.'}({byte:03})" for byte in data)
+        + "\n"
+        for mark, _, data in rows
+    ).encode()
+    yield "C arrays", "".join(
+        f"char peer{0 if mark == '>' else 1}_{at}[] = {{ /* Packet {at} */\n"
+        + ",\n".join(", ".join(f"0x{byte:02x}" for byte in data[cut : cut + 8]) for cut in range(0, len(data), 8))
+        + " };\n"
+        for at, (mark, _, data) in enumerate(rows)
+    ).encode()
+    yield "YAML", "".join(
+        f"# Packet {at}\npeer{0 if mark == '>' else 1}_{at}: !!binary |\n"
+        + "".join(f"  {line}\n" for line in base64.encodebytes(data).decode().split())
+        for at, (mark, _, data) in enumerate(rows)
+    ).encode()
+    yield "escaped", "".join(
+        f"{stamp} {'recv' if mark == '>' else 'send'}: \"{''.join(f'{chr(92)}x{byte:02x}' for byte in data)}\"\n"
+        for mark, stamp, data in rows
+    ).encode()

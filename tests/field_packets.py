@@ -1,4 +1,5 @@
-"""Packet files of one session for tests: pcap and pcapng in each order of bytes, links, and what a network does to TCP."""
+"""Packet files of one session for tests: pcap and pcapng in each order of bytes, links, and what a network does to
+TCP."""
 import struct
 
 ANALYZER, COMPUTER = ("10.0.0.1", 51234), ("10.0.0.2", 4001)
@@ -7,7 +8,18 @@ START = 1795166102
 
 def tcp(source, target, sequence, data=b"", flags=0x18, version=4, acknowledged=0):
     """The IP packet of a segment."""
-    head = struct.pack(">HHIIBBHHH", source[1], target[1], sequence & 0xFFFFFFFF, acknowledged & 0xFFFFFFFF, 0x50, flags, 8192, 0, 0)
+    head = struct.pack(
+        ">HHIIBBHHH",
+        source[1],
+        target[1],
+        sequence & 0xFFFFFFFF,
+        acknowledged & 0xFFFFFFFF,
+        0x50,
+        flags,
+        8192,
+        0,
+        0,
+    )
     body = head + data
     if version == 6:
         ends = b"".join(bytes(12) + bytes(map(int, one[0].split("."))) for one in (source, target))
@@ -32,7 +44,7 @@ def pcap(packets, link="ethernet", order="<", nano=False):
     kind, wrap = LINKS[link]
     out = struct.pack(order + "IHHiIII", 0xA1B23C4D if nano else 0xA1B2C3D4, 2, 4, 0, 0, 65535, kind)
     for time, ip in packets:
-        data, unit = wrap(ip), 10 ** 9 if nano else 10 ** 6
+        data, unit = wrap(ip), 10**9 if nano else 10**6
         out += struct.pack(order + "IIII", START + int(time), round(time % 1 * unit), len(data), len(data)) + data
     return out
 
@@ -49,8 +61,10 @@ def pcapng(packets, link="ethernet", order="<", ticks=6):
     out += block(1, struct.pack(order + "HHI", kind, 0, 0) + struct.pack(order + "HHB3x", 9, 1, ticks) + bytes(4))
     out += block(4, struct.pack(order + "HH", 0, 0)) + block(0xBAD, b"of a maker")
     for time, ip in packets:
-        data, count = wrap(ip), (START * 10 ** ticks) + round(time * 10 ** ticks)
-        out += block(6, struct.pack(order + "IIIII", 0, count >> 32, count & 0xFFFFFFFF, len(data), len(data)) + data)
+        data, count = wrap(ip), (START * 10**ticks) + round(time * 10**ticks)
+        out += block(
+            6, struct.pack(order + "IIIII", 0, count >> 32, count & 0xFFFFFFFF, len(data), len(data)) + data
+        )
     return out
 
 
@@ -58,11 +72,24 @@ def segments(session, first=(1000, 9000), version=4):
     """The packets of (mark, time, bytes), with the handshake before and the end behind them."""
     sequence = {">": first[0], "<": first[1]}
     ends = {">": (ANALYZER, COMPUTER), "<": (COMPUTER, ANALYZER)}
-    told = [(0.0, tcp(*ends[">"], sequence[">"] - 1, flags=2, version=version)),
-            (0.0, tcp(*ends["<"], sequence["<"] - 1, flags=0x12, version=version)),
-            (0.0, tcp(*ends[">"], sequence[">"], flags=0x10, version=version))]
+    told = [
+        (0.0, tcp(*ends[">"], sequence[">"] - 1, flags=2, version=version)),
+        (0.0, tcp(*ends["<"], sequence["<"] - 1, flags=0x12, version=version)),
+        (0.0, tcp(*ends[">"], sequence[">"], flags=0x10, version=version)),
+    ]
     for mark, time, data in session:
-        told.append((time, tcp(*ends[mark], sequence[mark], data, version=version, acknowledged=sequence["<" if mark == ">" else ">"])))
+        told.append(
+            (
+                time,
+                tcp(
+                    *ends[mark],
+                    sequence[mark],
+                    data,
+                    version=version,
+                    acknowledged=sequence["<" if mark == ">" else ">"],
+                ),
+            )
+        )
         sequence[mark] += len(data)
     told.append((session[-1][1], tcp(*ends[">"], sequence[">"], flags=0x11, version=version)))
     return told
@@ -87,7 +114,9 @@ def variants(session):
     yield "two pieces out of order", pcap([(time, ip) for (time, _), (_, ip) in zip(plain, swapped)])
     yield "retransmission with more", pcap(_with_more(session))
     other = tcp(("10.0.0.9", 1), ("10.0.0.8", 22), 5, b"ssh\x05")
-    yield "another connection without link bytes", pcap(plain[:4] + [(0.0, other.replace(b"\x05", b"x"))] + plain[4:])
+    yield "another connection without link bytes", pcap(
+        plain[:4] + [(0.0, other.replace(b"\x05", b"x"))] + plain[4:]
+    )
     keep = tcp(ANALYZER, COMPUTER, 1000 - 1, b"\0", 0x10)
     yield "a keep-alive first", pcap([(0.0, keep)] + plain[3:-1])
 

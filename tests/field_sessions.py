@@ -21,7 +21,9 @@ def bytes_of(path):
 
 
 def run(count):
-    paths = sorted(glob.glob(os.path.join(ROOT, "samples", "*.capture")) + glob.glob(os.path.join(DIALECTS, "*.capture")))
+    paths = sorted(
+        glob.glob(os.path.join(ROOT, "samples", "*.capture")) + glob.glob(os.path.join(DIALECTS, "*.capture"))
+    )
     count.true("there are captures", len(paths) > 35, str(len(paths)))
     for path in paths:
         agrees(count, os.path.basename(path), bytes_of(path))
@@ -40,7 +42,11 @@ def of_manual(count):
     count.true("the manual shows commands", len(shown) > 0)
     for words, block in shown:
         wanted = "".join(line[4:].rstrip() + "\n" for line in block.splitlines())
-        count.same(f"the manual: lislab {words}", "".join(line.rstrip() + "\n" for line in lislab(*words.split()).lines), wanted)
+        count.same(
+            f"the manual: lislab {words}",
+            "".join(line.rstrip() + "\n" for line in lislab(*words.split()).lines),
+            wanted,
+        )
 
 
 def agrees(count, name, data):
@@ -50,7 +56,10 @@ def agrees(count, name, data):
     texts = re.findall(r"^text (\d+) (\d+)$", replay.text, re.M)
     count.same(f"{name}: texts", [(str(text.line), str(len(text.data))) for text in ladder.texts], texts)
     found = re.findall(r"^difference (\w+) (\S+) (\S+)$", replay.text, re.M)
-    mine = [(str(line) if line else "end", wanted.hex() or "-", got.hex() or "-") for line, wanted, got in ladder.differences]
+    mine = [
+        (str(line) if line else "end", wanted.hex() or "-", got.hex() or "-")
+        for line, wanted, got in ladder.differences
+    ]
     count.same(f"{name}: differences", mine, found)
     records = count.lislink("texts", data=data).output
     count.same(f"{name}: records", ladder.stream, records)
@@ -59,22 +68,43 @@ def agrees(count, name, data):
     fault = next((one for one in ladder.messages if isinstance(one, Fault)), None)
     refused = re.search(r"^refused (\d+) (\d+) (.*)$", check.text, re.M)
     before = ladder.messages.index(fault) if fault else len(whole)
-    count.same(f"{name}: the first refusal", (before + 1, fault.error.number, code_of(fault.error)) if fault else None,
-               (int(refused[1]), int(refused[2]), refused[3]) if refused else None)
-    findings = [(one.number, one.letter, one.position) for message in whole[:before] for one in message.message.findings()]
+    count.same(
+        f"{name}: the first refusal",
+        (before + 1, fault.error.number, code_of(fault.error)) if fault else None,
+        (int(refused[1]), int(refused[2]), refused[3]) if refused else None,
+    )
+    findings = [
+        (one.number, one.letter, one.position) for message in whole[:before] for one in message.message.findings()
+    ]
     told = re.findall(r"^finding (\d+) (\w) (\d+)$", check.text, re.M)
     count.same(f"{name}: findings", findings, [(int(one), letter, int(place)) for one, letter, place in told])
     signals = count.lislink("show", data=ladder.analyzer)
     count.same(f"{name}: units", len(list(ladder.units())), len(signals.lines))
     page = page_of(ladder, name)
-    count.true(f"{name}: the page asks for nothing", not re.search(r"(?:src|href)=\"?(?:https?:|//)|@import|url\(", page))
+    count.true(
+        f"{name}: the page asks for nothing", not re.search(r"(?:src|href)=\"?(?:https?:|//)|@import|url\(", page)
+    )
 
 
 def of_random(count):
     """Random captures of units, noise, replies and events: in each the ladder agrees with the program."""
     chance = random.Random(11)
-    units = [b"\x05", b"\x04", b"\x021H|\\^&\r\x03E5\r\n", b"\x022L|1|N\r\x0305\r\n", b"\x021a\x17C9\r\n", b"\x022b\x0397\r\n",
-             b"\x021H|\\^&\r\x0300\r\n", b"\x02", b"\n", b"noise", b"\x06", b"\x023P|1\r\x03C3\r\n", b"\x02\x05", b"1H|\\^&\r"]
+    units = [
+        b"\x05",
+        b"\x04",
+        b"\x021H|\\^&\r\x03E5\r\n",
+        b"\x022L|1|N\r\x0305\r\n",
+        b"\x021a\x17C9\r\n",
+        b"\x022b\x0397\r\n",
+        b"\x021H|\\^&\r\x0300\r\n",
+        b"\x02",
+        b"\n",
+        b"noise",
+        b"\x06",
+        b"\x023P|1\r\x03C3\r\n",
+        b"\x02\x05",
+        b"1H|\\^&\r",
+    ]
     for trial in range(40):
         rows = ["capture 2"]
         for _ in range(chance.randrange(3, 25)):
@@ -82,14 +112,26 @@ def of_random(count):
             if kind < 8:
                 rows.append("> " + b"".join(chance.choices(units, k=chance.randrange(1, 4))).hex())
             else:
-                rows.append(chance.choice(["< 06", "< 15", "< 0606", "T", "R", "S busy", "S ready", "S contending", ""]))
+                rows.append(
+                    chance.choice(["< 06", "< 15", "< 0606", "T", "R", "S busy", "S ready", "S contending", ""])
+                )
         agrees(count, f"random {trial}", "".join(row + "\n" for row in rows).encode())
 
 
 def of_versions(count):
     """Malformed lines are told as the program tells them."""
-    for data in (b"> 05\nhello\n", b"> 5\n", b">05\n", b"R\n", b"capture 2\ncapture 2\n", b"S busy\n", b"> 05 \n", b"x" * 5000,
-                 b"\r\n> 05\r\n< 06\r", b"> 05\n\r"):
+    for data in (
+        b"> 05\nhello\n",
+        b"> 5\n",
+        b">05\n",
+        b"R\n",
+        b"capture 2\ncapture 2\n",
+        b"S busy\n",
+        b"> 05 \n",
+        b"x" * 5000,
+        b"\r\n> 05\r\n< 06\r",
+        b"> 05\n\r",
+    ):
         wanted = re.search(r"K1 line (\d+)", count.lislink("replay", data=data).error)
         try:
             read_capture(data)
@@ -112,7 +154,11 @@ def spans(text):
 def of_dialects(count):
     """Each row of docs/DIALECTS.md."""
     with open(os.path.join(ROOT, "docs", "DIALECTS.md"), encoding="utf-8") as file:
-        rows = [[cell.strip() for cell in line.strip().strip("|").split("|")] for line in file if re.match(r"\| `[\w-]+\.\w+`", line)]
+        rows = [
+            [cell.strip() for cell in line.strip().strip("|").split("|")]
+            for line in file
+            if re.match(r"\| `[\w-]+\.\w+`", line)
+        ]
     named = {row[0].strip("`") for row in rows}
     count.same("each sample has a row", sorted(named), sorted(os.listdir(DIALECTS)))
     links, records = [sum(name.endswith(end) for name in named) for end in (".capture", ".records")]
@@ -129,11 +175,17 @@ def of_dialects(count):
 def of_link_row(count, sample, path, seen, words):
     data = bytes_of(path)
     link = b"".join(line.data for _, line in read_capture(data).lines if line.mark == ">")
-    ran = {"replay": count.lislink("replay", data=data), "show": count.lislink("show", data=link),
-           "check": count.lislink("check", data=count.lislink("texts", data=data).output)}
+    ran = {
+        "replay": count.lislink("replay", data=data),
+        "show": count.lislink("show", data=link),
+        "check": count.lislink("check", data=count.lislink("texts", data=data).output),
+    }
     for command, span in spans(seen):
-        count.true(f"{sample}: {command} prints {span}", any(line == span or re.match(re.escape(span) + r"( |$)", line)
-                   for line in ran[command].lines), ran[command].text)
+        count.true(
+            f"{sample}: {command} prints {span}",
+            any(line == span or re.match(re.escape(span) + r"( |$)", line) for line in ran[command].lines),
+            ran[command].text,
+        )
     show = ran["show"].lines
     if "no frame" in seen:
         count.true(f"{sample}: no frame", not any(line.startswith(("frame", "bad")) for line in show), str(show))
@@ -170,13 +222,24 @@ def of_record_row(count, sample, path, seen, words, helps):
 def of_words(count):
     """The rows of a ladder in words."""
     text = lislab("ladder", os.path.join(ROOT, "samples", "version-2.capture")).text
-    for words in ("the computer is busy: ENQ is answered NAK", "duplicate of 1: acknowledged, not taken again",
-                  "rejected: checksum wrong: FC found, FD wanted", "accepted, text of 17 bytes delivered",
-                  "the receiver would answer <ACK>: the computer rejects a good frame", "the receiver is restarted",
-                  "the receiver's 30 seconds are over", "the computer wants to send", "summary: ENQ 4, frames 6"):
+    for words in (
+        "the computer is busy: ENQ is answered NAK",
+        "duplicate of 1: acknowledged, not taken again",
+        "rejected: checksum wrong: FC found, FD wanted",
+        "accepted, text of 17 bytes delivered",
+        "the receiver would answer <ACK>: the computer rejects a good frame",
+        "the receiver is restarted",
+        "the receiver's 30 seconds are over",
+        "the computer wants to send",
+        "summary: ENQ 4, frames 6",
+    ):
         count.has("the words of a ladder", text, words)
     out_of_turn = b"> 05\n> 0233410337370d0a\n> 04\n"
-    count.has("a frame out of turn", lislab("ladder", "-", data=out_of_turn).text, "rejected: out of turn, 1 is due (checksum 77) -> <NAK>")
+    count.has(
+        "a frame out of turn",
+        lislab("ladder", "-", data=out_of_turn).text,
+        "rejected: out of turn, 1 is due (checksum 77) -> <NAK>",
+    )
     count.has("no replies at all", lislab("ladder", "-", data=out_of_turn).text, "no bytes of the computer")
     swapped = lislab("ladder", "--swap", os.path.join(ROOT, "samples", "session.capture")).text
     count.has("the sides are swapped", swapped, "the sides are swapped")

@@ -1,4 +1,5 @@
-"""The kit's own command rt as a module, for scripts that check or build a crate as it does, over what rt ci has built."""
+"""The kit's own command rt as a module, for scripts that check or build a crate as it does, over what rt ci has
+built."""
 import importlib.machinery
 import importlib.util
 import os

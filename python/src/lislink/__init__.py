@@ -1,19 +1,76 @@
 """The proved laboratory link of LIS01-A2 and LIS02-A2 for Python.
 
-`Scanner`, `Sender`, `Receiver`, `Reader` and `Writer` call the proved library liblislink by ctypes; `Message` makes what
-a reader has read into data. The command is `lislab`. Nothing of this package itself is proved: it is tested.
+`Scanner`, `Sender`, `Receiver`, `Reader` and `Writer` call the proved library liblislink by ctypes; `Message` makes
+what a reader has read into data. The command is `lislab`. Nothing of this package itself is proved: it is tested.
 """
 from ._library import LibraryMissing
 from .capture import Capture, CaptureError, Line, read_capture, write_lines
-from .link import (BUSY, CONTENTION, FRAME_TEXT, RECEIVER, REPLY, FrameFault, Kind, LinkError, Note, Outcome, Phase,
-                   Readiness, Receiver, Scanner, Sender, Signal, Status, Step, WrongThread, frame_bytes)
+from .link import (
+    BUSY,
+    CONTENTION,
+    FRAME_TEXT,
+    RECEIVER,
+    REPLY,
+    FrameFault,
+    Kind,
+    LinkError,
+    Note,
+    Outcome,
+    Phase,
+    Readiness,
+    Receiver,
+    Scanner,
+    Sender,
+    Signal,
+    Status,
+    Step,
+    WrongThread,
+    frame_bytes,
+)
 from .message import Entry, Fault, Finding, Found, Message, read_all
 from .records import MessageError, Reader, Reason, Record, Row, Writer, messages, records
 
 __version__ = "0.1.0"
 __all__ = [
-    "BUSY", "CONTENTION", "FRAME_TEXT", "RECEIVER", "REPLY", "Capture", "CaptureError", "Entry", "Fault", "Finding", "Found",
-    "FrameFault", "Kind", "LibraryMissing", "Line", "LinkError", "Message", "MessageError", "Note", "Outcome", "Phase",
-    "Readiness", "Reader", "Reason", "Receiver", "Record", "Row", "Scanner", "Sender", "Signal", "Status", "Step", "Writer",
-    "WrongThread", "__version__", "frame_bytes", "messages", "read_all", "read_capture", "records", "write_lines",
+    "BUSY",
+    "CONTENTION",
+    "FRAME_TEXT",
+    "RECEIVER",
+    "REPLY",
+    "Capture",
+    "CaptureError",
+    "Entry",
+    "Fault",
+    "Finding",
+    "Found",
+    "FrameFault",
+    "Kind",
+    "LibraryMissing",
+    "Line",
+    "LinkError",
+    "Message",
+    "MessageError",
+    "Note",
+    "Outcome",
+    "Phase",
+    "Readiness",
+    "Reader",
+    "Reason",
+    "Receiver",
+    "Record",
+    "Row",
+    "Scanner",
+    "Sender",
+    "Signal",
+    "Status",
+    "Step",
+    "Writer",
+    "WrongThread",
+    "__version__",
+    "frame_bytes",
+    "messages",
+    "read_all",
+    "read_capture",
+    "records",
+    "write_lines",
 ]

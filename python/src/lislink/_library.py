@@ -8,7 +8,13 @@ import os
 import sys
 from typing import Any, Callable, Dict, List, Optional
 
-_POINTER, _SIZE, _BYTE, _FLAG, _COUNT = ctypes.c_void_p, ctypes.c_size_t, ctypes.c_uint8, ctypes.c_bool, ctypes.c_uint64
+_POINTER, _SIZE, _BYTE, _FLAG, _COUNT = (
+    ctypes.c_void_p,
+    ctypes.c_size_t,
+    ctypes.c_uint8,
+    ctypes.c_bool,
+    ctypes.c_uint64,
+)
 
 
 class Handle(ctypes.Structure):
@@ -24,13 +30,25 @@ class Place(ctypes.Structure):
 
 
 class SignalOut(ctypes.Structure):
-    _fields_ = [("kind", ctypes.c_uint8), ("number", ctypes.c_uint8), ("last", ctypes.c_bool), ("fault", ctypes.c_uint8),
-                ("place", ctypes.c_size_t), ("len", ctypes.c_size_t), ("text", ctypes.c_uint8 * 240)]
+    _fields_ = [
+        ("kind", ctypes.c_uint8),
+        ("number", ctypes.c_uint8),
+        ("last", ctypes.c_bool),
+        ("fault", ctypes.c_uint8),
+        ("place", ctypes.c_size_t),
+        ("len", ctypes.c_size_t),
+        ("text", ctypes.c_uint8 * 240),
+    ]
 
 
 class StepOut(ctypes.Structure):
-    _fields_ = [("reply", ctypes.c_uint8), ("has_text", ctypes.c_bool), ("note", ctypes.c_uint8),
-                ("detail", ctypes.c_uint8), ("place", ctypes.c_size_t)]
+    _fields_ = [
+        ("reply", ctypes.c_uint8),
+        ("has_text", ctypes.c_bool),
+        ("note", ctypes.c_uint8),
+        ("detail", ctypes.c_uint8),
+        ("place", ctypes.c_size_t),
+    ]
 
 
 class Delimiters(ctypes.Structure):
@@ -38,8 +56,15 @@ class Delimiters(ctypes.Structure):
 
 
 class Found(ctypes.Structure):
-    _fields_ = [("kind", ctypes.c_uint8), ("letter", ctypes.c_uint8), ("reason", ctypes.c_uint8), ("detail", ctypes.c_uint8),
-                ("fields", ctypes.c_size_t), ("place", ctypes.c_size_t), ("number", ctypes.c_uint64)]
+    _fields_ = [
+        ("kind", ctypes.c_uint8),
+        ("letter", ctypes.c_uint8),
+        ("reason", ctypes.c_uint8),
+        ("detail", ctypes.c_uint8),
+        ("fields", ctypes.c_size_t),
+        ("place", ctypes.c_size_t),
+        ("number", ctypes.c_uint64),
+    ]
 
 
 class RecordOut(ctypes.Structure):
@@ -86,8 +111,14 @@ _CALLS: Dict[str, Any] = {
     "receiver_text": (_BYTE, _POINTER, _POINTER, _SIZE),
 }
 for _kind in ("scanner", "sender", "receiver", "reader", "writer"):
-    _CALLS.update({f"{_kind}_size": (_SIZE,), f"{_kind}_align": (_SIZE,), f"{_kind}_init": (None, _POINTER),
-                   f"{_kind}_end": (None, Handle)})
+    _CALLS.update(
+        {
+            f"{_kind}_size": (_SIZE,),
+            f"{_kind}_align": (_SIZE,),
+            f"{_kind}_init": (None, _POINTER),
+            f"{_kind}_end": (None, Handle),
+        }
+    )
 
 _NAME = "liblislink.so"
 _calls: Optional[Dict[str, Callable[..., Any]]] = None
@@ -118,7 +149,9 @@ def _load() -> Dict[str, Callable[..., Any]]:
             found[name] = call
         return found
     except (OSError, AttributeError) as error:
-        raise LibraryMissing(f"{path}: {error}; `make library` builds {_NAME}, and LISLINK_LIBRARY names it") from None
+        raise LibraryMissing(
+            f"{path}: {error}; `make library` builds {_NAME}, and LISLINK_LIBRARY names it"
+        ) from None
 
 
 def calls() -> Dict[str, Callable[..., Any]]:

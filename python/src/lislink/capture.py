@@ -18,6 +18,7 @@ class CaptureError(Exception):
 
 class Line(NamedTuple):
     """A line: `>` or `<` with bytes, `T`, `R`, `S` with how ENQ is answered, or nothing."""
+
     mark: str
     data: bytes = b""
     ready: str = ""
@@ -25,6 +26,7 @@ class Line(NamedTuple):
 
 class Capture(NamedTuple):
     """The lines of a capture, and the time of each in nanoseconds where it is known."""
+
     version: int
     lines: List[Tuple[int, Line]]
     times: List[Optional[int]]
@@ -64,8 +66,11 @@ def looks_like_capture(data: bytes) -> bool:
     rows = [row.rstrip(b"\r") for row in data[:20000].split(b"\n")[:20]]
     rows = [row for row in rows if row]
     return bool(rows) and all(
-        row in (b"capture 2", b"T", b"R", b"S ready", b"S busy", b"S contending") or
-        row[:2] in (b"> ", b"< ") and re.match(rb"[0-9A-Fa-f]{2,}$", row[2:]) for row in rows[:3])
+        row in (b"capture 2", b"T", b"R", b"S ready", b"S busy", b"S contending")
+        or row[:2] in (b"> ", b"< ")
+        and re.match(rb"[0-9A-Fa-f]{2,}$", row[2:])
+        for row in rows[:3]
+    )
 
 
 def write_lines(lines: Iterable[Line]) -> str:

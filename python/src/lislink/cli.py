@@ -49,21 +49,37 @@ def write_output(path: Optional[str], data: bytes) -> None:
 
 
 def _import_options(parser: argparse.ArgumentParser) -> None:
-    parser.add_argument("--form", choices=sorted([*sniffers.FORMS, "pcap", "raw"]), help="the form of the log, if it isn't found")
+    parser.add_argument(
+        "--form", choices=sorted([*sniffers.FORMS, "pcap", "raw"]), help="the form of the log, if it isn't found"
+    )
     parser.add_argument("--analyzer-side", metavar="NAME", help="which side of the log is the analyzer")
     parser.add_argument("--swap", action="store_true", help="the other side is the analyzer")
     parser.add_argument("--port", type=int, help="the TCP port of the line")
     parser.add_argument("--stream", type=int, metavar="N", help="which TCP connection, from 1")
     parser.add_argument("--fd", type=int, metavar="N", help="which descriptor of an strace")
-    parser.add_argument("--timer", type=float, metavar="SECONDS", help="put a line T where the analyzer is silent for longer")
+    parser.add_argument(
+        "--timer", type=float, metavar="SECONDS", help="put a line T where the analyzer is silent for longer"
+    )
     parser.add_argument("--mixed", action="store_true", help="one stream holds both sides: take ACK and NAK apart")
-    parser.add_argument("--skip-missing", action="store_true", help="go on where bytes of a TCP line aren't in the file")
+    parser.add_argument(
+        "--skip-missing", action="store_true", help="go on where bytes of a TCP line aren't in the file"
+    )
     parser.add_argument("--units", action="store_true", help="a line for each unit, whatever pieces the log has")
 
 
 def _options(ask: argparse.Namespace) -> sniffers.Options:
-    return sniffers.Options(ask.form, ask.analyzer_side, ask.swap, ask.port, ask.stream, ask.fd, ask.timer, ask.mixed, ask.units,
-                            ask.skip_missing)
+    return sniffers.Options(
+        ask.form,
+        ask.analyzer_side,
+        ask.swap,
+        ask.port,
+        ask.stream,
+        ask.fd,
+        ask.timer,
+        ask.mixed,
+        ask.units,
+        ask.skip_missing,
+    )
 
 
 def _imported(data: bytes, ask: argparse.Namespace) -> Tuple[Capture, List[str]]:
@@ -132,12 +148,14 @@ def run_ladder(ask: argparse.Namespace) -> int:
     from .field.ladder import Ladder
     from .field.looks import looks_of
     from .field.show import text_of
+
     capture, remarks = load(ask.capture, ask)
     for remark in remarks:
         say(remark)
     ladder = Ladder(capture, ask.encoding)
     if ask.html:
         from .field.page import page_of
+
         name = os.path.basename(ask.capture) if ask.capture != "-" else "standard input"
         write_output(ask.html, page_of(ladder, name).encode("utf-8"))
         if ask.html != "-":
@@ -176,6 +194,7 @@ def records_of(path: str, ask: argparse.Namespace) -> bytes:
     if ask.form is None and (_looks_like_records(data) or not data.strip()):
         return data
     from .field.ladder import Ladder
+
     capture, remarks = (read_capture(data), []) if looks_like_capture(data) else _imported(data, ask)
     for remark in remarks:
         say(remark)
@@ -214,7 +233,9 @@ def _encoding(name: str) -> str:
 
 def parser() -> argparse.ArgumentParser:
     """The words of the command."""
-    top = argparse.ArgumentParser(prog="lislab", description="Tools for a laboratory's line, over the proved library.")
+    top = argparse.ArgumentParser(
+        prog="lislab", description="Tools for a laboratory's line, over the proved library."
+    )
     top.add_argument("--version", action="version", version=f"lislab {__version__}")
     commands = top.add_subparsers(dest="command", required=True, metavar="COMMAND")
     one = commands.add_parser("ladder", help="show a capture or a log as a ladder, and what looks wrong")
@@ -236,17 +257,27 @@ def parser() -> argparse.ArgumentParser:
     one = commands.add_parser("normalize", help="make record files of dialects readable, each change by its option")
     one.add_argument("records", nargs="?", default="-", help="a file of records; standard input if none is named")
     one.add_argument("-o", "--output", metavar="FILE")
-    one.add_argument("--explain", action="store_true", help="say what is wrong and which options mend it; change nothing")
+    one.add_argument(
+        "--explain", action="store_true", help="say what is wrong and which options mend it; change nothing"
+    )
     one.add_argument("--all", action="store_true", help="all changes but --orders")
     for name, what in normalize.CHANGES.items():
         one.add_argument(f"--{name}", action="store_true", help=what)
     one.set_defaults(run=run_normalize)
     one = commands.add_parser("table", help="write results as CSV, TSV or JSON lines")
-    one.add_argument("records", nargs="*", help="files of records, captures or logs; standard input if none is named")
+    one.add_argument(
+        "records", nargs="*", help="files of records, captures or logs; standard input if none is named"
+    )
     one.add_argument("-o", "--output", metavar="FILE")
     one.add_argument("--format", choices=("csv", "tsv", "jsonl"), default="csv")
-    one.add_argument("--fields", metavar="NAMES", help=f"columns: {','.join(table.USUAL)}, R.4, R.3.4, HEADING=O.5, result.operator")
-    one.add_argument("--sample-from", type=int, choices=(3, 4), default=3, help="the field of the order that has the sample (3)")
+    one.add_argument(
+        "--fields",
+        metavar="NAMES",
+        help=f"columns: {','.join(table.USUAL)}, R.4, R.3.4, HEADING=O.5, result.operator",
+    )
+    one.add_argument(
+        "--sample-from", type=int, choices=(3, 4), default=3, help="the field of the order that has the sample (3)"
+    )
     one.add_argument("--encoding", type=_encoding, default="utf-8", help="of the records' text (utf-8)")
     one.add_argument("--no-header", action="store_true", help="no line of names")
     _import_options(one)

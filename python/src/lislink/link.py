@@ -19,39 +19,75 @@ FRAME_TEXT = 240
 
 class Status(enum.IntEnum):
     """What a call that may fail answers."""
-    (OK, IN_SESSION, NO_TEXT, TOO_LONG, FORBIDDEN, FULL, OUT_OF_MEMORY, BAD_NUMBER, TOO_SHORT, NO_RECORD, BAD_LETTER,
-     BAD_DELIMITERS, ABSENT, UNFINISHED, PUT_NOT_HEADER, PUT_NO_PARENT,
-     PUT_SECOND_HEADER) = range(17)
+
+    (
+        OK,
+        IN_SESSION,
+        NO_TEXT,
+        TOO_LONG,
+        FORBIDDEN,
+        FULL,
+        OUT_OF_MEMORY,
+        BAD_NUMBER,
+        TOO_SHORT,
+        NO_RECORD,
+        BAD_LETTER,
+        BAD_DELIMITERS,
+        ABSENT,
+        UNFINISHED,
+        PUT_NOT_HEADER,
+        PUT_NO_PARENT,
+        PUT_SECOND_HEADER,
+    ) = range(17)
 
 
 class Kind(enum.IntEnum):
     """What a signal is."""
+
     NONE, ENQ, EOT, FRAME, BAD_FRAME = range(5)
 
 
 class FrameFault(enum.IntEnum):
     """Why bytes between STX and LF are no frame."""
+
     NONE, TOO_LONG, SHAPE, NUMBER, FORBIDDEN, SUM = range(6)
 
 
 class Phase(enum.IntEnum):
     """What a sender waits for."""
+
     NEUTRAL, AWAIT_LINE, BUSY, CONTENTION, AWAIT_REPLY = range(5)
 
 
 class Outcome(enum.IntEnum):
     """How a sender's last session ended."""
+
     NONE, DONE, TIMED_OUT, SIX_TRIES, RESTARTED = range(5)
 
 
 class Note(enum.IntEnum):
     """What a byte or the timer meant to a receiver."""
-    (QUIET, OPENED, NOT_READY, ENDED, ACCEPTED, DUPLICATE, OUT_OF_TURN, REFUSED, NO_ROOM, TEXT_TOO_LONG, TOO_MANY,
-     REFUSED_MEMORY, TIMED_OUT) = range(13)
+
+    (
+        QUIET,
+        OPENED,
+        NOT_READY,
+        ENDED,
+        ACCEPTED,
+        DUPLICATE,
+        OUT_OF_TURN,
+        REFUSED,
+        NO_ROOM,
+        TEXT_TOO_LONG,
+        TOO_MANY,
+        REFUSED_MEMORY,
+        TIMED_OUT,
+    ) = range(13)
 
 
 class Readiness(enum.IntEnum):
     """How a receiver answers ENQ: ACK, NAK, or ENQ once."""
+
     READY, BUSY, CONTENDING = range(3)
 
 
@@ -69,6 +105,7 @@ class WrongThread(RuntimeError):
 
 class Signal(NamedTuple):
     """A signal of the line. A frame has a number, whether it is the last of its message, and a text."""
+
     kind: Kind
     number: int
     last: bool
@@ -79,6 +116,7 @@ class Signal(NamedTuple):
 
 class Step(NamedTuple):
     """A receiver's answer: the byte to send, the text that is delivered, and what it meant."""
+
     reply: bytes
     text: Optional[bytes]
     note: Note
@@ -95,15 +133,17 @@ def frame_bytes(number: int, last: bool, text: bytes) -> bytes:
     """The bytes of a frame, STX to LF."""
     number, last, text = as_number(number, 0, 255, "the frame's number"), as_flag(last, "last"), as_bytes(text)
     out, place = _library.Bytes(), ctypes.c_size_t()
-    status = _library.calls()["frame_write"](number, last, address(text), len(text), ctypes.byref(out),
-                                             ctypes.byref(place))
+    status = _library.calls()["frame_write"](
+        number, last, address(text), len(text), ctypes.byref(out), ctypes.byref(place)
+    )
     if status:
         raise LinkError(status, None, place.value)
-    return bytes(out.bytes[:out.len])
+    return bytes(out.bytes[: out.len])
 
 
 class Owner:
     """What lives in a block of memory; it is released by `close`, by `with`, or with the object."""
+
     _kind = ""
 
     def __init__(self) -> None:
@@ -132,7 +172,7 @@ class Owner:
             raise ValueError(f"the {self._kind} is closed")
         if self._thread != threading.get_ident():
             raise WrongThread(f"this {self._kind} belongs to the thread that made it")
-        self._piece, self._at = (self._piece[self._at:] + data if left else data), 0
+        self._piece, self._at = (self._piece[self._at :] + data if left else data), 0
         return left
 
     def _read_on(self, name: str, out: Any) -> int:
@@ -170,6 +210,7 @@ class Owner:
 
 class Scanner(Owner):
     """Reads link bytes in pieces."""
+
     _kind = "scanner"
 
     def feed(self, data: bytes) -> Iterator[Signal]:
@@ -186,12 +227,19 @@ class Scanner(Owner):
         while self._at < len(self._piece):
             self._read_on("feed", out)
             if out.kind:
-                yield self._at - 1 - left, Signal(Kind(out.kind), out.number, out.last, FrameFault(out.fault), out.place,
-                                                  bytes(out.text[:out.len]))
+                yield self._at - 1 - left, Signal(
+                    Kind(out.kind),
+                    out.number,
+                    out.last,
+                    FrameFault(out.fault),
+                    out.place,
+                    bytes(out.text[: out.len]),
+                )
 
 
 class Sender(Owner):
     """The sending end. `start`, `reply` and `timer` answer the bytes to send."""
+
     _kind = "sender"
 
     def add_text(self, text: bytes) -> None:
@@ -211,7 +259,7 @@ class Sender(Owner):
         status = self._call("start", ctypes.byref(out), ctypes.byref(fault))
         if status:
             raise LinkError(status, fault.index, fault.place)
-        return bytes(out.bytes[:out.len])
+        return bytes(out.bytes[: out.len])
 
     def reply(self, byte: int) -> bytes:
         """A reply byte came."""
@@ -228,7 +276,7 @@ class Sender(Owner):
     def _sent(self, name: str, *words: int) -> bytes:
         out = _library.Bytes()
         self._call(name, *words, ctypes.byref(out))
-        return bytes(out.bytes[:out.len])
+        return bytes(out.bytes[: out.len])
 
     @property
     def phase(self) -> Phase:
@@ -253,6 +301,7 @@ class Sender(Owner):
 
 class Receiver(Owner):
     """The receiving end. Keep a step's text first, then send its reply; can't you keep it, restart and send nothing."""
+
     _kind = "receiver"
 
     def hear(self, data: bytes) -> Iterator[Step]:

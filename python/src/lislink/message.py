@@ -1,4 +1,5 @@
-"""Messages as data: patients, orders and results of what the proved reader has read, with LIS02-A2's names of fields."""
+"""Messages as data: patients, orders and results of what the proved reader has read, with LIS02-A2's names of
+fields."""
 import json
 from typing import Any, Dict, Iterable, Iterator, List, NamedTuple, Optional, Tuple, Union
 
@@ -7,29 +8,63 @@ from .records import MessageError, Reader, Row
 
 #: The names of the fields behind a record's letter, by the standard's numbers (a header's delimiters are field 2).
 NAMES: Dict[str, Dict[int, str]] = {
-    "H": dict(enumerate("""message_control_id access_password sender_name sender_address reserved sender_phone
-        sender_characteristics receiver_id comment processing_id version timestamp""".split(), 3)),
-    "P": dict(enumerate("""sequence practice_patient_id laboratory_patient_id third_patient_id name mothers_maiden_name
+    "H": dict(
+        enumerate(
+            """message_control_id access_password sender_name sender_address reserved sender_phone
+        sender_characteristics receiver_id comment processing_id version timestamp""".split(),
+            3,
+        )
+    ),
+    "P": dict(
+        enumerate(
+            """sequence practice_patient_id laboratory_patient_id third_patient_id name mothers_maiden_name
         birthdate sex race address reserved phone physician special_1 special_2 height weight diagnosis medications diet
         practice_1 practice_2 admission_dates admission_status location diagnostic_code_nature diagnostic_code religion
-        marital_status isolation_status language hospital_service hospital_institution dosage_category""".split(), 2)),
-    "O": dict(enumerate("""sequence specimen_id instrument_specimen_id test priority requested_at collected_at
+        marital_status isolation_status language hospital_service hospital_institution dosage_category""".split(),
+            2,
+        )
+    ),
+    "O": dict(
+        enumerate(
+            """sequence specimen_id instrument_specimen_id test priority requested_at collected_at
         collection_end_at collection_volume collector action_code danger_code clinical_information received_at
         specimen_descriptor physician physician_phone user_1 user_2 laboratory_1 laboratory_2 reported_at
         instrument_charge instrument_section report_type reserved collection_location nosocomial_flag specimen_service
-        specimen_institution""".split(), 2)),
-    "R": dict(enumerate("""sequence test value unit reference_range abnormal_flags nature_of_abnormality status
-        normative_change_date operator started_at completed_at instrument""".split(), 2)),
+        specimen_institution""".split(),
+            2,
+        )
+    ),
+    "R": dict(
+        enumerate(
+            """sequence test value unit reference_range abnormal_flags nature_of_abnormality status
+        normative_change_date operator started_at completed_at instrument""".split(),
+            2,
+        )
+    ),
     "C": dict(enumerate("sequence source text type".split(), 2)),
-    "Q": dict(enumerate("""sequence starting_range ending_range test time_nature beginning ending physician
-        physician_phone user_1 user_2 status_codes""".split(), 2)),
+    "Q": dict(
+        enumerate(
+            """sequence starting_range ending_range test time_nature beginning ending physician
+        physician_phone user_1 user_2 status_codes""".split(),
+            2,
+        )
+    ),
     "L": dict(enumerate("sequence termination_code".split(), 2)),
     "M": {2: "sequence"},
     "S": {2: "sequence"},
 }
 #: The names of records by their letters.
-KINDS = {"H": "header", "P": "patient", "O": "order", "R": "result", "C": "comment", "Q": "query", "L": "terminator",
-         "M": "manufacturer", "S": "scientific"}
+KINDS = {
+    "H": "header",
+    "P": "patient",
+    "O": "order",
+    "R": "result",
+    "C": "comment",
+    "Q": "query",
+    "L": "terminator",
+    "M": "manufacturer",
+    "S": "scientific",
+}
 _NUMBERS = {letter: {name: number for number, name in names.items()} for letter, names in NAMES.items()}
 
 
@@ -78,7 +113,9 @@ class Entry:
         numbers = _NUMBERS.get(self.__dict__["row"].letter, {}) if "row" in self.__dict__ else {}
         if name in numbers:
             return self.whole(numbers[name])
-        raise AttributeError(f"a record {self.__dict__['row'].letter if 'row' in self.__dict__ else ''} has no {name}")
+        raise AttributeError(
+            f"a record {self.__dict__['row'].letter if 'row' in self.__dict__ else ''} has no {name}"
+        )
 
     def to_dict(self) -> Dict[str, Any]:
         """The record, its notes and what is below it, as plain data; fields that are empty are left out."""
@@ -98,6 +135,7 @@ class Entry:
 
 class Finding(NamedTuple):
     """A record whose sequence number isn't its position: the record's number in its message, and the position."""
+
     number: int
     letter: str
     position: int
@@ -195,6 +233,7 @@ def _is_number(row: Row, position: int) -> bool:
 
 class Fault(NamedTuple):
     """A message that can't be read: the error, the place of its first byte, and that of the rejected record."""
+
     error: MessageError
     start: int
     place: int
@@ -203,6 +242,7 @@ class Fault(NamedTuple):
 
 class Found(NamedTuple):
     """A message, with the place of its first byte and of the end of each record in the stream."""
+
     message: Message
     start: int
     ends: List[int]
@@ -236,7 +276,7 @@ def _next_header(stream: bytes, place: int, start: int) -> int:
     """Where the next header may begin: at the rejected record, if it isn't the first of its message, or behind it."""
     at = place
     while at < len(stream):
-        if stream[at:at + 1] in (b"H", b"h") and at > start and not stream[at + 1:at + 2].isalnum():
+        if stream[at : at + 1] in (b"H", b"h") and at > start and not stream[at + 1 : at + 2].isalnum():
             return at
         cut = stream.find(b"\r", at)
         if cut < 0:

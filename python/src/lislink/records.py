@@ -1,4 +1,5 @@
-"""Records of LIS02-A2: single records, a reader of streams and a writer. Each decision is made by the proved library."""
+"""Records of LIS02-A2: single records, a reader of streams and a writer. Each decision is made by the proved
+library."""
 import ctypes
 import enum
 import itertools
@@ -16,6 +17,7 @@ T = TypeVar("T")
 
 class Reason(enum.IntEnum):
     """Why a record can't be read where it is."""
+
     NONE, BAD_RECORD, NOT_HEADER, NO_PARENT, SECOND_HEADER, UNFINISHED, TOO_LONG, OUT_OF_MEMORY = range(8)
 
 
@@ -36,7 +38,9 @@ class Record:
         self._delimiters: _library.Delimiters = _library.Delimiters()
         told = _library.RecordOut()
         if self._given is None:
-            status = _library.calls()["header_read"](*self._whole(), ctypes.byref(self._delimiters), ctypes.byref(told))
+            status = _library.calls()["header_read"](
+                *self._whole(), ctypes.byref(self._delimiters), ctypes.byref(told)
+            )
         else:
             self._delimiters = self._given
             status = _library.calls()["record_read"](ctypes.byref(self._given), *self._whole(), ctypes.byref(told))
@@ -55,8 +59,10 @@ class Record:
     def part(self, field: int, repeat: int = 0, component: int = 0) -> Optional[bytes]:
         """The bytes of a component, its escapes as what they mean; None if there is none. The letter is field 1, and a
         header's delimiters are field 2; repeats and components are counted from 0."""
-        where = [as_number(one, 0, _MOST, name) for one, name in
-                 ((field, "the field"), (repeat, "the repeat"), (component, "the component"))]
+        where = [
+            as_number(one, 0, _MOST, name)
+            for one, name in ((field, "the field"), (repeat, "the repeat"), (component, "the component"))
+        ]
         room, size = (ctypes.c_uint8 * max(len(self._text), 1))(), ctypes.c_size_t()
         words = (*self._whole(), *where, room, len(self._text), ctypes.byref(size))
         if self._given is None:
@@ -67,7 +73,7 @@ class Record:
             return None
         if status:
             raise LinkError(status)
-        return bytes(room[:size.value])
+        return bytes(room[: size.value])
 
 
 def records(texts: Iterable[bytes]) -> Iterator[Record]:
@@ -84,6 +90,7 @@ def records(texts: Iterable[bytes]) -> Iterator[Record]:
 
 class Row(NamedTuple):
     """A record of a message: its letter, and its fields as lists of repeats, these as lists of components."""
+
     letter: str
     fields: List[List[List[bytes]]]
 
@@ -105,6 +112,7 @@ class Row(NamedTuple):
 
 class Reader(Owner):
     """Reads the records of a stream that comes in pieces, each where its message may have it."""
+
     _kind = "reader"
 
     def __init__(self) -> None:
@@ -139,14 +147,17 @@ class Reader(Owner):
             raise MessageError(out.number, out.reason, out.detail, out.place)
 
     def _field(self, number: int) -> List[List[bytes]]:
-        return list(_until_none(lambda repeat: list(_until_none(
-            lambda component: self._part(number, repeat, component))) or None))
+        return list(
+            _until_none(
+                lambda repeat: list(_until_none(lambda component: self._part(number, repeat, component))) or None
+            )
+        )
 
     def _part(self, *where: int) -> Optional[bytes]:
         size = ctypes.c_size_t()
         if self._call("part", *where, self._room, RECORD_BYTES, ctypes.byref(size)):
             return None
-        return bytes(self._room[:size.value])
+        return bytes(self._room[: size.value])
 
 
 def _until_none(call: Callable[[int], Optional[T]]) -> Iterator[T]:
@@ -159,6 +170,7 @@ def _until_none(call: Callable[[int], Optional[T]]) -> Iterator[T]:
 
 class Writer(Owner):
     """Writes records by their fields, each bytes or a list of components, as link texts."""
+
     _kind = "writer"
 
     def start(self, delimiters: bytes = b"|\\^&") -> None:
@@ -189,7 +201,7 @@ class Writer(Owner):
         room, size, texts = (ctypes.c_uint8 * (RECORD_BYTES + 1))(), ctypes.c_size_t(), []
         for place in range(self._call("texts")):
             self._check(self._call("text", place, room, RECORD_BYTES + 1, ctypes.byref(size)))
-            texts.append(bytes(room[:size.value]))
+            texts.append(bytes(room[: size.value]))
         return texts
 
     @staticmethod

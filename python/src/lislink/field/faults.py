@@ -1,5 +1,5 @@
-"""Faults in words: why a frame or a record is rejected, the likely cause, and the command that helps. The proved library
-says what is rejected; this only explains."""
+"""Faults in words: why a frame or a record is rejected, the likely cause, and the command that helps. The proved
+library says what is rejected; this only explains."""
 import functools
 import operator
 from typing import List, NamedTuple, Optional
@@ -15,12 +15,16 @@ _NAMES.update({9: "TAB", 127: "DEL", 17: "XON", 19: "XOFF"})
 def words(data: bytes, most: int = 0) -> str:
     """Bytes as text, control bytes in words; cut behind so many bytes, if that isn't 0."""
     shown = data[:most] if most else data
-    text = "".join(chr(one) if 32 <= one < 127 else f"<{_NAMES[one]}>" if one in _NAMES else f"<{one:02X}>" for one in shown)
+    text = "".join(
+        chr(one) if 32 <= one < 127 else f"<{_NAMES[one]}>" if one in _NAMES else f"<{one:02X}>" for one in shown
+    )
     return text + ("…" if len(shown) < len(data) else "")
 
 
 class Cause(NamedTuple):
-    """The likely cause of a fault: a short name, words for a person, and for a checksum the other way to sum that gives it."""
+    """The likely cause of a fault: a short name, words for a person, and for a checksum the other way to sum that
+    gives it."""
+
     name: str
     words: str
     way: str = ""
@@ -28,6 +32,7 @@ class Cause(NamedTuple):
 
 class Sum(NamedTuple):
     """The checksum that a frame should have, and the one that it has."""
+
     wanted: str
     found: str
 
@@ -48,19 +53,26 @@ def cause_of_frame(body: bytes, fault: FrameFault, place: int) -> Cause:
     """Why the bytes between STX and LF are no frame, as far as one can see."""
     if fault is FrameFault.TOO_LONG:
         length = len(body) - 5
-        return Cause("long", f"frame too long: {length} bytes of text, {FRAME_TEXT} are allowed "
-                             "(`lislink replay --long` takes it)")
+        return Cause(
+            "long",
+            f"frame too long: {length} bytes of text, {FRAME_TEXT} are allowed "
+            "(`lislink replay --long` takes it)",
+        )
     if fault is FrameFault.SHAPE:
         return _shape(body)
     if fault is FrameFault.NUMBER:
         if body[:1] in (b"8", b"9"):
             return Cause("number-over-7", f"frame number {body[:1].decode()}: behind 7 comes 0")
-        return Cause("number", f"no frame number: the frame begins with '{words(body[:1])}', not with a digit 0 to 7")
+        return Cause(
+            "number", f"no frame number: the frame begins with '{words(body[:1])}', not with a digit 0 to 7"
+        )
     if fault is FrameFault.FORBIDDEN:
         byte = body[1 + place] if 1 + place < len(body) else 0
         name = words(bytes([byte]))
         if byte in (17, 19):
-            return Cause("flow-control", f"{name} in the text at byte {place}: software flow control is on, turn it off")
+            return Cause(
+                "flow-control", f"{name} in the text at byte {place}: software flow control is on, turn it off"
+            )
         return Cause("forbidden", f"forbidden byte {name} in the text at byte {place}")
     return _sum(body)
 
@@ -70,8 +82,10 @@ def _shape(body: bytes) -> Cause:
     if end < 0:
         if len(body) < 5:
             return Cause("short", f"{len(body)} bytes between STX and LF are no frame")
-        return Cause("lf-in-text", "LF inside the text: a record ends in CR LF or LF within the frame, and LF ends the frame")
-    name, tail = words(body[end:end + 1]), body[end + 1:]
+        return Cause(
+            "lf-in-text", "LF inside the text: a record ends in CR LF or LF within the frame, and LF ends the frame"
+        )
+    name, tail = words(body[end : end + 1]), body[end + 1 :]
     if tail[-1:] != b"\r":
         return Cause("no-cr", f"no CR before LF: '{words(tail)}' is behind {name}")
     digits = tail[:-1]
@@ -108,9 +122,20 @@ def _sum(body: bytes) -> Cause:
     return Cause("sum", text)
 
 
-_CODES = {Reason.NOT_HEADER: "G2", Reason.NO_PARENT: "G3", Reason.SECOND_HEADER: "G4", Reason.UNFINISHED: "G5",
-          Reason.TOO_LONG: "G6", Reason.OUT_OF_MEMORY: "K4"}
-_STATUS_CODES = {Status.NO_RECORD: "C1", Status.BAD_LETTER: "C2", Status.BAD_DELIMITERS: "C3", Status.FORBIDDEN: "C4"}
+_CODES = {
+    Reason.NOT_HEADER: "G2",
+    Reason.NO_PARENT: "G3",
+    Reason.SECOND_HEADER: "G4",
+    Reason.UNFINISHED: "G5",
+    Reason.TOO_LONG: "G6",
+    Reason.OUT_OF_MEMORY: "K4",
+}
+_STATUS_CODES = {
+    Status.NO_RECORD: "C1",
+    Status.BAD_LETTER: "C2",
+    Status.BAD_DELIMITERS: "C3",
+    Status.FORBIDDEN: "C4",
+}
 
 
 def code_of(error: MessageError) -> str:
@@ -122,6 +147,7 @@ def code_of(error: MessageError) -> str:
 
 class RecordCause(NamedTuple):
     """Why a record is rejected: in words, and the options of `lislab normalize` that mend it."""
+
     name: str
     words: str
     options: List[str]
@@ -139,20 +165,28 @@ def cause_of_record(error: MessageError, record: bytes, is_rest: bool = False) -
         if record[:3] in (b"MSH", b"FHS", b"BHS"):
             return _HL7
         if record[:1] in b"PORCQMSL" and record[:1]:
-            return RecordCause("no-header", f"a record {record[:1].decode()} outside a message: the header is missing, or a "
-                                            "record is behind L", ["--behind-l"])
+            return RecordCause(
+                "no-header",
+                f"a record {record[:1].decode()} outside a message: the header is missing, or a "
+                "record is behind L",
+                ["--behind-l"],
+            )
         return _bad_record(Status.BAD_LETTER, error, record)
     if reason is Reason.NO_PARENT:
         above = "patient (P)" if error.detail == ord("O") else "order (O)"
         return RecordCause("no-parent", f"a record {chr(error.detail)} without {above} above it", ["--orders"])
     if reason is Reason.SECOND_HEADER:
-        return RecordCause("no-l", "a header inside a message: L is missing before it, or the session was begun again",
-                           ["--last-l"])
+        return RecordCause(
+            "no-l",
+            "a header inside a message: L is missing before it, or the session was begun again",
+            ["--last-l"],
+        )
     if reason is Reason.UNFINISHED:
         return _unfinished(record, is_rest)
     if reason is Reason.TOO_LONG:
-        return RecordCause("long", "over 65,536 bytes without a CR" + (": records end in LF" if b"\n" in record else ""),
-                           ["--lf"])
+        return RecordCause(
+            "long", "over 65,536 bytes without a CR" + (": records end in LF" if b"\n" in record else ""), ["--lf"]
+        )
     return RecordCause("memory", "out of memory", [])
 
 
@@ -176,15 +210,16 @@ def _bad_record(status: Status, error: MessageError, record: bytes) -> RecordCau
         return RecordCause("empty", "an empty record: CR behind CR, or a blank line", ["--blank"])
     if status is Status.BAD_DELIMITERS:
         if record[:9] in (b"H|^~\\&|||", b"MSH|^~\\&|") or record[:6] == b"H|^~\\&":
-            return RecordCause("hl7-delimiters", "a header with five bytes of delimiters, as HL7 has them: H|^~\\&",
-                               ["--header-5"])
+            return RecordCause(
+                "hl7-delimiters", "a header with five bytes of delimiters, as HL7 has them: H|^~\\&", ["--header-5"]
+            )
         if record[1:2] == record[4:5]:
             return RecordCause("header-3", "a header with three delimiters, the escape is missing", ["--header-3"])
         if len(record) > 6 and record[6:7] == record[1:2]:
             return RecordCause("header-5", "a header with five bytes of delimiters", ["--header-5"])
         return RecordCause("delimiters", "a header whose four delimiters aren't distinct punctuation", [])
     if status is Status.FORBIDDEN:
-        byte = record[error.place:error.place + 1]
+        byte = record[error.place : error.place + 1]
         options = {b"\0": ["--nul"], b"\x1a": ["--ctrl-z"], b"\n": ["--lf"]}.get(byte, [])
         return RecordCause("byte", f"the byte {words(byte)} at place {error.place} is no text", options)
     if status is Status.TOO_LONG:
@@ -198,7 +233,9 @@ def _bad_record(status: Status, error: MessageError, record: bytes) -> RecordCau
     if record[:3] == b"\xef\xbb\xbf":
         return RecordCause("bom", "a byte order mark is at the beginning", ["--bom"])
     if record[:1] in (b"\0", b"\x1a"):
-        return RecordCause("ctrl-z", f"{first} at the beginning of a record", ["--nul" if record[:1] == b"\0" else "--ctrl-z"])
+        return RecordCause(
+            "ctrl-z", f"{first} at the beginning of a record", ["--nul" if record[:1] == b"\0" else "--ctrl-z"]
+        )
     if record[:1] in (b"\x02", b"\x05", b"\x03", b"\x04", b"\x0b"):
         return RecordCause("framed", f"{first}: link bytes are among the records", ["--unframe"])
     if record[:1].isdigit() and record[1:2].isalpha():
@@ -209,4 +246,6 @@ def _bad_record(status: Status, error: MessageError, record: bytes) -> RecordCau
         return RecordCause("blank-first", "a blank is before the letter", ["--blank"])
     if record[:1] and record[:1] in b"HPORCQMSLhporcqmsl":
         return RecordCause("letter", f"no field delimiter behind the letter {first}", [])
-    return RecordCause("letter", f"'{first}' is no letter of a record: one of the maker's own, or a CR inside a text", [])
+    return RecordCause(
+        "letter", f"'{first}' is no letter of a record: one of the maker's own, or a CR inside a text", []
+    )

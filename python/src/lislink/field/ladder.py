@@ -13,8 +13,9 @@ ENQ, ACK, NAK, EOT, STX = 5, 6, 0x15, 4, 2
 
 
 class Row(NamedTuple):
-    """A row of a ladder. `side` is `>` for the analyzer, `<` for the computer, `-` for an event. `level` is `good`, `plain`,
-    `warn` or `bad`. `reply` is what the proved receiver answers to it."""
+    """A row of a ladder. `side` is `>` for the analyzer, `<` for the computer, `-` for an event. `level` is `good`,
+    `plain`, `warn` or `bad`. `reply` is what the proved receiver answers to it."""
+
     line: int
     time: Optional[int]
     side: str
@@ -33,12 +34,14 @@ class Row(NamedTuple):
 
 class Text(NamedTuple):
     """A text that the receiver delivers: at which line of the capture."""
+
     line: int
     data: bytes
 
 
 class Look(NamedTuple):
     """Something that looks wrong: its name, how bad, what it is, what to do, and the lines where it is first."""
+
     name: str
     level: str
     words: str
@@ -91,8 +94,14 @@ class Ladder:
             self._due += step.reply
             self.notes[step.note] = self.notes.get(step.note, 0) + 1
             opened = step.note is Note.TIMED_OUT
-            self._event(number, time, "the receiver's 30 seconds are over: the line is given up" if opened else
-                        "the receiver's timer runs out: the line wasn't open", "warn" if opened else "plain")
+            self._event(
+                number,
+                time,
+                "the receiver's 30 seconds are over: the line is given up"
+                if opened
+                else "the receiver's timer runs out: the line wasn't open",
+                "warn" if opened else "plain",
+            )
         elif line.mark == "R":
             self._note_dropped(receiver, number)
             receiver.restart()
@@ -101,8 +110,16 @@ class Ladder:
         elif line.mark == "S":
             self._busy = Readiness[line.ready.upper()]
             receiver.set_ready(self._busy)
-            self._event(number, time, {"ready": "the computer is ready", "busy": "the computer is busy: ENQ is answered NAK",
-                                       "contending": "the computer wants to send: ENQ is answered ENQ"}[line.ready], "plain")
+            self._event(
+                number,
+                time,
+                {
+                    "ready": "the computer is ready",
+                    "busy": "the computer is busy: ENQ is answered NAK",
+                    "contending": "the computer wants to send: ENQ is answered ENQ",
+                }[line.ready],
+                "plain",
+            )
 
     def _event(self, number: int, time: Optional[int], note: str, level: str) -> None:
         self.rows.append(Row(number, time, "-", "event", note, "", level))
@@ -110,8 +127,17 @@ class Ladder:
     def _silence(self, receiver: Receiver, number: int, time: Optional[int]) -> None:
         if time is not None and self._heard is not None and time - self._heard > 30 * SECOND and receiver.is_open:
             seconds = (time - self._heard) / SECOND
-            self.rows.append(Row(number, time, "-", "silence", f"{seconds:.1f} seconds of silence",
-                                 "a receiver gives the line up after 30 (a line T here says so)", "warn"))
+            self.rows.append(
+                Row(
+                    number,
+                    time,
+                    "-",
+                    "silence",
+                    f"{seconds:.1f} seconds of silence",
+                    "a receiver gives the line up after 30 (a line T here says so)",
+                    "warn",
+                )
+            )
         self._heard = time if time is not None else self._heard
 
     def _note_dropped(self, receiver: Receiver, number: int) -> None:
@@ -119,12 +145,13 @@ class Ladder:
             self.dropped.append((number, receiver.held))
 
     def _units(self, receiver: Receiver, scanner: Scanner, number: int, data: bytes, time: Optional[int]) -> None:
-        """The units that are completed in a line: each signal of the scanner, beside the receiver's step at its byte."""
+        """The units that are completed in a line: each signal of the scanner, beside the receiver's step at its
+        byte."""
         start, was_open = 0, bool(self._carry)
         for place, signal in scanner.feed_placed(data):
-            raw, self._carry = self._carry + data[start:place + 1], b""
+            raw, self._carry = self._carry + data[start : place + 1], b""
             held, opened = receiver.held, receiver.is_open
-            step = next((step for _, step in receiver.hear_placed(data[start:place + 1])), None)
+            step = next((step for _, step in receiver.hear_placed(data[start : place + 1])), None)
             start = place + 1
             cut = raw.rfind(2) if signal.kind in (Kind.FRAME, Kind.BAD_FRAME) else len(raw) - 1
             self._outside(number, time, raw[:cut], was_open)
@@ -145,24 +172,55 @@ class Ladder:
             self._begun = (number, time, len(self.rows))
 
     def _outside(self, number: int, time: Optional[int], data: bytes, was_open: bool = False) -> None:
-        """Bytes before a unit: a frame that is dropped, since something else came before its LF, or bytes of no frame. One
-        that was open before this line is shown where it began."""
+        """Bytes before a unit: a frame that is dropped, since something else came before its LF, or bytes of no
+        frame. One that was open before this line is shown where it began."""
         while data:
             cut = data.find(2, 1)
             piece, data = (data, b"") if cut < 0 else (data[:cut], data[cut:])
             if piece[0] == STX:
                 line, since, place = self._begun if was_open else (number, time, len(self.rows))
-                self.rows.insert(place, Row(line, since, ">", "dropped", words(piece),
-                                            "dropped: no LF ended this frame, no reply", "bad", piece))
+                self.rows.insert(
+                    place,
+                    Row(
+                        line,
+                        since,
+                        ">",
+                        "dropped",
+                        words(piece),
+                        "dropped: no LF ended this frame, no reply",
+                        "bad",
+                        piece,
+                    ),
+                )
                 was_open = False
             elif self._computer_sends and set(piece) <= {ACK, NAK, EOT}:
-                self.rows.append(Row(number, time, ">", "answer", words(piece), "the analyzer answers the computer's own session",
-                                     "plain", piece))
+                self.rows.append(
+                    Row(
+                        number,
+                        time,
+                        ">",
+                        "answer",
+                        words(piece),
+                        "the analyzer answers the computer's own session",
+                        "plain",
+                        piece,
+                    )
+                )
             else:
-                self.rows.append(Row(number, time, ">", "outside", words(piece), "bytes outside frames: ignored", "warn", piece))
+                self.rows.append(
+                    Row(number, time, ">", "outside", words(piece), "bytes outside frames: ignored", "warn", piece)
+                )
 
-    def _unit(self, receiver: Receiver, number: int, time: Optional[int], signal: Signal, step: Optional[Step], raw: bytes,
-              opened: bool) -> None:
+    def _unit(
+        self,
+        receiver: Receiver,
+        number: int,
+        time: Optional[int],
+        signal: Signal,
+        step: Optional[Step],
+        raw: bytes,
+        opened: bool,
+    ) -> None:
         note = step.note if step else Note.QUIET
         self.notes[note] = self.notes.get(note, 0) + 1
         reply = step.reply if step else b""
@@ -183,11 +241,28 @@ class Ladder:
                 self._last_text = signal.text
         else:
             title, kind = f"no frame: {words(raw)}", "bad"
-        self.rows.append(Row(number, time, ">", kind, title, why, level, raw, signal.text, reply, told, cause,
-                             signal.number if signal.kind is Kind.FRAME else -1, signal.last))
+        self.rows.append(
+            Row(
+                number,
+                time,
+                ">",
+                kind,
+                title,
+                why,
+                level,
+                raw,
+                signal.text,
+                reply,
+                told,
+                cause,
+                signal.number if signal.kind is Kind.FRAME else -1,
+                signal.last,
+            )
+        )
 
-    def _why(self, receiver: Receiver, signal: Signal, step: Optional[Step], body: bytes,
-             note: Note) -> Tuple[str, str, Optional[Cause]]:
+    def _why(
+        self, receiver: Receiver, signal: Signal, step: Optional[Step], body: bytes, note: Note
+    ) -> Tuple[str, str, Optional[Cause]]:
         due = (receiver.accepted + 1) % 8
         cause = cause_of_frame(body, signal.fault, signal.place) if signal.kind is Kind.BAD_FRAME else None
         if cause and note is Note.REFUSED:
@@ -200,21 +275,41 @@ class Ladder:
             return f"accepted, {receiver.held} bytes held until the frame with ETX", "good", None
         if note is Note.DUPLICATE:
             if self._last_text is not None and signal.text != self._last_text:
-                return (f"duplicate of {signal.number} by its number, but another text: acknowledged and lost "
-                        f"({due} is due)"), "bad", Cause("lost", "lost")
+                return (
+                    (
+                        f"duplicate of {signal.number} by its number, but another text: acknowledged and lost "
+                        f"({due} is due)"
+                    ),
+                    "bad",
+                    Cause("lost", "lost"),
+                )
             return f"duplicate of {signal.number}: acknowledged, not taken again", "warn", None
-        told = {Note.OUT_OF_TURN: f"rejected: out of turn, {due} is due", Note.NO_ROOM: "rejected: no room",
-                Note.TEXT_TOO_LONG: "rejected: the text passes 1,048,576 bytes", Note.TOO_MANY: "rejected: too many frames",
-                Note.REFUSED_MEMORY: "rejected: out of memory"}
+        told = {
+            Note.OUT_OF_TURN: f"rejected: out of turn, {due} is due",
+            Note.NO_ROOM: "rejected: no room",
+            Note.TEXT_TOO_LONG: "rejected: the text passes 1,048,576 bytes",
+            Note.TOO_MANY: "rejected: too many frames",
+            Note.REFUSED_MEMORY: "rejected: out of memory",
+        }
         return told.get(note, "the line isn't open (no ENQ before): no reply"), "bad", None
 
-    def _signal(self, number: int, time: Optional[int], signal: Signal, note: Note, raw: bytes, reply: bytes,
-                receiver: Receiver) -> None:
+    def _signal(
+        self,
+        number: int,
+        time: Optional[int],
+        signal: Signal,
+        note: Note,
+        raw: bytes,
+        reply: bytes,
+        receiver: Receiver,
+    ) -> None:
         if signal.kind is Kind.ENQ:
             why, level = ("the line is opened", "good") if note is Note.OPENED else ("not ready: no line", "warn")
             self._last_text = None
         else:
-            why, level = ("the session is ended", "good") if note is Note.ENDED else ("the line isn't open", "plain")
+            why, level = (
+                ("the session is ended", "good") if note is Note.ENDED else ("the line isn't open", "plain")
+            )
         self.rows.append(Row(number, time, ">", signal.kind.name, signal.kind.name, why, level, raw, b"", reply))
 
     def _reply(self, number: int, data: bytes, time: Optional[int]) -> None:
@@ -250,15 +345,38 @@ class Ladder:
         number = capture.lines[-1][0] if capture.lines else 0
         if self._carry:
             line, since, place = self._begun
-            self.rows.insert(place, Row(line, since, ">", "dropped", words(self._carry),
-                                        "unfinished: the capture ends before its LF", "bad", self._carry))
+            self.rows.insert(
+                place,
+                Row(
+                    line,
+                    since,
+                    ">",
+                    "dropped",
+                    words(self._carry),
+                    "unfinished: the capture ends before its LF",
+                    "bad",
+                    self._carry,
+                ),
+            )
         self._note_dropped(receiver, number)
         self.is_open = receiver.is_open
         if self._due:
             self.differences.append((0, b"", self._due))
             if self.has_replies:
-                self.rows.append(Row(number, None, "-", "silence", "no answer",
-                                     f"the receiver would answer {words(self._due)}", "bad", b"", b"", self._due))
+                self.rows.append(
+                    Row(
+                        number,
+                        None,
+                        "-",
+                        "silence",
+                        "no answer",
+                        f"the receiver would answer {words(self._due)}",
+                        "bad",
+                        b"",
+                        b"",
+                        self._due,
+                    )
+                )
 
     def units(self) -> Iterator[Row]:
         """The rows of units that the analyzer sent."""
@@ -269,12 +387,24 @@ class Ladder:
         kinds = [row.kind for row in self.units()]
         found = [one for one in self.messages if isinstance(one, Found)]
         return {
-            "ENQ": kinds.count("ENQ"), "frames": kinds.count("frame") + kinds.count("bad"),
+            "ENQ": kinds.count("ENQ"),
+            "frames": kinds.count("frame") + kinds.count("bad"),
             "accepted": self.notes.get(Note.ACCEPTED, 0),
             "duplicates": self.notes.get(Note.DUPLICATE, 0),
-            "rejected": sum(self.notes.get(one, 0) for one in (Note.REFUSED, Note.OUT_OF_TURN, Note.NO_ROOM,
-                                                                Note.TEXT_TOO_LONG, Note.TOO_MANY, Note.REFUSED_MEMORY)),
-            "texts": len(self.texts), "differences": len(self.differences), "messages": len(found),
+            "rejected": sum(
+                self.notes.get(one, 0)
+                for one in (
+                    Note.REFUSED,
+                    Note.OUT_OF_TURN,
+                    Note.NO_ROOM,
+                    Note.TEXT_TOO_LONG,
+                    Note.TOO_MANY,
+                    Note.REFUSED_MEMORY,
+                )
+            ),
+            "texts": len(self.texts),
+            "differences": len(self.differences),
+            "messages": len(found),
             "results": sum(1 for one in found for _ in one.message.results()),
             "findings": sum(len(one.message.findings()) for one in found),
             "rejected messages": len(self.messages) - len(found),

@@ -21,8 +21,9 @@ NEW = "\0new"
 
 
 class Piece(NamedTuple):
-    """Bytes that one side sent: the time in nanoseconds if it is known, a name for the side, the bytes. A piece with the
-    side NEW and no bytes is a new connection."""
+    """Bytes that one side sent: the time in nanoseconds if it is known, a name for the side, the bytes. A piece with
+    the side NEW and no bytes is a new connection."""
+
     time: Optional[int]
     side: str
     data: bytes
@@ -30,6 +31,7 @@ class Piece(NamedTuple):
 
 class Log(NamedTuple):
     """The pieces of a log in their order, its form, and remarks for the reader."""
+
     form: str
     pieces: List[Piece]
     remarks: List[str]
@@ -40,8 +42,8 @@ _FRAME = re.compile(rb"\x02[0-7][\x20-\xff\t\r]*[\x03\x17][0-9A-Fa-f]{2}\r")
 
 
 def likeness(pieces: List[Piece]) -> int:
-    """How much pieces look like this link: 2 if a piece is ENQ alone or a side sends a frame, 1 if ENQ or STX is among the
-    bytes, as it is in any binary data, and 0 otherwise."""
+    """How much pieces look like this link: 2 if a piece is ENQ alone or a side sends a frame, 1 if ENQ or STX is
+    among the bytes, as it is in any binary data, and 0 otherwise."""
     if any(piece.data == b"\x05" for piece in pieces):
         return 2
     sides = {piece.side for piece in pieces}
@@ -51,9 +53,15 @@ def likeness(pieces: List[Piece]) -> int:
 
 
 _CLOCK = r"(?P<h>\d{1,2}):(?P<m>\d\d):(?P<s>\d\d)(?:\s?(?P<ap>[AaPp][Mm]))?(?:[.,:](?P<f>\d{1,9}))?(?:\s?(?P<ap2>[AaPp][Mm]))?(?!:?\d)"
-_DATES = [re.compile(pattern + _CLOCK) for pattern in (
-    r"(?P<y>\d{4})[-/.](?P<mo>\d{1,2})[-/.](?P<d>\d{1,2})[T ,;]*", r"(?P<d>\d{1,2})[-/.](?P<mo>\d{1,2})[-/.](?P<y>\d{4})[T ,;]*",
-    r"(?P<mon>[A-Za-z]{3}) {1,2}(?P<d>\d{1,2}),? (?P<y>\d{4}),? ", r"(?<![\d:.])")]
+_DATES = [
+    re.compile(pattern + _CLOCK)
+    for pattern in (
+        r"(?P<y>\d{4})[-/.](?P<mo>\d{1,2})[-/.](?P<d>\d{1,2})[T ,;]*",
+        r"(?P<d>\d{1,2})[-/.](?P<mo>\d{1,2})[-/.](?P<y>\d{4})[T ,;]*",
+        r"(?P<mon>[A-Za-z]{3}) {1,2}(?P<d>\d{1,2}),? (?P<y>\d{4}),? ",
+        r"(?<![\d:.])",
+    )
+]
 _DIGITS = re.compile(r"(?<!\d)(20\d\d)(\d\d)(\d\d)(\d\d)(\d\d)(\d\d)\.(\d{3})(?!\d)")
 _EPOCH = re.compile(r"(?<![\d.:])(?P<s>\d{9,10})\.(?P<f>\d{1,9})(?![\d.:])")
 
@@ -98,7 +106,9 @@ def time_text(time: Optional[int]) -> str:
     if time is None:
         return ""
     days, rest = divmod(time, _DAY)
-    clock = f"{rest // SECOND // 3600:02}:{rest // SECOND // 60 % 60:02}:{rest // SECOND % 60:02}.{rest % SECOND:09}"
+    clock = (
+        f"{rest // SECOND // 3600:02}:{rest // SECOND // 60 % 60:02}:{rest // SECOND % 60:02}.{rest % SECOND:09}"
+    )
     clock = clock[:-3] if clock.endswith("000") else clock
     return f"{datetime.date.fromordinal(days + 719163)}T{clock}" if days > 3 else clock
 
@@ -119,12 +129,13 @@ def in_order(pieces: List[Piece]) -> List[Piece]:
 
 
 def decode(data: bytes) -> str:
-    """The text of a log: UTF-16 by its byte order mark or its zeros, else UTF-8, in which other bytes stay what they are."""
+    """The text of a log: UTF-16 by its byte order mark or its zeros, else UTF-8, in which other bytes stay what they
+    are."""
     if data[:2] in (b"\xff\xfe", b"\xfe\xff"):
         return _one_byte(data.decode("utf-16", "replace"))
     if len(data) > 3 and data[1:2] == b"\0" and data[3:4] == b"\0":
         return _one_byte(data.decode("utf-16-le", "replace"))
-    return data[3 if data[:3] == b"\xef\xbb\xbf" else 0:].decode("utf-8", "surrogateescape")
+    return data[3 if data[:3] == b"\xef\xbb\xbf" else 0 :].decode("utf-8", "surrogateescape")
 
 
 def _one_byte(text: str) -> str:
@@ -137,9 +148,13 @@ def encode(text: str) -> bytes:
     return text.encode("utf-8", "surrogateescape")
 
 
-CONTROL = {name: number for number, name in enumerate(
-    """NUL SOH STX ETX EOT ENQ ACK BEL BS HT LF VT FF CR SO SI DLE DC1 DC2 DC3 DC4 NAK SYN ETB CAN EM SUB ESC FS GS RS
-    US""".split())}
+CONTROL = {
+    name: number
+    for number, name in enumerate(
+        """NUL SOH STX ETX EOT ENQ ACK BEL BS HT LF VT FF CR SO SI DLE DC1 DC2 DC3 DC4 NAK SYN ETB CAN EM SUB ESC FS
+        GS RS US""".split()
+    )
+}
 CONTROL.update({"TAB": 9, "NL": 10, "DEL": 127, "XON": 17, "XOFF": 19, "SP": 32, "SPACE": 32})
 
 
@@ -151,31 +166,34 @@ def ascii_fits(text: str, data: bytes) -> bool:
         text = text[:8] + text[9:]  # Wireshark has a blank in the middle
     if len(text) > len(data):
         return False
-    return all(32 <= byte < 127 and shown == chr(byte) or not 32 < byte < 127 or shown == "."
-               for shown, byte in zip(text, data)) and (len(text) == len(data) or not text.strip() or
-                                                        data[len(text):].strip(b" ") == b"")
+    return all(
+        32 <= byte < 127 and shown == chr(byte) or not 32 < byte < 127 or shown == "."
+        for shown, byte in zip(text, data)
+    ) and (len(text) == len(data) or not text.strip() or data[len(text) :].strip(b" ") == b"")
 
 
 def hex_row(text: str, most: int = 64) -> Optional[bytes]:
-    """The bytes of a row of a hex dump without its offset: pairs (or groups of them), and maybe the same bytes as text."""
+    """The bytes of a row of a hex dump without its offset: pairs (or groups of them), and maybe the same bytes as
+    text."""
     tokens = [(found.group(), found.end()) for found in re.finditer(r"\S+", text)]
     pairs: List[int] = []
     for word, _ in tokens:
         if not re.match(r"(?:0[xX])?(?:[0-9A-Fa-f]{2})+,?$", word):
             break
         pairs.append(len(bytes.fromhex(re.sub("^0[xX]|,$", "", word))))
+
     def front(count: int) -> bytes:
         return bytes.fromhex("".join(re.sub("^0[xX]|,$", "", word) for word, _ in tokens[:count]))
 
     # A column of text may look like digits: behind a gap it is text, if it shows the bytes before it.
     for count in range(min(len(pairs), len(tokens) - 1), 0, -1):
-        rest = text[tokens[count - 1][1]:]
+        rest = text[tokens[count - 1][1] :]
         if re.match(r"\s{2}|\t", rest) and sum(pairs[:count]) <= most and _shows(rest, front(count)):
             return front(count)
     if pairs and len(pairs) == len(tokens):
         return front(len(pairs))
     for count in range(len(pairs), 0, -1):
-        rest = text[tokens[count - 1][1]:]
+        rest = text[tokens[count - 1][1] :]
         if rest[:1].isspace() and sum(pairs[:count]) <= most and _shows(rest, front(count)):
             return front(count)
     return None
@@ -184,5 +202,8 @@ def hex_row(text: str, most: int = 64) -> Optional[bytes]:
 def _shows(rest: str, data: bytes) -> bool:
     """Whether what is behind the pairs shows these bytes. Blanks before the text may belong to the dump or to it."""
     bare = rest.rstrip()
-    return any(bare[:cut].isspace() and ascii_fits(bare[cut:], data) for cut in range(1, len(bare))
-               if cut <= len(bare) - len(bare.lstrip()) and cut >= 1)
+    return any(
+        bare[:cut].isspace() and ascii_fits(bare[cut:], data)
+        for cut in range(1, len(bare))
+        if cut <= len(bare) - len(bare.lstrip()) and cut >= 1
+    )

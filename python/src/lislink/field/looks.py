@@ -14,8 +14,27 @@ from .log import SECOND
 def looks_of(ladder: Ladder) -> List[Look]:
     """All that looks wrong, the worst first."""
     found: List[Look] = []
-    for one in (_no_protocol, _no_text, _same_number, _from_zero, _lost, _never_ended, _bad_frames, _gives_up, _not_open, _dropped,
-                _outside, _answers, _computer_session, _no_answer, _late, _charset, _unfinished, _records, _sequence):
+    for one in (
+        _no_protocol,
+        _no_text,
+        _same_number,
+        _from_zero,
+        _lost,
+        _never_ended,
+        _bad_frames,
+        _gives_up,
+        _not_open,
+        _dropped,
+        _outside,
+        _answers,
+        _computer_session,
+        _no_answer,
+        _late,
+        _charset,
+        _unfinished,
+        _records,
+        _sequence,
+    ):
         found += one(ladder)
     order = {"bad": 0, "warn": 1, "plain": 2}
     return sorted(found, key=lambda look: order[look.level])
@@ -45,37 +64,82 @@ def _no_protocol(ladder: Ladder) -> Iterator[Look]:
     data = ladder.analyzer
     has_units = any(True for _ in ladder.units())
     if b"MSH|" in data or re.search(rb"\x0b[^\x1c]*\x1c\r", data):
-        yield Look("hl7", "bad", "this is HL7 version 2 (MSH, or a block of VT .. FS CR), not this link",
-                   "set the analyzer to ASTM, or use an HL7 receiver", [])
+        yield Look(
+            "hl7",
+            "bad",
+            "this is HL7 version 2 (MSH, or a block of VT .. FS CR), not this link",
+            "set the analyzer to ASTM, or use an HL7 receiver",
+            [],
+        )
         return
     parity = parity_of(data)
     if parity:
-        yield Look("parity", "bad", f"each byte carries an {parity} parity bit: the line has 7 data bits, and was read with 8",
-                   f"set both ends alike, 8N1 or 7{parity[0].upper()}1", [])
+        yield Look(
+            "parity",
+            "bad",
+            f"each byte carries an {parity} parity bit: the line has 7 data bits, and was read with 8",
+            f"set both ends alike, 8N1 or 7{parity[0].upper()}1",
+            [],
+        )
         return
     if 5 not in data and 2 not in data and 5 in ladder.computer and 2 in ladder.computer:
-        yield Look("swapped", "bad", "ENQ and frames come from the computer's side alone: the sides are swapped",
-                   "lislab ladder --swap", [])
+        yield Look(
+            "swapped",
+            "bad",
+            "ENQ and frames come from the computer's side alone: the sides are swapped",
+            "lislab ladder --swap",
+            [],
+        )
     elif not data:
-        yield Look("no-bytes", "bad", "the capture has no bytes of the analyzer",
-                   "look whether the sides are swapped (lislab capture --swap), or the wire is", [])
+        yield Look(
+            "no-bytes",
+            "bad",
+            "the capture has no bytes of the analyzer",
+            "look whether the sides are swapped (lislab capture --swap), or the wire is",
+            [],
+        )
     elif 5 not in data and 2 not in data:
-        yield Look("no-protocol", "bad", "no ENQ and no STX: another protocol, or the wrong speed or settings of the line",
-                   "compare speed, data bits and parity of both ends", [])
+        yield Look(
+            "no-protocol",
+            "bad",
+            "no ENQ and no STX: another protocol, or the wrong speed or settings of the line",
+            "compare speed, data bits and parity of both ends",
+            [],
+        )
     elif not has_units and 2 in data:
-        yield Look("no-unit", "bad", "STX came, but no frame was ended by LF", "a frame ends in ETX or ETB, two digits, CR and LF", [])
+        yield Look(
+            "no-unit",
+            "bad",
+            "STX came, but no frame was ended by LF",
+            "a frame ends in ETX or ETB, two digits, CR and LF",
+            [],
+        )
     elif 5 in data and 2 not in data:
         rows = [row for row in ladder.rows if row.kind == "ENQ"]
-        level = "warn" if ladder.has_replies and all(row.raw == b"\x06" for row in ladder.rows if row.side == "<") else "bad"
-        yield Look("no-frame", level, f"ENQ came {_times(len(rows))}, and never a frame",
-                   "see whether the computer answers ACK, and what the analyzer sends behind it", _lines(rows)[:5])
+        level = (
+            "warn"
+            if ladder.has_replies and all(row.raw == b"\x06" for row in ladder.rows if row.side == "<")
+            else "bad"
+        )
+        yield Look(
+            "no-frame",
+            level,
+            f"ENQ came {_times(len(rows))}, and never a frame",
+            "see whether the computer answers ACK, and what the analyzer sends behind it",
+            _lines(rows)[:5],
+        )
 
 
 def _no_text(ladder: Ladder) -> Iterator[Look]:
     if ladder.texts or not any(row.kind in ("frame", "bad") for row in ladder.units()):
         return
-    yield Look("no-text", "bad", "no text at all came through: every frame was rejected, dropped or repeated",
-               "the rows below say why for each frame", [])
+    yield Look(
+        "no-text",
+        "bad",
+        "no text at all came through: every frame was rejected, dropped or repeated",
+        "the rows below say why for each frame",
+        [],
+    )
 
 
 def _frames(ladder: Ladder) -> List[Row]:
@@ -86,17 +150,27 @@ def _same_number(ladder: Ladder) -> Iterator[Look]:
     frames = _frames(ladder)
     texts = {row.text for row in frames}
     if len(texts) > 1 and len({row.number for row in frames}) == 1:
-        yield Look("same-number", "bad", f"all {len(frames)} frames have number {frames[0].number}: each behind the first is a "
-                   "duplicate by the rules, so its text is acknowledged and lost",
-                   "the sender must count 1 to 7, then 0: no receiver can tell such frames from repeats", _lines(frames)[:5])
+        yield Look(
+            "same-number",
+            "bad",
+            f"all {len(frames)} frames have number {frames[0].number}: each behind the first is a "
+            "duplicate by the rules, so its text is acknowledged and lost",
+            "the sender must count 1 to 7, then 0: no receiver can tell such frames from repeats",
+            _lines(frames)[:5],
+        )
 
 
 def _from_zero(ladder: Ladder) -> Iterator[Look]:
     before: Optional[Row] = None
     for row in ladder.units():
         if row.kind == "frame" and before is not None and before.kind == "ENQ" and row.number == 0:
-            yield Look("from-zero", "bad", "the first frame behind ENQ has number 0: 1 is due",
-                       "the sender must begin with 1 after each ENQ; a receiver must not take 0", [row.line])
+            yield Look(
+                "from-zero",
+                "bad",
+                "the first frame behind ENQ has number 0: 1 is due",
+                "the sender must begin with 1 after each ENQ; a receiver must not take 0",
+                [row.line],
+            )
             return
         before = row
 
@@ -104,15 +178,25 @@ def _from_zero(ladder: Ladder) -> Iterator[Look]:
 def _lost(ladder: Ladder) -> Iterator[Look]:
     rows = [row for row in ladder.rows if row.cause is not None and row.cause.name == "lost"]
     if rows:
-        yield Look("lost", "bad", f"{_many(len(rows), 'frame')} with the number of the one before and another text: acknowledged, and lost",
-                   "the sender doesn't count its frames, or missed an acknowledgement", _lines(rows)[:5])
+        yield Look(
+            "lost",
+            "bad",
+            f"{_many(len(rows), 'frame')} with the number of the one before and another text: acknowledged, and lost",
+            "the sender doesn't count its frames, or missed an acknowledgement",
+            _lines(rows)[:5],
+        )
 
 
 def _never_ended(ladder: Ladder) -> Iterator[Look]:
     if ladder.dropped:
         total = sum(count for _, count in ladder.dropped)
-        yield Look("etb", "bad", f"{_many(total, 'byte')} of text dropped: their last frame ended in ETB, and none with ETX came",
-                   "the last frame of a text must end in ETX", [line for line, _ in ladder.dropped][:5])
+        yield Look(
+            "etb",
+            "bad",
+            f"{_many(total, 'byte')} of text dropped: their last frame ended in ETB, and none with ETX came",
+            "the last frame of a text must end in ETX",
+            [line for line, _ in ladder.dropped][:5],
+        )
 
 
 _ADVICE = {
@@ -133,12 +217,21 @@ def _bad_frames(ladder: Ladder) -> Iterator[Look]:
         mine = [row for row in rows if _kind(row) == name]
         cause = mine[0].cause
         assert cause is not None
-        share = f"all {count} frames" if count == good + len(rows) and count > 1 else f"{count} of {good + len(rows)} frames"
+        share = (
+            f"all {count} frames"
+            if count == good + len(rows) and count > 1
+            else f"{count} of {good + len(rows)} frames"
+        )
         if name == "sum":
             yield _sums(ladder, mine, share, good)
         else:
-            yield Look(name, "bad", f"{share} rejected: {cause.words}",
-                       _ADVICE.get(name, "the sender is wrong: a receiver must not take such a frame"), _lines(mine)[:5])
+            yield Look(
+                name,
+                "bad",
+                f"{share} rejected: {cause.words}",
+                _ADVICE.get(name, "the sender is wrong: a receiver must not take such a frame"),
+                _lines(mine)[:5],
+            )
 
 
 def _kind(row: Row) -> str:
@@ -152,15 +245,34 @@ def _sums(ladder: Ladder, rows: List[Row], share: str, good: int) -> Look:
     first = rows[0].cause.words if rows[0].cause else ""
     if good == 0 and len(ways) == 1 and "" not in ways:
         name = rows[0].cause.name if rows[0].cause else "sum"
-        return Look(name, "bad", f"{share} rejected: {first}; {ways.pop()}",
-                    "mend the sender: a receiver must not take such a checksum", _lines(rows)[:5])
+        return Look(
+            name,
+            "bad",
+            f"{share} rejected: {first}; {ways.pop()}",
+            "mend the sender: a receiver must not take such a checksum",
+            _lines(rows)[:5],
+        )
     frames = [row for row in ladder.units() if row.kind in ("frame", "bad")]
-    again = [row for row, after in zip(frames, frames[1:]) if row in rows and after.kind == "frame" and after.level == "good"]
+    again = [
+        row
+        for row, after in zip(frames, frames[1:])
+        if row in rows and after.kind == "frame" and after.level == "good"
+    ]
     if len(again) == len(rows):
-        return Look("noise", "warn", f"{share} rejected: {first}; each came again and was accepted: noise on the line",
-                    "look at cable, shield and speed if there are many", _lines(rows)[:5])
-    return Look("sum", "bad", f"{share} rejected: {first}", "the sender sums otherwise, or bytes were damaged on the way",
-                _lines(rows)[:5])
+        return Look(
+            "noise",
+            "warn",
+            f"{share} rejected: {first}; each came again and was accepted: noise on the line",
+            "look at cable, shield and speed if there are many",
+            _lines(rows)[:5],
+        )
+    return Look(
+        "sum",
+        "bad",
+        f"{share} rejected: {first}",
+        "the sender sums otherwise, or bytes were damaged on the way",
+        _lines(rows)[:5],
+    )
 
 
 def _gives_up(ladder: Ladder) -> Iterator[Look]:
@@ -172,15 +284,28 @@ def _gives_up(ladder: Ladder) -> Iterator[Look]:
             rows.append(row)
         count = count if row.reply == b"\x15" else 0
     if rows:
-        yield Look("gives-up", "bad", "six rejections in a row: the sender gave the session up, and its texts are lost unless "
-                   "it begins again", "", _lines(rows)[:5])
+        yield Look(
+            "gives-up",
+            "bad",
+            "six rejections in a row: the sender gave the session up, and its texts are lost unless "
+            "it begins again",
+            "",
+            _lines(rows)[:5],
+        )
 
 
 def _not_open(ladder: Ladder) -> Iterator[Look]:
-    rows = [row for row in ladder.rows if row.kind in ("frame", "bad") and row.note.startswith("the line isn't open")]
+    rows = [
+        row for row in ladder.rows if row.kind in ("frame", "bad") and row.note.startswith("the line isn't open")
+    ]
     if rows:
-        yield Look("not-open", "bad", f"{_many(len(rows), 'frame')} came while the line wasn't open: no ENQ before them, or it was given up",
-                   "begin the capture before ENQ; a sender must send ENQ first", _lines(rows)[:5])
+        yield Look(
+            "not-open",
+            "bad",
+            f"{_many(len(rows), 'frame')} came while the line wasn't open: no ENQ before them, or it was given up",
+            "begin the capture before ENQ; a sender must send ENQ first",
+            _lines(rows)[:5],
+        )
 
 
 def _dropped(ladder: Ladder) -> Iterator[Look]:
@@ -200,51 +325,105 @@ def _outside(ladder: Ladder) -> Iterator[Look]:
     if not data:
         return
     if re.search(rb"[0-7][HPORCQL][|!-/]", data):
-        yield Look("no-stx", "bad", "frames without STX: their bytes are outside frames and ignored",
-                   "the sender must begin a frame with STX", _lines(rows)[:5])
+        yield Look(
+            "no-stx",
+            "bad",
+            "frames without STX: their bytes are outside frames and ignored",
+            "the sender must begin a frame with STX",
+            _lines(rows)[:5],
+        )
     elif parity_of(ladder.analyzer) or b"MSH|" in data:
         return
     elif set(data) <= {6, 0x15}:
-        yield Look("replies", "warn", "the analyzer sends ACK or NAK outside frames: an answer, and no session of the computer "
-                   "is in the capture", "", _lines(rows)[:5])
+        yield Look(
+            "replies",
+            "warn",
+            "the analyzer sends ACK or NAK outside frames: an answer, and no session of the computer "
+            "is in the capture",
+            "",
+            _lines(rows)[:5],
+        )
     elif set(data) <= {17, 19}:
-        yield Look("flow-control", "warn", "XON or XOFF is on the line: software flow control is on",
-                   "turn XON/XOFF off at both ends", _lines(rows)[:5])
+        yield Look(
+            "flow-control",
+            "warn",
+            "XON or XOFF is on the line: software flow control is on",
+            "turn XON/XOFF off at both ends",
+            _lines(rows)[:5],
+        )
     else:
         yield Look("outside", "warn", f"{_many(len(data), 'byte')} outside frames, ignored", "", _lines(rows)[:5])
 
 
 def _answers(ladder: Ladder) -> Iterator[Look]:
     for tail, name, text, advice in (
-            (": the computer rejects a good frame", "rejects-good", "the computer answers NAK to good frames",
-             "the computer's receiver counts or sums otherwise: the ladder has the checksum and the number that are due"),
-            (": the computer is busy (a line S busy says so in version 2)", "busy", "the computer answers NAK to ENQ: it is busy",
-             "put `capture 2` first and `S busy` before that ENQ, and `replay` agrees"),
-            (": the computer took what must be rejected", "takes-bad", "the computer acknowledges frames that must be rejected",
-             "its receiver checks too little: data may be lost or wrong"),
-            ("asks to interrupt (EOT)", "interrupt", "the computer acknowledges by EOT: it asks the analyzer to end soon", "")):
+        (
+            ": the computer rejects a good frame",
+            "rejects-good",
+            "the computer answers NAK to good frames",
+            "the computer's receiver counts or sums otherwise: the ladder has the checksum and the number that are due",
+        ),
+        (
+            ": the computer is busy (a line S busy says so in version 2)",
+            "busy",
+            "the computer answers NAK to ENQ: it is busy",
+            "put `capture 2` first and `S busy` before that ENQ, and `replay` agrees",
+        ),
+        (
+            ": the computer took what must be rejected",
+            "takes-bad",
+            "the computer acknowledges frames that must be rejected",
+            "its receiver checks too little: data may be lost or wrong",
+        ),
+        (
+            "asks to interrupt (EOT)",
+            "interrupt",
+            "the computer acknowledges by EOT: it asks the analyzer to end soon",
+            "",
+        ),
+    ):
         rows = [row for row in ladder.rows if row.side == "<" and row.note.endswith(tail)]
         if rows:
-            yield Look(name, "plain" if name == "interrupt" else "warn" if name == "busy" else "bad",
-                       f"{_times(len(rows))} {text}", advice, _lines(rows)[:5])
+            yield Look(
+                name,
+                "plain" if name == "interrupt" else "warn" if name == "busy" else "bad",
+                f"{_times(len(rows))} {text}",
+                advice,
+                _lines(rows)[:5],
+            )
     rows = [row for row in ladder.rows if row.side == "<" and row.level == "bad" and ": " not in row.note]
     if rows:
-        yield Look("other-answer", "bad", f"{_times(len(rows))} the computer answers otherwise than a receiver would", "",
-                   _lines(rows)[:5])
+        yield Look(
+            "other-answer",
+            "bad",
+            f"{_times(len(rows))} the computer answers otherwise than a receiver would",
+            "",
+            _lines(rows)[:5],
+        )
 
 
 def _computer_session(ladder: Ladder) -> Iterator[Look]:
     rows = [row for row in ladder.rows if row.side == "<" and row.note.startswith("the computer's own session")]
     if rows:
-        yield Look("computer-session", "plain", "the computer has sessions of its own (an order download): `replay` tells them as "
-                   "differences", "`lislab capture --swap` gives a capture of the other way", _lines(rows)[:5])
+        yield Look(
+            "computer-session",
+            "plain",
+            "the computer has sessions of its own (an order download): `replay` tells them as " "differences",
+            "`lislab capture --swap` gives a capture of the other way",
+            _lines(rows)[:5],
+        )
 
 
 def _no_answer(ladder: Ladder) -> Iterator[Look]:
     if not ladder.has_replies:
         if any(True for _ in ladder.units()):
-            yield Look("no-replies", "warn", "the capture has no bytes of the computer: what it answered isn't known",
-                       "record both directions", [])
+            yield Look(
+                "no-replies",
+                "warn",
+                "the capture has no bytes of the computer: what it answered isn't known",
+                "record both directions",
+                [],
+            )
         return
     rows = []
     before: Optional[Row] = None
@@ -256,8 +435,13 @@ def _no_answer(ladder: Ladder) -> Iterator[Look]:
         elif row.side == "<":
             before = None
     if rows:
-        yield Look("no-answer", "bad", f"the computer didn't answer {_times(len(rows))} where a receiver would",
-                   "look whether it was running, and whether its line is wired back", _lines(rows)[:5])
+        yield Look(
+            "no-answer",
+            "bad",
+            f"the computer didn't answer {_times(len(rows))} where a receiver would",
+            "look whether it was running, and whether its line is wired back",
+            _lines(rows)[:5],
+        )
 
 
 def _late(ladder: Ladder) -> Iterator[Look]:
@@ -270,19 +454,35 @@ def _late(ladder: Ladder) -> Iterator[Look]:
         if row.side in "<>":
             before = row if row.side == ">" else None
     if rows:
-        yield Look("late", "bad", f"{_many(len(rows), 'answer')} came over 15 seconds late: the sender has given up by then",
-                   "a late ACK may be taken for another frame's: the sender needs a new connection", _lines(rows)[:5])
+        yield Look(
+            "late",
+            "bad",
+            f"{_many(len(rows), 'answer')} came over 15 seconds late: the sender has given up by then",
+            "a late ACK may be taken for another frame's: the sender needs a new connection",
+            _lines(rows)[:5],
+        )
     silences = [row for row in ladder.rows if row.kind == "silence" and row.title.endswith("seconds of silence")]
     if silences:
-        yield Look("silence", "warn", f"{_times(len(silences))} the analyzer was silent for over 30 seconds in a session",
-                   "`lislab capture --timer 30` puts the lines T", _lines(silences)[:5])
+        yield Look(
+            "silence",
+            "warn",
+            f"{_times(len(silences))} the analyzer was silent for over 30 seconds in a session",
+            "`lislab capture --timer 30` puts the lines T",
+            _lines(silences)[:5],
+        )
 
 
 def _charset(ladder: Ladder) -> Iterator[Look]:
     rows = [row for row in ladder.units() if re.search(rb"[\x81-\xfe][\x5c\x5e\x7c\x7e]", row.text)]
     if rows:
-        yield Look("two-bytes", "warn", "bytes over 127 are followed by |, \\, ^ or ~: text of two bytes a character (GBK, Big5, "
-                   "Shift JIS) is split at its second bytes", "set the analyzer to UTF-8 or to plain letters", _lines(rows)[:5])
+        yield Look(
+            "two-bytes",
+            "warn",
+            "bytes over 127 are followed by |, \\, ^ or ~: text of two bytes a character (GBK, Big5, "
+            "Shift JIS) is split at its second bytes",
+            "set the analyzer to UTF-8 or to plain letters",
+            _lines(rows)[:5],
+        )
 
 
 def _unfinished(ladder: Ladder) -> Iterator[Look]:
@@ -293,20 +493,36 @@ def _unfinished(ladder: Ladder) -> Iterator[Look]:
 def _records(ladder: Ladder) -> Iterator[Look]:
     faults = [one for one in ladder.messages if isinstance(one, Fault)]
     if len(ladder.texts) > 1 and not any(text.data.endswith(b"\r") for text in ladder.texts):
-        yield Look("no-cr-in-texts", "bad", "no text ends in CR: the records run together, and none is ended",
-                   "the sender must put CR behind each record, inside the frame", [text.line for text in ladder.texts][:5])
+        yield Look(
+            "no-cr-in-texts",
+            "bad",
+            "no text ends in CR: the records run together, and none is ended",
+            "the sender must put CR behind each record, inside the frame",
+            [text.line for text in ladder.texts][:5],
+        )
         return
     for fault in faults[:8]:
         if fault.error.reason in (Reason.UNFINISHED, Reason.NOT_HEADER, Reason.SECOND_HEADER) and _was_lost(ladder):
-            yield Look("incomplete", "bad", f"a message is incomplete at its record {fault.error.number} ({code_of(fault.error)}): "
-                       "the rest was lost on the link", "", [ladder.line_of(min(fault.place, max(len(ladder.stream) - 1, 0)))])
+            yield Look(
+                "incomplete",
+                "bad",
+                f"a message is incomplete at its record {fault.error.number} ({code_of(fault.error)}): "
+                "the rest was lost on the link",
+                "",
+                [ladder.line_of(min(fault.place, max(len(ladder.stream) - 1, 0)))],
+            )
             continue
         record = record_at(ladder.stream, fault.place)
         cause = cause_of_record(fault.error, record, fault.place + len(record) >= len(ladder.stream))
         options = " or ".join(cause.options)
         advice = f"`lislab normalize {options}` mends the records" if options else ""
-        yield Look("record-" + cause.name, "bad", f"record {fault.error.number} of a message is rejected ({code_of(fault.error)}): "
-                   f"{cause.words}", advice, [ladder.line_of(min(fault.place, max(len(ladder.stream) - 1, 0)))])
+        yield Look(
+            "record-" + cause.name,
+            "bad",
+            f"record {fault.error.number} of a message is rejected ({code_of(fault.error)}): " f"{cause.words}",
+            advice,
+            [ladder.line_of(min(fault.place, max(len(ladder.stream) - 1, 0)))],
+        )
     if len(faults) > 8:
         yield Look("records", "bad", f"{_many(len(faults) - 8, 'more message')} rejected", "", [])
 
@@ -319,11 +535,16 @@ def _was_lost(ladder: Ladder) -> bool:
 def record_at(stream: bytes, place: int) -> bytes:
     """The record that begins here, without its CR."""
     end = stream.find(b"\r", place)
-    return stream[place:end if end >= 0 else len(stream)]
+    return stream[place : end if end >= 0 else len(stream)]
 
 
 def _sequence(ladder: Ladder) -> Iterator[Look]:
     count = sum(len(one.message.findings()) for one in ladder.messages if isinstance(one, Found))
     if count:
-        yield Look("sequence", "warn", f"{_many(count, 'sequence number')} of records isn't the position: not counted from 1, or not in order",
-                   "readers that rely on it may mix results up", [])
+        yield Look(
+            "sequence",
+            "warn",
+            f"{_many(count, 'sequence number')} of records isn't the position: not counted from 1, or not in order",
+            "readers that rely on it may mix results up",
+            [],
+        )

@@ -29,6 +29,7 @@ ALL = tuple(name for name in CHANGES if name != "orders")
 
 class Told(NamedTuple):
     """A change: the number of the input's line, and what was done."""
+
     line: int
     what: str
 
@@ -75,17 +76,25 @@ def _bytes(work: Work) -> None:
     """Bytes that no record holds, over the whole input."""
     if work.data[:2] in (b"\xff\xfe", b"\xfe\xff") and work.wants("bom", 1):
         text = work.data.decode("utf-16", "replace")
-        work.data = text.encode("latin-1", "replace") if all(ord(one) < 256 for one in text) else text.encode("utf-8")
+        work.data = (
+            text.encode("latin-1", "replace") if all(ord(one) < 256 for one in text) else text.encode("utf-8")
+        )
         work.tell(1, "the file was UTF-16, and is one byte a character now")
     if work.data[:3] == b"\xef\xbb\xbf" and work.wants("bom", 1):
         work.data = work.data[3:]
         work.tell(1, "the byte order mark was left out")
     for name, byte, shown in (("nul", b"\0", "NUL"), ("ctrl-z", b"\x1a", "Ctrl-Z")):
-        lines = [_line_at(work.data, found.start()) for found in re.finditer(re.escape(byte), work.data)] \
-            if work.data.count(byte) < 200 else [1] * work.data.count(byte)
+        lines = (
+            [_line_at(work.data, found.start()) for found in re.finditer(re.escape(byte), work.data)]
+            if work.data.count(byte) < 200
+            else [1] * work.data.count(byte)
+        )
         if lines and work.wants(name, lines[0]):
             for line in dict.fromkeys(lines):
-                work.tell(line, f"{shown} was left out" + (f", {lines.count(line)} times" if lines.count(line) > 1 else ""))
+                work.tell(
+                    line,
+                    f"{shown} was left out" + (f", {lines.count(line)} times" if lines.count(line) > 1 else ""),
+                )
             work.data = work.data.replace(byte, b"")
     if b"<CR>" in work.data and work.wants("cr-words", _line_at(work.data, work.data.index(b"<CR>"))):
         for number, row in enumerate(re.split(rb"\r\n|\r|\n", work.data), 1):
@@ -167,9 +176,16 @@ def _headers(work: Work, records: List[Record]) -> Iterator[Record]:
                     record = record[:4] + b"&" + record[4:]
             elif record[1:6] == b"|^~\\&" and record[6:7] in (b"|", b""):
                 if work.wants("header-5", number):
-                    work.tell(number, "HL7's delimiters |^~\\& became repeat ~, component ^, escape \\: the header has H|~^\\")
+                    work.tell(
+                        number,
+                        "HL7's delimiters |^~\\& became repeat ~, component ^, escape \\: the header has H|~^\\",
+                    )
                     record = record[:1] + b"|~^\\" + record[6:]
-            elif record[5:6] not in (delimiter, b"") and record[6:7] in (delimiter, b"") and not record[5:6].isalnum():
+            elif (
+                record[5:6] not in (delimiter, b"")
+                and record[6:7] in (delimiter, b"")
+                and not record[5:6].isalnum()
+            ):
                 if work.wants("header-5", number):
                     work.tell(number, f"the header's fifth delimiter byte '{words(record[5:6])}' was left out")
                     record = record[:5] + record[6:]
@@ -194,13 +210,18 @@ def _parents(work: Work, records: List[Record]) -> Iterator[Record]:
         letter = record[:1].upper()
         if letter == b"H":
             delimiter, level, counts = record[1:2], b"H", {b"P": 0, b"O": 0}
-        missing = {b"O": [] if level in (b"P", b"O", b"R") else [b"P"],
-                   b"R": [] if level in (b"O", b"R") else [b"O"] if level == b"P" else [b"P", b"O"]}.get(letter, [])
+        missing = {
+            b"O": [] if level in (b"P", b"O", b"R") else [b"P"],
+            b"R": [] if level in (b"O", b"R") else [b"O"] if level == b"P" else [b"P", b"O"],
+        }.get(letter, [])
         if missing and level and work.wants("orders", number):
             for one in missing:
                 counts[one] += 1
-                work.tell(number, f"a record {one.decode()} was put above: what is below it has no "
-                                  f"{'sample' if one == b'O' else 'patient'}")
+                work.tell(
+                    number,
+                    f"a record {one.decode()} was put above: what is below it has no "
+                    f"{'sample' if one == b'O' else 'patient'}",
+                )
                 yield number, one + delimiter + b"%d" % counts[one], b"\r"
         if letter in (b"P", b"O", b"R", b"Q", b"L"):
             level = letter
@@ -234,8 +255,10 @@ def rejected_lines(data: bytes) -> Iterator[str]:
         if isinstance(one, Fault):
             record = record_at(data, one.place)
             cause = cause_of_record(one.error, record, one.place + len(record) >= len(data))
-            yield (f"message {number}: record {one.error.number} at line {_line_at(data, one.place)} is rejected "
-                   f"({code_of(one.error)}): {cause.words}")
+            yield (
+                f"message {number}: record {one.error.number} at line {_line_at(data, one.place)} is rejected "
+                f"({code_of(one.error)}): {cause.words}"
+            )
 
 
 def explain(data: bytes) -> Iterator[str]:
@@ -247,7 +270,8 @@ def explain(data: bytes) -> Iterator[str]:
     yield from before
     if data[:3] in (b"MSH", b"FHS", b"BHS"):
         return
-    # One change after another, in their order, until all is read: what is needed shows only when the earlier ones are done.
+    # One change after another, in their order, until all is read: what is needed shows only when the earlier ones are
+    # done.
     asked: Set[str] = set()
     needed: Dict[str, int] = {}
     out, _, more = normalize(data, asked)

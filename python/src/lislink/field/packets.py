@@ -6,13 +6,20 @@ from typing import Dict, Iterator, List, NamedTuple, Optional, Tuple
 
 from .log import NEW, SECOND, Log, LogError, Piece, find_time, likeness
 
-_PCAP = {b"\xd4\xc3\xb2\xa1": ("<", 1000), b"\xa1\xb2\xc3\xd4": (">", 1000), b"\x4d\x3c\xb2\xa1": ("<", 1),
-         b"\xa1\xb2\x3c\x4d": (">", 1), b"\x34\xcd\xb2\xa1": ("<", 1000), b"\xa1\xb2\xcd\x34": (">", 1000)}
+_PCAP = {
+    b"\xd4\xc3\xb2\xa1": ("<", 1000),
+    b"\xa1\xb2\xc3\xd4": (">", 1000),
+    b"\x4d\x3c\xb2\xa1": ("<", 1),
+    b"\xa1\xb2\x3c\x4d": (">", 1),
+    b"\x34\xcd\xb2\xa1": ("<", 1000),
+    b"\xa1\xb2\xcd\x34": (">", 1000),
+}
 _PCAPNG = b"\x0a\x0d\x0d\x0a"
 
 
 class Packet(NamedTuple):
     """A packet: its time, the kind of its link and its bytes; how many bytes of it weren't kept."""
+
     time: Optional[int]
     link: int
     data: bytes
@@ -21,6 +28,7 @@ class Packet(NamedTuple):
 
 class Segment(NamedTuple):
     """A TCP segment."""
+
     time: Optional[int]
     source: str
     source_port: int
@@ -56,7 +64,9 @@ def _pcap(data: bytes, remarks: List[str]) -> Iterator[Packet]:
         if at + head + kept > len(data):
             remarks.append(_CUT)
             return
-        yield Packet(seconds * SECOND + fraction * unit, link, data[at + head:at + head + kept], max(length - kept, 0))
+        yield Packet(
+            seconds * SECOND + fraction * unit, link, data[at + head : at + head + kept], max(length - kept, 0)
+        )
         at += head + kept
 
 
@@ -65,8 +75,8 @@ def _pcapng(data: bytes, remarks: List[str]) -> Iterator[Packet]:
     links: List[Tuple[int, int, int]] = []
     while at + 12 <= len(data):
         kind = struct.unpack_from(order + "I", data, at)[0]
-        if data[at:at + 4] == _PCAPNG:
-            order = "<" if data[at + 8:at + 12] == b"\x4d\x3c\x2b\x1a" else ">"
+        if data[at : at + 4] == _PCAPNG:
+            order = "<" if data[at + 8 : at + 12] == b"\x4d\x3c\x2b\x1a" else ">"
             kind, links = 0x0A0D0D0A, []
         size = struct.unpack_from(order + "I", data, at + 4)[0]
         if size < 12 or size % 4:
@@ -74,7 +84,7 @@ def _pcapng(data: bytes, remarks: List[str]) -> Iterator[Packet]:
         if at + size > len(data):
             remarks.append(_CUT)
             return
-        body, at = data[at + 8:at + size - 4], at + size
+        body, at = data[at + 8 : at + size - 4], at + size
         if kind == 1:
             links.append(_interface(body, order))
         elif kind == 6 or kind == 2:
@@ -86,10 +96,12 @@ def _pcapng(data: bytes, remarks: List[str]) -> Iterator[Packet]:
                 raise LogError("the pcapng has a packet of no interface")
             link, unit, offset = links[number]
             ticks = (high << 32) + low
-            yield Packet(ticks * SECOND // unit + offset * SECOND, link, body[20:20 + kept], max(length - kept, 0))
+            yield Packet(
+                ticks * SECOND // unit + offset * SECOND, link, body[20 : 20 + kept], max(length - kept, 0)
+            )
         elif kind == 3 and links:
             length = struct.unpack_from(order + "I", body, 0)[0]
-            yield Packet(None, links[0][0], body[4:4 + length], max(length - len(body) + 4, 0))
+            yield Packet(None, links[0][0], body[4 : 4 + length], max(length - len(body) + 4, 0))
 
 
 def _interface(body: bytes, order: str) -> Tuple[int, int, int]:
@@ -97,7 +109,7 @@ def _interface(body: bytes, order: str) -> Tuple[int, int, int]:
     link, unit, offset, at = struct.unpack_from(order + "H", body, 0)[0], 1_000_000, 0, 8
     while at + 4 <= len(body):
         code, size = struct.unpack_from(order + "HH", body, at)
-        value = body[at + 4:at + 4 + size]
+        value = body[at + 4 : at + 4 + size]
         if code == 0:
             break
         if code == 9 and size >= 1:
@@ -113,12 +125,12 @@ def _network(packet: Packet) -> Optional[bytes]:
     data, link = packet.data, packet.link
     if link == 1:
         at = 12
-        while data[at:at + 2] in (b"\x81\x00", b"\x88\xa8", b"\x91\x00"):
+        while data[at : at + 2] in (b"\x81\x00", b"\x88\xa8", b"\x91\x00"):
             at += 4
-        if data[at:at + 2] == b"\x88\x64":  # PPPoE
+        if data[at : at + 2] == b"\x88\x64":  # PPPoE
             at += 6
-            return data[at + 2:] if data[at:at + 2] in (b"\x00\x21", b"\x00\x57") else None
-        return data[at + 2:] if data[at:at + 2] in (b"\x08\x00", b"\x86\xdd") else None
+            return data[at + 2 :] if data[at : at + 2] in (b"\x00\x21", b"\x00\x57") else None
+        return data[at + 2 :] if data[at : at + 2] in (b"\x08\x00", b"\x86\xdd") else None
     if link in (0, 108):
         return data[4:]
     if link in (12, 14, 101, 228, 229):
@@ -127,8 +139,10 @@ def _network(packet: Packet) -> Optional[bytes]:
         return data[16:] if data[14:16] in (b"\x08\x00", b"\x86\xdd") else None
     if link == 276:
         return data[20:] if data[0:2] in (b"\x08\x00", b"\x86\xdd") else None
-    raise LogError(f"the packets are of a link that isn't read here (type {link}): Ethernet, loopback, raw IP and "
-                   "Linux cooked are")
+    raise LogError(
+        f"the packets are of a link that isn't read here (type {link}): Ethernet, loopback, raw IP and "
+        "Linux cooked are"
+    )
 
 
 def segment_of(packet: Packet) -> Optional[Segment]:
@@ -154,11 +168,12 @@ def segment_of(packet: Packet) -> Optional[Segment]:
         return None
     end = total if total > start else len(ip)
     source_port, target_port, sequence, acknowledged = struct.unpack_from(">HHII", ip, start)
-    data = ip[start + (ip[start + 12] >> 4) * 4:end]
+    data = ip[start + (ip[start + 12] >> 4) * 4 : end]
     if packet.cut and end > len(ip):
         raise LogError(f"{packet.cut} bytes of a packet weren't kept: capture whole packets (tcpdump -s 0)")
-    return Segment(packet.time, source, source_port, target, target_port, sequence, ip[start + 13], data,
-                   acknowledged)
+    return Segment(
+        packet.time, source, source_port, target, target_port, sequence, ip[start + 13], data, acknowledged
+    )
 
 
 class Connection:
@@ -176,8 +191,8 @@ class Connection:
         self.repeated = self.early = self.skipped = 0
 
     def take(self, segment: Segment, skip_missing: bool = False) -> None:
-        """Takes a segment: bytes that came before are left out, those that come too early wait. With `skip_missing` they
-        wait until the other end has acknowledged what isn't in the file."""
+        """Takes a segment: bytes that came before are left out, those that come too early wait. With `skip_missing`
+        they wait until the other end has acknowledged what isn't in the file."""
         side = f"{segment.source}:{segment.source_port}"
         self.ended = segment.time
         if skip_missing and segment.flags & 16:
@@ -218,7 +233,9 @@ class Connection:
         """At the end of the file: what waits is taken, and the bytes before it are passed over."""
         for side, waiting in self.waiting.items():
             while waiting:
-                self._jump(side, min((sequence - self.due[side]) & 0xFFFFFFFF for sequence, _ in waiting), self.ended)
+                self._jump(
+                    side, min((sequence - self.due[side]) & 0xFFFFFFFF for sequence, _ in waiting), self.ended
+                )
 
     def _take_waiting(self, side: str, time: Optional[int]) -> None:
         """Takes what waits, as far as no byte is missing before it."""
@@ -273,7 +290,11 @@ def connections_of(segments: List[Segment], skip_missing: bool = False) -> List[
         key = (frozenset((segment.source, segment.target)), frozenset((segment.source_port, segment.target_port)))
         side = f"{segment.source}:{segment.source_port}"
         known = current.get(key)
-        is_new = segment.flags & 0x12 == 2 and known is not None and known.first.get(side, segment.sequence) != segment.sequence
+        is_new = (
+            segment.flags & 0x12 == 2
+            and known is not None
+            and known.first.get(side, segment.sequence) != segment.sequence
+        )
         if known is None or is_new:
             known = current[key] = Connection(segment)
             told.append(known)
@@ -287,12 +308,24 @@ def connections_of(segments: List[Segment], skip_missing: bool = False) -> List[
 def _serial(packets: List[Packet], form: str) -> Log:
     """Packets of a serial line (LINKTYPE_RTAC_SERIAL): 12 bytes of head with what happened, and the bytes."""
     names = {1: "TX", 2: "RX", 3: "TX", 4: "RX"}
-    return Log(form, [Piece(one.time, names[one.data[8]], one.data[12:]) for one in packets
-                      if len(one.data) > 12 and one.data[8] in names], [])
+    return Log(
+        form,
+        [
+            Piece(one.time, names[one.data[8]], one.data[12:])
+            for one in packets
+            if len(one.data) > 12 and one.data[8] in names
+        ],
+        [],
+    )
 
 
-def read_packets(every_packet: Iterator[Packet], form: str, stream: Optional[int] = None, port: Optional[int] = None,
-                 skip_missing: bool = False) -> Log:
+def read_packets(
+    every_packet: Iterator[Packet],
+    form: str,
+    stream: Optional[int] = None,
+    port: Optional[int] = None,
+    skip_missing: bool = False,
+) -> Log:
     """The bytes of the TCP line in packets. If there are several, those between the same two ends follow one another;
     else one is chosen by its number, or by its port."""
     packets = list(every_packet)
@@ -327,8 +360,10 @@ def _one_after_another(found: List[Connection]) -> bool:
     """Whether connections are between the same two machines, at one port of one of them, each behind the one before."""
     common = frozenset.intersection(*(one.ports for one in found))
     same = len({one.addresses for one in found}) == 1 and bool(common)
-    return same and all(before.ended is None or after.begun is None or before.ended <= after.begun
-                        for before, after in zip(found, found[1:]))
+    return same and all(
+        before.ended is None or after.begun is None or before.ended <= after.begun
+        for before, after in zip(found, found[1:])
+    )
 
 
 def _joined(found: List[Connection], form: str) -> Log:
@@ -338,8 +373,10 @@ def _joined(found: List[Connection], form: str) -> Log:
     shared = next((end for end in found[0].ends if len(found) > 1 and int(end.rsplit(":", 1)[1]) in common), None)
     for number, one in enumerate(found):
         if one.missing():
-            raise LogError(f"bytes are missing in the file: {one.missing()} bytes of {one.name()} have none before them "
-                           "(--skip-missing goes on without them)")
+            raise LogError(
+                f"bytes are missing in the file: {one.missing()} bytes of {one.name()} have none before them "
+                "(--skip-missing goes on without them)"
+            )
         if number:
             pieces.append(Piece(one.begun, NEW, b""))
         for piece in one.pieces:
@@ -351,7 +388,9 @@ def _joined(found: List[Connection], form: str) -> Log:
     if sum(one.repeated for one in found):
         remarks.append(f"{sum(one.repeated for one in found)} segments came again, and were left out")
     if sum(one.skipped for one in found):
-        remarks.append(f"{sum(one.skipped for one in found)} bytes aren't in the file, and were passed over: units are missing or torn")
+        remarks.append(
+            f"{sum(one.skipped for one in found)} bytes aren't in the file, and were passed over: units are missing or torn"
+        )
     if sum(one.early for one in found):
         remarks.append(f"{sum(one.early for one in found)} segments came out of order, and were put in their place")
     remarks.append("connection " + found[0].name())

@@ -82,21 +82,34 @@ def _looks(looks: List[Look]) -> Iterator[str]:
         where = ", ".join(f'<a href="#l{line}">line {line}</a>' for line in look.lines)
         advice = f'<p class="advice">{_esc(look.advice)}</p>' if look.advice else ""
         tag = _tag(look.level, "note" if look.level == "plain" else None)
-        yield f'<div class="look {look.level}" data-look="{_esc(look.name)}"><p>{tag}{_esc(look.words)}' \
-              f'{" (" + where + ")" if where else ""}</p>{advice}</div>'
+        yield f'<div class="look {look.level}" data-look="{_esc(look.name)}"><p>{tag}{_esc(look.words)}' f'{" (" + where + ")" if where else ""}</p>{advice}</div>'
 
 
 def _details(row: Row) -> str:
     told = [("bytes", f"<code>{row.raw.hex(' ')}</code>"), ("as text", f"<code>{_esc(words(row.raw))}</code>")]
     if row.kind == "frame":
-        told.insert(0, ("frame", f"number {row.number}, {'last of its text (ETX)' if row.last else 'intermediate (ETB)'}, "
-                                 f"{len(row.text)} bytes of text"))
+        told.insert(
+            0,
+            (
+                "frame",
+                f"number {row.number}, {'last of its text (ETX)' if row.last else 'intermediate (ETB)'}, "
+                f"{len(row.text)} bytes of text",
+            ),
+        )
     if row.checksum is not None:
         same = row.checksum.found.upper() == row.checksum.wanted
-        told.insert(1, ("checksum", f"{_esc(row.checksum.found)} found, {row.checksum.wanted} wanted: "
-                                    + ("the same" if same else "<b>another</b>")))
+        told.insert(
+            1,
+            (
+                "checksum",
+                f"{_esc(row.checksum.found)} found, {row.checksum.wanted} wanted: "
+                + ("the same" if same else "<b>another</b>"),
+            ),
+        )
     if row.side == ">":
-        told.append(("reply", f"a receiver answers {_esc(words(row.reply))}" if row.reply else "a receiver answers nothing"))
+        told.append(
+            ("reply", f"a receiver answers {_esc(words(row.reply))}" if row.reply else "a receiver answers nothing")
+        )
     return "<dl>" + "".join(f"<dt>{name}</dt><dd>{text}</dd>" for name, text in told) + "</dl>"
 
 
@@ -105,8 +118,10 @@ def _rows(ladder: Ladder) -> Iterator[str]:
     seen = set()
     for row in ladder.rows:
         if row.time is not None and before is not None and row.time - before > SECOND:
-            yield (f'<tr class="event" data-level="plain"><td class="n"></td><td class="t"></td><td class="a c" colspan="2">'
-                   f'{(row.time - before) / SECOND:.1f} s later</td><td></td></tr>')
+            yield (
+                f'<tr class="event" data-level="plain"><td class="n"></td><td class="t"></td><td class="a c" colspan="2">'
+                f"{(row.time - before) / SECOND:.1f} s later</td><td></td></tr>"
+            )
         before = row.time if row.time is not None else before
         anchor = "" if row.line in seen else f' id="l{row.line}"'
         seen.add(row.line)
@@ -114,13 +129,17 @@ def _rows(ladder: Ladder) -> Iterator[str]:
         head = f'<td class="n">{row.line}</td><td class="t">{_esc(time_text(row.time).split("T")[-1])}</td>'
         note = f"<td>{_tag(row.level)}{_esc(row.note)}"
         if row.side == "-":
-            yield (f'<tr class="event {level}" data-level="{row.level}"{anchor}>{head}<td class="a c" colspan="2">{_esc(row.title)}</td>'
-                   f"{note}</td></tr>")
+            yield (
+                f'<tr class="event {level}" data-level="{row.level}"{anchor}>{head}<td class="a c" colspan="2">{_esc(row.title)}</td>'
+                f"{note}</td></tr>"
+            )
             continue
         if row.side == ">":
             note += f' <span class="arrow">&rarr; {_esc(words(row.reply))}</span>' if row.reply else ""
-            title = f'<details class="f"><summary><code>{_esc(row.title[:110])}{"…" if len(row.title) > 110 else ""}</code></summary>' \
-                    f'{_details(row)}</details>'
+            title = (
+                f'<details class="f"><summary><code>{_esc(row.title[:110])}{"…" if len(row.title) > 110 else ""}</code></summary>'
+                f"{_details(row)}</details>"
+            )
             cells = f'<td class="a">{title}</td><td class="c arrow">&#9654;</td>'
         else:
             cells = f'<td class="a arrow">&#9664;</td><td class="c"><code>{_esc(row.title[:60])}</code></td>'
@@ -132,12 +151,17 @@ def _entry(entry: Entry, found: Found) -> Iterator[str]:
     wrong = [one for one in found.message.findings() if one.number == entry.number]
     mark = f' <span class="finding">finding: its number isn\'t {wrong[0].position}</span>' if wrong else ""
     brief = "|".join(entry.whole(entry.row.first + place) for place in range(len(entry.row.fields)))
-    fields = "".join(f"<tr><td>{place + entry.row.first}</td><td>{_esc(names.get(place + entry.row.first, '').replace('_', ' '))}</td>"
-                     f"<td><code>{_esc(entry.whole(place + entry.row.first))}</code></td></tr>"
-                     for place in range(len(entry.row.fields)) if entry.whole(place + entry.row.first))
+    fields = "".join(
+        f"<tr><td>{place + entry.row.first}</td><td>{_esc(names.get(place + entry.row.first, '').replace('_', ' '))}</td>"
+        f"<td><code>{_esc(entry.whole(place + entry.row.first))}</code></td></tr>"
+        for place in range(len(entry.row.fields))
+        if entry.whole(place + entry.row.first)
+    )
     below = "".join("".join(_entry(one, found)) for one in entry.notes + entry.children)
-    yield (f'<li><details><summary>{entry.number} <b>{KINDS.get(entry.letter, entry.letter)}</b> <code>{_esc(brief[:140])}</code>{mark}'
-           f'</summary><table class="fields">{fields}</table></details>{"<ul class=tree>" + below + "</ul>" if below else ""}</li>')
+    yield (
+        f"<li><details><summary>{entry.number} <b>{KINDS.get(entry.letter, entry.letter)}</b> <code>{_esc(brief[:140])}</code>{mark}"
+        f'</summary><table class="fields">{fields}</table></details>{"<ul class=tree>" + below + "</ul>" if below else ""}</li>'
+    )
 
 
 def _messages(ladder: Ladder) -> Iterator[str]:
@@ -145,9 +169,11 @@ def _messages(ladder: Ladder) -> Iterator[str]:
         if isinstance(one, Found):
             findings = len(one.message.findings())
             level = "warn" if findings else "good"
-            yield (f'<details open data-message="read"><summary>{_tag(level, f"{findings} findings" if findings else "read")}message {number}: '
-                   f'{len(one.message.rows)} records, from <a href="#l{ladder.line_of(one.start)}">line {ladder.line_of(one.start)}</a>'
-                   '</summary><ul class="tree">')
+            yield (
+                f'<details open data-message="read"><summary>{_tag(level, f"{findings} findings" if findings else "read")}message {number}: '
+                f'{len(one.message.rows)} records, from <a href="#l{ladder.line_of(one.start)}">line {ladder.line_of(one.start)}</a>'
+                '</summary><ul class="tree">'
+            )
             for entry in one.message.entries:
                 if entry.letter in "HPQL":
                     yield from _entry(entry, one)
@@ -160,18 +186,27 @@ def _rejected(ladder: Ladder, number: int, fault: Fault) -> str:
     record = record_at(ladder.stream, fault.place)
     cause = cause_of_record(fault.error, record, fault.place + len(record) >= len(ladder.stream))
     line = ladder.line_of(min(fault.place, max(len(ladder.stream) - 1, 0)))
-    options = f'<p class="advice">lislab normalize {_esc(" or ".join(cause.options))} mends the records</p>' if cause.options else ""
-    return (f'<div class="look bad" data-message="rejected"><p>{_tag("bad", "rejected")}message {number}: record {fault.error.number}, '
-            f'<a href="#l{line}">line {line}</a> ({code_of(fault.error)}): {_esc(cause.words)}</p>'
-            f'<p><code>{_esc(words(record, 200))}</code></p>{options}</div>')
+    options = (
+        f'<p class="advice">lislab normalize {_esc(" or ".join(cause.options))} mends the records</p>'
+        if cause.options
+        else ""
+    )
+    return (
+        f'<div class="look bad" data-message="rejected"><p>{_tag("bad", "rejected")}message {number}: record {fault.error.number}, '
+        f'<a href="#l{line}">line {line}</a> ({code_of(fault.error)}): {_esc(cause.words)}</p>'
+        f"<p><code>{_esc(words(record, 200))}</code></p>{options}</div>"
+    )
 
 
 def page_of(ladder: Ladder, name: str) -> str:
     """The page."""
     looks = looks_of(ladder)
     counts = ladder.counts()
-    shown = "".join(f'<span data-count="{_esc(key)}"><b>{value}</b> {_esc(key[:-1] if value == 1 and key.endswith("s") else key)}</span>' for key, value in counts.items()
-                    if value or key in ("frames", "texts", "differences"))
+    shown = "".join(
+        f'<span data-count="{_esc(key)}"><b>{value}</b> {_esc(key[:-1] if value == 1 and key.endswith("s") else key)}</span>'
+        for key, value in counts.items()
+        if value or key in ("frames", "texts", "differences")
+    )
     messages = "".join(_messages(ladder))
     return f"""<!doctype html>
 <html lang="en"><head><meta charset="utf-8"><meta name="viewport" content="width=device-width">

@@ -30,7 +30,9 @@ def socat(text: str) -> Log:
         elif wanted and re.match(r"(?: [0-9a-f]{2})+(?:  .*)?$", line):
             raise LogError("the block has more bytes than its length", number)
         elif wanted:
-            raise LogError(f"the block lacks {wanted} bytes; socat -v alone loses control bytes, socat -x has them", number)
+            raise LogError(
+                f"the block lacks {wanted} bytes; socat -v alone loses control bytes, socat -x has them", number
+            )
         elif not re.match(r"(--|)$|\d+/\d+/\d+ \d+:\d+:\d+(\.\d+)? socat\[\d+\] ", line):
             raise LogError(f"no line of socat -x: {line[:60]!r}", number)
     if wanted:
@@ -51,13 +53,15 @@ def strace(text: str, fd: Optional[int] = None) -> Log:
         who = re.match(r"\s*(?:\[pid\s+(\d+)\]|(\d+)\s)", line)
         key = (who[1] or who[2]) if who else ""
         if line.rstrip().endswith("<unfinished ...>"):
-            open_calls[key] = line.rstrip()[:-len("<unfinished ...>")].rstrip()
+            open_calls[key] = line.rstrip()[: -len("<unfinished ...>")].rstrip()
             continue
         resumed = re.search(r"<\.\.\. \w+ resumed>(.*)$", line)
         if resumed:
             begun = open_calls.pop(key, "")
             before = re.sub(r",\s*$", "", begun)
-            line = (before + "," if begun.endswith(",") or begun != before else before) + " " + resumed[1].lstrip(", ")
+            line = (
+                (before + "," if begun.endswith(",") or begun != before else before) + " " + resumed[1].lstrip(", ")
+            )
         call = _CALL.search(line)
         count = re.search(r"\)\s*=\s*(\d+)\b[^\"]*$", line)
         if not call or not count or count[1] == "0":
@@ -67,7 +71,7 @@ def strace(text: str, fd: Optional[int] = None) -> Log:
             found.setdefault(int(call[2]), []).append(Piece(None, "cut", str(number).encode()))
             continue
         side = "read" if call[1].startswith(("read", "recv")) else "write"
-        found.setdefault(int(call[2]), []).append(Piece(find_time(line.split("(")[0]), side, data[:int(count[1])]))
+        found.setdefault(int(call[2]), []).append(Piece(find_time(line.split("(")[0]), side, data[: int(count[1])]))
     return Log("strace", _descriptor(found, fd), [])
 
 
@@ -87,7 +91,9 @@ def _descriptor(found: Dict[int, List[Piece]], fd: Optional[int]) -> List[Piece]
     if fd is not None and fd not in found:
         raise LogError(f"descriptor {fd} is neither read nor written in the log")
     likes = {one: likeness([piece for piece in pieces if piece.side != "cut"]) for one, pieces in found.items()}
-    linked = [one for one, like in likes.items() if one == fd or fd is None and like and like == max(likes.values())]
+    linked = [
+        one for one, like in likes.items() if one == fd or fd is None and like and like == max(likes.values())
+    ]
     if not linked:
         raise LogError("no descriptor carries ENQ or STX")
     if len(linked) > 1:
@@ -134,7 +140,10 @@ def irp_table(text: str) -> Log:
     for line in text.splitlines():
         found = re.search(r"\bIRP_MJ_(READ|WRITE)\b(.*)$", line)
         cells = re.split(r"\t|\"?[,;]\"?|\s{2,}", found[2]) if found else []
-        data = next((cell.strip(' "') for cell in cells if re.match(r'[" ]*[0-9a-fA-F]{2}( [0-9a-fA-F]{2})*[" ]*$', cell)), None)
+        data = next(
+            (cell.strip(' "') for cell in cells if re.match(r'[" ]*[0-9a-fA-F]{2}( [0-9a-fA-F]{2})*[" ]*$', cell)),
+            None,
+        )
         if found and data:
             pieces.append(Piece(find_time(line), found[1].lower(), bytes.fromhex(data)))
     return Log("irp-table", pieces, [])
@@ -150,25 +159,41 @@ _HEADS = [
     re.compile(r"T (?:\d{4}/\d\d/\d\d \d\d:\d\d:\d\d\.\d+ )?(?P<side>\S+:\d+) -> \S+:\d+ \[\w+\].*$"),  # ngrep -x
     re.compile(r"(?P<side>(?:\d{3}\.){4}\d{5})-(?:\d{3}\.){4}\d{5}: *$"),  # tcpflow -c -D
     re.compile(r"<?(?P<time>\d{14}\.\d{3}) (?P<side>TX|RX)>?\s*$"),  # Advanced Serial Port Logger
-    re.compile(r"\[?[\d/.\- :]+(?:AM|PM)?\]?,?\s*\[?(?P<side>TX|RX|Read|Write|Sent|Received|IN|OUT)\]?\b[^0-9]*(?:\d+ bytes?\b.*|\(\d+.*)?$", re.I),
+    re.compile(
+        r"\[?[\d/.\- :]+(?:AM|PM)?\]?,?\s*\[?(?P<side>TX|RX|Read|Write|Sent|Received|IN|OUT)\]?\b[^0-9]*(?:\d+ bytes?\b.*|\(\d+.*)?$",
+        re.I,
+    ),
 ]
 
 
-_ROW_OFFSET = re.compile(r"^\s*(?:0x)?[0-9a-fA-F]{4,8}(?:[:h]\s{1,3}(?=[0-9a-fA-F]{2})|\s{1,3}(?=[0-9a-fA-F]{2}\s))")
+_ROW_OFFSET = re.compile(
+    r"^\s*(?:0x)?[0-9a-fA-F]{4,8}(?:[:h]\s{1,3}(?=[0-9a-fA-F]{2})|\s{1,3}(?=[0-9a-fA-F]{2}\s))"
+)
 
 
 def is_blocks(text: str) -> bool:
     """Whether at least two lines with a side are each above a row of bytes."""
     rows = [line for line in text.splitlines() if line.strip() and not re.match(r"\s*Data:?\s*$", line)]
-    return sum(1 for line, after in zip(rows, rows[1:]) if _head(line) and not _head(after) and
-               hex_row(_ROW_OFFSET.sub(" ", re.sub(r"^\s*Data:", " ", after))) is not None) >= 2
+    return (
+        sum(
+            1
+            for line, after in zip(rows, rows[1:])
+            if _head(line)
+            and not _head(after)
+            and hex_row(_ROW_OFFSET.sub(" ", re.sub(r"^\s*Data:", " ", after))) is not None
+        )
+        >= 2
+    )
 
 
 def _head(line: str) -> "Optional[re.Match[str]]":
     return next((found for found in (one.match(line.strip()) for one in _HEADS) if found), None)
 
 
-_IGNORED = re.compile(r"(#+|\s*Process\b.*|\s*Data:?|\s*Port (?:opened|closed).*|\s*(?:Length|Status|Buffer).*|--+|==+|interface:.*|filter:.*|\*+.*)?\s*$", re.I)
+_IGNORED = re.compile(
+    r"(#+|\s*Process\b.*|\s*Data:?|\s*Port (?:opened|closed).*|\s*(?:Length|Status|Buffer).*|--+|==+|interface:.*|filter:.*|\*+.*)?\s*$",
+    re.I,
+)
 
 
 def blocks(text: str) -> Log:
@@ -238,25 +263,29 @@ def hex_dump(text: str) -> Log:
             repeat = False
             if place != len(data):
                 raise LogError(f"the offset {found[1]} doesn't follow the bytes before: a row is missing", number)
-            line = line[found.end():]
+            line = line[found.end() :]
             if not line.strip():
                 continue
         row = hex_row(line)
         if row is None:
             raise LogError(f"no row of a hex dump: {line[:60]!r}", number)
         if words:
-            row = b"".join(row[at:at + 2][::-1] for at in range(0, len(row), 2))
+            row = b"".join(row[at : at + 2][::-1] for at in range(0, len(row), 2))
             ends = [int(last[1], base) for last in map(_OFFSET.match, rows[-1:]) if last]
-            row = row[:ends[0] - len(data)] if ends and ends[0] > len(data) else row
+            row = row[: ends[0] - len(data)] if ends and ends[0] > len(data) else row
         data += row
     return Log("hex", [Piece(None, "", data)], [])
 
 
 def _has_words(text: str) -> bool:
-    """Whether this is hexdump without -C, or od -x: offsets of seven digits, words of two bytes with the low one first."""
+    """Whether this is hexdump without -C, or od -x: offsets of seven digits, words of two bytes with the low one
+    first."""
     rows = [line for line in text.splitlines() if line.strip() and line.strip() != "*"]
-    return len(rows) > 1 and all(re.match(r"\d[0-9a-f]{6}(?: +[0-9a-f]{4})*\s*$", line) for line in rows) and bool(
-        re.match(r"[0-9a-f]{7}\s*$", rows[-1]))
+    return (
+        len(rows) > 1
+        and all(re.match(r"\d[0-9a-f]{6}(?: +[0-9a-f]{4})*\s*$", line) for line in rows)
+        and bool(re.match(r"[0-9a-f]{7}\s*$", rows[-1]))
+    )
 
 
 def _offset_base(text: str) -> int:
@@ -269,7 +298,7 @@ def _offset_base(text: str) -> int:
     if int(places[0], 16) != 0:
         return 0
     if len(places) > 1:
-        size = len(hex_row(rows[0][heads[0].end():]) or b"")  # type: ignore[union-attr]
+        size = len(hex_row(rows[0][heads[0].end() :]) or b"")  # type: ignore[union-attr]
         if int(places[1], 16) != size and re.match("[0-7]+$", places[1]) and int(places[1], 8) == size:
             return 8
     return 16
@@ -281,5 +310,12 @@ def is_hex_dump(text: str) -> bool:
     base = _offset_base(text)
     if not rows:
         return False
-    return all((base and _OFFSET.match(line) and not line[_OFFSET.match(line).end():].strip()) or  # type: ignore[union-attr]
-               hex_row(_OFFSET.sub("", line, count=1) if base else line) is not None for line in rows)
+    return all(_is_hex_row(line, base) for line in rows)
+
+
+def _is_hex_row(line: str, base: Optional[int]) -> bool:
+    """Whether a line is a row of a hex dump: an offset alone, or bytes behind it."""
+    offset = _OFFSET.match(line) if base else None
+    if offset and not line[offset.end() :].strip():
+        return True
+    return hex_row(_OFFSET.sub("", line, count=1) if base else line) is not None

@@ -14,7 +14,9 @@ _MARKS = {"good": " ", "plain": " ", "warn": "!", "bad": "X"}
 def summary(ladder: Ladder) -> str:
     """The counts of a session in one line."""
     told = ladder.counts()
-    return ", ".join(f"{name} {count}" for name, count in told.items() if count or name in ("frames", "texts", "differences"))
+    return ", ".join(
+        f"{name} {count}" for name, count in told.items() if count or name in ("frames", "texts", "differences")
+    )
 
 
 def _clock(time: Optional[int]) -> str:
@@ -24,10 +26,10 @@ def _clock(time: Optional[int]) -> str:
 def _row(row: Row) -> Iterator[str]:
     head = f"{row.line:6} {_clock(row.time):12} {_MARKS[row.level]} "
     if row.side == ">":
-        title = row.title if len(row.title) <= _WIDTH - 6 else row.title[:_WIDTH - 7] + "…"
+        title = row.title if len(row.title) <= _WIDTH - 6 else row.title[: _WIDTH - 7] + "…"
         line = f"├─ {title} ".ljust(_WIDTH, "─") + "▶│"
     elif row.side == "<":
-        title = row.title if len(row.title) <= _WIDTH - 6 else row.title[:_WIDTH - 7] + "…"
+        title = row.title if len(row.title) <= _WIDTH - 6 else row.title[: _WIDTH - 7] + "…"
         line = "│◀" + f" {title} ─┤".rjust(_WIDTH, "─")
     else:
         line = "│" + row.title[:_WIDTH].center(_WIDTH) + "│"
@@ -81,8 +83,10 @@ def _rejected(ladder: Ladder, number: int, fault: Fault) -> Iterator[str]:
     record = record_at(ladder.stream, fault.place)
     cause = cause_of_record(fault.error, record, fault.place + len(record) >= len(ladder.stream))
     place = min(fault.place, max(len(ladder.stream) - 1, 0))
-    yield (f"message {number}: rejected at record {fault.error.number}, line {ladder.line_of(place)} ({code_of(fault.error)}): "
-           f"{cause.words}")
+    yield (
+        f"message {number}: rejected at record {fault.error.number}, line {ladder.line_of(place)} ({code_of(fault.error)}): "
+        f"{cause.words}"
+    )
     if record:
         yield f"  {words(record, 60)}"
 
@@ -103,6 +107,9 @@ def text_of(ladder: Ladder, only_wrong: bool = False) -> str:
     if ladder.messages and not only_wrong:
         parts.append("\n".join(message_lines(ladder)))
     parts.append("summary: " + summary(ladder))
-    parts.append("What looks wrong:\n" + "\n".join(look_lines(looks)) if any(one.level != "plain" for one in looks) else
-                 "Nothing looks wrong." + ("\n" + "\n".join(look_lines(looks)) if looks else ""))
+    parts.append(
+        "What looks wrong:\n" + "\n".join(look_lines(looks))
+        if any(one.level != "plain" for one in looks)
+        else "Nothing looks wrong." + ("\n" + "\n".join(look_lines(looks)) if looks else "")
+    )
     return "\n\n".join(parts) + "\n"

@@ -14,6 +14,7 @@ ENQ, ACK, NAK, EOT, STX, LF = 5, 6, 0x15, 4, 2, 10
 
 class Options(NamedTuple):
     """What a user says of a log."""
+
     form: Optional[str] = None
     analyzer: Optional[str] = None
     swap: bool = False
@@ -29,43 +30,73 @@ class Options(NamedTuple):
 #: The forms by their names: whether a text looks so, and its reader.
 FORMS: Dict[str, Tuple[str, Callable[[str, Options], Log]]] = {
     "socat": (r"^[<>] \d+/\d+/\d+ \S+ +length=\d+ from=", lambda text, ask: serial_tools.socat(text)),
-    "strace": (r"\b(?:read|write|recv\w*|send\w*|readv|writev)\(\d+(?:<.*?>)?,\s+[\"\[{<]?", lambda text, ask:
-               serial_tools.strace(text, ask.fd)),
-    "json-lines": (r"\A\s*\{(?![^\n]*\"(?:_index|index|layers)\")[^\n]*\"(?:data|bytes|payload|hex|raw|message|msg)\"[^\n]*\}\s*$",
-                   lambda text, ask: traces.json_lines(text)),
-    "tshark-json": (r"\A\s*(?:\[\s*)?\{[^{]*\"(?:_index|index|timestamp)\"", lambda text, ask:
-                    wireshark.tshark_json(text, ask.port, ask.stream)),
+    "strace": (
+        r"\b(?:read|write|recv\w*|send\w*|readv|writev)\(\d+(?:<.*?>)?,\s+[\"\[{<]?",
+        lambda text, ask: serial_tools.strace(text, ask.fd),
+    ),
+    "json-lines": (
+        r"\A\s*\{(?![^\n]*\"(?:_index|index|layers)\")[^\n]*\"(?:data|bytes|payload|hex|raw|message|msg)\"[^\n]*\}\s*$",
+        lambda text, ask: traces.json_lines(text),
+    ),
+    "tshark-json": (
+        r"\A\s*(?:\[\s*)?\{[^{]*\"(?:_index|index|timestamp)\"",
+        lambda text, ask: wireshark.tshark_json(text, ask.port, ask.stream),
+    ),
     "tshark-pdml": (r"<pdml\b", lambda text, ask: wireshark.tshark_pdml(text, ask.port, ask.stream)),
     "wireshark-yaml": (r"!!binary", lambda text, ask: wireshark.follow_yaml(text)),
     "wireshark-c": (r"\bpeer\d+_\d+\s*\[\]\s*=", lambda text, ask: wireshark.follow_c(text)),
     "tshark-raw": (r"^Follow: tcp,raw", lambda text, ask: wireshark.follow_raw(text)),
-    "packet-text": (r"^\s*(?:0x)?0000:?  ?(?:[0-9a-f]{2} ?){15}[0-9a-f]{2}\b", lambda text, ask: packets.read_packets(
-        packets.dumped_packets(text), "packet-text", ask.stream, ask.port)),
-    "wireshark-text": (r"^Transmission Control Protocol, Src Port:(?s:.*)^\s*(?:\[truncated\])?Data(?: \[truncated\])?: ?[0-9a-f]{2}",
-                       lambda text, ask: wireshark.wireshark_text(text, ask.port, ask.stream)),
-    "wireshark-hex": (r"^(?:\t| {2,})[0-9A-Fa-f]{8}  ?(?:[0-9a-f]{2} ){1,}|^Follow: tcp,hex|"
-                      r"\A[0-9A-F]{8}  [0-9a-f]{2}(?: +\S+)? *\n(?s:.*)^[0-9A-F]{6}[1-9A-F][0-9A-F]  |"
-                      r"\A[0-9A-F]{8}  [0-9a-f]{2}(?: +\S+)? *\n(?s:.*)^0000000[1-9A-F]  ",
-                      lambda text, ask: wireshark.follow_hex(text)),
+    "packet-text": (
+        r"^\s*(?:0x)?0000:?  ?(?:[0-9a-f]{2} ?){15}[0-9a-f]{2}\b",
+        lambda text, ask: packets.read_packets(packets.dumped_packets(text), "packet-text", ask.stream, ask.port),
+    ),
+    "wireshark-text": (
+        r"^Transmission Control Protocol, Src Port:(?s:.*)^\s*(?:\[truncated\])?Data(?: \[truncated\])?: ?[0-9a-f]{2}",
+        lambda text, ask: wireshark.wireshark_text(text, ask.port, ask.stream),
+    ),
+    "wireshark-hex": (
+        r"^(?:\t| {2,})[0-9A-Fa-f]{8}  ?(?:[0-9a-f]{2} ){1,}|^Follow: tcp,hex|"
+        r"\A[0-9A-F]{8}  [0-9a-f]{2}(?: +\S+)? *\n(?s:.*)^[0-9A-F]{6}[1-9A-F][0-9A-F]  |"
+        r"\A[0-9A-F]{8}  [0-9a-f]{2}(?: +\S+)? *\n(?s:.*)^0000000[1-9A-F]  ",
+        lambda text, ask: wireshark.follow_hex(text),
+    ),
     "portmon": (r"\bIRP_MJ_(?:READ|WRITE)\b.*\bLength:? \d+", lambda text, ask: serial_tools.portmon(text)),
-    "csv-table": (r"\A(?!\"?[a-z]+\.[a-z_.]+)[^\n]*\b(?:data|value|payload|hex|bytes)\b[^\n]*\n(?:[^\n]*[,;\t])?\"?(?:0x)?[0-9a-fA-F]{2}[0-9a-fA-Fx ]*\"?[,;\t\n]",
-                  lambda text, ask: traces.csv_table(text)),
-    "irp-table": (r"\bIRP_MJ_(?:READ|WRITE)\b.*[\t,; ]\"?[0-9a-fA-F]{2}(?: [0-9a-fA-F]{2})*\"?\s*(?:[\t,;]| {2}|$)",
-                  lambda text, ask: serial_tools.irp_table(text)),
-    "interceptty": (r"^(?:[\d.:/\- ]*)[<>]\s+0x[0-9a-fA-F]{2}\b(?!,? ?0x)", lambda text, ask: serial_tools.interceptty(text)),
+    "csv-table": (
+        r"\A(?!\"?[a-z]+\.[a-z_.]+)[^\n]*\b(?:data|value|payload|hex|bytes)\b[^\n]*\n(?:[^\n]*[,;\t])?\"?(?:0x)?[0-9a-fA-F]{2}[0-9a-fA-Fx ]*\"?[,;\t\n]",
+        lambda text, ask: traces.csv_table(text),
+    ),
+    "irp-table": (
+        r"\bIRP_MJ_(?:READ|WRITE)\b.*[\t,; ]\"?[0-9a-fA-F]{2}(?: [0-9a-fA-F]{2})*\"?\s*(?:[\t,;]| {2}|$)",
+        lambda text, ask: serial_tools.irp_table(text),
+    ),
+    "interceptty": (
+        r"^(?:[\d.:/\- ]*)[<>]\s+0x[0-9a-fA-F]{2}\b(?!,? ?0x)",
+        lambda text, ask: serial_tools.interceptty(text),
+    ),
     "slsnif": (r"\b(?:Host|Device)\s*-->.*\((?:\d{3}|[0-9a-f]{2})\)", lambda text, ask: serial_tools.slsnif(text)),
-    "blocks": (r"^\[.*?\]\s*(?:Read|Written|Received|Sent) data\b|^(?:Request|Answer):\s*\d|(?:Read|Write) (?:Request )?"
-               r"\((?:UP|DOWN)\)|^\d{4}-\d\d-\d\d \d\d:\d\d:\d\d(?:\.\d+)?: \S+\s*\n|^T .*\S+:\d+ -> \S+:\d+ \[|"
-               r"^<?\d{14}\.\d{3} (?:TX|RX)>?\s*$", lambda text, ask: serial_tools.blocks(text)),
-    "k12": (r"^\|0\s*\|(?:[0-9a-f]{2}\|){20}", lambda text, ask: packets.read_packets(packets.k12_packets(text), "k12", ask.stream,
-                                                                                      ask.port)),
+    "blocks": (
+        r"^\[.*?\]\s*(?:Read|Written|Received|Sent) data\b|^(?:Request|Answer):\s*\d|(?:Read|Write) (?:Request )?"
+        r"\((?:UP|DOWN)\)|^\d{4}-\d\d-\d\d \d\d:\d\d:\d\d(?:\.\d+)?: \S+\s*\n|^T .*\S+:\d+ -> \S+:\d+ \[|"
+        r"^<?\d{14}\.\d{3} (?:TX|RX)>?\s*$",
+        lambda text, ask: serial_tools.blocks(text),
+    ),
+    "k12": (
+        r"^\|0\s*\|(?:[0-9a-f]{2}\|){20}",
+        lambda text, ask: packets.read_packets(packets.k12_packets(text), "k12", ask.stream, ask.port),
+    ),
     "tshark-fields": (r"[\t,;|]", lambda text, ask: wireshark.tshark_fields(text, ask.port, ask.stream)),
     "hex": ("", lambda text, ask: serial_tools.hex_dump(text)),
     "trace": ("", lambda text, ask: traces.traces(text)),
 }
 LOSSY = [
-    (r"^Follow: tcp,ascii", "Follow TCP Stream as ASCII has lost the control bytes: save it as Raw, hex dump or YAML"),
-    (r"^[<>] \d+/\d+/\d+ \S+ +length=\d+ from=.*\n(?! [0-9a-f]{2})", "socat -v alone loses control bytes: use socat -x"),
+    (
+        r"^Follow: tcp,ascii",
+        "Follow TCP Stream as ASCII has lost the control bytes: save it as Raw, hex dump or YAML",
+    ),
+    (
+        r"^[<>] \d+/\d+/\d+ \S+ +length=\d+ from=.*\n(?! [0-9a-f]{2})",
+        "socat -v alone loses control bytes: use socat -x",
+    ),
 ]
 
 
@@ -75,7 +106,9 @@ def form_of(text: str) -> str:
         if re.search(pattern, text, re.M):
             raise LogError(why)
     if serial_tools.is_hex_dump(text) and not re.search(FORMS["wireshark-hex"][0], text, re.M):
-        return "hex" if not re.search(FORMS["packet-text"][0], text, re.M) or not _is_ethernet(text) else "packet-text"
+        return (
+            "hex" if not re.search(FORMS["packet-text"][0], text, re.M) or not _is_ethernet(text) else "packet-text"
+        )
     for name, (pattern, _) in FORMS.items():
         if name == "tshark-fields" and serial_tools.is_blocks(text):
             return "blocks"
@@ -109,7 +142,9 @@ def read_log(data: bytes, ask: Options) -> Log:
     try:
         return _read_log(data, ask)
     except (ValueError, IndexError, KeyError, struct.error) as error:
-        raise LogError(f"the log isn't whole, or of another form ({type(error).__name__}: {error}): see --form") from error
+        raise LogError(
+            f"the log isn't whole, or of another form ({type(error).__name__}: {error}): see --form"
+        ) from error
 
 
 def _read_log(data: bytes, ask: Options) -> Log:
@@ -119,7 +154,9 @@ def _read_log(data: bytes, ask: Options) -> Log:
         raise LogError("the file is empty")
     if ask.form in ("pcap", None) and packets.is_packets(data):
         remarks: List[str] = []
-        log = packets.read_packets(packets.packets_of(data, remarks), "pcap", ask.stream, ask.port, ask.skip_missing)
+        log = packets.read_packets(
+            packets.packets_of(data, remarks), "pcap", ask.stream, ask.port, ask.skip_missing
+        )
         return log._replace(remarks=log.remarks + remarks)
     if ask.form == "raw" or ask.form is None and _is_raw(data):
         mixed = traces.with_control_bytes(data) if ask.form is None else None
@@ -206,7 +243,7 @@ def _of_one_side(pieces: List[Piece], ask: Options, remarks: List[str]) -> List[
                 told.append(Piece(piece.time, "computer", bytes([byte])))
                 start = place + 1
             elif byte in (ENQ, EOT, LF):
-                told.append(Piece(piece.time, "analyzer", piece.data[start:place + 1]))
+                told.append(Piece(piece.time, "analyzer", piece.data[start : place + 1]))
                 start = place + 1
         if start < len(piece.data):
             told.append(Piece(piece.time, "analyzer", piece.data[start:]))
@@ -241,15 +278,23 @@ def _analyzer(pieces: List[Piece], sides: List[str], ask: Options, remarks: List
             remarks.append(f"the analyzer is {senders[0]!r}: it alone sends {name}")
             return senders[0]
         if len(senders) > 1 and byte == ENQ:
-            telling = [one for one in senders if re.search(rb"(?:[\x02][0-7]|\r)[RQrq][|!-/:-@\[-`{-~]", joined[one])]
+            telling = [
+                one for one in senders if re.search(rb"(?:[\x02][0-7]|\r)[RQrq][|!-/:-@\[-`{-~]", joined[one])
+            ]
             if len(telling) == 1:
-                remarks.append(f"both sides send ENQ; the analyzer is {telling[0]!r}: it alone sends results or queries "
-                               "(--swap turns that round)")
+                remarks.append(
+                    f"both sides send ENQ; the analyzer is {telling[0]!r}: it alone sends results or queries "
+                    "(--swap turns that round)"
+                )
                 return telling[0]
             first = next(piece.side for piece in pieces if piece.side != NEW and ENQ in piece.data)
-            remarks.append(f"both sides send ENQ; the first, {first!r}, is taken for the analyzer (--swap turns it round)")
+            remarks.append(
+                f"both sides send ENQ; the first, {first!r}, is taken for the analyzer (--swap turns it round)"
+            )
             return first
-    raise LogError("neither side sends ENQ or STX: name the analyzer's side by --analyzer " + " or --analyzer ".join(sides))
+    raise LogError(
+        "neither side sends ENQ or STX: name the analyzer's side by --analyzer " + " or --analyzer ".join(sides)
+    )
 
 
 def _grouped(pieces: List[Piece]) -> List[Piece]:
@@ -257,7 +302,13 @@ def _grouped(pieces: List[Piece]) -> List[Piece]:
     told: List[Piece] = []
     single = False
     for piece in pieces:
-        if told and single and len(piece.data) == 1 and piece.side == told[-1].side != NEW and not _ends(told[-1].data):
+        if (
+            told
+            and single
+            and len(piece.data) == 1
+            and piece.side == told[-1].side != NEW
+            and not _ends(told[-1].data)
+        ):
             told[-1] = told[-1]._replace(data=told[-1].data + piece.data)
             continue
         single = len(piece.data) == 1
@@ -274,7 +325,7 @@ def _by_units(pieces: List[Piece]) -> List[Piece]:
             continue
         start = 0
         for place in range(len(piece.data)):
-            unit = piece.data[start:place + 1]
+            unit = piece.data[start : place + 1]
             whole = unit
             if told and told[-1].side == piece.side and not _ends(told[-1].data):
                 whole = told[-1].data + unit
@@ -303,39 +354,50 @@ def _lines(pieces: List[Piece], analyzer: str, timer: Optional[float]) -> Captur
             continue
         mark = ">" if piece.side == analyzer else "<"
         if mark == ">":
-            if timer is not None and last is not None and piece.time is not None and piece.time - last > timer * SECOND:
+            if (
+                timer is not None
+                and last is not None
+                and piece.time is not None
+                and piece.time - last > timer * SECOND
+            ):
                 lines.append(Line("T"))
                 times.append(last + int(timer * SECOND))
             last = piece.time
         for start in range(0, len(piece.data), LINE_BYTES):
-            lines.append(Line(mark, piece.data[start:start + LINE_BYTES]))
+            lines.append(Line(mark, piece.data[start : start + LINE_BYTES]))
             times.append(piece.time)
     version = 2 if any(line.mark == "R" for line in lines) else 1
     return Capture(version, list(enumerate(lines, version)), times)
 
 
 def of_two_dumps(analyzer: bytes, computer: bytes) -> Tuple[Capture, List[str]]:
-    """A capture of the bytes of each direction: a reply of the computer is put behind each ENQ and each frame. The order
-    is made up by the rules of the link, and told to be."""
+    """A capture of the bytes of each direction: a reply of the computer is put behind each ENQ and each frame. The
+    order is made up by the rules of the link, and told to be."""
     from ..link import Kind, Scanner
+
     lines: List[Line] = []
     at = used = 0
     with Scanner() as scanner:
         for place, signal in scanner.feed_placed(analyzer):
             if signal.kind in (Kind.ENQ, Kind.FRAME, Kind.BAD_FRAME, Kind.EOT):
-                lines.append(Line(">", analyzer[at:place + 1]))
+                lines.append(Line(">", analyzer[at : place + 1]))
                 at = place + 1
                 if signal.kind is not Kind.EOT and used < len(computer):
-                    lines.append(Line("<", computer[used:used + 1]))
+                    lines.append(Line("<", computer[used : used + 1]))
                     used += 1
     if at < len(analyzer):
         lines.append(Line(">", analyzer[at:]))
     remarks = ["two dumps: their order isn't known; a reply is put behind each ENQ and each frame"]
     if used < len(computer):
         lines.append(Line("<", computer[used:]))
-        remarks.append(f"{len(computer) - used} bytes of the computer are left over: they are the last line, and answer nothing")
+        remarks.append(
+            f"{len(computer) - used} bytes of the computer are left over: they are the last line, and answer nothing"
+        )
     if not any(line.data for line in lines):
         raise LogError("both dumps are empty")
-    split = [Line(line.mark, line.data[start:start + LINE_BYTES]) for line in lines
-             for start in range(0, len(line.data), LINE_BYTES)]
+    split = [
+        Line(line.mark, line.data[start : start + LINE_BYTES])
+        for line in lines
+        for start in range(0, len(line.data), LINE_BYTES)
+    ]
     return Capture(1, list(enumerate(split, 1)), [None] * len(split)), remarks

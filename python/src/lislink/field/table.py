@@ -20,6 +20,7 @@ class TableError(Exception):
 
 class Column(NamedTuple):
     """A column: its name, and its text for a result in its message."""
+
     name: str
     text: Callable[[Where], str]
 
@@ -74,11 +75,13 @@ def _of_field(source: str) -> Callable[[Where], str]:
         entry = where[0].header if letter == "H" else where[places[letter]]
         assert isinstance(entry, Entry)
         return entry.text(number, 0, part - 1) if part else entry.whole(number)
+
     return text
 
 
 class Table(NamedTuple):
     """The rows of a table, and a line for each message that can't be read."""
+
     rows: List[List[str]]
     rejected: List[str]
 
@@ -92,8 +95,10 @@ def rows_of(stream: bytes, columns: List[Column], encoding: str) -> Iterator["Tu
             record = record_at(stream, one.place)
             cause = cause_of_record(one.error, record, one.place + len(record) >= len(stream))
             lost = sum(row.letter == "R" for row in one.rows)
-            yield None, (f"message {number}: record {one.error.number} is rejected ({code_of(one.error)}): {cause.words}"
-                         + (f"; {lost} results before it aren't told" if lost else ""))
+            yield None, (
+                f"message {number}: record {one.error.number} is rejected ({code_of(one.error)}): {cause.words}"
+                + (f"; {lost} results before it aren't told" if lost else "")
+            )
             continue
         for patient, order, result in one.message.results():
             yield [column.text((one.message, patient, order, result)) for column in columns], ""
@@ -109,8 +114,10 @@ def line_writer(form: str, columns: List[Column]) -> Callable[[Optional[List[str
         return out.getvalue()
 
     def as_tsv(row: Optional[List[str]]) -> str:
-        cells = (cell.replace("\\", "\\\\").replace("\t", "\\t").replace("\n", "\\n").replace("\r", "\\r")
-                 for cell in (names if row is None else row))
+        cells = (
+            cell.replace("\\", "\\\\").replace("\t", "\\t").replace("\n", "\\n").replace("\r", "\\r")
+            for cell in (names if row is None else row)
+        )
         return "\t".join(cells) + "\n"
 
     def as_json(row: Optional[List[str]]) -> str:

@@ -1,5 +1,5 @@
-"""Logs with a line for each piece: a direction, and the bytes as hex, decimal, binary or Python's b'..', or as text with
-control bytes in words such as <STX>. Analyzers' and drivers' traces, Docklight, terminal programs."""
+"""Logs with a line for each piece: a direction, and the bytes as hex, decimal, binary or Python's b'..', or as text
+with control bytes in words such as <STX>. Analyzers' and drivers' traces, Docklight, terminal programs."""
 import ast
 import csv
 import html
@@ -11,18 +11,31 @@ from .log import CONTROL, Log, LogError, Piece, encode, find_time, hex_row
 
 _NAMES = "|".join(sorted(CONTROL, key=len, reverse=True))
 #: A control byte in words: <STX>, [STX], {STX}, (STX), <0x02>, <02>, \x02, or a control picture.
-_WORD = re.compile(r"[<\[{(](?P<name>" + _NAMES + r")[>\]})]|[<\[{](?:0x|\$)?(?P<hex>[0-9A-Fa-f]{2})[>\]}]|"
-                   r"\\(?:x|u00)(?P<x>[0-9A-Fa-f]{2})|(?P<picture>[\u2400-\u2421])", re.I)
-_SURE = re.compile(r"[<\[{(](?:ENQ|STX|ETX|ETB|EOT|ACK|NAK)[>\]})]|<(?:0x)?0[2-6]>|\\(?:x|u00)0[2-6]|[\u2401-\u2406]", re.I)
+_WORD = re.compile(
+    r"[<\[{(](?P<name>" + _NAMES + r")[>\]})]|[<\[{](?:0x|\$)?(?P<hex>[0-9A-Fa-f]{2})[>\]}]|"
+    r"\\(?:x|u00)(?P<x>[0-9A-Fa-f]{2})|(?P<picture>[\u2400-\u2421])",
+    re.I,
+)
+_SURE = re.compile(
+    r"[<\[{(](?:ENQ|STX|ETX|ETB|EOT|ACK|NAK)[>\]})]|<(?:0x)?0[2-6]>|\\(?:x|u00)0[2-6]|[\u2401-\u2406]", re.I
+)
 _OUT = r"TX|TXD|SEND(?:ING|ALL|TO)?|SENT|WRITE|WRITTEN|WRITING|WROTE|XMIT|GESENDET|ENVIADO|ENVOY[EÉ]|OUT(?:PUT|GOING)?|TRANSMIT(?:TED)?"
 _IN = r"RX|RXD|RECV(?:D|FROM)?|RECEIVED?|RECEIVING|RCVD?|READ|READING|EMPFANGEN|RECIBIDO|RE[CÇ]U|IN(?:PUT|COMING)?"
 _NAME = r"[\w.:@/\-]*[\w.@/]"
 #: Directions, the most telling first. A named arrow tells who sends.
 _MARKS: List[Tuple["re.Pattern[str]", Callable[["re.Match[str]"], str]]] = [
-    (re.compile(r"(?P<a>%s)\s*(?:-{1,3}>|={1,3}>|→|»|⇒)\s*(?P<b>%s)(?=\s*(?:[:|\-=,\])]|\s|$))" % (_NAME, _NAME)),
-     lambda found: found["a"]),
-    (re.compile(r"(?P<a>%s)\s*(?:<-{1,3}|<={1,3}|←|«|⇐)\s*(?P<b>%s)(?=\s*(?:[:|\-=,\])]|\s|$))" % (_NAME, _NAME)),
-     lambda found: found["b"]),
+    (
+        re.compile(
+            r"(?P<a>%s)\s*(?:-{1,3}>|={1,3}>|→|»|⇒)\s*(?P<b>%s)(?=\s*(?:[:|\-=,\])]|\s|$))" % (_NAME, _NAME)
+        ),
+        lambda found: found["a"],
+    ),
+    (
+        re.compile(
+            r"(?P<a>%s)\s*(?:<-{1,3}|<={1,3}|←|«|⇐)\s*(?P<b>%s)(?=\s*(?:[:|\-=,\])]|\s|$))" % (_NAME, _NAME)
+        ),
+        lambda found: found["b"],
+    ),
     (re.compile(r"(?P<a>[\w.\-]+[.:]\d+)\s+>\s+(?P<b>[\w.\-]+[.:]\d+)(?=\s*:|\s|$)"), lambda found: found["a"]),
     (re.compile(r"\[?\b(?P<a>%s)\b\]?" % _OUT, re.I), lambda found: "out"),
     (re.compile(r"\[?\b(?P<a>%s)\b\]?" % _IN, re.I), lambda found: "in"),
@@ -30,19 +43,28 @@ _MARKS: List[Tuple["re.Pattern[str]", Callable[["re.Match[str]"], str]]] = [
     (re.compile(r"(?P<a>-{1,3}>|={1,2}>|→|⇒)"), lambda found: "->"),
     (re.compile(r"(?P<a><-{1,3}|<={1,2}|←|⇐)"), lambda found: "<-"),
     (re.compile(r"\b(?P<a>[A-Za-z]\w*)>(?P<b>[A-Za-z]\w*)(?=\s|:)"), lambda found: found["a"]),
-    (re.compile(r"\b(?P<a>analy[sz]er|instrument|device|host|lis|lims|his|pc|computer|client|server|com\d+|middleware|"
-                r"dte|dce|a|b|s|r)\s*(?=[:>|\])])", re.I), lambda found: found["a"].lower()),
+    (
+        re.compile(
+            r"\b(?P<a>analy[sz]er|instrument|device|host|lis|lims|his|pc|computer|client|server|com\d+|middleware|"
+            r"dte|dce|a|b|s|r)\s*(?=[:>|\])])",
+            re.I,
+        ),
+        lambda found: found["a"].lower(),
+    ),
     (re.compile(r"\b(?P<a>com\d+|(?<=/dev/)tty\w+)\b", re.I), lambda found: found["a"].lower()),
     (re.compile(r"^(?P<a>[<>])(?=\s)"), lambda found: found["a"]),
 ]
 #: What a line must hold for these of the directions.
 _ARROWS = {0: ("->", "=>", "→", "»", "⇒"), 1: ("<-", "<=", "←", "«", "⇐"), 2: (" > ",)}
 _CLOCK_FIRST = re.compile(r"^(?:\d{1,4}[-/.]\d{1,2}[-/.]\d{1,4}[T ])?\d{1,2}:\d\d:\d\d(?:[.,]\d+)?[\s,;|]+")
-_SEPARATOR = re.compile(r"\s*(?:\(?\d+\s*(?:bytes?|chars?|B)\)?|len(?:gth)?\s*[=:]?\s*\d+)?\s*(?:(?:[:\-=|>,;\]]|<(?=\s))\s?)*\s*", re.I)
+_SEPARATOR = re.compile(
+    r"\s*(?:\(?\d+\s*(?:bytes?|chars?|B)\)?|len(?:gth)?\s*[=:]?\s*\d+)?\s*(?:(?:[:\-=|>,;\]]|<(?=\s))\s?)*\s*", re.I
+)
 
 
 class Grammar(NamedTuple):
     """How the bytes of a line are written: its name, the bytes of the rest of a line, and how sure one can be."""
+
     name: str
     read: Callable[[str], Optional[bytes]]
 
@@ -63,14 +85,18 @@ def _escaped(text: str) -> Optional[bytes]:
     if not found or not re.search(r"\\(?:x[0-9A-Fa-f]{2}|r|n|[0-7]{3}|u00[01][0-9a-f])", found[2]):
         return None
     try:
-        return bytes(ast.literal_eval("b'" + re.sub(r"\\u00([0-9a-fA-F]{2})", r"\\x\1", found[2]).replace("'", "\\'") + "'"))
+        return bytes(
+            ast.literal_eval("b'" + re.sub(r"\\u00([0-9a-fA-F]{2})", r"\\x\1", found[2]).replace("'", "\\'") + "'")
+        )
     except (ValueError, SyntaxError):
         return None
 
 
 def _hex(text: str) -> Optional[bytes]:
     bare = text.strip().strip("\"'[](){}")
-    bare = re.sub(r"^(?:[0-9A-Fa-f]{4}|[0-9A-Fa-f]{8}):?\s+(?=[0-9A-Fa-f]{2}(?:\s|$))", "", bare)  # an offset before pairs
+    bare = re.sub(
+        r"^(?:[0-9A-Fa-f]{4}|[0-9A-Fa-f]{8}):?\s+(?=[0-9A-Fa-f]{2}(?:\s|$))", "", bare
+    )  # an offset before pairs
     bare = re.sub(r"(?<=[0-9A-Fa-f]{2})[:\-,;](?=\s*(?:0[xX])?[0-9A-Fa-f]{2})", " ", bare).rstrip(" ,;:")
     bare = re.sub(r"\b([0-9A-Fa-f]{2})h\b", r"\1", bare)
     if re.match(r"(?:[0-9A-Fa-f]{2})+$", bare):
@@ -96,7 +122,7 @@ def words(text: str) -> bytes:
     """Text with control bytes in words."""
     told, at = b"", 0
     for found in _WORD.finditer(text):
-        told += encode(text[at:found.start()])
+        told += encode(text[at : found.start()])
         at = found.end()
         if found["name"]:
             told += bytes([CONTROL[found["name"].upper()]])
@@ -115,8 +141,14 @@ def _worded(text: str) -> Optional[bytes]:
     return words(bare) if bare.strip() else None
 
 
-GRAMMARS = [Grammar("python", _python), Grammar("escaped", _escaped), Grammar("binary", _binary), Grammar("decimal", _decimal),
-            Grammar("hex", _hex), Grammar("words", _worded)]
+GRAMMARS = [
+    Grammar("python", _python),
+    Grammar("escaped", _escaped),
+    Grammar("binary", _binary),
+    Grammar("decimal", _decimal),
+    Grammar("hex", _hex),
+    Grammar("words", _worded),
+]
 
 
 def _kind(text: str) -> str:
@@ -180,10 +212,15 @@ def _of_html(text: str) -> str:
 def _no_text_around(pieces: List[Piece]) -> None:
     """Where each ENQ and each reply has text around it, that text belongs to the log and not to the line."""
     for side in {piece.side for piece in pieces}:
-        short = [piece.data for piece in pieces if piece.side == side and 2 not in piece.data and
-                 re.search(rb"[\x05\x06\x15]", piece.data)]
+        short = [
+            piece.data
+            for piece in pieces
+            if piece.side == side and 2 not in piece.data and re.search(rb"[\x05\x06\x15]", piece.data)
+        ]
         if short and not any(re.match(rb"[\x04-\x06\x15]+$", data) for data in short):
-            raise LogError(f"each reply has text around it: what belongs to the line isn't clear ({short[0][:40]!r})")
+            raise LogError(
+                f"each reply has text around it: what belongs to the line isn't clear ({short[0][:40]!r})"
+            )
 
 
 def _with_line_ends(pieces: List[Piece], remarks: List[str]) -> List[Piece]:
@@ -192,7 +229,10 @@ def _with_line_ends(pieces: List[Piece], remarks: List[str]) -> List[Piece]:
     if any(b"\n" in piece.data for piece in pieces) or not any(frame.search(piece.data) for piece in pieces):
         return pieces
     remarks.append("the log shows no <LF>: CR LF is supposed behind each checksum")
-    return [piece._replace(data=piece.data.rstrip(b"\r") + b"\r\n") if frame.search(piece.data) else piece for piece in pieces]
+    return [
+        piece._replace(data=piece.data.rstrip(b"\r") + b"\r\n") if frame.search(piece.data) else piece
+        for piece in pieces
+    ]
 
 
 _DIRECTIONS = ("dir", "direction", "side", "from", "source", "src", "type", "event", "op")
@@ -219,15 +259,21 @@ def json_lines(text: str) -> Log:
 
 
 def csv_table(text: str) -> Log:
-    """A table with a line of names: a column of bytes, and one of two names for the sides (a logic analyzer's export)."""
+    """A table with a line of names: a column of bytes, and one of two names for the sides (a logic analyzer's
+    export)."""
     rows = list(csv.reader(text.splitlines(), delimiter=next(one for one in "\t;," if one in text.splitlines()[0])))
     names = [name.strip().lower() for name in rows.pop(0)]
     rows = [row for row in rows if len(row) >= len(names)]
     data = next((names.index(one) for one in ("data", "bytes", "payload", "hex", "value") if one in names), None)
     if data is None or not rows:
         raise LogError("the table has no column of bytes")
-    sides = [place for place, name in enumerate(names) if place != data and len({row[place] for row in rows}) == 2 and
-             name in ("name", "dir", "direction", "side", "source", "port", "channel", "type", "from", "operation")]
+    sides = [
+        place
+        for place, name in enumerate(names)
+        if place != data
+        and len({row[place] for row in rows}) == 2
+        and name in ("name", "dir", "direction", "side", "source", "port", "channel", "type", "from", "operation")
+    ]
     clock = next((place for place, name in enumerate(names) if name.startswith(("time", "start", "date"))), None)
     pieces = []
     for number, row in enumerate(rows, 2):
@@ -243,26 +289,31 @@ def csv_table(text: str) -> Log:
 
 
 def with_control_bytes(data: bytes) -> Optional[Log]:
-    """A log of text in which the bytes of the line are as they came, control bytes too: an entry begins at each line with a
-    time, or at its start, and a direction, and holds all up to the next one. None if the bytes are no such log."""
-    entries: List[Tuple[int, int, str, Optional[int]]] = []  # where the line and its bytes begin, the side, the time
+    """A log of text in which the bytes of the line are as they came, control bytes too: an entry begins at each line
+    with a time, or at its start, and a direction, and holds all up to the next one. None if the bytes are no such
+    log."""
+    entries: List[
+        Tuple[int, int, str, Optional[int]]
+    ] = []  # where the line and its bytes begin, the side, the time
     at = 0
     for row in data.split(b"\n"):
         head = re.split(rb"[\x00-\x08\x0e-\x1f]", row[:160])[0].decode("latin-1")
         found = next((one for one in ((pattern.search(head), side) for pattern, side in _MARKS) if one[0]), None)
-        if found and found[0] and (find_time(head[:found[0].start()]) is not None or found[0].start() <= 1):
-            rest = re.match(r"\]?(?:\s*[:\-=|])*\s?", head[found[0].end():])
+        if found and found[0] and (find_time(head[: found[0].start()]) is not None or found[0].start() <= 1):
+            rest = re.match(r"\]?(?:\s*[:\-=|])*\s?", head[found[0].end() :])
             start = at + found[0].end() + (rest.end() if rest else 0)
-            entries.append((at, start, found[1](found[0]), find_time(head[:found[0].start()])))
+            entries.append((at, start, found[1](found[0]), find_time(head[: found[0].start()])))
         at += len(row) + 1
     if len({side for _, _, side, _ in entries}) != 2:
         return None
-    bodies = [data[start:end] for (_, start, _, _), end in zip(entries, [one[0] for one in entries[1:]] + [len(data)])]
+    bodies = [
+        data[start:end] for (_, start, _, _), end in zip(entries, [one[0] for one in entries[1:]] + [len(data)])
+    ]
     ends = [found[1] for found in (re.match(rb"[\x04-\x06\x15](\r?\n)\Z", body) for body in bodies) if found]
     end_of_line = max(set(ends), key=ends.count) if ends else b"\n"
     pieces = []
     for (_, _, side, time), body in zip(entries, bodies):
-        bare = body[:-len(end_of_line)] if body.endswith(end_of_line) else body
+        bare = body[: -len(end_of_line)] if body.endswith(end_of_line) else body
         # Where a frame's own CR LF ends the line, the log has no other.
         pieces.append(Piece(time, side, body if re.search(rb"[\x03\x17][0-9A-Fa-f]{2}\r?\Z", bare) else bare))
     return Log("trace-bytes", pieces, [])
@@ -275,7 +326,9 @@ def _goes_on(line: str, grammar: Grammar, pieces: List[Piece]) -> bool:
     if grammar.name == "words":
         if pieces[-1].data.rfind(2) > pieces[-1].data.rfind(10) and not _SURE.match(line.strip()):
             return True  # the frame before isn't ended
-        return bool(_WORD.match(line.strip())) and not re.match(r"[<\[](?:ENQ|ACK|NAK|EOT|STX)[>\]]", line.strip(), re.I)
+        return bool(_WORD.match(line.strip())) and not re.match(
+            r"[<\[](?:ENQ|ACK|NAK|EOT|STX)[>\]]", line.strip(), re.I
+        )
     return bool(re.match(r"\s+\S|[0-9A-Fa-f]{2}[\s,]", line)) and grammar.read(line.strip()) is not None
 
 
@@ -292,21 +345,23 @@ def _split(line: str, grammar: Grammar) -> Optional[Tuple[str, str, bytes]]:
         if rank in _ARROWS and not any(one in line for one in _ARROWS[rank]):
             continue
         for found in pattern.finditer(line):
-            if found.start() >= limit or not _is_head(line[:found.start()]):
+            if found.start() >= limit or not _is_head(line[: found.start()]):
                 continue
-            rest = line[found.end():]
+            rest = line[found.end() :]
             separator = _SEPARATOR.match(rest)
-            body = rest[separator.end():] if separator else rest
+            body = rest[separator.end() :] if separator else rest
             if grammar.name == "words":
-                body = rest[len(rest) - len(rest.lstrip()):]
-                body = re.sub(r"^(?:\(?\d+\s*(?:bytes?|chars?)\)?)?[:\-=|,\]]*(?:\s*[:\-|])?\s?", "", body, flags=re.I)
+                body = rest[len(rest) - len(rest.lstrip()) :]
+                body = re.sub(
+                    r"^(?:\(?\d+\s*(?:bytes?|chars?)\)?)?[:\-=|,\]]*(?:\s*[:\-|])?\s?", "", body, flags=re.I
+                )
             body = _CLOCK_FIRST.sub("", body)
             data = grammar.read(body)
             if not data:
                 data = grammar.read(re.sub(r"^\s*[\[(]\d+[\])]\s*[:\-=|]*\s*", "", body))
             if data:
                 if best is None:
-                    best = (rank, line[:found.start()], side(found), data)
+                    best = (rank, line[: found.start()], side(found), data)
                 break
         if best is not None:
             return best[1:]
@@ -319,11 +374,14 @@ def _is_head(text: str) -> bool:
 
 
 _NAME_FIRST = r"\W*(?:[\d/.\-]*[ T]?\d{1,2}:\d\d:\d\d(?:[.,]\d+)?)?\W*([A-Za-z][\w ]{0,24}?)\s*"
-_NAMED, _NAMED_HEX = re.compile(_NAME_FIRST + r"[:>|\]]+\s*(.+)$"), re.compile(_NAME_FIRST + r"(?:[:>|\]]+\s*|\s)(.+)$")
+_NAMED, _NAMED_HEX = re.compile(_NAME_FIRST + r"[:>|\]]+\s*(.+)$"), re.compile(
+    _NAME_FIRST + r"(?:[:>|\]]+\s*|\s)(.+)$"
+)
 
 
 def _named(read: List[Tuple[int, str]], grammar: Grammar) -> Optional[Log]:
-    """A log whose lines each begin with one of two names; a line of hex may have another beginning, and no bytes then."""
+    """A log whose lines each begin with one of two names; a line of hex may have another beginning, and no bytes
+    then."""
     pieces, left = [], []
     for number, line in read:
         found = (_NAMED if grammar.name == "words" else _NAMED_HEX).match(line)
@@ -346,10 +404,18 @@ def _unmarked(lines: List[str], grammar: Grammar) -> Log:
     indents: Dict[int, int] = {}
     if grammar.name not in ("words", "hex"):
         raise LogError("no line has a direction")
-    read = [(number, line) for number, line in enumerate(lines, 1) if line.strip() and
-            (_SURE.search(line) if grammar.name == "words" else grammar.read(line.strip()) is not None)]
-    named = _named(read if grammar.name == "words" else
-                   [(number, line) for number, line in enumerate(lines, 1) if line.strip()], grammar)
+    read = [
+        (number, line)
+        for number, line in enumerate(lines, 1)
+        if line.strip()
+        and (_SURE.search(line) if grammar.name == "words" else grammar.read(line.strip()) is not None)
+    ]
+    named = _named(
+        read
+        if grammar.name == "words"
+        else [(number, line) for number, line in enumerate(lines, 1) if line.strip()],
+        grammar,
+    )
     if named is not None:
         return named
     if not read:
@@ -357,8 +423,11 @@ def _unmarked(lines: List[str], grammar: Grammar) -> Log:
     for _, line in read:
         indent = len(line.expandtabs()) - len(line.expandtabs().lstrip())
         indents[indent] = indents.get(indent, 0) + 1
-    heads = [number for number, line in enumerate(lines, 1) if number not in {one for one, _ in read} and
-             re.search(r"\b(?:%s|%s)\b" % (_OUT, _IN), line, re.I)]
+    heads = [
+        number
+        for number, line in enumerate(lines, 1)
+        if number not in {one for one, _ in read} and re.search(r"\b(?:%s|%s)\b" % (_OUT, _IN), line, re.I)
+    ]
     if len(heads) > 1:
         raise LogError(f"directions and bytes don't go together here: {lines[heads[0] - 1][:60]!r}", heads[0])
     wide = max(indents) - min(indents) >= 4
@@ -366,7 +435,7 @@ def _unmarked(lines: List[str], grammar: Grammar) -> Log:
         bare = line.expandtabs()
         indent = len(bare) - len(bare.lstrip())
         head = re.match(r"\s*(?:\[?[\d/.\-]*[ T]?\d{1,2}:\d\d:\d\d(?:[.,]\d+)?\]?\s*)?(?:\d+[.:)]\s+)?", line)
-        data = grammar.read(line[head.end():].strip() if head else line.strip()) or b""
+        data = grammar.read(line[head.end() :].strip() if head else line.strip()) or b""
         if wide:
             side = "right" if indent - min(indents) >= 4 else "left"
         else:
@@ -374,9 +443,17 @@ def _unmarked(lines: List[str], grammar: Grammar) -> Log:
         pieces.append(Piece(find_time(line), side, data))
     if grammar.name == "words":
         _no_text_around(pieces)
-    remarks = ["no line has a direction: " + ("the columns are taken for the two sides" if wide else
-                                              "lines that are one ACK or NAK are taken for the computer's")]
-    left = [number for number, line in enumerate(lines, 1) if line.strip() and number not in {one for one, _ in read}]
+    remarks = [
+        "no line has a direction: "
+        + (
+            "the columns are taken for the two sides"
+            if wide
+            else "lines that are one ACK or NAK are taken for the computer's"
+        )
+    ]
+    left = [
+        number for number, line in enumerate(lines, 1) if line.strip() and number not in {one for one, _ in read}
+    ]
     if left:
         remarks.append("lines without bytes were left out: " + ", ".join(map(str, left[:20])))
     return Log("trace-" + grammar.name, pieces, remarks)

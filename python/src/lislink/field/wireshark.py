@@ -119,12 +119,23 @@ def tshark_fields(text: str, port: Optional[int] = None, stream: Optional[int] =
         if not _HEX.match(row[payload].strip().split(",")[0]):
             raise LogError(f"no bytes in column {payload + 1}: {row[payload][:40]!r}", number)
     if names and {"tcp.seq", "tcp.srcport", "tcp.dstport"} <= set(names):
-        return _segments([{name: row[place] if place < len(row) else "" for place, name in enumerate(names)}
-                          for _, row in kept], names[payload], "tshark-fields", port, stream)
+        return _segments(
+            [{name: row[place] if place < len(row) else "" for place, name in enumerate(names)} for _, row in kept],
+            names[payload],
+            "tshark-fields",
+            port,
+            stream,
+        )
     side = _side_columns(kept, payload, names, port)
     time = _time_column(kept, payload, names)
-    pieces = [Piece(None if time is None else _seconds(row[time]), ",".join(row[one] for one in side),
-                    _bytes(row[payload].strip())) for _, row in kept]
+    pieces = [
+        Piece(
+            None if time is None else _seconds(row[time]),
+            ",".join(row[one] for one in side),
+            _bytes(row[payload].strip()),
+        )
+        for _, row in kept
+    ]
     return Log("tshark-fields", pieces, [])
 
 
@@ -141,8 +152,10 @@ def _rows(text: str) -> Tuple[List[Tuple[int, List[str]]], List[str]]:
     lines = [(number, line) for number, line in enumerate(text.splitlines(), 1) if line.strip()]
     first = lines[0][1]
     separator = next((one for one in "\t;|," if one in first), "\t")
-    rows = [(number, row) for (number, _), row in
-            zip(lines, csv.reader((line for _, line in lines), delimiter=separator))]
+    rows = [
+        (number, row)
+        for (number, _), row in zip(lines, csv.reader((line for _, line in lines), delimiter=separator))
+    ]
     names: List[str] = []
     if rows and any("." in one and re.match(r"[a-z_]+(\.[a-z_0-9]+)+$", one.strip()) for one in rows[0][1]):
         names = [one.strip() for one in rows.pop(0)[1]]
@@ -162,7 +175,9 @@ def _payload(rows: List[Tuple[int, List[str]]], names: List[str]) -> int:
     raise LogError("no column holds bytes: ask tshark for -e tcp.payload")
 
 
-def _side_columns(rows: List[Tuple[int, List[str]]], payload: int, names: List[str], port: Optional[int]) -> List[int]:
+def _side_columns(
+    rows: List[Tuple[int, List[str]]], payload: int, names: List[str], port: Optional[int]
+) -> List[int]:
     wanted = [names.index(name) for name in ("ip.src", "ipv6.src", "tcp.srcport") if name in names]
     if wanted:
         return wanted
@@ -175,8 +190,12 @@ def _side_columns(rows: List[Tuple[int, List[str]]], payload: int, names: List[s
     if port is not None:
         two = [one for one in two if any(row[one] == str(port) for _, row in rows)] or two
     # Addresses tell best, then ports; a column of lengths may have two values too.
-    two.sort(key=lambda place: (not all(re.match(r"[\d.]+\.[\d.]+\.|.*:.*:", row[place]) for _, row in rows),
-                                not all(row[place].isdigit() and int(row[place]) > 300 for _, row in rows)))
+    two.sort(
+        key=lambda place: (
+            not all(re.match(r"[\d.]+\.[\d.]+\.|.*:.*:", row[place]) for _, row in rows),
+            not all(row[place].isdigit() and int(row[place]) > 300 for _, row in rows),
+        )
+    )
     if not two:
         raise LogError("no column tells the two sides apart: ask tshark for -e tcp.srcport")
     return two[:1]
@@ -187,25 +206,40 @@ def _time_column(rows: List[Tuple[int, List[str]]], payload: int, names: List[st
         if name in names:
             return names.index(name)
     for place in range(min((len(row) for _, row in rows), default=0)):
-        if place != payload and all(re.match(r"\d+\.\d{2,9}$", row[place]) or
-                                    ":" in row[place] and find_time(row[place]) is not None for _, row in rows):
+        if place != payload and all(
+            re.match(r"\d+\.\d{2,9}$", row[place]) or ":" in row[place] and find_time(row[place]) is not None
+            for _, row in rows
+        ):
             return place
     return None
 
 
-def _segments(told: List[Dict[str, str]], payload: str, form: str, port: Optional[int], stream: Optional[int]) -> Log:
+def _segments(
+    told: List[Dict[str, str]], payload: str, form: str, port: Optional[int], stream: Optional[int]
+) -> Log:
     """Packets that have their TCP numbers are put together as those of a pcap."""
     from .packets import _joined, _one_after_another
+
     segments, groups = [], {}  # type: List[Segment], Dict[str, List[Segment]]
     for one in told:
         source = one.get("ip.src") or one.get("ipv6.src") or "a"
         target = one.get("ip.dst") or one.get("ipv6.dst") or ("b" if source == "a" else "a")
-        time = _seconds(one.get("frame.time_epoch") or one.get("frame.time") or one.get("frame.time_relative") or "")
+        time = _seconds(
+            one.get("frame.time_epoch") or one.get("frame.time") or one.get("frame.time_relative") or ""
+        )
         flags = int(one.get("tcp.flags") or "0x18", 16) & ~2
         if "ip.src" not in one and "ipv6.src" not in one:
             source, target = "?", "?"
-        segment = Segment(time, source, int(one["tcp.srcport"]), target, int(one["tcp.dstport"]), int(one["tcp.seq"]),
-                          flags, _bytes(one[payload].strip()))
+        segment = Segment(
+            time,
+            source,
+            int(one["tcp.srcport"]),
+            target,
+            int(one["tcp.dstport"]),
+            int(one["tcp.seq"]),
+            flags,
+            _bytes(one[payload].strip()),
+        )
         segments.append(segment)
         groups.setdefault(one.get("tcp.stream", ""), []).append(segment)
     if all(len({one.source_port for one in group}) == 1 for group in groups.values()):
@@ -252,16 +286,32 @@ def wireshark_text(text: str, port: Optional[int] = None, stream: Optional[int] 
     """`tshark -V`, and Wireshark's export as plain text with details: the lines `Data: ..` of each packet."""
     told: List[Dict[str, str]] = []
     for block in re.split(r"(?m)^(?=Frame \d+:|No\. +Time)", text):
-        data = re.search(r"(?m)^\s*(\[truncated\])?Data(?: \[truncated\])?: ?([0-9a-fA-F:]{2,}(?:\.\.\.|…)?)\s*$", block)
-        head = re.search(r"Transmission Control Protocol, Src Port: .*?(\d+)\)?, Dst Port: .*?(\d+)\)?, Seq: (\d+).*?Len: (\d+)", block)
+        data = re.search(
+            r"(?m)^\s*(\[truncated\])?Data(?: \[truncated\])?: ?([0-9a-fA-F:]{2,}(?:\.\.\.|…)?)\s*$", block
+        )
+        head = re.search(
+            r"Transmission Control Protocol, Src Port: .*?(\d+)\)?, Dst Port: .*?(\d+)\)?, Seq: (\d+).*?Len: (\d+)",
+            block,
+        )
         ends = re.search(r"Internet Protocol(?: Version \d)?, Src: (\S+?)(?: \(\S+\))?, Dst: (\S+)", block)
         if not data or not head:
             continue
         if data[1] or len(_bytes(data[2].rstrip(".…"))) != int(head[4]):
-            raise LogError("the text has a part of a packet's bytes alone: export them whole (tshark -x), or as pcap")
+            raise LogError(
+                "the text has a part of a packet's bytes alone: export them whole (tshark -x), or as pcap"
+            )
         time = re.search(r"(?:Arrival Time|UTC Arrival Time|Epoch Arrival Time|Epoch Time): (.*)", block)
-        told.append({"tcp.srcport": head[1], "tcp.dstport": head[2], "tcp.seq": head[3], "tcp.payload": data[2],
-                     "frame.time": time[1] if time else "", "ip.src": ends[1] if ends else "a", "ip.dst": ends[2] if ends else "b"})
+        told.append(
+            {
+                "tcp.srcport": head[1],
+                "tcp.dstport": head[2],
+                "tcp.seq": head[3],
+                "tcp.payload": data[2],
+                "frame.time": time[1] if time else "",
+                "ip.src": ends[1] if ends else "a",
+                "ip.dst": ends[2] if ends else "b",
+            }
+        )
     if not told:
         raise LogError("no packet has a line Data")
     return _segments(told, "tcp.payload", "wireshark-text", port, stream)
@@ -298,5 +348,3 @@ def tshark_pdml(text: str, port: Optional[int] = None, stream: Optional[int] = N
     if not told:
         raise LogError("no packet has tcp.payload")
     return _segments(told, "tcp.payload", "tshark-pdml", port, stream)
-
-
