@@ -206,13 +206,37 @@ class Link:
         self.heard = b""
 
 
-EVENTS = {"Start": Link.start, "Deliver": Link.deliver, "DeliverNoRoom": Link.deliver_no_room, "Damage": Link.damage,
+class LateLink(Link):
+    """The same on a line that answers late: a reply to what is on its way comes still, a session starts only where
+    nothing is on its way, and the line may be connected anew."""
+
+    def start(self, texts):
+        if not self.units and not self.replies:
+            super().start(texts)
+
+    def forget(self):
+        pass
+
+    def reconnect(self):
+        self.units.clear()
+        self.replies.clear()
+        self.restart_receiver()
+
+
+EVENTS = {"Start": lambda link, texts: link.start(texts), "Reconnect": LateLink.reconnect,
+          "Deliver": Link.deliver, "DeliverNoRoom": Link.deliver_no_room, "Damage": Link.damage,
           "Lose": Link.lose, "Reply": Link.reply, "DamageReply": Link.damage_reply, "LoseReply": Link.lose_reply,
           "SenderTimer": Link.sender_timer, "ReceiverTimer": Link.receiver_timer,
           "RestartSender": Link.restart_sender, "RestartReceiver": Link.restart_receiver,
           "Ready": lambda link: link.receiver.set_ready(Readiness.READY),
           "Busy": lambda link: link.receiver.set_ready(Readiness.BUSY),
           "Contending": lambda link: link.receiver.set_ready(Readiness.CONTENDING)}
+
+
+def played(link, events):
+    for event in events:
+        link.happen(event)
+    return link.word()
 
 
 class Ends:
@@ -265,10 +289,10 @@ class Ends:
         return " ".join(word.removeprefix("frame:") for word in told[1 + ahead:-1])
 
     def link_play(self, *events):
-        link = Link()
-        for event in events:
-            link.happen(event)
-        return link.word()
+        return played(Link(), events)
+
+    def late_play(self, *events):
+        return played(LateLink(), events)
 
     def sender_state(self):
         one = self.sender
