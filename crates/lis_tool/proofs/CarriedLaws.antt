@@ -1,6 +1,6 @@
 -- What a session that is done handed out, where it was started with the texts of messages.
 use Rattle.std.proofs.Common.{◌≡◌, ℕ, List, [], ◌∷◌, ◌++◌, Option, None, Some, Err, inl, inr, map, refl, ◌∙◌, ap}
-use Rattle.std.proofs.Common.{MatchOption}
+use Rattle.std.proofs.Common.{MatchOption, All, sym, subst}
 use Rattle.std.proofs.lemmas.Grind.{flat_map-append}
 use Rattle.std.proofs.lemmas.List.Elements.{All-contains}
 use Rattle.std.specs.List.{AllByRecursion, flat_map}
@@ -13,12 +13,10 @@ use Rattle.lis_spelling.specs.Spelling.{written}
 use Rattle.lis_tree.specs.inside.Begun.{Begun}
 use Rattle.lis_field.specs.declared.faults.MessageFault.{MessageFault}
 use Rattle.lis_field.specs.declared.faults.Reason.TheVariants as reasons
-use Rattle.lis_tree.specs.Tree.{MessageTree, flatten}
-use Rattle.lis_world.specs.declared.event.Event.{Event}
-use Rattle.lis_world.specs.Safe.{AlwaysSafe, HandsOutAll}
+use Rattle.lis_tree.specs.Tree.{IsTree, MessageTree, flatten}
+use Rattle.lis_world.specs.Safe.{HandsOutAll}
 use Rattle.lis_world.specs.Session.{Session}
-use Rattle.lis_world.specs.Steps.{world}
-use Rattle.lis_tool.specs.Laws.{HasCarried, handed_bytes}
+use Rattle.lis_tool.specs.Laws.{HasCarried, Carry, AreReadBack, handed_bytes}
 
 joined_map : {A : Type 0} (f : A → List ℕ) (xs : List A) → flat_map (λ (text : List ℕ). text) (map f xs) ≡ flat_map f xs
 joined_map f [] = refl
@@ -34,17 +32,16 @@ texts_joined (m ∷ ms) =
     ∙ ap (λ (l : List ℕ). l ++ flat_map message_bytes ms) (joined_map (written m.delimiters) (flatten m))
 
 -- what has texts can be written
-pub writable : (ms : List MessageTree) → AllByRecursion FitsInTexts ms → AllByRecursion IsWritable ms
+writable : (ms : List MessageTree) → AllByRecursion FitsInTexts ms → AllByRecursion IsWritable ms
 writable [] fit = tt
 writable (m ∷ ms) fit = (all_writable m.delimiters 1 (flatten m) fit.0.0, writable ms fit.1)
 
-pub carried_bytes :
-    (limit : ℕ) → AlwaysSafe limit → (events : List Event) (x : Session) (ms : List MessageTree)
-    → HasCarried limit events x ms
+carried_bytes :
+    (sessions : List Session) → All HandsOutAll sessions → (x : Session) (ms : List MessageTree)
+    → HasCarried sessions x ms
     → handed_bytes x ≡ flat_map message_bytes ms
-carried_bytes limit safe events x ms has =
-    let handed : x.handed ≡ x.texts = All-contains HandsOutAll (world limit events).sessions x (safe events).1
-    has.session has.done in
+carried_bytes sessions all x ms has =
+    let handed : x.handed ≡ x.texts = All-contains HandsOutAll sessions x all has.session has.done in
     ap (flat_map (λ (text : List ℕ). text)) (handed ∙ has.texts) ∙ texts_joined ms
 
 -- a stream that is cut into these messages alone is read as them
@@ -53,7 +50,7 @@ module _ (stream : List ℕ) (ms : List MessageTree) (cut : IsCut stream ms None
     → (others ≡ ms) × (left ≡ None) × (held ≡ []))
     (none : (n : List MessageTree) (fault : MessageFault) → IsRefused stream n fault → IsCut stream ms None [] → ⊥)
   where
-    pub read_alone :
+    read_alone :
         (read : List MessageTree) (fault : Option MessageFault) → ReadsWhole stream read fault
         → MatchOption fault (read ≡ ms) (λ f. f.reason ≡ reasons.OutOfMemory)
     read_alone read None is = (alone read None [] is).0
@@ -67,3 +64,35 @@ module _ (stream : List ℕ) (ms : List MessageTree) (cut : IsCut stream ms None
         ended None [] e f why = cc
         ended None (b ∷ h) e f why = cc
         ended (Some b) h e f why = cc
+
+-- what the laws of messages say
+pub record MessageLaws : Type 0 where
+  pub cut :
+      (ms : List MessageTree) → AllByRecursion IsTree ms → AllByRecursion IsWritable ms
+      → IsCut (flat_map message_bytes ms) ms None []
+  pub alone :
+      (ms : List MessageTree) → AllByRecursion IsTree ms → AllByRecursion IsWritable ms
+      → (others : List MessageTree) (left : Option Begun) (held : List ℕ)
+      → IsCut (flat_map message_bytes ms) others left held
+      → (others ≡ ms) × (left ≡ None) × (held ≡ [])
+  pub none :
+      (stream : List ℕ) (m n : List MessageTree) (fault : MessageFault) (l : Option Begun) (h : List ℕ)
+      → IsRefused stream m fault → IsCut stream n l h → ⊥
+
+-- so what was handed out is cut into the messages, and read as them
+module _ (laws : MessageLaws) (sessions : List Session) (all : All HandsOutAll sessions) where
+  pub carry : Carry sessions
+  carry x messages has =
+      let bytes = carried_bytes sessions all x messages has in (
+        bytes,
+        subst (λ (l : List ℕ). IsCut l messages None []) (sym bytes)
+            (laws.cut messages has.trees (writable messages has.fit)),
+      )
+
+  pub are_read_back : AreReadBack sessions
+  are_read_back x messages has =
+      let bytes = carried_bytes sessions all x messages has in
+      read_alone (handed_bytes x) messages (carry x messages has).1
+      (λ others left held other. laws.alone messages has.trees (writable messages has.fit) others left held
+      (subst (λ (l : List ℕ). IsCut l others left held) bytes other))
+      (λ n f refused whole. laws.none (handed_bytes x) n messages f None [] refused whole)

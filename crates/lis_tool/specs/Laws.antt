@@ -18,8 +18,12 @@ use Rattle.lis_field.specs.declared.faults.MessageFault.{MessageFault}
 use Rattle.lis_field.specs.declared.faults.Reason.TheVariants as reasons
 use Rattle.lis_tree.specs.Tree.{IsTree, MessageTree}
 use Rattle.lis_world.specs.declared.event.Event.{Event}
+use Rattle.lis_world.specs.declared.event.LateEvent.{LateEvent}
+use Rattle.lis_world.specs.Late.{late_world, at_any_time}
+use Rattle.lis_world.specs.LateDiscipline.{StartInTime}
 use Rattle.lis_world.specs.Session.{Session}
 use Rattle.lis_world.specs.Steps.{world}
+use Rattle.lis_world.specs.World.{new_world}
 
 -- the lines of a whole capture, and the version that they tell
 abbrev pub lines_in : List ℕ → Lines
@@ -56,24 +60,42 @@ UpgradedSaysTheSame =
 abbrev pub handed_bytes : Session → List ℕ
 handed_bytes x = flat_map (λ text. text) x.handed
 
--- A session of the link that is done was started with the texts of these messages, one for each of their records.
-pub record HasCarried (limit : ℕ) (events : List Event) (x : Session) (messages : List MessageTree) : Type 0 where
-  pub session : Contains (world limit events).sessions x
+-- One of these sessions is done, and was started with the texts of these messages, one for each of their records.
+pub record HasCarried (sessions : List Session) (x : Session) (messages : List MessageTree) : Type 0 where
+  pub session : Contains sessions x
   pub done : x.outcome ≡ Some Done
   pub texts : x.texts ≡ flat_map message_texts_of messages
   pub trees : AllByRecursion IsTree messages
   pub fit : AllByRecursion FitsInTexts messages
 
--- Whatever happened on the link, what it handed out is the bytes of the messages, which are cut into them with
--- nothing left.
-abbrev pub CarriesMessages : ℕ → Type 0
-CarriesMessages limit =
-    (events : List Event) (x : Session) (messages : List MessageTree) → HasCarried limit events x messages
+-- What such a session handed out is the bytes of the messages, which are cut into them with nothing left.
+abbrev pub Carry : List Session → Type 0
+Carry sessions =
+    (x : Session) (messages : List MessageTree) → HasCarried sessions x messages
     → (handed_bytes x ≡ flat_map message_bytes messages) × IsCut (handed_bytes x) messages None []
 
 -- And a reader of messages that is fed with it and finished reads these messages, unless it wants memory.
-abbrev pub ReadsCarried : ℕ → Type 0
-ReadsCarried limit =
-    (events : List Event) (x : Session) (messages : List MessageTree) → HasCarried limit events x messages
+abbrev pub AreReadBack : List Session → Type 0
+AreReadBack sessions =
+    (x : Session) (messages : List MessageTree) → HasCarried sessions x messages
     → (read : List MessageTree) (fault : Option MessageFault) → ReadsWhole (handed_bytes x) read fault
     → MatchOption fault (read ≡ messages) (λ f. f.reason ≡ reasons.OutOfMemory)
+
+-- So it is whatever happened on the link.
+abbrev pub CarriesMessages : ℕ → Type 0
+CarriesMessages limit = (events : List Event) → Carry (world limit events).sessions
+
+abbrev pub ReadsCarried : ℕ → Type 0
+ReadsCarried limit = (events : List Event) → AreReadBack (world limit events).sessions
+
+-- And so it is on a line that answers late, if each session starts on a new line or after one to which no reply may
+-- come.
+abbrev pub CarriesMessagesLate : ℕ → Type 0
+CarriesMessagesLate limit =
+    (events : List LateEvent) → StartInTime limit events new_world true
+    → Carry (late_world at_any_time limit events).sessions
+
+abbrev pub ReadsCarriedLate : ℕ → Type 0
+ReadsCarriedLate limit =
+    (events : List LateEvent) → StartInTime limit events new_world true
+    → AreReadBack (late_world at_any_time limit events).sessions

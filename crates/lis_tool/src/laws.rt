@@ -1,10 +1,11 @@
 //! Laws of the commands and of the whole way of a message, each the contract of a function that does nothing.
 
 ghost use Rattle.lis_frame.specs.Limit.{IsLimit};
-ghost use Rattle.lis_tool.specs.Laws.{CarriesMessages, ReadsCarried, UpgradedSaysTheSame};
+ghost use Rattle.lis_tool.specs.Laws.{CarriesMessages, CarriesMessagesLate, ReadsCarried, ReadsCarriedLate};
+ghost use Rattle.lis_tool.specs.Laws.{UpgradedSaysTheSame};
 
 use lis_message::laws::{one_cut, read_back};
-use lis_world::laws::safe_of;
+use lis_world::laws::{safe_of, safe_on_quiet_starts_of};
 
 /// What `upgrade` writes of a capture of which no line is refused is read in version 2, and says the same: upgraded
 /// again it is the same bytes, and it has the same texts and the same replay, with the numbers of lines one higher
@@ -15,14 +16,19 @@ pub fn upgraded()
 
 /// Over every list of events on the link: where a session is done that was started with the texts of messages, as
 /// `message_texts` gives them, what it handed out is the messages' bytes, and these are cut into them with nothing
-/// left. So `read_messages` reads the same messages of it, unless memory runs out. At every limit on a frame's text.
+/// left. So `read_messages` reads the same messages of it, unless memory runs out. It is the same on a line that answers
+/// late, if that is connected anew after a session that timed out or was restarted, before the next one starts. At every
+/// limit on a frame's text.
 pub fn carried_of<const N: usize>()
     requires { IsLimit N }
     ensures bytes { CarriesMessages N }
     ensures read { ReadsCarried N }
+    ensures late_bytes { CarriesMessagesLate N }
+    ensures late_read { ReadsCarriedLate N }
 {
     // It follows from these laws alone.
     safe_of::<N>();
+    safe_on_quiet_starts_of::<N>();
     read_back();
     one_cut();
 }
@@ -31,6 +37,8 @@ pub fn carried_of<const N: usize>()
 pub fn carried()
     ensures bytes { CarriesMessages 240 }
     ensures read { ReadsCarried 240 }
+    ensures late_bytes { CarriesMessagesLate 240 }
+    ensures late_read { ReadsCarriedLate 240 }
 {
     carried_of::<240>();
 }

@@ -1,25 +1,39 @@
-use Rattle.std.proofs.Common.{sym, subst, List, ℕ, None, []}
-use Rattle.lis_message.specs.Stream.{IsCut}
-use Rattle.lis_tool.proofs.CarriedLaws.{carried_bytes, read_alone, writable}
-use Rattle.lis_tool.specs.Laws.{handed_bytes}
+-- What a session handed out is the messages' bytes, by the laws of safety; the laws of messages say what these are.
+use Rattle.lis_tool.proofs.CarriedLaws.{MessageLaws, carry, are_read_back}
 use Rattle.lis_tool.proofs.laws.carried_of.Goals as goal
 
 pub returns-clause-bytes : goal.returns-clause-bytes
-returns-clause-bytes g c = λ events x messages has.
-    let bytes = carried_bytes g.row.N c.safe_of.ensures events x messages has in (
-      bytes,
-      subst (λ (l : List ℕ). IsCut l messages None []) (sym bytes)
-          (c.read_back.ensures.cut messages has.trees (writable messages has.fit)),
-    )
+returns-clause-bytes g c = λ events.
+    let laws : MessageLaws = record {
+      cut = c.read_back.ensures.cut;
+      alone = c.read_back.ensures.alone;
+      none = c.one_cut.ensures.none;
+    } in
+    carry laws _ (c.safe_of.ensures events).1
 
 pub returns-clause-read : goal.returns-clause-read
-returns-clause-read g c = λ events x messages has read fault is.
-    let bytes = carried_bytes g.row.N c.safe_of.ensures events x messages has in
-    let fine = writable messages has.fit in
-    let cut = subst (λ (l : List ℕ). IsCut l messages None []) (sym bytes)
-    (c.read_back.ensures.cut messages has.trees fine) in
-    read_alone (handed_bytes x) messages cut
-    (λ others left held other. c.read_back.ensures.alone messages has.trees fine others left held
-    (subst (λ (l : List ℕ). IsCut l others left held) bytes other))
-    (λ n f refused whole. c.one_cut.ensures.none (handed_bytes x) n messages f None [] refused whole)
-    read fault is
+returns-clause-read g c = λ events.
+    let laws : MessageLaws = record {
+      cut = c.read_back.ensures.cut;
+      alone = c.read_back.ensures.alone;
+      none = c.one_cut.ensures.none;
+    } in
+    are_read_back laws _ (c.safe_of.ensures events).1
+
+pub returns-clause-late_bytes : goal.returns-clause-late_bytes
+returns-clause-late_bytes g c = λ events in_time.
+    let laws : MessageLaws = record {
+      cut = c.read_back.ensures.cut;
+      alone = c.read_back.ensures.alone;
+      none = c.one_cut.ensures.none;
+    } in
+    carry laws _ (c.safe_on_quiet_starts_of.ensures.new_line events in_time).1
+
+pub returns-clause-late_read : goal.returns-clause-late_read
+returns-clause-late_read g c = λ events in_time.
+    let laws : MessageLaws = record {
+      cut = c.read_back.ensures.cut;
+      alone = c.read_back.ensures.alone;
+      none = c.one_cut.ensures.none;
+    } in
+    are_read_back laws _ (c.safe_on_quiet_starts_of.ensures.new_line events in_time).1
