@@ -30,6 +30,7 @@ fn a_frame_is_put_as_far_as_a_sink_takes_it(rt: HostRuntime) {
     for (room, put) in [
         (0, Err(0)),
         (1, Err(1)),
+        (2, Err(2)),
         (5, Err(5)),
         (7, Err(7)),
         (8, Ok(())),

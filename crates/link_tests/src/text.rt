@@ -9,3 +9,8 @@ fn a_text_holds_no_forbidden_byte(rt: HostRuntime) {
         assert!(rt; check_bytes(&[*byte], 1) == Ok(()));
     }
 }
+
+#[test]
+fn the_sum_ends_before_a_forbidden_byte(rt: HostRuntime) {
+    assert!(rt; text_and_sum(b"AAA\nAAAAAAAAAAAAAAAAAAAA") == (Some(3), 195));
+}
