@@ -161,7 +161,8 @@ result_text : List ℕ
 result_text = 0x52 ∷ 0x7c ∷ 0x31 ∷ 0x7c ∷ 0x41 ∷ 0x5e ∷ 0x42 ∷ 0x5c ∷ 0x43 ∷ 0x7c ∷ []
 
 result_fields : Fields
-result_fields = (((Char 0x31 ∷ []) ∷ []) ∷ []) ∷ (((Char 0x41 ∷ []) ∷ (Char 0x42 ∷ []) ∷ []) ∷ ((Char 0x43 ∷ []) ∷ []) ∷ [])
+result_fields = (((Char 0x31 ∷ []) ∷ []) ∷ [])
+    ∷ (((Char 0x41 ∷ []) ∷ (Char 0x42 ∷ []) ∷ []) ∷ ((Char 0x43 ∷ []) ∷ []) ∷ [])
     ∷ (([] ∷ []) ∷ []) ∷ []
 
 result_is_a_record : IsRecord usual result_text (record { kind = kinds.R; fields = result_fields })

@@ -40,9 +40,9 @@ pub fn record_or_fault()
     ensures no_header_fault { (text : List ℕ) → IsSomeHeader text → header_fault text ≡ None }
 {}
 
-/// What is read from a text's front is what the text is, and nothing else is: a component, as `LentSymbols::of_text` reads
-/// it, a repeat, a field, as `read_field` does, and the fields behind a letter, as `read_fields` does (LIS02-A2,
-/// Delimiters). Behind a letter stands nothing, or a field delimiter first.
+/// What is read from a text's front is what the text is, and nothing else is (LIS02-A2, Delimiters): a component, as
+/// `LentSymbols::of_text` reads it, a repeat, a field, as `read_field` does, and the fields behind a letter, as
+/// `read_fields` does. Behind a letter stands nothing, or a field delimiter first.
 pub fn front_reading()
     ensures component { (d : DelimiterBytes) (text : List ℕ) (symbols : Symbols) → IsDelimiters d
         → IsComponent d text symbols ↔ (symbols ≡ symbols_of d text) }

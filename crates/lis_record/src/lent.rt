@@ -273,8 +273,8 @@ impl<'a> LentFields<'a> {
     }
 
     /// Takes so many fields and adds them to a text by their spelling, each behind a field delimiter; false where there
-    /// are fewer, and then all are left and nothing is added. At least one is asked for. Where memory is refused no field
-    /// is taken, and the text still begins with what it was.
+    /// are fewer, and then all are left and nothing is added. At least one is asked for. Where memory is refused no
+    /// field is taken, and the text still begins with what it was.
     #[inline(always)]
     pub fn add_next(&mut self, count: usize, text: &mut Vec<u8>) -> Result<bool, AllocError>
         requires { 0 < count }
