@@ -115,6 +115,7 @@ impl<const N: usize> Happening<N> for LateEvent {
 }
 
 /// Plays them all in a new world, and answers its sessions.
+#[tactic(auto, using(crate::proofs::PlayingLaws::playing_next, crate::proofs::PlayingLaws::played))]
 fn play_all<const N: usize, E: Happening<N>>(
     alloc: Global,
     events: List<E>,
