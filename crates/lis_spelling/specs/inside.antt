@@ -1,3 +1,3 @@
--- What stands for private fields, and what holds within loops: no promise is stated here.
+-- What private fields stand for, and what holds within loops. A public contract that speaks of private state cites it.
 pub mod Pieces
 pub mod Remaining
