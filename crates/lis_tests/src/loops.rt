@@ -141,11 +141,11 @@ fn sent_by_analyzer(
 fn sent_by_computer(rt: &impl Abort, alloc: Global, bytes: &[Event]) -> (Vec<Event>, usize) {
     let mut line = ScriptedLine::new(alloc, bytes);
     let mut receiver = Receiver::new(alloc);
-    let mut count = 0;
+    let mut count = 0usize;
     for expected in TEXTS {
         if let Some(text) = next_text(&mut line, &mut receiver) {
             assert!(rt; text.as_slice() == expected);
-            count += 1;
+            count = count.saturating_add(1);
             drop(text);
         }
     }
