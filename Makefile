@@ -20,7 +20,7 @@ VERSION = $(shell cat VERSION)
 .PHONY: build check demo test mutants harmless plant library linked install
 
 build:
-	@echo 'Proving and building the program: about MAKE_MINUTES minutes the first time on four processors, then seconds.'
+	@echo 'Proving and building the program: 14 minutes at most the first time on four processors, then seconds.'
 	@tools/prove lislink $(PROGRAM)
 
 demo:
@@ -54,7 +54,7 @@ plant:
 	cd crates/$(CRATE) && rt plant
 
 library:
-	@echo 'Proving and building the library: about LIBRARY_MINUTES minutes the first time on four processors, then one.'
+	@echo 'Proving and building the library: 14 minutes at most the first time on four processors, then one.'
 	@tools/prove lis_c $(ARCHIVE)
 	$(MAKE) --no-print-directory linked
 	cp $(BUILD)/liblislink.so examples/python/liblislink.so
