@@ -1,0 +1,181 @@
+"""The definitions that contracts cite: where they are, what they name, and what must be read to believe a contract.
+
+A definition is an entry of a file crates/NAME/specs/*.antt. What it names is found by the imports of its file, so a
+name that two files give to two things is never confused. Used by tools/trust and tests/rooms.
+"""
+import glob
+import os
+import re
+
+ROOT = os.path.dirname(os.path.dirname(os.path.abspath(__file__)))
+HEAD = re.compile(r"^((?:(?:abbrev|unfoldable|opaque|pub|record|data) )+)(\S+)")
+IMPORT = re.compile(r"^\s*(?:ghost )?use Rattle\.([\w.]+)(?:\.\{([^}]*)\})?(?: as (\w+))?;?\s*$")
+TOKEN = re.compile(r"[A-Za-z_][\w']*(?:\.[A-Za-z_]\w*)*|[^\sA-Za-z0-9_(){}\[\],;.◌]+")
+PUBLIC_FN = re.compile(r"^( *)pub (?:(?:const|unsafe|extern \"C\") )*fn (\w+)")
+METHOD = re.compile(r"^(    )(?:unsafe )?fn (\w+)")
+BLOCK = re.compile(r"^(?:unsafe )?(impl\b|pub trait )(.*)")
+COLUMN_0 = re.compile(r"^[^\s)}]")
+
+
+class Definition:
+    """An entry of a specs file, with the text that must be read."""
+
+    def __init__(self, module, name, path, line):
+        self.module, self.name, self.path, self.line, self.text = module, name, path, line, []
+
+    @property
+    def key(self):
+        return self.module, self.name
+
+    @property
+    def is_inside(self):
+        return ".specs.inside" in self.module
+
+    @property
+    def crate(self):
+        return self.module.split(".")[0]
+
+
+def imports_of(lines):
+    """The names that a file imports, each with the module and the name that it has there; '' for the module itself."""
+    found = {}
+    for line in lines:
+        match = IMPORT.match(line)
+        if not match:
+            continue
+        module, names, alias = match.groups()
+        for name in (it.strip() for it in (names or "").split(",")):
+            if name:
+                of, _, local = name.partition(" as ")
+                found[(local or of).strip("◌")] = (module, of)
+        if not names:
+            found[alias or module.rsplit(".", 1)[-1]] = (module, "")
+    return found
+
+
+def read(path):
+    with open(path, encoding="utf-8") as file:
+        return file.read().split("\n")
+
+
+class Book:
+    """All definitions of the crates, by module and name."""
+
+    def __init__(self, root=ROOT):
+        self.root, self.definitions, self.imports, self.constructors = root, {}, {}, {}
+        self.local = {}
+        for path in sorted(glob.glob(f"{root}/crates/*/specs/**/*.antt", recursive=True)):
+            self.read_specs(path)
+
+    def read_specs(self, path):
+        crate, inner = re.search(r"crates/(\w+)/specs/(.*)\.antt$", path).groups()
+        module = f"{crate}.specs." + inner.replace("/", ".")
+        lines, current = read(path), None
+        self.imports[module] = imports_of(lines)
+        for number, line in enumerate(lines, 1):
+            head = HEAD.match(line)
+            if head and head[1] != "pub " or head and not head[2] == "mod":
+                current = Definition(module, head[2], os.path.relpath(path, self.root), number)
+                current.kind = head[1]
+                self.definitions[current.key] = current
+                self.local.setdefault(module, {})[head[2].strip("◌").strip()] = current
+                current.text.append(line)
+            elif line.startswith(("use ", "--", "pub mod ")):
+                continue
+            elif current is not None and line.strip():
+                current.text.append(line)
+        for it in self.local.get(module, {}).values():
+            if " data " in f" {it.kind}":
+                for line in it.text[1:]:
+                    made = re.match(r"^\s+(?:pub )?(\w+)\s*:", line)
+                    if made:
+                        self.constructors[module, made[1]] = it
+
+    def find(self, module, name):
+        """The definition that a module has under a name, or whose constructor it is."""
+        return self.local.get(module, {}).get(name.strip("◌").strip()) or self.constructors.get((module, name))
+
+    def named_in(self, module, imports, text):
+        """What a text of this module names: definitions, and ('type', ..) or ('kit', ..) for what is not one."""
+        for token in set(TOKEN.findall(text)):
+            first, _, rest = token.partition(".")
+            own = self.find(module, first) if module else None
+            if own:
+                yield own
+                continue
+            of, name = imports.get(first, (None, None))
+            if of is None:
+                continue
+            yield from self.in_module(of, name or rest.split(".")[0])
+
+    def in_module(self, module, name):
+        found = self.find(module, name)
+        if found:
+            yield found
+        elif ".specs.declared." in module:
+            crate, _, inner = module.partition(".specs.declared.")
+            yield "type", crate, re.sub(r"\.TheVariants$", "", inner)
+        elif module.split(".")[0] in self.crates():
+            return
+        else:
+            yield "kit", module, name
+
+    def crates(self):
+        return {it.split(".")[0] for it in self.imports}
+
+    def named_by(self, definition):
+        return self.named_in(definition.module, self.imports[definition.module], "\n".join(definition.text))
+
+    def closure(self, start):
+        """All that must be read for these definitions; and the types and the kit's names beside it."""
+        seen, types, todo = {}, set(), list(start)
+        while todo:
+            it = todo.pop()
+            if isinstance(it, tuple):
+                types.add(it)
+            elif it.key not in seen:
+                seen[it.key] = it
+                todo.extend(self.named_by(it))
+        return list(seen.values()), types
+
+
+class Contracts:
+    """The contracts of a crate's functions that others can call, with the names that each cites."""
+
+    def __init__(self, book, crate):
+        self.book, self.crate, self.cited, self.models = book, crate, {}, set()
+        for path in sorted(glob.glob(f"{book.root}/crates/{crate}/src/**/*.rt", recursive=True)):
+            self.read(read(path), os.path.basename(path).removesuffix(".rt"))
+
+    def read(self, lines, file):
+        imports, block, of, number = imports_of(lines), None, "", 0
+        while number < len(lines):
+            line = lines[number]
+            if COLUMN_0.match(line):
+                head = BLOCK.match(line)
+                block = head and ("trait" if head[1].startswith("pub") else "impl")
+                of = head[2] if head else ""
+            if block == "impl" and re.search(r"\bModel for\b", of):
+                self.models.update(self.book.named_in(None, imports, line))
+            found = PUBLIC_FN.match(line) or (METHOD.match(line) if block == "trait" or " for " in of else None)
+            if found:
+                header, number = self.header(lines, number, found[1])
+                self.note(file, of if found[1] else "", found[2], imports, header)
+            else:
+                number += 1
+
+    @staticmethod
+    def header(lines, start, indent):
+        """A function's head with its clauses, up to its body."""
+        for end in range(start, len(lines)):
+            line = lines[end]
+            if line.startswith((indent + "{", indent + "}")) or (end == start and line.endswith(";")):
+                break
+            if end > start and line.rstrip().endswith(";") and not line.startswith(indent + " " * 5):
+                break
+        return "\n".join(lines[start:end + 1]), end + 1
+
+    def note(self, file, of, name, imports, header):
+        clauses = header[re.search(r"\n\s*(requires|ensures)\b|$", header).start():]
+        cited = [it for it in self.book.named_in(None, imports, clauses)]
+        self.cited[file, of, name] = cited
