@@ -59,14 +59,15 @@ library:
 	$(MAKE) --no-print-directory linked
 	cp $(BUILD)/liblislink.so examples/python/liblislink.so
 
-# Both libraries out of the archive of the proved crate. The heap of examples/c/heap.c is part of both, so that a program
-# links with nothing else.
+# Both libraries out of the archive of the proved crate. The heap and the words of examples/c are part of both, so that a
+# program links with nothing else.
 linked:
 	@mkdir -p $(BUILD)
 	$(CC) -O2 -fPIC -Iinclude -c examples/c/heap.c -o $(BUILD)/heap.o
+	$(CC) -O2 -fPIC -Iinclude -c examples/c/names.c -o $(BUILD)/names.o
 	cp $(ARCHIVE) $(BUILD)/liblislink.a
-	ar r $(BUILD)/liblislink.a $(BUILD)/heap.o
-	$(CC) -shared -o $(BUILD)/liblislink.so -Wl,-soname,liblislink.so -Wl,--whole-archive $(ARCHIVE) -Wl,--no-whole-archive $(BUILD)/heap.o
+	ar r $(BUILD)/liblislink.a $(BUILD)/heap.o $(BUILD)/names.o
+	$(CC) -shared -o $(BUILD)/liblislink.so -Wl,-soname,liblislink.so -Wl,--whole-archive $(ARCHIVE) -Wl,--no-whole-archive $(BUILD)/heap.o $(BUILD)/names.o
 
 install: build library
 	install -D -m 755 $(PROGRAM) $(DESTDIR)$(PREFIX)/bin/lislink

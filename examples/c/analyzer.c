@@ -8,9 +8,9 @@
 /* How long the sender waits for a reply where it stands, before its timer runs out. */
 static int seconds(uint8_t phase) {
     switch (phase) {
-    case LIS_BUSY:
+    case LIS_PHASE_BUSY:
         return LIS_SECONDS_BUSY;
-    case LIS_CONTENTION:
+    case LIS_PHASE_CONTENTION:
         return LIS_SECONDS_CONTENTION;
     default:
         return LIS_SECONDS_REPLY;
@@ -34,7 +34,7 @@ static bool put(int line, const lis_bytes *out) {
 static int run(int line, lis_sender *sender, lis_bytes *out, int percent) {
     while (put(line, out)) {
         uint8_t phase = lis_sender_phase(sender), byte;
-        if (phase == LIS_NEUTRAL)
+        if (phase == LIS_PHASE_NEUTRAL)
             return lis_sender_outcome(sender);
         long long until = milliseconds() + seconds(phase) * 10LL * percent;
         int got;
@@ -63,9 +63,9 @@ int analyzer(int line, const char *const *texts, size_t count, int percent) {
     lis_sender_init(sender.at);
     size_t added = 0;
     while (added < count
-           && lis_sender_add_text(&sender, (const uint8_t *)texts[added], strlen(texts[added])) == LIS_OK)
+           && lis_sender_add_text(&sender, (const uint8_t *)texts[added], strlen(texts[added])) == LIS_STATUS_OK)
         added++;
-    if (added == count && lis_sender_start(&sender, &out, &fault) == LIS_OK)
+    if (added == count && lis_sender_start(&sender, &out, &fault) == LIS_STATUS_OK)
         outcome = run(line, &sender, &out, percent);
     lis_sender_end(sender);
     free(sender.at);

@@ -80,9 +80,9 @@ static int hear_a_frame(void) {
     if (lis_scanner_size() > sizeof scanner_block || 16 % lis_scanner_align() != 0)
         return 1;
     lis_scanner_init(scanner.at);
-    if (lis_frame_write(1, true, header, 6, &out, &place) != LIS_OK)
+    if (lis_frame_write(1, true, header, 6, &out, &place) != LIS_STATUS_OK)
         return 2;
-    if (lis_scanner_feed(&scanner, out.bytes, out.len, &signal) != out.len || signal.kind != LIS_FRAME)
+    if (lis_scanner_feed(&scanner, out.bytes, out.len, &signal) != out.len || signal.kind != LIS_SIGNAL_FRAME)
         return 3;
     if (signal.len != 6 || !same(signal.text, header, 6) || !signal.last || signal.number != 1)
         return 4;
@@ -99,15 +99,16 @@ static int carry_a_text(void) {
     lis_sender_init(sender.at);
     lis_receiver_init(receiver.at);
     memset(text, 'x', sizeof text);
-    if (lis_sender_add_text(&sender, text, sizeof text) != LIS_OK || lis_sender_start(&sender, &out, &fault) != LIS_OK)
+    if (lis_sender_add_text(&sender, text, sizeof text) != LIS_STATUS_OK
+        || lis_sender_start(&sender, &out, &fault) != LIS_STATUS_OK)
         return 6;
-    while (lis_sender_phase(&sender) != LIS_NEUTRAL) {
+    while (lis_sender_phase(&sender) != LIS_PHASE_NEUTRAL) {
         lis_step step;
         if (lis_receiver_hear(&receiver, out.bytes, out.len, &step) != out.len || step.reply == 0)
             return 7;
         lis_sender_reply(&sender, step.reply, &out);
     }
-    if (lis_sender_outcome(&sender) != LIS_DONE || lis_receiver_text_len(&receiver) != sizeof text)
+    if (lis_sender_outcome(&sender) != LIS_OUTCOME_DONE || lis_receiver_text_len(&receiver) != sizeof text)
         return 8;
     lis_sender_end(sender);
     lis_receiver_end(receiver);
@@ -123,7 +124,7 @@ static int send_lent_texts(void) {
     lis_place fault;
     size_t before = asked;
     lis_sender_init(sender.at);
-    if (lis_sender_start_lent(&sender, texts, 2, &out, &fault) != LIS_OK || out.len != 1 || out.bytes[0] != 5)
+    if (lis_sender_start_lent(&sender, texts, 2, &out, &fault) != LIS_STATUS_OK || out.len != 1 || out.bytes[0] != 5)
         return 10;
     lis_sender_reply(&sender, 6, &out);
     if (out.len != sizeof first - 1 || !same(out.bytes, first, out.len))
@@ -132,7 +133,7 @@ static int send_lent_texts(void) {
     if (out.len != sizeof second - 1 || !same(out.bytes, second, out.len))
         return 12;
     lis_sender_reply(&sender, 6, &out);
-    if (out.len != 1 || out.bytes[0] != 4 || lis_sender_outcome(&sender) != LIS_DONE)
+    if (out.len != 1 || out.bytes[0] != 4 || lis_sender_outcome(&sender) != LIS_OUTCOME_DONE)
         return 13;
     lis_sender_end(sender);
     return asked == before ? 0 : 14;

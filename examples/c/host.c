@@ -8,7 +8,7 @@
 static bool keep(lis_receiver *receiver, host_takes *takes, void *keeper) {
     size_t len = lis_receiver_text_len(receiver);
     uint8_t *text = malloc(len + 1);
-    bool kept = text != NULL && lis_receiver_text(receiver, text, len) == LIS_OK && takes(keeper, text, len);
+    bool kept = text != NULL && lis_receiver_text(receiver, text, len) == LIS_STATUS_OK && takes(keeper, text, len);
     free(text);
     return kept;
 }
@@ -29,7 +29,7 @@ static bool hear(int line, lis_receiver *receiver, const uint8_t *bytes, size_t 
         }
         if (step.reply != 0 && write(line, &step.reply, 1) != 1)
             return false;
-        if (step.note != LIS_QUIET)
+        if (step.note != LIS_NOTE_QUIET)
             *due = milliseconds() + LIS_SECONDS_RECEIVER * 10LL * percent;
     }
     return true;

@@ -35,7 +35,7 @@ int main(void) {
     int heard = host(line[1], takes, &next, 2);
     if (waitpid(child, &ended, 0) != child)
         return 2;
-    if (heard != 0 || !WIFEXITED(ended) || WEXITSTATUS(ended) != LIS_DONE || next != COUNT)
+    if (heard != 0 || !WIFEXITED(ended) || WEXITSTATUS(ended) != LIS_OUTCOME_DONE || next != COUNT)
         return 1;
     printf("%zu texts went over\n", next);
     return 0;

@@ -9,7 +9,7 @@
 static bool keep(lis_receiver *receiver, int store) {
     size_t len = lis_receiver_text_len(receiver);
     uint8_t *text = malloc(len + 1);
-    bool kept = text != NULL && lis_receiver_text(receiver, text, len) == LIS_OK
+    bool kept = text != NULL && lis_receiver_text(receiver, text, len) == LIS_STATUS_OK
         && write(store, text, len) == (ssize_t)len && fsync(store) == 0;
     free(text);
     return kept;

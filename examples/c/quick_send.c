@@ -19,7 +19,7 @@ static void run(int line, lis_sender *sender, lis_bytes *out) {
     static const int seconds[] = {0, LIS_SECONDS_REPLY, LIS_SECONDS_BUSY, LIS_SECONDS_CONTENTION, LIS_SECONDS_REPLY};
     uint8_t phase, byte;
     while (write(line, out->bytes, out->len) == (ssize_t)out->len) {
-        if ((phase = lis_sender_phase(sender)) == LIS_NEUTRAL)
+        if ((phase = lis_sender_phase(sender)) == LIS_PHASE_NEUTRAL)
             return;
         time_t due = time(NULL) + seconds[phase];
         do {
@@ -38,9 +38,10 @@ static bool send_text(int line, const uint8_t *text, size_t len) {
     if (sender.at == NULL)
         return false;
     lis_sender_init(sender.at);
-    if (lis_sender_add_text(&sender, text, len) == LIS_OK && lis_sender_start(&sender, &out, &fault) == LIS_OK)
+    if (lis_sender_add_text(&sender, text, len) == LIS_STATUS_OK
+        && lis_sender_start(&sender, &out, &fault) == LIS_STATUS_OK)
         run(line, &sender, &out);
-    bool done = lis_sender_outcome(&sender) == LIS_DONE;
+    bool done = lis_sender_outcome(&sender) == LIS_OUTCOME_DONE;
     lis_sender_end(sender);
     free(sender.at);
     return done;

@@ -16,19 +16,19 @@ static enum outcome values_of(lis_reader *reader, char *values, size_t room) {
     for (size_t done = 0; done < sizeof stream - 1;) {
         size_t piece = sizeof stream - 1 - done < 5 ? sizeof stream - 1 - done : 5;
         done += lis_reader_read(reader, (const uint8_t *)stream + done, piece, &found);
-        if (found.kind == LIS_RECORD_REFUSED)
-            return found.reason == LIS_NO_MEMORY && found.number == count + 1 ? MEMORY_REFUSED : WRONG;
-        count += found.kind == LIS_RECORD;
-        if (found.kind == LIS_RECORD && found.letter == 'R') {
+        if (found.kind == LIS_FOUND_REFUSED)
+            return found.reason == LIS_REASON_OUT_OF_MEMORY && found.number == count + 1 ? MEMORY_REFUSED : WRONG;
+        count += found.kind == LIS_FOUND_RECORD;
+        if (found.kind == LIS_FOUND_RECORD && found.letter == 'R') {
             uint8_t value[16];
             size_t size;
-            if (lis_reader_part(reader, 4, 0, 0, value, sizeof value, &size) != LIS_OK)
+            if (lis_reader_part(reader, 4, 0, 0, value, sizeof value, &size) != LIS_STATUS_OK)
                 return WRONG;
             size_t used = strlen(values);
             snprintf(values + used, room - used, "%.*s ", (int)size, (const char *)value);
         }
     }
-    return count == 6 && lis_reader_finish(reader, &found) == LIS_OK ? READ : WRONG;
+    return count == 6 && lis_reader_finish(reader, &found) == LIS_STATUS_OK ? READ : WRONG;
 }
 
 int main(void) {

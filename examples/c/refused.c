@@ -9,12 +9,12 @@ static size_t added, refused_adds, refused_frames, handed_out;
 /* Adds a text, twice where memory is refused. */
 static bool add(lis_sender *sender) {
     uint8_t status = lis_sender_add_text(sender, (const uint8_t *)long_text, sizeof long_text);
-    if (status == LIS_OUT_OF_MEMORY) {
+    if (status == LIS_STATUS_OUT_OF_MEMORY) {
         refused_adds++;
         status = lis_sender_add_text(sender, (const uint8_t *)long_text, sizeof long_text);
     }
-    added += status == LIS_OK;
-    return status == LIS_OK;
+    added += status == LIS_STATUS_OK;
+    return status == LIS_STATUS_OK;
 }
 
 /* What the receiver answers to bytes; 0 for nothing. */
@@ -27,9 +27,10 @@ static uint8_t hear(lis_receiver *receiver, const lis_bytes *out) {
         heard += lis_receiver_hear(receiver, out->bytes + heard, out->len - heard, &step);
         if (step.reply != 0)
             reply = step.reply;
-        refused_frames += step.note == LIS_REFUSED_MEMORY;
+        refused_frames += step.note == LIS_NOTE_OUT_OF_MEMORY;
         if (step.has_text && lis_receiver_text_len(receiver) == sizeof copy
-            && lis_receiver_text(receiver, copy, sizeof copy) == LIS_OK && memcmp(copy, long_text, sizeof copy) == 0)
+            && lis_receiver_text(receiver, copy, sizeof copy) == LIS_STATUS_OK
+            && memcmp(copy, long_text, sizeof copy) == 0)
             handed_out++;
     }
     return reply;
@@ -38,16 +39,16 @@ static uint8_t hear(lis_receiver *receiver, const lis_bytes *out) {
 static bool session(lis_sender *sender, lis_receiver *receiver) {
     lis_bytes out;
     lis_place fault;
-    if (!add(sender) || !add(sender) || !add(sender) || lis_sender_start(sender, &out, &fault) != LIS_OK)
+    if (!add(sender) || !add(sender) || !add(sender) || lis_sender_start(sender, &out, &fault) != LIS_STATUS_OK)
         return false;
-    for (int turn = 0; turn < 100 && lis_sender_phase(sender) != LIS_NEUTRAL; turn++) {
+    for (int turn = 0; turn < 100 && lis_sender_phase(sender) != LIS_PHASE_NEUTRAL; turn++) {
         uint8_t reply = hear(receiver, &out);
         if (reply != 0)
             lis_sender_reply(sender, reply, &out);
         else
             lis_sender_timer(sender, &out);
     }
-    return lis_sender_outcome(sender) == LIS_DONE;
+    return lis_sender_outcome(sender) == LIS_OUTCOME_DONE;
 }
 
 int main(void) {

@@ -9,7 +9,7 @@
 static void print_part(const lis_delimiters *delimiters, const uint8_t *record, size_t len, size_t field,
                        size_t component, uint8_t *room) {
     size_t size;
-    if (lis_record_part(delimiters, record, len, field, 0, component, room, len, &size) == LIS_OK)
+    if (lis_record_part(delimiters, record, len, field, 0, component, room, len, &size) == LIS_STATUS_OK)
         printf("%.*s", (int)size, (const char *)room);
 }
 
@@ -17,8 +17,8 @@ static void print_part(const lis_delimiters *delimiters, const uint8_t *record, 
 static bool print_record(lis_delimiters *delimiters, const uint8_t *record, size_t len, uint8_t *room) {
     lis_record told;
     if (len > 0 && (record[0] == 'H' || record[0] == 'h'))
-        return lis_header_read(record, len, delimiters, &told) == LIS_OK;
-    if (lis_record_read(delimiters, record, len, &told) != LIS_OK)
+        return lis_header_read(record, len, delimiters, &told) == LIS_STATUS_OK;
+    if (lis_record_read(delimiters, record, len, &told) != LIS_STATUS_OK)
         return false;
     if (told.letter == 'R') {
         print_part(delimiters, record, len, 3, 3, room);
@@ -47,7 +47,7 @@ static bool print_text(lis_delimiters *delimiters, const uint8_t *text, size_t l
 static bool print_held(lis_receiver *receiver, lis_delimiters *delimiters) {
     size_t len = lis_receiver_text_len(receiver);
     uint8_t *text = malloc(2 * len + 1);
-    bool good = text != NULL && lis_receiver_text(receiver, text, len) == LIS_OK
+    bool good = text != NULL && lis_receiver_text(receiver, text, len) == LIS_STATUS_OK
                 && print_text(delimiters, text, len, text + len);
     free(text);
     return good;
@@ -66,7 +66,7 @@ int main(void) {
         for (size_t heard = 0; good && heard < got;) {
             lis_step step;
             heard += lis_receiver_hear(&receiver, piece + heard, got - heard, &step);
-            if (step.note == LIS_REFUSED_MEMORY || (step.has_text && !print_held(&receiver, &delimiters)))
+            if (step.note == LIS_NOTE_OUT_OF_MEMORY || (step.has_text && !print_held(&receiver, &delimiters)))
                 good = false;
         }
     lis_receiver_end(receiver);
