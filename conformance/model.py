@@ -1,8 +1,9 @@
 """A plain model of the link, of captures and of the commands, for tests to compare programs with; that of records is in
 record_model.py.
 
-They are written from docs/FORMATS.md, LINK.md and RECORDS.md, by the definitions and not by any program: a stream's
-signals are looked for by places, a message is read whole. Speed is no aim, but each function is linear in its input.
+They are written from docs/COMMANDS.md, CAPTURES.md, LINK.md and RECORDS.md, by the definitions and not by any program:
+a stream's signals are looked for by places, a message is read whole. Speed is no aim, but each function is linear in
+its input.
 
     conformance/run 'python3 conformance/model.py answer' headers records scanner receiver sender texts link late
     conformance/run 'python3 conformance/model.py' commands
