@@ -99,7 +99,8 @@ LIS_ENUM(lis_status) {
     LIS_STATUS_UNFINISHED = 13,         /* a message, a record or a field isn't ended, or an earlier fault */
     LIS_STATUS_PUT_NOT_HEADER = 14,     /* outside a message a header comes first */
     LIS_STATUS_PUT_NO_PARENT = 15,      /* an order belongs under a patient, a result under an order */
-    LIS_STATUS_PUT_SECOND_HEADER = 16   /* the message has its header */
+    LIS_STATUS_PUT_SECOND_HEADER = 16,  /* the message has its header */
+    LIS_STATUS_OLD_LINE = 17            /* a session failed on this connection; of lis_line_start alone */
 } LIS_ENUM_END(lis_status);
 
 /* Bytes for the link: the first `len` of `bytes`; 0 if nothing is to be sent. */
@@ -233,6 +234,34 @@ void lis_sender_restart(lis_sender *s);
 lis_phase lis_sender_phase(lis_sender *s);
 lis_outcome lis_sender_outcome(lis_sender *s);
 uint64_t lis_sender_acknowledged(lis_sender *s);
+
+/* ---- A sender and its connection. These calls are plain C (examples/c/connection.c), tested and not proved. ----
+ *
+ * A reply has no mark of its session, so a late one can acknowledge what nobody took. These calls keep the sender's
+ * duty: a session starts only on a connection on which none was left unanswered, and a reply is heard only if it came
+ * over the connection of its session. Use the calls of lis_sender beside them for texts, phase and outcome only. */
+typedef struct lis_line {
+    lis_sender sender;
+    uint64_t connection;
+    bool spent;
+} lis_line;
+
+/* A line of a sender that was made by lis_sender_init, without a connection yet. To end it, end the sender. */
+void lis_line_init(lis_line *line, lis_sender sender);
+/* A new connection was made, or a serial line was waited for and what came was dropped: answers its number. A session
+ * that goes on is restarted. */
+uint64_t lis_line_connected(lis_line *line);
+/* As lis_sender_start and lis_sender_start_lent; LIS_STATUS_OLD_LINE, and nothing has changed, if there is no
+ * connection yet, or a session timed out or was restarted on this one. */
+lis_status lis_line_start(lis_line *line, lis_bytes *out, lis_place *fault);
+lis_status lis_line_start_lent(lis_line *line, const lis_text *texts, size_t texts_len, lis_bytes *out,
+                               lis_place *fault);
+/* A byte came over the connection of this number: as lis_sender_reply if it is the present one, and no session failed
+ * on it; else the byte is dropped, and nothing is to be sent. */
+void lis_line_reply(lis_line *line, uint64_t connection, uint8_t byte, lis_bytes *out);
+/* As lis_sender_timer and lis_sender_restart. */
+void lis_line_timer(lis_line *line, lis_bytes *out);
+void lis_line_restart(lis_line *line);
 
 /* ---- Receiver. ---- */
 

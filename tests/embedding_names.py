@@ -1,7 +1,6 @@
 """The header's constants: each has words of its own in examples/c/names.c, the version is that of VERSION, and one of
 another family is noticed by a compiler."""
 import os
-import re
 import subprocess
 
 ROOT = os.path.dirname(os.path.dirname(os.path.abspath(__file__)))
@@ -23,8 +22,8 @@ def program(families):
         call = CALL.get(family, f"{family}_text")
         numbers = [*constants.values(), max(constants.values()) + 1, 255]
         lines += [f'    printf("%s %d %s\\n", "{family}", {number}, {call}(({family}){number}));' for number in numbers]
-    body = "\n".join(lines)
-    return f'#include "lislink.h"\n#include <stdio.h>\nint main(void) {{\n    puts(lis_version());\n{body}\n    return 0;\n}}\n'
+    head = ['#include "lislink.h"', "#include <stdio.h>", "int main(void) {", "    puts(lis_version());"]
+    return "\n".join([*head, *lines, "    return 0;", "}", ""])
 
 
 def of_words(count, families, printed):
@@ -42,27 +41,18 @@ def of_words(count, families, printed):
     count.check(len(families) == 9, f"the header has {len(families)} families")
 
 
-def of_macros(count, header):
-    macros = dict(re.findall(r'^#define (LIS_VERSION\w*) "?([\d.]+)"?$', header, re.M))
-    parts = version().split(".")
-    wanted = {"LIS_VERSION": version(), **{f"LIS_VERSION_{name}": part for name, part in
-                                          zip(("MAJOR", "MINOR", "PATCH"), parts)}}
-    count.check(macros == wanted, f"the header's version is {macros}, VERSION is {version()}")
-
-
 def of_families(count, work):
     """A constant of another family is an error, or a warning of -Wextra; one of its own family is fine."""
     for constant, fine in (("LIS_READY_BUSY", True), ("LIS_PHASE_BUSY", False)):
         with open(f"{work}/sets.c", "w") as file:
             file.write(SETS.format(constant))
         for words in COMPILERS:
-            ran = subprocess.run([*words, "-Wall", "-Wextra", "-Werror", f"-I{ROOT}/include", "-c", f"{work}/sets.c", "-o",
-                                  f"{work}/sets.o"], capture_output=True, text=True)
+            flags = ["-Wall", "-Wextra", "-Werror", f"-I{ROOT}/include", "-c", f"{work}/sets.c", "-o", f"{work}/sets.o"]
+            ran = subprocess.run([*words, *flags], capture_output=True, text=True)
             count.check((ran.returncode == 0) == fine, f"{' '.join(words)}: {constant} as a readiness: {ran.stderr}")
 
 
-def check(count, families, header, work, flags):
-    of_macros(count, header)
+def check(count, families, work, flags):
     of_families(count, work)
     with open(f"{work}/names.c", "w") as file:
         file.write(program(families))

@@ -1,12 +1,12 @@
-/* An analyzer: sends the texts of a message in one session, and tells how it ended. */
+/* An analyzer: sends the texts of a message in one session, and reports how it ended. */
 #include "loops.h"
 #include <poll.h>
 #include <stdlib.h>
 #include <string.h>
 #include <unistd.h>
 
-/* How long the sender waits for a reply where it stands, before its timer runs out. */
-static int seconds(uint8_t phase) {
+/* How long the sender waits for a reply in a phase, before its timer runs out. */
+static int seconds(lis_phase phase) {
     switch (phase) {
     case LIS_PHASE_BUSY:
         return LIS_SECONDS_BUSY;
@@ -17,7 +17,7 @@ static int seconds(uint8_t phase) {
     }
 }
 
-/* Waits for one byte: 1 and the byte, 0 where the time is over, -1 where the line is closed. */
+/* Waits for one byte: 1 and the byte, 0 if the time is over, -1 if the line is closed. */
 static int await(int line, long long until, uint8_t *byte) {
     long long left = until - milliseconds();
     struct pollfd ready = {line, POLLIN, 0};
@@ -33,7 +33,8 @@ static bool put(int line, const lis_bytes *out) {
 /* Goes on with a session that was started until it is over. */
 static int run(int line, lis_sender *sender, lis_bytes *out, int percent) {
     while (put(line, out)) {
-        uint8_t phase = lis_sender_phase(sender), byte;
+        lis_phase phase = lis_sender_phase(sender);
+        uint8_t byte;
         if (phase == LIS_PHASE_NEUTRAL)
             return lis_sender_outcome(sender);
         long long until = milliseconds() + seconds(phase) * 10LL * percent;
@@ -69,5 +70,16 @@ int analyzer(int line, const char *const *texts, size_t count, int percent) {
         outcome = run(line, &sender, &out, percent);
     lis_sender_end(sender);
     free(sender.at);
+    return outcome;
+}
+
+int deliver(analyzer_line *line, const char *const *texts, size_t count, int percent) {
+    if (line->fd < 0 && (line->fd = line->connect(line->how)) < 0)
+        return -1;
+    int outcome = analyzer(line->fd, texts, count, percent);
+    if (outcome != LIS_OUTCOME_DONE) {
+        close(line->fd);    /* a reply that comes now must not meet the next session */
+        line->fd = -1;
+    }
     return outcome;
 }

@@ -1,70 +1,97 @@
-/* A computer that hears an analyzer: keeps each text, and then answers. */
+/* A computer that hears an analyzer: keeps each text, and then replies in time. */
 #include "loops.h"
 #include <poll.h>
 #include <stdlib.h>
 #include <unistd.h>
 
-/* Keeps the text that was handed out. */
-static bool keep(lis_receiver *receiver, host_takes *takes, void *keeper) {
-    size_t len = lis_receiver_text_len(receiver);
+/* A host at work. A step that meant something begins the receiver's timer anew, which is over when it is `due`. The
+ * bytes in hand came after the line was seen `empty`. */
+struct work {
+    int line;
+    int percent;
+    lis_receiver receiver;
+    host_takes *takes;
+    void *keeper;
+    long long due;
+    long long empty;
+};
+
+static long long scaled(const struct work *work, int seconds) {
+    return seconds * 10LL * work->percent;
+}
+
+/* Keeps the text that is complete. */
+static bool keep(struct work *work) {
+    size_t len = lis_receiver_text_len(&work->receiver);
     uint8_t *text = malloc(len + 1);
-    bool kept = text != NULL && lis_receiver_text(receiver, text, len) == LIS_STATUS_OK && takes(keeper, text, len);
+    bool kept = text != NULL && lis_receiver_text(&work->receiver, text, len) == LIS_STATUS_OK
+        && work->takes(work->keeper, text, len);
     free(text);
     return kept;
 }
 
-/* Hears bytes that came together, and answers each step; whether the line takes the replies. Each step that meant
- * something begins the timer anew, which is then over when it is `due`. */
-static bool hear(int line, lis_receiver *receiver, const uint8_t *bytes, size_t len, host_takes *takes, void *keeper,
-                 int percent, long long *due) {
+/* Whether a reply to the bytes in hand could come after the sender's timer: two thirds of it are over. */
+static bool is_late(const struct work *work) {
+    return milliseconds() - work->empty > scaled(work, LIS_SECONDS_REPLY) * 2 / 3;
+}
+
+/* Hears bytes that came together, and answers each step; whether the line takes the replies. */
+static bool hear(struct work *work, const uint8_t *bytes, size_t len) {
     lis_step step;
     while (len > 0) {
-        size_t heard = lis_receiver_hear(receiver, bytes, len, &step);
+        size_t heard = lis_receiver_hear(&work->receiver, bytes, len, &step);
         bytes += heard;
         len -= heard;
-        if (step.has_text && !keep(receiver, takes, keeper)) {
+        if ((step.has_text && !keep(work)) || (step.reply != 0 && is_late(work))) {
             /* No reply: the session fails, and the analyzer sends its texts again. */
-            lis_receiver_restart(receiver);
+            lis_receiver_restart(&work->receiver);
             return true;
         }
-        if (step.reply != 0 && write(line, &step.reply, 1) != 1)
+        if (step.reply != 0 && write(work->line, &step.reply, 1) != 1)
             return false;
         if (step.note != LIS_NOTE_QUIET)
-            *due = milliseconds() + LIS_SECONDS_RECEIVER * 10LL * percent;
+            work->due = milliseconds() + scaled(work, LIS_SECONDS_RECEIVER);
     }
     return true;
 }
 
-/* How long the timer still runs; -1 where it doesn't, since the line isn't open. */
-static int left(lis_receiver *receiver, long long due) {
-    long long left = due - milliseconds();
-    if (!lis_receiver_is_open(receiver))
-        return -1;
-    return left > 0 ? (int)left : 0;
+/* Waits for bytes; false if the receiver's timer is over first. It looks often, so that it knows how old they are. */
+static bool await(struct work *work) {
+    struct pollfd ready = {work->line, POLLIN, 0};
+    long long pause = scaled(work, 1);
+    for (;;) {
+        long long now = milliseconds(), left = work->due - now;
+        bool open = lis_receiver_is_open(&work->receiver);
+        if (open && left <= 0)
+            return false;
+        if (poll(&ready, 1, (int)(open && left < pause ? left : pause)) != 0)
+            return true;
+        work->empty = now;
+    }
 }
 
 int host(int line, host_takes *takes, void *keeper, int percent) {
-    lis_receiver receiver = {malloc(lis_receiver_size())};
+    struct work work = {line, percent, {malloc(lis_receiver_size())}, takes, keeper, 0, milliseconds()};
     uint8_t bytes[512];
-    long long due = 0;
     ssize_t got = 1;
-    if (receiver.at == NULL)
+    if (work.receiver.at == NULL)
         return -1;
-    lis_receiver_init(receiver.at);
+    lis_receiver_init(work.receiver.at);
     while (got > 0) {
-        struct pollfd ready = {line, POLLIN, 0};
-        int wait = left(&receiver, due);
         /* The timer runs on while bytes come that mean nothing. */
-        if (wait == 0 || poll(&ready, 1, wait) == 0) {
+        if (!await(&work)) {
             lis_step step;
-            lis_receiver_timer(&receiver, &step);
+            lis_receiver_timer(&work.receiver, &step);
             continue;
         }
+        long long before = milliseconds();
         got = read(line, bytes, sizeof bytes);
-        if (got > 0 && !hear(line, &receiver, bytes, (size_t)got, takes, keeper, percent, &due))
+        if (got > 0 && !hear(&work, bytes, (size_t)got))
             got = -1;
+        if (got < (ssize_t)sizeof bytes)
+            work.empty = before;    /* this read took all that there was */
     }
-    lis_receiver_end(receiver);
-    free(receiver.at);
+    lis_receiver_end(work.receiver);
+    free(work.receiver.at);
     return got < 0 ? -1 : 0;
 }

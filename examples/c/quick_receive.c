@@ -2,10 +2,18 @@
  * Each text is on the disk before it is acknowledged. (host.c runs the receiver's timer too.) */
 #include <lislink.h>
 #include <fcntl.h>
+#include <poll.h>
 #include <stdlib.h>
+#include <time.h>
 #include <unistd.h>
 
-/* Appends the text that was handed out to a file. */
+static time_t now(void) {
+    struct timespec now;
+    clock_gettime(CLOCK_MONOTONIC, &now);
+    return now.tv_sec;
+}
+
+/* Appends the text that is complete to a file. */
 static bool keep(lis_receiver *receiver, int store) {
     size_t len = lis_receiver_text_len(receiver);
     uint8_t *text = malloc(len + 1);
@@ -15,13 +23,18 @@ static bool keep(lis_receiver *receiver, int store) {
     return kept;
 }
 
-/* Hears bytes that came; whether the line takes the replies. */
-static bool hear(lis_receiver *receiver, const uint8_t *bytes, size_t got, int line, int store) {
+/* Whether a reply to bytes that came after a time could come after the sender's timer. */
+static bool is_late(time_t since) {
+    return now() - since > LIS_SECONDS_REPLY * 2 / 3;
+}
+
+/* Hears bytes that came after a time; whether the line takes the replies. */
+static bool hear(lis_receiver *receiver, const uint8_t *bytes, size_t got, time_t since, int line, int store) {
     lis_step step;
     for (size_t heard = 0; heard < got;) {
         heard += lis_receiver_hear(receiver, bytes + heard, got - heard, &step);
-        if (step.has_text && !keep(receiver, store)) {                    /* keep, then reply */
-            lis_receiver_restart(receiver);                               /* not kept: no reply */
+        if ((step.has_text && !keep(receiver, store)) || is_late(since)) {    /* keep, then reply in time */
+            lis_receiver_restart(receiver);                                   /* else no reply */
             return true;
         }
         if (step.reply != 0 && write(line, &step.reply, 1) != 1)
@@ -30,16 +43,29 @@ static bool hear(lis_receiver *receiver, const uint8_t *bytes, size_t got, int l
     return true;
 }
 
+/* Reads what came. It came after `since`, and what the next read gives after `next`. */
+static ssize_t read_some(int line, uint8_t *bytes, size_t room, time_t *since, time_t *next) {
+    struct pollfd ready = {line, POLLIN, 0};
+    time_t before = now();
+    for (; poll(&ready, 1, 1000) == 0; before = now())
+        *since = before;                                                  /* there was nothing yet */
+    ssize_t got = read(line, bytes, room);
+    *next = got < (ssize_t)room ? before : *since;                        /* a full buffer may have left some */
+    return got;
+}
+
 int main(int count, char **words) {
     int store = count == 2 ? open(words[1], O_WRONLY | O_CREAT | O_APPEND, 0600) : -1;
     lis_receiver receiver = {malloc(lis_receiver_size())};                /* a block of the caller's */
     uint8_t bytes[512];
     ssize_t got;
+    time_t since = now(), next;
     if (store < 0 || receiver.at == NULL)
         return 1;
     lis_receiver_init(receiver.at);
-    while ((got = read(0, bytes, sizeof bytes)) > 0 && hear(&receiver, bytes, (size_t)got, 0, store))
-        ;
+    while ((got = read_some(0, bytes, sizeof bytes, &since, &next)) > 0
+           && hear(&receiver, bytes, (size_t)got, since, 0, store))
+        since = next;
     lis_receiver_end(receiver);                                           /* the block is the caller's again */
     free(receiver.at);
     close(store);

@@ -1,9 +1,11 @@
 /* Sends a text in a session, on the line that is its standard input: quick_send TEXT <>/dev/ttyUSB0. Its status is 0
- * where the host acknowledged the text. */
+ * if the host acknowledged the text. A reply that an earlier process left on a serial port could be taken for one of
+ * ours: so it waits first, and drops what came. A connection has to be new. */
 #include <lislink.h>
 #include <poll.h>
 #include <stdlib.h>
 #include <string.h>
+#include <termios.h>
 #include <time.h>
 #include <unistd.h>
 
@@ -47,6 +49,11 @@ static bool send_text(int line, const uint8_t *text, size_t len) {
     return done;
 }
 
+/* Whether no late reply can come any more on a line that was in use before. */
+static bool is_settled(int line) {
+    return !isatty(line) || (sleep(LIS_SECONDS_RECEIVER) == 0 && tcflush(line, TCIFLUSH) == 0);
+}
+
 int main(int count, char **words) {
-    return count == 2 && send_text(0, (const uint8_t *)words[1], strlen(words[1])) ? 0 : 1;
+    return count == 2 && is_settled(0) && send_text(0, (const uint8_t *)words[1], strlen(words[1])) ? 0 : 1;
 }

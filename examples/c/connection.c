@@ -1,0 +1,57 @@
+/* A sender and the connection that it uses: a reply of an earlier connection is dropped, and no session starts if a
+ * late reply could meet it. Part of liblislink. Plain C over the proved calls: it is tested and not proved. */
+#include "lislink.h"
+
+/* Notes whether a late reply may come on this connection: the session that just ended was not answered. */
+static void settle(lis_line *line) {
+    lis_outcome outcome = lis_sender_outcome(&line->sender);
+    line->spent = line->spent || outcome == LIS_OUTCOME_TIMED_OUT || outcome == LIS_OUTCOME_RESTARTED;
+}
+
+void lis_line_init(lis_line *line, lis_sender sender) {
+    line->sender = sender;
+    line->connection = 0;
+    line->spent = true;
+}
+
+uint64_t lis_line_connected(lis_line *line) {
+    lis_sender_restart(&line->sender);
+    line->spent = false;
+    return ++line->connection;
+}
+
+lis_status lis_line_start(lis_line *line, lis_bytes *out, lis_place *fault) {
+    if (!line->spent)
+        return lis_sender_start(&line->sender, out, fault);
+    fault->index = fault->place = 0;
+    return LIS_STATUS_OLD_LINE;
+}
+
+lis_status lis_line_start_lent(lis_line *line, const lis_text *texts, size_t texts_len, lis_bytes *out,
+                               lis_place *fault) {
+    if (!line->spent)
+        return lis_sender_start_lent(&line->sender, texts, texts_len, out, fault);
+    fault->index = fault->place = 0;
+    return LIS_STATUS_OLD_LINE;
+}
+
+void lis_line_reply(lis_line *line, uint64_t connection, uint8_t byte, lis_bytes *out) {
+    out->len = 0;
+    if (connection != line->connection || line->spent)
+        return;
+    lis_sender_reply(&line->sender, byte, out);
+}
+
+void lis_line_timer(lis_line *line, lis_bytes *out) {
+    bool session = lis_sender_phase(&line->sender) != LIS_PHASE_NEUTRAL;
+    lis_sender_timer(&line->sender, out);
+    if (session)
+        settle(line);
+}
+
+void lis_line_restart(lis_line *line) {
+    bool session = lis_sender_phase(&line->sender) != LIS_PHASE_NEUTRAL;
+    lis_sender_restart(&line->sender);
+    if (session)
+        settle(line);
+}

@@ -1,0 +1,134 @@
+/* The calls of examples/c/connection.c: a reply of an earlier connection is dropped, and no session starts where a late
+ * reply could meet it. Prints how many things were compared. */
+#include "lislink.h"
+#include <stdio.h>
+#include <stdlib.h>
+
+enum { EOT = 4, ENQ = 5, ACK = 6, NAK = 21 };
+
+static int compared;
+static lis_line line;
+static lis_bytes out;
+static lis_place fault;
+
+static void same(long long found, long long wanted, int at) {
+    compared++;
+    if (found != wanted) {
+        fprintf(stderr, "line %d: %lld, wanted %lld\n", at, found, wanted);
+        exit(1);
+    }
+}
+#define SAME(found, wanted) same((long long)(found), (long long)(wanted), __LINE__)
+
+static void add(void) {
+    SAME(lis_sender_add_text(&line.sender, (const uint8_t *)"L|1\r", 4), LIS_STATUS_OK);
+}
+
+/* Starts a session, which sends ENQ. */
+static void starts(void) {
+    add();
+    SAME(lis_line_start(&line, &out, &fault), LIS_STATUS_OK);
+    SAME(out.len, 1);
+    SAME(out.bytes[0], ENQ);
+}
+
+/* No session starts, and its texts stay. */
+static void starts_not(void) {
+    static const lis_text texts[] = {{(const uint8_t *)"L|1\r", 4}};
+    fault.index = fault.place = 9;
+    SAME(lis_line_start(&line, &out, &fault), LIS_STATUS_OLD_LINE);
+    SAME(fault.index + fault.place, 0);
+    fault.index = fault.place = 9;
+    SAME(lis_line_start_lent(&line, texts, 1, &out, &fault), LIS_STATUS_OLD_LINE);
+    SAME(fault.index + fault.place, 0);
+    SAME(lis_sender_phase(&line.sender), LIS_PHASE_NEUTRAL);
+}
+
+/* A byte of a connection is dropped: nothing is to be sent, and the phase is as before. */
+static void drops(uint64_t connection, uint8_t byte) {
+    lis_phase phase = lis_sender_phase(&line.sender);
+    out.len = 9;
+    lis_line_reply(&line, connection, byte, &out);
+    SAME(out.len, 0);
+    SAME(lis_sender_phase(&line.sender), phase);
+}
+
+/* A session of one frame, acknowledged to its end. */
+static void is_done(uint64_t connection) {
+    lis_line_reply(&line, connection, ACK, &out);
+    SAME(out.len, 11);
+    lis_line_reply(&line, connection, ACK, &out);
+    SAME(out.len, 1);
+    SAME(out.bytes[0], EOT);
+    SAME(lis_sender_outcome(&line.sender), LIS_OUTCOME_DONE);
+}
+
+static void of_timeouts(void) {
+    add();
+    starts_not();                                   /* a new process: there is no connection yet */
+    drops(0, ENQ);
+    uint64_t first = lis_line_connected(&line);
+    SAME(lis_line_start(&line, &out, &fault), LIS_STATUS_OK);
+    is_done(first);
+    lis_line_timer(&line, &out);                    /* no session goes on: the connection is as good as before */
+    lis_line_restart(&line);
+    starts();
+    lis_line_timer(&line, &out);
+    SAME(out.bytes[0], EOT);
+    add();
+    starts_not();                                   /* the ACK to the ENQ may still come */
+    drops(first, ACK);
+    drops(first, ENQ);
+    uint64_t second = lis_line_connected(&line);
+    SAME(second != first, 1);
+    SAME(lis_line_start(&line, &out, &fault), LIS_STATUS_OK);
+    drops(first, ACK);                              /* it came, over the old connection */
+    is_done(second);
+}
+
+static void of_restarts(void) {
+    static const lis_text texts[] = {{(const uint8_t *)"L|1\r", 4}};
+    uint64_t first = lis_line_connected(&line);
+    starts();
+    lis_line_restart(&line);
+    SAME(lis_sender_outcome(&line.sender), LIS_OUTCOME_RESTARTED);
+    starts_not();
+    first = lis_line_connected(&line);
+    starts();
+    uint64_t second = lis_line_connected(&line);    /* in mid-session: it is restarted */
+    SAME(lis_sender_outcome(&line.sender), LIS_OUTCOME_RESTARTED);
+    SAME(lis_line_start_lent(&line, texts, 1, &out, &fault), LIS_STATUS_OK);
+    drops(first, ACK);
+    lis_line_reply(&line, second, NAK, &out);
+    SAME(lis_sender_phase(&line.sender), LIS_PHASE_BUSY);
+    lis_line_timer(&line, &out);                    /* busy: the session goes on */
+    SAME(out.bytes[0], ENQ);
+    is_done(second);
+}
+
+/* Six tries are answered each: the connection may be used again. */
+static void of_tries(void) {
+    uint64_t first = lis_line_connected(&line);
+    starts();
+    lis_line_reply(&line, first, ACK, &out);
+    for (int turn = 0; turn < 6; turn++)
+        lis_line_reply(&line, first, NAK, &out);
+    SAME(lis_sender_outcome(&line.sender), LIS_OUTCOME_SIX_TRIES);
+    starts();
+    is_done(first);
+}
+
+int main(void) {
+    lis_sender sender = {malloc(lis_sender_size())};
+    if (sender.at == NULL)
+        return 2;
+    lis_sender_init(sender.at);
+    lis_line_init(&line, sender);
+    of_timeouts();
+    of_restarts();
+    of_tries();
+    lis_sender_end(line.sender);
+    free(line.sender.at);
+    printf("%d compared\n", compared);
+    return 0;
+}
