@@ -1,0 +1,111 @@
+//! Frames, and the scanner that reads them.
+use crate::{block::Block, Error, Fault};
+use lislink_sys as sys;
+use std::mem::MaybeUninit;
+use std::ops::Deref;
+
+/// Bytes to be sent; there may be none.
+#[derive(Clone, Copy)]
+pub struct Bytes(sys::lis_bytes);
+
+impl Bytes {
+    pub(crate) fn none() -> Self {
+        Bytes(sys::lis_bytes { len: 0, bytes: [0; sys::LIS_LIMIT_FRAME_BYTES as usize] })
+    }
+
+    pub(crate) fn get(&mut self) -> *mut sys::lis_bytes {
+        &mut self.0
+    }
+}
+
+impl Deref for Bytes {
+    type Target = [u8];
+    fn deref(&self) -> &[u8] {
+        &self.0.bytes[..self.0.len]
+    }
+}
+
+impl std::fmt::Debug for Bytes {
+    fn fmt(&self, f: &mut std::fmt::Formatter<'_>) -> std::fmt::Result {
+        self.deref().fmt(f)
+    }
+}
+
+/// The bytes of a frame with this number and text; `last` if it ends its message.
+pub fn frame(number: u8, last: bool, text: &[u8]) -> Result<Bytes, Error> {
+    let (mut out, mut place) = (Bytes::none(), 0);
+    let status = unsafe {
+        sys::lis_frame_write(number, last, text.as_ptr(), text.len(), out.get(), &mut place)
+    };
+    Error::of(status, 0, place)?;
+    Ok(out)
+}
+
+/// What a scanner reads.
+#[derive(Clone, Debug, PartialEq, Eq)]
+pub enum Signal {
+    /// ENQ.
+    Enq,
+    /// EOT.
+    Eot,
+    /// A good frame.
+    Frame {
+        /// Its number.
+        number: u8,
+        /// Whether it ends its message.
+        last: bool,
+        /// Its text.
+        text: Vec<u8>,
+    },
+    /// A bad frame, and the byte of its text that no text may hold.
+    BadFrame(Fault, usize),
+}
+
+/// Reads bytes of the link.
+pub struct Scanner(Block<sys::lis_scanner>);
+
+impl Default for Scanner {
+    fn default() -> Self {
+        Self::new()
+    }
+}
+
+impl Scanner {
+    /// A scanner that has read nothing.
+    pub fn new() -> Self {
+        Scanner(Block::new())
+    }
+
+    /// The signals of these bytes. What the iterator was not asked for is not read.
+    pub fn feed<'a>(&'a mut self, bytes: &'a [u8]) -> impl Iterator<Item = Signal> + 'a {
+        let mut rest = bytes;
+        std::iter::from_fn(move || {
+            while !rest.is_empty() {
+                let mut out = MaybeUninit::<sys::lis_signal>::zeroed();
+                let scanner = self.0.get();
+                let read = unsafe {
+                    sys::lis_scanner_feed(scanner, rest.as_ptr(), rest.len(), out.as_mut_ptr())
+                };
+                rest = &rest[read..];
+                if let Some(signal) = signal_of(unsafe { &*out.as_ptr() }) {
+                    return Some(signal);
+                }
+            }
+            None
+        })
+    }
+}
+
+fn signal_of(found: &sys::lis_signal) -> Option<Signal> {
+    match found.kind {
+        sys::LIS_SIGNAL_ENQ => Some(Signal::Enq),
+        sys::LIS_SIGNAL_EOT => Some(Signal::Eot),
+        sys::LIS_SIGNAL_FRAME => Some(Signal::Frame {
+            number: found.number,
+            last: found.last,
+            text: found.text[..found.len].to_vec(),
+        }),
+        sys::LIS_SIGNAL_BAD_FRAME => Some(Signal::BadFrame(Fault::of(found.fault), found.place)),
+        _ => None,
+    }
+}

@@ -1,0 +1,61 @@
+//! The analyzer side of the laboratory link of CLSI LIS01-A2 (ASTM E1381), and the records of CLSI LIS02-A2
+//! (ASTM E1394), over the C calls of liblislink. The C calls are proved; this crate is tested and not proved.
+//!
+//! - A [`Receiver`] hears bytes. [`Receiver::hear`] keeps each text before it gives the reply that acknowledges it.
+//! - A [`Sender`] sends texts. A session starts only on a [`Connection`] on which no late reply can come.
+//! - A [`Reader`] reads the records of a stream, a [`Writer`] writes them, a [`Scanner`] reads frames alone.
+//!
+//! Nothing here does input or output or has a clock: the caller moves the bytes and runs the timers.
+//!
+//! Each of these is `Send` and not `Sync`: one thread at a time uses it.
+#![deny(missing_docs)]
+
+mod block;
+mod codes;
+mod frame;
+mod reader;
+mod receiver;
+mod sender;
+mod writer;
+
+pub use codes::{Fault, Note, Outcome, Phase, Ready, Reason, Status};
+pub use frame::{frame, Bytes, Scanner, Signal};
+pub use reader::{MessageError, Reader, Record, Records};
+pub use receiver::{Heard, Receiver, Step};
+pub use sender::{Connection, Sender, Text};
+pub use writer::{Delimiters, Writer};
+
+use std::fmt;
+
+/// Why a call did nothing: its status, and which text and byte is at fault (0 if none is).
+#[derive(Clone, Copy, Debug, PartialEq, Eq)]
+pub struct Error {
+    /// What the call answered.
+    pub status: Status,
+    /// The text of a session, from 0, or the field of a record.
+    pub index: usize,
+    /// The byte of it that no text may hold.
+    pub place: usize,
+}
+
+impl Error {
+    fn of(status: u8, index: usize, place: usize) -> Result<(), Error> {
+        match Status::of(status) {
+            Status::Ok => Ok(()),
+            status => Err(Error { status, index, place }),
+        }
+    }
+}
+
+impl fmt::Display for Error {
+    fn fmt(&self, f: &mut fmt::Formatter<'_>) -> fmt::Result {
+        self.status.fmt(f)
+    }
+}
+
+impl std::error::Error for Error {}
+
+/// The release of the library.
+pub fn version() -> &'static str {
+    codes::words(unsafe { lislink_sys::lis_version() })
+}

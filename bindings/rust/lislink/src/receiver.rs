@@ -1,0 +1,162 @@
+//! The receiver.
+use crate::{block::Block, Error, Note, Ready};
+use lislink_sys as sys;
+
+/// What a byte or the timer meant.
+#[derive(Clone, Copy, Debug, PartialEq, Eq)]
+pub struct Step {
+    /// What it meant.
+    pub note: Note,
+    /// The frame's number, or the number of its fault.
+    pub detail: u8,
+    /// The byte that no text may hold.
+    pub place: usize,
+}
+
+/// How hearing went.
+#[derive(Clone, Copy, Debug, PartialEq, Eq)]
+#[must_use]
+pub enum Heard {
+    /// Each text was kept, and each reply sent.
+    All,
+    /// A text was not kept or a reply not sent: the receiver restarted, and the bytes after it were dropped.
+    GaveUp,
+}
+
+/// Receives texts.
+pub struct Receiver {
+    block: Block<sys::lis_receiver>,
+    text: Vec<u8>,
+}
+
+impl Default for Receiver {
+    fn default() -> Self {
+        Self::new()
+    }
+}
+
+/// Restarts the receiver unless all went well, also if a closure panics.
+struct Guard<'a> {
+    receiver: &'a mut Receiver,
+    good: bool,
+}
+
+impl Drop for Guard<'_> {
+    fn drop(&mut self) {
+        if !self.good {
+            self.receiver.restart();
+        }
+    }
+}
+
+impl Receiver {
+    /// A receiver, neutral and ready.
+    pub fn new() -> Self {
+        Receiver { block: Block::new(), text: Vec::new() }
+    }
+
+    /// Hears bytes. For each text that is complete `keep` is called, and only if it says true `send`, with the reply.
+    /// Else no reply is sent, so that the sender keeps its texts and sends them again. If `keep` may take longer than
+    /// the sender's timer of 15 seconds, `send` looks at the clock and says false: a late reply must not be sent.
+    pub fn hear(
+        &mut self,
+        bytes: &[u8],
+        keep: impl FnMut(&[u8]) -> bool,
+        send: impl FnMut(u8) -> bool,
+    ) -> Heard {
+        self.hear_each(bytes, keep, send, |_| ())
+    }
+
+    /// The same, with each step that means something before its text is kept.
+    pub fn hear_each(
+        &mut self,
+        bytes: &[u8],
+        mut keep: impl FnMut(&[u8]) -> bool,
+        mut send: impl FnMut(u8) -> bool,
+        mut each: impl FnMut(Step),
+    ) -> Heard {
+        let mut rest = bytes;
+        while !rest.is_empty() {
+            let mut step = no_step();
+            let receiver = self.block.get();
+            let heard =
+                unsafe { sys::lis_receiver_hear(receiver, rest.as_ptr(), rest.len(), &mut step) };
+            rest = &rest[heard..];
+            if step.note != sys::LIS_NOTE_QUIET {
+                each(step_of(&step));
+            }
+            let mut guard = Guard { receiver: self, good: false };
+            guard.good = (!step.has_text || guard.receiver.keeps(&mut keep))
+                && (step.reply == 0 || send(step.reply));
+            if !guard.good {
+                return Heard::GaveUp;
+            }
+        }
+        Heard::All
+    }
+
+    /// Whether the text that is complete is kept.
+    fn keeps(&mut self, keep: &mut impl FnMut(&[u8]) -> bool) -> bool {
+        let receiver = self.block.get();
+        let len = unsafe { sys::lis_receiver_text_len(receiver) };
+        self.text.clear();
+        if self.text.try_reserve(len).is_err() {
+            return false;
+        }
+        self.text.resize(len, 0);
+        let status = unsafe { sys::lis_receiver_text(receiver, self.text.as_mut_ptr(), len) };
+        status == sys::LIS_STATUS_OK && keep(&self.text)
+    }
+
+    /// The receiver's timer ran out, 30 seconds after the last step that meant something.
+    pub fn timer(&mut self) -> Step {
+        let mut step = no_step();
+        unsafe { sys::lis_receiver_timer(self.block.get(), &mut step) };
+        step_of(&step)
+    }
+
+    /// Gives up what goes on: for a connection that was lost, before the first byte of the next.
+    pub fn restart(&mut self) {
+        unsafe { sys::lis_receiver_restart(self.block.get()) };
+    }
+
+    /// Whether there is room for another frame from now on.
+    pub fn set_room(&mut self, room: bool) {
+        unsafe { sys::lis_receiver_set_room(self.block.get(), room) };
+    }
+
+    /// How ENQ is answered from now on.
+    pub fn set_ready(&mut self, ready: Ready) -> Result<(), Error> {
+        let status = unsafe { sys::lis_receiver_set_ready(self.block.get(), ready.number()) };
+        Error::of(status, 0, 0)
+    }
+
+    /// Makes room for so many more bytes of text.
+    pub fn reserve(&mut self, bytes: u64) -> Result<(), Error> {
+        let status = unsafe { sys::lis_receiver_reserve(self.block.get(), bytes) };
+        Error::of(status, 0, 0)
+    }
+
+    /// Whether the line is open, and so the receiver's timer runs.
+    pub fn is_open(&mut self) -> bool {
+        unsafe { sys::lis_receiver_is_open(self.block.get()) }
+    }
+
+    /// How many frames were accepted since the line was opened.
+    pub fn accepted(&mut self) -> u64 {
+        unsafe { sys::lis_receiver_accepted(self.block.get()) }
+    }
+
+    /// How many bytes are held of a text that isn't complete.
+    pub fn held(&mut self) -> u64 {
+        unsafe { sys::lis_receiver_held(self.block.get()) }
+    }
+}
+
+fn no_step() -> sys::lis_step {
+    sys::lis_step { reply: 0, has_text: false, note: 0, detail: 0, place: 0 }
+}
+
+fn step_of(step: &sys::lis_step) -> Step {
+    Step { note: Note::of(step.note), detail: step.detail, place: step.place }
+}

@@ -1,0 +1,132 @@
+//! The sender, and the connection that it uses.
+use crate::{block::Block, Bytes, Error, Outcome, Phase};
+use lislink_sys as sys;
+use std::marker::PhantomData;
+use std::time::Duration;
+
+/// A connection of a sender, by its number: what came over an earlier one is dropped.
+#[derive(Clone, Copy, Debug, PartialEq, Eq)]
+pub struct Connection(u64);
+
+/// A text that stays with its owner.
+#[repr(transparent)]
+#[derive(Clone, Copy)]
+pub struct Text<'t>(sys::lis_text, PhantomData<&'t [u8]>);
+
+unsafe impl Send for Text<'_> {}
+unsafe impl Sync for Text<'_> {}
+
+impl<'t> From<&'t [u8]> for Text<'t> {
+    fn from(text: &'t [u8]) -> Self {
+        Text(sys::lis_text { bytes: text.as_ptr(), bytes_len: text.len() }, PhantomData)
+    }
+}
+
+/// Sends texts. The bytes that a call gives are to be sent; there may be none.
+pub struct Sender<'t> {
+    line: sys::lis_line,
+    _block: Block<sys::lis_sender>,
+    texts: PhantomData<&'t [u8]>,
+}
+
+// The line has the handle of the block, which is used by it alone.
+unsafe impl Send for Sender<'_> {}
+
+impl Default for Sender<'_> {
+    fn default() -> Self {
+        Self::new()
+    }
+}
+
+impl<'t> Sender<'t> {
+    /// A sender without a connection.
+    pub fn new() -> Self {
+        let block = Block::new();
+        let sender = block.handle();
+        let mut line = sys::lis_line { sender, connection: 0, spent: true };
+        unsafe { sys::lis_line_init(&mut line, sender) };
+        Sender { line, _block: block, texts: PhantomData }
+    }
+
+    /// A new connection was made; or a serial line was waited for, longer than the computer takes to answer, and what
+    /// came was dropped. A session that goes on is restarted.
+    pub fn connected(&mut self) -> Connection {
+        Connection(unsafe { sys::lis_line_connected(&mut self.line) })
+    }
+
+    /// Adds a copy of a text to the next session.
+    pub fn add(&mut self, text: &[u8]) -> Result<(), Error> {
+        let status =
+            unsafe { sys::lis_sender_add_text(&mut self.line.sender, text.as_ptr(), text.len()) };
+        Error::of(status, 0, 0)
+    }
+
+    /// Drops the texts of the next session.
+    pub fn clear(&mut self) {
+        unsafe { sys::lis_sender_clear(&mut self.line.sender) };
+    }
+
+    /// Starts a session with the texts that were added, which gives ENQ. [`Status::OldLine`](crate::Status::OldLine)
+    /// before [`connected`](Self::connected), and after a session that timed out or was restarted. The texts of the
+    /// session are gone when it is over, however it ended.
+    pub fn start(&mut self) -> Result<Bytes, Error> {
+        let (mut out, mut fault) = (Bytes::none(), sys::lis_place { index: 0, place: 0 });
+        let status = unsafe { sys::lis_line_start(&mut self.line, out.get(), &mut fault) };
+        Error::of(status, fault.index, fault.place)?;
+        Ok(out)
+    }
+
+    /// The same with texts that stay with their owner, and without memory.
+    pub fn start_lent(&mut self, texts: &'t [Text<'t>]) -> Result<Bytes, Error> {
+        let (mut out, mut fault) = (Bytes::none(), sys::lis_place { index: 0, place: 0 });
+        let (line, first) = (&mut self.line, texts.as_ptr().cast());
+        let status =
+            unsafe { sys::lis_line_start_lent(line, first, texts.len(), out.get(), &mut fault) };
+        Error::of(status, fault.index, fault.place)?;
+        Ok(out)
+    }
+
+    /// A byte came over a connection.
+    pub fn reply(&mut self, from: Connection, byte: u8) -> Bytes {
+        let mut out = Bytes::none();
+        unsafe { sys::lis_line_reply(&mut self.line, from.0, byte, out.get()) };
+        out
+    }
+
+    /// The phase's timer ran out.
+    pub fn timer(&mut self) -> Bytes {
+        let mut out = Bytes::none();
+        unsafe { sys::lis_line_timer(&mut self.line, out.get()) };
+        out
+    }
+
+    /// Gives up the session that goes on.
+    pub fn restart(&mut self) {
+        unsafe { sys::lis_line_restart(&mut self.line) };
+    }
+
+    /// What the sender waits for.
+    pub fn phase(&mut self) -> Phase {
+        Phase::of(unsafe { sys::lis_sender_phase(&mut self.line.sender) })
+    }
+
+    /// How the last session ended.
+    pub fn outcome(&mut self) -> Outcome {
+        Outcome::of(unsafe { sys::lis_sender_outcome(&mut self.line.sender) })
+    }
+
+    /// How many frames of the session are acknowledged.
+    pub fn acknowledged(&mut self) -> u64 {
+        unsafe { sys::lis_sender_acknowledged(&mut self.line.sender) }
+    }
+
+    /// How long the phase lasts before its timer runs out.
+    pub fn patience(&mut self) -> Option<Duration> {
+        match self.phase() {
+            Phase::Neutral => None,
+            Phase::Busy => Some(Duration::from_secs(sys::LIS_SECONDS_BUSY)),
+            Phase::Contention => Some(Duration::from_secs(sys::LIS_SECONDS_CONTENTION)),
+            _ => Some(Duration::from_secs(sys::LIS_SECONDS_REPLY)),
+        }
+    }
+}

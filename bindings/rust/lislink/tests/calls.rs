@@ -1,0 +1,112 @@
+//! What the scripted session doesn't show: threads, texts that stay, panics, contention.
+use lislink::{Connection, Heard, Note, Outcome, Phase, Ready, Receiver, Sender, Status, Text};
+use std::panic::{catch_unwind, AssertUnwindSafe};
+use std::thread;
+
+const HEADER: &[u8] = b"\x021H|\\^&\r\x03E5\r\n";
+
+fn is_send<T: Send>() {}
+
+#[test]
+fn each_may_move_to_another_thread() {
+    is_send::<Sender<'_>>();
+    is_send::<lislink::Reader>();
+    is_send::<lislink::Writer>();
+    is_send::<lislink::Scanner>();
+    let mut receiver = Receiver::new();
+    let mut kept = Vec::new();
+    for bytes in [b"\x05", &HEADER[..4], &HEADER[4..], b"\x04"] {
+        (receiver, kept) = thread::spawn(move || {
+            let heard = receiver.hear(
+                bytes,
+                |text| {
+                    kept.push(text.to_vec());
+                    true
+                },
+                |_| true,
+            );
+            assert_eq!(heard, Heard::All);
+            (receiver, kept)
+        })
+        .join()
+        .unwrap();
+    }
+    assert_eq!(kept, [b"H|\\^&\r"]);
+}
+
+fn done(sender: &mut Sender, line: Connection) {
+    assert_eq!(&sender.reply(line, 6)[..], HEADER);
+    assert_eq!(&sender.reply(line, 6)[..], b"\x04");
+    assert_eq!(sender.outcome(), Outcome::Done);
+}
+
+#[test]
+fn texts_may_stay_with_their_owner() {
+    let texts = [Text::from(&b"H|\\^&\r"[..])];
+    let mut sender = Sender::new();
+    assert_eq!(sender.start_lent(&texts).err().map(|it| it.status), Some(Status::OldLine));
+    let line = sender.connected();
+    assert_eq!(&sender.start_lent(&texts).unwrap()[..], b"\x05");
+    assert_eq!(sender.start_lent(&texts).err().map(|it| it.status), Some(Status::InSession));
+    done(&mut sender, line);
+}
+
+#[test]
+fn a_reply_of_an_earlier_connection_is_dropped() {
+    let mut sender = Sender::new();
+    sender.add(b"H|\\^&\r").unwrap();
+    let old = sender.connected();
+    sender.start().unwrap();
+    assert_eq!(&sender.timer()[..], b"\x04");
+    sender.add(b"H|\\^&\r").unwrap();
+    let new = sender.connected();
+    assert_ne!(old, new);
+    sender.start().unwrap();
+    assert!(sender.reply(old, 6).is_empty());
+    assert_eq!(sender.phase(), Phase::AwaitLine);
+    done(&mut sender, new);
+}
+
+#[test]
+fn a_panic_in_keep_sends_no_reply() {
+    let mut receiver = Receiver::new();
+    let mut replies = Vec::new();
+    let stream = [b"\x05", HEADER].concat();
+    let ran = catch_unwind(AssertUnwindSafe(|| {
+        receiver.hear(
+            &stream,
+            |_| panic!("the store"),
+            |byte| {
+                replies.push(byte);
+                true
+            },
+        )
+    }));
+    assert!(ran.is_err());
+    assert_eq!((replies, receiver.is_open()), (vec![6], false));
+}
+
+#[test]
+fn a_reply_that_is_not_sent_ends_the_session() {
+    let mut receiver = Receiver::new();
+    assert_eq!(receiver.hear(b"\x05", |_| true, |_| false), Heard::GaveUp);
+    assert!(!receiver.is_open());
+}
+
+#[test]
+fn a_receiver_says_what_it_heard() {
+    let mut receiver = Receiver::new();
+    let mut notes = Vec::new();
+    receiver.set_ready(Ready::Contending).unwrap();
+    assert_eq!(
+        receiver.set_ready(Ready::Other(3)).err().map(|it| it.status),
+        Some(Status::BadNumber)
+    );
+    let heard = receiver.hear_each(b"\x05\x05", |_| true, |_| true, |step| notes.push(step.note));
+    assert_eq!((heard, notes), (Heard::All, vec![Note::NotReady, Note::Opened]));
+    receiver.set_room(false);
+    receiver.reserve(1_000_000).unwrap();
+    assert_eq!(receiver.reserve(1_048_577).err().map(|it| it.status), Some(Status::TooLong));
+    assert_eq!((receiver.accepted(), receiver.held()), (0, 0));
+    assert_eq!((receiver.timer().note, receiver.timer().note), (Note::TimedOut, Note::Quiet));
+}

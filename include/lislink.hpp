@@ -1,0 +1,525 @@
+// The calls of lislink.h for C++17: owners that free their blocks, bytes as std::string_view, parts as std::optional.
+//
+// Header only, over the C calls: tested and not proved. Link with liblislink.
+//
+//   - A call that may fail throws lislink::error, or std::bad_alloc if there is no memory. Next to it, try_X answers
+//     the lis_status in place of that and throws nothing of its own. Without exceptions (-fno-exceptions) only try_X
+//     is there.
+//   - An owner can be moved, not copied. One that was moved from can be assigned to or destroyed, nothing else.
+//   - A std::string_view that a call gives is good until the next call of its owner.
+//   - One thread at a time uses an owner. It may be handed to another thread.
+//   - receiver::hear keeps, then replies. sender::start asks for a connection on which no late reply can come.
+#ifndef LISLINK_HPP
+#define LISLINK_HPP
+
+#include <lislink.h>
+
+#include <cassert>
+#include <chrono>
+#include <cstddef>
+#include <cstdint>
+#include <iterator>
+#include <memory>
+#include <new>
+#include <optional>
+#include <stdexcept>
+#include <string>
+#include <string_view>
+#include <type_traits>
+#include <utility>
+
+namespace lislink {
+
+#if defined(__cpp_exceptions)
+// What a call was refused for: the status, and which text, field or byte is at fault (0 if none is).
+class error : public std::runtime_error {
+    lis_status status_;
+    std::size_t index_, place_;
+
+public:
+    explicit error(lis_status status, std::size_t index = 0, std::size_t place = 0)
+        : std::runtime_error(lis_status_text(status)), status_(status), index_(index), place_(place) {}
+    lis_status status() const noexcept { return status_; }
+    std::size_t index() const noexcept { return index_; }
+    std::size_t place() const noexcept { return place_; }
+};
+
+// Why a record of a stream can't be read, as lis_reader_read reports it.
+class message_error : public std::runtime_error {
+    lis_found found_;
+
+public:
+    explicit message_error(const lis_found &found) : std::runtime_error(lis_reason_text(found.reason)), found_(found) {}
+    lis_reason reason() const noexcept { return found_.reason; }
+    std::uint64_t number() const noexcept { return found_.number; }
+    std::size_t place() const noexcept { return found_.place; }
+    std::uint8_t detail() const noexcept { return found_.detail; }
+};
+#endif
+
+namespace detail {
+
+// The C calls want a pointer that is not null, also beside the length 0.
+inline const std::uint8_t *at(std::string_view bytes) noexcept {
+    static const std::uint8_t none = 0;
+    return bytes.empty() ? &none : reinterpret_cast<const std::uint8_t *>(bytes.data());
+}
+
+inline std::uint8_t *at(std::string &room) noexcept { return reinterpret_cast<std::uint8_t *>(room.data()); }
+
+inline std::string_view view(const std::uint8_t *bytes, std::size_t len) noexcept {
+    return {reinterpret_cast<const char *>(bytes), len};
+}
+
+#if defined(__cpp_exceptions)
+inline void check(lis_status status, std::size_t index = 0, std::size_t place = 0) {
+    if (status == LIS_STATUS_OUT_OF_MEMORY)
+        throw std::bad_alloc();
+    if (status != LIS_STATUS_OK)
+        throw error(status, index, place);
+}
+#endif
+
+// A block and its handle. It has none if there was no memory, or if it was moved from.
+template <class Handle, std::size_t (*Size)(), std::size_t (*Align)(), void (*Init)(void *), void (*End)(Handle)>
+class owner {
+    Handle handle_;
+
+    void end() noexcept {
+        if (handle_.at != nullptr) {
+            End(handle_);
+            ::operator delete(handle_.at, std::align_val_t(Align()));
+        }
+        handle_.at = nullptr;
+    }
+
+public:
+    explicit owner(std::nothrow_t) noexcept
+        : handle_{::operator new(Size(), std::align_val_t(Align()), std::nothrow)} {
+        if (handle_.at != nullptr)
+            Init(handle_.at);
+    }
+#if defined(__cpp_exceptions)
+    owner() : owner(std::nothrow) {
+        if (handle_.at == nullptr)
+            throw std::bad_alloc();
+    }
+#endif
+    owner(owner &&other) noexcept : handle_(std::exchange(other.handle_, Handle{nullptr})) {}
+    owner &operator=(owner &&other) noexcept {
+        if (this != &other) {
+            end();
+            handle_ = std::exchange(other.handle_, Handle{nullptr});
+        }
+        return *this;
+    }
+    owner(const owner &) = delete;
+    owner &operator=(const owner &) = delete;
+    ~owner() { end(); }
+
+    explicit operator bool() const noexcept { return handle_.at != nullptr; }
+    Handle *get() noexcept {
+        assert(handle_.at != nullptr);
+        return &handle_;
+    }
+};
+
+// Whether a call says that it went well; one that gives nothing back did.
+template <class Call, class... Words> bool went(Call &call, Words &&...words) {
+    if constexpr (std::is_void_v<std::invoke_result_t<Call &, Words...>>) {
+        call(std::forward<Words>(words)...);
+        return true;
+    } else {
+        return static_cast<bool>(call(std::forward<Words>(words)...));
+    }
+}
+
+// A string that would be gone before its records are read.
+template <class Bytes> using if_dies = std::enable_if_t<std::is_same_v<Bytes, std::string>, int>;
+
+struct nothing {
+    void operator()(const lis_step &) const noexcept {}
+};
+
+} // namespace detail
+
+// What a scanner reads: ENQ, EOT, a frame or a bad frame.
+class signal {
+    lis_signal signal_{};
+    friend class scanner;
+
+public:
+    lis_signal_kind kind() const noexcept { return signal_.kind; }
+    std::uint8_t number() const noexcept { return signal_.number; }
+    bool is_last() const noexcept { return signal_.last; }
+    lis_fault fault() const noexcept { return signal_.fault; }
+    std::size_t place() const noexcept { return signal_.place; }
+    std::string_view text() const noexcept { return detail::view(signal_.text, signal_.len); }
+};
+
+class scanner {
+    detail::owner<lis_scanner, lis_scanner_size, lis_scanner_align, lis_scanner_init, lis_scanner_end> own_;
+
+public:
+#if defined(__cpp_exceptions)
+    scanner() = default;
+#endif
+    explicit scanner(std::nothrow_t) noexcept : own_(std::nothrow) {}
+    explicit operator bool() const noexcept { return static_cast<bool>(own_); }
+
+    // Calls each(signal) for each signal of the bytes.
+    template <class Each> void feed(std::string_view bytes, Each &&each) {
+        for (signal found; !bytes.empty();) {
+            bytes.remove_prefix(lis_scanner_feed(own_.get(), detail::at(bytes), bytes.size(), &found.signal_));
+            if (found.kind() != LIS_SIGNAL_NONE)
+                each(static_cast<const signal &>(found));
+        }
+    }
+};
+
+// The bytes of a frame; `place` is that of a byte that no text may hold.
+inline lis_status try_frame(std::uint8_t number, bool last, std::string_view text, std::string &out,
+                            std::size_t &place) {
+    lis_bytes bytes;
+    lis_status status = lis_frame_write(number, last, detail::at(text), text.size(), &bytes, &place);
+    if (status == LIS_STATUS_OK)
+        out = detail::view(bytes.bytes, bytes.len);
+    return status;
+}
+
+#if defined(__cpp_exceptions)
+inline std::string frame(std::uint8_t number, bool last, std::string_view text) {
+    std::string out;
+    std::size_t place = 0;
+    lis_status status = try_frame(number, last, text, out, place);
+    detail::check(status, 0, place);
+    return out;
+}
+#endif
+
+// A connection of a sender, by its number: what came over an earlier one is dropped.
+enum class connection : std::uint64_t {};
+
+// Sends texts. The bytes that a call gives are to be sent; there may be none.
+class sender {
+    detail::owner<lis_sender, lis_sender_size, lis_sender_align, lis_sender_init, lis_sender_end> own_;
+    lis_line line_{};
+    lis_bytes out_{};
+    lis_place fault_{};
+
+    lis_sender *get() noexcept {
+        assert(own_);
+        return &line_.sender;
+    }
+    std::string_view out() const noexcept { return detail::view(out_.bytes, out_.len); }
+    void begin() noexcept {
+        if (own_)
+            lis_line_init(&line_, *own_.get());
+    }
+
+public:
+#if defined(__cpp_exceptions)
+    sender() { begin(); }
+#endif
+    explicit sender(std::nothrow_t) noexcept : own_(std::nothrow) { begin(); }
+    explicit operator bool() const noexcept { return static_cast<bool>(own_); }
+
+    // A new connection was made; or a serial line was waited for, longer than the computer takes to answer, and what
+    // came was dropped. A session that goes on is restarted.
+    connection connected() noexcept { return connection{lis_line_connected(&line_)}; }
+
+    // A copy of a text for the next session.
+    lis_status try_add(std::string_view text) noexcept {
+        return lis_sender_add_text(get(), detail::at(text), text.size());
+    }
+    // Starts a session: `out` is ENQ. LIS_STATUS_OLD_LINE before `connected`, and after a session that timed out or was
+    // restarted. The texts of the session are gone when it is over, however it ended.
+    lis_status try_start(std::string_view &out) noexcept {
+        lis_status status = lis_line_start(&line_, &out_, &fault_);
+        out = status == LIS_STATUS_OK ? this->out() : std::string_view();
+        return status;
+    }
+    // The text and the byte at fault of the last start.
+    lis_place fault() const noexcept { return fault_; }
+#if defined(__cpp_exceptions)
+    void add(std::string_view text) { detail::check(try_add(text)); }
+    std::string_view start() {
+        std::string_view enq;
+        detail::check(try_start(enq), fault_.index, fault_.place);
+        return enq;
+    }
+#endif
+    void clear() noexcept { lis_sender_clear(get()); }
+
+    std::string_view reply(connection from, std::uint8_t byte) noexcept {
+        lis_line_reply(&line_, static_cast<std::uint64_t>(from), byte, &out_);
+        return out();
+    }
+    std::string_view timer() noexcept {
+        lis_line_timer(&line_, &out_);
+        return out();
+    }
+    void restart() noexcept { lis_line_restart(&line_); }
+
+    lis_phase phase() noexcept { return lis_sender_phase(get()); }
+    lis_outcome outcome() noexcept { return lis_sender_outcome(get()); }
+    std::uint64_t acknowledged() noexcept { return lis_sender_acknowledged(get()); }
+    // How long the phase lasts before its timer runs out; none if it has no timer.
+    std::optional<std::chrono::seconds> patience() noexcept {
+        switch (phase()) {
+        case LIS_PHASE_NEUTRAL:
+            return std::nullopt;
+        case LIS_PHASE_BUSY:
+            return std::chrono::seconds(LIS_SECONDS_BUSY);
+        case LIS_PHASE_CONTENTION:
+            return std::chrono::seconds(LIS_SECONDS_CONTENTION);
+        default:
+            return std::chrono::seconds(LIS_SECONDS_REPLY);
+        }
+    }
+};
+
+// Receives texts.
+class receiver {
+    detail::owner<lis_receiver, lis_receiver_size, lis_receiver_align, lis_receiver_init, lis_receiver_end> own_;
+    std::string text_;
+
+    lis_receiver *get() noexcept { return own_.get(); }
+
+    // The text that is complete, in `text_`; false if there is no memory for it.
+    bool copy_text() {
+        std::size_t len = lis_receiver_text_len(get());
+#if defined(__cpp_exceptions)
+        try {
+            text_.resize(len);
+        } catch (const std::bad_alloc &) {
+            return false;
+        }
+#else
+        text_.resize(len);
+#endif
+        return lis_receiver_text(get(), detail::at(text_), len) == LIS_STATUS_OK;
+    }
+
+    // Restarts the receiver unless all went well, also if keep or send throws.
+    struct guard {
+        receiver &its;
+        bool good = false;
+        ~guard() {
+            if (!good)
+                its.restart();
+        }
+    };
+
+    template <class Keep, class Send> bool answer(const lis_step &step, Keep &keep, Send &send) {
+        guard guarded{*this};
+        if (step.has_text && !(copy_text() && detail::went(keep, std::string_view(text_))))
+            return false;
+        return guarded.good = step.reply == 0 || detail::went(send, step.reply);
+    }
+
+public:
+#if defined(__cpp_exceptions)
+    receiver() = default;
+#endif
+    explicit receiver(std::nothrow_t) noexcept : own_(std::nothrow) {}
+    explicit operator bool() const noexcept { return static_cast<bool>(own_); }
+
+    // Hears bytes. For each text that is complete keep(text) is called, and only if it gives true (or nothing), and
+    // doesn't throw, send(reply). Else no reply is sent, the receiver restarts, the other bytes are dropped, and hear
+    // gives false; what keep or send throws goes on. So the sender keeps its texts and sends them again. If keep may
+    // take longer than LIS_SECONDS_REPLY, send looks at the clock and gives false: a late reply must not be sent.
+    // each(step) is called first, for each step that means something.
+    template <class Keep, class Send, class Each = detail::nothing>
+    bool hear(std::string_view bytes, Keep &&keep, Send &&send, Each &&each = Each()) {
+        for (lis_step step; !bytes.empty();) {
+            bytes.remove_prefix(lis_receiver_hear(get(), detail::at(bytes), bytes.size(), &step));
+            if (step.note != LIS_NOTE_QUIET)
+                each(static_cast<const lis_step &>(step));
+            if (!answer(step, keep, send))
+                return false;
+        }
+        return true;
+    }
+
+    // The receiver's timer ran out, LIS_SECONDS_RECEIVER after the last step that meant something.
+    lis_step timer() noexcept {
+        lis_step step;
+        lis_receiver_timer(get(), &step);
+        return step;
+    }
+    // Gives up what goes on: for a connection that was lost, before the first byte of the next.
+    void restart() noexcept { lis_receiver_restart(get()); }
+    void set_room(bool room) noexcept { lis_receiver_set_room(get(), room); }
+    void set_ready(lis_ready readiness) noexcept { lis_receiver_set_ready(get(), readiness); }
+    lis_status try_reserve(std::uint64_t bytes) noexcept { return lis_receiver_reserve(get(), bytes); }
+#if defined(__cpp_exceptions)
+    void reserve(std::uint64_t bytes) { detail::check(try_reserve(bytes)); }
+#endif
+    bool is_open() noexcept { return lis_receiver_is_open(get()); }
+    std::uint64_t accepted() noexcept { return lis_receiver_accepted(get()); }
+    std::uint64_t held() noexcept { return lis_receiver_held(get()); }
+};
+
+// Reads the records of a stream that comes in pieces: for (auto &record : reader.feed(bytes)) ..
+class reader {
+    detail::owner<lis_reader, lis_reader_size, lis_reader_align, lis_reader_init, lis_reader_end> own_;
+    lis_found found_{};
+
+    lis_reader *get() noexcept { return own_.get(); }
+
+    // Reads on to the end of a record; false if there is none in these bytes, or one that can't be read.
+    bool next(std::string_view &bytes) noexcept {
+        while (!bytes.empty()) {
+            bytes.remove_prefix(lis_reader_read(get(), detail::at(bytes), bytes.size(), &found_));
+            if (found_.kind != LIS_FOUND_NOTHING)
+                return found_.kind == LIS_FOUND_RECORD;
+        }
+        return false;
+    }
+
+public:
+    // The record that was read last, good until the reader reads on.
+    class record {
+        reader *from_;
+        friend class reader;
+        explicit record(reader &from) noexcept : from_(&from) {}
+
+    public:
+        char letter() const noexcept { return static_cast<char>(from_->found_.letter); }
+        std::size_t fields() const noexcept { return from_->found_.fields; }
+        // A component without its escapes; none if there is no such part. Fields are counted as the standard does: the
+        // first after the letter is 2, after a header's delimiters 3; repeats and components from 0.
+        std::optional<std::string> part(std::size_t field, std::size_t repeat = 0, std::size_t component = 0) const {
+            std::string out(LIS_LIMIT_RECORD_BYTES, '\0');
+            std::size_t size = 0;
+            if (lis_reader_part(from_->get(), field, repeat, component, detail::at(out), out.size(), &size)
+                != LIS_STATUS_OK)
+                return std::nullopt;
+            out.resize(size);
+            return out;
+        }
+    };
+
+    // The records of some bytes, to be gone through once.
+    template <bool Throws> class records {
+        reader *from_;
+        std::string_view rest_;
+        friend class reader;
+        records(reader &from, std::string_view bytes) noexcept : from_(&from), rest_(bytes) {}
+
+        bool advance() noexcept(!Throws) {
+            bool more = from_->next(rest_);
+#if defined(__cpp_exceptions)
+            if constexpr (Throws)
+                if (from_->found_.kind == LIS_FOUND_REFUSED)
+                    throw message_error(from_->found_);
+#endif
+            return more;
+        }
+
+    public:
+        class iterator {
+            records *of_;
+            record now_;
+
+        public:
+            using iterator_category = std::input_iterator_tag;
+            using value_type = record;
+            using difference_type = std::ptrdiff_t;
+            using pointer = const record *;
+            using reference = const record &;
+
+            explicit iterator(records *of) noexcept : of_(of), now_(*of->from_) {}
+            iterator(records *of, std::nullptr_t) noexcept : of_(nullptr), now_(*of->from_) {}
+            reference operator*() const noexcept { return now_; }
+            pointer operator->() const noexcept { return &now_; }
+            iterator &operator++() noexcept(!Throws) {
+                if (!of_->advance())
+                    of_ = nullptr;
+                return *this;
+            }
+            void operator++(int) noexcept(!Throws) { ++*this; }
+            bool operator==(const iterator &other) const noexcept { return of_ == other.of_; }
+            bool operator!=(const iterator &other) const noexcept { return of_ != other.of_; }
+        };
+        iterator begin() noexcept(!Throws) { return advance() ? iterator(this) : end(); }
+        iterator end() noexcept { return iterator(this, nullptr); }
+    };
+
+#if defined(__cpp_exceptions)
+    reader() = default;
+    // The records that end in these bytes; message_error at one that can't be read, and then for good.
+    records<true> feed(std::string_view bytes) noexcept { return {*this, bytes}; }
+    template <class Bytes, detail::if_dies<Bytes> = 0> void feed(Bytes &&) = delete;
+    // The end of the stream; message_error if a message or a record isn't ended.
+    void finish() {
+        if (try_finish() != LIS_STATUS_OK)
+            throw message_error(found_);
+    }
+#endif
+    explicit reader(std::nothrow_t) noexcept : own_(std::nothrow) {}
+    explicit operator bool() const noexcept { return static_cast<bool>(own_); }
+
+    // The same without exceptions: it stops at a record that can't be read, and `refused` has it.
+    records<false> try_feed(std::string_view bytes) noexcept { return {*this, bytes}; }
+    template <class Bytes, detail::if_dies<Bytes> = 0> void try_feed(Bytes &&) = delete;
+    lis_status try_finish() noexcept { return lis_reader_finish(get(), &found_); }
+    // The record that can't be read, of the last piece or the end.
+    std::optional<lis_found> refused() const noexcept {
+        if (found_.kind == LIS_FOUND_REFUSED)
+            return found_;
+        return std::nullopt;
+    }
+};
+
+// Writes records: writer.record('P').field("1").put(). Delimiters in a field are escaped.
+class writer {
+    detail::owner<lis_writer, lis_writer_size, lis_writer_align, lis_writer_init, lis_writer_end> own_;
+    std::size_t field_ = 0;
+
+    lis_writer *get() noexcept { return own_.get(); }
+
+public:
+#if defined(__cpp_exceptions)
+    writer() = default;
+#endif
+    explicit writer(std::nothrow_t) noexcept : own_(std::nothrow) {}
+    explicit operator bool() const noexcept { return static_cast<bool>(own_); }
+
+    lis_status try_start(const lis_delimiters &delimiters) noexcept { return lis_writer_start(get(), &delimiters); }
+    lis_status try_record(char letter) noexcept { return lis_writer_record(get(), static_cast<std::uint8_t>(letter)); }
+    lis_status try_component(std::string_view bytes) noexcept {
+        return lis_writer_component(get(), detail::at(bytes), bytes.size());
+    }
+    lis_status try_field(std::string_view bytes) noexcept {
+        return lis_writer_field(get(), detail::at(bytes), bytes.size());
+    }
+    lis_status try_put() noexcept { return lis_writer_put(get(), &field_); }
+    // The field at fault of the last put, 0 if none is.
+    std::size_t field_at_fault() const noexcept { return field_; }
+#if defined(__cpp_exceptions)
+    writer &start(const lis_delimiters &delimiters) { return detail::check(try_start(delimiters)), *this; }
+    writer &record(char letter) { return detail::check(try_record(letter)), *this; }
+    writer &component(std::string_view bytes) { return detail::check(try_component(bytes)), *this; }
+    writer &field(std::string_view bytes) { return detail::check(try_field(bytes)), *this; }
+    writer &put() {
+        lis_status status = try_put();
+        return detail::check(status, field_), *this;
+    }
+#endif
+    std::size_t size() noexcept { return lis_writer_texts(get()); }
+    // The text of a record that was put, with its CR; none if there are not so many.
+    std::optional<std::string> text(std::size_t place) {
+        std::string out(LIS_LIMIT_RECORD_BYTES + 1, '\0');
+        std::size_t size = 0;
+        if (lis_writer_text(get(), place, detail::at(out), out.size(), &size) != LIS_STATUS_OK)
+            return std::nullopt;
+        out.resize(size);
+        return out;
+    }
+};
+
+} // namespace lislink
+
+#endif

@@ -1,0 +1,149 @@
+// The scripted session over lislink.hpp: a message is written, sent, heard, kept and read back, with each refusal on
+// the way. Prints what tests/ffi/session.txt has.
+#include <lislink.hpp>
+
+#include <cstdio>
+#include <cstdlib>
+#include <string>
+#include <vector>
+
+using namespace std::string_view_literals;
+
+static void same(bool good, const char *what) {
+    if (!good) {
+        std::fprintf(stderr, "%s\n", what);
+        std::exit(1);
+    }
+}
+#define SAME(good) same(good, #good)
+
+// The records of the message.
+static std::vector<std::string> texts_of(lislink::writer &writer) {
+    SAME(writer.try_record('x') == LIS_STATUS_BAD_LETTER);
+    SAME(writer.try_put() == LIS_STATUS_NO_RECORD);
+    writer.record('H').field("").field("").field("Ana|yzer").put();
+    writer.record('P').field("1").put();
+    try {
+        writer.record('R').field("1").put();
+        SAME(!"a result without an order is refused");
+    } catch (const lislink::error &refused) {
+        std::printf("refused: %s\n", refused.what());
+        SAME(refused.status() == LIS_STATUS_PUT_NO_PARENT);
+    }
+    writer.record('O').field("1").field("S7").put();
+    writer.record('R').field("1");
+    writer.component("").component("").component("").field("GLU").field("5.4").field("mmol/L").put();
+    try {
+        writer.record('R').field("1").field("a\nb").put();
+        SAME(!"LF is refused");
+    } catch (const lislink::error &refused) {
+        std::printf("refused: %s, field %zu\n", refused.what(), refused.index());
+    }
+    writer.record('L').field("1").field("N").put();
+    std::vector<std::string> texts;
+    for (std::size_t place = 0; place < writer.size(); place++)
+        texts.push_back(writer.text(place).value());
+    SAME(!writer.text(writer.size()));
+    return texts;
+}
+
+// Carries a session between a sender and a receiver; what can't be kept ends it.
+template <class Keep> static void carry(lislink::sender &sender, lislink::receiver &receiver, Keep keep) {
+    lislink::connection line = sender.connected();
+    std::string out{sender.start()}, replies;
+    for (int turn = 0; turn < 100 && sender.phase() != LIS_PHASE_NEUTRAL; turn++) {
+        replies.clear();
+        receiver.hear(out, keep, [&](std::uint8_t byte) { replies.push_back(static_cast<char>(byte)); });
+        out.clear();
+        if (replies.empty())
+            out = sender.timer();
+        for (char byte : replies)
+            out += sender.reply(line, static_cast<std::uint8_t>(byte));
+    }
+    std::printf("outcome: %s, %zu acknowledged\n", lis_outcome_text(sender.outcome()),
+                static_cast<std::size_t>(sender.acknowledged()));
+}
+
+static void add(lislink::sender &sender, const std::vector<std::string> &texts) {
+    for (const std::string &text : texts)
+        sender.add(text);
+}
+
+// What is not kept is not acknowledged; and no session starts on a connection where one failed.
+static void fail_to_keep(lislink::sender &sender, lislink::receiver &receiver, const std::vector<std::string> &texts) {
+    std::size_t kept = 0;
+    add(sender, texts);
+    carry(sender, receiver, [&](std::string_view) { return kept++ < 2; });
+    SAME(sender.acknowledged() == 2 && !receiver.is_open());
+    std::string_view enq;
+    add(sender, texts);
+    SAME(sender.try_start(enq) == LIS_STATUS_OLD_LINE && enq.empty());
+    sender.clear();
+}
+
+static void throw_in_keep(lislink::receiver &receiver) {
+    std::string replies;
+    auto send = [&](std::uint8_t byte) { replies.push_back(static_cast<char>(byte)); };
+    try {
+        receiver.hear("\x05\x02" "1H|\\^&\r\x03" "E5\r\n"sv, [](std::string_view) -> bool { throw 7; }, send);
+        SAME(!"what keep throws goes on");
+    } catch (int thrown) {
+        SAME(thrown == 7 && replies == "\x06" && !receiver.is_open());
+    }
+}
+
+static void read_back(const std::string &stream) {
+    lislink::reader reader;
+    for (std::size_t at = 0; at < stream.size(); at += 7)
+        for (const auto &record : reader.feed(std::string_view(stream).substr(at, 7))) {
+            std::printf("%c %zu", record.letter(), record.fields());
+            if (record.letter() == 'H')
+                std::printf(" %s", record.part(5).value().c_str());
+            if (record.letter() == 'R')
+                std::printf(" %s %s", record.part(3, 0, 3).value_or("?").c_str(), record.part(4).value_or("?").c_str());
+            SAME(!record.part(30) && !record.part(2, 1));
+            std::printf("\n");
+        }
+    reader.finish();
+    try {
+        for (const auto &record : reader.feed("R|1\r"))
+            SAME(record.letter() == 0);
+        SAME(!"a result outside a message is refused");
+    } catch (const lislink::message_error &refused) {
+        std::printf("refused: record %d: %s\n", static_cast<int>(refused.number()), refused.what());
+    }
+    for (const auto &record : reader.try_feed("H|\\^&\r"))
+        SAME(record.letter() == 0);
+    SAME(reader.refused() && reader.refused()->reason == LIS_REASON_NOT_HEADER);
+}
+
+static void of_frames() {
+    std::string bytes = lislink::frame(1, true, "H|\\^&\r");
+    lislink::scanner scanner;
+    int good = 0, bad = 0;
+    scanner.feed("\x05" + bytes + "\x02" "1\n\x04", [&](const lislink::signal &signal) {
+        good += signal.kind() == LIS_SIGNAL_FRAME && signal.text() == "H|\\^&\r" && signal.is_last();
+        bad += signal.kind() == LIS_SIGNAL_BAD_FRAME && signal.fault() == LIS_FAULT_SHAPE;
+    });
+    SAME(good == 1 && bad == 1);
+    std::string out;
+    std::size_t place = 0;
+    SAME(lislink::try_frame(1, true, "a\x02", out, place) == LIS_STATUS_FORBIDDEN && place == 1 && out.empty());
+    SAME(lislink::try_frame(1, true, {}, out, place) == LIS_STATUS_OK && out.size() == 7);
+}
+
+int main() {
+    of_frames();
+    lislink::writer writer;
+    std::vector<std::string> texts = texts_of(writer);
+    lislink::sender first, sender = std::move(first);
+    lislink::receiver other, receiver = std::move(other);
+    fail_to_keep(sender, receiver, texts);
+    throw_in_keep(receiver);
+    std::string store;
+    add(sender, texts);
+    carry(sender, receiver, [&](std::string_view text) { store += text; });
+    SAME(sender.outcome() == LIS_OUTCOME_DONE && !sender.patience());
+    read_back(store);
+    return 0;
+}

@@ -1,0 +1,61 @@
+// lislink.hpp without exceptions: each call that may fail answers its status. It ends with 0 if all is as it should be.
+#include <lislink.hpp>
+
+#include <string>
+
+static int step;
+
+static bool is(bool good) {
+    step++;
+    return good;
+}
+
+static bool of_sender() {
+    lislink::sender sender(std::nothrow);
+    std::string_view enq;
+    lislink::connection line{};
+    return is(static_cast<bool>(sender)) && is(sender.try_add("a\nb") == LIS_STATUS_OK)
+        && is(sender.try_start(enq) == LIS_STATUS_OLD_LINE) && is((line = sender.connected(), true))
+        && is(sender.try_start(enq) == LIS_STATUS_FORBIDDEN && enq.empty() && sender.fault().place == 1)
+        && is((sender.clear(), sender.try_add("")) == LIS_STATUS_OK)
+        && is(sender.try_start(enq) == LIS_STATUS_OK && enq == "\x05")
+        && is(sender.patience() == std::chrono::seconds(15)) && is(sender.reply(line, 21).empty())
+        && is(sender.patience() == std::chrono::seconds(10)) && is(sender.timer() == "\x05")
+        && is(sender.reply(line, 6).size() == 7);
+}
+
+static bool of_records() {
+    lislink::writer writer(std::nothrow);
+    lislink::reader reader(std::nothrow);
+    int count = 0;
+    if (!is(writer.try_record('H') == LIS_STATUS_OK && writer.try_put() == LIS_STATUS_OK))
+        return false;
+    if (!is(writer.try_record('P') == LIS_STATUS_OK && writer.try_field("a\x02") == LIS_STATUS_OK))
+        return false;
+    if (!is(writer.try_put() == LIS_STATUS_FORBIDDEN && writer.field_at_fault() == 2))
+        return false;
+    const std::string stream = writer.text(0).value_or("") + "R|1\r";
+    for (const auto &record : reader.try_feed(stream))
+        count += record.letter() == 'H' && record.fields() == 0;
+    return is(count == 1 && reader.refused() && reader.refused()->reason == LIS_REASON_NO_PARENT)
+        && is(reader.try_finish() == LIS_STATUS_UNFINISHED);
+}
+
+static bool of_receiver() {
+    lislink::receiver receiver(std::nothrow);
+    std::string replies;
+    int notes = 0;
+    auto send = [&](std::uint8_t byte) { replies += static_cast<char>(byte); };
+    auto each = [&](const lis_step &heard) { notes += heard.note == LIS_NOTE_OPENED || heard.note == LIS_NOTE_ENDED; };
+    receiver.set_ready(LIS_READY_BUSY);
+    if (!is(receiver.hear("\x05", [](std::string_view) { return false; }, send, each) && replies == "\x15"))
+        return false;
+    receiver.set_ready(LIS_READY_YES);
+    if (!is(receiver.hear("\x05\x04", [](std::string_view) { return false; }, send, each) && notes == 2))
+        return false;
+    // A reply that can't be sent ends the session.
+    return is(!receiver.hear("\x05", [](std::string_view) {}, [](std::uint8_t) { return false; }))
+        && is(!receiver.is_open()) && is(receiver.try_reserve(1048577) == LIS_STATUS_TOO_LONG);
+}
+
+int main() { return of_sender() && of_records() && of_receiver() ? 0 : step; }
