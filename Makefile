@@ -3,21 +3,26 @@
 # make test     the gate: proves everything, tries the mutants of must-fail/, runs all tests
 # make check CRATE=lis_frame   proves one crate with its tests, and tries its mutants of must-fail/
 # make library  proves and builds the library for C and Python into build/
-# make install  puts the program, the library, its header and the manual pages under $(PREFIX)
+# make install  puts what was built under $(PREFIX): program, library, headers, Python package, manual pages
+# make uninstall  removes these again
+# make deb      makes a package of Debian of them, build/lislink_VERSION_amd64.deb
 #
 # Long runs, outside the gate:
 # make mutants  [CRATES="lis_link .."]   all mutants: the prover must reject each, and a test must notice it
 # make harmless [CRATES="lis_link .."]   rewrites that change nothing: each must still be proved
+# make fuzz     [EACH=600]               harnesses of libFuzzer over the library for C, so many seconds each
 # make plant CRATE=lis_link              wrong bodies that the kit makes up: what a crate's contracts let through
 
 PREFIX ?= /usr/local
+LIBDIR ?= $(PREFIX)/lib
+PYTHONDIR ?= $(PREFIX)/share/lislink/python
 CC = gcc
 BUILD = build
 PROGRAM = $(BUILD)/lislink
 ARCHIVE = $(BUILD)/liblis_c.a
 VERSION = $(shell cat VERSION)
 
-.PHONY: build check demo test mutants harmless plant library linked install
+.PHONY: build check demo test mutants harmless plant library linked install uninstall deb fuzz
 
 build:
 	@echo 'Proving and building the program: 14 minutes at most the first time on four processors, then seconds.'
@@ -59,24 +64,39 @@ library:
 	$(MAKE) --no-print-directory linked
 	cp $(BUILD)/liblislink.so examples/python/liblislink.so
 
-# Both libraries out of the archive of the proved crate. The heap and the words of examples/c are part of both, so that a
-# program links with nothing else.
+# Both libraries out of the archive of the proved crate. These files of examples/c are part of both, so that a program
+# links with nothing else.
+PLAIN = heap names connection
 linked:
 	@mkdir -p $(BUILD)
-	$(CC) -O2 -fPIC -Iinclude -c examples/c/heap.c -o $(BUILD)/heap.o
-	$(CC) -O2 -fPIC -Iinclude -c examples/c/names.c -o $(BUILD)/names.o
+	for name in $(PLAIN); do $(CC) -O2 -fPIC -Iinclude -c examples/c/$$name.c -o $(BUILD)/$$name.o || exit 1; done
 	cp $(ARCHIVE) $(BUILD)/liblislink.a
-	ar r $(BUILD)/liblislink.a $(BUILD)/heap.o $(BUILD)/names.o
-	$(CC) -shared -o $(BUILD)/liblislink.so -Wl,-soname,liblislink.so -Wl,--whole-archive $(ARCHIVE) -Wl,--no-whole-archive $(BUILD)/heap.o $(BUILD)/names.o
+	ar r $(BUILD)/liblislink.a $(PLAIN:%=$(BUILD)/%.o)
+	$(CC) -shared -o $(BUILD)/liblislink.so.1 -Wl,-soname,liblislink.so.1 \
+	  -Wl,--whole-archive $(ARCHIVE) -Wl,--no-whole-archive $(PLAIN:%=$(BUILD)/%.o)
+	ln -sf liblislink.so.1 $(BUILD)/liblislink.so
 
-install: build library
-	install -D -m 755 $(PROGRAM) $(DESTDIR)$(PREFIX)/bin/lislink
-	install -D -m 644 $(BUILD)/liblislink.a $(DESTDIR)$(PREFIX)/lib/liblislink.a
-	install -D -m 755 $(BUILD)/liblislink.so $(DESTDIR)$(PREFIX)/lib/liblislink.so
-	install -D -m 644 include/lislink.h $(DESTDIR)$(PREFIX)/include/lislink.h
-	install -D -m 644 examples/python/lislink.py $(DESTDIR)$(PREFIX)/share/lislink/lislink.py
-	install -D -m 644 docs/man/lislink.1 $(DESTDIR)$(PREFIX)/share/man/man1/lislink.1
-	install -D -m 644 docs/man/lislab.1 $(DESTDIR)$(PREFIX)/share/man/man1/lislab.1
-	install -D -m 644 docs/man/lislink.3 $(DESTDIR)$(PREFIX)/share/man/man3/lislink.3
-	install -d $(DESTDIR)$(PREFIX)/lib/pkgconfig
-	sed 's|@PREFIX@|$(PREFIX)|; s|@VERSION@|$(VERSION)|' docs/lislink.pc > $(DESTDIR)$(PREFIX)/lib/pkgconfig/lislink.pc
+# What was built is installed as it is: rt is needed only for what is missing.
+$(PROGRAM):
+	$(MAKE) --no-print-directory build
+
+$(BUILD)/liblislink.so.1:
+	$(MAKE) --no-print-directory library
+
+PLACES = '$(DESTDIR)' '$(PREFIX)' '$(LIBDIR)' '$(PYTHONDIR)'
+
+install: $(PROGRAM) $(BUILD)/liblislink.so.1
+	@BUILD=$(BUILD) packaging/place put $(PLACES)
+	@packaging/advice '$(PREFIX)' '$(LIBDIR)' '$(PYTHONDIR)'
+
+uninstall:
+	@packaging/place remove $(PLACES)
+
+# lislink_VERSION_amd64.deb in $(BUILD), for dpkg -i.
+deb: $(PROGRAM) $(BUILD)/liblislink.so.1
+	@BUILD=$(BUILD) packaging/deb
+
+# Harnesses of libFuzzer over the library, so many seconds each.
+EACH = 600
+fuzz: $(BUILD)/liblislink.so.1
+	tests/fuzz/run $(BUILD)/liblislink.a $(EACH)
