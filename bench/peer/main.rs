@@ -6,10 +6,13 @@
 mod bytes;
 mod capture;
 mod link;
+mod places;
 mod ports;
 mod receiver;
 mod records;
 mod show;
+mod trees;
+mod vecs;
 
 use ports::{Output, Stop};
 use std::ffi::OsString;
@@ -32,7 +35,21 @@ impl Report {
     }
 }
 
+/// Makes messages trees, which no command of `lislink` does.
+fn run_trees(words: &[&str], output: &mut Output) -> Option<Result<Report, Stop>> {
+    Some(match words {
+        ["trees", "vecs"] => trees::print::<vecs::Message>(output),
+        ["trees", "places"] => trees::print::<places::Message>(output),
+        ["trees", "vecs", rounds] => trees::count::<vecs::Message>(rounds.parse().ok()?, output),
+        ["trees", "places", rounds] => trees::count::<places::Message>(rounds.parse().ok()?, output),
+        _ => return None,
+    })
+}
+
 fn run(words: &[&str], output: &mut Output) -> Option<Result<Report, Stop>> {
+    if words.first() == Some(&"trees") {
+        return run_trees(words, output);
+    }
     let (command, limit) = match words {
         [command] => (*command, USUAL),
         [command @ ("show" | "replay" | "texts"), "--long"] => (*command, LONG),

@@ -7,11 +7,11 @@ use crate::link::CR;
 use crate::ports::{Output, Piece, Stop, each_piece};
 use std::fmt;
 
-const RECORD_LIMIT: usize = 65_536;
+pub const RECORD_LIMIT: usize = 65_536;
 
 /// Why a record is refused, by its code.
 #[derive(Clone, Copy)]
-struct Reason(&'static str);
+pub struct Reason(&'static str);
 
 const EMPTY: Reason = Reason("G1 C1");
 const UNKNOWN_KIND: Reason = Reason("G1 C2");
@@ -37,16 +37,18 @@ impl fmt::Display for Refused {
 }
 
 #[derive(Clone, Copy)]
-struct Delimiters {
-    field: u8,
-    escape: u8,
+pub struct Delimiters {
+    pub field: u8,
+    pub repeat: u8,
+    pub component: u8,
+    pub escape: u8,
 }
 
 /// A record in its text: the letter in upper case, and the fields, a field delimiter before each.
-struct Record<'a> {
-    kind: u8,
-    delimiters: Delimiters,
-    fields: &'a [u8],
+pub struct Record<'a> {
+    pub kind: u8,
+    pub delimiters: Delimiters,
+    pub fields: &'a [u8],
 }
 
 impl<'a> Record<'a> {
@@ -55,7 +57,7 @@ impl<'a> Record<'a> {
     }
 
     /// The fields, the first of which has number 2.
-    fn fields(&self) -> Option<impl Iterator<Item = &'a [u8]> + use<'a>> {
+    pub fn fields(&self) -> Option<impl Iterator<Item = &'a [u8]> + use<'a>> {
         let delimiter = self.delimiters.field;
         Some(self.fields.get(1..)?.split(move |byte| *byte == delimiter))
     }
@@ -78,11 +80,11 @@ fn read_delimiters(text: &[u8]) -> Option<Delimiters> {
     let distinct = (0..4).all(|place| !all[..place].contains(&all[place]));
     let ended = rest.first().is_none_or(|byte| *byte == field);
     let well_formed = all.iter().all(u8::is_ascii_punctuation) && distinct && ended;
-    well_formed.then_some(Delimiters { field, escape })
+    well_formed.then_some(Delimiters { field, repeat, component, escape })
 }
 
 /// Where an open message stands: its delimiters, how many records it has, the last P or Q, and whether an O came since.
-struct Open {
+pub struct Open {
     delimiters: Delimiters,
     records: u64,
     group: Option<u8>,
@@ -90,7 +92,7 @@ struct Open {
 }
 
 /// Reads the next record of a message, or the header of one.
-fn read_record<'a>(text: &'a [u8], open: &mut Option<Open>) -> Result<Record<'a>, Reason> {
+pub fn read_record<'a>(text: &'a [u8], open: &mut Option<Open>) -> Result<Record<'a>, Reason> {
     let kind = text.first().ok_or(EMPTY)?.to_ascii_uppercase();
     if !b"HPORCQMSL".contains(&kind) {
         return Err(UNKNOWN_KIND);
@@ -266,7 +268,7 @@ struct Results {
 }
 
 /// The length of the escape that begins here, if one does: a letter, or an X and pairs of digits, between escape bytes.
-fn escape_length(text: &[u8], escape: u8) -> Option<usize> {
+pub fn escape_length(text: &[u8], escape: u8) -> Option<usize> {
     let length = match text.get(1)? {
         b'H' | b'N' | b'F' | b'S' | b'R' | b'E' => 3,
         b'X' => match text[2..].iter().take_while(|byte| byte.is_ascii_hexdigit()).count() {
@@ -303,7 +305,7 @@ fn put_spelling(field: &[u8], escape: u8, spelling: &mut Lines) {
 
 impl Command for Results {
     fn record(&mut self, _: u64, record: &Record) {
-        let Delimiters { field, escape } = record.delimiters;
+        let Delimiters { field, escape, .. } = record.delimiters;
         match record.kind {
             b'O' => {
                 self.order.clear();
