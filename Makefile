@@ -12,6 +12,9 @@
 # make harmless [CRATES="lis_link .."]   rewrites that change nothing: each must still be proved
 # make fuzz     [EACH=600]               harnesses of libFuzzer over the library for C, so many seconds each
 # make plant CRATE=lis_link              wrong bodies that the kit makes up: what a crate's contracts let through
+# make bench                             speed, memory and instructions; writes docs/PERFORMANCE.md (ten minutes at most)
+#
+# make bench-check                       fails if a command makes over 3 % more instructions a byte; a part of the gate
 
 PREFIX ?= /usr/local
 LIBDIR ?= $(PREFIX)/lib
@@ -22,7 +25,7 @@ PROGRAM = $(BUILD)/lislink
 ARCHIVE = $(BUILD)/liblis_c.a
 VERSION = $(shell cat VERSION)
 
-.PHONY: build check demo test mutants harmless plant library linked install uninstall deb fuzz
+.PHONY: build check demo test mutants harmless plant bench bench-check library linked install uninstall deb fuzz
 
 build:
 	@echo 'Proving and building the program: 14 minutes at most the first time on four processors, then seconds.'
@@ -53,6 +56,12 @@ mutants:
 
 harmless:
 	tests/harmless $(CRATES)
+
+bench:
+	bench/run
+
+bench-check:
+	@bench/check
 
 plant:
 	@test -n '$(CRATE)' || { echo 'make plant CRATE=name, a folder of crates/'; exit 2; }

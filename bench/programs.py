@@ -1,0 +1,52 @@
+"""The programs that are measured: lislink, the calls of the crates (crates/vectors), and the independent program."""
+import hashlib
+import os
+import subprocess
+
+HERE = os.path.dirname(os.path.abspath(__file__))
+ROOT = os.path.dirname(HERE)
+# The instructions that the kit's compiler is told to use, so that all programs have the same.
+RUSTC = ["rustc", "--edition", "2024", "-O", "-C", "codegen-units=1", "-C", "panic=abort", "-C", "target-cpu=x86-64-v2"]
+
+
+def lislink():
+    """The program, proved and built."""
+    subprocess.run(["make", "--no-print-directory", "build"], cwd=ROOT, check=True)
+    return os.path.join(ROOT, "build/lislink")
+
+
+def vectors():
+    """The program that makes the calls of the crates, proved and built."""
+    crate = os.path.join(ROOT, "crates/vectors")
+    done = subprocess.run(["rt", "run", "--", "play", "0"], cwd=crate, stdout=subprocess.PIPE, stderr=subprocess.STDOUT)
+    if done.returncode:
+        raise SystemExit(done.stdout.decode())
+    return os.path.join(crate, "out/vectors")
+
+
+def peer(work):
+    """The independent program, compiled."""
+    program = os.path.join(work, "peer")
+    subprocess.run([*RUSTC, "-o", program, os.path.join(HERE, "peer/main.rs")], check=True)
+    return program
+
+
+def printed_by(*words):
+    """The first line that a command prints; nothing if it can't be run."""
+    try:
+        run = subprocess.run(words, cwd=ROOT, stdout=subprocess.PIPE, stderr=subprocess.DEVNULL, text=True)
+    except OSError:
+        return ""
+    return run.stdout.partition("\n")[0]
+
+
+def sum_of(program):
+    """The first digits of a program's SHA-256."""
+    with open(program, "rb") as file:
+        return hashlib.sha256(file.read()).hexdigest()[:12]
+
+
+def commit():
+    """The commit that was measured, and whether files of crates differ from it."""
+    changed = printed_by("git", "status", "--porcelain", "crates", "crates.txt")
+    return printed_by("git", "rev-parse", "--short=8", "HEAD") + (" with changes" if changed else "")
