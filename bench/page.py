@@ -1,0 +1,160 @@
+"""The part of docs/PERFORMANCE.md that bench/run writes: what was measured in one run, and when, of what, on what."""
+import os
+import statistics
+import time
+from dataclasses import dataclass, field
+
+import measured
+import programs
+
+DOCUMENT = os.path.join(programs.ROOT, "docs/PERFORMANCE.md")
+PLOT = os.path.join(programs.ROOT, "docs/performance.svg")
+BEGIN, END = "<!-- bench/run writes what follows -->", "<!-- bench/run wrote what is above -->"
+# How many times the speed of the independent program a row is to make.
+WANTED = 1.3
+NONE = "–"
+
+
+@dataclass
+class Found:
+    """What was measured."""
+    conditions: str
+    rows: list = field(default_factory=list)
+    trees: list = field(default_factory=list)
+    same_trees: int = 0
+    heard: dict = field(default_factory=dict)
+    played: float = None
+    start_up: list = None
+    curves: dict = None
+
+
+def processor():
+    with open("/proc/cpuinfo", encoding="ascii", errors="replace") as told:
+        for line in told:
+            if line.startswith("model name"):
+                return line.split(":", 1)[1].strip()
+    return "unknown"
+
+
+def conditions(program, asked):
+    """What the figures are of."""
+    lines = [f"One run, {time.strftime('%Y-%m-%d', time.gmtime())}, of the program that was built of commit "
+             f"{programs.commit()} (SHA-256 {programs.sum_of(program)}..) with {programs.printed_by('rt', 'version')}.",
+             f"{processor()}, {os.cpu_count()} processors; load at the start {os.getloadavg()[0]:.1f}."]
+    if asked.rounds:
+        lines.append(f"Medians of {asked.rounds} rounds; inputs of {asked.size:.0f} MB.")
+    else:
+        lines.append("No times were measured in this run.")
+    return " ".join(lines)
+
+
+def number(value, digits=0):
+    return NONE if value is None else f"{value:,.{digits}f}"
+
+
+def table(heads, rows):
+    """A table, its first column of words and the others of numbers."""
+    yield "| " + " | ".join(heads) + " |"
+    yield "|" + "|".join("---" if head in ("command", "input") else "--:" for head in heads) + "|"
+    for row in rows:
+        yield "| " + " | ".join(row) + " |"
+
+
+def ratio_of(row):
+    """How many times the speed of the independent program a row makes."""
+    return measured.spread([peers / ours for ours, peers in row.times]) if row.times else None
+
+
+def cells(row):
+    """The cells of a command and an input."""
+    ratio, speeds = ratio_of(row), (None, None)
+    if ratio:
+        speeds = [row.size / 1e6 / statistics.median(one[who] for one in row.times) for who in (0, 1)]
+    resident, own = row.kibibytes
+    ours, peers = row.instructions or (None, None)
+    return [f"`{row.command}`", row.made.name, number(speeds[0]), number(speeds[1]),
+            f"{ratio.middle:.2f}" if ratio else NONE, f"{ratio.low:.2f} to {ratio.high:.2f}" if ratio else NONE,
+            number(resident), number(own), number(ours, 2), number(peers, 2)]
+
+
+def of_commands(found):
+    """The table of commands, and how many rows make what is wanted."""
+    heads = ["command", "input", "MB/s", "peer's", "times the peer", "middle half", "KiB resident", "its own",
+             "instructions a byte", "peer's"]
+    yield from ["### Commands", "", *table(heads, map(cells, found.rows)), ""]
+    ratios = [(ratio_of(row).middle, row) for row in found.rows if row.times]
+    if ratios:
+        least, row = min(ratios, key=lambda pair: pair[0])
+        enough = sum(ratio >= WANTED for ratio, _ in ratios)
+        yield (f"{enough} of {len(ratios)} rows make at least {WANTED} times the peer's speed; the least is "
+               f"`{row.command}` of {row.made.name} with {least:.2f}.")
+        yield ""
+
+
+def of_sizes(found):
+    """Start-up and the plot."""
+    ours, peers, nothing = found.start_up
+    yield from ["### Start-up and size", ""]
+    yield (f"To read nothing takes `lislink` {ours:.2f} ms, the peer {peers:.2f} ms, and `/bin/true` {nothing:.2f} ms, "
+           "start and end of the process included.")
+    largest = max(size for points in found.curves.values() for size, _ in points)
+    yield f"MB/s by the size of the input, 1 KB to {largest / 1e6:,.0f} MB, start and end of the process included:"
+    yield from ["", "![MB/s by the size of the input](performance.svg)", ""]
+
+
+def of_trees(found):
+    """The table of messages as trees."""
+    def three(known, digits=0):
+        return [number(known.get(way), digits) for way in ("ours", "places", "vecs")]
+
+    def times(row, way):
+        it = row.ratios.get(way)
+        return f"{it.middle:.2f} ({it.low:.2f} to {it.high:.2f})" if it else NONE
+    yield from ["### Messages as trees", ""]
+    yield ("`read_messages` beside two safe parsers of the peer: places in one buffer, and `Vec`s of `Vec`s. "
+           f"All three made the same {found.same_trees} trees of the samples and of the first messages of each input.")
+    yield ""
+    heads = ["input", "MB/s", "places", "Vecs", "times places", "times Vecs", "kept: MB/s", "places", "Vecs"]
+    yield from table(heads, [[row.name, *three(row.again), times(row, "places"), times(row, "vecs"), *three(row.kept)]
+                             for row in found.trees])
+    yield ""
+    heads = ["input", "instructions a byte", "places", "Vecs", "heap bytes a byte", "places", "Vecs"]
+    yield from table(heads, [[row.name, *three(row.instructions, 1), *three(row.heap, 1)] for row in found.trees])
+    yield ""
+
+
+def of_calls(found):
+    """The other calls."""
+    yield from ["### Other calls", ""]
+    speeds = ", ".join(f"{speed:,.0f} MB/s of {name}" for name, speed in found.heard.items())
+    yield f"A receiver that gets a session's bytes at once (`ReceiverOf::bytes`) takes {speeds}."
+    yield f"`play` of a session of 1,000 full frames takes {found.played:.2f} ms."
+    yield ""
+
+
+def written(found):
+    """The lines that are written."""
+    lines = [found.conditions, ""]
+    if found.rows:
+        lines += of_commands(found)
+    if found.start_up:
+        lines += of_sizes(found)
+    if found.trees:
+        lines += of_trees(found)
+    if found.heard:
+        lines += of_calls(found)
+    return lines
+
+
+def write(lines, drawing):
+    """Writes the lines into the document, and the plot beside it."""
+    with open(DOCUMENT, encoding="utf-8") as file:
+        front, begin, rest = file.read().partition(BEGIN)
+    _, end, back = rest.partition(END)
+    if not (begin and end):
+        raise SystemExit(f"{DOCUMENT} has no part to write")
+    with open(DOCUMENT, "w", encoding="utf-8") as file:
+        file.write(f"{front}{BEGIN}\n\n" + "\n".join(lines) + f"\n{END}{back}")
+    if drawing:
+        with open(PLOT, "w", encoding="ascii") as file:
+            file.write(drawing)

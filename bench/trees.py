@@ -1,0 +1,113 @@
+"""Measures messages as trees: those of the crates (crates/vectors), and two of the independent program, one of Vecs of
+Vecs and one of places in one buffer (peer/vecs.rs, peer/places.rs).
+
+All trees are compared first, symbol by symbol. Then some messages are read again and again, each time with the memory
+of the time before, as a program does that drops each message; and a text is read once, all of whose messages are kept.
+"""
+import glob
+import os
+import re
+import statistics
+import subprocess
+import time
+from collections import namedtuple
+
+import measured
+import programs
+
+# Bytes of the messages that are read again and again, of a text whose messages are kept, of one whose heap is counted.
+FEW, KEPT, HEAP = 8_000, 8_000_000, 600_000
+
+Row = namedtuple("Row", "name again ratios kept instructions heap")
+
+
+def ways(vectors, peer):
+    """The words that read a text so many times, of each way."""
+    return {"ours": lambda rounds: [vectors, "again", str(rounds)],
+            "places": lambda rounds: [peer, "trees", "places", str(rounds)],
+            "vecs": lambda rounds: [peer, "trees", "vecs", str(rounds)]}
+
+
+def messages_of(block, size):
+    """The first messages of a block that is made of whole ones, at least so many bytes."""
+    whole = block * (size // len(block) + 1)
+    end = whole.find(b"\rH|", size)
+    return whole if end < 0 else whole[:end + 1]
+
+
+def trees_of_rows(vectors, text):
+    """The trees that the crates make of a text, as the answers of conformance rows have them."""
+    run = subprocess.run([vectors], input=b"message.read %s\n" % (text.hex().encode() or b"-"), stdout=subprocess.PIPE)
+    return re.findall(r"message (delimiters=\S+ records=\d+ tree=\S+)", run.stdout.decode())
+
+
+def trees_of_peer(peer, way, text):
+    run = subprocess.run([peer, "trees", way], input=text, stdout=subprocess.PIPE)
+    return run.stdout.decode().splitlines()
+
+
+def texts(all_inputs):
+    """The texts whose trees are compared: the samples, and the first messages of each input."""
+    for path in sorted(glob.glob(os.path.join(programs.ROOT, "samples/**/*.records"), recursive=True)):
+        with open(path, "rb") as file:
+            yield os.path.relpath(path, programs.ROOT), file.read()
+    for made in all_inputs:
+        yield made.name, messages_of(made.block, FEW)
+
+
+def differing(vectors, peer, all_inputs):
+    """Prints each text of which not all make the same trees. How many, and how many trees are the same."""
+    wrong, same = 0, 0
+    for name, text in texts(all_inputs):
+        ours = trees_of_rows(vectors, text)
+        for way in ("vecs", "places"):
+            if trees_of_peer(peer, way, text) != ours:
+                wrong += 1
+                print(f"trees of {name}: {way} makes others", flush=True)
+        same += len(ours)
+    return wrong, same
+
+
+def seconds(words, path, answer):
+    """Wall seconds of one run, which must answer so."""
+    with open(path, "rb") as source:
+        start = time.perf_counter()
+        run = subprocess.run(words, stdin=source, stdout=subprocess.PIPE, check=True)
+        ended = time.perf_counter() - start
+    if int(run.stdout) != answer:
+        raise SystemExit(f"{' '.join(words)}: {run.stdout.decode()} in place of {answer}")
+    return ended
+
+
+def speeds(work, known, text, readings, rounds):
+    """MB/s of each way, medians; and the spread of how many times the speed of each other way the first makes."""
+    path = os.path.join(work, "text")
+    with open(path, "wb") as file:
+        file.write(text)
+    answer = readings * text.count(b"\rL|")
+    times = [{way: seconds(words(readings), path, answer) for way, words in known.items()} for _ in range(rounds)]
+    made = {way: readings * len(text) / 1e6 / statistics.median(one[way] for one in times) for way in known}
+    return made, {way: measured.spread([one[way] / one["ours"] for one in times]) for way in known}
+
+
+def counts(known, made):
+    """Instructions and bytes of heap for a byte of text, of each way."""
+    few, many = messages_of(made.block, FEW), messages_of(made.block, HEAP)
+    instructions = {way: (measured.instructions(words(3), few) - measured.instructions(words(1), few)) / 2 / len(few)
+                    for way, words in known.items()}
+    heap = {way: (measured.heap(words(1), many) - measured.heap(words(0), many)) / len(many)
+            for way, words in known.items()}
+    return instructions, heap
+
+
+def rows(work, vectors, peer, all_inputs, asked):
+    """A row for each input."""
+    known = ways(vectors, peer)
+    for made in all_inputs:
+        again, ratios, kept = {}, {}, {}
+        if asked.rounds:
+            few = messages_of(made.block, FEW)
+            again, ratios = speeds(work, known, few, int(asked.size * 1e6 / 3 / len(few)), asked.rounds)
+            kept, _ = speeds(work, known, messages_of(made.block, KEPT), 1, min(asked.rounds, 5))
+        instructions, heap = counts(known, made) if asked.counts else ({}, {})
+        yield Row(made.name, again, ratios, kept, instructions, heap)
