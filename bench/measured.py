@@ -92,6 +92,6 @@ def instructions_a_byte(words, made):
 
 def heap(words, data):
     """The most bytes that a run asks the C library for and has at one time."""
-    with tempfile.NamedTemporaryFile("r") as told:
-        under_valgrind(["--tool=massif", "--peak-inaccuracy=0", f"--massif-out-file={told.name}"], words, data)
-        return max(int(line[11:]) for line in told if line.startswith("mem_heap_B="))
+    with tempfile.NamedTemporaryFile("r") as found:
+        under_valgrind(["--tool=massif", "--peak-inaccuracy=0", f"--massif-out-file={found.name}"], words, data)
+        return max(int(line[11:]) for line in found if line.startswith("mem_heap_B="))

@@ -29,8 +29,8 @@ class Found:
 
 
 def processor():
-    with open("/proc/cpuinfo", encoding="ascii", errors="replace") as told:
-        for line in told:
+    with open("/proc/cpuinfo", encoding="ascii", errors="replace") as lines:
+        for line in lines:
             if line.startswith("model name"):
                 return line.split(":", 1)[1].strip()
     return "unknown"
@@ -111,7 +111,7 @@ def of_trees(found):
         it = row.ratios.get(way)
         return f"{it.middle:.2f} ({it.low:.2f} to {it.high:.2f})" if it else NONE
     yield from ["### Messages as trees", ""]
-    yield ("`read_messages` beside two safe parsers of the peer: places in one buffer, and `Vec`s of `Vec`s. "
+    yield ("`read_messages` and two safe parsers of the peer: places in one buffer, and `Vec`s of `Vec`s. "
            f"All three made the same {found.same_trees} trees of the samples and of the first messages of each input.")
     yield ""
     heads = ["input", "MB/s", "places", "Vecs", "times places", "times Vecs", "kept: MB/s", "places", "Vecs"]
@@ -147,7 +147,7 @@ def written(found):
 
 
 def write(lines, drawing):
-    """Writes the lines into the document, and the plot beside it."""
+    """Writes the lines into the document, and the plot next to it."""
     with open(DOCUMENT, encoding="utf-8") as file:
         front, begin, rest = file.read().partition(BEGIN)
     _, end, back = rest.partition(END)

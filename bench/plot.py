@@ -37,7 +37,7 @@ def axes():
 
 
 def names_apart(curves):
-    """Where the name of each curve stands: at its end, and 16 below the one above it at least."""
+    """How far down the name of each curve is: at its end, and 16 below the one above it at least."""
     places, lowest = {}, -math.inf
     for name, points in sorted(curves.items(), key=lambda curve: -curve[1][-1][1]):
         lowest = max(lowest + 16, down(points[-1][1]))

@@ -5,7 +5,7 @@ import subprocess
 
 HERE = os.path.dirname(os.path.abspath(__file__))
 ROOT = os.path.dirname(HERE)
-# The instructions that the kit's compiler is told to use, so that all programs have the same.
+# The instructions that the kit's compiler may use, so that all programs have the same.
 RUSTC = ["rustc", "--edition", "2024", "-O", "-C", "codegen-units=1", "-C", "panic=abort", "-C", "target-cpu=x86-64-v2"]
 
 

@@ -58,9 +58,9 @@ impl Message {
     /// The fields of a record.
     fn fields(&self, place: usize) -> impl Iterator<Item = &[u8]> {
         let entry = self.entries[place];
-        let behind = self.entries.get(place + 1).map_or(self.ends.len(), |next| next.first as usize);
+        let after = self.entries.get(place + 1).map_or(self.ends.len(), |next| next.first as usize);
         let mut start = entry.start as usize;
-        self.ends[entry.first as usize..behind].iter().map(move |end| {
+        self.ends[entry.first as usize..after].iter().map(move |end| {
             let field = &self.text[start + 1..*end as usize];
             start = *end as usize;
             field

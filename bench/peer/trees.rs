@@ -11,7 +11,7 @@ use crate::records::{Delimiters, Open, RECORD_LIMIT, Record, escape_length, read
 pub trait Tree: Sized {
     /// An open message.
     type Open: Default;
-    /// One more record. Its fields stand at this place of the message's text.
+    /// One more record. Its fields are at this place of the message's text.
     fn add(open: &mut Self::Open, record: &Record, place: usize);
     /// The message of the records that were added, and its text. The next message is open then.
     fn close(open: &mut Self::Open, text: &[u8]) -> Self;
@@ -28,7 +28,7 @@ pub enum Symbol {
     Off,
 }
 
-/// The messages of a text, up to the first record that is refused, and whether there is none such.
+/// The messages of a text, up to the first bad record, and whether all are good.
 fn read_messages<T: Tree>(text: &[u8]) -> (Vec<T>, bool) {
     let (mut messages, mut tree, mut open) = (Vec::new(), T::Open::default(), None::<Open>);
     let (mut begin, mut start) = (0, 0);
@@ -52,11 +52,11 @@ fn read_messages<T: Tree>(text: &[u8]) -> (Vec<T>, bool) {
 /// Hands each symbol of a component to `take`.
 pub fn each_symbol(component: &[u8], delimiters: Delimiters, mut take: impl FnMut(Symbol)) {
     let mut rest = component;
-    while let Some((first, behind)) = rest.split_first() {
+    while let Some((first, after)) = rest.split_first() {
         let escape = if *first == delimiters.escape { escape_length(rest, *first) } else { None };
         let Some(length) = escape else {
             take(Symbol::Char(*first));
-            rest = behind;
+            rest = after;
             continue;
         };
         match rest[1] {
@@ -92,7 +92,7 @@ pub fn put_symbol(symbol: Symbol, lines: &mut Lines) {
     }
 }
 
-/// Puts what stands before a tree: the delimiters, and the number of records.
+/// Puts what comes before a tree: the delimiters, and the number of records.
 pub fn put_front(delimiters: Delimiters, records: usize, lines: &mut Lines) {
     let Delimiters { field, repeat, component, escape } = delimiters;
     lines.put(b"delimiters=");

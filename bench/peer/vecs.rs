@@ -123,7 +123,7 @@ impl Message {
         order.results.last_mut().unwrap_or(&mut order.order)
     }
 
-    /// One more record, which may stand here.
+    /// One more record, which may come next.
     fn add(&mut self, record: Record) {
         match (record.kind, self.groups.last_mut()) {
             (b'P' | b'Q', _) => self.groups.push(Group { head: Noted::new(record), orders: Vec::new() }),
