@@ -63,7 +63,7 @@ def of_normalize(count):
         head + b"L|1\rC|1|x\r" + head + b"L|1\r",
         ["--behind-l"],
         (head + b"L|1\r") * 2,
-        ["3: a record behind L was left out (C, 5 bytes)"],
+        ["3: a record after L was left out (C, 5 bytes)"],
     )
     changed(count, "the last CR", head + b"L|1", ["--last-cr"], head + b"L|1\r", ["2: the last record got its CR"])
     changed(

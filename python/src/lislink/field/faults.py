@@ -62,7 +62,7 @@ def cause_of_frame(body: bytes, fault: FrameFault, place: int) -> Cause:
         return _shape(body)
     if fault is FrameFault.NUMBER:
         if body[:1] in (b"8", b"9"):
-            return Cause("number-over-7", f"frame number {body[:1].decode()}: behind 7 comes 0")
+            return Cause("number-over-7", f"frame number {body[:1].decode()}: after 7 comes 0")
         return Cause(
             "number", f"no frame number: the frame begins with '{words(body[:1])}', not with a digit 0 to 7"
         )
@@ -87,7 +87,7 @@ def _shape(body: bytes) -> Cause:
         )
     name, tail = words(body[end : end + 1]), body[end + 1 :]
     if tail[-1:] != b"\r":
-        return Cause("no-cr", f"no CR before LF: '{words(tail)}' is behind {name}")
+        return Cause("no-cr", f"no CR before LF: '{words(tail)}' follows {name}")
     digits = tail[:-1]
     if not digits:
         return Cause("no-sum", f"no checksum between {name} and CR")
@@ -110,7 +110,7 @@ def _sum(body: bytes) -> Cause:
         "sum-xor": ("it is an exclusive or", functools.reduce(operator.xor, body[:-3], 0)),
         "sum-xor-text": ("it is an exclusive or without the number", functools.reduce(operator.xor, body[1:-3], 0)),
         "sum-complement": ("it is the two's complement", -sum(body[:-3])),
-        "sum-with-cr": ("it counts the CR behind it", sum(body[:-3]) + 13),
+        "sum-with-cr": ("it counts the CR after it", sum(body[:-3]) + 13),
     }
     for name, (why, value) in ways.items():
         if f"{value % 256:02X}" == told.found.upper():
@@ -168,7 +168,7 @@ def cause_of_record(error: MessageError, record: bytes, is_rest: bool = False) -
             return RecordCause(
                 "no-header",
                 f"a record {record[:1].decode()} outside a message: the header is missing, or a "
-                "record is behind L",
+                "record is after L",
                 ["--behind-l"],
             )
         return _bad_record(Status.BAD_LETTER, error, record)
@@ -195,9 +195,9 @@ def _unfinished(record: bytes, is_rest: bool) -> RecordCause:
     if b"\n" in bare or is_rest and record.endswith(b"\n"):
         return RecordCause("lf", "records end in LF alone: no CR ends them", ["--lf"])
     if b"<CR>" in record:
-        return RecordCause("cr-in-words", "the word <CR> stands for a CR", ["--cr-words"])
+        return RecordCause("cr-in-words", "the word <CR> is in place of a CR", ["--cr-words"])
     if record and not record.strip(b"\x1a\0\n"):
-        return RecordCause("ctrl-z", "bytes behind the last CR", ["--ctrl-z", "--nul"])
+        return RecordCause("ctrl-z", "bytes after the last CR", ["--ctrl-z", "--nul"])
     if is_rest and record:
         options = ["--last-cr"] if record[:1] in b"Ll" else ["--last-cr", "--last-l"]
         return RecordCause("last-cr", "the last record lacks its CR", options)
@@ -207,7 +207,7 @@ def _unfinished(record: bytes, is_rest: bool) -> RecordCause:
 def _bad_record(status: Status, error: MessageError, record: bytes) -> RecordCause:
     first = words(record[:1])
     if status is Status.NO_RECORD:
-        return RecordCause("empty", "an empty record: CR behind CR, or a blank line", ["--blank"])
+        return RecordCause("empty", "an empty record: CR after CR, or a blank line", ["--blank"])
     if status is Status.BAD_DELIMITERS:
         if record[:9] in (b"H|^~\\&|||", b"MSH|^~\\&|") or record[:6] == b"H|^~\\&":
             return RecordCause(
@@ -225,7 +225,7 @@ def _bad_record(status: Status, error: MessageError, record: bytes) -> RecordCau
     if status is Status.TOO_LONG:
         return RecordCause("long", "a record of over 65,536 bytes", [])
     if b"<CR>" in record:
-        return RecordCause("cr-in-words", "the word <CR> stands for a CR", ["--cr-words"])
+        return RecordCause("cr-in-words", "the word <CR> is in place of a CR", ["--cr-words"])
     if record[:2] in (b"\xff\xfe", b"\xfe\xff"):
         return RecordCause("utf-16", "the file is UTF-16: two bytes a character", ["--bom"])
     if record[:1] == b"\n":
@@ -245,7 +245,7 @@ def _bad_record(status: Status, error: MessageError, record: bytes) -> RecordCau
     if record[:1] in (b" ", b"\t"):
         return RecordCause("blank-first", "a blank is before the letter", ["--blank"])
     if record[:1] and record[:1] in b"HPORCQMSLhporcqmsl":
-        return RecordCause("letter", f"no field delimiter behind the letter {first}", [])
+        return RecordCause("letter", f"no field delimiter after the letter {first}", [])
     return RecordCause(
         "letter", f"'{first}' is no letter of a record: one of the maker's own, or a CR inside a text", []
     )

@@ -125,7 +125,7 @@ def _no_protocol(ladder: Ladder) -> Iterator[Look]:
             "no-frame",
             level,
             f"ENQ came {_times(len(rows))}, and never a frame",
-            "see whether the computer answers ACK, and what the analyzer sends behind it",
+            "see whether the computer answers ACK, and what the analyzer sends after it",
             _lines(rows)[:5],
         )
 
@@ -153,7 +153,7 @@ def _same_number(ladder: Ladder) -> Iterator[Look]:
         yield Look(
             "same-number",
             "bad",
-            f"all {len(frames)} frames have number {frames[0].number}: each behind the first is a "
+            f"all {len(frames)} frames have number {frames[0].number}: each after the first is a "
             "duplicate by the rules, so its text is acknowledged and lost",
             "the sender must count 1 to 7, then 0: no receiver can tell such frames from repeats",
             _lines(frames)[:5],
@@ -167,7 +167,7 @@ def _from_zero(ladder: Ladder) -> Iterator[Look]:
             yield Look(
                 "from-zero",
                 "bad",
-                "the first frame behind ENQ has number 0: 1 is due",
+                "the first frame after ENQ has number 0: 1 is due",
                 "the sender must begin with 1 after each ENQ; a receiver must not take 0",
                 [row.line],
             )
@@ -201,7 +201,7 @@ def _never_ended(ladder: Ladder) -> Iterator[Look]:
 
 _ADVICE = {
     "long": "`lislink replay --long` takes frames of up to 63,993 bytes; the library for C and this ladder have 240",
-    "lf-in-text": "the sender must put CR alone behind a record; no receiver can take LF inside a frame",
+    "lf-in-text": "the sender must put CR alone after a record; no receiver can take LF inside a frame",
     "no-sum": "another dialect of the link: frames without a checksum aren't taken",
     "flow-control": "turn XON/XOFF off at both ends",
     "number": "another dialect of the link: frames need a number",
@@ -497,7 +497,7 @@ def _records(ladder: Ladder) -> Iterator[Look]:
             "no-cr-in-texts",
             "bad",
             "no text ends in CR: the records run together, and none is ended",
-            "the sender must put CR behind each record, inside the frame",
+            "the sender must put CR after each record, inside the frame",
             [text.line for text in ladder.texts][:5],
         )
         return

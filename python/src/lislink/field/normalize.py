@@ -198,7 +198,7 @@ def _behind(work: Work, records: List[Record]) -> Iterator[Record]:
     for number, record, end in records:
         letter = record[:1].upper()
         if level == b"L" and letter != b"H" and record and work.wants("behind-l", number):
-            work.tell(number, f"a record behind L was left out ({words(letter)}, {len(record)} bytes)")
+            work.tell(number, f"a record after L was left out ({words(letter)}, {len(record)} bytes)")
             continue
         level = letter if letter in (b"H", b"L") else level
         yield number, record, end

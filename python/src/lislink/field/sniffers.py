@@ -387,7 +387,7 @@ def of_two_dumps(analyzer: bytes, computer: bytes) -> Tuple[Capture, List[str]]:
                     used += 1
     if at < len(analyzer):
         lines.append(Line(">", analyzer[at:]))
-    remarks = ["two dumps: their order isn't known; a reply is put behind each ENQ and each frame"]
+    remarks = ["two dumps: their order isn't known; a reply is put after each ENQ and each frame"]
     if used < len(computer):
         lines.append(Line("<", computer[used:]))
         remarks.append(

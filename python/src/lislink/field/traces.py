@@ -228,7 +228,7 @@ def _with_line_ends(pieces: List[Piece], remarks: List[str]) -> List[Piece]:
     frame = re.compile(rb"\x02[^\x02]*[\x03\x17][0-9A-Fa-f]{2}\r?$", re.S)
     if any(b"\n" in piece.data for piece in pieces) or not any(frame.search(piece.data) for piece in pieces):
         return pieces
-    remarks.append("the log shows no <LF>: CR LF is supposed behind each checksum")
+    remarks.append("the log shows no <LF>: CR LF is supposed after each checksum")
     return [
         piece._replace(data=piece.data.rstrip(b"\r") + b"\r\n") if frame.search(piece.data) else piece
         for piece in pieces

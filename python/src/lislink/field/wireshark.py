@@ -29,7 +29,7 @@ def follow_hex(text: str) -> Log:
             continue
         side, data = "second" if found[1] else "first", hex_row(found[3])
         if data is None:
-            raise LogError(f"no bytes behind the offset: {line[:60]!r}", number)
+            raise LogError(f"no bytes after the offset: {line[:60]!r}", number)
         if int(found[2], 16) != due.get(side, 0):
             raise LogError("the offset doesn't follow the bytes before: a row is missing", number)
         due[side] = due.get(side, 0) + len(data)
