@@ -97,6 +97,8 @@ static void of_restarts(void) {
     starts();
     uint64_t second = lis_line_connected(&line);    /* in mid-session: it is restarted */
     SAME(lis_sender_outcome(&line.sender), LIS_OUTCOME_RESTARTED);
+    lis_line_timer(&line, &out);                    /* that session was of the old connection */
+    lis_line_restart(&line);
     SAME(lis_line_start_lent(&line, texts, 1, &out, &fault), LIS_STATUS_OK);
     drops(first, ACK);
     lis_line_reply(&line, second, NAK, &out);

@@ -2,7 +2,7 @@
  * tests compare it with lislink.h. */
 #include "lislink.h"
 
-#define WORDS(table, at) ((at) < sizeof(table) / sizeof *(table) ? (table)[at] : "unknown")
+#define WORDS(table, at) ((at) < sizeof(table) / sizeof *(table) && (table)[at] ? (table)[at] : "unknown")
 
 const char *lis_version(void) {
     return LIS_VERSION;
