@@ -46,9 +46,9 @@ static bool hear(lis_receiver *receiver, const uint8_t *bytes, size_t got, time_
 /* Reads what came. It came after `since`, and what the next read gives after `next`. */
 static ssize_t read_some(int line, uint8_t *bytes, size_t room, time_t *since, time_t *next) {
     struct pollfd ready = {line, POLLIN, 0};
-    time_t before = now();
-    for (; poll(&ready, 1, 1000) == 0; before = now())
+    for (time_t before = now(); poll(&ready, 1, 1000) == 0; before = now())
         *since = before;                                                  /* there was nothing yet */
+    time_t before = now();
     ssize_t got = read(line, bytes, room);
     *next = got < (ssize_t)room ? before : *since;                        /* a full buffer may have left some */
     return got;
