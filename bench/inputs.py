@@ -8,6 +8,9 @@ from collections import namedtuple
 
 Input = namedtuple("Input", "name commands head block")
 
+# The scale of the inputs that are timed, and of those whose instructions are counted.
+TIMED, COUNTED = 40, 4
+
 STX, ETX, EOT, ENQ, ACK, LF, CR, NAK, ETB = 2, 3, 4, 5, 6, 10, 13, 21, 23
 LETTERS = bytes(range(32, 127))
 USUAL, LONG = 240, 63993

@@ -9,19 +9,20 @@ ROOT = os.path.dirname(HERE)
 RUSTC = ["rustc", "--edition", "2024", "-O", "-C", "codegen-units=1", "-C", "panic=abort", "-C", "target-cpu=x86-64-v2"]
 
 
+def proved(name):
+    """A program of the repository, proved and built."""
+    program = os.path.join(ROOT, "build", name)
+    subprocess.run([os.path.join(ROOT, "tools/prove"), name, program], check=True)
+    return program
+
+
 def lislink():
-    """The program, proved and built."""
-    subprocess.run(["make", "--no-print-directory", "build"], cwd=ROOT, check=True)
-    return os.path.join(ROOT, "build/lislink")
+    return proved("lislink")
 
 
 def vectors():
-    """The program that makes the calls of the crates, proved and built."""
-    crate = os.path.join(ROOT, "crates/vectors")
-    done = subprocess.run(["rt", "run", "--", "play", "0"], cwd=crate, stdout=subprocess.PIPE, stderr=subprocess.STDOUT)
-    if done.returncode:
-        raise SystemExit(done.stdout.decode())
-    return os.path.join(crate, "out/vectors")
+    """The program that makes the calls of the crates."""
+    return proved("vectors")
 
 
 def peer(work):

@@ -12,6 +12,7 @@ import subprocess
 import time
 from collections import namedtuple
 
+import inputs
 import measured
 import programs
 
@@ -90,24 +91,33 @@ def speeds(work, known, text, readings, rounds):
     return made, {way: measured.spread([one[way] / one["ours"] for one in times]) for way in known}
 
 
-def counts(known, made):
-    """Instructions and bytes of heap for a byte of text, of each way."""
-    few, many = messages_of(made.block, FEW), messages_of(made.block, HEAP)
-    instructions = {way: (measured.instructions(words(3), few) - measured.instructions(words(1), few)) / 2 / len(few)
-                    for way, words in known.items()}
-    heap = {way: (measured.heap(words(1), many) - measured.heap(words(0), many)) / len(many)
-            for way, words in known.items()}
-    return instructions, heap
+def small():
+    """The inputs of records whose instructions are counted, by name."""
+    return {made.name: made for made in inputs.inputs(inputs.COUNTED) if "check" in made.commands}
+
+
+def instructions_a_byte(words, made):
+    """The instructions for a byte of the first messages of an input, read with the memory of the time before."""
+    few = messages_of(made.block, FEW)
+    return (measured.instructions(words(3), few) - measured.instructions(words(1), few)) / 2 / len(few)
+
+
+def heap_a_byte(words, made):
+    """The bytes of heap for a byte of text, all of whose messages are kept."""
+    many = messages_of(made.block, HEAP)
+    return (measured.heap(words(1), many) - measured.heap(words(0), many)) / len(many)
 
 
 def rows(work, vectors, peer, all_inputs, asked):
     """A row for each input."""
-    known = ways(vectors, peer)
+    known, counted = ways(vectors, peer), small()
     for made in all_inputs:
-        again, ratios, kept = {}, {}, {}
+        again, ratios, kept, instructions, heap = {}, {}, {}, {}, {}
         if asked.rounds:
             few = messages_of(made.block, FEW)
             again, ratios = speeds(work, known, few, int(asked.size * 1e6 / 3 / len(few)), asked.rounds)
             kept, _ = speeds(work, known, messages_of(made.block, KEPT), 1, min(asked.rounds, 5))
-        instructions, heap = counts(known, made) if asked.counts else ({}, {})
+        if asked.counts:
+            instructions = {way: instructions_a_byte(words, counted[made.name]) for way, words in known.items()}
+            heap = {way: heap_a_byte(words, made) for way, words in known.items()}
         yield Row(made.name, again, ratios, kept, instructions, heap)
