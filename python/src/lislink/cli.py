@@ -12,6 +12,10 @@ from ._library import LibraryMissing
 from .capture import Capture, CaptureError, looks_like_capture, read_capture, write_lines
 from .field import normalize, sniffers, table
 from .field.log import LogError, find_time, time_text
+from .host import commands as host_commands
+from .host.deliver import WrongStore
+from .host.options import OptionError
+from .host.store import StoreError
 
 #: Exit statuses: as those of lislink.
 GOOD, LOOKS_WRONG, USAGE, STOPPED = 0, 1, 2, 3
@@ -282,6 +286,7 @@ def parser() -> argparse.ArgumentParser:
     one.add_argument("--no-header", action="store_true", help="no line of names")
     _import_options(one)
     one.set_defaults(run=run_table)
+    host_commands.add_commands(commands)
     return top
 
 
@@ -295,6 +300,9 @@ def main(words: Optional[List[str]] = None) -> int:
     except BrokenPipeError:
         os.dup2(os.open(os.devnull, os.O_WRONLY), 1)
         return STOPPED
-    except (LogError, CaptureError, LibraryMissing, table.TableError, OSError) as error:
+    except (LogError, CaptureError, LibraryMissing, StoreError, WrongStore, OSError) as error:
         say(str(error))
-        return USAGE if isinstance(error, table.TableError) else STOPPED
+        return STOPPED
+    except (table.TableError, OptionError) as error:
+        say(str(error))
+        return USAGE

@@ -3,7 +3,7 @@ library."""
 import ctypes
 import enum
 import itertools
-from typing import Callable, Iterable, Iterator, List, NamedTuple, Optional, Sequence, Tuple, TypeVar, Union
+from typing import Any, Callable, Iterable, Iterator, List, NamedTuple, Optional, Sequence, Tuple, TypeVar, Union
 
 from . import _library
 from ._checks import as_bytes, as_number
@@ -117,7 +117,7 @@ class Reader(Owner):
 
     def __init__(self) -> None:
         super().__init__()
-        self._room = (ctypes.c_uint8 * RECORD_BYTES)()
+        self._room: Any = None
         #: How many bytes of the stream were read.
         self.read = 0
 
@@ -140,6 +140,22 @@ class Reader(Owner):
             if self._at >= len(self._piece):
                 return
 
+    def letters(self, data: bytes) -> Iterator[str]:
+        """The same without the fields: the letters of the records that further bytes end."""
+        self._add(data)
+        return self._letters()
+
+    def _letters(self) -> Iterator[str]:
+        out = _library.Found()
+        while True:
+            self.read += self._read_on("read", out)
+            if out.kind == 2:
+                raise MessageError(out.number, out.reason, out.detail, out.place)
+            if out.kind == 1:
+                yield chr(out.letter)
+            if self._at >= len(self._piece):
+                return
+
     def finish(self) -> None:
         """The end of the stream: MessageError if a message isn't closed, or a record isn't ended."""
         out = _library.Found()
@@ -155,6 +171,7 @@ class Reader(Owner):
 
     def _part(self, *where: int) -> Optional[bytes]:
         size = ctypes.c_size_t()
+        self._room = self._room or (ctypes.c_uint8 * RECORD_BYTES)()
         if self._call("part", *where, self._room, RECORD_BYTES, ctypes.byref(size)):
             return None
         return bytes(self._room[: size.value])

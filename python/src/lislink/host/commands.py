@@ -1,0 +1,272 @@
+"""The commands of the host: `lislab serve`, `send`, `status`, `export` and `deliver`."""
+import argparse
+import asyncio
+import os
+import socket
+import sys
+from typing import Any, Callable, Iterator, List, Optional
+
+from . import deliver, export, options, send, serve, status
+from .options import Limits, OptionError
+from .store import UNFINISHED, UNREADABLE, WHOLE, Store, open_store
+
+#: Exit statuses, as those of the other commands.
+GOOD, WRONG, USAGE = 0, 1, 2
+
+
+def add_commands(commands: Any) -> None:
+    """Adds the commands to those of lislab."""
+    _add_serve(commands.add_parser("serve", help="a host: keeps what analyzers send, and then acknowledges it"))
+    _add_send(commands.add_parser("send", help="an analyzer: sends a file of records to a host"))
+    _add_status(commands.add_parser("status", help="the lines of a host, and what its store has"))
+    _add_export(commands.add_parser("export", help="messages out of a store"))
+    _add_deliver(commands.add_parser("deliver", help="delivers each whole message to a command or a directory"))
+
+
+def _store(parser: argparse.ArgumentParser) -> None:
+    parser.add_argument(
+        "--store",
+        required=True,
+        metavar="STORE",
+        help="an SQLite file, postgresql://.., or spool:DIRECTORY",
+    )
+
+
+def _scale(parser: argparse.ArgumentParser) -> None:
+    parser.add_argument(
+        "--scale", type=float, default=1.0, metavar="S", help="for tests: each timer S times as long"
+    )
+
+
+def _add_serve(one: argparse.ArgumentParser) -> None:
+    _store(one)
+    one.add_argument(
+        "--listen",
+        action="append",
+        default=[],
+        metavar="HOST:PORT[,name=..][,frame=..][,encoding=..]",
+        help="a TCP port; HOST is 127.0.0.1 if it isn't named",
+    )
+    one.add_argument(
+        "--serial",
+        action="append",
+        default=[],
+        metavar="DEVICE:SPEED[,name=..][,mode=8N1][,flow=..][,frame=..][,encoding=..]",
+        help="a serial line",
+    )
+    one.add_argument(
+        "--allow", action="append", default=[], metavar="NETWORK", help="who may connect besides this machine"
+    )
+    one.add_argument(
+        "--host-name", default=socket.gethostname(), metavar="NAME", help="this host's name in the store"
+    )
+    one.add_argument("--lines", type=int, default=Limits().lines, help="the most TCP lines at once (%(default)s)")
+    one.add_argument("--message-bytes", type=int, default=Limits().message, help="of one message (%(default)s)")
+    one.add_argument(
+        "--idle", type=float, default=Limits().idle, help="seconds of silence that close a line (%(default)s)"
+    )
+    one.add_argument(
+        "--reply-within",
+        type=float,
+        default=Limits().reply,
+        help="seconds after which no reply is sent (%(default)s)",
+    )
+    one.add_argument(
+        "--grace", type=float, default=Limits().grace, help="seconds for open sessions at a stop (%(default)s)"
+    )
+    one.add_argument("--capture", metavar="PREFIX", help="write what goes over each line to PREFIX-NAME-..capture")
+    one.add_argument("--status", metavar="FILE", help="where the state for lislab status is (STORE.status)")
+    _scale(one)
+    one.set_defaults(run=run_serve)
+
+
+def _state_file(store: str, named: Optional[str]) -> Optional[str]:
+    if named is not None or "://" in store:
+        return named
+    return (store[len("spool:") :].rstrip("/") if store.startswith("spool:") else store) + ".status"
+
+
+def run_serve(ask: argparse.Namespace) -> int:
+    """Serves until it is stopped."""
+    listens = [options.listen_of(word) for word in ask.listen]
+    serials = [options.serial_of(word) for word in ask.serial]
+    networks = options.networks_of(ask.allow)
+    if not listens and not serials:
+        raise OptionError("name a line by --listen or --serial")
+    options.check_allowed(listens, networks)
+    serve.check_frames([*listens, *serials])
+    if not 0 < ask.reply_within < 15:
+        raise OptionError("--reply-within is below the analyzer's timer of 15 seconds")
+    limits = Limits(ask.lines, ask.message_bytes, ask.idle, ask.reply_within, ask.grace, ask.scale)
+    os.umask(0o077)
+    store = open_store(ask.store)
+    try:
+        left = store.start(ask.host_name)
+        if left:
+            serve.say(f"{left} messages were open when the host stopped: they are unfinished")
+        state = _state_file(ask.store, ask.status)
+        asyncio.run(serve.serve(serve.Asked(listens, serials, networks, limits, ask.capture, state), store))
+    finally:
+        store.close()
+    return GOOD
+
+
+def _add_send(one: argparse.ArgumentParser) -> None:
+    one.add_argument("records", nargs="?", default="-", help="a file of records; standard input if none is named")
+    one.add_argument("--to", metavar="HOST:PORT", help="a host's TCP port")
+    one.add_argument("--serial", metavar="DEVICE:SPEED[,mode=8N1][,flow=..]", help="a serial line")
+    one.add_argument("--tries", type=int, default=10, help="sessions for a message, 0 for no end (%(default)s)")
+    one.add_argument("--rate", type=float, default=0.0, help="messages a second of each analyzer, at most")
+    one.add_argument("--analyzers", type=int, default=1, metavar="N", help="so many analyzers, each sends all")
+    one.add_argument("--made", type=int, metavar="N", help="send N made-up messages of each analyzer, and no file")
+    one.add_argument(
+        "--name", default="A", help="the first letters of the names of made-up analyzers (%(default)s)"
+    )
+    one.add_argument("--seconds", type=float, metavar="S", help="stop after so many seconds")
+    one.add_argument("--noise", type=float, default=0.0, metavar="P", help="the chance of a byte to be damaged")
+    one.add_argument(
+        "--late", type=float, default=0.0, metavar="P", help="the chance of a reply to come after its timer"
+    )
+    one.add_argument("--reset", type=float, default=0.0, metavar="P", help="the chance of a reset before a unit")
+    one.add_argument("--cut", action="store_true", help="cut units at random places")
+    one.add_argument("--seed", type=int, default=1, help="of what happens by chance (%(default)s)")
+    one.add_argument("--log", metavar="FILE", help="a line of JSON for each message that is done")
+    one.add_argument("--quiet", action="store_true", help="no line for each message")
+    _scale(one)
+    one.set_defaults(run=run_send)
+
+
+def _texts_of(ask: argparse.Namespace, bad: List[str]) -> Callable[[str], Iterator[send.Texts]]:
+    if ask.made is not None:
+        return lambda name: (send.made_message(name, number) for number in range(1, ask.made + 1))
+    if ask.records == "-":
+        data = sys.stdin.buffer.read()
+    else:
+        with open(ask.records, "rb") as file:
+            data = file.read()
+    found = list(send.messages_of(data))
+    bad.extend(one for one in found if isinstance(one, str))
+    return lambda name: (one for one in found if not isinstance(one, str))
+
+
+def run_send(ask: argparse.Namespace) -> int:
+    """Sends, and says how each message went."""
+    if bool(ask.to) == bool(ask.serial):
+        raise OptionError("name the host by --to or the line by --serial")
+    target: send.Target = options.split_address(ask.to) if ask.to else options.serial_of(ask.serial)
+    if ask.serial and ask.analyzers != 1:
+        raise OptionError("a serial line has one analyzer")
+    bad: List[str] = []
+    texts = _texts_of(ask, bad)
+    for why in bad:
+        serve.say(why)
+    many = ask.analyzers > 1 or ask.made is not None
+    names = [f"{ask.name}{number}" if many else "" for number in range(1, ask.analyzers + 1)]
+    trouble = send.Trouble(ask.noise, ask.late, ask.reset, ask.cut)
+    plan = send.Plan(target, texts, names, ask.rate, trouble, ask.scale, ask.tries, ask.seed, ask.log, ask.seconds)
+
+    def report(name: str, number: int, sent: send.Sent) -> None:
+        if not ask.quiet:
+            send.print_sent(f"{name}: " if name else "", number, sent)
+
+    summary = asyncio.run(send.send_all(plan, report))
+    send.print_summary(summary)
+    return WRONG if bad or summary.failed else GOOD
+
+
+def _add_status(one: argparse.ArgumentParser) -> None:
+    _store(one)
+    one.add_argument("--status", metavar="FILE", help="where the host writes its state (STORE.status)")
+    one.add_argument(
+        "--cursor", action="append", default=[], metavar="FILE", help="of a delivery: what it has still to do"
+    )
+    one.add_argument("--json", action="store_true", help="as JSON")
+    one.set_defaults(run=run_status)
+
+
+def run_status(ask: argparse.Namespace) -> int:
+    """Shows a host and its store; status 1 if the host isn't running."""
+    import json
+
+    store = open_store(ask.store)
+    try:
+        data = status.data_of(store, status.read_state(_state_file(ask.store, ask.status)), ask.cursor)
+    finally:
+        store.close()
+    sys.stdout.write(json.dumps(data, ensure_ascii=False) + "\n" if ask.json else status.text_of(data))
+    return GOOD if data["running"] else WRONG
+
+
+def _add_export(one: argparse.ArgumentParser) -> None:
+    _store(one)
+    one.add_argument("--format", choices=export.FORMATS, default="json", help="(%(default)s)")
+    one.add_argument("--since", metavar="TIME", help="kept at this time or later: 2026-11-27 or 2026-11-27T10:30")
+    one.add_argument("--after", type=int, default=0, metavar="NUMBER", help="whole messages with a greater number")
+    one.add_argument("--line", metavar="NAME", help="of this line alone")
+    one.add_argument("--state", choices=(WHOLE, UNFINISHED, UNREADABLE, "all"), default=WHOLE, help="(%(default)s)")
+    one.add_argument("--without-repeats", action="store_true", help="leave out messages that came again")
+    one.add_argument("-o", "--output", metavar="FILE")
+    one.set_defaults(run=run_export)
+
+
+def run_export(ask: argparse.Namespace) -> int:
+    """Writes messages out of a store."""
+    try:
+        since = None if ask.since is None else export.time_of(ask.since)
+    except ValueError:
+        raise OptionError(f"--since {ask.since}: a time is 2026-11-27 or 2026-11-27T10:30") from None
+    states = [WHOLE, UNFINISHED, UNREADABLE] if ask.state == "all" else [ask.state]
+    wanted = export.Wanted(states, ask.after, since, ask.line, not ask.without_repeats)
+    write = export.writer_of(ask.format)
+    store = open_store(ask.store)
+    try:
+        with _output(ask.output) as out:
+            out.write(write(None))
+            for one in export.wanted_of(store, wanted):
+                out.write(write(one))
+            out.flush()
+    finally:
+        store.close()
+    return GOOD
+
+
+def _output(path: Optional[str]) -> Any:
+    if path is None or path == "-":
+        return os.fdopen(os.dup(sys.stdout.fileno()), "wb")
+    descriptor = os.open(path, os.O_WRONLY | os.O_CREAT | os.O_TRUNC | os.O_CLOEXEC, 0o600)
+    os.fchmod(descriptor, 0o600)
+    return os.fdopen(descriptor, "wb")
+
+
+def _add_deliver(one: argparse.ArgumentParser) -> None:
+    _store(one)
+    one.add_argument("--cursor", required=True, metavar="FILE", help="keeps which message was delivered last")
+    one.add_argument("--directory", metavar="DIR", help="a file for each message")
+    one.add_argument("--format", choices=export.FORMATS, default="records", help="(%(default)s)")
+    one.add_argument("--seconds", type=float, default=60.0, help="how long the command has (%(default)s)")
+    one.add_argument("--once", action="store_true", help="deliver what there is, and end")
+    one.add_argument(
+        "words", nargs="*", metavar="COMMAND", help="after --: a command that reads a message, and its words"
+    )
+    one.set_defaults(run=run_deliver)
+
+
+def run_deliver(ask: argparse.Namespace) -> int:
+    """Delivers until it is stopped, or what there is."""
+    if bool(ask.directory) == bool(ask.words):
+        raise OptionError("name a directory by --directory, or a command after --")
+    if ask.directory:
+        one = deliver.to_directory(ask.directory, ask.format)
+    else:
+        one = deliver.to_command(ask.words, ask.format, ask.seconds)
+    store: Store = open_store(ask.store)
+    cursor = deliver.Cursor(ask.cursor)
+    try:
+        count = deliver.run(deliver.Delivery(store, cursor, one, serve.say), ask.once)
+        serve.say(f"{count} messages delivered")
+        return GOOD
+    except deliver.Refused:
+        return WRONG
+    finally:
+        cursor.close()
+        store.close()

@@ -1,0 +1,107 @@
+"""Commits: one thread that keeps at once what all lines wait for. A slow disk delays no line's reading."""
+import asyncio
+import threading
+import time
+from collections import deque
+from typing import Callable, Deque, List, NamedTuple, Optional
+
+from .store import Store, StoreError, Unit
+
+#: The most units of one commit, and the most that are tried again because nobody waits for them.
+TOGETHER, OWED = 500, 10000
+#: How often these are tried at the end. What is still open then becomes unfinished at the next start.
+LAST_TRIES = 5
+
+
+class _Waiting(NamedTuple):
+    unit: Unit
+    done: "Optional[asyncio.Future[None]]"
+
+
+class Committer:
+    """Keeps units in the order in which they are put. `put` is done when its unit is on the disk."""
+
+    def __init__(self, store: Store, say: Callable[[str], None]) -> None:
+        self._store, self._say = store, say
+        self._loop = asyncio.get_running_loop()
+        self._waiting: Deque[_Waiting] = deque()
+        self._owed: Deque[Unit] = deque(maxlen=OWED)
+        self._next_try = 0.0
+        self._wake, self._stopping = threading.Event(), False
+        #: How many commits were made, and how many failed.
+        self.commits = self.failed = 0
+        self._thread = threading.Thread(target=self._run, name="commits", daemon=True)
+        self._thread.start()
+
+    def put(self, unit: Unit) -> "asyncio.Future[None]":
+        """Done when the unit is kept; StoreError if it can't be."""
+        done: "asyncio.Future[None]" = self._loop.create_future()
+        self._waiting.append(_Waiting(unit, done))
+        self._wake.set()
+        return done
+
+    def put_later(self, unit: Unit) -> None:
+        """Keeps a unit that nobody waits for; if it can't be kept now, with a later commit."""
+        self._waiting.append(_Waiting(unit, None))
+        self._wake.set()
+
+    async def stop(self) -> None:
+        """Keeps what is still waiting, and ends the thread."""
+        self._stopping = True
+        self._wake.set()
+        while self._thread.is_alive():
+            await asyncio.sleep(0.01)
+
+    def _run(self) -> None:
+        while True:
+            self._wake.wait()
+            self._wake.clear()
+            while self._waiting:
+                count = min(len(self._waiting), TOGETHER)
+                self._keep([self._waiting.popleft() for _ in range(count)])
+            if self._stopping and not self._waiting:
+                for _ in range(LAST_TRIES):
+                    self._next_try = 0.0
+                    self._keep_owed()
+                return
+
+    def _keep(self, batch: List[_Waiting]) -> None:
+        fault = self._commit([one.unit for one in batch])
+        if fault is not None:
+            self.failed += 1
+            self._owed.extend(one.unit for one in batch if one.done is None)
+        else:
+            self._keep_owed()
+        done = [one.done for one in batch if one.done is not None]
+        try:
+            self._loop.call_soon_threadsafe(_settle, done, fault, self._say)
+        except RuntimeError:
+            pass  # the loop is closed: nobody waits any more
+
+    def _keep_owed(self) -> None:
+        if self._owed and time.monotonic() > self._next_try:
+            if self._commit(list(self._owed)) is None:
+                self._owed.clear()
+            self._next_try = time.monotonic() + 1
+
+    def _commit(self, units: List[Unit]) -> Optional[Exception]:
+        try:
+            self._store.commit(units)
+            self.commits += 1
+            return None
+        except StoreError as error:
+            return error
+        except Exception as error:  # a fault of the store's own is no reason to lose the thread
+            return StoreError(f"{type(error).__name__}: {error}")
+
+
+def _settle(done: "List[asyncio.Future[None]]", fault: Optional[Exception], say: Callable[[str], None]) -> None:
+    if fault is not None:
+        say(f"not kept: {fault}")
+    for one in done:
+        if one.done():
+            continue
+        if fault is None:
+            one.set_result(None)
+        else:
+            one.set_exception(fault)

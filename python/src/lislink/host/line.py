@@ -1,0 +1,245 @@
+"""One line of a host: hears its bytes, keeps its texts, and replies. The proved receiver decides what each byte means
+and what is answered; here is when an answer goes out: after its text is kept, and never late."""
+import asyncio
+from collections import Counter, deque
+from typing import Callable, Deque, Dict, Optional, Tuple
+
+from ..link import RECEIVER, Note, Receiver, Step
+from .commits import Committer
+from .intake import Intake, TooLong
+from .options import Limits
+from .store import WHOLE, End, StoreError
+from .tape import Tape
+
+#: How many bytes may wait to be heard before the line is read no further; for how many seconds one line is heard before
+#: the others have their turn.
+WAITING, TURN = 1 << 16, 0.005
+#: What ends a session, and what that makes of a message without its L record.
+_ENDS = {
+    Note.OPENED: "a new session began before its L record",
+    Note.NOT_READY: "a new session began before its L record",
+    Note.ENDED: "the session ended before its L record",
+    Note.TIMED_OUT: "the analyzer fell silent before its L record",
+}
+_COUNTED = {
+    Note.OPENED: "sessions",
+    Note.ACCEPTED: "frames",
+    Note.DUPLICATE: "duplicates",
+    Note.OUT_OF_TURN: "out_of_turn",
+    Note.REFUSED: "rejected",
+    Note.NO_ROOM: "rejected",
+    Note.TEXT_TOO_LONG: "rejected",
+    Note.TOO_MANY: "rejected",
+    Note.REFUSED_MEMORY: "rejected",
+    Note.TIMED_OUT: "timeouts",
+}
+
+
+class Wire:
+    """What a line needs of its transport."""
+
+    def write(self, data: bytes) -> None:
+        """Sends bytes at once, or never."""
+        raise NotImplementedError
+
+    def close(self) -> None:
+        """Closes the line."""
+
+    def pause(self) -> None:
+        """Reads no further for now."""
+
+    def resume(self) -> None:
+        """Reads on."""
+
+
+class Line:
+    """A line that is connected."""
+
+    def __init__(
+        self,
+        wire: Wire,
+        intake: Intake,
+        committer: Committer,
+        limits: Limits,
+        counts: "Counter[str]",
+        tape: Optional[Tape],
+    ) -> None:
+        self._wire, self._intake, self._committer, self._limits = wire, intake, committer, limits
+        self._counts, self._tape = counts, tape
+        self._loop = asyncio.get_running_loop()
+        self._receiver = Receiver()
+        self._pieces: Deque[Tuple[float, bytes]] = deque()
+        self._size, self._paused_at = 0, None  # type: int, Optional[float]
+        self._due: Optional[float] = None
+        self._last_byte = self._loop.time()
+        self._lost = self._stopping = False
+        self._waiter: "Optional[asyncio.Future[None]]" = None
+        #: When its last message was kept, by the clock on the wall.
+        self.last: Optional[float] = None
+
+    def data(self, data: bytes, arrived: float) -> None:
+        """Bytes came, at the latest at this time of the loop's clock."""
+        if self._paused_at is not None:
+            arrived = min(arrived, self._paused_at)
+        self._pieces.append((arrived, data))
+        self._size += len(data)
+        if self._size > WAITING and self._paused_at is None:
+            self._paused_at = arrived
+            self._wire.pause()
+        self._wake()
+
+    def lost(self) -> None:
+        """The line is gone: what came is still heard."""
+        self._lost = True
+        self._wake()
+
+    def stop(self) -> None:
+        """Closes the line as soon as no session goes on."""
+        self._stopping = True
+        self._wake()
+
+    def _wake(self) -> None:
+        if self._waiter is not None and not self._waiter.done():
+            self._waiter.set_result(None)
+
+    async def run(self) -> None:
+        """Hears the line until it is closed."""
+        why = "the line was closed before its L record"
+        try:
+            while not await self._nothing_left():
+                now = self._loop.time()
+                if self._pieces:
+                    arrived, data = self._pieces.popleft()
+                    self._size -= len(data)
+                    self._last_byte = now
+                    if self._due is not None and arrived >= self._due:
+                        await self._timer(now)
+                    await self._hear(data, arrived)
+                elif self._due is not None and now >= self._due:
+                    await self._timer(now)
+                elif now - self._last_byte >= self._limits.idle:
+                    self._counts["idle"] += 1
+                    break
+        except asyncio.CancelledError:
+            why = "the host was stopped"
+            raise
+        finally:
+            self._drop(why)
+            self._receiver.close()
+            self._wire.close()
+            if self._tape is not None:
+                self._tape.close()
+
+    async def _nothing_left(self) -> bool:
+        """Waits until there is something to do; whether the line is over."""
+        if self._pieces:
+            return False
+        if self._paused_at is not None:
+            self._paused_at = None
+            self._wire.resume()
+        if self._lost or (self._stopping and not self._receiver.is_open):
+            return True
+        due = self._last_byte + self._limits.idle
+        due = due if self._due is None else min(due, self._due)
+        self._waiter = self._loop.create_future()
+        alarm = self._loop.call_at(due, self._wake)
+        try:
+            await self._waiter
+        finally:
+            alarm.cancel()
+            self._waiter = None
+        return self._lost and not self._pieces
+
+    async def _timer(self, now: float) -> None:
+        if self._tape is not None:
+            self._tape.event("T")
+        await self._step(self._receiver.timer(), now)
+
+    async def _hear(self, data: bytes, arrived: float) -> None:
+        if self._tape is not None:
+            self._tape.bytes(">", data)
+        over = self._loop.time() + TURN
+        for step in self._receiver.hear(data):
+            await self._step(step, arrived)
+            if self._loop.time() > over:
+                await asyncio.sleep(0)
+                over = self._loop.time() + TURN
+
+    async def _step(self, step: Step, arrived: float) -> None:
+        if step.note in _COUNTED:
+            self._counts[_COUNTED[step.note]] += 1
+        if step.note in _ENDS:
+            self._drop(_ENDS[step.note])
+        if step.text is not None and not await self._keep(step.text):
+            return
+        if step.reply and not self._answer(step.reply, arrived):
+            return
+        self._due = self._loop.time() + RECEIVER * self._limits.scale if self._receiver.is_open else None
+
+    def _answer(self, reply: bytes, arrived: float) -> bool:
+        """Sends a reply, if its sender may still be waiting for it."""
+        if self._loop.time() - arrived > self._limits.reply * self._limits.scale:
+            self._counts["late"] += 1
+            self._restart("the reply would have been late")
+            return False
+        if self._tape is not None:
+            self._tape.bytes("<", reply)
+        self._wire.write(reply)
+        return True
+
+    async def _keep(self, text: bytes) -> bool:
+        """Keeps a text; if it can't be kept there is no reply, and the receiver begins anew."""
+        self._counts["texts"] += 1
+        try:
+            changes = self._intake.take(text)
+            if changes:
+                await self._committer.put(changes)
+        except (StoreError, TooLong) as error:
+            self._counts["not_kept"] += 1
+            undone = self._intake.undo(f"a text could not be kept: {error}")
+            if undone:
+                self._committer.put_later(undone)
+            self._restart("a text could not be kept")
+            return False
+        for change in changes:
+            if isinstance(change, End):
+                self._counts["messages" if change.state == WHOLE else "quarantined"] += 1
+                self.last = change.at if change.state == WHOLE else self.last
+        return True
+
+    def _restart(self, reason: str) -> None:
+        self._receiver.restart()
+        self._due = None
+        self._counts["restarts"] += 1
+        if self._tape is not None:
+            self._tape.event("R")
+        self._drop(reason)
+
+    def _drop(self, reason: str) -> None:
+        changes = self._intake.drop(reason)
+        if changes:
+            self._counts["quarantined"] += 1
+            self._committer.put_later(changes)
+
+
+class Ticks:
+    """When bytes came, at the earliest. A host that was stopped, or was busy, reads late what came long before. Bytes
+    that a turn of the loop reads were not there at the turn before, so they came after the tick before the last one:
+    that one was over before the turn before began, whenever the host was stopped."""
+
+    def __init__(self, period: float) -> None:
+        self._loop, self._period = asyncio.get_running_loop(), period
+        self._last = self.before = self._loop.time()
+        self._handle = self._loop.call_later(period, self._tick)
+
+    def _tick(self) -> None:
+        self.before, self._last = self._last, self._loop.time()
+        self._handle = self._loop.call_later(self._period, self._tick)
+
+    def stop(self) -> None:
+        """Ends the ticks."""
+        self._handle.cancel()
+
+
+Counts = Dict[str, "Counter[str]"]
+Say = Callable[[str], None]

@@ -1,0 +1,120 @@
+"""The store in a PostgreSQL database, which many hosts share. Replication and failover are PostgreSQL's own.
+
+It needs psycopg 3 or psycopg2 (Debian: python3-psycopg, python3-psycopg2).
+"""
+import importlib
+from typing import Any, Optional, Sequence
+
+from .sql import SqlStore
+from .store import StoreError, Unit
+
+#: The advisory locks: one for the numbers of messages and the tables, one for each host by its name.
+_NUMBERS, _HOSTS = 5401, 5402
+#: A server that doesn't answer, or a host that stops inside a transaction, holds nobody for longer than this.
+_SESSION = (
+    "SET lock_timeout = '5s'",
+    "SET statement_timeout = '10s'",
+    "SET idle_in_transaction_session_timeout = '10s'",
+    "SET default_transaction_isolation = 'read committed'",
+    "SET tcp_keepalives_idle = 10",
+    "SET tcp_keepalives_interval = 5",
+    "SET tcp_keepalives_count = 3",
+)
+_CONNECTION = {"connect_timeout": 5, "keepalives_idle": 5, "keepalives_interval": 2, "tcp_user_timeout": 10000}
+
+
+def _driver() -> Any:
+    for name in ("psycopg", "psycopg2"):
+        try:
+            return importlib.import_module(name)
+        except ImportError:
+            continue
+    raise StoreError("a PostgreSQL store needs psycopg (Debian: python3-psycopg or python3-psycopg2)")
+
+
+class PostgresStore(SqlStore):
+    """A store in a database. A connection that fails is given up, and the next commit makes a new one."""
+
+    blob = "BYTEA"
+
+    def __init__(self, address: str) -> None:
+        super().__init__()
+        self.address, self._driver = address, _driver()
+        self._db: Optional[Any] = None
+
+    def start(self, host: str) -> int:
+        self.host = host
+        try:
+            self._connect()
+            self.run("BEGIN")
+            self.lock_numbers()
+            self.make_tables()
+            left = self.end_open()
+            self._committed()
+            return left
+        except (self._driver.Error, StoreError) as error:
+            self._give_up()
+            raise StoreError(f"PostgreSQL: {_first_line(error)}") from None
+
+    def _connect(self) -> None:
+        self._db = self._driver.connect(self.address, **_CONNECTION)
+        self._db.autocommit = True
+        for statement in _SESSION:
+            self.run(statement)
+        if self.run("SELECT current_setting('fsync')").fetchone()[0] == "off":
+            raise StoreError("the server keeps nothing: fsync is off")
+        if self.run("SELECT current_setting('synchronous_commit')").fetchone()[0] == "off":
+            self.run("SET synchronous_commit = on")
+        if self.host:
+            taken = self.run("SELECT pg_try_advisory_lock(?, hashtext(?))", (_HOSTS, self.host)).fetchone()[0]
+            if not taken:
+                raise StoreError(f"another host has the name {self.host}")
+
+    def run(self, statement: str, values: Sequence[Any] = ()) -> Any:
+        if self._db is None:
+            self._connect()
+        assert self._db is not None
+        cursor = self._db.cursor()
+        cursor.execute(statement.replace("?", "%s"), tuple(values))
+        return cursor
+
+    def read(self, statement: str, values: Sequence[Any] = ()) -> Any:
+        try:
+            return super().read(statement, values)
+        except self._driver.Error as error:
+            self._give_up()
+            raise StoreError(f"PostgreSQL: {_first_line(error)}") from None
+
+    def lock_numbers(self) -> None:
+        """Numbers are given one host after another, so that they follow the order of the commits."""
+        self.run("SELECT pg_advisory_xact_lock(?, 0)", (_NUMBERS,))
+
+    def commit(self, units: Sequence[Unit]) -> None:
+        try:
+            self.run("BEGIN")
+            self.apply(units)
+            self._committed()
+        except (self._driver.Error, StoreError) as error:
+            self._give_up()
+            raise StoreError(f"PostgreSQL: {_first_line(error)}") from None
+
+    def _committed(self) -> None:
+        done = self.run("COMMIT")
+        if done.statusmessage != "COMMIT":
+            raise StoreError(f"the server answered {done.statusmessage} to COMMIT")
+
+    def _give_up(self) -> None:
+        """Closes the connection: what isn't committed is undone by the server."""
+        db, self._db = self._db, None
+        if db is not None:
+            try:
+                db.close()
+            except self._driver.Error:
+                pass
+
+    def close(self) -> None:
+        self._give_up()
+
+
+def _first_line(error: Exception) -> str:
+    return (str(error).strip() or type(error).__name__).splitlines()[0]

@@ -1,0 +1,265 @@
+"""`lislab serve`: a host for many analyzers. Each text is kept before it is acknowledged."""
+import asyncio
+import functools
+import json
+import os
+import re
+import signal
+import socket
+import sys
+import time
+from collections import Counter
+from typing import Any, Dict, List, NamedTuple, Optional, Sequence, Set
+
+from ..link import FRAME_TEXT
+from .commits import Committer
+from .intake import Intake
+from .line import Line, Ticks, Wire
+from .options import Limits, Listen, Network, OptionError, Serial, is_allowed
+from .store import Store
+from .tape import Tape
+from .tty import SerialWire, open_serial
+
+#: How often the state is written for `lislab status`, and a serial device that is gone is looked for, in seconds.
+STATUS, REOPEN = 2.0, 1.0
+
+
+class Asked(NamedTuple):
+    """What a host is to do."""
+
+    listens: Sequence[Listen]
+    serials: Sequence[Serial]
+    networks: Sequence[Network]
+    limits: Limits
+    capture: Optional[str]
+    status: Optional[str]
+
+
+def say(text: str) -> None:
+    """A line on standard error."""
+    print(f"lislab: {text}", file=sys.stderr, flush=True)
+
+
+class Host:
+    """The lines of a host, and what they share."""
+
+    def __init__(self, asked: Asked, store: Store) -> None:
+        self.asked, self.limits = asked, asked.limits
+        self.committer = Committer(store, say)
+        self.ticks = Ticks(max(0.02, self.limits.reply * self.limits.scale / 40))
+        self.counts: Dict[str, "Counter[str]"] = {}
+        self.last: Dict[str, float] = {}
+        self.lines: "Dict[Line, asyncio.Task[None]]" = {}
+        self._names: Dict[Line, str] = {}
+        self.refused, self.captures, self.begun = 0, 0, time.time()
+        self.stopping = False
+        self._servers: List[asyncio.AbstractServer] = []
+        self._others: "Set[asyncio.Task[None]]" = set()
+
+    def add(self, wire: Wire, place: "Listen | Serial", peer: str) -> Line:
+        """A line that is connected, heard from now on."""
+        counts = self.counts.setdefault(place.name, Counter())
+        counts["connections"] += 1
+        intake = Intake(place.name, peer, place.encoding, self.limits.message, time.time)
+        line = Line(wire, intake, self.committer, self.limits, counts, self._tape(place.name))
+        task = asyncio.ensure_future(line.run())
+        self.lines[line], self._names[line] = task, place.name
+        task.add_done_callback(lambda done: self._over(line, done))
+        return line
+
+    def _over(self, line: Line, done: "asyncio.Task[None]") -> None:
+        name = self._names.pop(line)
+        self._note_last(line, name)
+        del self.lines[line]
+        if not done.cancelled() and done.exception() is not None:
+            fault = done.exception()
+            say(f"{name}: the line is given up: {type(fault).__name__}: {fault}")
+
+    def _note_last(self, line: Line, name: str) -> None:
+        if line.last is not None:
+            self.last[name] = max(line.last, self.last.get(name, 0.0))
+
+    def _tape(self, name: str) -> Optional[Tape]:
+        if self.asked.capture is None:
+            return None
+        self.captures += 1
+        at = time.strftime("%Y%m%dT%H%M%S", time.gmtime(self.begun))
+        return Tape(f"{self.asked.capture}-{re.sub(r'[^A-Za-z0-9.-]', '_', name)}-{at}-{self.captures}.capture")
+
+    async def start(self) -> None:
+        """Opens the ports and the devices."""
+        for place in self.asked.listens:
+            server = await asyncio.get_running_loop().create_server(
+                functools.partial(TcpWire, self, place), place.host, place.port, backlog=100, reuse_address=True
+            )
+            self._servers.append(server)
+            for one in server.sockets or ():
+                print(f"listening {one.getsockname()[0]}:{one.getsockname()[1]} {place.name}", flush=True)
+        for serial in self.asked.serials:
+            self._task(self._serve_serial(serial))
+        if self.asked.status is not None:
+            self._task(self._write_status(self.asked.status))
+        print("ready", flush=True)
+
+    def _task(self, work: Any) -> None:
+        task: "asyncio.Task[None]" = asyncio.ensure_future(work)
+        self._others.add(task)
+        task.add_done_callback(self._others.discard)
+
+    async def _serve_serial(self, serial: Serial) -> None:
+        said = ""
+        while not self.stopping:
+            try:
+                wire = SerialWire(open_serial(serial), lambda: self.ticks.before)
+            except (OSError, OptionError) as error:
+                if str(error) != said:
+                    said = str(error)
+                    say(f"{serial.name}: {said}")
+                await asyncio.sleep(REOPEN)
+                continue
+            said = ""
+            line = self.add(wire, serial, serial.device)
+            wire.begin(line)
+            await asyncio.wait([self.lines[line]])
+
+    async def stop(self) -> None:
+        """Takes no new line, lets the sessions that go on end for a while, and keeps what came."""
+        self.stopping = True
+        for server in self._servers:
+            server.close()
+        for line in list(self.lines):
+            line.stop()
+        if self.lines:
+            await asyncio.wait(list(self.lines.values()), timeout=self.limits.grace)
+        for task in [*self.lines.values(), *self._others]:
+            task.cancel()
+        await asyncio.gather(*self.lines.values(), *self._others, return_exceptions=True)
+        self.ticks.stop()
+        await self.committer.stop()
+        if self.asked.status is not None:
+            write_state(self.asked.status, self.state())
+
+    def state(self) -> Dict[str, Any]:
+        """What `lislab status` shows of a host that runs."""
+        for line, name in self._names.items():
+            self._note_last(line, name)
+        open_now = Counter(self._names.values())
+        lines = {
+            name: {"connected": open_now[name], "last": self.last.get(name), **counts}
+            for name, counts in sorted(self.counts.items())
+        }
+        return {
+            "at": time.time(),
+            "begun": self.begun,
+            "process": os.getpid(),
+            "stopped": self.stopping,
+            "refused_connections": self.refused,
+            "commits": self.committer.commits,
+            "failed_commits": self.committer.failed,
+            "lines": lines,
+        }
+
+    async def _write_status(self, path: str) -> None:
+        while True:
+            write_state(path, self.state())
+            await asyncio.sleep(STATUS)
+
+
+def write_state(path: str, state: Dict[str, Any]) -> None:
+    """Writes the state so that a reader finds it whole. If the disk takes no more, the host goes on without."""
+    try:
+        descriptor = os.open(path + ".new", os.O_WRONLY | os.O_CREAT | os.O_TRUNC | os.O_CLOEXEC, 0o600)
+        with os.fdopen(descriptor, "w", encoding="utf-8") as file:
+            json.dump(state, file)
+        os.replace(path + ".new", path)
+    except OSError:
+        pass
+
+
+class TcpWire(asyncio.BufferedProtocol, Wire):
+    """A TCP connection. All read into one buffer, which is emptied at once, so that reading fragments no memory."""
+
+    _buffer = bytearray(1 << 16)
+
+    def __init__(self, host: Host, place: Listen) -> None:
+        self._host, self._place = host, place
+        self._transport: Optional[asyncio.Transport] = None
+        self._line: Optional[Line] = None
+
+    def connection_made(self, transport: asyncio.BaseTransport) -> None:
+        """An analyzer connects, or somebody who may not."""
+        assert isinstance(transport, asyncio.Transport)
+        host, peer = self._host, transport.get_extra_info("peername")
+        if host.stopping or len(host.lines) >= host.limits.lines or not is_allowed(peer[0], host.asked.networks):
+            host.refused += 1
+            transport.abort()
+            return
+        one: socket.socket = transport.get_extra_info("socket")
+        one.setsockopt(socket.IPPROTO_TCP, socket.TCP_NODELAY, 1)
+        one.setsockopt(socket.SOL_SOCKET, socket.SO_KEEPALIVE, 1)
+        for option, seconds in (("TCP_KEEPIDLE", 60), ("TCP_KEEPINTVL", 10), ("TCP_KEEPCNT", 6)):
+            if hasattr(socket, option):
+                one.setsockopt(socket.IPPROTO_TCP, getattr(socket, option), seconds)
+        transport.set_write_buffer_limits(high=1024)
+        self._transport = transport
+        self._line = host.add(self, self._place, peer[0])
+
+    def get_buffer(self, sizehint: int) -> bytearray:
+        """Where bytes are read to."""
+        return self._buffer
+
+    def buffer_updated(self, nbytes: int) -> None:
+        """Bytes came."""
+        if self._line is not None:
+            self._line.data(bytes(self._buffer[:nbytes]), self._host.ticks.before)
+
+    def eof_received(self) -> bool:
+        """The peer sends no more: the connection is closed."""
+        return False
+
+    def connection_lost(self, exc: Optional[Exception]) -> None:
+        """The connection is gone, by whatever end."""
+        if self._line is not None:
+            self._line.lost()
+
+    def pause_writing(self) -> None:
+        """A peer that doesn't read its replies is no analyzer."""
+        if self._transport is not None:
+            self._transport.abort()
+
+    def write(self, data: bytes) -> None:
+        if self._transport is not None and not self._transport.is_closing():
+            self._transport.write(data)
+
+    def close(self) -> None:
+        if self._transport is not None:
+            self._transport.close()
+
+    def pause(self) -> None:
+        if self._transport is not None and not self._transport.is_closing():
+            self._transport.pause_reading()
+
+    def resume(self) -> None:
+        if self._transport is not None and not self._transport.is_closing():
+            self._transport.resume_reading()
+
+
+async def serve(asked: Asked, store: Store) -> None:
+    """Serves until SIGTERM or SIGINT comes."""
+    stop = asyncio.Event()
+    loop = asyncio.get_running_loop()
+    for name in (signal.SIGTERM, signal.SIGINT):
+        loop.add_signal_handler(name, stop.set)
+    host = Host(asked, store)
+    try:
+        await host.start()
+        await stop.wait()
+    finally:
+        await host.stop()
+
+
+def check_frames(places: "Sequence[Listen | Serial]") -> None:
+    """Whether the library has receivers for these lines."""
+    for place in places:
+        if place.frame != FRAME_TEXT:
+            raise OptionError(f"{place.name}: this library has frames of {FRAME_TEXT} bytes of text only")

@@ -1,0 +1,285 @@
+"""The store in a directory: a file for each message, which other programs can take. A file is synced before each
+acknowledgement, and moved to its place when its message is whole.
+
+    host                      the host's lock
+    open/KEY                  the texts of a message that isn't whole, and KEY.about: its line, as JSON
+    whole/NUMBER-KEY.records  a whole message, and NUMBER-KEY.about; numbers rise with the time, in microseconds
+    unfinished/KEY.records    the acknowledged texts of one that never became whole; unreadable/ the same
+    digests/DIGEST            which whole message has these bytes first
+"""
+import contextlib
+import fcntl
+import hashlib
+import json
+import os
+import time
+from concurrent.futures import ThreadPoolExecutor
+from typing import Any, Dict, Iterator, List, Optional, Sequence, Set, Tuple
+
+from .store import (
+    OPEN,
+    UNFINISHED,
+    UNREADABLE,
+    WHOLE,
+    Add,
+    Begin,
+    Change,
+    End,
+    LineCount,
+    Store,
+    StoreError,
+    Stored,
+    Unit,
+)
+
+_FOLDERS = (OPEN, WHOLE, UNFINISHED, UNREADABLE, "digests")
+
+
+class SpoolStore(Store):
+    """A store in a directory, for one host, on a local disk."""
+
+    def __init__(self, folder: str) -> None:
+        self.folder = folder
+        self._lock: Optional[int] = None
+        self._open: Dict[str, "_Open"] = {}
+        self._number = 0
+        self._syncing: Optional[ThreadPoolExecutor] = None
+
+    def start(self, host: str) -> int:
+        try:
+            os.makedirs(self.folder, 0o700, exist_ok=True)
+            self._lock = os.open(os.path.join(self.folder, "host"), os.O_RDWR | os.O_CREAT | os.O_CLOEXEC, 0o600)
+            fcntl.flock(self._lock, fcntl.LOCK_EX | fcntl.LOCK_NB)
+            for name in _FOLDERS:
+                os.makedirs(os.path.join(self.folder, name), 0o700, exist_ok=True)
+            _sync_folder(self.folder)
+            self._number = max((int(name.split("-")[0]) for name in self._names(WHOLE)), default=0)
+            return self._end_open()
+        except BlockingIOError:
+            raise StoreError(f"{self.folder}: another host has this spool") from None
+        except OSError as error:
+            raise StoreError(f"{self.folder}: {error}") from None
+
+    def _path(self, *names: str) -> str:
+        return os.path.join(self.folder, *names)
+
+    def _names(self, state: str) -> List[str]:
+        """The messages in a state, without the ends of their files' names."""
+        end = "" if state == OPEN else ".records"
+        names = [
+            name for name in os.listdir(self._path(state)) if name.endswith(end) and not name.endswith(".about")
+        ]
+        return sorted(name[: len(name) - len(end)] for name in names if not name.startswith("."))
+
+    def _end_open(self) -> int:
+        left = self._names(OPEN)
+        for key in left:
+            with open(self._path(OPEN, key), "rb") as file:
+                body = file.read()
+            about = _read_about(self._path(OPEN, key + ".about"))
+            digest, line = hashlib.sha256(body).hexdigest(), str(about.get("line", ""))
+            reason = "the host was stopped"
+            self._move(End(key, line, UNFINISHED, reason, digest, len(body), float(about.get("began", 0))), about)
+        for name in os.listdir(self._path(OPEN)):
+            os.unlink(self._path(OPEN, name))
+        self._sync_folders({OPEN, UNFINISHED, "digests"})
+        return len(left)
+
+    def commit(self, units: Sequence[Unit]) -> None:
+        changed: Set[str] = set()
+        folders: Set[str] = set()
+        try:
+            for unit in units:
+                for change in unit:
+                    self._change(change, changed, folders)
+            self._sync_files(changed)
+            self._sync_folders(folders)
+            folders = set()
+            ends = [change for unit in units for change in unit if isinstance(change, End)]
+            for end in ends:
+                folders |= {OPEN, end.state, "digests"}
+                self._end(end)
+            self._sync_folders(folders)
+        except OSError as error:
+            for key in changed & set(self._open):
+                self._open[key].undo()
+            raise StoreError(f"{self.folder}: {error}") from None
+        for key in changed & set(self._open):
+            self._open[key].good = self._open[key].size
+
+    def _change(self, change: Change, changed: Set[str], folders: Set[str]) -> None:
+        if isinstance(change, Begin):
+            folders.add(OPEN)
+            about = {"line": change.line, "peer": change.peer, "encoding": change.encoding, "began": change.at}
+            _write_whole(self._path(OPEN, change.key + ".about"), about)
+            self._open[change.key] = _Open(self._path(OPEN, change.key), about)
+        elif isinstance(change, Add):
+            if change.key not in self._open:
+                raise OSError(f"message {change.key} isn't open")
+            changed.add(change.key)
+            self._open[change.key].add(change.body)
+
+    def _end(self, end: End) -> None:
+        one = self._open.get(end.key)
+        if one is None:
+            if end.state == WHOLE:
+                raise OSError(f"message {end.key} isn't open")
+            return
+        if one.size:
+            self._move(end, one.about)
+        else:  # nothing of it was kept
+            os.unlink(self._path(OPEN, end.key))
+            os.unlink(self._path(OPEN, end.key + ".about"))
+        del self._open[end.key]
+        one.close()
+
+    def _move(self, end: End, about: Dict[str, Any]) -> None:
+        """Puts a message in its place; it is there when its file of records is."""
+        name, first = end.key, None
+        mark = self._path("digests", _mark_name(end.line, end.digest))
+        marked = _read_about(mark).get("key")
+        if end.state == WHOLE:
+            self._number = max(self._number + 1, time.time_ns() // 1000)
+            name = f"{self._number:016}-{end.key}"
+            first = marked if marked != end.key else None
+            if marked is None:
+                _write_whole(mark, {"key": end.key})
+                _sync_folder(self._path("digests"))
+        elif marked == end.key:  # it was to be whole, and could not be kept
+            os.unlink(mark)
+            _sync_folder(self._path("digests"))
+        data = {**about, "key": end.key, "ended": end.at, "reason": end.reason, "again_of": first}
+        _write_whole(self._path(end.state, name + ".about"), data)
+        _sync_folder(self._path(end.state))
+        os.rename(self._path(OPEN, end.key), self._path(end.state, name + ".records"))
+        with contextlib.suppress(OSError):
+            os.unlink(self._path(OPEN, end.key + ".about"))
+
+    def _sync_files(self, keys: Set[str]) -> None:
+        files = [self._open[key].descriptor for key in keys]
+        if len(files) < 2:
+            for descriptor in files:
+                os.fsync(descriptor)
+            return
+        if self._syncing is None:
+            self._syncing = ThreadPoolExecutor(8)
+        list(self._syncing.map(os.fsync, files))
+
+    def _sync_folders(self, names: Set[str]) -> None:
+        for name in sorted(names):
+            _sync_folder(self._path(name))
+
+    def messages(self, after: int = 0, limit: Optional[int] = None) -> Iterator[Stored]:
+        names = [name for name in self._listed(WHOLE) if int(name.split("-")[0]) > after]
+        for name in names[:limit]:
+            number, key = name.split("-")
+            yield self._stored(WHOLE, name, int(number), key)
+
+    def others(self) -> Iterator[Stored]:
+        names = [(name, state) for state in (UNFINISHED, UNREADABLE) for name in self._listed(state)]
+        for name, state in sorted(names):
+            yield self._stored(state, name, None, name)
+
+    def _listed(self, state: str) -> List[str]:
+        try:
+            return self._names(state)
+        except OSError as error:
+            raise StoreError(f"{self.folder}: {error}") from None
+
+    def _stored(self, state: str, name: str, number: Optional[int], key: str) -> Stored:
+        about = _read_about(self._path(state, name + ".about"))
+        with open(self._path(state, name + ".records"), "rb") as file:
+            body = file.read()
+        words = (str(about.get(one, "")) for one in ("line", "peer", "encoding"))
+        line, peer, encoding = words
+        times = float(about.get("began", 0)), about.get("ended")
+        return Stored(number, key, line, peer, encoding, *times, state, about["reason"], about["again_of"], body)
+
+    def counts(self) -> List[LineCount]:
+        found: Dict[str, List[Tuple[str, Dict[str, Any]]]] = {}
+        for state in (OPEN, WHOLE, UNFINISHED, UNREADABLE):
+            for name in self._listed(state):
+                about = _read_about(self._path(state, name + ".about"))
+                found.setdefault(str(about.get("line", "")), []).append((state, about))
+        return [_count(line, found[line]) for line in sorted(found)]
+
+    def close(self) -> None:
+        for one in self._open.values():
+            one.close()
+        self._open.clear()
+        if self._syncing is not None:
+            self._syncing.shutdown()
+        if self._lock is not None:
+            os.close(self._lock)
+            self._lock = None
+
+
+def _count(line: str, rows: List[Tuple[str, Dict[str, Any]]]) -> LineCount:
+    states = [state for state, _ in rows]
+    again = sum(1 for _, about in rows if about.get("again_of"))
+    last = max((about["ended"] for state, about in rows if state == WHOLE), default=None)
+    some = [states.count(state) for state in (UNFINISHED, UNREADABLE, OPEN)]
+    return LineCount._make([line, states.count(WHOLE), again, *some, last])
+
+
+class _Open:
+    """The file of a message that isn't whole."""
+
+    def __init__(self, path: str, about: Dict[str, Any]) -> None:
+        self.about = about
+        self.descriptor = os.open(path, os.O_WRONLY | os.O_CREAT | os.O_EXCL | os.O_CLOEXEC, 0o600)
+        #: How long it is, and how long it was at the last commit.
+        self.size = self.good = 0
+
+    def add(self, body: bytes) -> None:
+        """Appends bytes."""
+        at = 0
+        while at < len(body):
+            at += os.write(self.descriptor, body[at:])
+        self.size += len(body)
+
+    def undo(self) -> None:
+        """Takes back what came since the last commit."""
+        try:
+            os.ftruncate(self.descriptor, self.good)
+            os.lseek(self.descriptor, self.good, os.SEEK_SET)
+            self.size = self.good
+        except OSError:
+            pass
+
+    def close(self) -> None:
+        """Closes the file."""
+        os.close(self.descriptor)
+
+
+def _mark_name(line: str, digest: str) -> str:
+    return hashlib.sha256(line.encode() + b"\0" + digest.encode()).hexdigest()
+
+
+def _read_about(path: str) -> Dict[str, Any]:
+    try:
+        with open(path, encoding="utf-8") as file:
+            return dict(json.load(file))
+    except (OSError, ValueError):
+        return {}
+
+
+def _write_whole(path: str, data: Dict[str, Any]) -> None:
+    """Writes a small file so that it is there whole or not at all; its directory is the caller's to sync."""
+    folder, name = os.path.split(path)
+    made = os.path.join(folder, f".{name}")
+    descriptor = os.open(made, os.O_WRONLY | os.O_CREAT | os.O_TRUNC | os.O_CLOEXEC, 0o600)
+    try:
+        os.write(descriptor, json.dumps(data, ensure_ascii=False).encode() + b"\n")
+        os.fsync(descriptor)
+    finally:
+        os.close(descriptor)
+    os.rename(made, path)
+
+
+def _sync_folder(path: str) -> None:
+    descriptor = os.open(path, os.O_RDONLY | os.O_DIRECTORY | os.O_CLOEXEC)
+    try:
+        os.fsync(descriptor)
+    finally:
+        os.close(descriptor)

@@ -1,0 +1,108 @@
+"""The store in an SQLite file: one host, on a local disk. A write-ahead log, and a sync at every commit."""
+import fcntl
+import os
+import sqlite3
+from typing import Any, List, Optional, Sequence, Tuple
+
+from .sql import SqlStore
+from .store import StoreError, Unit
+
+#: How long another program's short transaction is waited for, in seconds.
+PATIENCE = 5.0
+
+
+class SqliteStore(SqlStore):
+    """A store in a file. Next to it are its log (`-wal`), its index (`-shm`) and the host's lock (`-host`)."""
+
+    tail = " WITHOUT ROWID"
+
+    def __init__(self, path: str) -> None:
+        super().__init__()
+        self.path = path
+        self._lock: Optional[int] = None
+        self._db: Optional[sqlite3.Connection] = None
+
+    def start(self, host: str) -> int:
+        self.host = host
+        self._take()
+        try:
+            private(self.path)
+            self._db = self._connect()
+            if self._db.execute("PRAGMA journal_mode=WAL").fetchone()[0] != "wal":
+                raise StoreError(f"{self.path}: SQLite can't keep a write-ahead log here")
+            self._db.execute("PRAGMA synchronous=FULL")
+            self._db.execute("PRAGMA foreign_keys=ON")
+            self._db.execute("BEGIN IMMEDIATE")
+            self.make_tables()
+            left = self.end_open()
+            self._db.execute("COMMIT")
+            return left
+        except (sqlite3.Error, OSError) as error:
+            raise StoreError(f"{self.path}: {error}") from None
+
+    def _take(self) -> None:
+        """Takes the host's lock: it goes with the process, however that ends."""
+        try:
+            self._lock = os.open(self.path + "-host", os.O_RDWR | os.O_CREAT | os.O_CLOEXEC, 0o600)
+            fcntl.flock(self._lock, fcntl.LOCK_EX | fcntl.LOCK_NB)
+        except BlockingIOError:
+            raise StoreError(f"{self.path}: another host has this store") from None
+        except OSError as error:
+            raise StoreError(f"{self.path}: {error}") from None
+
+    def _connect(self) -> sqlite3.Connection:
+        return sqlite3.connect(self.path, timeout=PATIENCE, isolation_level=None, check_same_thread=False)
+
+    def run(self, statement: str, values: Sequence[Any] = ()) -> Any:
+        if self._db is None:
+            if not os.path.exists(self.path):
+                raise StoreError(f"{self.path}: there is no such store")
+            self._db = self._connect()
+            self._db.execute("PRAGMA query_only=ON")
+        return self._db.execute(statement, values)
+
+    def read(self, statement: str, values: Sequence[Any] = ()) -> List[Tuple[Any, ...]]:
+        try:
+            return super().read(statement, values)
+        except sqlite3.Error as error:
+            raise StoreError(f"{self.path}: {error}") from None
+
+    def lock_numbers(self) -> None:
+        """A transaction that writes is alone."""
+
+    def commit(self, units: Sequence[Unit]) -> None:
+        try:
+            self.run("BEGIN IMMEDIATE")
+            self.apply(units)
+            self.run("COMMIT")
+        except (sqlite3.Error, StoreError) as error:
+            self._undo()
+            raise StoreError(f"{self.path}: {error}") from None
+
+    def _undo(self) -> None:
+        assert self._db is not None
+        try:
+            if self._db.in_transaction:
+                self._db.execute("ROLLBACK")
+        except sqlite3.Error:  # a connection that can't undo is made anew
+            self._db.close()
+            self._db = self._connect()
+            self._db.execute("PRAGMA synchronous=FULL")
+            self._db.execute("PRAGMA foreign_keys=ON")
+
+    def close(self) -> None:
+        if self._db is not None:
+            self._db.close()
+            self._db = None
+        if self._lock is not None:
+            os.close(self._lock)
+            self._lock = None
+
+
+def private(path: str) -> None:
+    """Makes a file that only its owner can read, or makes it so; its log and index get the same mode from SQLite."""
+    descriptor = os.open(path, os.O_RDWR | os.O_CREAT | os.O_CLOEXEC, 0o600)
+    try:
+        os.fchmod(descriptor, 0o600)
+    finally:
+        os.close(descriptor)

@@ -1,0 +1,112 @@
+"""`lislab status`: the lines of a host, what is kept, and what isn't delivered yet."""
+import json
+import time
+from typing import Any, Dict, List, NamedTuple, Optional
+
+from .deliver import read_cursor
+from .export import time_text
+from .store import Store
+
+#: A host that wrote its state longer ago than this, in seconds, isn't running.
+OLD = 10.0
+_COLUMNS = (
+    "line",
+    "connected",
+    "whole",
+    "again",
+    "unfinished",
+    "unreadable",
+    "rejected",
+    "late",
+    "not_kept",
+    "last",
+)
+
+
+class Waiting(NamedTuple):
+    """What a delivery has still to do."""
+
+    cursor: str
+    messages: int
+    oldest: Optional[float]
+
+
+def read_state(path: Optional[str]) -> Dict[str, Any]:
+    """What the host wrote last; nothing if it wrote nothing."""
+    try:
+        with open(path or "", encoding="utf-8") as file:
+            return dict(json.load(file))
+    except (OSError, ValueError):
+        return {}
+
+
+def runs(state: Dict[str, Any]) -> bool:
+    """Whether the host is running."""
+    return bool(state) and not state.get("stopped") and time.time() - float(state["at"]) < OLD
+
+
+def waiting_of(store: Store, path: str, most: int = 1000) -> Waiting:
+    """How much a delivery with this cursor has still to do; it counts up to a limit."""
+    after = read_cursor(path)[0]
+    oldest, count = None, 0
+    for one in store.messages(after, most):
+        oldest = one.ended if count == 0 else oldest
+        count += 1
+    return Waiting(path, count, oldest)
+
+
+def rows_of(store: Store, state: Dict[str, Any]) -> List[Dict[str, Any]]:
+    """A row for each line that is known."""
+    kept = {one.line: one for one in store.counts()}
+    live: Dict[str, Any] = state.get("lines", {})
+    rows = []
+    for name in sorted({*kept, *live}):
+        row: Dict[str, Any] = {
+            one: live.get(name, {}).get(one, 0) for one in ("connected", "rejected", "late", "not_kept")
+        }
+        row["line"] = name
+        one = kept.get(name)
+        row.update(
+            {
+                "whole": one.whole if one else 0,
+                "again": one.again if one else 0,
+                "unfinished": one.unfinished if one else 0,
+                "unreadable": one.unreadable if one else 0,
+                "last": time_text(one.last) if one else "",
+            }
+        )
+        rows.append(row)
+    return rows
+
+
+def data_of(store: Store, state: Dict[str, Any], cursors: List[str]) -> Dict[str, Any]:
+    """All of it as data."""
+    waiting = [waiting_of(store, path) for path in cursors]
+    return {
+        "running": runs(state),
+        "since": time_text(state.get("begun")),
+        "process": state.get("process"),
+        "commits": state.get("commits", 0),
+        "failed_commits": state.get("failed_commits", 0),
+        "refused_connections": state.get("refused_connections", 0),
+        "lines": rows_of(store, state),
+        "undelivered": [{**one._asdict(), "oldest": time_text(one.oldest)} for one in waiting],
+    }
+
+
+def text_of(data: Dict[str, Any]) -> str:
+    """The same for a reader."""
+    if data["running"]:
+        head = (
+            f"the host is running since {data['since']}, process {data['process']}: {data['commits']} commits, "
+            f"{data['failed_commits']} failed; {data['refused_connections']} connections refused"
+        )
+    else:
+        head = "the host is not running"
+    cells = [list(_COLUMNS)] + [[str(row[one]) for one in _COLUMNS] for row in data["lines"]]
+    widths = [max(len(row[place]) for row in cells) for place in range(len(_COLUMNS))]
+    rows = ["  ".join(cell.ljust(width) for cell, width in zip(row, widths)).rstrip() for row in cells]
+    for one in data["undelivered"]:
+        oldest = f", the oldest of {one['oldest']}" if one["messages"] else ""
+        rows.append(f"{one['cursor']}: {one['messages']} messages not delivered{oldest}")
+    return "\n".join([head, *rows]) + "\n"

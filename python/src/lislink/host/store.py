@@ -1,0 +1,128 @@
+"""Where messages are kept: the interface of a store, and what goes into it and comes out of it."""
+import abc
+import os
+import time
+from typing import Iterator, List, NamedTuple, Optional, Sequence, Union
+
+#: The states of a message.
+OPEN, WHOLE, UNFINISHED, UNREADABLE = "open", "whole", "unfinished", "unreadable"
+
+
+class StoreError(Exception):
+    """Something can't be kept, or a store can't be opened."""
+
+
+class Begin(NamedTuple):
+    """A message begins on a line."""
+
+    key: str
+    line: str
+    peer: str
+    encoding: str
+    at: float
+
+
+class Add(NamedTuple):
+    """Bytes of a message, as they came: those of one text, or the part of a text that belongs to it."""
+
+    key: str
+    place: int
+    at: float
+    body: bytes
+
+
+class End(NamedTuple):
+    """A message is whole, or nothing more comes of it: why, and the digest and the size of all its bytes."""
+
+    key: str
+    line: str
+    state: str
+    reason: str
+    digest: str
+    size: int
+    at: float
+
+
+Change = Union[Begin, Add, End]
+Unit = Sequence[Change]
+
+
+class Stored(NamedTuple):
+    """A message that is kept. A whole one has a number: numbers rise in the order in which messages became whole."""
+
+    number: Optional[int]
+    key: str
+    line: str
+    peer: str
+    encoding: str
+    began: float
+    ended: Optional[float]
+    state: str
+    reason: str
+    again_of: Optional[str]
+    body: bytes
+
+
+class LineCount(NamedTuple):
+    """What is kept of a line."""
+
+    line: str
+    whole: int
+    again: int
+    unfinished: int
+    unreadable: int
+    open: int
+    last: Optional[float]
+
+
+class Store(abc.ABC):
+    """A store. `start` takes it for one host; `commit` returns when all that it was given is on the disk.
+
+    A repeated message (of the same line, with the same bytes) is kept, with the key of the first one.
+    """
+
+    @abc.abstractmethod
+    def start(self, host: str) -> int:
+        """Takes the store for this host, and makes what an earlier run left open unfinished: how many messages.
+        StoreError if another host has it."""
+
+    @abc.abstractmethod
+    def commit(self, units: Sequence[Unit]) -> None:
+        """Keeps these changes: all are on the disk when it returns. On a StoreError none may be acknowledged, and what
+        was kept of them all the same is unfinished, or marked when it comes again."""
+
+    @abc.abstractmethod
+    def messages(self, after: int = 0, limit: Optional[int] = None) -> Iterator[Stored]:
+        """Whole messages with a number above `after`, in order."""
+
+    @abc.abstractmethod
+    def others(self) -> Iterator[Stored]:
+        """Messages that are unfinished or can't be read, in the order in which they began."""
+
+    @abc.abstractmethod
+    def counts(self) -> List[LineCount]:
+        """What is kept, line by line."""
+
+    @abc.abstractmethod
+    def close(self) -> None:
+        """Gives the store back."""
+
+
+def new_key() -> str:
+    """A key that no other message has; keys sort by the time at which they were made."""
+    return f"{time.time_ns():016x}{os.urandom(4).hex()}"
+
+
+def open_store(where: str) -> Store:
+    """The store of a path or an address: an SQLite file, `spool:DIRECTORY`, or `postgresql://..`."""
+    if where.startswith(("postgresql://", "postgres://")):
+        from .postgresql import PostgresStore
+
+        return PostgresStore(where)
+    if where.startswith("spool:"):
+        from .spool import SpoolStore
+
+        return SpoolStore(where[len("spool:") :])
+    from .sqlite import SqliteStore
+
+    return SqliteStore(where)

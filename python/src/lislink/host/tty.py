@@ -1,0 +1,82 @@
+"""A serial line: its device set up by termios, and read through the loop."""
+import asyncio
+import fcntl
+import os
+import termios
+from typing import Callable, Optional
+
+from .line import Line, Wire
+from .options import OptionError, Serial
+
+_SIZES = {"5": termios.CS5, "6": termios.CS6, "7": termios.CS7, "8": termios.CS8}
+
+
+def open_serial(serial: Serial) -> int:
+    """Opens a device: raw, for this program alone, with nothing of what came before."""
+    speed = getattr(termios, f"B{serial.speed}", None)
+    if speed is None:
+        raise OptionError(f"{serial.device}: there is no speed of {serial.speed}")
+    descriptor = os.open(serial.device, os.O_RDWR | os.O_NOCTTY | os.O_NONBLOCK | os.O_CLOEXEC)
+    try:
+        fcntl.ioctl(descriptor, termios.TIOCEXCL)
+        control = termios.CREAD | termios.CLOCAL | _SIZES[serial.mode[0]]
+        if serial.mode[1] != "N":
+            control |= termios.PARENB | (termios.PARODD if serial.mode[1] == "O" else 0)
+        control |= termios.CSTOPB if serial.mode[2] == "2" else 0
+        control |= termios.CRTSCTS if serial.flow == "rtscts" else 0
+        taken = termios.IXON | termios.IXOFF if serial.flow == "xonxoff" else 0
+        taken |= termios.INPCK if serial.mode[1] != "N" else 0
+        letters = termios.tcgetattr(descriptor)[6]
+        letters[termios.VMIN], letters[termios.VTIME] = 1, 0
+        termios.tcsetattr(descriptor, termios.TCSANOW, [taken, 0, control, 0, speed, speed, letters])
+        termios.tcflush(descriptor, termios.TCIOFLUSH)
+    except (OSError, termios.error) as error:
+        os.close(descriptor)
+        raise OSError(f"{serial.device}: {error}") from None
+    return descriptor
+
+
+class SerialWire(Wire):
+    """The descriptor of a serial line."""
+
+    def __init__(self, descriptor: int, arrived: Callable[[], float]) -> None:
+        self._descriptor, self._arrived = descriptor, arrived
+        self._loop = asyncio.get_running_loop()
+        self.line: Optional[Line] = None
+
+    def begin(self, line: Line) -> None:
+        """Reads for this line from here on."""
+        self.line = line
+        self.resume()
+
+    def _readable(self) -> None:
+        assert self.line is not None
+        try:
+            data = os.read(self._descriptor, 65536)
+        except BlockingIOError:
+            return
+        except OSError:
+            data = b""
+        if data:
+            self.line.data(data, self._arrived())
+        else:
+            self.pause()
+            self.line.lost()
+
+    def write(self, data: bytes) -> None:
+        try:
+            os.write(self._descriptor, data)
+        except OSError:
+            pass  # a reply that the line doesn't take is lost: its sender runs into its timer
+
+    def pause(self) -> None:
+        self._loop.remove_reader(self._descriptor)
+
+    def resume(self) -> None:
+        self._loop.add_reader(self._descriptor, self._readable)
+
+    def close(self) -> None:
+        if self._descriptor >= 0:
+            self._loop.remove_reader(self._descriptor)
+            os.close(self._descriptor)
+            self._descriptor = -1
