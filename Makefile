@@ -11,6 +11,7 @@
 # make mutants  [CRATES="lis_link .."]   all mutants: the prover must reject each, and a test must notice it
 # make harmless [CRATES="lis_link .."]   rewrites that change nothing: each must still be proved
 # make fuzz     [EACH=600]               harnesses of libFuzzer over the library for C, so many seconds each
+# make soak                              the host by fire, for hours (tests/fire --soak)
 # make plant CRATE=lis_link              wrong bodies that the kit makes up: what a crate's contracts let through
 # make bench                             speed, memory and instructions; writes docs/PERFORMANCE.md (ten minutes at most)
 #
@@ -25,7 +26,7 @@ PROGRAM = $(BUILD)/lislink
 ARCHIVE = $(BUILD)/liblis_c.a
 VERSION = $(shell cat VERSION)
 
-.PHONY: build check demo test mutants harmless plant bench bench-check library linked install uninstall deb fuzz
+.PHONY: build check demo test mutants harmless soak plant bench bench-check library linked install uninstall deb fuzz
 
 build:
 	@echo 'Proving and building the program: 14 minutes at most the first time on four processors, then seconds.'
@@ -62,6 +63,9 @@ bench:
 
 bench-check:
 	@bench/check
+
+soak: library
+	tests/fire $(BUILD)/liblislink.so --soak
 
 plant:
 	@test -n '$(CRATE)' || { echo 'make plant CRATE=name, a folder of crates/'; exit 2; }

@@ -31,22 +31,6 @@ def run(count):
     of_versions(count)
     of_dialects(count)
     of_words(count)
-    of_manual(count)
-
-
-def of_manual(count):
-    """What python/README.md shows of a command is what it prints."""
-    with open(os.path.join(ROOT, "python", "README.md"), encoding="utf-8") as file:
-        text = file.read()
-    shown = re.findall(r"^    \$ lislab (.*)\n((?:    .*\n|\n(?=\n*    ))*)", text, re.M)
-    count.true("the manual shows commands", len(shown) > 0)
-    for words, block in shown:
-        wanted = "".join(line[4:].rstrip() + "\n" for line in block.splitlines())
-        count.same(
-            f"the manual: lislab {words}",
-            "".join(line.rstrip() + "\n" for line in lislab(*words.split()).lines),
-            wanted,
-        )
 
 
 def agrees(count, name, data):
