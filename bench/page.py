@@ -38,8 +38,9 @@ def processor():
 
 def conditions(program, asked):
     """What the figures are of."""
+    kit = programs.printed_by("rt", "version").partition(" ")[0]
     lines = [f"One run, {time.strftime('%Y-%m-%d', time.gmtime())}, of the program that was built of commit "
-             f"{programs.commit()} (SHA-256 {programs.sum_of(program)}..) with {programs.printed_by('rt', 'version')}.",
+             f"{programs.commit()} (SHA-256 {programs.sum_of(program)}..) with {kit}.",
              f"{processor()}, {os.cpu_count()} processors; load at the start {os.getloadavg()[0]:.1f}."]
     if asked.rounds:
         lines.append(f"Medians of {asked.rounds} rounds; inputs of {asked.size:.0f} MB.")
@@ -53,7 +54,10 @@ def number(value, digits=0):
 
 
 def table(heads, rows):
-    """A table, its first column of words and the others of numbers."""
+    """A table, of which 'command' and 'input' are columns of words. It has no column in which nothing is known."""
+    rows = list(rows)
+    known = [place for place in range(len(heads)) if any(row[place] != NONE for row in rows)]
+    heads, rows = [heads[place] for place in known], [[row[place] for place in known] for row in rows]
     yield "| " + " | ".join(heads) + " |"
     yield "|" + "|".join("---" if head in ("command", "input") else "--:" for head in heads) + "|"
     for row in rows:
@@ -115,9 +119,10 @@ def of_trees(found):
            f"All three made the same {found.same_trees} trees of the samples and of the first messages of each input.")
     yield ""
     heads = ["input", "MB/s", "places", "Vecs", "times places", "times Vecs", "kept: MB/s", "places", "Vecs"]
-    yield from table(heads, [[row.name, *three(row.again), times(row, "places"), times(row, "vecs"), *three(row.kept)]
-                             for row in found.trees])
-    yield ""
+    if any(row.again for row in found.trees):
+        yield from table(heads, [[row.name, *three(row.again), times(row, "places"), times(row, "vecs"),
+                                  *three(row.kept)] for row in found.trees])
+        yield ""
     heads = ["input", "instructions a byte", "places", "Vecs", "heap bytes a byte", "places", "Vecs"]
     yield from table(heads, [[row.name, *three(row.instructions, 1), *three(row.heap, 1)] for row in found.trees])
     yield ""
