@@ -5,9 +5,9 @@
  * and its own heap (the end of this file). Each function from lis_scanner_size to lis_writer_end is proved to be safe,
  * to end, and to do what the contract above it in crates/lis_c/src says, for each caller that keeps these duties:
  *
- *   - A pointer is not null, also if the length beside it is 0, and points to a whole value of its type. Nothing else
- *     uses that value while the call runs. A pointer and a length name that many bytes. A buffer that is written does
- *     not overlap one that is read.
+ *   - A pointer is not null and points to a whole value of its type. Nothing else uses that value while the call runs.
+ *     A pointer and a length name that many bytes. A buffer that is written does not overlap one that is read. Next to
+ *     the length 0 a pointer may be null: that is beyond the proof, and tested for each call.
  *   - A bool is 0 or 1.
  *   - A handle's `at` is a block of at least lis_X_size() bytes at a multiple of lis_X_align(), which was given to
  *     lis_X_init. From then to lis_X_end nothing else reads, writes or moves the block, and it has one handle. After

@@ -59,7 +59,7 @@ public:
 
 namespace detail {
 
-// The C calls want a pointer that is not null, also beside the length 0.
+// The contracts of the C calls ask for a pointer that is not null, also with the length 0.
 inline const std::uint8_t *at(std::string_view bytes) noexcept {
     static const std::uint8_t none = 0;
     return bytes.empty() ? &none : reinterpret_cast<const std::uint8_t *>(bytes.data());
