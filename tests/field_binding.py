@@ -2,6 +2,7 @@
 import glob
 import importlib.util
 import os
+import random
 import subprocess
 import sys
 import sysconfig
@@ -23,6 +24,7 @@ from lislink import (
     Reason,
     Receiver,
     Record,
+    Row,
     Scanner,
     Sender,
     Status,
@@ -44,6 +46,7 @@ def run(count):
     of_threads(count)
     of_pieces(count)
     of_long_input(count)
+    of_parts(count)
     of_docstrings(count)
     of_package(count)
     of_mypy(count)
@@ -232,6 +235,12 @@ def of_pieces(count):
         count.same(
             "scanner: places of what was left", [place for place, _ in scanner.feed_placed(b"\x04")], [-2, -1, 0]
         )
+    whole = b"H|\\^&|||A\rP|1||" + b"x" * 300 + b"\rL|1|N\r"
+    for size in (1, 2, 7, 100, 330):
+        with Reader() as reader:
+            texts = [row.text for at in range(0, len(whole), size) for row in reader.feed(whole[at : at + size])]
+            count.same(f"reader: texts in pieces of {size}", texts, whole.split(b"\r")[:-1])
+            count.same(f"reader: how far, in pieces of {size}", reader.read, len(whole))
     with Reader() as reader:
         next(reader.feed(b"H|\\^&\rP|1\rO|1\r"))
         count.same("reader: what is left is read", [row.letter for row in reader.feed(b"L|1\r")], ["P", "O", "L"])
@@ -241,6 +250,65 @@ def of_long_input(count):
     """A long piece takes linear time: a hundred thousand signals in a few seconds."""
     with Scanner() as scanner:
         count.same("a long piece", sum(1 for _ in scanner.feed(b"\x05\x04" * 50000 + b"x" * 3000000)), 100000)
+
+
+def random_message(rng):
+    """A header with delimiters by chance, and records of fields by chance, many of them of delimiters and escapes."""
+    delimiters = bytes(rng.sample(b"|\\^&~!$*", 4))
+    bits = [bytes([one]) for one in delimiters] + [b"a", b"", b"F", b"X0D", b"XZ"]
+    bits += [delimiters[3:] + word + delimiters[3:] for word in (b"F", b"S", b"R", b"E", b"H", b"N", b"X41", b"Q")]
+    rows = [
+        b"H" + delimiters + (delimiters[:1] + b"".join(rng.choices(bits, k=rng.randrange(9)))) * rng.randrange(2)
+    ]
+    for letter in [b"P", b"O", b"R", b"r", b"C", b"M"]:
+        rows.append(letter + delimiters[:1] + b"".join(rng.choices(bits, k=rng.randrange(16))))
+    return rows + [b"L"]
+
+
+def of_record(record, row):
+    """The parts of a record by the library, one by one, as the lists that a row makes of them."""
+
+    def some(call):
+        found = []
+        while call(len(found)) is not None:
+            found.append(call(len(found)))
+        return found
+
+    numbers = range(row.first, row.first + record.fields)
+    return [some(lambda repeat: some(lambda part: record.part(number, repeat, part)) or None) for number in numbers]
+
+
+def differing(rng, messages_):
+    """How many rows differ from the library's own parts."""
+    count = 0
+    for _ in range(messages_):
+        texts = random_message(rng)
+        with Reader() as reader:
+            rows = list(reader.feed(b"\r".join(texts) + b"\r"))
+        for row, record in zip(rows, records(texts)):
+            wanted = of_record(record, row)
+            parts = [
+                [[row.part(n, r, c) for c in range(len(one))] for r, one in enumerate(field)]
+                for n, field in enumerate(wanted, row.first)
+            ]
+            absent = [row.part(n, len(field)) for n, field in enumerate(wanted, row.first)]
+            absent += [row.part(n, 0, len(field[0])) for n, field in enumerate(wanted, row.first)]
+            good = row.fields == parts == wanted and not any(one is not None for one in absent)
+            good = good and [row.field(n) for n in range(row.first, row.first + len(row))] == wanted
+            count += not (good and len(row) == record.fields and row.field(len(row) + row.first) == [])
+        count += len(rows) != len(texts)
+    return count
+
+
+def of_parts(count):
+    """A row's parts are the library's own; a row that is split another way is noticed."""
+    count.same("rows: 2,000 random messages", differing(random.Random(5), 2000), 0)
+    right = Row._repeats
+    try:
+        Row._repeats = lambda self, one: [one.split(self._marks[1])]
+        count.true("rows: another way of splitting is noticed", differing(random.Random(5), 20) > 0)
+    finally:
+        Row._repeats = right
 
 
 def of_package(count):

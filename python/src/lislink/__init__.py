@@ -28,7 +28,8 @@ from .link import (
     frame_bytes,
 )
 from .message import Entry, Fault, Finding, Found, Message, read_all
-from .records import MessageError, Reader, Reason, Record, Row, Writer, messages, records
+from .records import MessageError, Reader, Reason, Record, Writer, messages, records
+from .rows import Row
 
 __version__ = "0.1.0"
 __all__ = [

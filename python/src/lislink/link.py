@@ -157,21 +157,22 @@ class Owner:
         # Bytes of a piece that a loop has left unread: they are read before those of the next piece.
         self._piece, self._at = b"", 0
 
-    def _call(self, name: str, *words: Any) -> Any:
+    def _owned(self) -> _library.Handle:
+        """The handle, for the thread that made it."""
         if self._handle is None:
             raise ValueError(f"the {self._kind} is closed")
         if self._thread != threading.get_ident():
             raise WrongThread(f"this {self._kind} belongs to the thread that made it")
-        return _library.calls()[f"{self._kind}_{name}"](ctypes.byref(self._handle), *words)
+        return self._handle
+
+    def _call(self, name: str, *words: Any) -> Any:
+        return _library.calls()[f"{self._kind}_{name}"](ctypes.byref(self._owned()), *words)
 
     def _add(self, data: bytes) -> int:
         """Puts a piece behind what is left; answers the place of its first byte, less than nothing is never it."""
         data = as_bytes(data)
         left = len(self._piece) - self._at
-        if self._handle is None:
-            raise ValueError(f"the {self._kind} is closed")
-        if self._thread != threading.get_ident():
-            raise WrongThread(f"this {self._kind} belongs to the thread that made it")
+        self._owned()
         self._piece, self._at = (self._piece[self._at :] + data if left else data), 0
         return left
 

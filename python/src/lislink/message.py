@@ -1,10 +1,11 @@
 """Messages as data: patients, orders and results of what the proved reader has read, with LIS02-A2's names of
 fields."""
 import json
-from typing import Any, Dict, Iterable, Iterator, List, NamedTuple, Optional, Tuple, Union
+from typing import Any, Dict, Generator, Iterable, Iterator, List, NamedTuple, Optional, Tuple, Union
 
 from ._checks import as_bytes
-from .records import MessageError, Reader, Row
+from .records import MessageError, Reader
+from .rows import Row
 
 #: The names of the fields behind a record's letter, by the standard's numbers (a header's delimiters are field 2).
 NAMES: Dict[str, Dict[int, str]] = {
@@ -105,8 +106,7 @@ class Entry:
 
     def whole(self, field: int) -> str:
         """A field as text, its components joined by ^ and its repeats by a backslash, escapes undone."""
-        number = field - self.row.first
-        repeats = self.row.fields[number] if 0 <= number < len(self.row.fields) else []
+        repeats = self.row.field(field)
         return "\\".join("^".join(one.decode(self.encoding, "replace") for one in parts) for parts in repeats)
 
     def __getattr__(self, name: str) -> str:
@@ -121,10 +121,10 @@ class Entry:
         """The record, its notes and what is below it, as plain data; fields that are empty are left out."""
         names = NAMES.get(self.letter, {})
         told: Dict[str, Any] = {"record": self.letter}
-        for place in range(len(self.row.fields)):
-            number = place + self.row.first
-            if self.whole(number):
-                told[names.get(number, f"field_{number}")] = self.whole(number)
+        for number in range(self.row.first, self.row.first + len(self.row)):
+            text = self.whole(number)
+            if text:
+                told[names.get(number, f"field_{number}")] = text
         if self.notes:
             told["notes"] = [one.to_dict() for one in self.notes]
         for name, below in (("orders", self.orders), ("results", self.results)):
@@ -224,7 +224,7 @@ class Message:
 
 
 def _is_number(row: Row, position: int) -> bool:
-    field = row.fields[0] if row.fields else []
+    field = row.field(row.first)
     if len(field) != 1 or len(field[0]) != 1:
         return False
     digits = field[0][0]
@@ -253,23 +253,31 @@ def read_all(stream: bytes, encoding: str = "latin-1") -> Iterator[Union[Found, 
     reading goes on at the next record that begins with H and a delimiter's byte."""
     stream, at = as_bytes(stream), 0
     while at < len(stream):
-        start, rows, ends = at, [], []  # type: int, List[Row], List[int]
-        with Reader() as reader:
-            base = at
-            try:
-                for row in reader.feed(stream[at:]):
+        fault = yield from _read_from(stream, at, encoding)
+        if fault is None:
+            return
+        yield fault
+        at = _next_header(stream, fault.place, fault.start)
+
+
+def _read_from(stream: bytes, begun: int, encoding: str) -> Generator[Found, None, Optional[Fault]]:
+    """The messages from a place on, up to one that can't be read. The pieces grow, so that a fault costs no more than what
+    was read before it."""
+    start, place, size, rows, ends = begun, begun, 1024, [], []  # type: int, int, int, List[Row], List[int]
+    with Reader() as reader:
+        try:
+            while place < len(stream):
+                for row in reader.feed(stream[place : place + size]):
                     rows.append(row)
-                    at = base + reader.read
-                    ends.append(at)
+                    ends.append(begun + reader.read)
                     if row.letter == "L":
                         yield Found(Message(rows, encoding), start, ends)
-                        start, rows, ends = at, [], []
-                reader.finish()
-                return
-            except MessageError as error:
-                fault, place = error, ends[-1] if ends else start
-        yield Fault(fault, start, place, rows)
-        at = _next_header(stream, place, start)
+                        start, rows, ends = ends[-1], [], []
+                place, size = place + size, min(size * 2, 1 << 16)
+            reader.finish()
+            return None
+        except MessageError as error:
+            return Fault(error, start, ends[-1] if ends else start, rows)
 
 
 def _next_header(stream: bytes, place: int, start: int) -> int:

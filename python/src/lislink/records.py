@@ -2,17 +2,16 @@
 library."""
 import ctypes
 import enum
-import itertools
-from typing import Any, Callable, Iterable, Iterator, List, NamedTuple, Optional, Sequence, Tuple, TypeVar, Union
+from typing import Iterable, Iterator, List, Optional, Sequence, Tuple, Union
 
 from . import _library
 from ._checks import as_bytes, as_number
 from .link import LinkError, Owner, Status, address
+from .rows import Marks, Row, marks_of
 
 _MOST = (1 << 64) - 1
 #: The most bytes of a record, without its CR.
 RECORD_BYTES = 65536
-T = TypeVar("T")
 
 
 class Reason(enum.IntEnum):
@@ -88,28 +87,6 @@ def records(texts: Iterable[bytes]) -> Iterator[Record]:
             yield record
 
 
-class Row(NamedTuple):
-    """A record of a message: its letter, and its fields as lists of repeats, these as lists of components."""
-
-    letter: str
-    fields: List[List[List[bytes]]]
-
-    def part(self, field: int, repeat: int = 0, component: int = 0) -> Optional[bytes]:
-        """A component; None if there is none. The letter is field 1, a header's delimiters are field 2."""
-        number = field - self.first
-        if number < 0 or repeat < 0 or component < 0:
-            return None
-        try:
-            return self.fields[number][repeat][component]
-        except IndexError:
-            return None
-
-    @property
-    def first(self) -> int:
-        """The standard's number of the first of `fields`."""
-        return 3 if self.letter == "H" else 2
-
-
 class Reader(Owner):
     """Reads the records of a stream that comes in pieces, each where its message may have it."""
 
@@ -117,28 +94,57 @@ class Reader(Owner):
 
     def __init__(self) -> None:
         super().__init__()
-        self._room: Any = None
         #: How many bytes of the stream were read.
         self.read = 0
+        #: The bytes of the record that isn't ended: those of earlier pieces, and where its bytes of this one begin.
+        self._before, self._begun = bytearray(), 0
+        self._marks: Optional[Marks] = None
 
     def feed(self, data: bytes) -> Iterator[Row]:
         """The records that further bytes end, in order; MessageError at the first that can't be read, and then at every
         call, also of no bytes. Bytes that a loop leaves unread are read by the next call."""
+        begun, at, piece = self._begun, self._at, self._piece
         self._add(data)
+        self._before += piece[begun:at]
+        self._begun = 0
         return self._rows()
 
     def _rows(self) -> Iterator[Row]:
         out = _library.Found()
+        where, call, handle = ctypes.byref(out), _library.calls()["reader_read"], ctypes.byref(self._owned())
+        piece = self._piece
+        base, size, at = address(piece), len(piece), self._at
         while True:
-            self.read += self._read_on("read", out)
-            if out.kind == 2:
-                raise MessageError(out.number, out.reason, out.detail, out.place)
+            taken = call(handle, base + at, size - at, where)
+            self._at = at + taken
+            self.read += taken
             if out.kind == 1:
-                letter = chr(out.letter)
-                first = 3 if letter == "H" else 2
-                yield Row(letter, [self._field(first + number) for number in range(out.fields)])
-            if self._at >= len(self._piece):
+                yield self._row(chr(out.letter), piece[self._begun : at], out.fields)
+                self._owned()
+                if piece is not self._piece:
+                    piece = self._piece
+                    base, size = address(piece), len(piece)
+            elif out.kind == 2:
+                raise MessageError(out.number, out.reason, out.detail, out.place)
+            at = self._at
+            if at >= size:
                 return
+
+    def _row(self, letter: str, text: bytes, count: int) -> Row:
+        """The record that ended just now."""
+        if self._before:
+            text = bytes(self._before) + text
+            self._before.clear()
+        self._begun = self._at
+        if letter == "H":
+            given, found = _library.Delimiters(), _library.RecordOut()
+            words = (address(text), len(text), ctypes.byref(given), ctypes.byref(found))
+            status = _library.calls()["header_read"](*words)
+            if status:
+                raise LinkError(status)
+            self._marks = marks_of(bytes(given))
+        assert self._marks is not None
+        return Row(letter, text, self._marks, count)
 
     def letters(self, data: bytes) -> Iterator[str]:
         """The same without the fields: the letters of the records that further bytes end."""
@@ -161,28 +167,6 @@ class Reader(Owner):
         out = _library.Found()
         if self._call("finish", ctypes.byref(out)):
             raise MessageError(out.number, out.reason, out.detail, out.place)
-
-    def _field(self, number: int) -> List[List[bytes]]:
-        return list(
-            _until_none(
-                lambda repeat: list(_until_none(lambda component: self._part(number, repeat, component))) or None
-            )
-        )
-
-    def _part(self, *where: int) -> Optional[bytes]:
-        size = ctypes.c_size_t()
-        self._room = self._room or (ctypes.c_uint8 * RECORD_BYTES)()
-        if self._call("part", *where, self._room, RECORD_BYTES, ctypes.byref(size)):
-            return None
-        return bytes(self._room[: size.value])
-
-
-def _until_none(call: Callable[[int], Optional[T]]) -> Iterator[T]:
-    for number in itertools.count():
-        one = call(number)
-        if one is None:
-            return
-        yield one
 
 
 class Writer(Owner):
