@@ -327,9 +327,8 @@ public:
 
     // Hears bytes. For each text that is complete keep(text) is called, and only if it gives true (or nothing), and
     // doesn't throw, send(reply). Else no reply is sent, the receiver restarts, the other bytes are dropped, and hear
-    // gives false; what keep or send throws goes on. So the sender keeps its texts and sends them again. If keep may
-    // take longer than LIS_SECONDS_REPLY, send looks at the clock and gives false: a late reply must not be sent.
-    // each(step) is called first, for each step that means something.
+    // gives false; what keep or send throws goes on. So the sender keeps its texts and sends them again. each(step) is
+    // called first, for each step that means something.
     template <class Keep, class Send, class Each = detail::nothing>
     bool hear(std::string_view bytes, Keep &&keep, Send &&send, Each &&each = Each()) {
         for (lis_step step; !bytes.empty();) {
@@ -340,6 +339,18 @@ public:
                 return false;
         }
         return true;
+    }
+
+    // The same for bytes that came after a time, when the line was last seen empty: a reply that could come after the
+    // sender's timer is not sent. It is one that is due when two thirds of that timer are over.
+    template <class Keep, class Send, class Each = detail::nothing>
+    bool hear_since(std::chrono::steady_clock::time_point since, std::string_view bytes, Keep &&keep, Send &&send,
+                    Each &&each = Each()) {
+        auto in_time = [&](std::uint8_t reply) {
+            auto age = std::chrono::steady_clock::now() - since;
+            return age <= std::chrono::seconds(LIS_SECONDS_REPLY * 2 / 3) && detail::went(send, reply);
+        };
+        return hear(bytes, keep, in_time, each);
     }
 
     // The receiver's timer ran out, LIS_SECONDS_RECEIVER after the last step that meant something.

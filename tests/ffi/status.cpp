@@ -53,6 +53,14 @@ static bool of_receiver() {
     receiver.set_ready(LIS_READY_YES);
     if (!is(receiver.hear("\x05\x04", [](std::string_view) { return false; }, send, each) && notes == 2))
         return false;
+    // A reply that would be late is not sent.
+    auto now = std::chrono::steady_clock::now();
+    auto none = [](std::string_view) { return false; };
+    replies.clear();
+    if (!is(receiver.hear_since(now, "\x05", none, send) && replies == "\x06"))
+        return false;
+    if (!is(!receiver.hear_since(now - std::chrono::seconds(11), "\x05", none, send) && replies == "\x06"))
+        return false;
     // A reply that can't be sent ends the session.
     return is(!receiver.hear("\x05", [](std::string_view) {}, [](std::uint8_t) { return false; }))
         && is(!receiver.is_open()) && is(receiver.try_reserve(1048577) == LIS_STATUS_TOO_LONG);

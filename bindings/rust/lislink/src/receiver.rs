@@ -1,6 +1,7 @@
 //! The receiver.
 use crate::{block::Block, Error, Note, Ready};
 use lislink_sys as sys;
+use std::time::{Duration, Instant};
 
 /// What a byte or the timer meant.
 #[derive(Clone, Copy, Debug, PartialEq, Eq)]
@@ -56,8 +57,7 @@ impl Receiver {
     }
 
     /// Hears bytes. For each text that is complete `keep` is called, and only if it says true `send`, with the reply.
-    /// Else no reply is sent, so that the sender keeps its texts and sends them again. If `keep` may take longer than
-    /// the sender's timer of 15 seconds, `send` looks at the clock and says false: a late reply must not be sent.
+    /// Else no reply is sent, so that the sender keeps its texts and sends them again.
     pub fn hear(
         &mut self,
         bytes: &[u8],
@@ -65,6 +65,19 @@ impl Receiver {
         send: impl FnMut(u8) -> bool,
     ) -> Heard {
         self.hear_each(bytes, keep, send, |_| ())
+    }
+
+    /// The same for bytes that came after a time, when the line was last seen empty: a reply that could come after the
+    /// sender's timer is not sent. It is one that is due when two thirds of that timer are over.
+    pub fn hear_since(
+        &mut self,
+        since: Instant,
+        bytes: &[u8],
+        keep: impl FnMut(&[u8]) -> bool,
+        mut send: impl FnMut(u8) -> bool,
+    ) -> Heard {
+        let patience = Duration::from_secs(sys::LIS_SECONDS_REPLY * 2 / 3);
+        self.hear(bytes, keep, |reply| since.elapsed() <= patience && send(reply))
     }
 
     /// The same, with each step that means something before its text is kept.

@@ -2,6 +2,7 @@
 use lislink::{Connection, Heard, Note, Outcome, Phase, Ready, Receiver, Sender, Status, Text};
 use std::panic::{catch_unwind, AssertUnwindSafe};
 use std::thread;
+use std::time::{Duration, Instant};
 
 const HEADER: &[u8] = b"\x021H|\\^&\r\x03E5\r\n";
 
@@ -90,6 +91,18 @@ fn a_panic_in_keep_sends_no_reply() {
 fn a_reply_that_is_not_sent_ends_the_session() {
     let mut receiver = Receiver::new();
     assert_eq!(receiver.hear(b"\x05", |_| true, |_| false), Heard::GaveUp);
+    assert!(!receiver.is_open());
+}
+
+#[test]
+fn a_late_reply_is_not_sent() {
+    let (mut receiver, now) = (Receiver::new(), Instant::now());
+    assert_eq!(receiver.hear_since(now, b"\x05", |_| true, |reply| reply == 6), Heard::All);
+    let past = now.checked_sub(Duration::from_secs(11)).unwrap();
+    assert_eq!(
+        receiver.hear_since(past, HEADER, |_| true, |_| panic!("it is late")),
+        Heard::GaveUp
+    );
     assert!(!receiver.is_open());
 }
 
