@@ -75,7 +75,6 @@ library:
 	@echo 'Proving and building the library: 14 minutes at most the first time on four processors, then one.'
 	@tools/prove lis_c $(ARCHIVE)
 	$(MAKE) --no-print-directory linked
-	cp $(BUILD)/liblislink.so examples/python/liblislink.so
 
 # Both libraries out of the archive of the proved crate. These files of examples/c are part of both, so that a program
 # links with nothing else.

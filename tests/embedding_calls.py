@@ -1,8 +1,8 @@
-"""Calls of examples/python/lislink.py, at values known from outside: each refusal, and each call on its happy path."""
+"""Calls of the Python package, at values known from outside: each refusal, and each call on its happy path."""
 import os
 import sys
 
-sys.path.insert(0, os.path.join(os.path.dirname(os.path.dirname(os.path.abspath(__file__))), "examples/python"))
+sys.path.insert(0, os.path.join(os.path.dirname(os.path.dirname(os.path.abspath(__file__))), "python/src"))
 from lislink import (FrameFault, Kind, LinkError, MessageError, Note, Outcome, Phase, Readiness, Reason,  # noqa: E402
                      Reader, Receiver, Record, Scanner, Sender, Status, Writer, frame_bytes, messages, records)
 

@@ -294,8 +294,8 @@ def differing(rng, messages_):
             absent = [row.part(n, len(field)) for n, field in enumerate(wanted, row.first)]
             absent += [row.part(n, 0, len(field[0])) for n, field in enumerate(wanted, row.first)]
             good = row.fields == parts == wanted and not any(one is not None for one in absent)
-            good = good and [row.field(n) for n in range(row.first, row.first + len(row))] == wanted
-            count += not (good and len(row) == record.fields and row.field(len(row) + row.first) == [])
+            good = good and [row.field(n) for n in range(row.first, row.first + row.count)] == wanted
+            count += not (good and row.count == record.fields and row.field(row.count + row.first) == [])
         count += len(rows) != len(texts)
     return count
 

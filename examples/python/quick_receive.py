@@ -2,9 +2,10 @@
 """Receives from an analyzer on a TCP port: appends each text to a file before it is acknowledged, and prints the
 letters of a session's records at its end.
 
-    quick_receive.py PORT FILE          PORT 0 is one that is free, and is told
+    quick_receive.py PORT FILE          PORT 0 is one that is free, and is printed
 
-line.py host has the receiver's timer too, which a line that stays open after a session needs.
+`lislab serve` has what a laboratory needs besides: the receiver's timer, many lines, messages that are marked when they
+come again, and no reply that is late.
 """
 import os
 import socket

@@ -121,7 +121,7 @@ class Entry:
         """The record, its notes and what is below it, as plain data; fields that are empty are left out."""
         names = NAMES.get(self.letter, {})
         told: Dict[str, Any] = {"record": self.letter}
-        for number in range(self.row.first, self.row.first + len(self.row)):
+        for number in range(self.row.first, self.row.first + self.row.count):
             text = self.whole(number)
             if text:
                 told[names.get(number, f"field_{number}")] = text
@@ -261,8 +261,8 @@ def read_all(stream: bytes, encoding: str = "latin-1") -> Iterator[Union[Found, 
 
 
 def _read_from(stream: bytes, begun: int, encoding: str) -> Generator[Found, None, Optional[Fault]]:
-    """The messages from a place on, up to one that can't be read. The pieces grow, so that a fault costs no more than what
-    was read before it."""
+    """The messages from a place on, up to one that can't be read. The pieces grow, so that a fault costs no more than
+    what was read before it."""
     start, place, size, rows, ends = begun, begun, 1024, [], []  # type: int, int, int, List[Row], List[int]
     with Reader() as reader:
         try:

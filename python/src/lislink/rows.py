@@ -2,12 +2,12 @@
 is, its letter, its delimiters and how many fields it has, and it decodes escapes. Splitting at the delimiters is done
 here; `tests/field` compares it with the library's own parts."""
 import ctypes
-from typing import Dict, List, Optional, Tuple
+from typing import Any, Dict, Iterator, List, Optional, Tuple
 
 from . import _library
 
-#: Delimiters as a row uses them: the field's, the repeat's and the component's as bytes; all four as numbers, which `in`
-#: finds faster.
+#: Delimiters as a row uses them: the field's, the repeat's and the component's as bytes; all four as numbers, which
+#: `in` finds faster.
 Marks = Tuple[bytes, bytes, bytes, bytes]
 _MARKS: Dict[bytes, Marks] = {}
 
@@ -22,19 +22,28 @@ def marks_of(delimiters: bytes) -> Marks:
 
 
 class Row:
-    """A record of a message: its letter, and its fields as lists of repeats, these as lists of components."""
+    """A record of a message: its letter, and its fields as lists of repeats, these as lists of components. As a pair it is
+    these two."""
 
-    __slots__ = ("letter", "text", "_marks", "_count", "_split")
+    __slots__ = ("letter", "text", "count", "_marks", "_split")
 
     def __init__(self, letter: str, text: bytes, marks: Marks, count: int) -> None:
         #: The letter of its kind, in upper case; the record as it came, without its CR.
         self.letter, self.text = letter, text
-        self._marks, self._count = marks, count
+        #: How many fields it has after its letter, or after a header's delimiters.
+        self.count = count
+        self._marks = marks
         self._split: Optional[List[bytes]] = None
 
-    def __len__(self) -> int:
-        """How many fields it has after its letter, or after a header's delimiters."""
-        return self._count
+    def __iter__(self) -> Iterator[Any]:
+        return iter((self.letter, self.fields))
+
+    def __eq__(self, other: object) -> bool:
+        if not isinstance(other, (Row, tuple)):
+            return NotImplemented
+        return tuple(self) == tuple(other)
+
+    __hash__ = None  # type: ignore[assignment]
 
     def __repr__(self) -> str:
         return f"Row({self.letter!r}, {self.text!r})"
@@ -53,8 +62,8 @@ class Row:
         """What is before the first field, and the fields."""
         text = self.text[5:] if self.letter == "H" else self.text
         found = self._split = text.split(self._marks[0])
-        if len(found) != self._count + 1:
-            raise AssertionError(f"{self!r} has {self._count} fields, not {len(found) - 1}")
+        if len(found) != self.count + 1:
+            raise AssertionError(f"{self!r} has {self.count} fields, not {len(found) - 1}")
         return found
 
     def part(self, field: int, repeat: int = 0, component: int = 0) -> Optional[bytes]:

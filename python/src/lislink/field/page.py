@@ -150,11 +150,11 @@ def _entry(entry: Entry, found: Found) -> Iterator[str]:
     names = NAMES.get(entry.letter, {})
     wrong = [one for one in found.message.findings() if one.number == entry.number]
     mark = f' <span class="finding">finding: its number isn\'t {wrong[0].position}</span>' if wrong else ""
-    brief = "|".join(entry.whole(entry.row.first + place) for place in range(len(entry.row)))
+    brief = "|".join(entry.whole(entry.row.first + place) for place in range(entry.row.count))
     fields = "".join(
         f"<tr><td>{place + entry.row.first}</td><td>{_esc(names.get(place + entry.row.first, '').replace('_', ' '))}</td>"
         f"<td><code>{_esc(entry.whole(place + entry.row.first))}</code></td></tr>"
-        for place in range(len(entry.row))
+        for place in range(entry.row.count)
         if entry.whole(place + entry.row.first)
     )
     below = "".join("".join(_entry(one, found)) for one in entry.notes + entry.children)

@@ -62,7 +62,7 @@ def _tree(entry: Entry, depth: int) -> Iterator[str]:
 
 
 def _fields(entry: Entry) -> str:
-    return "|".join(entry.whole(entry.row.first + place) for place in range(len(entry.row)))[:100]
+    return "|".join(entry.whole(entry.row.first + place) for place in range(entry.row.count))[:100]
 
 
 def message_lines(ladder: Ladder) -> Iterator[str]:
