@@ -43,7 +43,7 @@ fn assert_told(rt: &impl Abort, alloc: Global, line: &ScriptedLine<'_>, told: (&
     let mut timers = Vec::new(alloc);
     for entry in log {
         match entry {
-            Entry::Waited(_) => {}
+            Entry::Waited(_) | Entry::Kept(_) | Entry::NotKept(_) => {}
             Entry::Sent(sent) => bytes
                 .extend_from_slice(sent.as_slice())
                 .expect(rt, "memory"),
@@ -110,6 +110,44 @@ fn a_text_is_received(rt: HostRuntime) {
     drop(line);
 }
 
+/// Fails unless this was done on a line, a letter for each entry: W waited, S sent, T timer, K kept, N not kept.
+fn assert_done(rt: &impl Abort, alloc: Global, line: &ScriptedLine<'_>, done: &[u8]) {
+    let mut letters = Vec::new(alloc);
+    for entry in line.log().expect(rt, "memory") {
+        let letter = match entry {
+            Entry::Waited(_) => b'W',
+            Entry::Sent(_) => b'S',
+            Entry::Timed(_) => b'T',
+            Entry::Kept(_) => b'K',
+            Entry::NotKept(_) => b'N',
+        };
+        letters.push(letter).expect(rt, "memory");
+    }
+    assert!(rt; letters.as_slice() == done);
+    drop(letters);
+}
+
+#[test]
+fn a_text_is_kept_before_it_is_acknowledged(rt: HostRuntime) {
+    let mut line = ScriptedLine::new(rt.alloc(), &RECEIVED);
+    let mut receiver = Receiver::new(rt.alloc());
+    let text = next_text(&mut line, &mut receiver).expect(&rt, "a text");
+    drop(text);
+    drop(receiver);
+    assert_done(&rt, rt.alloc(), &line, b"WSTWWWWWWWWKST");
+    drop(line);
+}
+
+#[test]
+fn a_text_that_is_not_kept_gets_no_reply(rt: HostRuntime) {
+    let mut line = ScriptedLine::new(rt.alloc(), &RECEIVED).with_answers(&[false]);
+    let mut receiver = Receiver::new(rt.alloc());
+    assert!(rt; next_text(&mut line, &mut receiver).is_none());
+    drop(receiver);
+    assert_done(&rt, rt.alloc(), &line, b"WSTWWWWWWWWNWW");
+    drop(line);
+}
+
 /// The bytes that were sent on a line, as events on the other end's.
 fn sent_on(rt: &impl Abort, alloc: Global, line: &ScriptedLine<'_>) -> Vec<Event> {
     let mut events = Vec::new(alloc);
@@ -123,23 +161,33 @@ fn sent_on(rt: &impl Abort, alloc: Global, line: &ScriptedLine<'_>) -> Vec<Event
     events
 }
 
-/// What the analyzer sends of the texts A and BC if these replies come, and how its session ends.
+/// What the analyzer sends if these replies come, in so many sessions of the texts A and BC, and how the last one ends.
 fn sent_by_analyzer(
     rt: &impl Abort,
     alloc: Global,
     replies: &[Event],
+    sessions: usize,
 ) -> (Vec<Event>, Option<Outcome>) {
-    let texts = Texts::from_slices(alloc, &TEXTS).expect(rt, "memory");
     let mut line = ScriptedLine::new(alloc, replies);
-    let ended = send_texts(&mut line, texts).ok().flatten();
+    let mut ended = None;
+    for _session in 0..sessions {
+        let texts = Texts::from_slices(alloc, &TEXTS).expect(rt, "memory");
+        ended = send_texts(&mut line, texts).ok().flatten();
+    }
     let sent = sent_on(rt, alloc, &line);
     drop(line);
     (sent, ended)
 }
 
-/// What the computer replies if these bytes come; fails where it takes another text than the next of these.
-fn sent_by_computer(rt: &impl Abort, alloc: Global, bytes: &[Event]) -> (Vec<Event>, usize) {
-    let mut line = ScriptedLine::new(alloc, bytes);
+/// What the computer replies if these bytes come and its store answers so, and how many texts it keeps; fails if it
+/// keeps another text than the next of these.
+fn sent_by_computer(
+    rt: &impl Abort,
+    alloc: Global,
+    bytes: &[Event],
+    answers: &[bool],
+) -> (Vec<Event>, usize) {
+    let mut line = ScriptedLine::new(alloc, bytes).with_answers(answers);
     let mut receiver = Receiver::new(alloc);
     let mut count = 0usize;
     for expected in TEXTS {
@@ -164,19 +212,44 @@ const TEXTS: [&[u8]; 2] = [b"A", b"BC"];
 fn one_loop_carries_texts_to_the_other(rt: HostRuntime) {
     let mut replies = Vec::new(rt.alloc());
     for _round in 0..3 {
-        let (sent, ended) = sent_by_analyzer(&rt, rt.alloc(), replies.as_slice());
+        let (sent, ended) = sent_by_analyzer(&rt, rt.alloc(), replies.as_slice(), 1);
         assert!(rt; ended.is_none());
-        let (answers, _) = sent_by_computer(&rt, rt.alloc(), sent.as_slice());
+        let (answers, _) = sent_by_computer(&rt, rt.alloc(), sent.as_slice(), &[]);
         assert!(rt; answers.len() == replies.len() + 1);
         drop(sent);
         replies = answers;
     }
-    let (sent, ended) = sent_by_analyzer(&rt, rt.alloc(), replies.as_slice());
+    let (sent, ended) = sent_by_analyzer(&rt, rt.alloc(), replies.as_slice(), 1);
     assert!(rt; ended == Some(Outcome::Done));
-    let (answers, count) = sent_by_computer(&rt, rt.alloc(), sent.as_slice());
+    let (answers, count) = sent_by_computer(&rt, rt.alloc(), sent.as_slice(), &[]);
     assert!(rt; (answers.as_slice(), count) == (replies.as_slice(), 2));
     drop(sent);
     drop(answers);
+    drop(replies);
+}
+
+/// The first text isn't acknowledged, and the timer runs out; in the second session all is.
+const SECOND_TRY: [Event; 5] = [
+    Event::Byte(ACK),
+    Event::Timer,
+    Event::Byte(ACK),
+    Event::Byte(ACK),
+    Event::Byte(ACK),
+];
+
+#[test]
+fn a_text_that_is_not_kept_is_sent_again(rt: HostRuntime) {
+    let (sent, ended) = sent_by_analyzer(&rt, rt.alloc(), SECOND_TRY.split_at(2).0, 1);
+    assert!(rt; ended == Some(Outcome::TimedOut));
+    let (replies, count) = sent_by_computer(&rt, rt.alloc(), sent.as_slice(), &[false]);
+    assert!(rt; (replies.as_slice(), count) == (SECOND_TRY.split_at(1).0, 0));
+    drop(sent);
+    drop(replies);
+    let (sent, ended) = sent_by_analyzer(&rt, rt.alloc(), &SECOND_TRY, 2);
+    assert!(rt; ended == Some(Outcome::Done));
+    let (replies, count) = sent_by_computer(&rt, rt.alloc(), sent.as_slice(), &[false]);
+    assert!(rt; (replies.as_slice(), count) == ([Event::Byte(ACK); 4].as_slice(), 2));
+    drop(sent);
     drop(replies);
 }
 

@@ -1,15 +1,16 @@
 -- The definitions of the loops at values known from outside.
 use Rattle.std.proofs.Common.{[], ◌∷◌, None, Some, true, refl}
 use Rattle.lis_frame.specs.Frame.{frame_bytes}
-use Rattle.lis_frame.specs.Stream.{signal_after}
+use Rattle.lis_frame.specs.Stream.{open_stretch, signal_after}
+use Rattle.lis_frame.specs.Stretch.{stretch_fault}
 use Rattle.lis_frame.specs.Pieces.{pieces, session_frames, text_frames}
 use Rattle.lis_link.specs.declared.sender.Outcome.TheVariants.{Done, TimedOut}
 use Rattle.lis_link.specs.declared.receiver.Note.TheVariants as notes
-use Rattle.lis_link.specs.Receiver.{new_receiver}
+use Rattle.lis_link.specs.Receiver.{ReceiverState, new_receiver}
 use Rattle.lis_link.specs.Sender.{started}
 use Rattle.uses.specs.Analyzer.{IsSession, answered, over, quiet}
-use Rattle.uses.specs.Computer.{IsReception, closed, goes_on, made}
-use Rattle.uses.specs.Line.{sent, timed, waited}
+use Rattle.uses.specs.Computer.{IsReception, acknowledged, closed, goes_on, made, unanswered}
+use Rattle.uses.specs.Line.{kept, not_kept, sent, timed, waited}
 use Rattle.uses.specs.declared.line.Event.TheVariants.{Byte, Closed, Timer}
 
 -- the text A: ACK, its frame, ACK, EOT
@@ -50,3 +51,34 @@ a_line_is_opened_and_times_out =
     (record new_receiver { past = 5 ∷ [] }) (waited Closed ∷ []) refl (λ e. cc)
     (made (record { reply_is = refl; message_is = refl; note_is = refl }) refl) refl refl
     (closed 0 refl refl refl refl))
+
+-- the frame of the text A came but for its LF
+before_last_byte : ReceiverState
+before_last_byte = record new_receiver { is_open = true; past = 13 ∷ 53 ∷ 55 ∷ 3 ∷ 65 ∷ 49 ∷ 2 ∷ 5 ∷ [] }
+
+-- it is kept, and then its frame is acknowledged
+a_text_is_kept : IsReception 1 before_last_byte
+    (waited (Byte 10) ∷ kept (65 ∷ []) ∷ sent (6 ∷ []) ∷ timed 30 ∷ []) (Some (65 ∷ []))
+    (record before_last_byte {
+      accepted = record { number = 1; text = 65 ∷ []; last = true } ∷ [];
+      past = 10 ∷ 13 ∷ 53 ∷ 55 ∷ 3 ∷ 65 ∷ 49 ∷ 2 ∷ 5 ∷ [];
+    })
+unfolding signal_after open_stretch stretch_fault before_last_byte
+a_text_is_kept =
+    acknowledged {r = before_last_byte} 0 (Byte 10)
+    (record { reply = Some 6; message = Some (65 ∷ []); note = notes.Accepted 1 }) (65 ∷ []) refl (λ e. cc)
+    (made (record { reply_is = refl; message_is = refl; note_is = refl }) refl) refl refl refl
+
+-- it can't be kept: nothing is sent, and the receiver restarts; then the line is hung up
+a_text_is_not_kept : IsReception 2 before_last_byte (waited (Byte 10) ∷ not_kept (65 ∷ []) ∷ waited Closed ∷ []) None
+    (record new_receiver { accepted = record { number = 1; text = 65 ∷ []; last = true } ∷ [] })
+unfolding signal_after open_stretch stretch_fault before_last_byte
+a_text_is_not_kept =
+    unanswered {r = before_last_byte} 1 (Byte 10)
+    (record { reply = Some 6; message = Some (65 ∷ []); note = notes.Accepted 1 }) (65 ∷ [])
+    (record before_last_byte {
+      accepted = record { number = 1; text = 65 ∷ []; last = true } ∷ [];
+      past = 10 ∷ 13 ∷ 53 ∷ 55 ∷ 3 ∷ 65 ∷ 49 ∷ 2 ∷ 5 ∷ [];
+    })
+    (waited Closed ∷ []) refl (λ e. cc) (made (record { reply_is = refl; message_is = refl; note_is = refl }) refl)
+    refl refl (closed 0 refl refl refl refl)

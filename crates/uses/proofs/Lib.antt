@@ -1,5 +1,6 @@
 mod BuildingLaws
 mod DefinitionRows
+mod KeepingLaws
 mod LoopLaws
 mod PlayedLaws
 mod ReadingLaws

@@ -1,6 +1,6 @@
--- Receiving on a computer's line: each event is answered as a receiver answers it (LIS01-A2, 6.3 to 6.6), and a
--- timer runs while the line is open.
-use Rattle.std.specs.Prelude.{◌≡◌, ◌≢◌, ℕ, ◌+◌, Bool, true, false, List, [], ◌∷◌, ◌++◌, Option, None, Some}
+-- Receiving on a computer's line: each event is answered as a receiver answers it (LIS01-A2, 6.3 to 6.6), a timer runs
+-- while the line is open, and a whole text is kept before it is acknowledged.
+use Rattle.std.specs.Prelude.{◌≡◌, ◌≢◌, ℕ, ◌+◌, Bool, true, false, List, [], ◌∷◌, ◌++◌, Option, None, Some, ⊤}
 use Rattle.lis_text.specs.Control.{NAK}
 use Rattle.lis_frame.specs.Frame.{FrameContent}
 use Rattle.lis_link.specs.declared.receiver.Note.{Note}
@@ -8,10 +8,12 @@ use Rattle.lis_link.specs.declared.receiver.Note.TheVariants.{OutOfMemory, Quiet
 use Rattle.lis_link.specs.declared.receiver.Step.{Step}
 use Rattle.lis_link.specs.inside.Kept.{Kept}
 use Rattle.lis_link.specs.inside.Stands.{IsIn, IsStep}
+use Rattle.lis_link.specs.Joining.{groups}
 use Rattle.lis_link.specs.Receiver.{ReceiverState, ReceiverStep, answers, on_byte, on_receiver_timer}
+use Rattle.lis_link.specs.Receiver.{receiver_restarted}
 use Rattle.uses.specs.declared.line.Event.{Event}
 use Rattle.uses.specs.declared.line.Event.TheVariants.{Byte, Timer, Closed}
-use Rattle.uses.specs.Line.{Deed, GoesOn, most_events, sent, timed, waited}
+use Rattle.uses.specs.Line.{Deed, GoesOn, kept, kept_texts, most_events, not_kept, sent, timed, waited}
 
 -- the receiver's step at an event
 abbrev pub step_at : Event → ReceiverState → ReceiverStep
@@ -45,27 +47,49 @@ timer_behind note false = []
 timer_behind Quiet true = []
 timer_behind note true = timed 30 ∷ []
 
--- an event, the reply to it, and the timer
-abbrev pub deeds_at : Event → Step → Bool → List Deed
-deeds_at event answer is_open = waited event ∷ reply_deeds answer.reply ++ timer_behind answer.note is_open
+-- the reply, and the timer
+abbrev pub answer_deeds : Step → Bool → List Deed
+answer_deeds answer is_open = reply_deeds answer.reply ++ timer_behind answer.note is_open
 
--- The deeds on the line until a text is whole, of which so many events are waited for at most, the text, none where
--- the line was closed before, and the receiver behind them.
+-- a whole text is kept, and then the reply is sent; if it can't be kept, nothing is sent, and the receiver restarts
+abbrev pub keeping_deeds : Bool → List ℕ → List Deed → List Deed
+keeping_deeds true text replies = kept text ∷ replies
+keeping_deeds false text replies = not_kept text ∷ []
+
+abbrev pub state_after_keeping : Bool → ReceiverState → ReceiverState
+state_after_keeping true r = r
+state_after_keeping false r = receiver_restarted r
+
+-- The deeds on the line until a text is whole and kept, of which so many events are waited for at most, the text, none
+-- if the line was closed before, and the receiver after them. A whole text is kept first, and then the reply to its
+-- last frame is sent. If it can't be kept, no reply is sent, and the receiver restarts.
 pub data IsReception : ℕ → ReceiverState → List Deed → Option (List ℕ) → ReceiverState → Type 0 where
   closed : {left : ℕ} {r last : ReceiverState} {deeds : List Deed} {text : Option (List ℕ)} (more : ℕ)
       → left ≡ more + 1 → deeds ≡ waited Closed ∷ [] → text ≡ None → last ≡ r → IsReception left r deeds text last
-  whole : {left : ℕ} {r last : ReceiverState} {deeds : List Deed} {text : Option (List ℕ)} (more : ℕ) (event : Event)
-      (answer : Step)
-      → left ≡ more + 1 → event ≢ Closed → IsAnswer event r answer last → answer.message ≢ None → text ≡ answer.message
-      → deeds ≡ deeds_at event answer last.is_open
+  acknowledged : {left : ℕ} {r last : ReceiverState} {deeds : List Deed} {text : Option (List ℕ)} (more : ℕ)
+      (event : Event) (answer : Step) (whole : List ℕ)
+      → left ≡ more + 1 → event ≢ Closed → IsAnswer event r answer last → answer.message ≡ Some whole
+      → text ≡ Some whole → deeds ≡ waited event ∷ kept whole ∷ answer_deeds answer last.is_open
       → IsReception left r deeds text last
+  unanswered : {left : ℕ} {r last : ReceiverState} {deeds : List Deed} {text : Option (List ℕ)} (more : ℕ)
+      (event : Event) (answer : Step) (whole : List ℕ) (after : ReceiverState) (rest : List Deed)
+      → left ≡ more + 1 → event ≢ Closed → IsAnswer event r answer after → answer.message ≡ Some whole
+      → deeds ≡ waited event ∷ not_kept whole ∷ rest
+      → IsReception more (receiver_restarted after) rest text last → IsReception left r deeds text last
   goes_on : {left : ℕ} {r last : ReceiverState} {deeds : List Deed} {text : Option (List ℕ)} (more : ℕ) (event : Event)
       (answer : Step) (after : ReceiverState) (rest : List Deed)
       → left ≡ more + 1 → event ≢ Closed → IsAnswer event r answer after → answer.message ≡ None
-      → deeds ≡ deeds_at event answer after.is_open ++ rest
+      → deeds ≡ waited event ∷ answer_deeds answer after.is_open ++ rest
       → IsReception more after rest text last → IsReception left r deeds text last
   given_up : {left : ℕ} {r last : ReceiverState} {deeds : List Deed} {text : Option (List ℕ)}
       → left ≡ 0 → deeds ≡ [] → text ≡ None → last ≡ r → IsReception left r deeds text last
+
+-- What is acknowledged is kept: while the line is open, the whole texts of the frames that were acknowledged since it
+-- was opened are the last ones that were kept, in order. Nothing is said if the log isn't known.
+abbrev pub AcknowledgedIsKept : Option (List Deed) → ReceiverState → Type 0
+AcknowledgedIsKept None r = ⊤
+AcknowledgedIsKept (Some log) r =
+    r.is_open ≡ true → (earlier : List (List ℕ)) × (kept_texts log ≡ earlier ++ groups [] r.accepted)
 
 -- a receiver in this state waited for a text
 pub record WasReception (r : ReceiverState) (past now : Option (List Deed)) (text : Option (List ℕ)) (new : Kept) :
@@ -74,4 +98,5 @@ pub record WasReception (r : ReceiverState) (past now : Option (List Deed)) (tex
   pub done : GoesOn past now deeds
   pub last : ReceiverState
   pub reception : IsReception most_events r deeds text last
+  pub acknowledged_is_kept : AcknowledgedIsKept past r → AcknowledgedIsKept now last
   pub state : IsIn 240 new last

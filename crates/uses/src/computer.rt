@@ -1,27 +1,30 @@
-//! A computer's receiving loop (LIS01-A2, 6.2 to 6.5).
+//! A computer's receiving loop (LIS01-A2, 6.2 to 6.6).
 
 ghost use Rattle.std.specs.Prelude.{◌≡◌, ◌≢◌, ◌++◌, MatchOption};
 ghost use Rattle.lis_link.specs.declared.receiver.Note.TheVariants as Notes;
 ghost use Rattle.lis_link.specs.inside.Stands.{IsIn};
 ghost use Rattle.lis_link.specs.Receiver.{ReceiverState};
-ghost use Rattle.uses.specs.Computer.{Answers, WasReception, reply_deeds, timer_behind};
+ghost use Rattle.uses.specs.Computer.{Answers, WasReception, keeping_deeds, reply_deeds, state_after_keeping};
+ghost use Rattle.uses.specs.Computer.{timer_behind};
 ghost use Rattle.uses.specs.Line.{GoesOn};
 ghost use Rattle.uses.specs.declared.line.Event.TheVariants as Events;
 
-use crate::line::{Event, Line};
+use crate::line::{Event, Host, Line};
 use lis_link::{Note, Receiver, Step};
 use lis_text::LinkText;
 
 /// Seconds to wait for a frame or EOT while the line is open.
 pub const RECEIVER_SECONDS: u32 = 30;
 
-/// Waits for the next whole text of the analyzer, and answers all that comes before it; none where the line was closed.
-pub fn next_text<L: Line>(line: &mut L, receiver: &mut Receiver) -> Option<LinkText>
+/// Waits for the analyzer's next whole text, keeps it, and only then acknowledges its last frame. Answers all that
+/// comes before it. A text that can't be kept gets no reply, and the receiver restarts: the analyzer's timer runs out,
+/// and it sends the text again in a later session. Returns the text, or none if the line was closed.
+pub fn next_text<H: Host>(host: &mut H, receiver: &mut Receiver) -> Option<LinkText>
     ensures { (r : ReceiverState) → IsIn 240 receiver.old r →
-        WasReception r (L.deeds line.old) (L.deeds line.new) result receiver.new }
+        WasReception r (H.deeds host.old) (H.deeds host.new) result receiver.new }
 {
     for _turn in 0..u64::MAX {
-        let event = line.wait();
+        let event = host.wait();
         let Some(step) = step_at(receiver, event) else {
             return None;
         };
@@ -30,12 +33,38 @@ pub fn next_text<L: Line>(line: &mut L, receiver: &mut Receiver) -> Option<LinkT
             message,
             note,
         } = step;
-        put(line, reply, note, receiver.is_open());
-        if message.is_some() {
-            return message;
+        match message {
+            None => put(host, reply, note, receiver.is_open()),
+            Some(text) => {
+                if keep_then_reply(host, receiver, &text, reply, note) {
+                    return Some(text);
+                }
+            }
         }
     }
     None
+}
+
+/// Keeps a whole text, and only then sends the reply to its last frame; returns whether it did. If the text can't be
+/// kept, nothing is sent, and the receiver restarts.
+fn keep_then_reply<H: Host>(
+    host: &mut H,
+    receiver: &mut Receiver,
+    text: &LinkText,
+    reply: Option<u8>,
+    note: Note,
+) -> bool
+    ensures { (r : ReceiverState) → IsIn 240 receiver.old r →
+        GoesOn (H.deeds host.old) (H.deeds host.new)
+        (keeping_deeds result text.now (reply_deeds reply ++ timer_behind note r.is_open))
+        × IsIn 240 receiver.new (state_after_keeping result r) }
+{
+    if !host.keep(text) {
+        receiver.restart();
+        return false;
+    }
+    put(host, reply, note, receiver.is_open());
+    true
 }
 
 /// The receiver's step at an event of its line; none where the line was closed.

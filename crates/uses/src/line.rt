@@ -1,7 +1,9 @@
 //! What the loops ask of a serial line or a socket.
 
 ghost use Rattle.std.specs.Prelude.{List, [], ◌∷◌, Option};
-ghost use Rattle.uses.specs.Line.{Deed, GoesOn, sent, timed, waited};
+ghost use Rattle.uses.specs.Line.{Deed, GoesOn, keeping, sent, timed, waited};
+
+use lis_text::LinkText;
 
 /// What happens on a line.
 #[derive(Debug, Clone, Copy, PartialEq, Eq)]
@@ -30,4 +32,12 @@ pub trait Line {
     /// Waits for what happens next.
     fn wait(&mut self) -> Event
         ensures { GoesOn (deeds self.old) (deeds self.new) (waited result ∷ []) };
+}
+
+/// A computer's line, and the place where it keeps the texts that it receives.
+pub trait Host: Line {
+    /// Keeps a text for good, as in a file that is flushed to the disk, and returns whether it did. Returns false also
+    /// if it took so long that the analyzer's timer of 15 seconds may have run out: a reply would come too late.
+    fn keep(&mut self, text: &LinkText) -> bool
+        ensures { GoesOn (Self.deeds self.old) (Self.deeds self.new) (keeping text.now result ∷ []) };
 }

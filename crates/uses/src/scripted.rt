@@ -1,10 +1,11 @@
-//! A line in memory on which the events of a script happen, and which keeps a log of all that was done on it.
+//! A line in memory on which the events of a script happen, with a store, and a log of all that was done on it.
 
 ghost use Rattle.std.specs.Prelude.{◌≡◌, ◌∷◌, [], None, Some, MatchOption, if◌then◌else◌, map};
-ghost use Rattle.uses.specs.Line.{GoesOn};
+ghost use Rattle.uses.specs.Line.{GoesOn, keeping};
 ghost use Rattle.uses.specs.Scripted.{deed_of, log_of};
 
-use crate::line::{Event, Line};
+use crate::line::{Event, Host, Line};
+use lis_text::LinkText;
 use std::alloc::Global;
 
 /// What was done on a line.
@@ -16,14 +17,20 @@ pub enum Entry {
     Sent(Vec<u8>),
     /// The timer was started, to run out after so many seconds.
     Timed(u32),
+    /// This text was kept.
+    Kept(Vec<u8>),
+    /// This text was to be kept, and wasn't.
+    NotKept(Vec<u8>),
 }
 
-/// A line on which the events of a script happen, one after another, until it is closed. Its log is what was done on
-/// it, oldest first; if memory for that was refused, the log is lost from then on.
+/// A line on which the events of a script happen, one after another, until it is closed. Its store keeps each text but
+/// those that a second script refuses. Its log is what was done, oldest first; if memory for that was refused, the log
+/// is lost from then on.
 #[derive(Drop)]
 pub struct ScriptedLine<'a> {
     alloc: Global,
     events: &'a [Event],
+    answers: &'a [bool],
     entries: Vec<Entry>,
     is_whole: bool,
 }
@@ -36,9 +43,17 @@ impl<'a> ScriptedLine<'a> {
         ScriptedLine {
             alloc,
             events,
+            answers: &[],
             entries: Vec::new(alloc),
             is_whole: true,
         }
+    }
+
+    /// The same line, whose store answers the next texts by these: whether it keeps them.
+    pub fn with_answers(self, answers: &'a [bool]) -> Self
+        ensures { log_of result.is_whole result.entries.items ≡ log_of self.entry.is_whole self.entry.entries.items }
+    {
+        ScriptedLine { answers, ..self }
     }
 
     /// The log; none if memory for it was refused.
@@ -88,5 +103,34 @@ impl Line for ScriptedLine<'_> {
         };
         self.add(Entry::Waited(event));
         event
+    }
+}
+
+impl Host for ScriptedLine<'_> {
+    fn keep(&mut self, text: &LinkText) -> bool {
+        let is_kept = match self.answers.split_first() {
+            Some((answer, rest)) => {
+                self.answers = rest;
+                *answer
+            }
+            None => true,
+        };
+        let Ok(text) = Vec::from_slice(self.alloc, text.as_slice()) else {
+            self.is_whole = false;
+            return is_kept;
+        };
+        self.add(kept_entry(text, is_kept));
+        is_kept
+    }
+}
+
+/// The entry of a text that was to be kept.
+fn kept_entry(text: Vec<u8>, is_kept: bool) -> Entry
+    ensures { deed_of result ≡ keeping text.items is_kept }
+{
+    if is_kept {
+        Entry::Kept(text)
+    } else {
+        Entry::NotKept(text)
     }
 }
