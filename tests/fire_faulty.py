@@ -3,7 +3,10 @@
     commit        one commit of ten fails
     slow          a commit takes up to a twentieth of a second longer
     early         a text is acknowledged before it is kept (and commits are slow)
-    dropped       one whole message of twenty is not put into the store
+    careless      three commits of ten fail, and its texts are acknowledged all the same
+    forgetful     what can't be read isn't kept
+    hasty         a delivery notes a message before it delivers it
+    dropped       three whole messages of ten are not put into the store
     unmarked      a repeat isn't marked
     late          a reply goes out however old it is
     growing       each text stays in memory
@@ -15,7 +18,7 @@ import sys
 import time
 
 from lislink import cli
-from lislink.host import line, sql, sqlite, store
+from lislink.host import deliver, intake, line, sql, sqlite, store
 
 
 def failing_commits(share):
@@ -55,10 +58,42 @@ def early():
     line.Line._step = wrong
 
 
+def careless():
+    """Replies whether it could keep or not."""
+    failing_commits(0.3)
+    keep = line.Line._keep
+
+    async def wrong(self, text):
+        restart, self._restart = self._restart, lambda reason: None
+        await keep(self, text)
+        self._restart = restart
+        return True
+
+    line.Line._keep = wrong
+
+
+def forgetful():
+    """Keeps nothing of what can't be read."""
+    intake.Intake._pass_over = lambda self, one, text, start, changes: len(text)
+
+
+def hasty():
+    """Moves the cursor first."""
+
+    def run(delivery, once):
+        def both(one):
+            delivery.cursor.move(one)
+            delivery.deliver(one)
+
+        return right(delivery._replace(deliver=both), once)
+
+    right, deliver.run = deliver.run, run
+
+
 def dropped():
     """Loses messages."""
     number = sql.SqlStore._number
-    sql.SqlStore._number = lambda self, ends: number(self, [one for one in ends if random.random() > 0.05])
+    sql.SqlStore._number = lambda self, ends: number(self, [one for one in ends if random.random() > 0.3])
 
 
 def unmarked():
@@ -98,6 +133,9 @@ FAULTS = {
     "commit": lambda: failing_commits(0.1),
     "slow": lambda: slow_commits(0.05),
     "early": early,
+    "careless": careless,
+    "forgetful": forgetful,
+    "hasty": hasty,
     "dropped": dropped,
     "unmarked": unmarked,
     "late": late,

@@ -106,10 +106,16 @@ def stuck(log, seconds=1.0):
 
 def wrong_hosts(count):
     """A host that is wrong is noticed by these tests."""
+    store = count.path("unmarked.db")
+    host = Host(store, fault="unmarked")
+    for _ in range(2):
+        sending(host.port, "--made", "3").communicate()
+    host.stop()
+    count.same("a host that marks no repeat is noticed", len(Found(store).unmarked()), 3)
     for fault, sees in (
         ("early", lambda found, log: found.lost(log)),
+        ("careless", lambda found, log: found.lost(log)),
         ("dropped", lambda found, log: found.lost(log)),
-        ("unmarked", lambda found, log: found.unmarked()),
     ):
         store, log = count.path(f"{fault}.db"), count.path(f"{fault}.log")
         attack(store, log, 5, fault=fault)

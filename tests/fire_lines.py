@@ -232,35 +232,51 @@ def of_limits(count):
     count.true("limits: what came of the long one is kept", "more than 1000 bytes" in found.others[0].reason)
 
 
+GOOD = b"".join(TEXTS)
+#: Sessions with what can't be read: their texts, how many whole messages they have, and the reasons.
+ODD = (
+    ([b"H|\\^&\r", b"R|1\r", b"L|1\r"], 0, ["record 2: no record above it that it belongs to"]),
+    ([b"P|1\r", *TEXTS], 1, ["record 1: no header before it"]),
+    ([b"H|\\^&\r", b"P|1\r", *TEXTS], 1, ["a header comes before its L record"]),
+    ([b"H|\\^&\r", b"P|1\r"], 0, ["the session ended before its L record"]),
+    ([GOOD[:20], GOOD[20:]], 1, []),
+    ([GOOD + GOOD], 2, []),
+    ([GOOD + GOOD[:30], GOOD[30:]], 2, []),
+    ([GOOD + b"R|1\r" + GOOD], 2, ["record 1: no header before it"]),
+    ([b"H|^^^\rP|1\r" + GOOD], 1, ["record 1: malformed"]),
+    ([b"", *TEXTS], 1, []),
+)
+
+
 def of_quarantine(count):
     """What can't be read is kept with its reason, and hides nothing that follows."""
-    host = Host(count.path("quarantine.db"))
-    good = b"".join(TEXTS)
-    sessions = (
-        ([b"H|\\^&\r", b"R|1\r", b"L|1\r"], ["record 2: no record above it that it belongs to"]),
-        ([b"P|1\r", *TEXTS], ["record 1: no header before it"]),
-        ([b"H|\\^&\r", b"P|1\r", *TEXTS], ["a header comes before its L record"]),
-        ([b"H|\\^&\r", b"P|1\r"], ["the session ended before its L record"]),
-        ([good[:20], good[20:]], []),
-        ([good + good], []),
-        ([good + good[:30], good[30:]], []),
-        ([good + b"R|1\r" + good], ["record 1: no header before it"]),
-        ([b"H|^^^\rP|1\r" + good], ["record 1: malformed"]),
-        ([b"", *TEXTS], []),
+    found = after_odd(count, None)
+    wholes = sum(whole for _, whole, _ in ODD)
+    sent = sum(len(text) for texts, _, _ in ODD for text in texts)
+    count.same("quarantine: whole messages", [one.body for one in found.whole], [GOOD] * wholes)
+    count.same(
+        "quarantine: reasons", [one.reason for one in found.others], [why for *_, whys in ODD for why in whys]
     )
-    wholes = [0, 1, 1, 0, 1, 2, 2, 2, 1, 1]
+    count.same("quarantine: every byte is kept", kept_bytes(found), sent)
+    count.true(
+        "a host that forgets what it can't read is noticed", kept_bytes(after_odd(count, "forgetful")) < sent
+    )
+
+
+def after_odd(count, fault):
+    """What a host has kept of these sessions."""
+    host = Host(count.path(f"quarantine{fault}.db"), fault=fault)
     with Client(host.port) as client:
-        for texts, _ in sessions:
+        for texts, _, _ in ODD:
             count.true(f"quarantine: {texts!r} is acknowledged", client.whole(texts))
         time.sleep(0.2)
     count.same("quarantine: the host's status", host.stop(), 0)
-    found = Found(host.store)
-    count.same("quarantine: whole messages", [one.body for one in found.whole], [good] * sum(wholes))
-    count.same(
-        "quarantine: reasons", [one.reason for one in found.others], [why for _, whys in sessions for why in whys]
-    )
-    kept = sum(len(one.body) for one in [*found.whole, *found.others])
-    count.same("quarantine: every byte is kept", kept, sum(len(text) for texts, _ in sessions for text in texts))
+    return Found(host.store)
+
+
+def kept_bytes(found):
+    """How many bytes a store has."""
+    return sum(len(one.body) for one in [*found.whole, *found.others])
 
 
 def of_stop(count):

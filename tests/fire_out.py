@@ -8,7 +8,7 @@ import subprocess
 import sys
 import time
 
-from fire_kit import ENV, Host, lislab, sending, wait_for
+from fire_kit import ENV, FAULTY, Host, lislab, sending, wait_for
 from lislink.host.store import open_store
 
 SAMPLE = "samples/panel.records"
@@ -20,6 +20,7 @@ def run(count, soak):
         of_sending(count, store)
         of_export(count, store)
         of_delivery(count, store)
+        hasty(count, store)
         one_host(count, store)
     of_modes(count)
     of_restored(count)
@@ -93,8 +94,12 @@ def of_export(count, store):
 
 
 TAKER = """
-import os, random, sys
-if random.random() < 0.3:
+import os, sys
+turn = sys.argv[1] + ".turn"
+if os.path.exists(turn):
+    os.unlink(turn)
+else:
+    open(turn, "w").close()
     sys.exit(1)
 data = sys.stdin.buffer.read()
 with open(sys.argv[1], "ab") as file:
@@ -109,16 +114,9 @@ def of_delivery(count, store):
     one.close()
     path, cursor = count.path(f"taken{len(store)}"), count.path(f"cursor{len(store)}")
     words = ["deliver", "--store", store, "--cursor", cursor]
-    taker = [*words, "--once", "--", sys.executable, "-c", TAKER, path]
-    count.true("delivery: it ends", wait_for(lambda: lislab(*taker).returncode == 0, 60))
-    with open(path, encoding="ascii") as file:
-        taken = [tuple(int(word) for word in row.split()) for row in file]
-    count.same("delivery: in order, each once at least", list(dict.fromkeys(taken)), wanted)
-    count.same(
-        "delivery: nothing is left",
-        lislab(*words, "--once", "--directory", path + ".d").stderr[-21:],
-        "0 messages delivered\n",
-    )
+    count.same("delivery: in order, each once at least", taken(words, path), wanted)
+    done = lislab(*words, "--once", "--directory", path + ".d")
+    count.has("delivery: nothing is left", done.stderr, "lislab: 0 messages delivered")
     os.unlink(cursor)
     folder = path + ".d"
     going = subprocess.Popen([sys.executable, "-m", "lislink", *words, "--directory", folder], env=ENV)
@@ -138,6 +136,28 @@ def of_delivery(count, store):
     count.same("delivery: with its records", sizes, [size for _, size in wanted])
     shown = lislab("status", "--store", store, "--cursor", cursor).stdout
     count.has("status: nothing to deliver", shown, "0 messages not delivered")
+
+
+def taken(words, path, fault=None):
+    """What a command that fails each other time has taken, without repeats."""
+    taker = ["--once", "--", sys.executable, "-c", TAKER, path]
+    program = [FAULTY, fault] if fault else ["-m", "lislink"]
+    for _ in range(20):
+        done = subprocess.run([sys.executable, *program, *words, *taker], capture_output=True, env=ENV, check=False)
+        if done.returncode == 0:
+            break
+    with open(path, encoding="ascii") as file:
+        return list(dict.fromkeys(tuple(int(word) for word in row.split()) for row in file))
+
+
+def hasty(count, store):
+    """A delivery that notes a message before it delivers it is noticed."""
+    path, cursor = count.path(f"hasty{len(store)}"), count.path(f"hasty-cursor{len(store)}")
+    one = open_store(store)
+    numbers = [stored.number for stored in one.messages()]
+    one.close()
+    found = [number for number, _ in taken(["deliver", "--store", store, "--cursor", cursor], path, "hasty")]
+    count.true("a delivery that is hasty is noticed", found != numbers, str(found))
 
 
 def one_host(count, store):

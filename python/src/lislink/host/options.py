@@ -83,7 +83,7 @@ def listen_of(word: str) -> Listen:
     """`HOST:PORT[,name=..][,frame=240|63993][,encoding=..]`."""
     where, given = _split(word, ("name", "frame", "encoding"))
     host, port = split_address(where)
-    return Listen(host, port, given.get("name", where), _frame(given), _encoding(given))
+    return Listen(host, port, given.get("name", f"{host}:{port}"), _frame(given), _encoding(given))
 
 
 def serial_of(word: str) -> Serial:
