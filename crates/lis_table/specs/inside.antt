@@ -1,0 +1,3 @@
+-- What proofs and private functions see.
+pub mod Scan
+pub mod Stops
