@@ -375,6 +375,33 @@ lis_status lis_header_part(const uint8_t *text, size_t text_len, size_t field, s
 lis_status lis_record_part(const lis_delimiters *delimiters, const uint8_t *text, size_t text_len, size_t field,
                            size_t repeat, size_t component, uint8_t *out, size_t out_len, size_t *size);
 
+/* One component of a record: where its bytes are in the record's text, and which it is. Fields are counted as by
+ * lis_record_part, repeats and components from 0. With LIS_PART_ESCAPED the escape byte is among its bytes, and
+ * lis_part_decode says what they mean; without it they are what they mean. The other bits of `flags` are 0. */
+typedef struct lis_part {
+    uint32_t offset;
+    uint32_t len;
+    uint32_t field;
+    uint32_t repeat;
+    uint32_t component;
+    uint32_t flags;
+} lis_part;
+
+enum lis_part_flag { LIS_PART_ESCAPED = 1 };
+
+/* Puts all components of a record to the front of `out`, in the text's order, in one pass over the text; `count` is
+ * how many there are. LIS_STATUS_OK; LIS_STATUS_TOO_SHORT, and as many are written as `out` has room for (one as long
+ * as the text is never too short); else as lis_header_read and lis_record_read, and `count` is 0 and `out` as it was.
+ * What is past `count` in `out` stays as it was. `count` is always written. */
+lis_status lis_header_parts(const uint8_t *text, size_t text_len, lis_part *out, size_t out_len, size_t *count);
+lis_status lis_record_parts(const lis_delimiters *delimiters, const uint8_t *text, size_t text_len, lis_part *out,
+                            size_t out_len, size_t *count);
+/* Copies the bytes that one component means, its escapes decoded, to the front of `out`; `size` is how many they are.
+ * LIS_STATUS_OK; LIS_STATUS_TOO_SHORT (what is in `out` is then of no use; a buffer as long as the component is never
+ * too short); LIS_STATUS_BAD_DELIMITERS. `size` is always written, 0 but with OK. */
+lis_status lis_part_decode(const lis_delimiters *delimiters, const uint8_t *part, size_t part_len, uint8_t *out,
+                           size_t out_len, size_t *size);
+
 /* ---- Reader: the records of a stream that comes in pieces, each where the message may have it. ---- */
 
 LIS_ENUM(lis_found_kind) {

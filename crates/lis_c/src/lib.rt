@@ -9,6 +9,7 @@ mod feed;
 mod frames;
 mod lent;
 mod out;
+mod parts;
 mod reader;
 mod receiver;
 mod records;

@@ -1,14 +1,15 @@
 //! Records for programs in C, read where they stand (LIS02-A2, Delimiters). No call takes memory.
 
-ghost use Rattle.std.specs.Prelude.{◌≡◌, ◌≢◌, ◌<◌, length, take, None, Some, Ok, Err};
+ghost use Rattle.std.specs.Prelude.{◌≡◌, ◌≢◌, ◌<◌, ◌≤◌, length, take, None, Some, Ok, Err};
 ghost use Rattle.std.specs.Prelude.{IfOk, IfErr, IfSome, IfNone, MatchOption, MatchResult};
 ghost use Rattle.std.specs.Option.{option_to_list};
-ghost use Rattle.lis_c.specs.Records.{IsPart, TellsRecordFault, TellsRecord, delimiters_in, part_at, plain};
+ghost use Rattle.lis_c.specs.Records.{IsCopied, IsPart, TellsRecordFault, TellsRecord, delimiters_in, part_at, plain};
 ghost use Rattle.lis_c.specs.Records.{no_record, record_place, record_status, symbol_bytes};
 ghost use Rattle.lis_c.specs.Status.{BAD_DELIMITERS};
 ghost use Rattle.lis_field.specs.declared.kinds.Kind.TheVariants as kinds;
 ghost use Rattle.lis_field.specs.Delimiters.{DelimiterBytes, IsDelimiters};
 ghost use Rattle.lis_field.specs.Shape.{RecordContent};
+ghost use Rattle.lis_field.specs.Text.{record_limit};
 ghost use Rattle.lis_field.specs.declared.faults.RecordFault.{RecordFault};
 ghost use Rattle.lis_record.specs.Faults.{header_fault, record_fault};
 ghost use Rattle.lis_record.specs.Lent.{lent};
@@ -151,7 +152,7 @@ pub(crate) fn known(delimiters: &LisDelimiters) -> Result<Delimiters, DelimiterF
 }
 
 /// The record, other than a header, that a text is under these delimiters.
-fn record_under<'a>(
+pub(crate) fn record_under<'a>(
     delimiters: &LisDelimiters,
     text: &'a [u8],
 ) -> Result<LentRecord<'a>, RecordFault>
@@ -163,6 +164,7 @@ fn record_under<'a>(
     ensures delimiters { (IsDelimiters (delimiters_in delimiters.now) → ⊥)
         → MatchResult result (λ _. ⊥)
         (λ fault. (record_status fault ≡ BAD_DELIMITERS) × (record_place fault ≡ 0)) }
+    ensures short { IfOk result (λ _. length text.now ≤ record_limit) }
 {
     match known(delimiters) {
         Ok(known) => lend_record(&known, text),
@@ -171,7 +173,7 @@ fn record_under<'a>(
 }
 
 /// Tells the delimiters of a message.
-fn tell_delimiters(known: Delimiters, out: &mut LisDelimiters)
+pub(crate) fn tell_delimiters(known: Delimiters, out: &mut LisDelimiters)
     ensures { delimiters_in out.new ≡ known }
 {
     out.field = known.field();
@@ -239,7 +241,16 @@ pub(crate) fn copy_part(
     let Some(part) = part(entry, field, repeat, component) else {
         return status::ABSENT;
     };
-    match copy_symbols(part.symbols(), out) {
+    tell_symbols(part.symbols(), out, size)
+}
+
+/// Copies the bytes that symbols mean, and tells how many they are.
+pub(crate) fn tell_symbols(symbols: LentSymbols<'_>, out: &mut [u8], size: &mut usize) -> u8
+    requires { size.old ≡ 0 }
+    ensures copied { IsCopied (plain symbols.entry) result out.new size.new }
+    ensures length { length out.new ≡ length out.old }
+{
+    match copy_symbols(symbols, out) {
         Some(count) => {
             *size = count;
             status::OK
