@@ -6,8 +6,12 @@ name that two files give to two things is never confused. Used by tools/trust an
 import glob
 import os
 import re
+import sys
 
 ROOT = os.path.dirname(os.path.dirname(os.path.abspath(__file__)))
+sys.path.append(f"{ROOT}/tests")
+from edit import names_of  # noqa: E402: tests/ has it
+
 HEAD = re.compile(r"^((?:(?:abbrev|unfoldable|opaque|pub|record|data) )+)(\S+)")
 IMPORT = re.compile(r"^\s*(?:ghost )?use Rattle\.([\w.]+)(?:\.\{([^}]*)\})?(?: as (\w+))?;?\s*$")
 TOKEN = re.compile(r"[A-Za-z_][\w']*(?:\.[A-Za-z_]\w*)*|[^\sA-Za-z0-9_(){}\[\],;.◌]+")
@@ -74,7 +78,7 @@ class Book:
         self.imports[module] = imports_of(lines)
         for number, line in enumerate(lines, 1):
             head = HEAD.match(line)
-            if head and head[1] != "pub " or head and not head[2] == "mod":
+            if head and head[2] not in ("mod", "use"):
                 current = Definition(module, head[2], os.path.relpath(path, self.root), number)
                 current.kind = head[1]
                 self.definitions[current.key] = current
@@ -139,15 +143,31 @@ class Book:
         return list(seen.values()), types
 
 
+class Exports:
+    """Which items of a crate others can use: those of its public modules, and those that it hands on by name."""
+
+    def __init__(self, root, crate):
+        text = "\n".join(read(f"{root}/crates/{crate}/src/lib.rt"))
+        self.modules = set(re.findall(r"^pub mod (\w+);", text, re.M))
+        self.names = set(re.findall(r"\w+", " ".join(re.findall(r"^pub use ([^;]*);", text, re.M))))
+        # The exports of the library for C are called by their names alone.
+        self.all = "staticlib" in " ".join(it for it in read(f"{root}/crates.txt") if it.startswith(f"{crate} "))
+
+    def has(self, module, name):
+        return self.all or name in self.names or module.split("/")[0] in self.modules
+
+
 class Contracts:
-    """The contracts of a crate's functions that others can call, with the names that each cites."""
+    """The contracts of a crate's functions that others can call, with the names that each cites; and the names that the
+    models of its public types cite."""
 
     def __init__(self, book, crate):
         self.book, self.crate, self.cited, self.models = book, crate, {}, set()
-        for path in sorted(glob.glob(f"{book.root}/crates/{crate}/src/**/*.rt", recursive=True)):
-            self.read(read(path), os.path.basename(path).removesuffix(".rt"))
+        self.exports, source = Exports(book.root, crate), f"{book.root}/crates/{crate}/src"
+        for path in sorted(glob.glob(f"{source}/**/*.rt", recursive=True)):
+            self.read(read(path), os.path.relpath(path, source).removesuffix(".rt"))
 
-    def read(self, lines, file):
+    def read(self, lines, module):
         imports, block, of, number = imports_of(lines), None, "", 0
         while number < len(lines):
             line = lines[number]
@@ -155,12 +175,15 @@ class Contracts:
                 head = BLOCK.match(line)
                 block = head and ("trait" if head[1].startswith("pub") else "impl")
                 of = head[2] if head else ""
-            if block == "impl" and re.search(r"\bModel for\b", of):
+            is_public = not block or self.exports.has(module, names_of(of)[1] or "")
+            if block == "impl" and re.search(r"\bModel for\b", of) and is_public:
                 self.models.update(self.book.named_in(None, imports, line))
-            found = PUBLIC_FN.match(line) or (METHOD.match(line) if block == "trait" or " for " in of else None)
+            is_method = block == "trait" or block and " for " in of
+            found = PUBLIC_FN.match(line) or (METHOD.match(line) if is_method else None)
             if found:
                 header, number = self.header(lines, number, found[1])
-                self.note(file, of if found[1] else "", found[2], imports, header)
+                if is_public and (block or self.exports.has(module, found[2])):
+                    self.note(module, of if block else "", found[2], imports, header)
             else:
                 number += 1
 
@@ -175,7 +198,6 @@ class Contracts:
                 break
         return "\n".join(lines[start:end + 1]), end + 1
 
-    def note(self, file, of, name, imports, header):
+    def note(self, module, of, name, imports, header):
         clauses = header[re.search(r"\n\s*(requires|ensures)\b|$", header).start():]
-        cited = [it for it in self.book.named_in(None, imports, clauses)]
-        self.cited[file, of, name] = cited
+        self.cited[module.rsplit("/", 1)[-1], of, name] = list(self.book.named_in(None, imports, clauses))
