@@ -6,9 +6,13 @@
 #[cfg(test)]
 mod faults;
 #[cfg(test)]
+mod lent;
+#[cfg(test)]
 mod memory;
 #[cfg(test)]
 mod message;
+#[cfg(test)]
+mod parts;
 #[cfg(test)]
 mod record;
 #[cfg(test)]

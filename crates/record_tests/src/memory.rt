@@ -6,7 +6,7 @@ ghost use Rattle.std.specs.Mem.{FitsInMemory};
 
 use lis_field::*;
 use lis_port::Slow;
-use lis_record::{put_field, write_record};
+use lis_record::{LentField, lend_record, put_field, write_record};
 use lis_text::*;
 use std::alloc::{AllocError, AllocFailed, Global};
 use std::mem::drop;
@@ -245,4 +245,29 @@ fn assert_kinds(rt: &impl Abort, records: &[Record]) {
         assert!(rt; record.kind() == *kind);
         rest = behind;
     }
+}
+
+/// Adds a field's spelling to a text; where memory is refused the text begins with what it was, and it is asked once
+/// more.
+fn add_field(rt: &impl Abort, field: &LentField<'_>, text: &mut Vec<u8>) {
+    let length = text.len();
+    if field.add_to(text).is_err() {
+        assert!(rt; text.len() >= length);
+        text.truncate(length);
+        assert!(rt; field.add_to(text).is_ok());
+    }
+}
+
+#[test]
+fn a_text_that_takes_no_field_begins_as_before(rt: HostRuntime) {
+    let record = lend_record(&Delimiters::usual(), b"C|a\\b|&X0d&").expect(&rt, "a record");
+    let plain = record.field(2).expect(&rt, "a field");
+    let raw = record.field(3).expect(&rt, "a field");
+    let mut text = Vec::new(rt.alloc());
+    for _ in 0..4 {
+        add_field(&rt, &plain, &mut text);
+        add_field(&rt, &raw, &mut text);
+    }
+    assert!(rt; text.as_slice() == b"a\\b&X0d&a\\b&X0d&a\\b&X0d&a\\b&X0d&".as_slice());
+    drop(text);
 }

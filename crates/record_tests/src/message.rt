@@ -5,10 +5,10 @@ use std::alloc::Global;
 use std::mem::drop;
 use std::process::Abort;
 
-/// Feeds a header and 65,535 comments.
-fn feed_many(reader: &mut MessageReader) {
+/// Feeds a header and so many comments.
+fn feed_many(reader: &mut MessageReader, comments: u32) {
     drop(reader.feed(b"H|\\^&\r"));
-    for _ in 0..65_535u32 {
+    for _ in 0..comments {
         drop(reader.feed(b"C"));
         drop(reader.feed(b"\r"));
     }
@@ -17,7 +17,7 @@ fn feed_many(reader: &mut MessageReader) {
 #[test]
 fn too_many_records_have_no_texts(rt: HostRuntime) {
     let mut reader = MessageReader::new(rt.alloc());
-    feed_many(&mut reader);
+    feed_many(&mut reader, 65_535);
     let fed = reader.feed(b"L\r");
     assert_too_many(&rt, rt.alloc(), fed.messages.get(0));
     drop(fed);
@@ -29,6 +29,23 @@ fn assert_too_many(rt: &impl Abort, alloc: Global, message: Option<&Message>) {
     let message = message.expect(rt, "a message");
     assert!(rt; message.len() == 65_537);
     assert!(rt; message_texts(alloc, message).err() == Some(TextsFault::TooMany));
+}
+
+/// Fails where there is no message of 65,536 records, or it lacks a text.
+fn assert_texts(rt: &impl Abort, alloc: Global, message: Option<&Message>) {
+    let texts = message_texts(alloc, message.expect(rt, "a message")).expect(rt, "texts");
+    assert!(rt; texts.len() == 65_536);
+    drop(texts);
+}
+
+#[test]
+fn as_many_records_as_there_may_be_texts_have_texts(rt: HostRuntime) {
+    let mut reader = MessageReader::new(rt.alloc());
+    feed_many(&mut reader, 65_534);
+    let fed = reader.feed(b"L\r");
+    assert_texts(&rt, rt.alloc(), fed.messages.get(0));
+    drop(fed);
+    assert!(rt; reader.finish().is_ok());
 }
 
 /// Two patients, the first with two orders, and notes and a query between. Each patient, each order and each result

@@ -1,7 +1,9 @@
-//! What no contract and no conformance row says: a field that is put from where it stands, and how long a record is.
+//! What no contract and no conformance row says: a field that is put from where it stands, a field's spelling in pieces,
+//! and how long a record is.
 
+use lis_field::Field;
 use lis_port::Slow;
-use lis_record::{Delimiters, Kind, Record, lend_record, spelled_length};
+use lis_record::{Delimiters, FieldSpelling, Kind, Record, lend_record, spelled_length};
 use std::mem::drop;
 use std::process::Abort;
 
@@ -35,4 +37,22 @@ fn the_length_of_a_spelling_is_told(rt: HostRuntime) {
     let length = spelled_length(&Delimiters::usual(), &record);
     drop(record);
     assert!(rt; length == 33);
+}
+
+#[test]
+fn the_pieces_of_a_field_are_its_spelling(rt: HostRuntime) {
+    let field = Field::from_text(rt.alloc(), &[b'a'; 600]).expect(&rt, "a field");
+    let mut spelled = Vec::new(rt.alloc());
+    let mut rest = FieldSpelling::new(&Delimiters::usual(), &field);
+    for _ in 0..9 {
+        if let Some(piece) = rest.piece() {
+            assert!(rt; spelled.extend_from_slice(piece).is_ok());
+            rest.advance();
+        }
+    }
+    assert!(rt; rest.piece().is_none());
+    drop(rest);
+    drop(field);
+    assert!(rt; spelled.as_slice() == [b'a'; 600].as_slice());
+    drop(spelled);
 }
