@@ -14,6 +14,7 @@
 
 #include <lislink.h>
 
+#include <algorithm>
 #include <cassert>
 #include <chrono>
 #include <cstddef>
@@ -25,8 +26,10 @@
 #include <stdexcept>
 #include <string>
 #include <string_view>
+#include <tuple>
 #include <type_traits>
 #include <utility>
+#include <vector>
 
 namespace lislink {
 
@@ -376,39 +379,101 @@ public:
 class reader {
     detail::owner<lis_reader, lis_reader_size, lis_reader_align, lis_reader_init, lis_reader_end> own_;
     lis_found found_{};
+    lis_delimiters delimiters_{'|', '\\', '^', '&'};
+    std::string held_;               // the bytes of a record that began in an earlier piece
+    std::string_view text_;          // of the record that was read last
+    std::vector<lis_part> parts_;
+    std::size_t count_ = 0;
+    bool split_ = false;             // whether `parts_` are those of the record that was read last
 
     lis_reader *get() noexcept { return own_.get(); }
 
+    // The record that ended: its text, and the delimiters that a header declares.
+    void take(std::string_view text) {
+        if (!held_.empty())
+            held_ += text;
+        text_ = held_.empty() ? text : held_;
+        split_ = false;
+        lis_record header;
+        if (found_.letter == 'H')
+            lis_header_read(detail::at(text_), text_.size(), &delimiters_, &header);
+    }
+
+    // All parts of the record. It has fewer than it has bytes.
+    void split() {
+        if (split_)
+            return;
+        if (parts_.size() < text_.size())
+            parts_.resize(text_.size());
+        const std::uint8_t *text = detail::at(text_);
+        if (found_.letter == 'H')
+            lis_header_parts(text, text_.size(), parts_.data(), parts_.size(), &count_);
+        else
+            lis_record_parts(&delimiters_, text, text_.size(), parts_.data(), parts_.size(), &count_);
+        split_ = true;
+    }
+
     // Reads on to the end of a record; false if there is none in these bytes, or one that can't be read.
-    bool next(std::string_view &bytes) noexcept {
-        while (!bytes.empty()) {
-            bytes.remove_prefix(lis_reader_read(get(), detail::at(bytes), bytes.size(), &found_));
-            if (found_.kind != LIS_FOUND_NOTHING)
-                return found_.kind == LIS_FOUND_RECORD;
+    bool next(std::string_view &bytes) {
+        if (found_.kind == LIS_FOUND_RECORD)
+            held_.clear();
+        std::string_view rest = bytes;
+        while (!rest.empty()) {
+            rest.remove_prefix(lis_reader_read(get(), detail::at(rest), rest.size(), &found_));
+            if (found_.kind == LIS_FOUND_REFUSED)
+                return false;
+            if (found_.kind == LIS_FOUND_RECORD) {
+                take(bytes.substr(0, bytes.size() - rest.size() - 1));
+                bytes = rest;
+                return true;
+            }
         }
+        held_ += bytes;
+        bytes = rest;
         return false;
     }
 
 public:
-    // The record that was read last, good until the reader reads on.
+    // The record that was read last, good until the reader reads on and as long as the bytes are there.
     class record {
         reader *from_;
         friend class reader;
         explicit record(reader &from) noexcept : from_(&from) {}
 
+        static auto key(const lis_part &part) noexcept { return std::tuple(part.field, part.repeat, part.component); }
+
     public:
         char letter() const noexcept { return static_cast<char>(from_->found_.letter); }
         std::size_t fields() const noexcept { return from_->found_.fields; }
+        const lis_delimiters &delimiters() const noexcept { return from_->delimiters_; }
+        // Its text, without the CR.
+        std::string_view text() const noexcept { return from_->text_; }
+
+        // All parts, in the order of the text: from begin() to end().
+        const lis_part *begin() const {
+            from_->split();
+            return from_->parts_.data();
+        }
+        const lis_part *end() const { return begin() + from_->count_; }
+        // The bytes of a part as they are in the text, and without its escapes.
+        std::string_view raw(const lis_part &part) const noexcept { return text().substr(part.offset, part.len); }
+        std::string plain(const lis_part &part) const {
+            std::string out(raw(part));
+            std::size_t size = out.size();
+            if (part.flags & LIS_PART_ESCAPED)
+                lis_part_decode(&delimiters(), detail::at(raw(part)), part.len, detail::at(out), part.len, &size);
+            out.resize(size);
+            return out;
+        }
         // A component without its escapes; none if there is no such part. Fields are counted as the standard does: the
         // first after the letter is 2, after a header's delimiters 3; repeats and components from 0.
         std::optional<std::string> part(std::size_t field, std::size_t repeat = 0, std::size_t component = 0) const {
-            std::string out(LIS_LIMIT_RECORD_BYTES, '\0');
-            std::size_t size = 0;
-            if (lis_reader_part(from_->get(), field, repeat, component, detail::at(out), out.size(), &size)
-                != LIS_STATUS_OK)
+            auto wanted = std::tuple(field, repeat, component);
+            auto found = std::lower_bound(begin(), end(), wanted,
+                                          [](const lis_part &part, const auto &it) { return key(part) < it; });
+            if (found == end() || key(*found) != wanted)
                 return std::nullopt;
-            out.resize(size);
-            return out;
+            return plain(*found);
         }
     };
 
@@ -419,7 +484,7 @@ public:
         friend class reader;
         records(reader &from, std::string_view bytes) noexcept : from_(&from), rest_(bytes) {}
 
-        bool advance() noexcept(!Throws) {
+        bool advance() {
             bool more = from_->next(rest_);
 #if defined(__cpp_exceptions)
             if constexpr (Throws)
@@ -445,16 +510,16 @@ public:
             iterator(records *of, std::nullptr_t) noexcept : of_(nullptr), now_(*of->from_) {}
             reference operator*() const noexcept { return now_; }
             pointer operator->() const noexcept { return &now_; }
-            iterator &operator++() noexcept(!Throws) {
+            iterator &operator++() {
                 if (!of_->advance())
                     of_ = nullptr;
                 return *this;
             }
-            void operator++(int) noexcept(!Throws) { ++*this; }
+            void operator++(int) { ++*this; }
             bool operator==(const iterator &other) const noexcept { return of_ == other.of_; }
             bool operator!=(const iterator &other) const noexcept { return of_ != other.of_; }
         };
-        iterator begin() noexcept(!Throws) { return advance() ? iterator(this) : end(); }
+        iterator begin() { return advance() ? iterator(this) : end(); }
         iterator end() noexcept { return iterator(this, nullptr); }
     };
 

@@ -102,6 +102,11 @@ static void read_back(const std::string &stream) {
             if (record.letter() == 'R')
                 std::printf(" %s %s", record.part(3, 0, 3).value_or("?").c_str(), record.part(4).value_or("?").c_str());
             SAME(!record.part(30) && !record.part(2, 1));
+            std::string again(1, record.letter());
+            for (const lis_part &part : record)
+                again += (part.component > 0 ? "^" : "|") + record.plain(part);
+            SAME(record.letter() == 'H' ? record.part(5) == "Ana|yzer" && record.text().substr(0, 8) == "H|\\^&|||"
+                                        : record.text() == again);
             std::printf("\n");
         }
     reader.finish();

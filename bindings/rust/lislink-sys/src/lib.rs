@@ -99,22 +99,24 @@ pub const LIS_LIMIT_TEXTS: u64 = 65536;
 pub const LIS_LIMIT_TEXT_BYTES: u64 = 1048576;
 pub const LIS_LIMIT_RECORD_BYTES: u64 = 65536;
 
+pub const LIS_PART_ESCAPED: u64 = 1;
+
 #[repr(C)]
-#[derive(Clone, Copy)]
+#[derive(Clone, Copy, Debug)]
 pub struct lis_bytes {
     pub len: usize,
     pub bytes: [u8; 247],
 }
 
 #[repr(C)]
-#[derive(Clone, Copy)]
+#[derive(Clone, Copy, Debug)]
 pub struct lis_place {
     pub index: usize,
     pub place: usize,
 }
 
 #[repr(C)]
-#[derive(Clone, Copy)]
+#[derive(Clone, Copy, Debug)]
 pub struct lis_signal {
     pub kind: lis_signal_kind,
     pub number: u8,
@@ -126,26 +128,26 @@ pub struct lis_signal {
 }
 
 #[repr(C)]
-#[derive(Clone, Copy)]
+#[derive(Clone, Copy, Debug)]
 pub struct lis_scanner {
     pub at: *mut c_void,
 }
 
 #[repr(C)]
-#[derive(Clone, Copy)]
+#[derive(Clone, Copy, Debug)]
 pub struct lis_text {
     pub bytes: *const u8,
     pub bytes_len: usize,
 }
 
 #[repr(C)]
-#[derive(Clone, Copy)]
+#[derive(Clone, Copy, Debug)]
 pub struct lis_sender {
     pub at: *mut c_void,
 }
 
 #[repr(C)]
-#[derive(Clone, Copy)]
+#[derive(Clone, Copy, Debug)]
 pub struct lis_line {
     pub sender: lis_sender,
     pub connection: u64,
@@ -153,7 +155,7 @@ pub struct lis_line {
 }
 
 #[repr(C)]
-#[derive(Clone, Copy)]
+#[derive(Clone, Copy, Debug)]
 pub struct lis_step {
     pub reply: u8,
     pub has_text: bool,
@@ -163,13 +165,13 @@ pub struct lis_step {
 }
 
 #[repr(C)]
-#[derive(Clone, Copy)]
+#[derive(Clone, Copy, Debug)]
 pub struct lis_receiver {
     pub at: *mut c_void,
 }
 
 #[repr(C)]
-#[derive(Clone, Copy)]
+#[derive(Clone, Copy, Debug)]
 pub struct lis_delimiters {
     pub field: u8,
     pub repeat: u8,
@@ -178,7 +180,7 @@ pub struct lis_delimiters {
 }
 
 #[repr(C)]
-#[derive(Clone, Copy)]
+#[derive(Clone, Copy, Debug)]
 pub struct lis_record {
     pub letter: u8,
     pub fields: usize,
@@ -186,7 +188,18 @@ pub struct lis_record {
 }
 
 #[repr(C)]
-#[derive(Clone, Copy)]
+#[derive(Clone, Copy, Debug)]
+pub struct lis_part {
+    pub offset: u32,
+    pub len: u32,
+    pub field: u32,
+    pub repeat: u32,
+    pub component: u32,
+    pub flags: u32,
+}
+
+#[repr(C)]
+#[derive(Clone, Copy, Debug)]
 pub struct lis_found {
     pub kind: lis_found_kind,
     pub letter: u8,
@@ -198,13 +211,13 @@ pub struct lis_found {
 }
 
 #[repr(C)]
-#[derive(Clone, Copy)]
+#[derive(Clone, Copy, Debug)]
 pub struct lis_reader {
     pub at: *mut c_void,
 }
 
 #[repr(C)]
-#[derive(Clone, Copy)]
+#[derive(Clone, Copy, Debug)]
 pub struct lis_writer {
     pub at: *mut c_void,
 }
@@ -320,6 +333,29 @@ extern "C" {
         field: usize,
         repeat: usize,
         component: usize,
+        out: *mut u8,
+        out_len: usize,
+        size: *mut usize,
+    ) -> lis_status;
+    pub fn lis_header_parts(
+        text: *const u8,
+        text_len: usize,
+        out: *mut lis_part,
+        out_len: usize,
+        count: *mut usize,
+    ) -> lis_status;
+    pub fn lis_record_parts(
+        delimiters: *const lis_delimiters,
+        text: *const u8,
+        text_len: usize,
+        out: *mut lis_part,
+        out_len: usize,
+        count: *mut usize,
+    ) -> lis_status;
+    pub fn lis_part_decode(
+        delimiters: *const lis_delimiters,
+        part: *const u8,
+        part_len: usize,
         out: *mut u8,
         out_len: usize,
         size: *mut usize,

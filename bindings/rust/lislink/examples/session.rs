@@ -83,7 +83,7 @@ fn read_back(stream: &[u8]) {
             let record = record.expect("a record");
             print!("{} {}", record.letter(), record.fields());
             let words = |field, component| {
-                String::from_utf8(record.part(field, 0, component).unwrap()).unwrap()
+                String::from_utf8(record.part(field, 0, component).unwrap().into_owned()).unwrap()
             };
             match record.letter() {
                 'H' => print!(" {}", words(5, 0)),

@@ -20,7 +20,7 @@ mod writer;
 
 pub use codes::{Fault, Note, Outcome, Phase, Ready, Reason, Status};
 pub use frame::{frame, Bytes, Scanner, Signal};
-pub use reader::{MessageError, Reader, Record, Records};
+pub use reader::{MessageError, Part, Reader, Record, Records};
 pub use receiver::{Heard, Receiver, Step};
 pub use sender::{Connection, Sender, Text};
 pub use writer::{Delimiters, Writer};

@@ -1,9 +1,8 @@
 //! The reader, and the records that it reads.
-use crate::{block::Block, Delimiters, Reason, Status};
+use crate::{block::Block, Delimiters, Reason};
 use lislink_sys as sys;
+use std::borrow::Cow;
 use std::fmt;
-
-const CR: u8 = 0x0d;
 
 /// Why a record can't be read.
 #[derive(Clone, Copy, Debug, PartialEq, Eq)]
@@ -26,10 +25,43 @@ impl fmt::Display for MessageError {
 
 impl std::error::Error for MessageError {}
 
+/// A component of a record, and which it is. Fields are counted as the standard does: the first after the letter is 2,
+/// after a header's delimiters 3; repeats and components from 0.
+#[derive(Clone, Copy, Debug, PartialEq, Eq)]
+pub struct Part<'r> {
+    /// The field.
+    pub field: usize,
+    /// The repeat of the field.
+    pub repeat: usize,
+    /// The component of the repeat.
+    pub component: usize,
+    /// Its bytes as they are in the record.
+    pub raw: &'r [u8],
+    escaped: bool,
+    delimiters: Delimiters,
+}
+
+impl<'r> Part<'r> {
+    /// Its bytes, escapes as what they mean.
+    pub fn bytes(&self) -> Cow<'r, [u8]> {
+        if !self.escaped {
+            return Cow::Borrowed(self.raw);
+        }
+        let (mut out, mut size) = (vec![0; self.raw.len()], 0);
+        let (by, len) = (self.delimiters.to_sys(), self.raw.len());
+        unsafe {
+            sys::lis_part_decode(&by, self.raw.as_ptr(), len, out.as_mut_ptr(), len, &mut size)
+        };
+        out.truncate(size);
+        Cow::Owned(out)
+    }
+}
+
 /// A record of a message.
-#[derive(Clone, Debug, PartialEq, Eq)]
+#[derive(Clone, Debug)]
 pub struct Record {
     text: Vec<u8>,
+    parts: Vec<sys::lis_part>,
     letter: u8,
     fields: usize,
     delimiters: Delimiters,
@@ -56,32 +88,39 @@ impl Record {
         self.delimiters
     }
 
-    /// A component, its escapes as the bytes that they mean. Fields are counted as the standard does: the first after
-    /// the letter is 2, after a header's delimiters 3; repeats and components from 0.
-    pub fn part(&self, field: usize, repeat: usize, component: usize) -> Option<Vec<u8>> {
-        let (mut out, mut size) = (vec![0; self.text.len()], 0);
-        let (text, len) = (self.text.as_ptr(), self.text.len());
-        let (to, room) = (out.as_mut_ptr(), out.len());
-        let status = unsafe {
-            if self.letter == b'H' {
-                sys::lis_header_part(text, len, field, repeat, component, to, room, &mut size)
-            } else {
-                let under = self.delimiters.to_sys();
-                sys::lis_record_part(
-                    &under, text, len, field, repeat, component, to, room, &mut size,
-                )
-            }
-        };
-        out.truncate(size);
-        (Status::of(status) == Status::Ok).then_some(out)
+    fn part_of(&self, part: &sys::lis_part) -> Part<'_> {
+        let begin = part.offset as usize;
+        Part {
+            field: part.field as usize,
+            repeat: part.repeat as usize,
+            component: part.component as usize,
+            raw: &self.text[begin..begin + part.len as usize],
+            escaped: u64::from(part.flags) & sys::LIS_PART_ESCAPED != 0,
+            delimiters: self.delimiters,
+        }
+    }
+
+    /// All components, in the order of the text.
+    pub fn parts(&self) -> impl ExactSizeIterator<Item = Part<'_>> + '_ {
+        self.parts.iter().map(|part| self.part_of(part))
+    }
+
+    /// The bytes of a component, escapes as what they mean.
+    pub fn part(&self, field: usize, repeat: usize, component: usize) -> Option<Cow<'_, [u8]>> {
+        let wanted = (field, repeat, component);
+        let key =
+            |it: &sys::lis_part| (it.field as usize, it.repeat as usize, it.component as usize);
+        let found = self.parts.binary_search_by_key(&wanted, key).ok()?;
+        Some(self.part_of(&self.parts[found]).bytes())
     }
 }
 
 /// Reads the records of a stream that comes in pieces.
 pub struct Reader {
     block: Block<sys::lis_reader>,
-    held: Vec<u8>,
     delimiters: Delimiters,
+    held: Vec<u8>,
+    parts: Vec<sys::lis_part>,
 }
 
 impl Default for Reader {
@@ -94,7 +133,7 @@ impl Reader {
     /// A reader at the start of a stream.
     pub fn new() -> Self {
         let delimiters = Delimiters::usual();
-        Reader { block: Block::new(), held: Vec::new(), delimiters }
+        Reader { block: Block::new(), delimiters, held: Vec::new(), parts: Vec::new() }
     }
 
     /// The records that end in these bytes. One that can't be read is the last, and the reader then gives that fault
@@ -112,17 +151,29 @@ impl Reader {
         }
     }
 
-    /// The record that was just read, whose bytes are held.
+    /// The record that ended, whose bytes are held.
     fn record(&mut self, found: &sys::lis_found) -> Record {
         let text = std::mem::take(&mut self.held);
-        if found.letter == b'H' {
-            let mut declared = self.delimiters.to_sys();
-            let mut header = sys::lis_record { letter: 0, fields: 0, place: 0 };
-            unsafe { sys::lis_header_read(text.as_ptr(), text.len(), &mut declared, &mut header) };
-            self.delimiters = Delimiters::from_sys(declared);
+        let (at, len, mut count) = (text.as_ptr(), text.len(), 0);
+        let mut by = self.delimiters.to_sys();
+        // A record has fewer parts than bytes.
+        if self.parts.len() < len {
+            self.parts.resize(len, no_part());
         }
+        let (to, room) = (self.parts.as_mut_ptr(), self.parts.len());
+        if found.letter == b'H' {
+            let mut header = sys::lis_record { letter: 0, fields: 0, place: 0 };
+            unsafe {
+                sys::lis_header_read(at, len, &mut by, &mut header);
+                sys::lis_header_parts(at, len, to, room, &mut count);
+            }
+            self.delimiters = Delimiters::from_sys(by);
+        } else {
+            unsafe { sys::lis_record_parts(&by, at, len, to, room, &mut count) };
+        }
+        let parts = self.parts[..count].to_vec();
         let (letter, fields, delimiters) = (found.letter, found.fields, self.delimiters);
-        Record { text, letter, fields, delimiters }
+        Record { text, parts, letter, fields, delimiters }
     }
 }
 
@@ -149,12 +200,15 @@ impl Iterator for Records<'_> {
                     self.rest = &[];
                     return Some(Err(fault_of(&found)));
                 }
-                _ if piece.first() != Some(&CR) => self.reader.held.extend_from_slice(piece),
-                _ => {}
+                _ => self.reader.held.extend_from_slice(piece),
             }
         }
         None
     }
+}
+
+fn no_part() -> sys::lis_part {
+    sys::lis_part { offset: 0, len: 0, field: 0, repeat: 0, component: 0, flags: 0 }
 }
 
 fn nothing() -> sys::lis_found {
