@@ -78,7 +78,7 @@ library:
 
 # Both libraries out of the archive of the proved crate. These files of examples/c are part of both, so that a program
 # links with nothing else.
-PLAIN = heap names connection
+PLAIN = heap names connection pieces
 linked:
 	@mkdir -p $(BUILD)
 	for name in $(PLAIN); do $(CC) -O2 -fPIC -Iinclude -c examples/c/$$name.c -o $(BUILD)/$$name.o || exit 1; done

@@ -450,6 +450,38 @@ size_t lis_reader_read(lis_reader *s, const uint8_t *bytes, size_t bytes_len, li
 /* A component of the record that was read last, as by lis_record_part. */
 lis_status lis_reader_part(lis_reader *s, size_t field, size_t repeat, size_t component, uint8_t *out, size_t out_len,
                            size_t *size);
+/* The parts of a record that was read: how many they are, how many bytes its text has, and its delimiters. */
+typedef struct lis_table {
+    size_t count;
+    size_t len;
+    lis_delimiters delimiters;
+} lis_table;
+
+/* Reads the next record if it is whole in the bytes, with its CR, and puts all its parts to the front of `parts`, as
+ * lis_record_parts does; answers how many bytes it read. Its text is those bytes without the last one, and the offsets
+ * of its parts are in it: nothing is copied, held or allocated. If `table->count` is over `parts_len`, the rest did not
+ * fit; an array as long as the text is never too short. It answers 0, all of `out` and `table` is 0, and the reader and
+ * `parts` are as they were, if no CR is among the bytes (call it again with more of them behind), if the record can't
+ * come next (lis_reader_read says why), after a fault, and if lis_reader_read holds bytes or found a record last. */
+size_t lis_reader_next(lis_reader *s, const uint8_t *bytes, size_t bytes_len, lis_found *out, lis_part *parts,
+                       size_t parts_len, lis_table *table);
+
+/* A record of a piece of a stream: where its text begins in the piece, its first part in the array, how many fields it
+ * has, the rest as by lis_reader_next, and its letter. */
+typedef struct lis_entry {
+    size_t offset;
+    size_t part;
+    size_t fields;
+    lis_table table;
+    uint8_t letter;
+} lis_entry;
+
+/* Reads records by lis_reader_next as long as one is whole in the bytes, and both arrays have room for it; answers how
+ * many bytes it read, and `count` is how many records they are. Give the bytes that are left again, with more of them
+ * behind. If it answers 0 for LIS_LIMIT_RECORD_BYTES + 1 bytes or a CR is among them, one entry and as many parts, the
+ * next record can't come: lis_reader_read says why. Plain C, in pieces.c. */
+size_t lis_reader_records(lis_reader *s, const uint8_t *bytes, size_t bytes_len, lis_entry *entries,
+                          size_t entries_len, lis_part *parts, size_t parts_len, size_t *count);
 /* The end of the stream: LIS_STATUS_OK, or LIS_STATUS_UNFINISHED and `out` has the reason. `out` is always written, and
  * the reader stays as it is. */
 lis_status lis_reader_finish(lis_reader *s, lis_found *out);

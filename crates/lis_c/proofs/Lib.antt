@@ -1,5 +1,6 @@
 pub mod FeedLaws
 pub mod HandleLaws
 pub mod Handles
+pub mod NextLaws
 pub mod RecordLaws
 pub mod StepLaws

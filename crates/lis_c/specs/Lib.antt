@@ -4,6 +4,7 @@ pub mod Emitted
 pub mod Feeding
 pub mod Lent
 pub mod New
+pub mod Next
 pub mod Parts
 pub mod Reading
 pub mod Records

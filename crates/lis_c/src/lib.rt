@@ -8,6 +8,7 @@ mod draft;
 mod feed;
 mod frames;
 mod lent;
+mod next;
 mod out;
 mod parts;
 mod reader;

@@ -63,7 +63,7 @@ impl LisReader {
     ghost use Rattle.std.specs.Borrow.{Lends, sem};
 
     /// What lies behind the pointer.
-    fn lend(&mut self) -> &mut ReaderDesk
+    pub(crate) fn lend(&mut self) -> &mut ReaderDesk
         ensures* writes_back { sem 𝓛 (Lends the_row desk_row self.entry result (λ w. record self.old { state = w })) }
         ensures value { result.now ≡ self.old.state }
     {
@@ -201,7 +201,7 @@ fn first_return(bytes: &[u8]) -> Option<usize>
 }
 
 /// Tells nothing.
-fn clear(out: &mut LisFound)
+pub(crate) fn clear(out: &mut LisFound)
     ensures { out.new ≡ nothing }
 {
     out.kind = 0;
@@ -214,7 +214,7 @@ fn clear(out: &mut LisFound)
 }
 
 /// Tells a record.
-fn tell(entry: &LentRecord<'_>, out: &mut LisFound)
+pub(crate) fn tell(entry: &LentRecord<'_>, out: &mut LisFound)
     requires { out.old ≡ nothing }
     ensures { out.new ≡ told_record entry.now.content }
 {
