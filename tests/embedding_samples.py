@@ -142,27 +142,26 @@ def of_sender(count, work, how):
     sender.line.close()
 
 
-def paused(work):
-    """quick_receive.c, stopped before a frame comes; and since when."""
-    sample = InC([f"{work}/quick_receive", f"{work}/late"])
+def paused(sample):
+    """A sample that is stopped before a frame comes; and since when."""
     good = ask(sample.line, ENQ, ACK) and ask(sample.line, frame(1, TEXTS[0]), ACK)
     sample.process.send_signal(signal.SIGSTOP)
     sample.line.sendall(frame(2, TEXTS[1]))
     return sample, good, time.monotonic()
 
 
-def of_pause(count, sample, good, since):
+def is_silent_late(sample, good, since):
     """It goes on when its reply could come after the sender's timer: it sends none, and hears the next session."""
     time.sleep(max(0.0, since + 12 - time.monotonic()))
     sample.process.send_signal(signal.SIGCONT)
-    good = good and told(sample.line, 1, 1.0) == b""
-    count.check(good and ask(sample.line, ENQ, ACK), "quick_receive.c, stopped for 12 seconds, sends a late reply")
+    good = good and told(sample.line, 1, 1.0) == b"" and ask(sample.line, ENQ, ACK)
     sample.end()
+    return good
 
 
 def check(count, work, how):
-    late = paused(work)
+    late = paused(InC([f"{work}/quick_receive", f"{work}/late"]))
     of_receivers(count, work, how)
     of_host(count, work)
     of_sender(count, work, how)
-    of_pause(count, *late)
+    count.check(is_silent_late(*late), "quick_receive.c, stopped for 12 seconds, sends a late reply")

@@ -1,15 +1,36 @@
 //! Receives from an analyzer on a TCP port of this machine: receive PORT FILE. Each text is on the disk before it is
-//! acknowledged. PORT 0 is one that is free, and is printed.
+//! acknowledged, and no reply is sent that could come after the analyzer's timer. PORT 0 is one that is free, and is
+//! printed. The receiver's timer does not run here: `host.c` in `examples/c` has it.
 
 use lislink::{Heard, Receiver};
 use std::fs::OpenOptions;
-use std::io::{self, Read, Write};
-use std::net::TcpListener;
+use std::io::{self, ErrorKind, Read, Write};
+use std::net::{TcpListener, TcpStream};
 use std::os::unix::fs::OpenOptionsExt;
 use std::time::{Duration, Instant};
 
-/// An older reply could come after the analyzer's timer of 15 seconds.
-const OLDEST_REPLY: Duration = Duration::from_secs(10);
+/// How long a read waits: a line that is idle is looked at so often.
+const PAUSE: Duration = Duration::from_secs(1);
+
+/// Reads what came. It came after `empty`, and what the next read gives after the time that is answered.
+fn read_some(
+    line: &mut TcpStream,
+    bytes: &mut [u8],
+    empty: &mut Instant,
+) -> io::Result<(usize, Instant)> {
+    loop {
+        let before = Instant::now();
+        match line.read(bytes) {
+            Ok(got) if got < bytes.len() => return Ok((got, before)),
+            Ok(got) => return Ok((got, *empty)), // a full buffer may have left some
+            Err(fault) => match fault.kind() {
+                ErrorKind::WouldBlock | ErrorKind::TimedOut => *empty = before, // there was nothing yet
+                ErrorKind::Interrupted => (),
+                _ => return Err(fault),
+            },
+        }
+    }
+}
 
 fn main() -> io::Result<()> {
     let words: Vec<String> = std::env::args().collect();
@@ -21,19 +42,19 @@ fn main() -> io::Result<()> {
     let server = TcpListener::bind(("127.0.0.1", port))?;
     println!("port {}", server.local_addr()?.port());
     let (mut line, _) = server.accept()?;
+    line.set_read_timeout(Some(PAUSE))?;
     let mut receiver = Receiver::new();
     let mut bytes = [0; 4096];
+    let mut empty = Instant::now();
     loop {
-        let got = line.read(&mut bytes)?;
+        let (got, next) = read_some(&mut line, &mut bytes, &mut empty)?;
         if got == 0 {
             return Ok(());
         }
-        let came = Instant::now();
-        let heard = receiver.hear(
-            &bytes[..got],
-            |text| store.write_all(text).and_then(|()| store.sync_all()).is_ok(), // keep, then reply
-            |reply| came.elapsed() < OLDEST_REPLY && line.write_all(&[reply]).is_ok(),
-        );
+        let keep = |text: &[u8]| store.write_all(text).and_then(|()| store.sync_all()).is_ok();
+        let send = |reply| line.write_all(&[reply]).is_ok();
+        let heard = receiver.hear_since(empty, &bytes[..got], keep, send); // keep, then reply in time
+        empty = next;
         if heard == Heard::GaveUp {
             eprintln!("no reply was sent: the analyzer sends this session again");
         }
