@@ -1,6 +1,6 @@
 //! The loops that the guide quotes, over a line in memory that follows a script and keeps a log.
 
-use lis_link::{Outcome, Receiver};
+use lis_link::{Outcome, Receiver, Sender};
 use lis_message::Message;
 use lis_port::Slow;
 use lis_text::{ACK, CR, ENQ, EOT, ETX, LF, NAK, STX, Texts};
@@ -31,7 +31,9 @@ fn assert_sent(
 ) {
     let texts = Texts::from_slices(alloc, &[b"A".as_slice()]).expect(rt, "memory");
     let mut line = ScriptedLine::new(alloc, events);
-    assert!(rt; send_texts(&mut line, texts) == Ok(Some(ended)));
+    let mut sender = Sender::new();
+    assert!(rt; send_texts(&mut line, &mut sender, texts) == Ok(Some(ended)));
+    drop(sender);
     assert_told(rt, alloc, &line, told);
     drop(line);
 }
@@ -43,7 +45,7 @@ fn assert_told(rt: &impl Abort, alloc: Global, line: &ScriptedLine<'_>, told: (&
     let mut timers = Vec::new(alloc);
     for entry in log {
         match entry {
-            Entry::Waited(_) | Entry::Kept(_) | Entry::NotKept(_) => {}
+            Entry::Waited(_) | Entry::Reconnected | Entry::Kept(_) | Entry::NotKept(_) => {}
             Entry::Sent(sent) => bytes
                 .extend_from_slice(sent.as_slice())
                 .expect(rt, "memory"),
@@ -83,6 +85,37 @@ fn each_wait_has_its_timer(rt: HostRuntime) {
     assert_sent(&rt, rt.alloc(), &WAITS, Outcome::TimedOut, told);
 }
 
+/// Sends the text A in so many sessions of one sender on a line with these events; fails unless this was done.
+fn assert_sessions(rt: &impl Abort, alloc: Global, events: &[Event], sessions: usize, done: &[u8]) {
+    let mut line = ScriptedLine::new(alloc, events);
+    let mut sender = Sender::new();
+    for _session in 0..sessions {
+        let texts = Texts::from_slices(alloc, &[b"A".as_slice()]).expect(rt, "memory");
+        assert!(rt; send_texts(&mut line, &mut sender, texts).is_ok());
+    }
+    drop(sender);
+    assert_done(rt, alloc, &line, done);
+    drop(line);
+}
+
+#[test]
+fn a_session_after_a_timeout_starts_on_a_new_line(rt: HostRuntime) {
+    // The first session times out; the second and the third are done.
+    let events = [
+        Event::Timer,
+        Event::Byte(ACK),
+        Event::Byte(ACK),
+        Event::Byte(ACK),
+        Event::Byte(ACK),
+    ];
+    assert_sessions(&rt, rt.alloc(), &events, 3, b"RSTWSRSTWSTWSSTWSTWS");
+}
+
+#[test]
+fn a_session_after_a_closed_line_starts_on_a_new_line(rt: HostRuntime) {
+    assert_sessions(&rt, rt.alloc(), &[Event::Byte(ACK)], 2, b"RSTWSTWRSTW");
+}
+
 /// A line on which the bytes of the session come.
 const RECEIVED: [Event; 10] = [
     Event::Byte(ENQ),
@@ -110,7 +143,8 @@ fn a_text_is_received(rt: HostRuntime) {
     drop(line);
 }
 
-/// Fails unless this was done on a line, a letter for each entry: W waited, S sent, T timer, K kept, N not kept.
+/// Fails unless this was done on a line, a letter for each entry: W waited, S sent, T timer, R reconnected, K kept,
+/// N not kept.
 fn assert_done(rt: &impl Abort, alloc: Global, line: &ScriptedLine<'_>, done: &[u8]) {
     let mut letters = Vec::new(alloc);
     for entry in line.log().expect(rt, "memory") {
@@ -118,6 +152,7 @@ fn assert_done(rt: &impl Abort, alloc: Global, line: &ScriptedLine<'_>, done: &[
             Entry::Waited(_) => b'W',
             Entry::Sent(_) => b'S',
             Entry::Timed(_) => b'T',
+            Entry::Reconnected => b'R',
             Entry::Kept(_) => b'K',
             Entry::NotKept(_) => b'N',
         };
@@ -169,11 +204,13 @@ fn sent_by_analyzer(
     sessions: usize,
 ) -> (Vec<Event>, Option<Outcome>) {
     let mut line = ScriptedLine::new(alloc, replies);
+    let mut sender = Sender::new();
     let mut ended = None;
     for _session in 0..sessions {
         let texts = Texts::from_slices(alloc, &TEXTS).expect(rt, "memory");
-        ended = send_texts(&mut line, texts).ok().flatten();
+        ended = send_texts(&mut line, &mut sender, texts).ok().flatten();
     }
+    drop(sender);
     let sent = sent_on(rt, alloc, &line);
     drop(line);
     (sent, ended)

@@ -5,6 +5,7 @@ use Rattle.lis_frame.specs.Stream.{open_stretch, signal_after}
 use Rattle.lis_frame.specs.Stretch.{stretch_fault}
 use Rattle.lis_frame.specs.Pieces.{pieces, session_frames, text_frames}
 use Rattle.lis_link.specs.declared.sender.Outcome.TheVariants.{Done, TimedOut}
+use Rattle.lis_link.specs.declared.sender.Phase.TheVariants.{Neutral}
 use Rattle.lis_link.specs.declared.receiver.Note.TheVariants as notes
 use Rattle.lis_link.specs.Receiver.{ReceiverState, new_receiver}
 use Rattle.lis_link.specs.Sender.{started}
@@ -17,17 +18,17 @@ use Rattle.uses.specs.declared.line.Event.TheVariants.{Byte, Closed, Timer}
 a_text_is_sent : IsSession 2 (started 240 ((65 ∷ []) ∷ []))
     (waited (Byte 6) ∷ sent (2 ∷ 49 ∷ 65 ∷ 3 ∷ 55 ∷ 53 ∷ 13 ∷ 10 ∷ []) ∷ timed 15 ∷ waited (Byte 6) ∷ sent (4 ∷ [])
     ∷ [])
-    (Some Done)
+    (Some Done) (record { frames = []; acknowledged = 1; phase = Neutral; tries = 1; outcome = Some Done })
 unfolding session_frames text_frames pieces frame_bytes
 a_text_is_sent =
     answered 1 (Byte 6) 15 (waited (Byte 6) ∷ sent (4 ∷ []) ∷ []) refl (λ e. cc) refl (λ nothing. cc) refl
-    (over 0 (Byte 6) refl (λ e. cc) refl refl refl)
+    (over 0 (Byte 6) refl (λ e. cc) refl refl refl refl)
 
 -- NAK, a byte that means nothing, the timer that ends the wait, and one that ends the session
 each_wait_has_its_timer : IsSession 4 (started 240 ((65 ∷ []) ∷ []))
     (waited (Byte 21) ∷ timed 10 ∷ waited (Byte 120) ∷ waited Timer ∷ sent (5 ∷ []) ∷ timed 15 ∷ waited Timer
     ∷ sent (4 ∷ []) ∷ [])
-    (Some TimedOut)
+    (Some TimedOut) (record { frames = []; acknowledged = 0; phase = Neutral; tries = 0; outcome = Some TimedOut })
 unfolding session_frames text_frames pieces frame_bytes
 each_wait_has_its_timer =
     answered 3 (Byte 21) 10 (waited (Byte 120) ∷ waited Timer ∷ sent (5 ∷ []) ∷ timed 15 ∷ waited Timer
@@ -36,7 +37,7 @@ each_wait_has_its_timer =
     (quiet 2 (Byte 120) 10 (waited Timer ∷ sent (5 ∷ []) ∷ timed 15 ∷ waited Timer ∷ sent (4 ∷ []) ∷ [])
     refl (λ e. cc) refl (refl, refl) refl
     (answered 1 Timer 15 (waited Timer ∷ sent (4 ∷ []) ∷ []) refl (λ e. cc) refl (λ nothing. cc) refl
-    (over 0 Timer refl (λ e. cc) refl refl refl)))
+    (over 0 Timer refl (λ e. cc) refl refl refl refl)))
 
 -- ENQ opens the line, the timer closes it again, and the line is hung up
 a_line_is_opened_and_times_out : IsReception 3 new_receiver

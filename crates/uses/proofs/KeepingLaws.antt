@@ -18,7 +18,7 @@ use Rattle.lis_link.specs.Receiver.{receiver_restarted, timer_by}
 use Rattle.lis_link.proofs.JoiningLaws.{groups-append}
 use Rattle.uses.specs.Computer.{AcknowledgedIsKept, IsAnswer, answer_deeds, made, refused, reply_deeds, step_at}
 use Rattle.uses.specs.Computer.{timer_behind}
-use Rattle.uses.specs.Line.{Deed, GoesOn, kept, kept_texts, not_kept, sent, timed, waited}
+use Rattle.uses.specs.Line.{Deed, GoesOn, kept, kept_texts, not_kept, reconnected, sent, timed, waited}
 use Rattle.uses.specs.declared.line.Event.{Event}
 use Rattle.uses.specs.declared.line.Event.TheVariants.{Byte, Timer, Closed}
 
@@ -104,6 +104,7 @@ kept_texts-append (not_kept text ∷ deeds) more = kept_texts-append deeds more
 kept_texts-append (waited event ∷ deeds) more = kept_texts-append deeds more
 kept_texts-append (sent bytes ∷ deeds) more = kept_texts-append deeds more
 kept_texts-append (timed seconds ∷ deeds) more = kept_texts-append deeds more
+kept_texts-append (reconnected ∷ deeds) more = kept_texts-append deeds more
 
 none_by_timer : (note : Note) (is_open : Bool) → kept_texts (timer_behind note is_open) ≡ []
 none_by_timer note false = refl

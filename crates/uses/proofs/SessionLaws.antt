@@ -3,105 +3,122 @@ use Rattle.std.proofs.Common.{◌≡◌, ◌≢◌, ℕ, ◌+◌, ◌-◌, ◌<�
 use Rattle.std.proofs.Common.{arith, append_assoc}
 use Rattle.lis_text.specs.Control.{ENQ}
 use Rattle.lis_link.specs.declared.sender.Outcome.{Outcome}
-use Rattle.lis_link.specs.Sender.{SenderState, started}
+use Rattle.lis_link.specs.Sender.{SenderState, sender_restarted, started}
 use Rattle.uses.specs.Analyzer.{IsSession, MeansNothing, WasSession, closed, over, quiet, answered, given_up, put_out}
-use Rattle.uses.specs.Analyzer.{seconds_in, sender_step_at}
+use Rattle.uses.specs.Analyzer.{renewal, seconds_in, sender_step_at}
 use Rattle.uses.specs.Line.{Deed, GoesOn, most_events, sent, timed, waited}
 use Rattle.uses.specs.declared.line.Event.{Event}
 use Rattle.uses.specs.declared.line.Event.TheVariants.{Closed}
-use Rattle.uses.proofs.LoopLaws.{goes_on_none, goes_on_then}
+use Rattle.uses.proofs.LoopLaws.{goes_on_then, none_yet}
 
 -- so many events were answered; what follows as a session of this sender is the session's rest
-pub record IsSoFar (texts : List (List ℕ)) (past now : Option (List Deed)) (turn : ℕ) (s : SenderState) : Type 0 where
+pub record IsSoFar (texts : List (List ℕ)) (first : SenderState) (past now : Option (List Deed)) (turn : ℕ)
+    (s : SenderState) : Type 0 where
+  pub new_line : Option (List Deed)
+  pub renewed : GoesOn past new_line (renewal first.outcome)
   pub deeds : List Deed
-  pub done : GoesOn past now (sent (ENQ ∷ []) ∷ timed 15 ∷ deeds)
-  pub goes_on : (left : ℕ) (rest : List Deed) (outcome : Option Outcome) → turn + left ≡ most_events
-      → IsSession left s rest outcome
-      → IsSession most_events (started 240 texts) (deeds ++ rest) outcome
+  pub done : GoesOn new_line now (sent (ENQ ∷ []) ∷ timed 15 ∷ deeds)
+  pub goes_on : (left : ℕ) (rest : List Deed) (outcome : Option Outcome) (last : SenderState)
+      → turn + left ≡ most_events → IsSession left s rest outcome last
+      → IsSession most_events (started 240 texts) (deeds ++ rest) outcome last
 
-pub begun : (texts : List (List ℕ)) (past mid now : Option (List Deed)) → GoesOn past mid (sent (ENQ ∷ []) ∷ [])
-    → GoesOn mid now (timed 15 ∷ []) → IsSoFar texts past now 0 (started 240 texts)
-begun texts past mid now asked timing = record {
+pub begun : (texts : List (List ℕ)) (first : SenderState) (past new_line mid now : Option (List Deed))
+    → GoesOn past new_line (renewal first.outcome) → GoesOn new_line mid (sent (ENQ ∷ []) ∷ [])
+    → GoesOn mid now (timed 15 ∷ []) → IsSoFar texts first past now 0 (started 240 texts)
+begun texts first past new_line mid now renews asked timing = record {
+  new_line = new_line;
+  renewed = renews;
   deeds = [];
-  done = goes_on_then past mid now (sent (ENQ ∷ []) ∷ []) (timed 15 ∷ []) asked timing;
-  goes_on = λ left rest outcome all is. subst (λ (n : ℕ). IsSession n (started 240 texts) rest outcome)
+  done = goes_on_then new_line mid now (sent (ENQ ∷ []) ∷ []) (timed 15 ∷ []) asked timing;
+  goes_on = λ left rest outcome last all is. subst (λ (n : ℕ). IsSession n (started 240 texts) rest outcome last)
       (omega (arith, all)) is;
 }
 
 -- it ends with these deeds
-pub ended : (texts : List (List ℕ)) (past now last : Option (List Deed)) (turn left : ℕ) (s : SenderState)
-    (rest : List Deed) (outcome : Option Outcome)
-    → IsSoFar texts past now turn s → turn + left ≡ most_events → GoesOn now last rest → IsSession left s rest outcome
-    → WasSession texts past last outcome
-ended texts past now last turn left s rest outcome so_far all behind is = record {
+pub ended : (texts : List (List ℕ)) (first : SenderState) (past now last : Option (List Deed)) (turn left : ℕ)
+    (s end : SenderState) (rest : List Deed) (outcome : Option Outcome)
+    → IsSoFar texts first past now turn s → turn + left ≡ most_events → GoesOn now last rest
+    → IsSession left s rest outcome end
+    → WasSession texts first past last outcome end
+ended texts first past now last turn left s end rest outcome so_far all behind is = record {
   deeds = so_far.deeds ++ rest;
-  done = goes_on_then past now last (sent (ENQ ∷ []) ∷ timed 15 ∷ so_far.deeds) rest so_far.done behind;
-  session = so_far.goes_on left rest outcome all is;
+  done = goes_on_then past so_far.new_line last (renewal first.outcome)
+      (sent (ENQ ∷ []) ∷ timed 15 ∷ so_far.deeds ++ rest) so_far.renewed
+      (goes_on_then so_far.new_line now last (sent (ENQ ∷ []) ∷ timed 15 ∷ so_far.deeds) rest so_far.done behind);
+  session = so_far.goes_on left rest outcome end all is;
 }
 
 -- the line was closed
-pub was_closed : (texts : List (List ℕ)) (past now last : Option (List Deed)) (turn : ℕ) (s : SenderState)
-    → IsSoFar texts past now turn s → turn < most_events → GoesOn now last (waited Closed ∷ [])
-    → WasSession texts past last None
-was_closed texts past now last turn s so_far more behind =
-    ended texts past now last turn (most_events - turn) s (waited Closed ∷ []) None so_far (omega (arith, more)) behind
-    (closed (most_events - turn - 1) (omega (arith, more)) refl refl)
+pub was_closed : (texts : List (List ℕ)) (first : SenderState) (past now last : Option (List Deed)) (turn : ℕ)
+    (s end : SenderState)
+    → IsSoFar texts first past now turn s → turn < most_events → GoesOn now last (waited Closed ∷ [])
+    → end ≡ sender_restarted s
+    → WasSession texts first past last None end
+was_closed texts first past now last turn s end so_far more behind restarts =
+    ended texts first past now last turn (most_events - turn) s end (waited Closed ∷ []) None so_far
+    (omega (arith, more)) behind
+    (closed (most_events - turn - 1) (omega (arith, more)) refl refl restarts)
 
 -- the sender's session is over
-pub was_over : (texts : List (List ℕ)) (past now mid last : Option (List Deed)) (turn : ℕ) (s : SenderState)
-    (event : Event)
-    → IsSoFar texts past now turn s → turn < most_events → event ≢ Closed → GoesOn now mid (waited event ∷ [])
+pub was_over : (texts : List (List ℕ)) (first : SenderState) (past now mid last : Option (List Deed)) (turn : ℕ)
+    (s : SenderState) (event : Event)
+    → IsSoFar texts first past now turn s → turn < most_events → event ≢ Closed → GoesOn now mid (waited event ∷ [])
     → GoesOn mid last (put_out (sender_step_at event s).emit) → seconds_in (sender_step_at event s).after.phase ≡ None
-    → WasSession texts past last (sender_step_at event s).after.outcome
-was_over texts past now mid last turn s event so_far more still waits puts none =
-    ended texts past now last turn (most_events - turn) s (waited event ∷ put_out (sender_step_at event s).emit)
+    → WasSession texts first past last (sender_step_at event s).after.outcome (sender_step_at event s).after
+was_over texts first past now mid last turn s event so_far more still waits puts none =
+    ended texts first past now last turn (most_events - turn) s (sender_step_at event s).after
+    (waited event ∷ put_out (sender_step_at event s).emit)
     (sender_step_at event s).after.outcome
     so_far (omega (arith, more)) (goes_on_then now mid last (waited event ∷ [])
     (put_out (sender_step_at event s).emit) waits puts)
-    (over (most_events - turn - 1) event (omega (arith, more)) still none refl refl)
+    (over (most_events - turn - 1) event (omega (arith, more)) still none refl refl refl)
 
 -- it goes on behind an event that means nothing, and behind any other
-pub goes_on_quiet : (texts : List (List ℕ)) (past now mid last : Option (List Deed)) (turn : ℕ) (s : SenderState)
-    (event : Event) (seconds : ℕ)
-    → IsSoFar texts past now turn s → event ≢ Closed → GoesOn now mid (waited event ∷ [])
+pub goes_on_quiet : (texts : List (List ℕ)) (first : SenderState) (past now mid last : Option (List Deed)) (turn : ℕ)
+    (s : SenderState) (event : Event) (seconds : ℕ)
+    → IsSoFar texts first past now turn s → event ≢ Closed → GoesOn now mid (waited event ∷ [])
     → GoesOn mid last (put_out (sender_step_at event s).emit)
     → seconds_in (sender_step_at event s).after.phase ≡ Some seconds
     → MeansNothing s.phase (sender_step_at event s)
-    → IsSoFar texts past last (turn + 1) (sender_step_at event s).after
-goes_on_quiet texts past now mid last turn s event seconds so_far still waits puts some nothing = record {
+    → IsSoFar texts first past last (turn + 1) (sender_step_at event s).after
+goes_on_quiet texts first past now mid last turn s event seconds so_far still waits puts some nothing = record {
+  new_line = so_far.new_line;
+  renewed = so_far.renewed;
   deeds = so_far.deeds ++ waited event ∷ [];
-  done = goes_on_then past now last (sent (ENQ ∷ []) ∷ timed 15 ∷ so_far.deeds) (waited event ∷ []) so_far.done
-      (goes_on_then now mid last (waited event ∷ []) [] waits (rw nothing.0 at puts));
-  goes_on = λ left rest outcome all is. rw (append_assoc so_far.deeds (waited event ∷ []) rest)
-      (so_far.goes_on (left + 1) (waited event ∷ rest) outcome (omega (arith, all))
+  done = goes_on_then so_far.new_line now last (sent (ENQ ∷ []) ∷ timed 15 ∷ so_far.deeds) (waited event ∷ [])
+      so_far.done (goes_on_then now mid last (waited event ∷ []) [] waits (rw nothing.0 at puts));
+  goes_on = λ left rest outcome end all is. rw (append_assoc so_far.deeds (waited event ∷ []) rest)
+      (so_far.goes_on (left + 1) (waited event ∷ rest) outcome end (omega (arith, all))
       (quiet left event seconds rest refl still some nothing refl is));
 }
 
-pub goes_on_answered : (texts : List (List ℕ)) (past now mid sent_on last : Option (List Deed)) (turn : ℕ)
-    (s : SenderState) (event : Event) (seconds : ℕ)
-    → IsSoFar texts past now turn s → event ≢ Closed → GoesOn now mid (waited event ∷ [])
+pub goes_on_answered : (texts : List (List ℕ)) (first : SenderState) (past now mid sent_on last : Option (List Deed))
+    (turn : ℕ) (s : SenderState) (event : Event) (seconds : ℕ)
+    → IsSoFar texts first past now turn s → event ≢ Closed → GoesOn now mid (waited event ∷ [])
     → GoesOn mid sent_on (put_out (sender_step_at event s).emit) → GoesOn sent_on last (timed seconds ∷ [])
     → seconds_in (sender_step_at event s).after.phase ≡ Some seconds → ¬ (MeansNothing s.phase (sender_step_at event s))
-    → IsSoFar texts past last (turn + 1) (sender_step_at event s).after
-goes_on_answered texts past now mid sent_on last turn s event seconds so_far still waits puts timing some means =
+    → IsSoFar texts first past last (turn + 1) (sender_step_at event s).after
+goes_on_answered texts first past now mid sent_on last turn s event seconds so_far still waits puts timing some means =
     let emitted = put_out (sender_step_at event s).emit in
     let answer = waited event ∷ emitted ++ timed seconds ∷ [] in
     record {
+      new_line = so_far.new_line;
+      renewed = so_far.renewed;
       deeds = so_far.deeds ++ answer;
-      done = goes_on_then past now last (sent (ENQ ∷ []) ∷ timed 15 ∷ so_far.deeds) answer so_far.done
+      done = goes_on_then so_far.new_line now last (sent (ENQ ∷ []) ∷ timed 15 ∷ so_far.deeds) answer so_far.done
           (goes_on_then now sent_on last (waited event ∷ emitted) (timed seconds ∷ [])
           (goes_on_then now mid sent_on (waited event ∷ []) emitted waits puts) timing);
-      goes_on = λ left rest outcome all is. rw (append_assoc so_far.deeds answer rest)
-          (so_far.goes_on (left + 1) (answer ++ rest) outcome (omega (arith, all))
+      goes_on = λ left rest outcome end all is. rw (append_assoc so_far.deeds answer rest)
+          (so_far.goes_on (left + 1) (answer ++ rest) outcome end (omega (arith, all))
           (answered left event seconds rest refl still some means
           (ap (λ (l : List Deed). waited event ∷ l) (append_assoc emitted (timed seconds ∷ []) rest)) is));
     }
 
 -- so many events were answered that no more are waited for
-pub was_given_up : (texts : List (List ℕ)) (past now : Option (List Deed)) (turn : ℕ) (s : SenderState)
-    → IsSoFar texts past now turn s → turn ≡ most_events → WasSession texts past now None
-was_given_up texts past now turn s so_far all = record {
-  deeds = so_far.deeds ++ [];
-  done = goes_on_none past now (sent (ENQ ∷ []) ∷ timed 15 ∷ so_far.deeds) so_far.done;
-  session = so_far.goes_on 0 [] None (omega (arith, all)) (given_up refl refl refl);
-}
+pub was_given_up : (texts : List (List ℕ)) (first : SenderState) (past now : Option (List Deed)) (turn : ℕ)
+    (s end : SenderState)
+    → IsSoFar texts first past now turn s → turn ≡ most_events → end ≡ sender_restarted s
+    → WasSession texts first past now None end
+was_given_up texts first past now turn s end so_far all restarts =
+    ended texts first past now now turn 0 s end [] None so_far (omega (arith, all)) (none_yet now)
+    (given_up refl refl refl restarts)

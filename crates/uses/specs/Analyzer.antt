@@ -1,6 +1,7 @@
 -- A session on an analyzer's line: each event is answered as a sender answers it (LIS01-A2, 6.3 to 6.6), and a timer
--- runs while a reply is awaited or the line is left to others.
-use Rattle.std.specs.Prelude.{◌≡◌, ◌≢◌, ℕ, ◌+◌, List, [], ◌∷◌, ◌++◌, Option, None, Some}
+-- runs while a reply is awaited or the line is left to others. A session starts on a new line if a reply to the last
+-- one may still come.
+use Rattle.std.specs.Prelude.{◌≡◌, ◌≢◌, ℕ, ◌+◌, false, List, [], ◌∷◌, ◌++◌, Option, None, Some, if◌then◌else◌}
 use Rattle.lis_text.specs.Control.{ENQ, EOT, NAK}
 use Rattle.lis_frame.specs.Frame.{frame_bytes}
 use Rattle.lis_link.specs.declared.sender.EmitOf.{EmitOf}
@@ -8,10 +9,16 @@ use Rattle.lis_link.specs.declared.sender.EmitOf.TheVariants as emits
 use Rattle.lis_link.specs.declared.sender.Outcome.{Outcome}
 use Rattle.lis_link.specs.declared.sender.Phase.{Phase}
 use Rattle.lis_link.specs.declared.sender.Phase.TheVariants.{Neutral, AwaitLine, Busy, Contention, AwaitReply}
-use Rattle.lis_link.specs.Sender.{SenderState, SenderStep, gives, on_reply, on_sender_timer, started}
+use Rattle.lis_link.specs.Sender.{SenderState, SenderStep, gives, on_reply, on_sender_timer, sender_restarted, started}
+use Rattle.lis_world.specs.declared.event.Event.TheVariants.{Start}
+use Rattle.lis_world.specs.declared.event.LateEvent.{LateEvent}
+use Rattle.lis_world.specs.declared.event.LateEvent.TheVariants.{Happens, Reconnect}
+use Rattle.lis_world.specs.Late.{reply_may_come}
+use Rattle.lis_world.specs.LateDiscipline.{StartInTime}
+use Rattle.lis_world.specs.World.{World}
 use Rattle.uses.specs.declared.line.Event.{Event}
 use Rattle.uses.specs.declared.line.Event.TheVariants.{Byte, Timer, Closed}
-use Rattle.uses.specs.Line.{Deed, GoesOn, most_events, sent, timed, waited}
+use Rattle.uses.specs.Line.{Deed, GoesOn, most_events, reconnected, sent, timed, waited}
 
 -- the seconds of the timer in a phase (LIS01-A2, 6.2 to 6.5): for a reply, behind NAK to ENQ, behind ENQ to ENQ
 abbrev pub seconds_in : Phase → Option ℕ
@@ -39,32 +46,49 @@ sender_step_at Closed s = gives emits.Nothing s
 abbrev pub MeansNothing : Phase → SenderStep 240 → Type 0
 MeansNothing phase step = (step.emit ≡ emits.Nothing) × (step.after.phase ≡ phase)
 
--- The rest of a session of a sender, of which so many events are waited for at most: the deeds on the line, and how
--- it ended, none where the line was closed before. An event that means nothing leaves the timer running; behind any
--- other that of the phase is started anew.
-pub data IsSession : ℕ → SenderState → List Deed → Option Outcome → Type 0 where
-  closed : {left : ℕ} {s : SenderState} {deeds : List Deed} {outcome : Option Outcome} (more : ℕ)
-      → left ≡ more + 1 → deeds ≡ waited Closed ∷ [] → outcome ≡ None → IsSession left s deeds outcome
-  over : {left : ℕ} {s : SenderState} {deeds : List Deed} {outcome : Option Outcome} (more : ℕ) (event : Event)
+-- The rest of a session of a sender, of which so many events are waited for at most: the deeds on the line, how it
+-- ended, none if the line was closed before, and the sender after it, which is then restarted. An event that means
+-- nothing leaves the timer running; after any other that of the phase is started anew.
+pub data IsSession : ℕ → SenderState → List Deed → Option Outcome → SenderState → Type 0 where
+  closed : {left : ℕ} {s last : SenderState} {deeds : List Deed} {outcome : Option Outcome} (more : ℕ)
+      → left ≡ more + 1 → deeds ≡ waited Closed ∷ [] → outcome ≡ None → last ≡ sender_restarted s
+      → IsSession left s deeds outcome last
+  over : {left : ℕ} {s last : SenderState} {deeds : List Deed} {outcome : Option Outcome} (more : ℕ) (event : Event)
       → left ≡ more + 1 → event ≢ Closed → seconds_in (sender_step_at event s).after.phase ≡ None
       → deeds ≡ waited event ∷ put_out (sender_step_at event s).emit → outcome ≡ (sender_step_at event s).after.outcome
-      → IsSession left s deeds outcome
-  quiet : {left : ℕ} {s : SenderState} {deeds : List Deed} {outcome : Option Outcome} (more : ℕ) (event : Event)
+      → last ≡ (sender_step_at event s).after → IsSession left s deeds outcome last
+  quiet : {left : ℕ} {s last : SenderState} {deeds : List Deed} {outcome : Option Outcome} (more : ℕ) (event : Event)
       (seconds : ℕ) (rest : List Deed)
       → left ≡ more + 1 → event ≢ Closed → seconds_in (sender_step_at event s).after.phase ≡ Some seconds
       → MeansNothing s.phase (sender_step_at event s) → deeds ≡ waited event ∷ rest
-      → IsSession more (sender_step_at event s).after rest outcome → IsSession left s deeds outcome
-  answered : {left : ℕ} {s : SenderState} {deeds : List Deed} {outcome : Option Outcome} (more : ℕ) (event : Event)
-      (seconds : ℕ) (rest : List Deed)
+      → IsSession more (sender_step_at event s).after rest outcome last → IsSession left s deeds outcome last
+  answered : {left : ℕ} {s last : SenderState} {deeds : List Deed} {outcome : Option Outcome} (more : ℕ)
+      (event : Event) (seconds : ℕ) (rest : List Deed)
       → left ≡ more + 1 → event ≢ Closed → seconds_in (sender_step_at event s).after.phase ≡ Some seconds
       → ¬ (MeansNothing s.phase (sender_step_at event s))
       → deeds ≡ waited event ∷ put_out (sender_step_at event s).emit ++ timed seconds ∷ rest
-      → IsSession more (sender_step_at event s).after rest outcome → IsSession left s deeds outcome
-  given_up : {left : ℕ} {s : SenderState} {deeds : List Deed} {outcome : Option Outcome}
-      → left ≡ 0 → deeds ≡ [] → outcome ≡ None → IsSession left s deeds outcome
+      → IsSession more (sender_step_at event s).after rest outcome last → IsSession left s deeds outcome last
+  given_up : {left : ℕ} {s last : SenderState} {deeds : List Deed} {outcome : Option Outcome}
+      → left ≡ 0 → deeds ≡ [] → outcome ≡ None → last ≡ sender_restarted s → IsSession left s deeds outcome last
 
--- a session with these texts: ENQ, the timer for its reply, and the rest
-pub record WasSession (texts : List (List ℕ)) (past now : Option (List Deed)) (outcome : Option Outcome) : Type 0 where
+-- Before a session of a sender whose last one ended so, the line is connected anew if a reply to that may still come:
+-- after one that timed out or was restarted, and for a new sender, since the line may be older than that.
+abbrev pub renewal : Option Outcome → List Deed
+renewal outcome = if reply_may_come outcome then reconnected ∷ [] else []
+
+-- a session of this sender with these texts: the new line if there is one, ENQ, the timer for its reply, and the rest
+pub record WasSession (texts : List (List ℕ)) (s : SenderState) (past now : Option (List Deed))
+    (outcome : Option Outcome) (last : SenderState) : Type 0 where
   pub deeds : List Deed
-  pub done : GoesOn past now (sent (ENQ ∷ []) ∷ timed 15 ∷ deeds)
-  pub session : IsSession most_events (started 240 texts) deeds outcome
+  pub done : GoesOn past now (renewal s.outcome ++ sent (ENQ ∷ []) ∷ timed 15 ∷ deeds)
+  pub session : IsSession most_events (started 240 texts) deeds outcome last
+
+-- the same start, as events on a line that answers late
+abbrev pub start_events : Option Outcome → List (List ℕ) → List LateEvent
+start_events outcome texts =
+    if reply_may_come outcome then Reconnect ∷ Happens (Start texts) ∷ [] else Happens (Start texts) ∷ []
+
+-- The sender's start keeps the rule by which each session is safe on such a line (`SafeOnNewLines`), whatever is on it.
+abbrev pub KeepsTheRule : SenderState → List (List ℕ) → Type 0
+KeepsTheRule s texts =
+    (w : World) → w.sender ≡ s → StartInTime 240 (start_events s.outcome texts) w false

@@ -2,12 +2,13 @@
 use Rattle.std.specs.Prelude.{◌≡◌, ℕ, Bool, true, false, List, [], ◌∷◌, ◌++◌, Option, None, Some, ⊤}
 use Rattle.uses.specs.declared.line.Event.{Event}
 
--- an event was waited for, bytes were sent, the timer was started anew, to run out after so many seconds, or a text was
--- to be kept, and was or wasn't
+-- an event was waited for, bytes were sent, the timer was started anew, to run out after so many seconds, the line was
+-- connected anew, or a text was to be kept, and was or wasn't
 pub data Deed : Type 0 where
   waited : Event → Deed
   sent : List ℕ → Deed
   timed : ℕ → Deed
+  reconnected : Deed
   kept : List ℕ → Deed
   not_kept : List ℕ → Deed
 
@@ -24,6 +25,7 @@ kept_texts (not_kept text ∷ deeds) = kept_texts deeds
 kept_texts (waited event ∷ deeds) = kept_texts deeds
 kept_texts (sent bytes ∷ deeds) = kept_texts deeds
 kept_texts (timed seconds ∷ deeds) = kept_texts deeds
+kept_texts (reconnected ∷ deeds) = kept_texts deeds
 
 -- Where the deeds on a line are still known, these are the next ones. What isn't known stays unknown.
 abbrev pub GoesOn : Option (List Deed) → Option (List Deed) → List Deed → Type 0

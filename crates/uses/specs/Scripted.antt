@@ -2,12 +2,13 @@
 use Rattle.std.specs.Prelude.{Bool, true, false, List, Option, None, Some, map}
 use Rattle.uses.specs.declared.scripted.Entry.{Entry}
 use Rattle.uses.specs.declared.scripted.Entry.TheVariants as entries
-use Rattle.uses.specs.Line.{Deed, kept, not_kept, sent, timed, waited}
+use Rattle.uses.specs.Line.{Deed, kept, not_kept, reconnected, sent, timed, waited}
 
 abbrev pub deed_of : Entry → Deed
 deed_of (entries.Waited event) = waited event
 deed_of (entries.Sent bytes) = sent bytes.items
 deed_of (entries.Timed seconds) = timed seconds
+deed_of entries.Reconnected = reconnected
 deed_of (entries.Kept text) = kept text.items
 deed_of (entries.NotKept text) = not_kept text.items
 

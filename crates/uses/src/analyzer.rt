@@ -2,8 +2,9 @@
 
 ghost use Rattle.std.specs.Prelude.{◌≡◌, ◌≢◌, ◌↔◌, IsTrue, Some, None, MatchOption, MatchResult};
 ghost use Rattle.lis_link.specs.declared.sender.EmitOf.TheVariants as Emits;
-ghost use Rattle.lis_link.specs.Sender.{new_sender, start_fault};
-ghost use Rattle.uses.specs.Analyzer.{WasSession, put_out, seconds_in, sender_step_at};
+ghost use Rattle.lis_link.specs.Sender.{sender_restarted, start_fault};
+ghost use Rattle.lis_world.specs.Late.{reply_may_come};
+ghost use Rattle.uses.specs.Analyzer.{KeepsTheRule, WasSession, put_out, renewal, seconds_in, sender_step_at};
 ghost use Rattle.uses.specs.Line.{GoesOn};
 ghost use Rattle.uses.specs.declared.line.Event.TheVariants as Events;
 
@@ -31,21 +32,41 @@ pub fn sender_seconds(phase: Phase) -> Option<u32>
     }
 }
 
-/// Sends texts over a line, and tells how the session ended; none where the line was closed before.
-pub fn send_texts<L: Line>(line: &mut L, texts: Texts) -> Result<Option<Outcome>, StartRefused>
-    ensures { MatchResult result
-        (λ outcome. (start_fault new_sender texts ≡ None)
-        × WasSession texts (L.deeds line.old) (L.deeds line.new) outcome)
-        (λ refused. (start_fault new_sender texts ≡ Some refused.fault) × (refused.texts ≡ texts)
-        × (L.deeds line.new ≡ L.deeds line.old)) }
+/// Whether a reply to a session may still come, by how it ended. A sender without an outcome is new; the line may be
+/// older, so this counts as a session that was restarted.
+pub fn reply_may_come(outcome: Option<Outcome>) -> bool
+    ensures { result ≡ reply_may_come outcome }
 {
-    let mut sender = Sender::new();
-    put(line, &sender.start(texts)?);
+    match outcome {
+        None | Some(Outcome::TimedOut | Outcome::Restarted) => true,
+        Some(Outcome::Done | Outcome::SixTries) => false,
+    }
+}
+
+/// Sends texts over the sender's line, and returns how the session ended, or none if the line was closed before. If a
+/// reply to the sender's last session may still come, the line is connected anew first, so that no late reply is taken
+/// for one to this session.
+pub fn send_texts<L: Line>(
+    line: &mut L,
+    sender: &mut Sender,
+    texts: Texts,
+) -> Result<Option<Outcome>, StartRefused>
+    ensures session { MatchResult result
+        (λ outcome. (start_fault sender.old texts ≡ None)
+        × WasSession texts sender.old (L.deeds line.old) (L.deeds line.new) outcome sender.new)
+        (λ refused. (start_fault sender.old texts ≡ Some refused.fault) × (refused.texts ≡ texts)
+        × (sender.new ≡ sender.old) × (L.deeds line.new ≡ L.deeds line.old)) }
+    ensures rule { KeepsTheRule sender.old texts }
+{
+    let last = sender.outcome();
+    let enquiry = sender.start(texts)?;
+    renew(line, last);
+    put(line, &enquiry);
     line.start_timer(REPLY_SECONDS);
     for _turn in 0..u64::MAX {
         let before = sender.phase();
         let event = line.wait();
-        let Some(emit) = emit_at(&mut sender, event) else {
+        let Some(emit) = emit_at(sender, event) else {
             return Ok(None);
         };
         put(line, &emit);
@@ -57,20 +78,33 @@ pub fn send_texts<L: Line>(line: &mut L, texts: Texts) -> Result<Option<Outcome>
             line.start_timer(seconds);
         }
     }
+    sender.restart();
     Ok(None)
 }
 
-/// What the sender emits at an event of its line; none where the line was closed.
+/// Connects the line anew if a reply to a session that ended so may still come.
+fn renew<L: Line>(line: &mut L, outcome: Option<Outcome>)
+    ensures { GoesOn (L.deeds line.old) (L.deeds line.new) (renewal outcome) }
+{
+    if reply_may_come(outcome) {
+        line.reconnect();
+    }
+}
+
+/// What the sender emits at an event of its line; none if the line was closed, which restarts the sender.
 fn emit_at(sender: &mut Sender, event: Event) -> Option<Emit>
     ensures { MatchOption result
-        ((event ≡ Events.Closed) × (sender.new ≡ sender.old))
+        ((event ≡ Events.Closed) × (sender.new ≡ sender_restarted sender.old))
         (λ emit. (event ≢ Events.Closed) × (emit ≡ (sender_step_at event sender.old).emit)
         × (sender.new ≡ (sender_step_at event sender.old).after)) }
 {
     match event {
         Event::Byte(byte) => Some(sender.reply(byte)),
         Event::Timer => Some(sender.timer()),
-        Event::Closed => None,
+        Event::Closed => {
+            sender.restart();
+            None
+        }
     }
 }
 

@@ -1,7 +1,7 @@
 //! What the loops ask of a serial line or a socket.
 
 ghost use Rattle.std.specs.Prelude.{List, [], ◌∷◌, Option};
-ghost use Rattle.uses.specs.Line.{Deed, GoesOn, keeping, sent, timed, waited};
+ghost use Rattle.uses.specs.Line.{Deed, GoesOn, keeping, reconnected, sent, timed, waited};
 
 use lis_text::LinkText;
 
@@ -28,6 +28,12 @@ pub trait Line {
     /// Starts the timer anew, to run out after so many seconds.
     fn start_timer(&mut self, seconds: u32)
         ensures { GoesOn (deeds self.old) (deeds self.new) (timed seconds ∷ []) };
+
+    /// Makes the line new: nothing that was sent on it is on its way any more, and no reply to it. Over TCP it connects
+    /// anew. On a serial line it waits longer than the computer takes to answer, and drops what came. If this fails,
+    /// the next wait finds the line closed.
+    fn reconnect(&mut self)
+        ensures { GoesOn (deeds self.old) (deeds self.new) (reconnected ∷ []) };
 
     /// Waits for what happens next.
     fn wait(&mut self) -> Event

@@ -17,6 +17,8 @@ pub enum Entry {
     Sent(Vec<u8>),
     /// The timer was started, to run out after so many seconds.
     Timed(u32),
+    /// The line was connected anew.
+    Reconnected,
     /// This text was kept.
     Kept(Vec<u8>),
     /// This text was to be kept, and wasn't.
@@ -91,6 +93,10 @@ impl Line for ScriptedLine<'_> {
 
     fn start_timer(&mut self, seconds: u32) {
         self.add(Entry::Timed(seconds));
+    }
+
+    fn reconnect(&mut self) {
+        self.add(Entry::Reconnected);
     }
 
     fn wait(&mut self) -> Event {

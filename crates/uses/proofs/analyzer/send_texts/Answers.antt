@@ -8,25 +8,28 @@ use Rattle.uses.proofs.analyzer.send_texts.Goals as goal
 
 pub loop-turn-init : goal.loop-turn-init
 loop-turn-init g c =
-    rw c.in_ok-start.ensures.2 (begun _ _ (g.L.Line.deeds c.put.new.line) _
-    (rw c.in_ok-start.ensures.1 at c.put.ensures) c.start_timer.ensures)
+    rw c.in_ok-enquiry.ensures.2 (begun _ c.args.sender.now _ (g.L.Line.deeds c.renew.new.line)
+    (g.L.Line.deeds c.put.new.line) _
+    (rw c.outcome-last.ensures at c.renew.ensures)
+    (rw c.in_ok-enquiry.ensures.1 at c.put.ensures) c.start_timer.ensures)
 
-pub returns-in_default : goal.returns-in_default
-returns-in_default g c = (
-  rw c.new-sender.ensures at c.in_ok-start.ensures.0,
-  was_closed _ _ _ _ c.loop-turn._turn c.loop-turn.sender c.loop-turn.invariant c.loop-turn-test.true
-      (rw c.in_default.ensures.0 at c.wait-event.ensures),
+pub returns-in_default-clause-session : goal.returns-in_default-clause-session
+returns-in_default-clause-session g c = (
+  c.in_ok-enquiry.ensures.0,
+  was_closed _ _ _ _ _ c.loop-turn._turn c.loop-turn.sender _ c.loop-turn.invariant c.loop-turn-test.true
+      (rw c.in_default.ensures.0 at c.wait-event.ensures)
+      c.in_default.ensures.1,
 )
 
-pub returns-in_default-sender_seconds : goal.returns-in_default-sender_seconds
-returns-in_default-sender_seconds g c =
+pub returns-in_default-sender_seconds-clause-session : goal.returns-in_default-sender_seconds-clause-session
+returns-in_default-sender_seconds-clause-session g c =
     let event = c.wait-event.result in
     let after = c.in-Some.ensures.2 in
     let none : seconds_in (sender_step_at event c.loop-turn.sender).after.phase ≡ None =
     ap (λ (s : SenderState). seconds_in s.phase) (sym after) ∙ ap seconds_in (sym c.phase.ensures)
     ∙ sym c.sender_seconds.ensures ∙ c.in_default-sender_seconds.is in (
-      rw c.new-sender.ensures at c.in_ok-start.ensures.0,
-      rw (c.outcome.ensures, after) (was_over _ _ _
+      c.in_ok-enquiry.ensures.0,
+      rw (c.outcome.ensures, after) (was_over _ _ _ _
           (g.L.Line.deeds c.wait-event.new.self) _ c.loop-turn._turn c.loop-turn.sender event
           c.loop-turn.invariant c.loop-turn-test.true c.in-Some.ensures.0 c.wait-event.ensures
           (rw c.in-Some.ensures.1 at c.put-in-loop-turn.ensures) none),
@@ -45,7 +48,7 @@ loop-turn-preserved g c =
     let puts = rw c.in-Some.ensures.1 at c.put-in-loop-turn.ensures in
     elim c.if-not-means_nothing.branch [
       | then-not-means_nothing w ↦ rw (after, w.line-is)
-          (goes_on_answered _ _ _ (g.L.Line.deeds c.wait-event.new.self)
+          (goes_on_answered _ _ _ _ (g.L.Line.deeds c.wait-event.new.self)
           (g.L.Line.deeds c.put-in-loop-turn.new.line) _ c.loop-turn._turn
           c.loop-turn.sender event c.in-Some-sender_seconds.seconds c.loop-turn.invariant c.in-Some.ensures.0
           c.wait-event.ensures puts
@@ -55,14 +58,14 @@ loop-turn-preserved g c =
       | else-not-means_nothing w ↦
           let nothing = c.means_nothing.ensures.0 (rw w.if-not-means_nothing.false refl) in
           rw (after, w.line-is)
-          (goes_on_quiet _ _ _ (g.L.Line.deeds c.wait-event.new.self) _ c.loop-turn._turn c.loop-turn.sender event
+          (goes_on_quiet _ _ _ _ (g.L.Line.deeds c.wait-event.new.self) _ c.loop-turn._turn c.loop-turn.sender event
           c.in-Some-sender_seconds.seconds c.loop-turn.invariant c.in-Some.ensures.0 c.wait-event.ensures puts some
           (sym c.in-Some.ensures.1 ∙ nothing.0, sym phase ∙ nothing.1 ∙ c.phase-before.ensures))
     ]
 
-pub returns : goal.returns
-returns g c = (
-  rw c.new-sender.ensures at c.in_ok-start.ensures.0,
-  was_given_up _ _ _ c.loop-turn._turn c.loop-turn.sender c.loop-turn.invariant
-      (omega (arith, c.loop-turn-test.false, c.loop-turn.auto._turn-end)),
+pub returns-clause-session : goal.returns-clause-session
+returns-clause-session g c = (
+  c.in_ok-enquiry.ensures.0,
+  was_given_up _ _ _ _ c.loop-turn._turn c.loop-turn.sender _ c.loop-turn.invariant
+      (omega (arith, c.loop-turn-test.false, c.loop-turn.auto._turn-end)) c.restart.ensures,
 )
