@@ -218,6 +218,24 @@ pub struct lis_reader {
 
 #[repr(C)]
 #[derive(Clone, Copy, Debug)]
+pub struct lis_table {
+    pub count: usize,
+    pub len: usize,
+    pub delimiters: lis_delimiters,
+}
+
+#[repr(C)]
+#[derive(Clone, Copy, Debug)]
+pub struct lis_entry {
+    pub offset: usize,
+    pub part: usize,
+    pub fields: usize,
+    pub table: lis_table,
+    pub letter: u8,
+}
+
+#[repr(C)]
+#[derive(Clone, Copy, Debug)]
 pub struct lis_writer {
     pub at: *mut c_void,
 }
@@ -379,6 +397,25 @@ extern "C" {
         out_len: usize,
         size: *mut usize,
     ) -> lis_status;
+    pub fn lis_reader_next(
+        s: *mut lis_reader,
+        bytes: *const u8,
+        bytes_len: usize,
+        out: *mut lis_found,
+        parts: *mut lis_part,
+        parts_len: usize,
+        table: *mut lis_table,
+    ) -> usize;
+    pub fn lis_reader_records(
+        s: *mut lis_reader,
+        bytes: *const u8,
+        bytes_len: usize,
+        entries: *mut lis_entry,
+        entries_len: usize,
+        parts: *mut lis_part,
+        parts_len: usize,
+        count: *mut usize,
+    ) -> usize;
     pub fn lis_reader_finish(s: *mut lis_reader, out: *mut lis_found) -> lis_status;
     pub fn lis_writer_size() -> usize;
     pub fn lis_writer_align() -> usize;
