@@ -27,8 +27,8 @@
  *   - No reply after its timer: a late ACK would acknowledge a frame of the next session that nobody took. After a
  *     session that timed out or was restarted, and at the start of a process, the analyzer takes a new connection; on a
  *     serial line it waits longer than the computer takes to answer, and then drops all that came, before it starts
- *     again. A computer that took longer than LIS_SECONDS_REPLY over a byte sends no reply to it: it calls
- *     lis_receiver_restart.
+ *     again. A computer sends no reply if it last saw the line empty more than two thirds of LIS_SECONDS_REPLY ago,
+ *     which is 10 seconds: it calls lis_receiver_restart.
  *
  * Memory. A scanner, lis_frame_write and the calls of records take none. A sender takes it in lis_sender_add_text
  * alone, a receiver for the text that it holds, a reader for the bytes of one record, and a writer for the record that
@@ -295,7 +295,8 @@ LIS_ENUM(lis_ready) {
  * lis_receiver_text and keep it where it lasts, and only then send the reply. If it can't be kept, send no reply and
  * call lis_receiver_restart: the session fails at the sender, which still has all its texts. A NAK in place of the
  * reply would lose the text: its frame was taken, so the same frame again is a duplicate, acknowledged without it. If
- * keeping took longer than LIS_SECONDS_REPLY, send no reply either: restart. The text may then come once more. */
+ * the line was last seen empty more than two thirds of LIS_SECONDS_REPLY ago, send no reply either: restart. The text
+ * may then come once more. */
 typedef struct lis_step {
     uint8_t reply;
     bool has_text;

@@ -1,6 +1,7 @@
 """The samples that keep a text and then reply, killed in mid-session and with a text that can't be kept; and
 quick_send."""
 import os
+import resource
 import signal
 import socket
 import subprocess
@@ -159,9 +160,21 @@ def is_silent_late(sample, good, since):
     return good
 
 
+def of_short_write(count, work):
+    """quick_receive.c, whose file may not grow past the middle of the second text: it keeps the first, and no half."""
+    path, most = f"{work}/short", len(TEXTS[0]) + 2
+    sample = InC([f"{work}/quick_receive", path], restore_signals=False,
+                 preexec_fn=lambda: resource.setrlimit(resource.RLIMIT_FSIZE, (most, most)))
+    good = ask(sample.line, ENQ, ACK) and ask(sample.line, frame(1, TEXTS[0]), ACK)
+    good = good and ask(sample.line, frame(2, TEXTS[1]), b"") and ask(sample.line, ENQ, ACK)
+    count.check(good and kept(path) == TEXTS[0], "quick_receive.c: half a text that can't be kept stays in the file")
+    sample.end()
+
+
 def check(count, work, how):
     late = paused(InC([f"{work}/quick_receive", f"{work}/late"]))
     of_receivers(count, work, how)
     of_host(count, work)
     of_sender(count, work, how)
+    of_short_write(count, work)
     count.check(is_silent_late(*late), "quick_receive.c, stopped for 12 seconds, sends a late reply")

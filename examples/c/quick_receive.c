@@ -1,5 +1,6 @@
 /* Receives texts on the line that is its standard input, and appends them to a file: quick_receive FILE <>/dev/ttyUSB0.
- * Each text is on the disk before it is acknowledged. (host.c runs the receiver's timer too.) */
+ * Make a serial port raw first: stty -F /dev/ttyUSB0 9600 cs8 -parenb -cstopb clocal raw -echo -iexten; or open it as
+ * serial.c does. Each text is on the disk before it is acknowledged. (host.c runs the receiver's timer too.) */
 #include <lislink.h>
 #include <fcntl.h>
 #include <poll.h>
@@ -13,13 +14,17 @@ static time_t now(void) {
     return now.tv_sec;
 }
 
-/* Appends the text that is complete to a file. */
+/* Appends the text that is complete to a file, or leaves the file as it was. */
 static bool keep(lis_receiver *receiver, int store) {
     size_t len = lis_receiver_text_len(receiver);
     uint8_t *text = malloc(len + 1);
-    bool kept = text != NULL && lis_receiver_text(receiver, text, len) == LIS_STATUS_OK
-        && write(store, text, len) == (ssize_t)len && fsync(store) == 0;
+    off_t end = lseek(store, 0, SEEK_END);
+    bool got = text != NULL && lis_receiver_text(receiver, text, len) == LIS_STATUS_OK;
+    ssize_t put = got ? write(store, text, len) : -1;
+    bool kept = put == (ssize_t)len && fsync(store) == 0;
     free(text);
+    if (!kept && put > 0 && ftruncate(store, end) != 0)
+        exit(1);                                                          /* half a text stays: keep nothing after it */
     return kept;
 }
 
