@@ -39,9 +39,10 @@ demo:
 	@echo
 	@echo 'This is the same source as the proved program; nothing was proved yet. Next:'
 	@echo '  make                                        proves and builds build/lislink'
-	@echo '  build/lislink results < samples/panel.records'
-	@echo '  build/lislink texts < samples/two-sessions.capture'
-	@echo 'README.md explains the commands, docs/EMBEDDING.md the library for C and Python.'
+	@echo '  tools/lislab capture samples/tour.socat -o session.capture'
+	@echo '  build/lislink replay < session.capture'
+	@echo '  build/lislink texts < session.capture | build/lislink results'
+	@echo 'README.md explains them, docs/EMBEDDING.md the library for C, C++, Rust and Python.'
 
 check:
 	@test -n '$(CRATE)' || { echo 'make check CRATE=name, a folder of crates/'; exit 2; }
