@@ -9,3 +9,5 @@ mod commands;
 mod faults;
 #[cfg(test)]
 mod loops;
+#[cfg(test)]
+mod slow;
