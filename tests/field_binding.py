@@ -7,6 +7,7 @@ import subprocess
 import sys
 import sysconfig
 import threading
+import time
 import venv
 
 import lislink
@@ -247,9 +248,26 @@ def of_pieces(count):
 
 
 def of_long_input(count):
-    """A long piece takes linear time: a hundred thousand signals in a few seconds."""
+    """Long input takes linear time: each of these takes a second, and would take minutes if it didn't."""
+    begun = time.process_time()
     with Scanner() as scanner:
         count.same("a long piece", sum(1 for _ in scanner.feed(b"\x05\x04" * 50000 + b"x" * 3000000)), 100000)
+    with Reader() as reader:
+        long = b"H|\\^&\rC|" + b"x" * 60000 + b"\rL|1|N\r"
+        rows = [row for at in range(len(long)) for row in reader.feed(long[at : at + 1])]
+        count.same("a long record byte by byte", b"".join(row.text + b"\r" for row in rows), long)
+    for marks in (b"^", b"\\", b"|", b"^\\", b"|^"):
+        with Reader() as reader:
+            row = list(reader.feed(b"H|\\^&\rC|" + marks * (60000 // len(marks)) + b"\rL\r"))[1]
+            count.same(f"many {marks!r}", sum(len(one) for field in row.fields for one in field), 60001)
+    bad = b"H|\\^&\rR|1\rL|1|N\r"
+    found = list(lislink.read_all((bad + b"H|\\^&\rL|1|N\r") * 5000))
+    faults = sum(isinstance(one, lislink.Fault) for one in found)
+    count.same("messages that can't be read and others", (len(found), faults), (10000, 5000))
+    whole = list(messages([b"H|\\^&\r" + b"P|1\r" * 200000 + b"L|1|N\r"]))
+    count.same("a long message", len(whole[0]), 200002)
+    seconds = time.process_time() - begun
+    count.true("long input takes linear time", seconds < 15, f"{seconds:.1f} s")
 
 
 def random_message(rng):

@@ -80,6 +80,8 @@ _CALLS: Dict[str, Any] = {
     "header_part": (_BYTE, _POINTER, _SIZE, _SIZE, _SIZE, _SIZE, _POINTER, _SIZE, _POINTER),
     "record_part": (_BYTE, _POINTER, _POINTER, _SIZE, _SIZE, _SIZE, _SIZE, _POINTER, _SIZE, _POINTER),
     "reader_read": (_SIZE, _POINTER, _POINTER, _SIZE, _POINTER),
+    "reader_records": (_SIZE, _POINTER, _POINTER, _SIZE, _POINTER, _SIZE, _POINTER, _SIZE, _POINTER),
+    "part_decode": (_BYTE, _POINTER, _POINTER, _SIZE, _POINTER, _SIZE, _POINTER),
     "reader_part": (_BYTE, _POINTER, _SIZE, _SIZE, _SIZE, _POINTER, _SIZE, _POINTER),
     "reader_finish": (_BYTE, _POINTER, _POINTER),
     "writer_start": (_BYTE, _POINTER, _POINTER),

@@ -2,7 +2,10 @@
 library."""
 import ctypes
 import enum
-from typing import Iterable, Iterator, List, Optional, Sequence, Tuple, Union
+import operator
+import struct
+import threading
+from typing import Any, Iterable, Iterator, List, Optional, Sequence, Tuple, Union
 
 from . import _library
 from ._checks import as_bytes, as_number
@@ -12,6 +15,11 @@ from .rows import Marks, Row, marks_of
 _MOST = (1 << 64) - 1
 #: The most bytes of a record, without its CR.
 RECORD_BYTES = 65536
+#: The most records of one call of the library, and a record as it gives it: where its text begins, its first part, how
+#: many fields and parts it has, how long it is, its delimiters, its letter.
+TOGETHER = 512
+_ENTRY = struct.Struct("@QQQQQ4s4xB7x")
+_LETTERS = [chr(letter) for letter in range(256)]
 
 
 class Reason(enum.IntEnum):
@@ -87,6 +95,17 @@ def records(texts: Iterable[bytes]) -> Iterator[Record]:
             yield record
 
 
+class _Room(threading.local):
+    """What the library writes records and parts into: one for each thread, since it is read at once."""
+
+    def __init__(self) -> None:
+        self.entries = (ctypes.c_uint64 * (_ENTRY.size * TOGETHER // 8))()
+        self.parts = (ctypes.c_uint32 * (6 * RECORD_BYTES))()
+
+
+_ROOM = _Room()
+
+
 class Reader(Owner):
     """Reads the records of a stream that comes in pieces, each where its message may have it."""
 
@@ -94,57 +113,74 @@ class Reader(Owner):
 
     def __init__(self) -> None:
         super().__init__()
-        #: How many bytes of the stream were read.
+        #: How many bytes of the stream were read: after a record, up to its end.
         self.read = 0
-        #: The bytes of the record that isn't ended: those of earlier pieces, and where its bytes of this one begin.
-        self._before, self._begun = bytearray(), 0
-        self._marks: Optional[Marks] = None
+        #: How many the library has read; the records that it has read and that aren't given yet, the piece that they
+        #: are of, where that was read from, and the place of that in the stream.
+        self._taken = 0
+        self._left: Iterator[Tuple[Any, ...]] = iter(())
+        self._source: Tuple[bytes, int, int] = b"", 0, 0
+        #: The bytes of a record that isn't ended: the library holds them too.
+        self._before = bytearray()
+        self._marks: Marks = marks_of(b"|\\^&")
+
+    @property
+    def waiting(self) -> int:
+        """How many bytes that were handed in are still unread, since a loop was left early."""
+        return super().waiting + (self._taken - self.read if operator.length_hint(self._left) else 0)
 
     def feed(self, data: bytes) -> Iterator[Row]:
         """The records that further bytes end, in order; MessageError at the first that can't be read, and then at every
         call, also of no bytes. Bytes that a loop leaves unread are read by the next call."""
-        begun, at, piece = self._begun, self._at, self._piece
         self._add(data)
-        self._before += piece[begun:at]
-        self._begun = 0
         return self._rows()
 
     def _rows(self) -> Iterator[Row]:
-        out = _library.Found()
-        where, call, handle = ctypes.byref(out), _library.calls()["reader_read"], ctypes.byref(self._owned())
-        piece = self._piece
-        base, size, at = address(piece), len(piece), self._at
-        while True:
-            taken = call(handle, base + at, size - at, where)
-            self._at = at + taken
-            self.read += taken
-            if out.kind == 1:
-                yield self._row(chr(out.letter), piece[self._begun : at], out.fields)
-                self._owned()
-                if piece is not self._piece:
-                    piece = self._piece
-                    base, size = address(piece), len(piece)
-            elif out.kind == 2:
-                raise MessageError(out.number, out.reason, out.detail, out.place)
-            at = self._at
-            if at >= size:
-                return
+        more = True
+        while more:
+            piece, at, taken = self._source
+            for offset, _, fields, parts, size, delimiters, letter in self._left:
+                start = at + offset
+                if letter == 72:
+                    self._marks = marks_of(delimiters)
+                self.read = taken + offset + size + 1
+                yield Row(_LETTERS[letter], piece[start : start + size], self._marks, fields, parts)
+            row = None if self._read_whole() else self._read_on_by_itself()
+            if row is not None:
+                self.read = self._taken
+                yield row
+            more = row is not None or operator.length_hint(self._left) > 0 or self._at < len(self._piece)
+        self.read = self._taken
 
-    def _row(self, letter: str, text: bytes, count: int) -> Row:
-        """The record that ended just now."""
+    def _read_whole(self) -> bool:
+        """Reads records that are whole in the piece by one call; whether there are any."""
         if self._before:
-            text = bytes(self._before) + text
-            self._before.clear()
-        self._begun = self._at
+            return False
+        count, piece, at = ctypes.c_size_t(), self._piece, self._at
+        room = (_ROOM.entries, TOGETHER, _ROOM.parts, RECORD_BYTES)
+        read: int = self._call("records", address(piece) + at, len(piece) - at, *room, ctypes.byref(count))
+        found = bytes(memoryview(_ROOM.entries).cast("B")[: _ENTRY.size * count.value])
+        self._left, self._source = _ENTRY.iter_unpack(found), (piece, at, self._taken)
+        self._at, self._taken = at + read, self._taken + read
+        return read > 0
+
+    def _read_on_by_itself(self) -> Optional[Row]:
+        """Reads bytes of a record that isn't whole in the piece, or can't be read: the record, if they end it."""
+        out, at = _library.Found(), self._at
+        self._taken += self._read_on("read", out)
+        if out.kind == 2:
+            self.read = self._taken
+            raise MessageError(out.number, out.reason, out.detail, out.place)
+        if out.kind == 0:
+            self._before += self._piece[at : self._at]
+            return None
+        text = bytes(self._before)
+        self._before.clear()
+        letter, fields = chr(out.letter), out.fields
+        self._call("read", 0, 0, ctypes.byref(out))  # the library gives the record up
         if letter == "H":
-            given, found = _library.Delimiters(), _library.RecordOut()
-            words = (address(text), len(text), ctypes.byref(given), ctypes.byref(found))
-            status = _library.calls()["header_read"](*words)
-            if status:
-                raise LinkError(status)
-            self._marks = marks_of(bytes(given))
-        assert self._marks is not None
-        return Row(letter, text, self._marks, count)
+            self._marks = marks_of(Record(text).delimiters)
+        return Row(letter, text, self._marks, fields, None)
 
     def letters(self, data: bytes) -> Iterator[str]:
         """The same without the fields: the letters of the records that further bytes end."""
@@ -154,7 +190,8 @@ class Reader(Owner):
     def _letters(self) -> Iterator[str]:
         out = _library.Found()
         while True:
-            self.read += self._read_on("read", out)
+            self._taken += self._read_on("read", out)
+            self.read = self._taken
             if out.kind == 2:
                 raise MessageError(out.number, out.reason, out.detail, out.place)
             if out.kind == 1:

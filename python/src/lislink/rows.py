@@ -1,14 +1,14 @@
 """A record of a message as data: its parts become bytes when they are asked for. The proved library says where a record
-is, its letter, its delimiters and how many fields it has, and it decodes escapes. Splitting at the delimiters is done
-here; `tests/field` compares it with the library's own parts."""
+is, its letter, its delimiters and how many fields and parts it has, and it decodes escapes. Splitting at the delimiters
+is done here: it must give these numbers, and `tests/field` compares it with the library's own parts."""
 import ctypes
 from typing import Any, Dict, Iterator, List, Optional, Tuple
 
 from . import _library
 
-#: Delimiters as a row uses them: the field's, the repeat's and the component's as bytes; all four as numbers, which
-#: `in` finds faster.
-Marks = Tuple[bytes, bytes, bytes, bytes]
+#: Delimiters as a row uses them: the field's, the repeat's and the component's as bytes; the repeat's, the component's
+#: and the escape as numbers, which `in` finds faster; all four.
+Marks = Tuple[bytes, bytes, bytes, int, int, int, bytes]
 _MARKS: Dict[bytes, Marks] = {}
 
 
@@ -16,8 +16,9 @@ def marks_of(delimiters: bytes) -> Marks:
     """The delimiters field, repeat, component, escape as a row uses them."""
     found = _MARKS.get(delimiters)
     if found is None:
-        one, two, three = (delimiters[place : place + 1] for place in range(3))
-        found = _MARKS[delimiters] = (one, two, three, delimiters)
+        one, two, three, four = delimiters
+        found = (bytes([one]), bytes([two]), bytes([three]), two, three, four, delimiters)
+        _MARKS[delimiters] = found
     return found
 
 
@@ -25,14 +26,14 @@ class Row:
     """A record of a message: its letter, and its fields as lists of repeats, these as lists of components. As a pair it is
     these two."""
 
-    __slots__ = ("letter", "text", "count", "_marks", "_split")
+    __slots__ = ("letter", "text", "count", "_marks", "_parts", "_split")
 
-    def __init__(self, letter: str, text: bytes, marks: Marks, count: int) -> None:
+    def __init__(self, letter: str, text: bytes, marks: Marks, count: int, parts: Optional[int]) -> None:
         #: The letter of its kind, in upper case; the record as it came, without its CR.
         self.letter, self.text = letter, text
         #: How many fields it has after its letter, or after a header's delimiters.
         self.count = count
-        self._marks = marks
+        self._marks, self._parts = marks, parts
         self._split: Optional[List[bytes]] = None
 
     def __iter__(self) -> Iterator[Any]:
@@ -56,49 +57,49 @@ class Row:
     @property
     def delimiters(self) -> bytes:
         """Those that it was read under: field, repeat, component, escape."""
-        return self._marks[3]
+        return self._marks[6]
 
     def _cut(self) -> List[bytes]:
-        """What is before the first field, and the fields."""
-        text = self.text[5:] if self.letter == "H" else self.text
-        found = self._split = text.split(self._marks[0])
-        if len(found) != self.count + 1:
-            raise AssertionError(f"{self!r} has {self.count} fields, not {len(found) - 1}")
+        """The fields, each at its number less one; before them is something for the letter and a header's delimiters."""
+        if self.letter == "H":
+            found = self.text[5:].split(self._marks[0])
+            found.insert(0, b"")
+            good = len(found) == self.count + 2
+        else:
+            found = self.text.split(self._marks[0])
+            good = len(found) == self.count + 1
+        if not good:
+            raise AssertionError(f"{self!r} hasn't {self.count} fields")
+        self._split = found
         return found
 
     def part(self, field: int, repeat: int = 0, component: int = 0) -> Optional[bytes]:
         """A component, its escapes as what they mean; None if there is none. The letter is field 1, a header's
         delimiters are field 2; repeats and components count from 0."""
-        found = self._split
-        if found is None:
-            found = self._cut()
-        place = field - 2 if self.letter == "H" else field - 1
-        if not 0 < place < len(found) or repeat < 0 or component < 0:
+        found = self._split or self._cut()
+        if field < 3 and field < self.first or field > len(found):
             return None
-        one = found[place]
-        _, between, inside, (_, is_between, is_inside, escape) = self._marks
+        one = found[field - 1]
+        _, between, inside, is_between, is_inside, escape, _ = self._marks
         if repeat or is_between in one:
             some = one.split(between)
-            if repeat >= len(some):
+            if not 0 <= repeat < len(some):
                 return None
             one = some[repeat]
         if component or is_inside in one:
             some = one.split(inside)
-            if component >= len(some):
+            if not 0 <= component < len(some):
                 return None
             one = some[component]
         return self._meant(one) if escape in one else one
 
     def field(self, number: int) -> List[List[bytes]]:
         """A field as its repeats, these as lists of components; nothing if there is no such field."""
-        found = self._split
-        if found is None:
-            found = self._cut()
-        place = number - self.first + 1
-        return self._repeats(found[place]) if 0 < place < len(found) else []
+        found = self._split or self._cut()
+        return self._repeats(found[number - 1]) if self.first <= number <= len(found) else []
 
     def _repeats(self, one: bytes) -> List[List[bytes]]:
-        _, between, inside, (_, _, _, escape) = self._marks
+        _, between, inside, _, _, escape, _ = self._marks
         repeats = [some.split(inside) for some in one.split(between)]
         if escape in one:
             return [[self._meant(part) if escape in part else part for part in some] for some in repeats]
@@ -107,25 +108,30 @@ class Row:
     @property
     def fields(self) -> List[List[List[bytes]]]:
         """All of it."""
-        _, is_between, is_inside, escape = self._marks[3]
-        found, text = self._split or self._cut(), self.text[5:] if self.letter == "H" else self.text
-        if escape in text or is_between in text:
-            parts = [self._repeats(one) for one in found]
-        elif is_inside in text:
-            inside = self._marks[2]
-            parts = [[one.split(inside) if is_inside in one else [one]] for one in found]
+        _, between, inside, is_between, is_inside, escape, _ = self._marks
+        found, text = self._split or self._cut(), self.text
+        if self.letter == "H":
+            found, text = found[2:], text[5:]
         else:
-            parts = [[[one]] for one in found]
-        del parts[0]
-        return parts
+            found = found[1:]
+        if self._parts is not None and self._parts != self.count + text.count(inside) + text.count(between):
+            raise AssertionError(f"{self!r} hasn't {self._parts} parts")
+        if escape in text or is_between in text:
+            return [
+                self._repeats(one) if is_inside in one or is_between in one or escape in one else [[one]]
+                for one in found
+            ]
+        if is_inside in text:
+            return [[one.split(inside) if is_inside in one else [one]] for one in found]
+        return [[[one]] for one in found]
 
     def _meant(self, data: bytes) -> bytes:
-        """What the bytes of a component mean: read as the one field of a record under the same delimiters."""
-        text, size = b"R" + self._marks[0] + data, ctypes.c_size_t()
-        room, given = ctypes.create_string_buffer(len(text)), _library.Delimiters(*self._marks[3])
-        place = ctypes.cast(ctypes.c_char_p(text), ctypes.c_void_p)
-        words = (place, len(text), 2, 0, 0, room, len(text), ctypes.byref(size))
-        status = _library.calls()["record_part"](ctypes.byref(given), *words)
+        """What the bytes of a component mean."""
+        room, size = ctypes.create_string_buffer(len(data)), ctypes.c_size_t()
+        given = _library.Delimiters(*self._marks[6])
+        place = ctypes.cast(ctypes.c_char_p(data), ctypes.c_void_p)
+        words = (place, len(data), room, len(data), ctypes.byref(size))
+        status = _library.calls()["part_decode"](ctypes.byref(given), *words)
         if status:
             raise AssertionError(f"the library can't decode {data!r}: status {status}")
         return room.raw[: size.value]
