@@ -1,4 +1,4 @@
-//! Captures whose lines are known from outside: how far each is read, however it is cut.
+//! Captures whose lines are known from outside: how far each is read, however it is cut. The room of a page.
 
 ghost use Rattle.std.specs.Prelude.{◌≤◌};
 
@@ -80,4 +80,14 @@ fn behind_a_refused_line_nothing_is_read(rt: HostRuntime) {
     assert!(rt; reader.read(b"T\n") == (0, Found::Refused));
     assert!(rt; reader.finish() == Found::Refused);
     assert!(rt; (reader.number(), reader.version()) == (1, CaptureVersion::Untold));
+}
+
+#[test]
+fn the_room_of_a_page_is_what_is_left(rt: HostRuntime) {
+    let mut page = Page::new();
+    page.append(b"abc");
+    assert!(rt; page.room() == PAGE_ROOM - 3);
+    assert!(rt; page.as_slice() == b"abc".as_slice());
+    page.clear();
+    assert!(rt; page.room() == PAGE_ROOM);
 }
