@@ -1,16 +1,17 @@
-/* How fast the library for C is: for bench/library, which says how it is run. Each line is the median of the rounds, in
- * MB/s of what is read by processor time, and each round does everything once. */
+/* How fast the library for C is: for bench/library, which says how it is run. Each line has the median and
+ * the best of the rounds, in MB/s of what is read by processor time; each round does everything once. */
 #include <lislink.h>
 #include <stdio.h>
 #include <stdlib.h>
 #include <string.h>
 #include <time.h>
 
-enum { SIZE = 16 << 20, MOST_ROUNDS = 21, MOST_PARTS = 2 * LIS_LIMIT_RECORD_BYTES };
+enum { SIZE = 16 << 20, MOST_ROUNDS = 21, MOST_PARTS = 2 * LIS_LIMIT_RECORD_BYTES, ENTRIES = 4096 };
 
 static uint8_t *data;
 static size_t len, rounds;
 static lis_part parts[MOST_PARTS];
+static lis_entry entries[ENTRIES];
 static uint8_t room[LIS_LIMIT_RECORD_BYTES];
 
 static double now(void) {
@@ -145,11 +146,38 @@ static size_t read_alone(void) {
     return count;
 }
 
+/* The records of pieces, which begin at a record. */
+static size_t read_pieces(lis_reader *reader, size_t piece) {
+    size_t count = 0, used;
+    for (size_t at = 0, read; at < len; at += read) {
+        size_t size = len - at < piece ? len - at : piece;
+        read = lis_reader_records(reader, data + at, size, entries, ENTRIES, parts, MOST_PARTS, &used);
+        check(read > 0, "a record");
+        for (size_t i = 0; i < used; i++)
+            count += entries[i].table.count;
+    }
+    return count;
+}
+
 static size_t read_records(size_t piece, int how) {
     lis_reader reader = {malloc(lis_reader_size())};
+    size_t count = 0;
     lis_reader_init(reader.at);
-    size_t count = how == 3 ? read_alone() : how == 2 ? read_lines(&reader, piece)
-                                                     : read_each(&reader, piece, how == 1);
+    switch (how) {
+    case 0:
+    case 1:
+        count = read_each(&reader, piece, how == 1);
+        break;
+    case 2:
+        count = read_lines(&reader, piece);
+        break;
+    case 3:
+        count = read_alone();
+        break;
+    default:
+        count = read_pieces(&reader, how == 4 ? piece : 16 * piece);
+        break;
+    }
     lis_reader_end(reader);
     free(reader.at);
     return count;
@@ -160,12 +188,12 @@ static int by_size(const void *one, const void *other) {
     return (a > b) - (a < b);
 }
 
-static double median(double *speeds) {
+static void print(const char *what, const char *name, double *speeds) {
     qsort(speeds, rounds, sizeof *speeds, by_size);
-    return speeds[rounds / 2];
+    printf("%-14s %-44s %6.0f %6.0f\n", what, name, speeds[rounds / 2], speeds[rounds - 1]);
 }
 
-/* The calls on what is in `data`, each in turn, and their medians. */
+/* The calls on what is in `data`, each in turn. */
 static void measure(const char *what, const char *const *names, size_t count, size_t (*call)(size_t)) {
     static double speeds[8][MOST_ROUNDS];
     for (size_t round = 0; round < rounds; round++)
@@ -175,7 +203,7 @@ static void measure(const char *what, const char *const *names, size_t count, si
             speeds[i][round] = (double)len / (now() - begun) / 1e6;
         }
     for (size_t i = 0; i < count; i++)
-        printf("%-28s %-46s %8.0f\n", what, names[i], median(speeds[i]));
+        print(what, names[i], speeds[i]);
 }
 
 static size_t call_hear(size_t how) {
@@ -189,7 +217,8 @@ static size_t call_records(size_t how) {
 int main(int count, char **words) {
     static const char *const link[] = {"lis_receiver_hear and _text, 4 KiB", "the same, 64 KiB"};
     static const char *const records[] = {"lis_reader_read, 4 KiB", "lis_reader_read, lis_reader_part, 4 KiB",
-                                          "lis_reader_read, lis_record_parts, 4 KiB", "lis_record_parts alone"};
+                                          "lis_reader_read, lis_record_parts, 4 KiB", "lis_record_parts alone",
+                                          "lis_reader_records, 4 KiB", "the same, 64 KiB"};
     rounds = count > 1 ? (size_t)atoi(words[1]) : 7;
     check(rounds > 0 && rounds <= MOST_ROUNDS, "rounds from 1 to 21");
     data = malloc(SIZE + 65536);
@@ -199,7 +228,7 @@ int main(int count, char **words) {
     make_link("R|%0237u\r");
     measure("full frames", link, 2, call_hear);
     make_records();
-    measure("results", records, 4, call_records);
+    measure("results", records, 6, call_records);
     make_delimiters();
     double begun = now();
     read_records(len, 3);

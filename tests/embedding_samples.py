@@ -152,10 +152,11 @@ def paused(sample):
 
 
 def is_silent_late(sample, good, since):
-    """It goes on when its reply could come after the sender's timer: it sends none, and hears the next session."""
+    """It goes on when its reply could come after the sender's timer: it sends none. It hears the next session, which
+    begins once it has seen the line empty."""
     time.sleep(max(0.0, since + 12 - time.monotonic()))
     sample.process.send_signal(signal.SIGCONT)
-    good = good and told(sample.line, 1, 1.0) == b"" and ask(sample.line, ENQ, ACK)
+    good = good and told(sample.line, 1, 3.0) == b"" and ask(sample.line, ENQ, ACK)
     sample.end()
     return good
 
