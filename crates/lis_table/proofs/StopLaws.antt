@@ -9,15 +9,16 @@ use Rattle.std.proofs.Math.Nat.{div-div-eq-div-mul, mul_comm, pow-succ'}
 use Rattle.std.proofs.Math.Pow.{pow_mono}
 use Rattle.std.proofs.lemmas.List.Elements.{All-cons, All-head, All-nil, All-tail}
 use Rattle.std.proofs.lemmas.Bool.Decides.{eqb_tells}
-use Rattle.std.proofs.lemmas.List.{length-drop, length-map}
+use Rattle.std.specs.Prelude.{Option}
+use Rattle.std.proofs.lemmas.List.{drop-drop, length-drop, length-map, take_all}
 use Rattle.std.proofs.lemmas.Simd.{mask_l-lt}
 use Rattle.lis_field.specs.Delimiters.{DelimiterBytes, IsDelimiters}
 use Rattle.lis_text.proofs.SearchLemmas.{clean-before, found-chunk, found-within}
-use Rattle.lis_part.proofs.LastBits.{mask_l-drop}
+use Rattle.lis_part.proofs.LastBits.{last-bits, mask_l-drop}
 use Rattle.lis_part.proofs.Stops.{all-fail}
 use Rattle.lis_record.proofs.Marks.{front-behind}
 use Rattle.lis_part.specs.inside.FrontReading.{stops}
-use Rattle.lis_table.specs.inside.Stops.{AreStops}
+use Rattle.lis_table.specs.inside.Stops.{AreEndStops, AreStops, KnowsEnd}
 
 -- two tests that no byte passes both of
 mask_l-either : (f g : ℕ → Bool) → ((b : ℕ) → f b ≡ true → g b ≡ false) → (xs : List ℕ)
@@ -84,6 +85,21 @@ bits-fit f text =
     let most = pow_mono few in
     omega (arith, mask_l-lt (map f (take 16 text)), most)
 
+-- where no bit is set, no byte is one of them
+none-free : (d : DelimiterBytes) (xs : List ℕ) → mask_l (map (stops d d.escape) xs) ≡ 0
+    → All (λ b. stops d d.escape b ≡ false) xs
+none-free d xs none = all-fail (stops d d.escape) 0 xs (clear 0 xs none)
+  where
+    clear : (i : ℕ) (xs : List ℕ) → mask_l (map (stops d d.escape) xs) ≡ 0 → position_from (stops d d.escape) i xs ≡ None
+    clear i [] e = refl
+    clear i (x ∷ xs) e = by (stops d d.escape x) e (clear (i + 1) xs)
+      where
+        by : (t : Bool) → cond t 1 0 + 2 * mask_l (map (stops d d.escape) xs) ≡ 0
+            → (mask_l (map (stops d d.escape) xs) ≡ 0 → position_from (stops d d.escape) (i + 1) xs ≡ None)
+            → cond t (Some i) (position_from (stops d d.escape) (i + 1) xs) ≡ None
+        by true e more = absurd (omega arith)
+        by false e more = more (omega arith)
+
 module _ (d : DelimiterBytes) (text : List ℕ) where
   pub stops-none : (place : ℕ) → AreStops d (drop place text) 0
   stops-none place = record { count = 0; few = omega arith; within = omega arith; are = refl }
@@ -95,18 +111,7 @@ module _ (d : DelimiterBytes) (text : List ℕ) where
   -- none among sixteen
   pub free-sixteen : 16 ≤ length text → (bits : ℕ) → bits ≡ mask_l (map (stops d d.escape) (take 16 text)) → bits ≡ 0
       → All (λ b. stops d d.escape b ≡ false) (take 16 text)
-  free-sixteen room bits is none = all-fail (stops d d.escape) 0 (take 16 text) (clear 0 (take 16 text) (sym is ∙ none))
-    where
-      clear : (i : ℕ) (xs : List ℕ) → mask_l (map (stops d d.escape) xs) ≡ 0
-          → position_from (stops d d.escape) i xs ≡ None
-      clear i [] e = refl
-      clear i (x ∷ xs) e = by (stops d d.escape x) e (clear (i + 1) xs)
-        where
-          by : (t : Bool) → cond t 1 0 + 2 * mask_l (map (stops d d.escape) xs) ≡ 0
-              → (mask_l (map (stops d d.escape) xs) ≡ 0 → position_from (stops d d.escape) (i + 1) xs ≡ None)
-              → cond t (Some i) (position_from (stops d d.escape) (i + 1) xs) ≡ None
-          by true e more = absurd (omega arith)
-          by false e more = more (omega arith)
+  free-sixteen room bits is none = none-free d (take 16 text) (sym is ∙ none)
 
   module _ (bits : ℕ) (m : AreStops d text bits) (set : bits ≡ 0 → ⊥) where
     some : mask_l (map (stops d d.escape) (take m.count text)) ≡ 0 → ⊥
@@ -161,3 +166,49 @@ free-more f xs n below fails free = rw (add-one n) (go xs n below fails free)
     go (x ∷ xs) (suc n) below fails free =
         All-cons (λ b. f b ≡ false) x (take (suc n) xs) (All-head (λ b. f b ≡ false) x (take n xs) free)
         (go xs n (omega arith) fails (All-tail (λ b. f b ≡ false) x (take n xs) free))
+
+-- ---- at a text's end
+
+module _ (d : DelimiterBytes) (text : List ℕ) where
+  pub end-whole : 16 ≤ length text → (bits : ℕ) (last : List ℕ) → last ≡ drop (length text - 16) text
+      → bits ≡ mask_l (map (stops d d.escape) (take 16 last)) → AreEndStops d text bits
+  end-whole room bits last is are = record {
+    whole = text;
+    long = room;
+    within = omega arith;
+    ends = let none : length text - length text ≡ 0 = omega arith in ap (λ (n : ℕ). drop n text) (sym none);
+    are = are ∙ ap (λ (l : List ℕ). mask_l (map (stops d d.escape) (take 16 l))) is;
+  }
+
+  -- what is left of the text has the same end
+  pub end-more : (end : Option ℕ) (passed : ℕ) → passed ≤ length text → KnowsEnd d text end
+      → KnowsEnd d (drop passed text) end
+  end-more None passed within knows = knows
+  end-more (Some bits) passed within knows =
+      let left : length (drop passed text) ≡ length text - passed = length-drop passed text in
+      let at : length knows.whole - length text + passed ≡ length knows.whole - length (drop passed text) =
+      omega (arith, left, knows.within) in
+      record {
+        whole = knows.whole;
+        long = knows.long;
+        within = omega (arith, left, knows.within);
+        ends =
+            ap (drop passed) knows.ends ∙ drop-drop passed (length knows.whole - length text) knows.whole
+            ∙ ap (λ (n : ℕ). drop n knows.whole) at;
+        are = knows.are;
+      }
+
+  module _ (bits : ℕ) (knows : AreEndStops d text bits) (few : length text < 16) where
+    all_left : bits / 2 ^ (16 - length text) ≡ mask_l (map (stops d d.escape) (take (length text) text))
+    all_left =
+        ap (λ (n : ℕ). n / 2 ^ (16 - length text)) knows.are
+        ∙ last-bits (stops d d.escape) knows.whole (length text) knows.long (omega arith)
+        ∙ ap (λ (l : List ℕ). mask_l (map (stops d d.escape) l))
+        (sym knows.ends ∙ sym (take_all (length text) text (omega arith)))
+
+    pub end-stops : AreStops d text (bits / 2 ^ (16 - length text))
+    end-stops = record { count = length text; few = omega arith; within = omega arith; are = all_left }
+
+    pub end-free : bits / 2 ^ (16 - length text) ≡ 0
+        → All (λ b. stops d d.escape b ≡ false) (take (length text) text)
+    end-free none = none-free d (take (length text) text) (sym all_left ∙ none)

@@ -10,7 +10,8 @@ use Rattle.lis_field.specs.Delimiters.{DelimiterBytes}
 use Rattle.lis_part.specs.inside.FrontReading.{stops}
 use Rattle.lis_table.specs.declared.table.LisPart.{LisPart}
 use Rattle.lis_table.specs.inside.Scan.{IsRoomy, longer, next_place, scanned, scanned_by}
-use Rattle.lis_table.specs.inside.Stops.{AreStops}
+use Rattle.lis_table.specs.inside.Stops.{AreStops, KnowsEnd}
+use Rattle.lis_table.proofs.StopLaws.{end-more}
 use Rattle.lis_table.proofs.Written.{IsUnderWay, drop-next, put-written, scanned-free}
 
 -- a component that grew by so many bytes
@@ -94,8 +95,8 @@ module _ (d : DelimiterBytes) where
       pub behind : more ≡ drop (free + 1) rest
       behind = sym (ap (drop 1) is) ∙ drop-drop 1 free rest
 
-      module _ (begun : LisPart) (text : List ℕ) (before out : List LisPart) (marks known count : ℕ)
-          (u : IsUnderWay d begun text before p rest marks out count)
+      module _ (begun : LisPart) (text : List ℕ) (before out : List LisPart) (marks known count : ℕ) (end : Option ℕ)
+          (u : IsUnderWay d begun text before p rest marks end out count)
           (marked : AreStops d (drop (free + 1) rest) known) where
         room : IsRoomy (grown p free) (length more + 1)
         room = record {
@@ -105,13 +106,18 @@ module _ (d : DelimiterBytes) where
           component = omega (arith, u.room.component, size);
         }
 
+        end_later : KnowsEnd d more end
+        end_later =
+            subst (λ (l : List ℕ). KnowsEnd d l end) (sym behind) (end-more d rest end (free + 1) (omega (arith, size))
+            u.ends)
+
         later : AreStops d more known
         later = subst (λ (l : List ℕ). AreStops d l known) (sym behind) marked
 
         -- the byte ended the component
         pub next-under_way : (next : LisPart) (new : List LisPart) → Some next ≡ next_place d (grown p free) byte
             → new ≡ slice_set out count (grown p free)
-            → IsUnderWay d begun text before next more known new (count + 1)
+            → IsUnderWay d begun text before next more known end new (count + 1)
         next-under_way next new e put =
             let here = u.left ∙ ended next (sym e) in
             record {
@@ -120,6 +126,7 @@ module _ (d : DelimiterBytes) where
                   put-written (scanned d begun text) before out new count (grown p free) (scanned d next more) here
                   u.put put;
               marked = later;
+              ends = end_later;
               room = next-roomy (grown p free) next byte (length more) room (sym e);
               few = omega (arith, u.few, size);
               short = u.short;
@@ -128,7 +135,7 @@ module _ (d : DelimiterBytes) where
         -- it goes on
         pub on-under_way : (longer_is : LisPart) → None ≡ next_place d (grown p free) byte
             → longer_is ≡ longer d (grown p free) byte
-            → IsUnderWay d begun text before longer_is more known out count
+            → IsUnderWay d begun text before longer_is more known end out count
         on-under_way longer_is e is_longer =
             let roomy : IsRoomy (longer d (grown p free) byte) (length more) = record {
               place = omega (arith, room.place);
@@ -140,6 +147,7 @@ module _ (d : DelimiterBytes) where
               left = u.left ∙ went_on (sym e) ∙ ap (λ (q : LisPart). scanned d q more) (sym is_longer);
               put = u.put;
               marked = later;
+              ends = end_later;
               room = subst (λ (q : LisPart). IsRoomy q (length more)) (sym is_longer) roomy;
               few = omega (arith, u.few, size);
               short = u.short;

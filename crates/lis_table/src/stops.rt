@@ -5,7 +5,7 @@ ghost use Rattle.std.specs.Prelude.{◌/◌, ◌^◌};
 ghost use Rattle.std.specs.Int.Count.{count_trailing_zeros};
 ghost use Rattle.std.specs.List.{All};
 ghost use Rattle.std.specs.Simd.Lanes.{mask_l};
-ghost use Rattle.lis_table.specs.inside.Stops.{AreStops};
+ghost use Rattle.lis_table.specs.inside.Stops.{AreStops, KnowsEnd};
 ghost use Rattle.lis_part.specs.inside.FrontReading.{stops};
 
 use lis_field::Delimiters;
@@ -62,11 +62,48 @@ fn next_known(marks: u64) -> (usize, u64)
     (place, (marks >> place) >> 1)
 }
 
-/// How many bytes hold none of the four before the next one to be looked at, and the places that are known after that.
-/// Few places are known at a time, or none.
+/// The places among a text's last sixteen bytes, as bits; none of a shorter text.
 #[inline(always)]
-pub(crate) fn next_stop(delimiters: Delimiters, text: &[u8], marks: u64) -> (usize, u64)
-    requires { AreStops delimiters text.now marks }
+pub(crate) fn end_stops(delimiters: Delimiters, text: &[u8]) -> Option<u64>
+    ensures { KnowsEnd delimiters text.now result }
+{
+    if text.len() < 16 {
+        return None;
+    }
+    let (_, last) = text.split_at(text.len() - 16);
+    Some(stop_bits(delimiters, last))
+}
+
+/// The same as `next_stop`, of fewer than sixteen bytes at a text's end.
+#[inline(always)]
+fn last_stop(delimiters: Delimiters, text: &[u8], end: Option<u64>) -> (usize, u64)
+    requires few { length text.now < 16 }
+    requires end { KnowsEnd delimiters text.now end }
+    ensures within { result.0 ≤ length text.now }
+    ensures free { All (λ b. stops delimiters delimiters.escape b ≡ false) (take result.0 text.now) }
+    ensures marks { AreStops delimiters (drop (result.0 + 1) text.now) result.1 }
+{
+    let Some(bits) = end else {
+        return (free_by_one(delimiters, text), 0);
+    };
+    let left = bits >> (16 - text.len());
+    if left == 0 {
+        return (text.len(), 0);
+    }
+    next_known(left)
+}
+
+/// How many bytes hold none of the four before the next one to be looked at, and the places that are known after that.
+/// Few places are known at a time, or none, and beside them those at the text's end.
+#[inline(always)]
+pub(crate) fn next_stop(
+    delimiters: Delimiters,
+    text: &[u8],
+    marks: u64,
+    end: Option<u64>,
+) -> (usize, u64)
+    requires marks { AreStops delimiters text.now marks }
+    requires end { KnowsEnd delimiters text.now end }
     ensures within { result.0 ≤ length text.now }
     ensures free { All (λ b. stops delimiters delimiters.escape b ≡ false) (take result.0 text.now) }
     ensures marks { AreStops delimiters (drop (result.0 + 1) text.now) result.1 }
@@ -75,7 +112,7 @@ pub(crate) fn next_stop(delimiters: Delimiters, text: &[u8], marks: u64) -> (usi
         return next_known(marks);
     }
     if text.len() < 16 {
-        return (free_by_one(delimiters, text), 0);
+        return last_stop(delimiters, text, end);
     }
     let bits = stop_bits(delimiters, text);
     if bits == 0 {

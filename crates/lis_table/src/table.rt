@@ -6,7 +6,7 @@ ghost use Rattle.lis_record.specs.Lent.{front_length};
 ghost use Rattle.lis_table.specs.Table.{first_place, table_of};
 ghost use Rattle.lis_table.specs.inside.Scan.{IsRoomy, longer, next_place, scanned};
 
-use crate::stops::next_stop;
+use crate::stops::{end_stops, next_stop};
 use lis_field::{Delimiters, Kind};
 
 /// Where a component is in its record's text, and which it is: the number of its field, as the standard counts, and
@@ -122,9 +122,10 @@ fn put_from(delimiters: Delimiters, first: LisPart, text: &[u8], out: &mut [LisP
     let mut place = first;
     let mut rest = text;
     let mut marks = 0;
+    let end = end_stops(delimiters, text);
     let mut count: usize = 0;
     'bytes: loop {
-        let (free, known) = next_stop(delimiters, rest, marks);
+        let (free, known) = next_stop(delimiters, rest, marks, end);
         let (_, behind) = rest.split_at(free);
         place.len += free as u32;
         let Some((byte, more)) = behind.split_first() else {

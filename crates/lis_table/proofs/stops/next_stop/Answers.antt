@@ -6,17 +6,17 @@ use Rattle.lis_table.proofs.stops.next_stop.Goals as goal
 pub returns-then-marks-ne0-clause-within : goal.returns-then-marks-ne0-clause-within
 returns-then-marks-ne0-clause-within c =
     rw c.next_known.ensures.place
-    (stop-within c.args.delimiters c.args.text.now c.args.marks c.requires c.if-marks-ne0.true)
+    (stop-within c.args.delimiters c.args.text.now c.args.marks c.requires.marks c.if-marks-ne0.true)
 
 pub returns-then-marks-ne0-clause-free : goal.returns-then-marks-ne0-clause-free
 returns-then-marks-ne0-clause-free c =
     rw c.next_known.ensures.place
-    (stop-free c.args.delimiters c.args.text.now c.args.marks c.requires c.if-marks-ne0.true)
+    (stop-free c.args.delimiters c.args.text.now c.args.marks c.requires.marks c.if-marks-ne0.true)
 
 pub returns-then-marks-ne0-clause-marks : goal.returns-then-marks-ne0-clause-marks
 returns-then-marks-ne0-clause-marks c =
     rw c.next_known.ensures.rest
-    (stops-after c.args.delimiters c.args.text.now c.args.marks c.requires c.if-marks-ne0.true
+    (stops-after c.args.delimiters c.args.text.now c.args.marks c.requires.marks c.if-marks-ne0.true
     (c.next_known.result.0 + 1))
 
 -- by sixteen bytes

@@ -9,7 +9,8 @@ bytes-preserved-in-Some-next_place c =
     next-under_way c.args.delimiters c.bytes.place c.bytes.rest.now c.next_stop-free.result.0
     c.next_stop-free.ensures.within c.next_stop-free.ensures.free c.in-Some.byte.now c.in-Some.more.now
     (sym c.split_at.ensures.back ∙ c.in-Some.ensures.cases.0) c.args.first c.args.text.now c.args.out.now c.bytes.out
-    c.bytes.marks c.next_stop-free.result.1 c.bytes.count c.bytes.invariant c.next_stop-free.ensures.marks
+    c.bytes.marks c.next_stop-free.result.1 c.bytes.count c.end_stops-end.result c.bytes.invariant
+    c.next_stop-free.ensures.marks
     c.in-Some-next_place.next c.put.new.out (sym c.in-Some-next_place.is ∙ c.next_place.ensures) c.put.ensures
 
 pub bytes-preserved : goal.bytes-preserved
@@ -17,7 +18,8 @@ bytes-preserved c =
     on-under_way c.args.delimiters c.bytes.place c.bytes.rest.now c.next_stop-free.result.0
     c.next_stop-free.ensures.within c.next_stop-free.ensures.free c.in-Some.byte.now c.in-Some.more.now
     (sym c.split_at.ensures.back ∙ c.in-Some.ensures.cases.0) c.args.first c.args.text.now c.args.out.now c.bytes.out
-    c.bytes.marks c.next_stop-free.result.1 c.bytes.count c.bytes.invariant c.next_stop-free.ensures.marks
+    c.bytes.marks c.next_stop-free.result.1 c.bytes.count c.end_stops-end.result c.bytes.invariant
+    c.next_stop-free.ensures.marks
     c.longer-place.result (sym c.in-None.is ∙ c.next_place.ensures) c.longer-place.ensures
 
 pub returns-clause-count : goal.returns-clause-count
