@@ -1,6 +1,7 @@
 """The header's constants: each has words of its own in examples/c/names.c, the version is that of VERSION, and one of
 another family is noticed by a compiler."""
 import os
+import re
 import subprocess
 
 ROOT = os.path.dirname(os.path.dirname(os.path.abspath(__file__)))
@@ -11,8 +12,7 @@ COMPILERS = (["gcc", "-std=c99"], ["gcc", "-std=c11"], ["g++", "-std=c++11", "-x
 
 
 def version():
-    with open(os.path.join(ROOT, "VERSION")) as file:
-        return file.read().strip()
+    return read("VERSION").strip()
 
 
 def program(families):
@@ -52,7 +52,22 @@ def of_families(count, work):
             count.check((ran.returncode == 0) == fine, f"{' '.join(words)}: {constant} as a readiness: {ran.stderr}")
 
 
+def read(path):
+    with open(os.path.join(ROOT, path)) as file:
+        return file.read()
+
+
+def of_page(count):
+    """The manual page names each call but those that each handle has, and the words of each family but two."""
+    page = read("docs/man/lislink.3")
+    left_out = re.compile(r"lis_(scanner|sender|receiver|reader|writer)_(size|align|init|end)"
+                          r"|lis_(signal|fault|phase|outcome|ready|found|reason)_text")
+    for call in re.findall(r"^(?:const char \*|\w+ )(lis_\w+)\(", read("include/lislink.h"), re.M):
+        count.check(left_out.fullmatch(call) or re.search(rf"\b{call}\b", page), f"lislink.3 doesn't name {call}")
+
+
 def check(count, families, work, flags):
+    of_page(count)
     of_families(count, work)
     with open(f"{work}/names.c", "w") as file:
         file.write(program(families))
