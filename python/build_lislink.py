@@ -40,7 +40,6 @@ def _metadata(project):
     return (
         f"Metadata-Version: 2.1\nName: {project['name']}\nVersion: {project['version']}\n"
         f"Summary: {project['description']}\nRequires-Python: {project['requires-python']}\n"
-        "Provides-Extra: serial\nRequires-Dist: pyserial; extra == 'serial'\n"
         f"Description-Content-Type: text/markdown\n\n{text}"
     )
 
