@@ -1,4 +1,5 @@
-//! What no contract and no conformance row says: that records of a stream which is cut anywhere are all handed out.
+//! What no contract and no conformance row says: that records of a stream which is cut anywhere are all handed out, and
+//! nothing of one that is refused.
 
 use lis_message::{Found, LentRecord, RecordReader};
 use std::alloc::Global;
@@ -57,4 +58,13 @@ fn a_stream_cut_anywhere_gives_its_records(rt: HostRuntime) {
     for place in 0..=STREAM.len() {
         assert_cut(&rt, rt.alloc(), place);
     }
+}
+
+#[test]
+fn a_record_that_is_refused_is_not_lent(rt: HostRuntime) {
+    let mut reader = RecordReader::new(rt.alloc());
+    assert!(rt; matches!(reader.read(b"P|"), (_, Found::Nothing)));
+    assert!(rt; matches!(reader.read(b"1\r"), (_, Found::Refused(_))));
+    assert!(rt; reader.cut().is_none());
+    drop(reader);
 }
