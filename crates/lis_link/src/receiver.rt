@@ -1,6 +1,6 @@
 //! The receiving end (LIS01-A2, 6.3 to 6.6).
 
-ghost use Rattle.std.specs.Prelude.{◌≡◌, ◌≢◌, ◌≤◌, ◌<◌, ◌∷◌, length, take, OnOk, OnErr, None};
+ghost use Rattle.std.specs.Prelude.{◌≡◌, ◌≢◌, ◌≤◌, ◌<◌, ◌∷◌, length, max, take, OnOk, OnErr, None};
 ghost use Rattle.lis_frame.specs.Limit.{IsLimit};
 ghost use Rattle.lis_text.specs.LinkText.{longest_text};
 ghost use Rattle.lis_frame.specs.Scanner.{StandsFor};
@@ -171,12 +171,14 @@ impl<const N: usize> ReceiverOf<N> {
         self.line.timer()
     }
 
-    /// Makes room for `bytes` more bytes of held text, at most 1,048,576, so that taking them takes no memory. Where
-    /// memory is refused the receiver is as before, and that is so only where it had less room.
+    /// Makes room for `bytes` more bytes of held text, at most 1,048,576, so that taking them takes no memory. It takes
+    /// memory only if there is less room, and then just what is asked. If memory is refused the receiver is as before.
     pub fn reserve(&mut self, bytes: u64) -> Result<(), AllocError>
         requires { bytes ≤ longest_text }
         ensures ok { OnOk result (bytes ≤ self.new.spare) }
+        ensures exact { OnOk result (self.new.spare ≡ max self.old.spare bytes) }
         ensures refused { OnErr result (self.old.spare < bytes) }
+        ensures same { OnErr result (self.new ≡ self.old) }
         ensures state { (r : ReceiverState) → IsIn N self.old r → IsIn N self.new r }
         ensures spare { self.old.spare ≤ self.new.spare }
     {
@@ -206,7 +208,7 @@ impl<const N: usize> ReceiverOf<N> {
             RefusesFrame N self.old.spare (on_byte N byte r) (record r { past = byte ∷ r.past }) result self.new }
         ensures spare { (r : ReceiverState) → IsIn N self.old r
             → SpareAfter self.old.spare self.new.spare (on_byte N byte r).taken }
-        ensures room { KeepsRoom result.note (room_of self.old) (room_of self.new) }
+        ensures room { KeepsRoom result.note result.message (room_of self.old) (room_of self.new) }
     {
         let step = self.line.hear(self.scanner.told(byte));
         self.scanner.take(byte);
@@ -228,7 +230,7 @@ impl<const N: usize> ReceiverOf<N> {
             result.step self.new }
         ensures spare { (r : ReceiverState) → IsIn N self.old r →
             SpareAfter self.old.spare self.new.spare (on_bytes N bytes.now r).step.taken }
-        ensures room { KeepsRoom result.step.note (room_of self.old) (room_of self.new) }
+        ensures room { KeepsRoom result.step.note result.step.message (room_of self.old) (room_of self.new) }
 
         // What is told without a state: some bytes are heard, and all of them where the step is quiet.
         ensures bound { result.count ≤ length bytes.now }
@@ -258,7 +260,7 @@ impl<const N: usize> ReceiverOf<N> {
         ensures bound { result.count ≤ length bytes.now }
         ensures front { (r : ReceiverState) → IsIn N self.old r →
             HearsFront N bytes.now r self.old.spare result self.new }
-        ensures room { KeepsRoom result.step.note (room_of self.old) (room_of self.new) }
+        ensures room { KeepsRoom result.step.note result.step.message (room_of self.old) (room_of self.new) }
     {
         let (count, frame) = self.scanner.scan(bytes);
         if count == 0 {

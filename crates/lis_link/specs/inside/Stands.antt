@@ -57,11 +57,12 @@ room_of kept = length kept.held + kept.spare
 abbrev pub room_in : KeptLine → ℕ
 room_in line = length line.held + line.spare
 
--- it stays where no frame is accepted; where memory was refused it is no less
-abbrev pub KeepsRoom : Note → ℕ → ℕ → Type 0
-KeepsRoom (Accepted number) before after = ⊤
-KeepsRoom OutOfMemory before after = before ≤ after
-KeepsRoom note before after = after ≡ before
+-- it stays if no frame is accepted; if memory was refused it is no less; a text that is delivered takes its memory along
+abbrev pub KeepsRoom : Note → Option (List ℕ) → ℕ → ℕ → Type 0
+KeepsRoom (Accepted number) None before after = ⊤
+KeepsRoom (Accepted number) (Some text) before after = after ≡ 0
+KeepsRoom OutOfMemory message before after = before ≤ after
+KeepsRoom note message before after = after ≡ before
 
 -- a frame was taken: what is held and handed out, and that nothing else but the count has changed
 pub record IsTaken (old : KeptLine) (frame : FrameContent) (number : ℕ) (result : Step) (new : KeptLine) : Type 0 where

@@ -1,7 +1,7 @@
 //! The line as a receiver has it: all of its state but the scanner. It answers what the scanner tells.
 
 ghost use Rattle.std.specs.Prelude.{◌≡◌, ◌≢◌, ◌≤◌, ◌<◌, ◌+◌, ◌^◌, ℕ, length, [], IsTrue, OnOk, OnErr, None, Some};
-ghost use Rattle.std.specs.Prelude.{◌&&◌, ◌==◌, ◌%◌, false, nat_lt};
+ghost use Rattle.std.specs.Prelude.{◌&&◌, ◌==◌, ◌%◌, false, max, nat_lt};
 ghost use Rattle.lis_text.specs.LinkText.{longest_text};
 ghost use Rattle.lis_frame.specs.Scanner.{Held, heard_signal};
 ghost use Rattle.lis_frame.specs.declared.scanner.SignalOf.TheVariants as Signals;
@@ -112,15 +112,17 @@ impl Line {
         self.room = true;
     }
 
-    /// Makes room for `bytes` more bytes of held text. Where memory is refused the line is as before.
+    /// Makes room for `bytes` more bytes of held text, and for no more. If memory is refused the line is as before.
     pub(crate) fn reserve(&mut self, bytes: u64) -> Result<(), AllocError>
         requires { bytes ≤ longest_text }
         ensures ok { OnOk result (bytes ≤ self.new.spare) }
+        ensures exact { OnOk result (self.new.spare ≡ max self.old.spare bytes) }
         ensures refused { OnErr result (self.old.spare < bytes) }
+        ensures same { OnErr result (self.new ≡ self.old) }
         ensures line { self.new ≡ record self.old { spare = self.new.spare } }
         ensures spare { self.old.spare ≤ self.new.spare }
     {
-        self.held.reserve(bytes as usize)
+        self.held.reserve_exact(bytes as usize)
     }
 
     /// Takes the room of a text for the held text, where there is none yet that is held and more room in the other.
@@ -174,7 +176,7 @@ impl Line {
             (kept_of self.new scanner) }
         ensures spare { (limit : ℕ) (scanner : Held) (r : ReceiverState) → IsIn limit (kept_of self.old scanner) r →
             SpareAfter self.old.spare self.new.spare (heard {limit = limit} (heard_signal told.entry) r).taken }
-        ensures room { KeepsRoom result.note (room_in self.old) (room_in self.new) }
+        ensures room { KeepsRoom result.note result.message (room_in self.old) (room_in self.new) }
     {
         match told {
             None => Step::of(None, Note::Quiet),
@@ -191,7 +193,7 @@ impl Line {
             Makes limit (bid_with r.readiness r) result (kept_of self.new scanner) }
         ensures note { result.note ≢ Notes.OutOfMemory }
         ensures spare { self.old.spare ≤ self.new.spare }
-        ensures room { KeepsRoom result.note (room_in self.old) (room_in self.new) }
+        ensures room { KeepsRoom result.note result.message (room_in self.old) (room_in self.new) }
     {
         self.close();
         match self.readiness {
@@ -214,7 +216,7 @@ impl Line {
             Makes limit (heard_by {limit = limit} r.is_open Signals.Eot r) result (kept_of self.new scanner) }
         ensures note { result.note ≢ Notes.OutOfMemory }
         ensures spare { self.old.spare ≤ self.new.spare }
-        ensures room { KeepsRoom result.note (room_in self.old) (room_in self.new) }
+        ensures room { KeepsRoom result.note result.message (room_in self.old) (room_in self.new) }
     {
         if !self.is_open {
             return Step::of(None, Note::Quiet);
@@ -229,7 +231,7 @@ impl Line {
             Makes limit (heard_by {limit = limit} r.is_open (Signals.Bad fault) r) result (kept_of self.new scanner) }
         ensures note { result.note ≢ Notes.OutOfMemory }
         ensures spare { self.old.spare ≤ self.new.spare }
-        ensures room { KeepsRoom result.note (room_in self.old) (room_in self.new) }
+        ensures room { KeepsRoom result.note result.message (room_in self.old) (room_in self.new) }
     {
         if !self.is_open {
             return Step::of(None, Note::Quiet);
@@ -251,7 +253,7 @@ impl Line {
         ensures spare { (limit : ℕ) (scanner : Held) (r : ReceiverState) → IsIn limit (kept_of self.old scanner) r →
             SpareAfter self.old.spare self.new.spare (heard_by {limit = limit} r.is_open (Signals.Good frame.now)
             r).taken }
-        ensures room { KeepsRoom result.note (room_in self.old) (room_in self.new) }
+        ensures room { KeepsRoom result.note result.message (room_in self.old) (room_in self.new) }
     {
         if !self.is_open {
             return Step::of(None, Note::Quiet);
@@ -273,7 +275,7 @@ impl Line {
             × (result.reply ≡ Some NAK) × (result.message ≡ None)
             × (self.old.spare ≤ self.new.spare) × (self.new ≡ record self.old { spare = self.new.spare }) }
         ensures spare { frame.now.last ≡ false → self.old.spare ≤ self.new.spare + length frame.now.text }
-        ensures room { KeepsRoom result.note (room_in self.old) (room_in self.new) }
+        ensures room { KeepsRoom result.note result.message (room_in self.old) (room_in self.new) }
     {
         if let Err(_) = self.held.extend_from_slice(frame.text()) {
             return Step::of(Some(NAK), Note::OutOfMemory);
@@ -294,7 +296,7 @@ impl Line {
     /// Hands the held text out.
     fn hand_out(&mut self) -> LinkText
         ensures text { result ≡ self.old.held }
-        ensures state { self.new ≡ record self.old { held = []; spare = self.new.spare } }
+        ensures state { self.new ≡ record self.old { held = []; spare = 0 } }
     {
         let held = mem::replace(&mut self.held, Vec::new(self.alloc));
         List::from_vec(held)
