@@ -25,3 +25,5 @@ mod scanning;
 mod splitting;
 #[cfg(test)]
 mod text;
+#[cfg(test)]
+mod without_memory;

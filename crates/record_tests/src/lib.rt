@@ -17,3 +17,5 @@ mod parts;
 mod record;
 #[cfg(test)]
 mod records;
+#[cfg(test)]
+mod without_memory;

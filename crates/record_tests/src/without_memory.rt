@@ -1,0 +1,194 @@
+//! Calls that take no memory, on values that have an allocator, and values that are made with memory for so many
+//! parts. The tests come in pairs: one makes its values, the other makes the calls on them too, or puts the parts into
+//! them. `tests/refusals` counts the growths of memory of both, those of memory that is released at once among them:
+//! they must be as many.
+
+use lis_field::*;
+use lis_message::{Fed, Found, Message, MessageReader, RecordReader, read_messages, write_message};
+use lis_port::Discard;
+use std::alloc::Global;
+use std::mem::drop;
+use std::process::Abort;
+
+const MESSAGE: &[u8] = b"H|\\^&\rP|1\rO|1|S7\rR|1|^^^GLU|5.4\rC|1|I|fasting\rL|1|N\r";
+
+/// A reader of messages that holds a record, and one that met a fault.
+fn a_reader(rt: &impl Abort, alloc: Global, asked: bool) {
+    let mut reader = MessageReader::new(alloc);
+    assert!(rt; reader.feed(b"H|\\^&\rP|1\rC|1|un").fault.is_none());
+    let mut failed = MessageReader::new(alloc);
+    assert!(rt; failed.feed(b"H|\\^&\rx\r").fault.is_some());
+    if asked {
+        assert!(rt; reader.held() == 6 && failed.held() == 0);
+        assert!(rt; failed.feed(b"L|1\r").fault.is_some());
+        assert!(rt; reader.finish().is_err());
+        assert!(rt; failed.finish().is_err());
+    } else {
+        drop(reader);
+        drop(failed);
+    }
+}
+
+#[test]
+fn a_reader_given(rt: HostRuntime) {
+    a_reader(&rt, rt.alloc(), false);
+}
+
+#[test]
+fn a_reader_asked(rt: HostRuntime) {
+    a_reader(&rt, rt.alloc(), true);
+}
+
+/// Reads a piece to its end, and counts its records.
+fn records_in(reader: &mut RecordReader, piece: &[u8]) -> u64 {
+    let mut rest = piece;
+    let mut count: u64 = 0;
+    for _turn in 0..=piece.len() {
+        let (behind, found) = reader.read(rest);
+        match found {
+            Found::Nothing | Found::Refused(_) => return count,
+            Found::Record(_) | Found::Held => count = count.saturating_add(1),
+        }
+        rest = behind;
+    }
+    count
+}
+
+/// A reader of records that holds the bytes of one, and a new one, which reads records that stand whole in a piece.
+fn some_records(rt: &impl Abort, alloc: Global, asked: bool) {
+    let mut reader = RecordReader::new(alloc);
+    assert!(rt; records_in(&mut reader, b"H|\\^&\rP|1\rO|1|") == 2);
+    if asked {
+        assert!(rt; reader.read_whole(b"S7\r").is_none());
+        assert!(rt; reader.held() == 4 && reader.next_place() == 3 && reader.finish().is_err());
+        assert!(rt; reader.cut().is_none());
+        let mut whole = RecordReader::new(alloc);
+        assert!(rt; whole.read_whole(MESSAGE).is_some());
+        drop(whole);
+        let mut other = RecordReader::new(alloc);
+        assert!(rt; records_in(&mut other, MESSAGE) == 6 && other.finish().is_ok());
+        drop(other);
+    }
+    drop(reader);
+}
+
+#[test]
+fn some_records_given(rt: HostRuntime) {
+    some_records(&rt, rt.alloc(), false);
+}
+
+#[test]
+fn some_records_asked(rt: HostRuntime) {
+    some_records(&rt, rt.alloc(), true);
+}
+
+/// A message is written, and its results are gone over.
+fn ask_message(rt: &impl Abort, message: &Message) {
+    let mut sink = Discard;
+    assert!(rt; write_message(&mut sink, message).is_ok());
+    assert!(rt; message.len() == 6 && message.groups().len() == 1 && message.notes().is_empty());
+    let mut count: u64 = 0;
+    for _result in message.results() {
+        count = count.saturating_add(1);
+    }
+    assert!(rt; count == 1);
+}
+
+fn a_message(rt: &impl Abort, alloc: Global, asked: bool) {
+    let Fed { messages, fault } = read_messages(alloc, MESSAGE);
+    assert!(rt; fault.is_none() && messages.len() == 1);
+    if asked && let Some(message) = messages.get(0) {
+        ask_message(rt, message);
+    }
+    drop(messages);
+}
+
+#[test]
+fn a_message_given(rt: HostRuntime) {
+    a_message(&rt, rt.alloc(), false);
+}
+
+#[test]
+fn a_message_asked(rt: HostRuntime) {
+    a_message(&rt, rt.alloc(), true);
+}
+
+#[test]
+fn new_readers_given(_rt: HostRuntime) {}
+
+#[test]
+fn new_readers_asked(rt: HostRuntime) {
+    drop(MessageReader::new(rt.alloc()));
+    drop(RecordReader::new(rt.alloc()));
+}
+
+/// A component with memory for so many symbols.
+fn a_component(rt: &impl Abort, alloc: Global, filled: bool) {
+    let mut component = Component::with_capacity(alloc, 40).expect(rt, "memory");
+    if filled {
+        for byte in 0..40u8 {
+            assert!(rt; component.push(Sym::Raw(byte)).is_ok());
+        }
+    }
+    drop(component);
+}
+
+#[test]
+fn a_component_given(rt: HostRuntime) {
+    a_component(&rt, rt.alloc(), false);
+}
+
+#[test]
+fn a_component_asked(rt: HostRuntime) {
+    a_component(&rt, rt.alloc(), true);
+}
+
+/// A repeat of one letter. It takes no memory.
+fn repeat_of(rt: &impl Abort, alloc: Global, letter: u8) -> Repeat {
+    let component = Component::from_text(alloc, &[letter]).expect(rt, "memory");
+    Repeat::new(alloc, component).expect(rt, "memory")
+}
+
+/// A field with memory for so many repeats.
+fn a_field(rt: &impl Abort, alloc: Global, filled: bool) {
+    let first = repeat_of(rt, alloc, b'A');
+    let mut field = Field::with_capacity(alloc, first, 9).expect(rt, "memory");
+    if filled {
+        for letter in b'B'..=b'I' {
+            assert!(rt; field.push(repeat_of(rt, alloc, letter)).is_ok());
+        }
+    }
+    drop(field);
+}
+
+#[test]
+fn a_field_given(rt: HostRuntime) {
+    a_field(&rt, rt.alloc(), false);
+}
+
+#[test]
+fn a_field_asked(rt: HostRuntime) {
+    a_field(&rt, rt.alloc(), true);
+}
+
+/// A record with memory for so many fields.
+fn a_record(rt: &impl Abort, alloc: Global, filled: bool) {
+    let mut record = Record::with_capacity(alloc, Kind::C, 9).expect(rt, "memory");
+    if filled {
+        for letter in b'A'..=b'I' {
+            let field = Field::new(alloc, repeat_of(rt, alloc, letter)).expect(rt, "memory");
+            assert!(rt; record.push(field).is_ok());
+        }
+    }
+    drop(record);
+}
+
+#[test]
+fn a_record_given(rt: HostRuntime) {
+    a_record(&rt, rt.alloc(), false);
+}
+
+#[test]
+fn a_record_asked(rt: HostRuntime) {
+    a_record(&rt, rt.alloc(), true);
+}
