@@ -94,7 +94,7 @@ class PostgresStore(SqlStore):
             self.run("BEGIN")
             self.apply(units)
             self._committed()
-        except (self._driver.Error, StoreError) as error:
+        except Exception as error:  # whatever it is, nothing of it may stay in the transaction
             self._give_up()
             raise StoreError(f"PostgreSQL: {_first_line(error)}") from None
 

@@ -75,7 +75,7 @@ class SqliteStore(SqlStore):
             self.run("BEGIN IMMEDIATE")
             self.apply(units)
             self.run("COMMIT")
-        except (sqlite3.Error, StoreError) as error:
+        except Exception as error:  # whatever it is, nothing of it may stay in the transaction
             self._undo()
             raise StoreError(f"{self.path}: {error}") from None
 
