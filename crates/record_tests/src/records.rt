@@ -66,5 +66,7 @@ fn a_record_that_is_refused_is_not_lent(rt: HostRuntime) {
     assert!(rt; matches!(reader.read(b"P|"), (_, Found::Nothing)));
     assert!(rt; matches!(reader.read(b"1\r"), (_, Found::Refused(_))));
     assert!(rt; reader.cut().is_none());
+    // Nothing is read on.
+    assert!(rt; matches!(reader.read(b"H|\\^&\r"), (_, Found::Refused(_))));
     drop(reader);
 }
