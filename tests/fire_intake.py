@@ -1,0 +1,78 @@
+"""What a host keeps of texts by chance: every byte, in order, and the messages that a reader of the whole stream finds."""
+import hashlib
+import random
+
+from lislink import Found, read_all
+from lislink.host.intake import Intake
+from lislink.host.store import WHOLE, Add, Begin
+
+HEADS = (b"H|\\^&|||A\r", b"H|\\^&\r", b"h*!+-\r", b"H|^^^\r", b"P|1\r")
+RECORDS = (b"P|1\r", b"O|1|S7\r", b"R|1|^^^GLU|5\r", b"C|1\r", b"\r", b"X|1\r", b"H|\\^&\r", b"R|\x02\r")
+
+
+def run(count, soak):
+    streams = 20000 if soak else 2000
+    count.same(f"intake: {streams} random streams", wrong(random.Random(9), streams), [])
+    right = Intake._pass_over
+    try:
+        Intake._pass_over = lambda self, one, text, start, changes: len(text)
+        count.true("an intake that forgets is noticed", bool(wrong(random.Random(9), 50)))
+    finally:
+        Intake._pass_over = right
+
+
+def random_stream(rng):
+    """Messages, some of which can't be read."""
+    out = []
+    for _ in range(rng.randrange(1, 8)):
+        out.append(rng.choice(HEADS))
+        out += rng.choices(RECORDS, k=rng.randrange(6))
+        out += [b"L|1|N\r"] * (rng.random() < 0.8)
+    return b"".join(out)
+
+
+def random_texts(rng, stream):
+    """The stream in pieces, cut anywhere."""
+    texts, at = [], 0
+    while at < len(stream):
+        size = rng.randrange(1, rng.choice((12, 60)))
+        texts.append(stream[at : at + size])
+        at += size
+    return texts
+
+
+def wrong(rng, streams):
+    """The streams of which a host keeps something else."""
+    found = []
+    for number in range(streams):
+        stream = random_stream(rng)
+        by_record = number % 2 == 0
+        texts = [one + b"\r" for one in stream.split(b"\r")[:-1]] if by_record else random_texts(rng, stream)
+        if not is_kept(stream, texts, by_record):
+            found.append(stream)
+    return found
+
+
+def is_kept(stream, texts, by_record):
+    """Whether every byte is kept in order, each message ends once, and whole ones are those that can be read."""
+    intake = Intake("line", "peer", "latin-1", 1 << 20, lambda: 0.0)
+    changes = [change for text in texts for change in intake.take(text)] + intake.drop("the end")
+    bodies, ends = {}, {}
+    for change in changes:
+        if isinstance(change, Begin):
+            bodies[change.key] = []
+        elif isinstance(change, Add):
+            if change.key in ends or change.place != len(bodies[change.key]):
+                return False
+            bodies[change.key].append(change.body)
+        else:
+            body = b"".join(bodies[change.key])
+            if change.key in ends or (change.digest, change.size) != (hashlib.sha256(body).hexdigest(), len(body)):
+                return False
+            ends[change.key] = change
+    kept = b"".join(change.body for change in changes if isinstance(change, Add))
+    wholes = [b"".join(bodies[key]) for key, end in ends.items() if end.state == WHOLE]
+    good = all([isinstance(one, Found) for one in read_all(body)] == [True] for body in wholes)
+    if by_record:
+        good = good and len(wholes) == sum(isinstance(one, Found) for one in read_all(stream))
+    return good and kept == stream and set(bodies) == set(ends)
