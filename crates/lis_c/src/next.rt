@@ -24,14 +24,14 @@ pub struct LisTable {
     pub delimiters: LisDelimiters,
 }
 
-/// Reads the next record if it is whole in the bytes, with its CR, and answers how many bytes it read; `out` tells it as
-/// `lis_reader_read` does. All its parts are put to the front of `parts`, as by `lis_record_parts`; their offsets are
+/// Reads the next record if it is whole in the bytes, with its CR, and answers how many bytes it read; `out` has it as from
+/// `lis_reader_read`. All its parts are put to the front of `parts`, as by `lis_record_parts`; their offsets are
 /// in the bytes. Its text is the bytes that were read without the last one, the CR: nothing is copied, held or
 /// allocated.
 ///
 /// It answers 0, and the reader is as it was, `out` and `table` are 0 and no part is put, if no CR is among the bytes, if
 /// the record can't come next, after a fault, or if `lis_reader_read` holds bytes or found a record last: then
-/// `lis_reader_read` tells what there is.
+/// `lis_reader_read` says what there is.
 #[unsafe(no_mangle)]
 pub extern "C" fn lis_reader_next(
     s: &mut LisReader,
@@ -82,7 +82,7 @@ impl ReaderDesk {
     }
 }
 
-/// Tells no table.
+/// Clears a table.
 fn clear_table(table: &mut LisTable)
     ensures { table.new ≡ no_table }
 {

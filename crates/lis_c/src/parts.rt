@@ -22,7 +22,7 @@ use lis_part::LentSymbols;
 use lis_record::lend_header;
 use lis_table::{LisPart, put_places};
 
-/// Puts the places of all components of a header to the front of a table, in the text's order, and tells how many they
+/// Puts the places of all components of a header to the front of a table, in the text's order, and says how many they
 /// are. Offsets are in the text; fields are counted as the standard does, from 3 in a header; repeats and components
 /// from 0. `OK`; `TOO_SHORT`, and as many are put as there is room for; else as `lis_header_read`, and nothing is put.
 /// A text has more bytes than components.
@@ -67,7 +67,7 @@ pub extern "C" fn lis_record_parts(
     }
 }
 
-/// Copies what the bytes of a component mean, without its escapes, to the front of a buffer, and tells how many bytes
+/// Copies what the bytes of a component mean, without its escapes, to the front of a buffer, and says how many bytes
 /// they are: `OK`; `TOO_SHORT` if the buffer is (one as long as the component never is); or `BAD_DELIMITERS`.
 #[unsafe(no_mangle)]
 pub extern "C" fn lis_part_decode(

@@ -244,7 +244,7 @@ pub(crate) fn copy_part(
     tell_symbols(part.symbols(), out, size)
 }
 
-/// Copies the bytes that symbols mean, and tells how many they are.
+/// Copies the bytes that symbols mean, and says how many they are.
 pub(crate) fn tell_symbols(symbols: LentSymbols<'_>, out: &mut [u8], size: &mut usize) -> u8
     requires { size.old ≡ 0 }
     ensures copied { IsCopied (plain symbols.entry) result out.new size.new }
