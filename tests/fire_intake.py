@@ -1,4 +1,4 @@
-"""What a host keeps of texts by chance: every byte, in order, and the messages that a reader of the whole stream finds."""
+"""What a host keeps of random texts: every byte, in order, and the messages that a reader of the whole stream finds."""
 import hashlib
 import random
 
