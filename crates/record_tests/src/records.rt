@@ -70,3 +70,13 @@ fn a_record_that_is_refused_is_not_lent(rt: HostRuntime) {
     assert!(rt; matches!(reader.read(b"H|\\^&\r"), (_, Found::Refused(_))));
     drop(reader);
 }
+
+#[test]
+fn bytes_of_a_record_that_is_lent_are_not_held(rt: HostRuntime) {
+    let mut reader = RecordReader::new(rt.alloc());
+    assert!(rt; matches!(reader.read(b"H|\\^&"), (_, Found::Nothing)));
+    assert!(rt; reader.held() == 5);
+    assert!(rt; matches!(reader.read(b"\r"), (_, Found::Held)));
+    assert!(rt; reader.held() == 0);
+    drop(reader);
+}
