@@ -1,8 +1,10 @@
-//! What no conformance row and no test of the program says: how many reads a run makes.
+//! What no conformance row and no test of the program says: how many reads a run makes, and how it ends if one fails or
+//! a write does.
 
 use lis_message::{MessageFault, Reason};
-use lis_port::{Cut, Slow, Source, Then};
+use lis_port::{Cut, Faltering, Slow, Source, Then, Writing};
 use lis_tool::{Refused, Report, ToolFault, run_check, run_show};
+use std::io::ErrorKind;
 
 #[test]
 fn reads_are_counted(rt: HostRuntime) {
@@ -15,6 +17,7 @@ fn reads_are_counted(rt: HostRuntime) {
         (Then::End, 1, over, b"ENQ\n".as_slice()),
         (Then::End, 2, whole, b"ENQ\n"),
         (Then::Again(5), 3, over, b"ENQ\nENQ\nENQ\n"),
+        (Then::Fail, 3, Err(ToolFault::Read), b"ENQ\n"),
     ] {
         let mut source = Cut::new(b"\x05", 1, then);
         let mut sink = Slow::new(100, 100);
@@ -51,4 +54,24 @@ fn a_refusal_ends_the_run_before_the_next_read(rt: HostRuntime) {
     let refused = Some(Refused { message: 2, fault });
     assert!(rt; (ended, source.made()) == (Ok(Report { status: 1, refused }), 1));
     assert!(rt; sink.took() == CHECKED);
+}
+
+#[test]
+fn a_failed_write_ends_the_run(rt: HostRuntime) {
+    let mut source = Cut::new(b"\x05", 1, Then::End);
+    let mut sink = Slow::new(2, 1);
+    assert!(rt; run_show(&mut source, &mut sink, 5) == Err(ToolFault::Write { written: 2 }));
+    assert!(rt; sink.took() == b"EN".as_slice());
+}
+
+#[test]
+fn a_failed_flush_ends_the_run(rt: HostRuntime) {
+    // Calls 0 and 2 are the flushes before the reads, call 1 is the write.
+    for (before, written) in [(0, 0), (1, 0), (2, 4)] {
+        let mut room = [0; 8];
+        let writer = Faltering::new(room.as_mut_slice(), before, ErrorKind::BrokenPipe);
+        let mut source = Cut::new(b"\x05", 1, Then::End);
+        let ended = run_show(&mut source, &mut Writing::new(writer), 5);
+        assert!(rt; ended == Err(ToolFault::Write { written }));
+    }
 }

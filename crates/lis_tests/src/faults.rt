@@ -1,7 +1,7 @@
 //! What each fault says of itself that no test of the program shows, a line for each.
 
-use lis_message::{MessageFault, Reason, TextsFault};
-use lis_tool::ToolFault;
+use lis_message::{Kind, MessageFault, Reason, RecordFault, TextsFault};
+use lis_tool::{Refused, ToolFault};
 use lis_world::PlayFault;
 use std::alloc::AllocError;
 use std::mem::drop;
@@ -29,4 +29,24 @@ fn faults_say_what_is_wrong(rt: HostRuntime) {
         memory was refused\n";
     assert!(rt; told.as_str() == want);
     drop(told);
+}
+
+#[test]
+fn a_refused_record_is_printed_with_its_code(rt: HostRuntime) {
+    for (reason, want) in [
+        (Reason::BadRecord(RecordFault::Empty), "refused 2 3 G1 C1"),
+        (Reason::NotHeader, "refused 2 3 G2"),
+        (Reason::NoParent(Kind::R), "refused 2 3 G3"),
+        (Reason::SecondHeader, "refused 2 3 G4"),
+        (Reason::Unfinished, "refused 2 3 G5"),
+        (Reason::RecordTooLong, "refused 2 3 G6"),
+    ] {
+        let fault = MessageFault { place: 3, reason };
+        let printed = format!(in rt.alloc(); "{}", Refused { message: 2, fault }).expect(
+            &rt, "memory",
+        );
+        let is_wanted = printed.as_str() == want;
+        drop(printed);
+        assert!(rt; is_wanted);
+    }
 }

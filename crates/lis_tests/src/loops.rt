@@ -1,9 +1,10 @@
 //! The loops that the guide quotes, over a line in memory that follows a script and keeps a log.
 
+use lis_frame::Scanner;
 use lis_link::{Outcome, Receiver, Sender};
 use lis_message::Message;
 use lis_port::Slow;
-use lis_text::{ACK, CR, ENQ, EOT, ETX, LF, NAK, STX, Texts};
+use lis_text::{ACK, CR, ENQ, EOT, ETX, LF, LinkText, NAK, STX, Texts};
 use lis_tool::ToolFault;
 use std::alloc::Global;
 use std::mem::drop;
@@ -12,6 +13,7 @@ use uses::analyzer::send_texts;
 use uses::building::{result_message, result_texts};
 use uses::capture::is_as_played;
 use uses::computer::next_text;
+use uses::frames::ends_message;
 use uses::line::Event;
 use uses::results::{Reading, count_results, readings};
 use uses::resuming::write_to_both;
@@ -183,6 +185,33 @@ fn a_text_that_is_not_kept_gets_no_reply(rt: HostRuntime) {
     drop(line);
 }
 
+#[test]
+fn a_frame_that_comes_again_gets_no_reply_if_its_text_is_not_kept(rt: HostRuntime) {
+    let mut events = Vec::new(rt.alloc());
+    for event in RECEIVED.as_slice().split_at(9).0 {
+        events.push(*event).expect(&rt, "memory");
+    }
+    for event in RECEIVED.as_slice().split_at(9).0.split_at(1).1 {
+        events.push(*event).expect(&rt, "memory");
+    }
+    let mut line = ScriptedLine::new(rt.alloc(), events.as_slice()).with_answers(&[false]);
+    let mut receiver = Receiver::new(rt.alloc());
+    assert!(rt; next_text(&mut line, &mut receiver).is_none());
+    drop(receiver);
+    assert_done(&rt, rt.alloc(), &line, b"WSTWWWWWWWWNWWWWWWWWW");
+    drop(line);
+    drop(events);
+}
+
+#[test]
+fn the_last_frame_ends_a_message(rt: HostRuntime) {
+    let mut scanner = Scanner::new();
+    for byte in b"\x021A\x1789\r\n\x022A\x0376\r".as_slice() {
+        assert!(rt; !ends_message(&mut scanner, *byte));
+    }
+    assert!(rt; ends_message(&mut scanner, LF));
+}
+
 /// The bytes that were sent on a line, as events on the other end's.
 fn sent_on(rt: &impl Abort, alloc: Global, line: &ScriptedLine<'_>) -> Vec<Event> {
     let mut events = Vec::new(alloc);
@@ -316,9 +345,20 @@ fn assert_reading(rt: &impl Abort, found: &[Reading]) {
 #[test]
 fn a_message_has_a_text_for_each_record(rt: HostRuntime) {
     let texts = result_texts(rt.alloc(), b"S7", b"5.4").expect(&rt, "texts");
-    let count = texts.len();
+    assert!(rt; texts.len() == 5);
+    assert_texts(&rt, texts.as_slice());
     drop(texts);
-    assert!(rt; count == 5);
+}
+
+/// Fails where texts aren't the records of one result.
+fn assert_texts(rt: &impl Abort, texts: &[LinkText]) {
+    let mut rest = RESULT;
+    for text in texts {
+        let (front, behind) = rest.split_at(text.len().min(rest.len()));
+        assert!(rt; text.as_slice() == front);
+        rest = behind;
+    }
+    assert!(rt; rest.is_empty());
 }
 
 #[test]
@@ -335,6 +375,7 @@ fn a_message_is_built_written_and_read(rt: HostRuntime) {
 fn results_in_pieces_are_counted(rt: HostRuntime) {
     let (front, rest) = RESULT.split_at(20);
     assert!(rt; count_results(rt.alloc(), &[front, rest]) == Ok(1));
+    assert!(rt; count_results(rt.alloc(), &[RESULT, front, rest]) == Ok(2));
 }
 
 #[test]
