@@ -100,6 +100,7 @@ def run(count, soak):
     try:
         killed(count, server, 200 if soak else 10)
         two_hosts(count, server)
+        started_while_another_commits(count, server)
         other_tables(count, server)
     finally:
         server.end()
@@ -173,6 +174,34 @@ def two_hosts(count, server):
     done = lislab("deliver", "--store", store, "--cursor", cursor, "--once", "--directory", folder)
     count.same("PostgreSQL: a delivery", (done.returncode, len(os.listdir(folder))), (0, 3))
     count.same("PostgreSQL: the host's status", host.stop(), 0)
+
+
+def started_while_another_commits(count, server):
+    """A host starts while another holds the table as a commit does, and waits for none: each would wait for the other."""
+    store = server.address("commits")
+    Host(store).stop()
+    lock = "LOCK TABLE message IN ROW EXCLUSIVE MODE; SELECT pg_sleep(60)"
+    address = ["-h", "127.0.0.1", "-p", str(server.port), "-U", "lis", "commits"]
+    with subprocess.Popen(
+        [os.path.join(server.programs, "psql"), "-c", lock, *address], stdout=subprocess.DEVNULL
+    ) as other:
+        asked = "SELECT count(*) FROM pg_locks WHERE mode = 'RowExclusiveLock' AND relation = 'message'::regclass"
+        for _ in range(100):
+            held = subprocess.run(
+                [os.path.join(server.programs, "psql"), "-Atc", asked, *address],
+                capture_output=True,
+                text=True,
+                check=False,
+            )
+            if held.stdout.strip() == "1":
+                break
+            time.sleep(0.05)
+        try:
+            status, why = Host(store, "--host-name", "second").stop(), ""
+        except RuntimeError as error:
+            status, why = None, str(error)
+        other.terminate()
+    count.same(f"PostgreSQL: a start while another host commits {why}", (held.stdout.strip(), status), ("1", 0))
 
 
 def other_tables(count, server):

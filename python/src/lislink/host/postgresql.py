@@ -85,6 +85,11 @@ class PostgresStore(SqlStore):
             self._give_up()
             raise StoreError(f"PostgreSQL: {_first_line(error)}") from None
 
+    def has_tables(self) -> bool:
+        """Whether they are there: to ask for an index again would lock its table, and wait for a host that commits
+        while that host waits for the numbers, which this one has."""
+        return self.run("SELECT to_regclass('message_not_whole')").fetchone()[0] is not None
+
     def lock_numbers(self) -> None:
         """Numbers are given one host after another, so that they follow the order of the commits."""
         self.run("SELECT pg_advisory_xact_lock(?, 0)", (_NUMBERS,))

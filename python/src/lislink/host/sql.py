@@ -42,9 +42,13 @@ class SqlStore(Store):
     def lock_numbers(self) -> None:
         """Makes the numbering of whole messages this transaction's own until it ends."""
 
+    def has_tables(self) -> bool:
+        """Whether the tables are known to be there."""
+        return False
+
     def make_tables(self) -> None:
         """Makes the tables that are missing; StoreError if they are a later program's."""
-        for statement in TABLES:
+        for statement in () if self.has_tables() else TABLES:
             text = statement.replace("{blob}", self.blob)
             self.run(text + (self.tail if "TABLE IF NOT EXISTS text" in text else ""))
         found = self.run("SELECT value FROM about WHERE name = 'schema'").fetchone()
