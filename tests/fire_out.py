@@ -24,6 +24,20 @@ def run(count, soak):
         one_host(count, store)
     of_modes(count)
     of_restored(count)
+    of_no_library(count)
+
+
+def of_no_library(count):
+    """Without the library a host doesn't start, since it could answer nobody."""
+    done = subprocess.run(
+        [sys.executable, "-m", "lislink", "serve", "--store", count.path("none.db"), "--listen", "0"],
+        env={**ENV, "LISLINK_LIBRARY": count.path("none.so")},
+        capture_output=True,
+        text=True,
+        timeout=20,
+        check=False,
+    )
+    count.same("no library: the status, and what is said", (done.returncode, done.stdout), (3, ""))
 
 
 def records():

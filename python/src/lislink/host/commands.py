@@ -6,6 +6,7 @@ import socket
 import sys
 from typing import Any, Callable, Iterator, List, Optional
 
+from .._library import calls
 from . import deliver, export, options, send, serve, status
 from .options import Limits, OptionError
 from .store import UNFINISHED, UNREADABLE, WHOLE, Store, open_store
@@ -97,6 +98,7 @@ def run_serve(ask: argparse.Namespace) -> int:
     serve.check_frames([*listens, *serials])
     if not 0 < ask.reply_within < 15:
         raise OptionError("--reply-within is below the analyzer's timer of 15 seconds")
+    calls()  # without the library no line could be answered
     limits = Limits(ask.lines, ask.message_bytes, ask.idle, ask.reply_within, ask.grace, ask.scale)
     os.umask(0o077)
     store = open_store(ask.store)
