@@ -589,6 +589,13 @@ class Answers:
         read = read_frame(bytes_of(stretch), self.limit)
         return f"fault {read}" if isinstance(read, str) else frame_word(read)
 
+    def frame_make(self, number, last, text):
+        fault = text_fault(bytes_of(text), self.limit)
+        if fault or int(number) > 7:
+            return f"fault {fault}" if fault else "none"
+        frame = Frame(int(number), last == "end", bytes_of(text))
+        return f"{frame_word(frame)} {unit_bytes(frame).hex()}"
+
     def frame_scan(self, _, stream):
         told = signals(bytes_of(stream), self.limit)
         return " ".join(f"{place}={signal_word(signal)}" for place, signal in told) or "none"
