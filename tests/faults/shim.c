@@ -1,5 +1,5 @@
 /* Stands between a tested program and the C library, by LD_PRELOAD: it counts growths of memory, reads of standard input
-   and writes of standard output, and refuses or shortens those that the test picks. tests/shim.py builds and drives it.
+   and writes of standard output, and refuses or shortens those that the test picks. shim.py builds and drives it.
 
    What it is to do and what it counted is a table of numbers in the file that SHIM names, shared with the test. */
 #define _GNU_SOURCE
@@ -11,7 +11,7 @@
 #include <sys/mman.h>
 #include <unistd.h>
 
-/* The table's numbers, in the order of tests/shim.py. */
+/* The table's numbers, in the order of shim.py. */
 struct table {
     long armed;       /* whether growths count */
     long refuse;      /* the growth that is refused, from 1; 0 for none, -1 for each */
