@@ -86,7 +86,7 @@ def by_pkg_config(test, work, how):
     test.runs([*words, "-static", *flags])
     test.runs([f"{work}/try"], f"{version()}\n")
     archive = printed(test, ["pkg-config", "--variable=archive", "lislink"], **how).strip()
-    test.runs([*words, *test.runs(["pkg-config", "--cflags", "lislink"], **how).split(), archive])
+    test.runs([*words, *printed(test, ["pkg-config", "--cflags", "lislink"], **how).split(), archive])
     test.runs([f"{work}/try"], f"{version()}\n")
     test.runs(["pkg-config", "--modversion", "lislink"], f"{version()}\n", **how)
 
