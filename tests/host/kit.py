@@ -1,45 +1,115 @@
-"""What the tests by fire share: hosts as processes of their own, analyzers, and what a store has against what was
+"""What the tests of the host share: hosts as processes of their own, analyzers, and what a store has against what was
 acknowledged."""
+import hashlib
 import json
 import os
 import signal
 import subprocess
 import sys
+import tempfile
 import time
+from typing import NamedTuple
 
-from field_kit import ROOT
+import checks
 from lislink.host.store import open_store
 
+ROOT = os.path.dirname(os.path.dirname(os.path.dirname(os.path.abspath(__file__))))
 #: Each timer of the standard is so many times as long: 15 seconds are 0.3.
 SCALE = 0.02
-ENV = {**os.environ, "PYTHONPATH": os.path.join(ROOT, "python", "src"), "PYTHONDONTWRITEBYTECODE": "1"}
-FAULTY = os.path.join(ROOT, "tests", "fire_faulty.py")
+ENV = {**os.environ, "PYTHONPATH": os.environ["LISLINK_SOURCE"], "PYTHONDONTWRITEBYTECODE": "1"}
+FAULTY = os.path.join(ROOT, "tests", "host", "faulty.py")
+
+
+class Part(NamedTuple):
+    """A part of a long run: its test, and its size in the gate and in a long run."""
+
+    test: str
+    gate: int
+    soak: int
+
+
+#: Kills of a host on each store, seconds of a store that fails, seconds of 200 analyzers, messages, random streams.
+PARTS = {
+    "kills": Part("test_kills.Kills.test_sqlite", 20, 1000),
+    "spool": Part("test_kills.Kills.test_spool", 5, 250),
+    "postgres": Part("test_postgres.Postgres.test_kills", 10, 200),
+    "failing": Part("test_kills.Kills.test_failing_store", 6, 600),
+    "analyzers": Part("test_load.Load.test_200_analyzers", 12, 300),
+    "messages": Part("test_load.Load.test_memory", 3000, 1000000),
+    "streams": Part("test_intake.Streams.test_random_streams", 2000, 20000),
+}
+_SIZES = {name: part.gate for name, part in PARTS.items()}
+
+
+def size(part):
+    """The size of a part of this run."""
+    return _SIZES[part]
+
+
+def take_sizes(words):
+    """Takes the sizes of a long run, each `PART=SIZE` or `PART`: the tests to run; None if a word is none of these."""
+    wanted = []
+    for word in words or list(PARTS):
+        name, _, number = word.partition("=")
+        if name not in PARTS or (number and not number.isdigit()):
+            return None
+        _SIZES[name] = int(number) if number else PARTS[name].soak
+        wanted.append(PARTS[name].test)
+    return wanted
+
+
+def say(text):
+    """A line about how a run goes."""
+    print(f"host: {text}", flush=True)
+
+
+#: The processes of the test that runs.
+_PROCESSES = []
+
+
+class Checks(checks.Checks):
+    """Tests whose processes end with them, however they end."""
+
+    def tearDown(self):
+        for one in _PROCESSES:
+            if one.poll() is None:
+                one.kill()
+                one.wait()
+        _PROCESSES.clear()
+
+
+def process(words, **how):
+    """A process of this test."""
+    one = subprocess.Popen([sys.executable, *words], **{"text": True, "env": ENV, **how})
+    _PROCESSES.append(one)
+    return one
 
 
 class Host:
     """`lislab serve` as a process; with a fault, a wrong one."""
 
-    def __init__(self, store, *words, fault=None, python=sys.executable, scale=SCALE, port=0, listen=True, **how):
-        self.store, self.words, self.fault, self.python, self.scale = store, words, fault, python, scale
-        self.port, self.listen, self.how = port, listen, how
+    def __init__(self, store, *words, fault=None, scale=SCALE, listen=True, **how):
+        self.store, self.words, self.fault, self.scale = store, words, fault, scale
+        self.port, self.listen, self.how = 0, listen, how
         self.errors = []
         self.start()
 
     def start(self):
         """Starts it, on the same port as before."""
         program = [FAULTY, self.fault] if self.fault else ["-m", "lislink"]
-        words = [self.python, *program, "serve", "--store", self.store, "--scale", str(self.scale)]
+        words = [*program, "serve", "--store", self.store, "--scale", str(self.scale)]
         if self.listen:
             words += ["--listen", f"127.0.0.1:{self.port},name=fire"]
-        self.process = subprocess.Popen(
-            [*words, *self.words], stdout=subprocess.PIPE, stderr=subprocess.PIPE, text=True, env=ENV, **self.how
-        )
+        self.said = tempfile.TemporaryFile("w+", encoding="utf-8")
+        self.process = process([*words, *self.words], stdout=subprocess.PIPE, stderr=self.said, **self.how)
         for row in self.process.stdout:
             if row.startswith("listening"):
                 self.port = int(row.split()[1].rsplit(":", 1)[1])
             if row == "ready\n":
                 return
-        raise RuntimeError(f"the host didn't start: {self.process.stderr.read()}")
+        self.process.wait()
+        self._close()
+        raise RuntimeError(f"the host didn't start: {self.errors[-1]}")
 
     def kill(self):
         """Kills it, as a machine dies that loses its power."""
@@ -59,9 +129,10 @@ class Host:
         return status
 
     def _close(self):
-        self.errors.append(self.process.stderr.read())
+        self.said.seek(0)
+        self.errors.append(self.said.read())
         self.process.stdout.close()
-        self.process.stderr.close()
+        self.said.close()
 
     def memory(self):
         """Its resident memory, in KiB."""
@@ -79,24 +150,9 @@ def lislab(*words, **how):
 
 def sending(port, *words, scale=SCALE):
     """`lislab send` as a process that goes on."""
-    return subprocess.Popen(
-        [
-            sys.executable,
-            "-m",
-            "lislink",
-            "send",
-            "--to",
-            f"127.0.0.1:{port}",
-            "--scale",
-            str(scale),
-            "--quiet",
-            *words,
-        ],
-        stdout=subprocess.DEVNULL,
-        stderr=subprocess.PIPE,
-        text=True,
-        env=ENV,
-    )
+    to = ["--to", f"127.0.0.1:{port}", "--scale", str(scale), "--quiet"]
+    words = ["-m", "lislink", "send", *to, *words]
+    return process(words, stdout=subprocess.DEVNULL, stderr=subprocess.PIPE)
 
 
 def acknowledged(log):
@@ -118,8 +174,6 @@ class Found:
             self.counts = one.counts()
         finally:
             one.close()
-        import hashlib
-
         self.digests = {}
         for message in self.whole:
             digest = hashlib.sha256(message.body).hexdigest()
