@@ -18,20 +18,23 @@ class Checks(unittest.TestCase):
         """A file of this class."""
         return os.path.join(self.folder.name, name)
 
-    def same(self, name, found, wanted):
-        """Whether what was found is what is wanted."""
-        with self.subTest(name):
-            self.assertTrue(found == wanted, f"{found!r}, wanted {wanted!r}")
-
     def true(self, name, holds, why=""):
         """Whether something holds."""
         with self.subTest(name):
-            self.assertTrue(holds, why)
+            if not holds:
+                self.fail(_short(why))
+
+    def same(self, name, found, wanted):
+        """Whether what was found is what is wanted."""
+        self.true(name, found == wanted, f"{_short(repr(found))}, wanted {_short(repr(wanted))}")
 
     def has(self, name, text, part):
         """Whether a text has a part."""
-        with self.subTest(name):
-            self.assertTrue(part in text, f"{part!r} isn't in {text[-1500:]!r}")
+        self.true(name, part in text, f"{part!r} isn't in {text!r}")
+
+
+def _short(text):
+    return text if len(text) <= 1000 else f"{text[:500]} .. {text[-400:]}"
 
 
 class Result(unittest.TestResult):

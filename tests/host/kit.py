@@ -134,6 +134,10 @@ class Host:
         self.process.stdout.close()
         self.said.close()
 
+    def says(self):
+        """What it has said on standard error so far."""
+        return os.pread(self.said.fileno(), 1 << 20, 0).decode("utf-8", "replace")
+
     def memory(self):
         """Its resident memory, in KiB."""
         with open(f"/proc/{self.process.pid}/status", encoding="ascii") as file:

@@ -31,7 +31,9 @@ WITH_THEIR_OWN = (
     "test_load.Load.test_a_host_that_grows",
     "test_out.OutOfSpool.test_hasty_delivery",
     "test_out.OutOfSqlite.test_hasty_delivery",
+    "test_postgres.OutOfPostgres.test_hasty_delivery",
     "test_planted.Planted.test_table",
+    "test_units.Units.test_units",
 )
 #: The other tests, and what each must notice.
 FAULTS = {
@@ -41,7 +43,9 @@ FAULTS = {
         'self._end(UNFINISHED, "a header',
     ),
     "test_kills.Kills.test_sqlite": Edit(
-        "host/line.py", "await self._committer.put(changes)", "self._committer.put_later(changes)"
+        "host/sqlite.py",
+        'self.run("COMMIT")\n        except',
+        'if self._db.total_changes % 9:\n                self.run("COMMIT")\n        except',
     ),
     "test_kills.Kills.test_spool": Edit(
         "host/spool.py",
@@ -76,11 +80,11 @@ FAULTS = {
     "test_lines.Lines.test_limits": Edit(
         "host/serve.py", "len(host.lines) >= host.limits.lines", "len(host.lines) > host.limits.lines"
     ),
+    "test_lines.Lines.test_peers": Edit("host/serve.py", "if peer is None:", "if peer == 0:"),
     "test_lines.Lines.test_quarantine": Edit("host/intake.py", "one.fault or reason, changes", "reason, changes"),
     "test_lines.Lines.test_stop": Edit(
         "host/line.py", "(self._stopping and not self._receiver.is_open)", "self._stopping"
     ),
-    "test_lines.Lines.test_a_peer_that_is_gone": Edit("host/serve.py", "if peer is None:", "if peer == 0:"),
     "test_lines.Lines.test_capture": Edit(
         "host/line.py", 'self._tape.bytes("<", reply)', 'self._tape.bytes("<", b"")'
     ),
@@ -139,6 +143,25 @@ FAULTS = {
     ),
     "test_out.OutOfSqlite.test_status": Edit("host/status.py", 'not state.get("stopped") and ', ""),
     "test_out.OutOfSqlite.test_wanted": Edit("host/export.py", "at < wanted.since", "at > wanted.since"),
+    "test_postgres.OutOfPostgres.test_delivery_to_a_command": Edit(
+        "host/deliver.py", '"LISLAB_NUMBER": str(one.number)', '"LISLAB_NUMBER": str(one.number + 1)'
+    ),
+    "test_postgres.OutOfPostgres.test_delivery_to_a_directory": Edit(
+        "host/sql.py", "WHERE message = ? ORDER BY place", "WHERE message = ? ORDER BY place DESC"
+    ),
+    "test_postgres.OutOfPostgres.test_export": Edit(
+        "host/sql.py", "first and first[0], number, end.key", "None, number, end.key"
+    ),
+    "test_postgres.OutOfPostgres.test_sending": Edit(
+        "host/send.py", 'yield f"message {number}: record', 'f"message {number}: record'
+    ),
+    "test_postgres.OutOfPostgres.test_status": Edit("host/sql.py", '"again_of IS NOT NULL"]', '"again_of IS NULL"]'),
+    "test_postgres.OutOfPostgres.test_wanted": Edit(
+        "host/export.py", "one.line == wanted.line", "one.line != wanted.line"
+    ),
+    "test_postgres.Postgres.test_keeping": Edit(
+        "host/postgresql.py", "self.apply(units)\n            self._committed()", "self.apply(units)"
+    ),
     "test_postgres.Postgres.test_kills": Edit(
         "host/postgresql.py",
         "may stay in the transaction\n"

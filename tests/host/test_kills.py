@@ -68,13 +68,14 @@ class Kills(Checks):
             store, preexec_fn=lambda: resource.setrlimit(resource.RLIMIT_FSIZE, (room, resource.RLIM_INFINITY))
         )
         one = sending(host.port, "--analyzers", "5", "--made", "40", "--tries", "0", "--log", log)
-        self.true("it gets full", wait_for(lambda: stuck(log), 15))
+        full = wait_for(lambda: "not kept" in host.says() or len(acknowledged(log)) == 200, 60)
+        self.true("it gets full", full and wait_for(lambda: stuck(log), 30))
         before = acknowledged(log)
         self.same("full: acknowledged and lost", Found(store).lost(log), [])
         self.true("full: not all was taken", len(before) < 200, str(len(before)))
         resource.prlimit(host.process.pid, resource.RLIMIT_FSIZE, unlimited)
         try:
-            one.communicate(timeout=30)
+            one.communicate(timeout=60)
         except subprocess.TimeoutExpired:
             one.kill()
             one.communicate()

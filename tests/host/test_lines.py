@@ -121,6 +121,22 @@ def kept_bytes(found):
     return sum(len(one.body) for one in [*found.whole, *found.others])
 
 
+def keeps_each_text(test, store):
+    """Kills a host after each number of texts that it acknowledged."""
+    host = Host(store)
+    for place in range(len(TEXTS) + 1):
+        with Client(host.port) as client:
+            front = frames(TEXTS)[:place]
+            good = client.asks(ENQ) == ACK and all(client.asks(frame) == ACK for frame in front)
+            host.kill()
+            host.start()
+        found = Found(store)
+        kept = [one.body for one in (found.others if place < len(TEXTS) else found.whole)]
+        good = good and (not place or kept[-1:] == [b"".join(TEXTS[:place])])
+        test.true(f"{store[:5]}: killed after {place} texts", good, repr(kept))
+    host.kill()
+
+
 class Lines(Checks):
     """A host and its lines."""
 
@@ -147,21 +163,7 @@ class Lines(Checks):
     def test_keeping(self):
         """Killed after each acknowledgement, the host has kept what it acknowledged."""
         for store in (self.path("keeping.db"), "spool:" + self.path("keeping.spool")):
-            host = Host(store)
-            for place in range(len(TEXTS) + 1):
-                with Client(host.port) as client:
-                    front = frames(TEXTS)[:place]
-                    good = client.asks(ENQ) == ACK and all(client.asks(frame) == ACK for frame in front)
-                    host.kill()
-                    host.start()
-                found = Found(store)
-                kept = [one.body for one in (found.others if place < len(TEXTS) else found.whole)]
-                self.true(
-                    f"{store[:5]}: killed after {place} texts",
-                    good and (not place or kept[-1:] == [b"".join(TEXTS[:place])]),
-                    repr(kept),
-                )
-            host.kill()
+            keeps_each_text(self, store)
 
     def test_late(self):
         """A host that was stopped for longer than the sender's timer sends no reply to what came before."""
@@ -233,14 +235,16 @@ class Lines(Checks):
         self.same("the short message is kept", [one.body for one in found.whole], [b"".join(TEXTS)])
         self.true("what came of the long one is kept", "more than 1000 bytes" in found.others[0].reason)
 
-    def test_a_peer_that_is_gone(self):
-        """A connection whose peer is gone before it is looked at is no fault of the host."""
-        transport = unittest.mock.create_autospec(asyncio.Transport, instance=True)
-        transport.get_extra_info.return_value = None
-        host = unittest.mock.Mock(stopping=False, lines={}, limits=options.Limits(), refused=0)
-        serve.TcpWire(host, options.listen_of("0")).connection_made(transport)
-        self.same("it is broken off", transport.abort.call_count, 1)
-        self.same("no line begins, and none is refused", (host.add.call_count, host.refused), (0, 0))
+    def test_peers(self):
+        """Who may connect, who may not, and a peer that is gone before it is looked at."""
+        for peer, wanted in ((None, (1, 0, 0)), (("192.0.3.1", 1), (1, 0, 1)), (("192.0.2.7", 1), (0, 1, 0))):
+            transport = unittest.mock.create_autospec(asyncio.Transport, instance=True)
+            transport.get_extra_info.side_effect = {"peername": peer, "socket": unittest.mock.Mock()}.get
+            host = unittest.mock.Mock(stopping=False, lines={}, limits=options.Limits(), refused=0)
+            host.asked.networks = options.networks_of(["192.0.2.0/24"])
+            serve.TcpWire(host, options.listen_of("0")).connection_made(transport)
+            found = transport.abort.call_count, host.add.call_count, host.refused
+            self.same(f"{peer}: broken off, a line, refused", found, wanted)
 
     def test_quarantine(self):
         """What can't be read is kept with its reason, and hides nothing that follows."""

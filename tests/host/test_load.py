@@ -37,7 +37,7 @@ class Load(Checks):
         used = self.used(None, messages)
         few, most = used[0], max(used)
         self.true("memory stays the same", most < few + 4096, f"{used} KiB")
-        kit.say(f"memory after each twentieth of {messages} messages, in KiB: {used}")
+        kit.say(f"memory after each part of {messages} messages, in KiB: {used}")
 
     def test_a_host_that_grows(self):
         """A host that forgets nothing is noticed."""
@@ -45,19 +45,19 @@ class Load(Checks):
         self.true("a host whose memory grows is noticed", max(used) >= used[0] + 4096, f"{used} KiB")
 
     def used(self, fault, messages):
-        """The host's memory after each twentieth of the messages, in KiB. A text of each has a whole message."""
+        """The host's memory after each part of the messages, in KiB. A text of each has a whole message."""
         store, used, begun = self.path(f"memory{fault}.db"), [], time.monotonic()
-        host = Host(store, fault=fault, scale=1.0)
-        for part in range(1, 21):
-            words = [str(host.port), f"M{part}x", str(messages // 20)]
+        host, parts = Host(store, fault=fault, scale=1.0), 20 if messages >= 100000 else 4
+        for part in range(1, parts + 1):
+            words = [str(host.port), f"M{part}x", str(messages // parts)]
             done = subprocess.run([sys.executable, LOADER, *words], env=kit.ENV, check=False)
             self.same(f"part {part}: all are acknowledged", done.returncode, 0)
             used.append(host.memory())
             if messages >= 100000:
-                kit.say(f"{part * messages // 20} messages, {time.monotonic() - begun:.0f} s, {used[-1]} KiB")
+                kit.say(f"{part * messages // parts} messages, {time.monotonic() - begun:.0f} s, {used[-1]} KiB")
         self.same("the host's status", host.stop(), 0)
         one = open_store(store)
         counts = [(each.whole, each.again, each.unfinished, each.unreadable) for each in one.counts()]
         one.close()
-        self.same("all are kept", counts, [(messages // 20 * 20, 0, 0, 0)])
+        self.same("all are kept", counts, [(messages // parts * parts, 0, 0, 0)])
         return used

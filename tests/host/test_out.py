@@ -68,18 +68,18 @@ def open_to_others(path):
     return [one for one in found if stat.S_IMODE(os.stat(one).st_mode) & 0o077]
 
 
-class _OutOf:
+class OutOf:
     """Out of a store, with three messages: the sample, the good part of the bad one, the sample again."""
 
     @classmethod
     def setUpClass(cls):
         super().setUpClass()
-        cls.store = cls.where(cls)
-        host = Host(cls.store)
+        cls.store, cls.state = cls.where(), ["--status", os.path.join(cls.folder.name, "state")]
+        host = Host(cls.store, *cls.state)
         to = ["--to", f"127.0.0.1:{host.port}", "--scale", "0.02"]
         cls.sent = [lislab("send", path, *to) for path in (SAMPLE, BAD, SAMPLE)]
         time.sleep(0.1)
-        cls.shown = [lislab("status", "--store", cls.store, *words) for words in ([], ["--json"])]
+        cls.shown = [lislab("status", "--store", cls.store, *cls.state, *words) for words in ([], ["--json"])]
         cls.status = host.stop()
         cls.lost = lislab("send", SAMPLE, *to, "--tries", "2", timeout=60)
 
@@ -100,7 +100,7 @@ class _OutOf:
         self.same("the host runs", (shown.returncode, "the host is running" in shown.stdout), (0, True))
         line = json.loads(data.stdout)["lines"][0]
         self.same("counts", (line["line"], line["whole"], line["again"]), ("fire", 3, 1))
-        shown = lislab("status", "--store", self.store)
+        shown = lislab("status", "--store", self.store, *self.state)
         self.same("the host is stopped", (shown.returncode, "is not running" in shown.stdout), (1, True))
 
     def test_export(self):
@@ -180,8 +180,12 @@ class _OutOf:
         found = [number for number, _ in taken(words, self.path("hasty"), "hasty")]
         self.true("it is noticed", found != [one.number for one in messages_of(self.store)], str(found))
 
+
+class OneHost:
+    """A store in files has one host."""
+
     def test_one_host(self):
-        """A store has one host."""
+        """Another host is refused as long as there is one."""
         host = Host(self.store)
         second = lislab("serve", "--store", self.store, "--listen", "0", timeout=20)
         said = second.returncode == 3 and "another host has this" in second.stderr
@@ -190,18 +194,22 @@ class _OutOf:
         self.same("one that was killed holds nothing", Host(self.store).stop(), 0)
 
 
-class OutOfSqlite(_OutOf, Checks):
+class OutOfSqlite(OutOf, OneHost, Checks):
     """Out of an SQLite file."""
 
-    def where(self):
-        return os.path.join(self.folder.name, "out.db")
+    @classmethod
+    def where(cls):
+        """The store."""
+        return os.path.join(cls.folder.name, "out.db")
 
 
-class OutOfSpool(_OutOf, Checks):
+class OutOfSpool(OutOf, OneHost, Checks):
     """Out of a spool."""
 
-    def where(self):
-        return "spool:" + os.path.join(self.folder.name, "out.spool")
+    @classmethod
+    def where(cls):
+        """The store."""
+        return "spool:" + os.path.join(cls.folder.name, "out.spool")
 
 
 class Names(Checks):

@@ -15,6 +15,8 @@ import unittest
 import kit
 from kit import ENV, Checks, Found, Host, acknowledged, lislab, sending
 from test_kills import TROUBLE
+from test_lines import keeps_each_text
+from test_out import OutOf
 
 #: Where Debian's packages for Python are.
 DEBIAN = "/usr/lib/python3/dist-packages"
@@ -104,17 +106,36 @@ def has_driver():
     return True
 
 
+_SERVERS = []
+
+
+def the_server():
+    """The server of this run, which ends with it; SkipTest if there can't be one."""
+    if not _SERVERS:
+        if programs() is None or not has_driver():
+            what = "PostgreSQL" if programs() is None else "psycopg (Debian: python3-psycopg2)"
+            raise unittest.SkipTest(f"{what} is not installed")
+        _SERVERS.append(Server())
+        unittest.addModuleCleanup(lambda: _SERVERS.pop().end())
+    return _SERVERS[0]
+
+
+class OutOfPostgres(OutOf, Checks):
+    """Out of a database."""
+
+    @classmethod
+    def where(cls):
+        """The store."""
+        return the_server().address("out")
+
+
 class Postgres(Checks):
     """Hosts that share a database."""
 
     @classmethod
     def setUpClass(cls):
         super().setUpClass()
-        if programs() is None or not has_driver():
-            what = "PostgreSQL" if programs() is None else "psycopg (Debian: python3-psycopg2)"
-            raise unittest.SkipTest(f"{what} is not installed")
-        cls.server = Server()
-        cls.addClassCleanup(cls.server.end)
+        cls.server = the_server()
 
     def test_kills(self):
         """Two hosts on one database; either host, or the server, is killed again and again."""
@@ -161,19 +182,19 @@ class Postgres(Checks):
                 kit.say(f"{number + 1} of {kills} kills")
         time.sleep(1)
 
+    def test_keeping(self):
+        """Killed after each acknowledgement, the host has kept what it acknowledged."""
+        keeps_each_text(self, self.server.address("keeping"))
+
     def test_names(self):
-        """Two hosts of one name are refused; an export and a delivery."""
+        """Two hosts of one name are refused."""
         store = self.server.address("names")
         host = Host(store, "--host-name", "same")
         second = lislab("serve", "--store", store, "--listen", "0", "--host-name", "same", timeout=20)
         said = second.returncode == 3 and "another host has the name same" in second.stderr
         self.true("two hosts of one name", said, second.stderr)
         sending(host.port, "--made", "3").communicate()
-        out = lislab("export", "--store", store, "--format", "records").stdout
-        self.same("an export", out.count("L|1|N"), 3)
-        folder, cursor = self.path("postgres.d"), self.path("postgres.cursor")
-        done = lislab("deliver", "--store", store, "--cursor", cursor, "--once", "--directory", folder)
-        self.same("a delivery", (done.returncode, len(os.listdir(folder))), (0, 3))
+        self.same("the first goes on", len(Found(store).whole), 3)
         self.same("the host's status", host.stop(), 0)
 
     def test_start_while_another_commits(self):
