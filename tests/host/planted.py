@@ -10,8 +10,6 @@ from typing import NamedTuple
 import checks
 
 HERE = os.path.dirname(os.path.abspath(__file__))
-#: How long a test may take with a fault, in seconds.
-PATIENCE = 300
 
 
 class Edit(NamedTuple):
@@ -261,7 +259,6 @@ def tried(edits, tests):
             stdout=subprocess.PIPE,
             stderr=subprocess.STDOUT,
             text=True,
-            timeout=PATIENCE * max(1, len(tests)),
             check=False,
         )
     return done.returncode, done.stdout.splitlines()

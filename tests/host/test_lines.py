@@ -141,22 +141,22 @@ class Lines(Checks):
     """A host and its lines."""
 
     def test_cuts(self):
-        """A session that is cut in two anywhere is answered and kept the same."""
-        store = self.path("cuts.db")
-        host = Host(store)
-        whole, good = session(TEXTS), 0
-        for place in range(1, len(whole)):
+        """A session that is cut in two anywhere, or into bytes, is answered and kept the same."""
+        store, whole = self.path("cuts.db"), session(TEXTS)
+        host, wanted, wrong = Host(store), ACK * (len(TEXTS) + 1), []
+        ways = [[whole[:place], whole[place:]] for place in range(1, len(whole))]
+        ways.append([whole[place : place + 1] for place in range(len(whole))])
+        for pieces in ways:
             with Client(host.port) as client:
-                client.send(whole[:place])
-                client.send(whole[place:])
-                good += client.heard(len(TEXTS) + 1) == ACK * (len(TEXTS) + 1)
-        with Client(host.port) as client:
-            for place in range(len(whole)):
-                client.send(whole[place : place + 1])
-            good += client.heard(len(TEXTS) + 1) == ACK * (len(TEXTS) + 1)
+                for piece in pieces:
+                    client.send(piece)
+                if client.heard(len(wanted)) != wanted:
+                    wrong.append([len(piece) for piece in pieces])
+            if len(wrong) == 3:
+                break
         host.stop()
         found = Found(store)
-        self.same("all are acknowledged", good, len(whole))
+        self.same("all are acknowledged", wrong, [])
         self.same("all are kept", [one.body for one in found.whole], [b"".join(TEXTS)] * len(whole))
         self.same("the repeats are marked", found.unmarked(), [])
 
