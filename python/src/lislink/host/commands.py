@@ -1,6 +1,7 @@
 """The commands of the host: `lislab serve`, `send`, `status`, `export` and `deliver`."""
 import argparse
 import asyncio
+import functools
 import math
 import os
 import socket
@@ -83,28 +84,21 @@ def _add_serve(one: argparse.ArgumentParser) -> None:
     one.add_argument(
         "--host-name", default=socket.gethostname(), metavar="NAME", help="this host's name in the store"
     )
-    one.add_argument(
-        "--lines", type=_COUNT, default=Limits().lines, help="the most TCP lines at once (%(default)s)"
-    )
-    one.add_argument(
-        "--message-bytes", type=_COUNT, default=Limits().message, help="of one message (%(default)s)"
-    )
-    one.add_argument(
-        "--idle", type=_FACTOR, default=Limits().idle, help="seconds of silence that close a line (%(default)s)"
-    )
-    one.add_argument(
-        "--reply-within",
-        type=_FACTOR,
-        default=Limits().reply,
-        help="seconds after which no reply is sent (%(default)s)",
-    )
-    one.add_argument(
-        "--grace", type=_SECONDS, default=Limits().grace, help="seconds for open sessions at a stop (%(default)s)"
-    )
+    _add_limits(one, Limits())
     one.add_argument("--capture", metavar="PREFIX", help="write what goes over each line to PREFIX-NAME-..capture")
     one.add_argument("--status", metavar="FILE", help="where the state for lislab status is (STORE.status)")
     _scale(one)
     one.set_defaults(run=run_serve)
+
+
+def _add_limits(one: argparse.ArgumentParser, usual: Limits) -> None:
+    number = functools.partial(one.add_argument, metavar="N")
+    number("--lines", type=_COUNT, default=usual.lines, help="the most TCP lines at once (%(default)s)")
+    number("--message-bytes", type=_COUNT, default=usual.message, help="of one message (%(default)s)")
+    seconds = functools.partial(one.add_argument, metavar="SECONDS")
+    seconds("--idle", type=_FACTOR, default=usual.idle, help="the silence that closes a line (%(default)s)")
+    seconds("--reply-within", type=_FACTOR, default=usual.reply, help="after this no reply is sent (%(default)s)")
+    seconds("--grace", type=_SECONDS, default=usual.grace, help="for open sessions at a stop (%(default)s)")
 
 
 def _state_file(store: str, named: Optional[str]) -> Optional[str]:
