@@ -177,6 +177,9 @@ FAULTS = {
     "test_serial.Serial.test_a_device_that_is_gone_at_once": Edit(
         "host/serve.py", "if time.monotonic() < opened + REOPEN:", "if time.monotonic() < opened:"
     ),
+    "test_serial.Serial.test_a_reply_that_is_held_up": Edit(
+        "host/tty.py", "if _is_held_up(self._descriptor):", "if not _is_held_up(self._descriptor):"
+    ),
     "test_serial.Serial.test_pyserial": Edit(
         "host/tty.py", "opened(serial.device, serial.speed,", "opened(serial.device,"
     ),

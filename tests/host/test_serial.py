@@ -4,6 +4,7 @@ import importlib.util
 import os
 import pty
 import select
+import struct
 import subprocess
 import termios
 import threading
@@ -13,6 +14,7 @@ import unittest.mock
 
 from kit import ENV, SCALE, Checks, Found, Host, acknowledged, process
 from lislink.host import options, serve
+from lislink.host import tty as serial
 from lislink.host.store import open_store
 
 #: Where Debian's packages for Python are.
@@ -131,6 +133,28 @@ class Serial(Checks):
         with unittest.mock.patch.object(serve, "open_serial", end_of_a_pipe):
             asyncio.run(serve_it())
         self.same("it is opened twice in a second and a half", len(opened), 2)
+
+    def test_a_reply_that_is_held_up(self):
+        """A reply that flow control holds up until it is late, or until the next one, is dropped."""
+
+        async def dropped(held, writes):
+            into, out = os.pipe()
+            waiting = unittest.mock.Mock(return_value=struct.pack("i", held))
+            with unittest.mock.patch.object(serial.fcntl, "ioctl", waiting), unittest.mock.patch.object(
+                serial.termios, "tcflush"
+            ) as flush:
+                wire = serial.SerialWire(out, time.monotonic, 0.1)
+                for _ in range(writes):
+                    wire.write(b"\x06")
+                before = flush.call_count
+                await asyncio.sleep(0.3)
+                wire.close()
+                os.close(into)
+                return before, flush.call_count
+
+        for held, writes, wanted in ((0, 2, (0, 0)), (1, 1, (0, 1)), (1, 2, (1, 2))):
+            found = asyncio.run(dropped(held, writes))
+            self.same(f"{held} bytes are held up, {writes} replies: dropped before and after", found, wanted)
 
     def is_served(self, name, env):
         """Sends sixty messages over a cable."""

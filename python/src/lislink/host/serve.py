@@ -110,7 +110,8 @@ class Host:
         said = ""
         while not self.stopping:
             try:
-                wire = SerialWire(open_serial(serial), lambda: self.ticks.before)
+                late = self.limits.reply * self.limits.scale
+                wire = SerialWire(open_serial(serial), lambda: self.ticks.before, late)
             except (OSError, OptionError) as error:
                 if str(error) != said:
                     said = str(error)

@@ -3,6 +3,7 @@ import asyncio
 import fcntl
 import importlib
 import os
+import struct
 import termios
 from typing import Callable, Optional, Tuple
 
@@ -68,11 +69,12 @@ def _set_up(descriptor: int, serial: Serial, speed: Optional[int]) -> None:
 
 
 class SerialWire(Wire):
-    """The descriptor of a serial line."""
+    """The descriptor of a serial line. A reply is late after so many seconds."""
 
-    def __init__(self, descriptor: int, arrived: Callable[[], float]) -> None:
-        self._descriptor, self._arrived = descriptor, arrived
+    def __init__(self, descriptor: int, arrived: Callable[[], float], late: float) -> None:
+        self._descriptor, self._arrived, self._late = descriptor, arrived, late
         self._loop = asyncio.get_running_loop()
+        self._alarm: Optional[asyncio.TimerHandle] = None
         self.line: Optional[Line] = None
 
     def begin(self, line: Line) -> None:
@@ -95,10 +97,20 @@ class SerialWire(Wire):
             self.line.lost()
 
     def write(self, data: bytes) -> None:
+        self._take_back()
         try:
             os.write(self._descriptor, data)
         except OSError:
-            pass  # a reply that the line doesn't take is lost: its sender runs into its timer
+            return  # a reply that the line doesn't take is lost: its sender runs into its timer
+        self._alarm = self._loop.call_later(self._late, self._take_back)
+
+    def _take_back(self) -> None:
+        """Drops a reply that flow control still holds up: later it could be taken for the answer to something else."""
+        if self._alarm is not None:
+            self._alarm.cancel()
+            self._alarm = None
+            if _is_held_up(self._descriptor):
+                termios.tcflush(self._descriptor, termios.TCOFLUSH)
 
     def pause(self) -> None:
         self._loop.remove_reader(self._descriptor)
@@ -107,7 +119,16 @@ class SerialWire(Wire):
         self._loop.add_reader(self._descriptor, self._readable)
 
     def close(self) -> None:
+        self._take_back()  # closing waits for what is held up
         if self._descriptor >= 0:
             self._loop.remove_reader(self._descriptor)
             os.close(self._descriptor)
             self._descriptor = -1
+
+
+def _is_held_up(descriptor: int) -> bool:
+    """Whether bytes that were written have not left yet."""
+    try:
+        return bool(struct.unpack("i", fcntl.ioctl(descriptor, termios.TIOCOUTQ, bytes(4)))[0])
+    except OSError:
+        return False
