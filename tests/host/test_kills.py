@@ -87,9 +87,9 @@ class Kills(Checks):
 
     def test_host_that_marks_nothing(self):
         """A host that marks no repeat is noticed."""
-        host = Host(self.path("unmarked.db"), fault="unmarked")
+        host = Host(self.path("unmarked.db"), fault="unmarked", scale=1.0)
         for _ in range(2):
-            sending(host.port, "--made", "3").communicate()
+            sending(host.port, "--made", "3", scale=1.0).communicate()
         host.stop()
         self.same("a host that marks no repeat is noticed", len(Found(host.store).unmarked()), 3)
 

@@ -6,10 +6,12 @@ import socket
 import time
 import unittest.mock
 
-from kit import SCALE, Checks, Found, Host, lislab, sending, wait_for
+from kit import Checks, Found, Host, lislab, sending, wait_for
 from lislink import FrameFault, frame_bytes
 from lislink.host import options, serve
 
+#: The timers of tests in which they run out while a frame is answered in time: 15 seconds are 0.75.
+LATE = 0.05
 ENQ, ACK, NAK, EOT = b"\x05", b"\x06", b"\x15", b"\x04"
 TEXTS = [b"H|\\^&|||A\r", b"P|1\r", b"O|1|S7\r", b"R|1|^^^GLU|5.4\r", b"L|1|N\r"]
 
@@ -82,7 +84,7 @@ def late_reply(host, client, frame, place):
     time.sleep(place * 0.003)
     os.kill(host.process.pid, signal.SIGSTOP)
     client.send(frame)
-    time.sleep(15 * SCALE * 1.3)
+    time.sleep(15 * LATE * 1.3)
     os.kill(host.process.pid, signal.SIGCONT)
     return client.heard(1, 0.2)
 
@@ -123,7 +125,7 @@ def kept_bytes(found):
 
 def keeps_each_text(test, store):
     """Kills a host after each number of texts that it acknowledged."""
-    host = Host(store)
+    host = Host(store, scale=1.0)
     for place in range(len(TEXTS) + 1):
         with Client(host.port) as client:
             front = frames(TEXTS)[:place]
@@ -143,7 +145,7 @@ class Lines(Checks):
     def test_cuts(self):
         """A session that is cut in two anywhere, or into bytes, is answered and kept the same."""
         store, whole = self.path("cuts.db"), session(TEXTS)
-        host, wanted, wrong = Host(store), ACK * (len(TEXTS) + 1), []
+        host, wanted, wrong = Host(store, scale=1.0), ACK * (len(TEXTS) + 1), []
         ways = [[whole[:place], whole[place:]] for place in range(1, len(whole))]
         ways.append([whole[place : place + 1] for place in range(len(whole))])
         for pieces in ways:
@@ -168,8 +170,8 @@ class Lines(Checks):
     def test_late(self):
         """A host that was stopped for longer than the sender's timer sends no reply to what came before."""
         for fault in (None, "late"):
-            host, replies, good = Host(self.path(f"late{fault}.db"), fault=fault), [], True
-            for place in range(1, 7):
+            host, replies, good = Host(self.path(f"late{fault}.db"), fault=fault, scale=LATE), [], True
+            for place in range(1, 5):
                 texts = [b"H|\\^&|||A%d\r" % place, *TEXTS[1:]]
                 with Client(host.port) as client:
                     good = (
@@ -183,14 +185,14 @@ class Lines(Checks):
             if fault:
                 self.true("a host that replies late is noticed", ACK in replies, repr(replies))
                 continue
-            self.same("no reply", replies, [b""] * 6)
+            self.same("no reply", replies, [b""] * 4)
             self.true("the lines go on", good)
             found = Found(host.store)
-            self.same("each message is kept once, whole", (len(found.whole), found.again()), (6, 0))
-            front = [b"".join([b"H|\\^&|||A%d\r" % place, *TEXTS[1:]]) for place in range(1, 7)]
+            self.same("each message is kept once, whole", (len(found.whole), found.again()), (4, 0))
+            front = [b"".join([b"H|\\^&|||A%d\r" % place, *TEXTS[1:]]) for place in range(1, 5)]
             self.true(
                 "what was acknowledged before is kept",
-                len(found.others) == 6
+                len(found.others) == 4
                 and all(
                     whole.startswith(one.body) and one.body.count(b"\r") >= 2
                     for whole, one in zip(front, found.others)
@@ -219,7 +221,8 @@ class Lines(Checks):
 
     def test_limits(self):
         """Limits on lines, on the size of a message, on silence and on the receiver's timer."""
-        host = Host(self.path("limits.db"), "--lines", "2", "--message-bytes", "1000", "--idle", "1")
+        words = ["--lines", "2", "--message-bytes", "1000", "--idle", "4"]
+        host = Host(self.path("limits.db"), *words, scale=LATE)
         with Client(host.port) as one, Client(host.port) as two, Client(host.port) as three:
             self.true("a line too many is closed", three.is_closed())
             self.same("the others are heard", (one.asks(ENQ), two.asks(ENQ)), (ACK, ACK))
@@ -227,9 +230,9 @@ class Lines(Checks):
             replies = [one.asks(frame, 1, 0.5) for frame in frames(long)]
             self.same("a message too long gets no reply", replies, [ACK] * 6 + [b""])
             self.true("its line goes on", one.whole(TEXTS))
-            time.sleep(30 * SCALE + 0.2)
+            time.sleep(30 * LATE + 0.2)
             self.same("the receiver's timer", two.asks(frames(TEXTS)[0], 1, 0.2), b"")
-            self.true("a silent line is closed", two.is_closed(3))
+            self.true("a silent line is closed", two.is_closed(8))
         host.stop()
         found = Found(host.store)
         self.same("the short message is kept", [one.body for one in found.whole], [b"".join(TEXTS)])
@@ -262,7 +265,7 @@ class Lines(Checks):
 
     def after_odd(self, fault):
         """What a host has kept of these sessions."""
-        host = Host(self.path(f"quarantine{fault}.db"), fault=fault)
+        host = Host(self.path(f"quarantine{fault}.db"), fault=fault, scale=1.0)
         with Client(host.port) as client:
             for texts, _, _ in ODD:
                 self.true(f"{texts!r} is acknowledged", client.whole(texts))
@@ -272,7 +275,7 @@ class Lines(Checks):
 
     def test_stop(self):
         """A stop in order: an open session ends, no new one begins, and the status is 0."""
-        host = Host(self.path("stop.db"))
+        host = Host(self.path("stop.db"), scale=1.0)
         with Client(host.port) as client, Client(host.port) as idle:
             good = client.asks(ENQ) == ACK and client.asks(frames(TEXTS)[0]) == ACK
             host.process.terminate()

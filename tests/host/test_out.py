@@ -75,8 +75,8 @@ class OutOf:
     def setUpClass(cls):
         super().setUpClass()
         cls.store, cls.state = cls.where(), ["--status", os.path.join(cls.folder.name, "state")]
-        host = Host(cls.store, *cls.state)
-        to = ["--to", f"127.0.0.1:{host.port}", "--scale", "0.02"]
+        host = Host(cls.store, *cls.state, scale=1.0)
+        to = ["--to", f"127.0.0.1:{host.port}"]
         cls.sent = [lislab("send", path, *to) for path in (SAMPLE, BAD, SAMPLE)]
         time.sleep(0.1)
         cls.shown = [lislab("status", "--store", cls.store, *cls.state, *words) for words in ([], ["--json"])]

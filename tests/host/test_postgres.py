@@ -189,11 +189,11 @@ class Postgres(Checks):
     def test_names(self):
         """Two hosts of one name are refused."""
         store = self.server.address("names")
-        host = Host(store, "--host-name", "same")
+        host = Host(store, "--host-name", "same", scale=1.0)
         second = lislab("serve", "--store", store, "--listen", "0", "--host-name", "same", timeout=20)
         said = second.returncode == 3 and "another host has the name same" in second.stderr
         self.true("two hosts of one name", said, second.stderr)
-        sending(host.port, "--made", "3").communicate()
+        sending(host.port, "--made", "3", scale=1.0).communicate()
         self.same("the first goes on", len(Found(store).whole), 3)
         self.same("the host's status", host.stop(), 0)
 
