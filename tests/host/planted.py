@@ -277,11 +277,12 @@ def run(words):
         skipped = any(row.startswith("skipped: ") for row in rows)
         good = status == 1 and bool(failing)
         word = "noticed" if good else "skipped" if skipped else "NOT NOTICED"
-        print(f"{word}: {name}: {(failing or rows)[:1]}", flush=True)
+        print(f"{word}: {name}: {(failing or rows or ['nothing'])[0][:200]}", flush=True)
         passed, failed = passed + good, failed + (not good and not skipped)
     status, rows = tried(HARMLESS, wanted)
-    print("\n".join(row for row in rows if row.startswith(("FAILED", "skipped"))))
-    print(f"harmless changes: {rows[-1]}")
+    for row in rows:
+        if row.startswith(("FAILED", "skipped", "host: ")):
+            print(f"harmless changes: {row}")
     passed, failed = passed + (status == 0), failed + (status != 0)
     print(f"host: {passed} passed, {failed} failed")
     return 1 if failed else 0

@@ -23,6 +23,11 @@ def bytes_of(path):
         return file.read()
 
 
+def good_part():
+    """The first message of the bad sample, which can be read."""
+    return bytes_of(BAD).split(b"L|1|N\r")[0] + b"L|1|N\r"
+
+
 def messages_of(store):
     """The whole messages of a store."""
     one = open_store(store)
@@ -107,7 +112,7 @@ class OutOf:
         """Exports in each format, against the file that was sent and the table of the same file."""
         words = ["--format", "records", "--without-repeats", "-o", self.path("out.records")]
         self.same("the status", lislab("export", "--store", self.store, *words).returncode, 0)
-        good = bytes_of(SAMPLE) + bytes_of(BAD).split(b"L|1|N\r")[0] + b"L|1|N\r"
+        good = bytes_of(SAMPLE) + good_part()
         self.same("records are those that were sent", bytes_of(self.path("out.records")), good)
         rows = list(csv.reader(io.StringIO(self.export("--format", "csv"))))
         plain = list(csv.reader(io.StringIO(lislab("table", SAMPLE).stdout)))
@@ -172,7 +177,7 @@ class OutOf:
         found = messages_of(self.store)
         self.same("a file for each", [int(name.split("-")[0]) for name in names], [one.number for one in found])
         bodies = [bytes_of(os.path.join(folder, name)) for name in names]
-        self.same("with its records", bodies, [one.body for one in found])
+        self.same("with its records", bodies, [bytes_of(SAMPLE), good_part(), bytes_of(SAMPLE)])
 
     def test_hasty_delivery(self):
         """A delivery that notes a message before it delivers it is noticed."""
