@@ -1,13 +1,15 @@
 """Faults that are planted in the source of the host, one for each test, which must notice it; and changes that mean
 nothing, which all tests must pass. Each is an edit: in this file of lislink, this text becomes that."""
+import glob
 import os
 import shutil
 import subprocess
 import sys
 import tempfile
+import unittest
 from typing import NamedTuple
 
-import checks
+from tests.host import SOURCE
 
 HERE = os.path.dirname(os.path.abspath(__file__))
 
@@ -238,6 +240,26 @@ HARMLESS = (
 )
 
 
+def found(wanted=()):
+    """The tests of the host, or those whose names have one of these words."""
+    files = sorted(os.path.basename(path)[:-3] for path in glob.glob(os.path.join(HERE, "test_*.py")))
+    suite = unittest.defaultTestLoader.loadTestsFromNames([f"tests.host.{name}" for name in files])
+    return [one for one in _flat(suite) if not wanted or any(word in one.id() for word in wanted)]
+
+
+def _flat(suite):
+    for one in suite:
+        if isinstance(one, unittest.TestSuite):
+            yield from _flat(one)
+        else:
+            yield one
+
+
+def name_of(test):
+    """The name of a test in the table."""
+    return test.id().removeprefix("tests.host.")
+
+
 def plant(edit, source):
     """Makes an edit in a copy of the source."""
     path = os.path.join(source, "lislink", edit.file)
@@ -252,10 +274,10 @@ def tried(edits, tests):
     """What the tests say of a host with these edits: the exit status, and the lines."""
     with tempfile.TemporaryDirectory(prefix="lis-planted-") as folder:
         source = os.path.join(folder, "src")
-        shutil.copytree(os.environ["LISLINK_SOURCE"], source, ignore=shutil.ignore_patterns("__pycache__"))
+        shutil.copytree(SOURCE, source, ignore=shutil.ignore_patterns("__pycache__"))
         for edit in edits:
             plant(edit, source)
-        words = [os.path.join(HERE, "run"), os.environ["LISLINK_LIBRARY"], *tests]
+        words = [os.path.join(HERE, "run"), *tests]
         done = subprocess.run(
             [sys.executable, *words],
             env={**os.environ, "LISLINK_SOURCE": source},
@@ -273,7 +295,7 @@ def run(words):
     passed = failed = 0
     for name in wanted:
         status, rows = tried([FAULTS[name]], [name])
-        failing = [row for row in rows if row.startswith(f"FAILED: {name}")]
+        failing = [row for row in rows if row.startswith(f"FAILED: {name.replace('test_', 'host/', 1)}")]
         skipped = any(row.startswith("skipped: ") for row in rows)
         good = status == 1 and bool(failing)
         word = "noticed" if good else "skipped" if skipped else "NOT NOTICED"

@@ -2,22 +2,22 @@
 import hashlib
 import random
 
-import kit
-from kit import Checks
 from lislink import Found, read_all
 from lislink.host.intake import Intake
 from lislink.host.store import WHOLE, Add, Begin
+from tests.host import hosts
+from tests.host.hosts import HostTest
 
 HEADS = (b"H|\\^&|||A\r", b"H|\\^&\r", b"h*!+-\r", b"H|^^^\r", b"P|1\r")
 RECORDS = (b"P|1\r", b"O|1|S7\r", b"R|1|^^^GLU|5\r", b"C|1\r", b"\r", b"X|1\r", b"H|\\^&\r", b"R|\x02\r")
 
 
-class Streams(Checks):
+class Streams(HostTest):
     """Random streams in random texts."""
 
     def test_random_streams(self):
         """Every byte is kept, in order, and each message ends once."""
-        streams = kit.size("streams")
+        streams = hosts.size("streams")
         self.same(f"{streams} random streams", wrong(random.Random(9), streams), [])
 
     def test_a_forgetful_intake(self):

@@ -4,23 +4,23 @@ import resource
 import subprocess
 import time
 
-import kit
-from kit import Checks, Found, Host, acknowledged, sending, wait_for
+from tests.host import hosts
+from tests.host.hosts import Found, Host, HostTest, acknowledged, sending, wait_for
 
 TROUBLE = ["--noise", "0.0005", "--late", "0.005", "--reset", "0.002", "--cut"]
 
 
-class Kills(Checks):
+class Kills(HostTest):
     """Kills, commits that fail, a full disk, and hosts with a fault."""
 
     def test_sqlite(self):
         """Killed at random under 20 analyzers with trouble."""
-        self.is_killed("sqlite", self.path("kills.db"), kit.size("kills"), {})
+        self.is_killed("sqlite", self.path("kills.db"), hosts.size("kills"), {})
 
     def test_spool(self):
         """The same with a spool, under 5 analyzers."""
         how = {"analyzers": 5, "between": 2.0}
-        self.is_killed("spool", "spool:" + self.path("kills.spool"), kit.size("spool"), how)
+        self.is_killed("spool", "spool:" + self.path("kills.spool"), hosts.size("spool"), how)
 
     def is_killed(self, name, store, kills, how):
         """Kills a host, and compares what is kept with what was acknowledged."""
@@ -31,7 +31,7 @@ class Kills(Checks):
         self.true("messages are acknowledged", done > 0, str(done))
         self.same("acknowledged and lost", lost, [])
         self.same("repeats without a mark", unmarked, [])
-        kit.say(
+        hosts.say(
             f"{name}: {kills} kills, {done} messages acknowledged, {len(found.whole)} kept, {len(lost)} lost, "
             f"{found.again()} repeats marked, {len(unmarked)} not, {len(found.others)} unfinished"
         )
@@ -41,7 +41,7 @@ class Kills(Checks):
         store, log = self.path("failing.db"), self.path("failing.log")
         host = Host(store, fault="commit")
         one = sending(host.port, "--analyzers", "20", "--made", "1000000", "--tries", "0", "--log", log)
-        time.sleep(kit.size("failing"))
+        time.sleep(hosts.size("failing"))
         one.terminate()
         one.communicate()
         status, found, done = host.stop(), Found(store), len(acknowledged(log))
@@ -51,7 +51,7 @@ class Kills(Checks):
         self.same("acknowledged and lost", found.lost(log), [])
         self.same("repeats without a mark", found.unmarked(), [])
         self.same("no message stays open", sum(one.open for one in found.counts), 0)
-        kit.say(f"failing store: {kit.size('failing')} s, {done} messages acknowledged, {found.again()} repeats")
+        hosts.say(f"failing store: {hosts.size('failing')} s, {done} messages acknowledged, {found.again()} repeats")
 
     def test_full_disk_of_sqlite(self):
         """No file may grow past a size."""
@@ -114,7 +114,7 @@ def attack(store, log, kills, fault=None, analyzers=20, seed=7, between=1.0):
             host.kill()
             host.start()
             if number % 50 == 0:
-                kit.say(f"{number} of {kills} kills")
+                hosts.say(f"{number} of {kills} kills")
         time.sleep(0.5)
     finally:
         one.terminate()

@@ -6,9 +6,9 @@ import socket
 import time
 import unittest.mock
 
-from kit import Checks, Found, Host, lislab, sending, wait_for
 from lislink import FrameFault, frame_bytes
 from lislink.host import options, serve
+from tests.host.hosts import Found, Host, HostTest, lislab, sending, wait_for
 
 #: The timers of tests in which they run out while a frame is answered in time: 15 seconds are 0.75.
 LATE = 0.05
@@ -139,7 +139,7 @@ def keeps_each_text(test, store):
     host.kill()
 
 
-class Lines(Checks):
+class Lines(HostTest):
     """A host and its lines."""
 
     def test_cuts(self):

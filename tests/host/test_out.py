@@ -8,11 +8,11 @@ import subprocess
 import sys
 import time
 
-from kit import ENV, FAULTY, Checks, Host, lislab, sending, wait_for
 from lislink import Message, Row, cli
 from lislink.host.store import open_store
 from lislink.message import NAMES
 from lislink.rows import marks_of
+from tests.host.hosts import ENV, FAULTY, Host, HostTest, lislab, sending, wait_for
 
 SAMPLE, BAD = "samples/panel.records", "samples/no-order.records"
 
@@ -199,7 +199,7 @@ class OneHost:
         self.same("one that was killed holds nothing", Host(self.store).stop(), 0)
 
 
-class OutOfSqlite(OutOf, OneHost, Checks):
+class OutOfSqlite(OutOf, OneHost, HostTest):
     """Out of an SQLite file."""
 
     @classmethod
@@ -208,7 +208,7 @@ class OutOfSqlite(OutOf, OneHost, Checks):
         return os.path.join(cls.folder.name, "out.db")
 
 
-class OutOfSpool(OutOf, OneHost, Checks):
+class OutOfSpool(OutOf, OneHost, HostTest):
     """Out of a spool."""
 
     @classmethod
@@ -217,7 +217,7 @@ class OutOfSpool(OutOf, OneHost, Checks):
         return "spool:" + os.path.join(cls.folder.name, "out.spool")
 
 
-class Names(Checks):
+class Names(HostTest):
     """Fields by the standard's names."""
 
     def test_names(self):
@@ -231,7 +231,7 @@ class Names(Checks):
             self.same(f"of {letter}", found, [str(number) for number in names])
 
 
-class Files(Checks):
+class Files(HostTest):
     """Files of a store, and what it needs."""
 
     def test_modes(self):

@@ -12,11 +12,11 @@ import tempfile
 import time
 import unittest
 
-import kit
-from kit import ENV, Checks, Found, Host, acknowledged, lislab, sending
-from test_kills import TROUBLE
-from test_lines import keeps_each_text
-from test_out import OutOf
+from tests.host import hosts
+from tests.host.hosts import ENV, Found, Host, HostTest, acknowledged, lislab, sending
+from tests.host.test_kills import TROUBLE
+from tests.host.test_lines import keeps_each_text
+from tests.host.test_out import OutOf
 
 #: Where Debian's packages for Python are.
 DEBIAN = "/usr/lib/python3/dist-packages"
@@ -120,7 +120,7 @@ def the_server():
     return _SERVERS[0]
 
 
-class OutOfPostgres(OutOf, Checks):
+class OutOfPostgres(OutOf, HostTest):
     """Out of a database."""
 
     @classmethod
@@ -129,7 +129,7 @@ class OutOfPostgres(OutOf, Checks):
         return the_server().address("out")
 
 
-class Postgres(Checks):
+class Postgres(HostTest):
     """Hosts that share a database."""
 
     @classmethod
@@ -139,19 +139,19 @@ class Postgres(Checks):
 
     def test_kills(self):
         """Two hosts on one database; either host, or the server, is killed again and again."""
-        kills, store = kit.size("postgres"), self.server.address("kills")
-        hosts = [Host(store, "--host-name", f"h{number}") for number in range(2)]
+        kills, store = hosts.size("postgres"), self.server.address("kills")
+        both = [Host(store, "--host-name", f"h{number}") for number in range(2)]
         logs = [self.path(f"postgres{number}.log") for number in range(2)]
         many = ["--analyzers", "10", "--made", "1000000", "--tries", "0", *TROUBLE]
         ones = [
             sending(host.port, *many, "--name", f"P{number}x", "--log", log)
-            for number, (host, log) in enumerate(zip(hosts, logs))
+            for number, (host, log) in enumerate(zip(both, logs))
         ]
-        self.kill(hosts, kills)
+        self.kill(both, kills)
         for one in ones:
             one.terminate()
             one.communicate()
-        self.same("the hosts' status", [host.stop() for host in hosts], [0, 0])
+        self.same("the hosts' status", [host.stop() for host in both], [0, 0])
         found, done = Found(store), sum(len(acknowledged(log)) for log in logs)
         lost = [one for log in logs for one in found.lost(log)]
         self.true("messages are acknowledged", done > kills, str(done))
@@ -160,18 +160,18 @@ class Postgres(Checks):
         numbers = [one.number for one in found.whole]
         self.same("numbers without a gap", numbers, list(range(1, len(numbers) + 1)))
         self.same("no message stays open", sum(one.open for one in found.counts), 0)
-        kit.say(
+        hosts.say(
             f"postgresql: {kills} kills of two hosts and the server, {done} messages acknowledged, "
             f"{len(found.whole)} kept, {len(lost)} lost, {found.again()} repeats marked, {len(found.unmarked())} not"
         )
 
-    def kill(self, hosts, kills):
+    def kill(self, both, kills):
         """Kills a host and the server in turn."""
         rng = random.Random(3)
         for number in range(kills):
             time.sleep(0.3 + rng.random())
             if number % 2:
-                one = rng.choice(hosts)
+                one = rng.choice(both)
                 one.kill()
                 one.start()
             else:
@@ -179,7 +179,7 @@ class Postgres(Checks):
                 time.sleep(rng.random() * 0.3)
                 self.server.start()
             if number % 50 == 49:
-                kit.say(f"{number + 1} of {kills} kills")
+                hosts.say(f"{number + 1} of {kills} kills")
         time.sleep(1)
 
     def test_keeping(self):
@@ -205,7 +205,7 @@ class Postgres(Checks):
         lock = "LOCK TABLE message IN ROW EXCLUSIVE MODE; SELECT pg_sleep(60)"
         with self.server.psql("commits", "-c", lock) as other:
             asked = "SELECT count(*) FROM pg_locks WHERE mode = 'RowExclusiveLock' AND relation = 'message'::regclass"
-            held = kit.wait_for(lambda: self.server.asks("commits", asked) == "1")
+            held = hosts.wait_for(lambda: self.server.asks("commits", asked) == "1")
             try:
                 status, why = Host(store, "--host-name", "second").stop(), ""
             except RuntimeError as error:

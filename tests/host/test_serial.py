@@ -12,10 +12,10 @@ import time
 import tty
 import unittest.mock
 
-from kit import ENV, SCALE, Checks, Found, Host, acknowledged, process
 from lislink.host import options, serve
 from lislink.host import tty as serial
 from lislink.host.store import open_store
+from tests.host.hosts import ENV, SCALE, Found, Host, HostTest, acknowledged, process
 
 #: Where Debian's packages for Python are.
 DEBIAN = "/usr/lib/python3/dist-packages"
@@ -82,7 +82,7 @@ print(flags[0], flags[1], flags[2] & ~0o10017, flags[3], flags[6], speeds, "seri
 """
 
 
-class Serial(Checks):
+class Serial(HostTest):
     """A host and an analyzer on a serial line."""
 
     @classmethod

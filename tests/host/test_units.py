@@ -5,7 +5,7 @@ import shutil
 import subprocess
 import sys
 
-from kit import ROOT, Checks
+from tests.host.hosts import ROOT, HostTest
 
 PAGE = os.path.join(ROOT, "docs", "HOST.md")
 
@@ -17,7 +17,7 @@ def units():
     return {name: text.replace("/opt/lislab/bin/lislab", sys.executable) for name, text in found}
 
 
-class Units(Checks):
+class Units(HostTest):
     """Units of systemd."""
 
     def test_units(self):

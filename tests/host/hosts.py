@@ -10,13 +10,13 @@ import tempfile
 import time
 from typing import NamedTuple
 
-import checks
 from lislink.host.store import open_store
+from tests import ROOT, kit
+from tests.host import SOURCE
 
-ROOT = os.path.dirname(os.path.dirname(os.path.dirname(os.path.abspath(__file__))))
 #: Each timer of the standard is so many times as long: 15 seconds are 0.3.
 SCALE = 0.02
-ENV = {**os.environ, "PYTHONPATH": os.environ["LISLINK_SOURCE"], "PYTHONDONTWRITEBYTECODE": "1"}
+ENV = {**os.environ, "PYTHONPATH": SOURCE, "PYTHONDONTWRITEBYTECODE": "1"}
 FAULTY = os.path.join(ROOT, "tests", "host", "faulty.py")
 
 
@@ -67,8 +67,21 @@ def say(text):
 _PROCESSES = []
 
 
-class Checks(checks.Checks):
-    """Tests whose processes end with them, however they end."""
+class HostTest(kit.Test):
+    """Tests with a folder of their class. Their processes end with them, however they end."""
+
+    @classmethod
+    def setUpClass(cls):
+        cls.folder = tempfile.TemporaryDirectory(prefix="lis-host-")
+        cls.addClassCleanup(cls.folder.cleanup)
+
+    def path(self, name):
+        """A file of this class."""
+        return os.path.join(self.folder.name, name)
+
+    def true(self, name, holds, why=""):
+        """Whether something holds."""
+        return self.check(bool(holds), name, why)
 
     def tearDown(self):
         for one in _PROCESSES:
