@@ -1,4 +1,5 @@
-"""The tests, by what they try; each folder says so in its `__init__.py`. `tests/run` runs them, `tests/all` is the gate."""
+"""The tests, by what they try; each folder says so in its `__init__.py`. `tests/run` runs them, `tests/all` is the
+gate."""
 import os
 import sys
 

@@ -1,5 +1,5 @@
-"""The conformance rows: the answering program is asked all calls, lislink is run by all commands, each as both compilers
-built it. The answering program also makes the calls that the benchmark times, on samples of known counts."""
+"""The conformance rows: the answering program is asked all calls, lislink is run by all commands, each as both
+compilers built it. The answering program also makes the calls that the benchmark times, on samples of known counts."""
 import os
 import shlex
 import subprocess

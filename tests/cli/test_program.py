@@ -19,7 +19,8 @@ FINDING = "message 1\n1 H 0\n2 P 1\n3 O 2\n4 R 8\n5 R 3\n6 L 2\nfinding 5 R 2\nm
 NO_ORDER = "message 1\n1 H 0\n2 P 1\n3 O 2\n4 R 7\n5 L 2\nrefused 2 3 G3\nmessages 1 findings 0\n"
 LINE_2 = "lislink: K1 line 2\n"
 
-#: Runs by their words: (name, words, input, status, output, line on standard error). An input is bytes or a sample's name.
+#: Runs by their words: (name, words, input, status, output, line on standard error). An input is bytes or the name of a
+#: sample.
 RUNS = (
     ("no word", "", b"", *USAGE),
     ("an unknown word", "frob", b"", *USAGE),

@@ -1,6 +1,6 @@
-"""The list of commands at the head of docs/COMMANDS.md is the one that drives the others: each of its commands is in the
-program's words and their definition, in the model, in rows, in the tests and in the benchmark, and none is there that it
-lacks. `tools/man` makes the synopsis of it."""
+"""The list of commands at the head of docs/COMMANDS.md is the one that drives the others: each of its commands is in
+the program's words and their definition, in the model, in rows, in the tests and in the benchmark, and none is there
+that it lacks. `tools/man` makes the synopsis of it."""
 import glob
 import re
 
@@ -49,7 +49,8 @@ class Commands(kit.Test):
         self.is_listed("rows of commands", {call.split(" ")[1] for call in calls})
 
     def test_runs(self):
-        self.is_listed("tests/cli/test_program.py", {words.split()[0] for _, words, _, status, *_ in RUNS if status != 2})
+        runs = {words.split()[0] for _, words, _, status, *_ in RUNS if status != 2}
+        self.is_listed("tests/cli/test_program.py", runs)
 
     def test_benchmark(self):
         timed = {command.split()[0] for made in inputs.inputs(1) for command in made.commands}

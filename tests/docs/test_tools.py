@@ -1,4 +1,5 @@
-"""The pages that are made of the sources are up to date, and what they are made of is right; the scripts of tools/ check."""
+"""The pages that are made of the sources are up to date, and what they are made of is right; the scripts of tools/
+check."""
 from tests import kit
 
 

@@ -110,7 +110,8 @@ def receiver_cases():
                   ["receiver.new", "receiver.ready busy"], ["receiver.new", "receiver.ready contending"],
                   held + ["receiver.room off"]):
         for byte in range(256):
-            yield calls + [f"receiver.bytes {byte:02x}", "receiver.bytes 0232420337370d0a0a0231410337350d0a", "receiver.timer"]
+            frames = "0232420337370d0a0a0231410337350d0a"
+            yield calls + [f"receiver.bytes {byte:02x}", f"receiver.bytes {frames}", "receiver.timer"]
 
 
 def heard_cases(rng, count):
@@ -145,7 +146,8 @@ def capture_line(rng):
     """A line that says something, or nearly does."""
     how = rng.random()
     if how < 0.5:
-        return b"> " + hexed(rng, rng.choice((b"\x05", b"\x04", session(rng, 30), damaged(rng, session(rng, 20)))) or b"\x05")
+        data = rng.choice((b"\x05", b"\x04", session(rng, 30), damaged(rng, session(rng, 20))))
+        return b"> " + hexed(rng, data or b"\x05")
     if how < 0.7:
         return b"< " + hexed(rng, rng.choice((b"\x06", b"\x15", b"\x05", b"\x06\x06", rng.randbytes(3))))
     return rng.choice((b"", b"T", b"\r", b"R", b"S ready", b"S busy", b"S contending", b"capture 2"))
@@ -153,13 +155,13 @@ def capture_line(rng):
 
 def bad_line(rng):
     """A line that says nothing."""
-    return rng.choice((b">", b"> ", b"> 0", b"> 050", b">05", b">  05", b"> 05 ", b"> 0g", b"< ", b"t", b"TT", b" T", b"S off",
-                       b"S  ready", b"s ready", b"S ready\r\r", b"capture 1", b"capture 2 ", b"Capture 2", b"\x00", b"\xff",
-                       b"> 05\r\r", b"> 05\t", b"\t", rng.randbytes(5).replace(b"\n", b"") + b"?"))
+    return rng.choice((b">", b"> ", b"> 0", b"> 050", b">05", b">  05", b"> 05 ", b"> 0g", b"< ", b"t", b"TT", b" T",
+                       b"S off", b"S  ready", b"s ready", b"S ready\r\r", b"capture 1", b"capture 2 ", b"Capture 2",
+                       b"\x00", b"\xff", b"> 05\r\r", b"> 05\t", b"\t", rng.randbytes(5).replace(b"\n", b"") + b"?"))
 
 
 def dialogue(rng):
-    """The lines of sessions with the replies that a receiver gives, most of them; some frames come damaged or in pieces."""
+    """The lines of sessions with most of the replies that a receiver gives; some frames come damaged or in pieces."""
     receiver, lines = Receiver(240), []
     for _ in range(rng.randrange(1, 4)):
         for data in sent(rng, 120):
@@ -233,7 +235,8 @@ def headers(rng, count):
         delimiters = four(rng)
         letter = rng.choice((b"H", b"H", b"H", b"h", b"P", b"", b"\x00"))
         behind = rng.choice((b"", delimiters[:1], delimiters[1:2], b"A", b"\r"))
-        yield letter + delimiters[:rng.choice((4, 4, 4, 4, 3, 2, 0))] + behind + record_text(rng, delimiters.ljust(4, b"|"))
+        front = letter + delimiters[:rng.choice((4, 4, 4, 4, 3, 2, 0))] + behind
+        yield front + record_text(rng, delimiters.ljust(4, b"|"))
 
 
 def records(rng, count):
@@ -248,8 +251,9 @@ def records(rng, count):
 def long_records():
     """Records of the longest length and one more: escapes alone, delimiters alone, one escape of many digits."""
     for length in (65536, 65537):
-        for name, part in (("escapes", b"&"), ("field delimiters", b"|"), ("repeat delimiters", b"\\"), ("letters", b"A"),
-                           ("component delimiters", b"^"), ("escapes of digits", b"&X41&"), ("empty escapes", b"&X&"),
+        for name, part in (("escapes", b"&"), ("field delimiters", b"|"), ("repeat delimiters", b"\\"),
+                           ("letters", b"A"), ("component delimiters", b"^"), ("escapes of digits", b"&X41&"),
+                           ("empty escapes", b"&X&"),
                            ("bytes of the longest escape", b"\xfe"), ("all four", USUAL), ("open escapes", b"&X4")):
             yield f"{length} bytes of {name}", USUAL, (b"C|" + part * length)[:length]
         yield f"an escape of {length} bytes", USUAL, b"C|&X" + b"4" * (length - 5) + b"&"

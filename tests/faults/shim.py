@@ -10,8 +10,8 @@ from collections import namedtuple
 
 HERE = os.path.dirname(os.path.abspath(__file__))
 # The numbers of the table that the shim shares with the test; shim.c tells each.
-NAMES = ("armed refuse least growths refused read_most fail_read reads read_bytes write_most short_write fail_write writes "
-         "written_bytes fail_error lines fail_told later_calls").split()
+NAMES = ("armed refuse least growths refused read_most fail_read reads read_bytes write_most short_write fail_write "
+         "writes written_bytes fail_error lines fail_told later_calls").split()
 # No run of a test takes longer: it has at most a few megabytes to read, and is through in well under a second.
 SECONDS = 60
 
@@ -59,8 +59,8 @@ class Shim:
         return Ran(ran.returncode, ran.stdout, ran.stderr, self.counted())
 
     def ask(self, program, asked):
-        """Asks a program lines, (growth to refuse, least bytes of a growth that counts, line) each, and gives what it told
-        of each. A growth that was refused outside of a call would end the program: then answers are missing."""
+        """Asks a program lines, (growth to refuse, least bytes of a growth that counts, line) each, and gives what it
+        told of each. A growth that was refused outside of a call would end the program: then answers are missing."""
         with open(self.path("report"), "wb"):
             pass
         self.set({"lines": 1})

@@ -1,9 +1,9 @@
 """Reads and writes that fail.
 
-Each command is run with each of its reads failing in turn, and with each of its writes failing, taking nothing or taking
-one byte; and with a sink that fails after each number of bytes. conformance/model.py says what the run's text is. After
-a failed read the text for all bytes read is out, and K2 is printed; after a failed write the prefix of the text that was
-taken, and K3. Nothing is tried again: the calls are counted.
+Each command is run with each of its reads failing in turn, and with each of its writes failing, taking nothing or
+taking one byte; and with a sink that fails after each number of bytes. conformance/model.py says what the run's text
+is. After a failed read the text for all bytes read is out, and K2 is printed; after a failed write the prefix of the
+text that was taken, and K3. Nothing is tried again: the calls are counted.
 """
 import errno
 
@@ -17,7 +17,8 @@ WRITE_ERRORS = (errno.EIO, errno.EINTR, errno.ENOSPC, errno.EAGAIN, errno.EPIPE,
 
 SESSION = bytes.fromhex("05 0231487c5c5e260d0345350d0a 02324c7c317c4e0d0330350d0a 04")
 BAD = bytes.fromhex("05 020a 0238 0a 023103410333340d0a 02310333350d0a 0231 02310333340d0a 41 04 0230")
-TWO = b"\n".join((b"> 05", b"< 06", b"> 0231411738390d0a", b"< 06", b"> 0232410337360D0A\r", b"< 15", b"", b"T", b"> 05"))
+TWO = b"\n".join((b"> 05", b"< 06", b"> 0231411738390d0a", b"< 06", b"> 0232410337360D0A\r", b"< 15", b"", b"T",
+                  b"> 05"))
 SECOND = b"\n".join((b"capture 2", b"S busy", b"> 05", b"< 15", b"S contending", b"> 05", b"< 05", b"> 05", b"< 06",
                      b"> 0231410337350d0a", b"R", b"> 0231410337350d0a", b"S ready", b"< 0606", b""))
 REFUSED = b"> 05\n< 06\n> 0231410337350d0a\nhello\n< 06\n"
@@ -96,7 +97,7 @@ def error_line_fails(case, test):
 
 
 def try_case(case, test):
-    """Tries a case in all ways; how many reads and writes failed or were short, and after how many bytes a sink failed."""
+    """Tries a case in all ways; how many reads and writes failed or were short, and how often a sink failed."""
     ran = case.run()
     reads, writes = ran.table["reads"], ran.table["writes"]
     places = len(case.wanted.output) if case.piece == max(PIECES) else 0

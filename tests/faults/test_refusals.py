@@ -15,8 +15,9 @@ from tests.faults.shim import Shim
 from tests.faults.trials import OUT, TRIALS, Plain, named
 
 # Of each kind so many of the shorter cases; the calls that are refused memory; how long a case may be.
-KINDS = {"texts": (30, ("text.split",), 3000), "sender": (12, ("sender.start",), 2500), "link": (20, ("link.play",), 4000),
-         "late": (10, ("late.play",), 2000), "receiver": (40, ("receiver.bytes", "receiver.reserve"), 2500),
+KINDS = {"texts": (30, ("text.split",), 3000), "sender": (12, ("sender.start",), 2500),
+         "link": (20, ("link.play",), 4000), "late": (10, ("late.play",), 2000),
+         "receiver": (40, ("receiver.bytes", "receiver.reserve"), 2500),
          "headers": (80, ("record.header",), 800), "records": (120, ("record.read",), 400),
          "writing": (80, ("record.write", "record.write_field", "record.put_field"), 500),
          "building": (25, ("message.build", "message.write"), 2000),
@@ -111,8 +112,8 @@ def long_text():
 
 
 def try_reserved(shim, program, test):
-    """With room reserved, a long text is taken while each larger growth is refused; without, it is refused at some frame,
-    with NAK and the state as before, and the frame sent again is taken."""
+    """With room reserved, a long text is taken while each larger growth is refused; without, it is refused at some
+    frame, with NAK and the state as before, and the frame sent again is taken."""
     frames = long_text()
     hear = [f"receiver.bytes {data}" for data in frames[:-1]]
     start = [(0, 0, "receiver.new"), (0, 0, "receiver.bytes 05")]
@@ -129,7 +130,8 @@ def try_reserved(shim, program, test):
     refused = next(place for place, one in enumerate(told) if one.refused)
     before = [f"246=Accepted.{k % 8}:06 open accepted={k} held={240 * k}" for k in range(1, refused - 1)]
     held = f"open accepted={refused - 2} held={240 * (refused - 2)}"
-    test.check([one.answer for one in told[2:refused]] == before and told[refused].answer == f"246=OutOfMemory:15 {held}",
+    last = f"246=OutOfMemory:15 {held}"
+    test.check([one.answer for one in told[2:refused]] == before and told[refused].answer == last,
                lambda: f"frames without room: {told[refused]}")
     again = shim.ask(program, [one[:2] + (call,) for one, call in zip(start + [(-1, LARGE, "")] * (refused - 1), [
         line[2] for line in start] + hear)] + [(0, 0, hear[refused - 2])])

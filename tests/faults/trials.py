@@ -140,8 +140,8 @@ class Reserve(Plain):
 
 
 class Feed(Plain):
-    """A piece for a reader of messages: it fails for good, and delivers what was completed before; or the answer itself was
-    refused memory, with the piece read or not."""
+    """A piece for a reader of messages: it fails for good, and delivers what was completed before; or the answer itself
+    was refused memory, with the piece read or not."""
 
     def __init__(self, case, place):
         super().__init__(case, place)
@@ -195,7 +195,7 @@ class Feed(Plain):
 
 
     def comes_far(self):
-        """Whether the last growths that were refused it left it all messages but the last: none that was whole is lost."""
+        """Whether it kept all messages but the last when the last growths were refused: none that was whole is lost."""
         wanted = split_messages(self.wanted.rsplit(" fault=", 1)[0])
         return self.last[0] >= len(wanted) - 1
 

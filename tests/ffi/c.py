@@ -39,7 +39,7 @@ def python_over(library):
 
 
 def shared(test, archive, work):
-    """The shared library of the archive and of the files in plain C, compiled without a warning; None if it can't be."""
+    """The shared library of the archive and the files in plain C, compiled without a warning; None if it can't be."""
     library = f"{work}/liblislink.so"
     whole = ["-Wl,--whole-archive", archive, "-Wl,--no-whole-archive"]
     ours = [os.path.join(IN_C, name) for name in OURS]

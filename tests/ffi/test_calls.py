@@ -87,8 +87,8 @@ class Calls(kit.Test):
             self.rejects(lambda: writer.record("R", [b"1", b"a\nb"]), Status.FORBIDDEN, None, 3)
             writer.record("R", [b"1", [b"", b"", b"", b"GLU"], b"5.4", b"a|b&c"])
             writer.record("L", [b"1", b"N"])
-            self.gives(writer.texts(), [b"H|\\^&|||analyzer\r", b"P|1\r", b"O|1|S7||^^^GLU\r", b"R|1|^^^GLU|5.4|a&F&b&E&c\r",
-                                        b"L|1|N\r"])
+            self.gives(writer.texts(), [b"H|\\^&|||analyzer\r", b"P|1\r", b"O|1|S7||^^^GLU\r",
+                                        b"R|1|^^^GLU|5.4|a&F&b&E&c\r", b"L|1|N\r"])
             self.gives([row.letter for row in records(writer.texts())], ["H", "P", "O", "R", "L"])
             self.rejects(lambda: writer.start(b"||^&"), Status.BAD_DELIMITERS)
             self.rejects(lambda: writer.start(b"|"), Status.BAD_DELIMITERS)
@@ -155,7 +155,8 @@ class Calls(kit.Test):
             pieces = [stream[at:at + size] for at in range(0, len(stream), size)]
             told = list(messages(pieces + pieces))
             self.gives([[row.letter for row in rows] for rows in told], [list("HPORL")] * 2)
-            self.gives(told[1][2].fields, [[[b"1"]], [[b"S7"]], [[b""]], [[b"", b"", b"", b"GLU"], [b"", b"", b"", b"NA"]]])
+            tests = [[b"", b"", b"", b"GLU"], [b"", b"", b"", b"NA"]]
+            self.gives(told[1][2].fields, [[[b"1"]], [[b"S7"]], [[b""]], tests])
             self.gives((told[0][3].part(3, 0, 3), told[0][3].part(4), told[0][3].part(5)), (b"GLU", b"5\r", None))
         self.gives(read_error([b"H|\\^&\rR|1\r"]), (2, Reason.NO_PARENT, ord("R"), 0))
         self.gives(read_error([b"P|1\r"]), (1, Reason.NOT_HEADER, 0, 0))

@@ -1,5 +1,5 @@
-"""The header says what the exports take: names, parameters, structs and statuses; it compiles as C99 and as C++; and the
-code of C and Python that docs/EMBEDDING.md quotes is in a sample."""
+"""The header says what the exports take: names, parameters, structs and statuses; it compiles as C99 and as C++; and
+the code of C and Python that docs/EMBEDDING.md quotes is in a sample."""
 import glob
 import os
 import re
@@ -50,8 +50,8 @@ def exports(text):
         pairs = [word.strip().split(": ", 1) for word in words.split(",") if word.strip()]
         taken = [one for pair in pairs for one in c_parameters(*pair)]
         functions[name] = (NUMBERS[result] if result else "void", taken or ["void"])
-    for name, words in re.findall(r"#\[repr\(C\)\](?:\s*#\[derive\([\w, ]+\)\])?\s*pub struct (\w+) \{([^}]*(?:\{[^}]*\}[^}]*)*)\}",
-                                  text):
+    derived, inside = r"(?:\s*#\[derive\([\w, ]+\)\])?", r"([^}]*(?:\{[^}]*\}[^}]*)*)"
+    for name, words in re.findall(rf"#\[repr\(C\)\]{derived}\s*pub struct (\w+) \{{{inside}\}}", text):
         fields = re.findall(r"^\s*(?:pub )?(\w+): ([^,]+),$", words, re.M)
         structs[c_name(name)] = [one for field in fields for one in c_fields(*field)]
     return functions, structs

@@ -4,8 +4,8 @@ import os
 import re
 import subprocess
 
-from tests import ROOT, kit
-from tests.ffi.c import C11, HEADER, IN_C, SANITIZERS, families
+from tests import kit
+from tests.ffi.c import C11, HEADER, IN_C, SANITIZERS, WARNINGS, families
 
 CALL = {"lis_signal_kind": "lis_signal_text", "lis_found_kind": "lis_found_text"}
 SETS = '#include "lislink.h"\nlis_status set(lis_receiver *receiver);\n' \
@@ -40,7 +40,7 @@ class Names(kit.Test):
             with open(f"{work}/sets.c", "w") as file:
                 file.write(SETS.format(constant))
             for words in COMPILERS:
-                flags = ["-Wall", "-Wextra", "-Werror", f"-I{ROOT}/include", "-c", f"{work}/sets.c", "-o", f"{work}/sets.o"]
+                flags = [*WARNINGS, "-c", f"{work}/sets.c", "-o", f"{work}/sets.o"]
                 ran = subprocess.run([*words, *flags], capture_output=True, text=True)
                 self.check((ran.returncode == 0) == fine, f"{' '.join(words)}: {constant} as a readiness: {ran.stderr}")
 

@@ -1,5 +1,5 @@
-"""Programs over the library: those of examples/c and of this folder in C, with the sanitizers of addresses and of undefined
-behavior; one without a C library; those of examples/python over the package."""
+"""Programs over the library: those of examples/c and of this folder in C, with the sanitizers of addresses and of
+undefined behavior; one without a C library; those of examples/python over the package."""
 import os
 import re
 import sys

@@ -25,7 +25,9 @@ LOOKER = """
 function look(frame) {
   var page = frame.contentDocument, root = page.documentElement, told = {counts: {}, looks: []};
   told.ready = root.dataset.ready; told.failed = root.dataset.failed || '';
-  page.querySelectorAll('[data-count]').forEach(function (one) { told.counts[one.dataset.count] = one.querySelector('b').textContent; });
+  page.querySelectorAll('[data-count]').forEach(function (one) {
+    told.counts[one.dataset.count] = one.querySelector('b').textContent;
+  });
   page.querySelectorAll('[data-look]').forEach(function (one) { told.looks.push(one.dataset.look); });
   function shown() { return page.querySelectorAll('#ladder tbody tr:not([hidden])').length; }
   told.all = shown();

@@ -58,7 +58,9 @@ def written(pieces):
         f"{stamp} {'<-' if mark == '>' else '->'} {data!r}\n" for mark, stamp, data in rows
     ).encode()
     yield "strace", "".join(
-        f"12 {stamp} {'read' if mark == '>' else 'write'}(5, \"{''.join(f'{chr(92)}x{byte:02x}' for byte in data)}\", 4096) = {len(data)}\n"
+        f"12 {stamp} {'read' if mark == '>' else 'write'}(5, \""
+        f"{''.join(f'{chr(92)}x{byte:02x}' for byte in data)}\", 4096)"
+        f" = {len(data)}\n"
         for mark, stamp, data in rows
     ).encode()
     yield "tshark", "".join(
@@ -290,7 +292,8 @@ class Logs(FieldTest):
         )
         self.has("--timer", lislab("capture", log, "--timer", "0.09").text, "\nT\n")
         self.check("T" not in lislab("capture", log, "--timer", "30").lines, "no timer")
-        both = b"RX: 05\nTX: 06\nRX: 02 31 4F 7C 31 0D 03 42 35 0D 0A\nTX: 06\nRX: 04\nTX: 05\nRX: 06\nTX: 02 31 52 7C 31 0D 03 38 0D 0A\n"
+        both = b"RX: 05\nTX: 06\nRX: 02 31 4F 7C 31 0D 03 42 35 0D 0A\nTX: 06\nRX: 04\n"
+        both += b"TX: 05\nRX: 06\nTX: 02 31 52 7C 31 0D 03 38 0D 0A\n"
         ran = lislab("capture", self.path("log", both))
         self.has("the side with results", ran.error, "alone sends results")
         self.same("the side with results, lines", ran.lines[0], "< 05")

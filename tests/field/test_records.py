@@ -10,7 +10,10 @@ from tests import ROOT
 from tests.field.lab import FieldTest, lislab
 
 SAMPLES = os.path.join(ROOT, "samples")
-GOOD = b"H|\\^&|||A 1\rP|1||4711||Doe^Jane\rO|1|S7|I9|^^^GLU\rR|1|^^^GLU|5.4|mmol/L|3.9 to 6.1|N||F||op|20261120|20261121|A2\rL|1|N\r"
+GOOD = (
+    b"H|\\^&|||A 1\rP|1||4711||Doe^Jane\rO|1|S7|I9|^^^GLU\r"
+    b"R|1|^^^GLU|5.4|mmol/L|3.9 to 6.1|N||F||op|20261120|20261121|A2\rL|1|N\r"
+)
 BAD = b"H|\\^&\rP|1\rR|1|^^^NA|139\rL|1|N\r"
 
 
