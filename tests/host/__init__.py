@@ -1,7 +1,7 @@
 """The host `lislab serve`, by fire: it is killed, stopped, starved of its disk, and given analyzers with noise, late
 replies and resets; what was acknowledged must be kept, and each repeat marked. All traffic is on loopback.
 
-`tests/host/run` makes the long runs, runs single tests, and plants faults.
+`tests/host/more` makes the long runs, runs single tests, and plants faults.
 """
 import os
 import sys

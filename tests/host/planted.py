@@ -277,7 +277,7 @@ def tried(edits, tests):
         shutil.copytree(SOURCE, source, ignore=shutil.ignore_patterns("__pycache__"))
         for edit in edits:
             plant(edit, source)
-        words = [os.path.join(HERE, "run"), *tests]
+        words = [os.path.join(HERE, "more"), *tests]
         done = subprocess.run(
             [sys.executable, *words],
             env={**os.environ, "LISLINK_SOURCE": source},
