@@ -115,8 +115,10 @@ class Host:
             words += ["--listen", f"127.0.0.1:{self.port},name=fire"]
         self.said = tempfile.TemporaryFile("w+", encoding="utf-8")
         self.process = process([*words, *self.words], stdout=subprocess.PIPE, stderr=self.said, **self.how)
+        self.rows = []
         for row in self.process.stdout:
-            if row.startswith("listening"):
+            self.rows.append(row)
+            if row.startswith("listening") and row.endswith(" fire\n"):
                 self.port = int(row.split()[1].rsplit(":", 1)[1])
             if row == "ready\n":
                 return

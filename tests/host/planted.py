@@ -80,6 +80,7 @@ FAULTS = {
     "test_lines.Lines.test_limits": Edit(
         "host/serve.py", "len(host.lines) >= host.limits.lines", "len(host.lines) > host.limits.lines"
     ),
+    "test_lines.Lines.test_long_frames": Edit("host/line.py", "Receiver(frame_limit=frame)", "Receiver()"),
     "test_lines.Lines.test_peers": Edit("host/serve.py", "if peer is None:", "if peer == 0:"),
     "test_lines.Lines.test_quarantine": Edit("host/intake.py", "one.fault or reason, changes", "reason, changes"),
     "test_lines.Lines.test_stop": Edit(

@@ -7,6 +7,7 @@ import time
 import unittest.mock
 
 from lislink import FrameFault, frame_bytes
+from lislink.link import LONG_FRAME_TEXT
 from lislink.host import options, serve
 from tests.host.hosts import Found, Host, HostTest, lislab, sending, wait_for
 
@@ -237,6 +238,26 @@ class Lines(HostTest):
         found = Found(host.store)
         self.same("the short message is kept", [one.body for one in found.whole], [b"".join(TEXTS)])
         self.true("what came of the long one is kept", "more than 1000 bytes" in found.others[0].reason)
+
+    def test_long_frames(self):
+        """A line takes frames as long as it was told, and rejects longer ones."""
+        host = Host(self.path("long.db"), "--listen", "0,name=long,frame=63993", scale=1.0)
+        port = next(int(row.split()[1].rsplit(":", 1)[1]) for row in host.rows if row.endswith(" long\n"))
+        kept = []
+        for size in (241, 5000, LONG_FRAME_TEXT):
+            texts = [TEXTS[0], b"C|1|I|" + b"x" * (size - 7) + b"\r", TEXTS[-1]]
+            kept.append(b"".join(texts))
+            sent = [frame_bytes(place, True, text, frame_limit=LONG_FRAME_TEXT) for place, text in enumerate(texts, 1)]
+            with Client(port) as client, Client(host.port) as short:
+                replies = [client.asks(unit) for unit in (ENQ, *sent)]
+                self.same(f"{size} bytes: a line with the long limit", replies, [ACK] * 4)
+                client.send(EOT)
+                replies = [short.asks(unit) for unit in (ENQ, *sent[:2])]
+                self.same(f"{size} bytes: one with the usual limit", replies, [ACK, ACK, NAK])
+                short.send(EOT)
+        self.same("the host's status", host.stop(), 0)
+        whole = [one.body for one in Found(host.store).whole]
+        self.same("they are kept", whole, kept)
 
     def test_peers(self):
         """Who may connect, who may not, and a peer that is gone before it is looked at."""

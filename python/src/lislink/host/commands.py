@@ -115,7 +115,6 @@ def run_serve(ask: argparse.Namespace) -> int:
     if not listens and not serials:
         raise OptionError("name a line by --listen or --serial")
     options.check_allowed(listens, networks)
-    serve.check_frames([*listens, *serials])
     if ask.reply_within >= 15:
         raise OptionError("--reply-within is below the analyzer's timer of 15 seconds")
     calls()  # without the library no line could be answered

@@ -11,7 +11,6 @@ import time
 from collections import Counter
 from typing import Any, Dict, List, NamedTuple, Optional, Sequence, Set
 
-from ..link import FRAME_TEXT
 from .commits import Committer
 from .intake import Intake
 from .line import Line, Ticks, Wire
@@ -61,7 +60,7 @@ class Host:
         counts = self.counts.setdefault(place.name, Counter())
         counts["connections"] += 1
         intake = Intake(place.name, peer, place.encoding, self.limits.message, time.time)
-        line = Line(wire, intake, self.committer, self.limits, counts, self._tape(place.name))
+        line = Line(wire, intake, self.committer, self.limits, counts, self._tape(place.name), place.frame)
         task = asyncio.ensure_future(line.run())
         self.lines[line], self._names[line] = task, place.name
         task.add_done_callback(lambda done: self._over(line, done))
@@ -262,10 +261,3 @@ async def serve(asked: Asked, store: Store) -> None:
         await stop.wait()
     finally:
         await host.stop()
-
-
-def check_frames(places: "Sequence[Listen | Serial]") -> None:
-    """Whether the library has receivers for these lines."""
-    for place in places:
-        if place.frame != FRAME_TEXT:
-            raise OptionError(f"{place.name}: this library has frames of {FRAME_TEXT} bytes of text only")
