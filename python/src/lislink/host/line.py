@@ -63,11 +63,12 @@ class Line:
         limits: Limits,
         counts: "Counter[str]",
         tape: Optional[Tape],
+        frame: int,
     ) -> None:
         self._wire, self._intake, self._committer, self._limits = wire, intake, committer, limits
         self._counts, self._tape = counts, tape
         self._loop = asyncio.get_running_loop()
-        self._receiver = Receiver()
+        self._receiver = Receiver(frame_limit=frame)
         self._pieces: Deque[Tuple[float, bytes]] = deque()
         self._size, self._paused_at = 0, None  # type: int, Optional[float]
         self._due: Optional[float] = None

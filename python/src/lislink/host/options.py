@@ -4,9 +4,9 @@ import ipaddress
 import re
 from typing import Dict, List, NamedTuple, Sequence, Tuple, Union
 
+from ..link import FRAME_TEXT, LONG_FRAME_TEXT
+
 Network = Union[ipaddress.IPv4Network, ipaddress.IPv6Network]
-#: The frame limits that the library has.
-SHORT, LONG = 240, 63993
 _MODES = re.compile(r"[5-8][NEO][12]$")
 
 
@@ -59,9 +59,11 @@ def _split(word: str, known: Sequence[str]) -> Tuple[str, Dict[str, str]]:
 
 
 def _frame(given: Dict[str, str]) -> int:
-    if given.get("frame", "240") not in (str(SHORT), str(LONG)):
-        raise OptionError(f"a frame has at most {SHORT} or {LONG} bytes of text, not {given['frame']}")
-    return int(given.get("frame", SHORT))
+    limits = {str(one): one for one in (FRAME_TEXT, LONG_FRAME_TEXT)}
+    word = given.get("frame", str(FRAME_TEXT))
+    if word not in limits:
+        raise OptionError(f"a frame has at most {' or '.join(limits)} bytes of text, not {word}")
+    return limits[word]
 
 
 def _encoding(given: Dict[str, str]) -> str:

@@ -11,7 +11,6 @@ import time
 from collections import Counter
 from typing import Any, Dict, List, NamedTuple, Optional, Sequence, Set
 
-from ..link import FRAME_TEXT
 from .commits import Committer
 from .intake import Intake
 from .line import Line, Ticks, Wire
@@ -61,7 +60,7 @@ class Host:
         counts = self.counts.setdefault(place.name, Counter())
         counts["connections"] += 1
         intake = Intake(place.name, peer, place.encoding, self.limits.message, time.time)
-        line = Line(wire, intake, self.committer, self.limits, counts, self._tape(place.name))
+        line = Line(wire, intake, self.committer, self.limits, counts, self._tape(place.name), place.frame)
         task = asyncio.ensure_future(line.run())
         self.lines[line], self._names[line] = task, place.name
         task.add_done_callback(lambda done: self._over(line, done))
@@ -110,17 +109,20 @@ class Host:
         said = ""
         while not self.stopping:
             try:
-                wire = SerialWire(open_serial(serial), lambda: self.ticks.before)
+                late = self.limits.reply * self.limits.scale
+                wire = SerialWire(open_serial(serial), lambda: self.ticks.before, late)
             except (OSError, OptionError) as error:
                 if str(error) != said:
                     said = str(error)
                     say(f"{serial.name}: {said}")
                 await asyncio.sleep(REOPEN)
                 continue
-            said = ""
+            said, opened = "", time.monotonic()
             line = self.add(wire, serial, serial.device)
             wire.begin(line)
             await asyncio.wait([self.lines[line]])
+            if time.monotonic() < opened + REOPEN:  # a device that opens and is gone at once
+                await asyncio.sleep(REOPEN)
 
     async def stop(self) -> None:
         """Takes no new line, lets the sessions that go on end for a while, and keeps what came."""
@@ -190,6 +192,9 @@ class TcpWire(asyncio.BufferedProtocol, Wire):
         """An analyzer connects, or somebody who may not."""
         assert isinstance(transport, asyncio.Transport)
         host, peer = self._host, transport.get_extra_info("peername")
+        if peer is None:  # it is gone already
+            transport.abort()
+            return
         if host.stopping or len(host.lines) >= host.limits.lines or not is_allowed(peer[0], host.asked.networks):
             host.refused += 1
             transport.abort()
@@ -256,10 +261,3 @@ async def serve(asked: Asked, store: Store) -> None:
         await stop.wait()
     finally:
         await host.stop()
-
-
-def check_frames(places: "Sequence[Listen | Serial]") -> None:
-    """Whether the library has receivers for these lines."""
-    for place in places:
-        if place.frame != FRAME_TEXT:
-            raise OptionError(f"{place.name}: this library has frames of {FRAME_TEXT} bytes of text only")
