@@ -3,10 +3,12 @@ import os
 import sys
 
 sys.path.insert(0, os.path.join(os.path.dirname(os.path.dirname(os.path.abspath(__file__))), "python/src"))
-from lislink import (FrameFault, Kind, LinkError, MessageError, Note, Outcome, Phase, Readiness, Reason,  # noqa: E402
-                     Reader, Receiver, Record, Scanner, Sender, Status, Writer, frame_bytes, messages, records)
+from lislink import (LONG_FRAME_TEXT, FrameFault, Kind, LinkError, MessageError, Note, Outcome, Phase,  # noqa: E402
+                     Readiness, Reason, Reader, Receiver, Record, Scanner, Sender, Status, Writer, frame_bytes,
+                     messages, records)
 
 FIRST = bytes.fromhex("0231487c5c5e260d0345350d0a")
+LONG = b"\x021" + b"a" * 63993 + b"\x03%02X\r\n" % ((ord("1") + 63993 * ord("a") + 3) % 256)
 calls = 0
 
 
@@ -31,6 +33,25 @@ def of_frames():
     refused(lambda: frame_bytes(8, True, b"a\x02"), Status.FORBIDDEN, None, 1)
     refused(lambda: frame_bytes(1, True, b"a" * 241), Status.TOO_LONG, None, 0)
     same(len(frame_bytes(1, False, b"a" * 240)), 247)
+    same(frame_bytes(1, True, b"H|\\^&\r", frame_limit=LONG_FRAME_TEXT), FIRST)
+    same(frame_bytes(1, True, b"a" * 63993, frame_limit=LONG_FRAME_TEXT), LONG)
+    refused(lambda: frame_bytes(1, True, b"a" * 63994, frame_limit=LONG_FRAME_TEXT), Status.TOO_LONG, None, 0)
+    refused(lambda: frame_bytes(1, True, b"", frame_limit=241), Status.BAD_NUMBER)
+
+
+def of_long_frames():
+    refused(lambda: Scanner(frame_limit=241), Status.BAD_NUMBER)
+    refused(lambda: Receiver(frame_limit=0), Status.BAD_NUMBER)
+    with Scanner(frame_limit=LONG_FRAME_TEXT) as scanner:
+        signals = list(scanner.feed(LONG + FIRST + LONG[:9] + b"\n"))
+        same([signal.kind for signal in signals], [Kind.FRAME, Kind.FRAME, Kind.BAD_FRAME])
+        same([signal.text for signal in signals], [b"a" * LONG_FRAME_TEXT, b"H|\\^&\r", b""])
+    with Scanner() as scanner:
+        same([signal.fault for signal in scanner.feed(LONG)], [FrameFault.TOO_LONG])
+    with Receiver(frame_limit=LONG_FRAME_TEXT) as receiver:
+        same([step.text for step in receiver.hear(b"\x05" + LONG)], [None, b"a" * LONG_FRAME_TEXT])
+    with Receiver() as receiver:
+        same([step.detail for step in receiver.hear(b"\x05" + LONG)], [0, FrameFault.TOO_LONG])
 
 
 def of_scanner():
@@ -177,6 +198,7 @@ def of_messages():
 
 
 of_frames()
+of_long_frames()
 of_messages()
 of_reader()
 of_records()

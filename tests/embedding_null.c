@@ -21,13 +21,21 @@ static size_t size;
 static void of_frames(void) {
     lis_scanner scanner = {malloc(lis_scanner_size())};
     lis_signal signal;
+    size_t place;
     lis_scanner_init(scanner.at);
-    SAME(lis_scanner_feed(&scanner, NULL, 0, &signal), 0);
-    SAME(signal.kind, LIS_SIGNAL_NONE);
+    for (int i = 0; i < 2; i++) {
+        SAME(lis_scanner_feed(&scanner, NULL, 0, &signal), 0);
+        SAME(signal.kind, LIS_SIGNAL_NONE);
+        SAME(lis_scanner_text(&scanner, NULL, 0), LIS_STATUS_OK);
+        SAME(lis_scanner_set_limit(&scanner, LIS_LIMIT_LONG_FRAME_TEXT), LIS_STATUS_OK);
+    }
     lis_scanner_end(scanner);
     free(scanner.at);
     SAME(lis_frame_write(1, true, NULL, 0, &out, &size), LIS_STATUS_OK);
     SAME(out.len, 7);
+    SAME(lis_long_frame_write(1, true, NULL, 0, NULL, 0, &size, &place), LIS_STATUS_TOO_SHORT);
+    SAME(lis_long_frame_write(1, true, NULL, 0, out.bytes, sizeof out.bytes, &size, &place), LIS_STATUS_OK);
+    SAME(size, 7);
 }
 
 static void of_sender(void) {
@@ -52,6 +60,10 @@ static void of_receiver(void) {
     lis_receiver receiver = {malloc(lis_receiver_size())};
     lis_step step;
     lis_receiver_init(receiver.at);
+    SAME(lis_receiver_set_limit(&receiver, LIS_LIMIT_LONG_FRAME_TEXT), LIS_STATUS_OK);
+    SAME(lis_receiver_hear(&receiver, NULL, 0, &step), 0);
+    SAME(step.note, LIS_NOTE_QUIET);
+    SAME(lis_receiver_set_limit(&receiver, LIS_LIMIT_FRAME_TEXT), LIS_STATUS_OK);
     SAME(lis_receiver_hear(&receiver, NULL, 0, &step), 0);
     SAME(step.note, LIS_NOTE_QUIET);
     SAME(lis_receiver_text(&receiver, NULL, 0), LIS_STATUS_OK);
