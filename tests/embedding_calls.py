@@ -52,6 +52,12 @@ def of_long_frames():
         same([step.text for step in receiver.hear(b"\x05" + LONG)], [None, b"a" * LONG_FRAME_TEXT])
     with Receiver() as receiver:
         same([step.detail for step in receiver.hear(b"\x05" + LONG)], [0, FrameFault.TOO_LONG])
+    refused(lambda: Sender(frame_limit=241), Status.BAD_NUMBER)
+    with Sender(frame_limit=LONG_FRAME_TEXT) as sender:
+        sender.add_text(b"a" * LONG_FRAME_TEXT)
+        same((sender.start(), sender.reply(21), sender.timer()), (b"\x05", b"", b"\x05"))
+        same((sender.reply(6), sender.reply(21), sender.reply(6)), (LONG, LONG, b"\x04"))
+        same((sender.reply(6), sender.outcome), (b"", Outcome.DONE))
 
 
 def of_scanner():
