@@ -185,7 +185,7 @@ lis_status lis_frame_write(uint8_t number, bool last, const uint8_t *text, size_
                            size_t *place);
 /* Writes a frame whose text has up to LIS_LIMIT_LONG_FRAME_TEXT bytes to the front of a buffer; `size` is its length.
  * The same answers, and LIS_STATUS_TOO_SHORT if the frame, 7 bytes longer than its text, does not fit. `size` and
- * `place` are always written, else 0; `out` only with OK. It takes about 200 kB of the stack, and no heap. */
+ * `place` are always written, else 0; `out` only with OK. It takes about 400 kB of the stack, and no heap. */
 lis_status lis_long_frame_write(uint8_t number, bool last, const uint8_t *text, size_t text_len, uint8_t *out,
                                 size_t out_len, size_t *size, size_t *place);
 
@@ -222,6 +222,11 @@ size_t lis_sender_size(void);
 size_t lis_sender_align(void);
 void lis_sender_init(void *at);
 void lis_sender_end(lis_sender s);
+/* Sets how long the text of a frame may be, LIS_LIMIT_FRAME_TEXT (as after _init) or LIS_LIMIT_LONG_FRAME_TEXT, and
+ * makes the sender new, as after _init, but for the texts of the next session, which stay: LIS_STATUS_OK;
+ * LIS_STATUS_IN_SESSION while a session goes on, or LIS_STATUS_BAD_NUMBER for another limit, and nothing has changed.
+ * With the long limit a frame may have more bytes than `lis_bytes` has room for: see lis_sender_frame. */
+lis_status lis_sender_set_limit(lis_sender *s, size_t limit);
 /* Adds a copy of a text to the next session: LIS_STATUS_OK, LIS_STATUS_FULL or LIS_STATUS_OUT_OF_MEMORY; else than with
  * OK nothing has changed. It may be called while a session goes on. */
 lis_status lis_sender_add_text(lis_sender *s, const uint8_t *text, size_t text_len);
@@ -239,8 +244,15 @@ lis_status lis_sender_start(lis_sender *s, lis_bytes *out, lis_place *fault);
 lis_status lis_sender_start_lent(lis_sender *s, const lis_text *texts, size_t texts_len, lis_bytes *out,
                                  lis_place *fault);
 /* A reply byte came: what is to be sent. `out` is always written. The timer runs on if `out` is empty and the phase
- * is as before, else it begins anew. */
+ * is as before, else it begins anew; with the long limit, if no frame is to be sent either. */
 void lis_sender_reply(lis_sender *s, uint8_t byte, lis_bytes *out);
+/* Copies the frame that was sent and awaits its reply to the front of a buffer: LIS_STATUS_OK and `size` is its length;
+ * LIS_STATUS_ABSENT if none does; LIS_STATUS_TOO_SHORT if it is longer than the buffer, and nothing is copied: call it
+ * again with more room. `size` is always written, 0 but with OK. With the long limit a frame of over
+ * LIS_LIMIT_FRAME_BYTES bytes leaves `out` of lis_sender_reply empty: if lis_sender_frame then answers OK, that frame
+ * is to be sent. With the long limit lis_sender_reply takes up to 640 kB of the stack, lis_sender_frame 450 kB, and
+ * lis_sender_timer 200 kB. */
+lis_status lis_sender_frame(lis_sender *s, uint8_t *out, size_t out_len, size_t *size);
 /* The phase's timer ran out: what is to be sent. `out` is always written. After a BUSY or a CONTENTION it is ENQ again;
  * else EOT, and the session is over, LIS_OUTCOME_TIMED_OUT. */
 void lis_sender_timer(lis_sender *s, lis_bytes *out);
@@ -277,6 +289,8 @@ lis_status lis_line_start_lent(lis_line *line, const lis_text *texts, size_t tex
 /* A byte came over the connection of this number: as lis_sender_reply if it is the present one, and no session failed
  * on it; else the byte is dropped, and nothing is to be sent. */
 void lis_line_reply(lis_line *line, uint64_t connection, uint8_t byte, lis_bytes *out);
+/* After lis_line_reply for the same byte: as lis_sender_frame; LIS_STATUS_ABSENT too if that byte was dropped. */
+lis_status lis_line_frame(lis_line *line, uint64_t connection, uint8_t *out, size_t out_len, size_t *size);
 /* As lis_sender_timer and lis_sender_restart. */
 void lis_line_timer(lis_line *line, lis_bytes *out);
 void lis_line_restart(lis_line *line);

@@ -248,6 +248,7 @@ class sender {
     detail::owner<lis_sender, lis_sender_size, lis_sender_align, lis_sender_init, lis_sender_end> own_;
     lis_line line_{};
     lis_bytes out_{};
+    std::string long_;    // room for a frame, with the long limit
     lis_place fault_{};
 
     lis_sender *get() noexcept {
@@ -294,9 +295,28 @@ public:
 #endif
     void clear() noexcept { lis_sender_clear(get()); }
 
+    // Sets how long the text of a frame may be, LIS_LIMIT_FRAME_TEXT or LIS_LIMIT_LONG_FRAME_TEXT, while no session
+    // goes on, and makes the sender new; the texts of the next session stay. It throws std::bad_alloc, and the sender
+    // is as it was, if there is no memory.
+    lis_status try_set_frame_limit(std::size_t limit) {
+        std::string room(limit == LIS_LIMIT_LONG_FRAME_TEXT ? LIS_LIMIT_LONG_FRAME_BYTES : 0, '\0');
+        lis_status status = lis_sender_set_limit(get(), limit);
+        if (status == LIS_STATUS_OK)
+            long_ = std::move(room);
+        return status;
+    }
+#if defined(__cpp_exceptions)
+    void set_frame_limit(std::size_t limit) { detail::check(try_set_frame_limit(limit)); }
+#endif
+
     std::string_view reply(connection from, std::uint8_t byte) noexcept {
-        lis_line_reply(&line_, static_cast<std::uint64_t>(from), byte, &out_);
-        return out();
+        std::size_t size = 0;
+        auto line = static_cast<std::uint64_t>(from);
+        lis_line_reply(&line_, line, byte, &out_);
+        if (out_.len > 0 || long_.empty()
+            || lis_line_frame(&line_, line, detail::at(long_), long_.size(), &size) != LIS_STATUS_OK)
+            return out();
+        return std::string_view(long_).substr(0, size);
     }
     std::string_view timer() noexcept {
         lis_line_timer(&line_, &out_);

@@ -42,6 +42,13 @@ void lis_line_reply(lis_line *line, uint64_t connection, uint8_t byte, lis_bytes
     lis_sender_reply(&line->sender, byte, out);
 }
 
+lis_status lis_line_frame(lis_line *line, uint64_t connection, uint8_t *out, size_t out_len, size_t *size) {
+    *size = 0;
+    if (connection != line->connection || line->spent)
+        return LIS_STATUS_ABSENT;
+    return lis_sender_frame(&line->sender, out, out_len, size);
+}
+
 void lis_line_timer(lis_line *line, lis_bytes *out) {
     bool session = lis_sender_phase(&line->sender) != LIS_PHASE_NEUTRAL;
     lis_sender_timer(&line->sender, out);

@@ -3,6 +3,7 @@
 #include "lislink.h"
 #include <stdio.h>
 #include <stdlib.h>
+#include <string.h>
 
 enum { EOT = 4, ENQ = 5, ACK = 6, NAK = 21 };
 
@@ -111,8 +112,15 @@ static void of_restarts(void) {
 /* Six tries are answered each: the connection may be used again. */
 static void of_tries(void) {
     uint64_t first = lis_line_connected(&line);
+    uint8_t frame[LIS_LIMIT_FRAME_BYTES];
+    size_t size;
     starts();
     lis_line_reply(&line, first, ACK, &out);
+    SAME(lis_line_frame(&line, first + 1, frame, sizeof frame, &size), LIS_STATUS_ABSENT);
+    SAME(lis_line_frame(&line, first, frame, out.len - 1, &size), LIS_STATUS_TOO_SHORT);
+    SAME(size, 0);
+    SAME(lis_line_frame(&line, first, frame, sizeof frame, &size), LIS_STATUS_OK);
+    SAME(size == out.len && memcmp(frame, out.bytes, size) == 0, true);
     for (int turn = 0; turn < 6; turn++)
         lis_line_reply(&line, first, NAK, &out);
     SAME(lis_sender_outcome(&line.sender), LIS_OUTCOME_SIX_TRIES);

@@ -1,5 +1,5 @@
-/* Frames whose texts have over 240 bytes: written, scanned whole and byte by byte, and received, with each limit, each
- * refusal, and no memory for the long limit. Prints how many things were compared. */
+/* Frames whose texts have over 240 bytes: written, scanned whole and byte by byte, received and sent, with each limit,
+ * each refusal, and no memory for the long limit. Prints how many things were compared. */
 #include "lislink.h"
 #include "../../examples/c/refusing_heap.h"
 #include <stdio.h>
@@ -9,7 +9,7 @@
 enum { MOST = LIS_LIMIT_LONG_FRAME_TEXT };
 
 static int compared;
-static uint8_t text[MOST + 1], copy[MOST + 1], frame[LIS_LIMIT_LONG_FRAME_BYTES + 1];
+static uint8_t text[MOST + 1], copy[MOST + 8], frame[LIS_LIMIT_LONG_FRAME_BYTES + 1];
 static size_t size, place;
 
 static void same(unsigned long long found, unsigned long long wanted, int at) {
@@ -186,10 +186,70 @@ static void of_receiver(void) {
     free(receiver.at);
 }
 
+/* The frame that awaits its reply, which a buffer that is too short leaves there. */
+static void awaits(lis_sender *sender, size_t len) {
+    memset(copy, 0xA5, sizeof copy);
+    SAME(lis_sender_frame(sender, copy, size - 1, &place), LIS_STATUS_TOO_SHORT);
+    SAME(place == 0 && copy[0] == 0xA5, true);
+    SAME(lis_sender_frame(sender, copy, sizeof copy, &place), LIS_STATUS_OK);
+    SAME(place, size);
+    SAME(size, len + 7);
+    SAME(memcmp(copy, frame, size) == 0 && copy[size] == 0xA5, true);
+}
+
+/* One text of so many bytes goes over, its first frame twice. */
+static void send(lis_sender *sender, size_t len, size_t limit) {
+    lis_bytes out;
+    lis_place fault;
+    make_text(len);
+    SAME(lis_sender_add_text(sender, text, len), LIS_STATUS_OK);
+    SAME(lis_sender_start(sender, &out, &fault), LIS_STATUS_OK);
+    SAME(lis_sender_set_limit(sender, limit), LIS_STATUS_IN_SESSION);
+    SAME(lis_sender_frame(sender, copy, sizeof copy, &place), LIS_STATUS_ABSENT);
+    lis_sender_reply(sender, 6, &out);
+    for (size_t at = 0, number = 1; at < len; at += limit, number++) {
+        size_t piece = len - at < limit ? len - at : limit;
+        SAME(lis_long_frame_write(number & 7, at + piece == len, text + at, piece, frame, sizeof frame, &size, &place),
+             LIS_STATUS_OK);
+        if (at == 0)
+            lis_sender_reply(sender, 21, &out);
+        SAME(out.len, size > sizeof out.bytes ? 0 : size);
+        SAME(memcmp(out.bytes, frame, out.len), 0);
+        awaits(sender, piece);
+        lis_sender_reply(sender, 6, &out);
+    }
+    SAME(out.len == 1 && out.bytes[0] == 4, true);
+    SAME(lis_sender_outcome(sender), LIS_OUTCOME_DONE);
+    SAME(lis_sender_frame(sender, copy, sizeof copy, &place), LIS_STATUS_ABSENT);
+    SAME(place, 0);
+}
+
+static void of_sender(void) {
+    lis_sender sender = {malloc(lis_sender_size())};
+    lis_bytes out;
+    lis_place fault;
+    lis_sender_init(sender.at);
+    SAME(lis_sender_set_limit(&sender, 239), LIS_STATUS_BAD_NUMBER);
+    send(&sender, 500, LIS_LIMIT_FRAME_TEXT);
+    SAME(lis_sender_add_text(&sender, text, 300), LIS_STATUS_OK);
+    SAME(lis_sender_set_limit(&sender, MOST), LIS_STATUS_OK);
+    SAME(lis_sender_outcome(&sender), LIS_OUTCOME_NONE);
+    SAME(lis_sender_start(&sender, &out, &fault), LIS_STATUS_OK);    /* the text is still there */
+    lis_sender_restart(&sender);
+    send(&sender, 240, MOST);
+    send(&sender, 241, MOST);
+    send(&sender, MOST, MOST);
+    SAME(lis_sender_set_limit(&sender, LIS_LIMIT_FRAME_TEXT), LIS_STATUS_OK);
+    send(&sender, 241, LIS_LIMIT_FRAME_TEXT);
+    lis_sender_end(sender);
+    free(sender.at);
+}
+
 int main(void) {
     of_writing();
     of_scanner();
     of_receiver();
+    of_sender();
     SAME(live, 0);
     printf("%d compared\n", compared);
     return 0;

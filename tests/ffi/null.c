@@ -42,11 +42,13 @@ static void of_sender(void) {
     static const lis_text texts[] = {{NULL, 0}};
     lis_sender sender = {malloc(lis_sender_size())};
     lis_sender_init(sender.at);
+    SAME(lis_sender_frame(&sender, NULL, 0, &size), LIS_STATUS_ABSENT);
     SAME(lis_sender_start_lent(&sender, NULL, 0, &out, &fault), LIS_STATUS_NO_TEXT);
     SAME(lis_sender_add_text(&sender, NULL, 0), LIS_STATUS_OK);
     SAME(lis_sender_start(&sender, &out, &fault), LIS_STATUS_OK);
     lis_sender_reply(&sender, 6, &out);
     SAME(out.len, 7);
+    SAME(lis_sender_frame(&sender, NULL, 0, &size), LIS_STATUS_TOO_SHORT);
     lis_sender_restart(&sender);
     SAME(lis_sender_start_lent(&sender, texts, 1, &out, &fault), LIS_STATUS_OK);
     lis_sender_reply(&sender, 6, &out);

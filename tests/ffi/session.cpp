@@ -158,6 +158,13 @@ static void of_long_frames() {
     SAME(receiver.hear("\x05" + bytes, keep, send) && good == 2 && bad == 2);
     SAME(scanner.try_set_frame_limit(241) == LIS_STATUS_BAD_NUMBER);
     SAME(receiver.try_set_frame_limit(0) == LIS_STATUS_BAD_NUMBER);
+    lislink::sender sender;
+    SAME(sender.try_set_frame_limit(241) == LIS_STATUS_BAD_NUMBER);
+    sender.set_frame_limit(LIS_LIMIT_LONG_FRAME_TEXT);
+    lislink::connection old = sender.connected(), line = sender.connected();
+    sender.add(text);
+    SAME(sender.start() == "\x05" && sender.reply(line, 6) == bytes && sender.reply(old, 6).empty());
+    SAME(sender.reply(line, 21) == bytes && sender.reply(line, 6) == "\x04" && sender.outcome() == LIS_OUTCOME_DONE);
     std::string out;
     std::size_t place = 0;
     SAME(lislink::try_long_frame(1, true, std::string(63994, 'a'), out, place) == LIS_STATUS_TOO_LONG && out.empty());

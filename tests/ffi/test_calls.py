@@ -63,6 +63,12 @@ class Calls(kit.Test):
             self.gives([step.text for step in receiver.hear(b"\x05" + LONG)], [None, b"a" * LONG_FRAME_TEXT])
         with Receiver() as receiver:
             self.gives([step.detail for step in receiver.hear(b"\x05" + LONG)], [0, FrameFault.TOO_LONG])
+        self.rejects(lambda: Sender(frame_limit=241), Status.BAD_NUMBER)
+        with Sender(frame_limit=LONG_FRAME_TEXT) as sender:
+            sender.add_text(b"a" * LONG_FRAME_TEXT)
+            self.gives((sender.start(), sender.reply(21), sender.timer()), (b"\x05", b"", b"\x05"))
+            self.gives((sender.reply(6), sender.reply(21), sender.reply(6)), (LONG, LONG, b"\x04"))
+            self.gives((sender.reply(6), sender.outcome), (b"", Outcome.DONE))
 
     def test_scanner(self):
         with Scanner() as scanner:

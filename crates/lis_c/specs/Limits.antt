@@ -1,12 +1,17 @@
 -- The limit on a frame's text: the usual one of 240 bytes, or the long one of 63,993.
-use Rattle.std.specs.Prelude.{◌≡◌, ◌≢◌, ℕ, ◌⊎◌, List, []}
+use Rattle.std.specs.Prelude.{◌≡◌, ◌≢◌, ℕ, ◌⊎◌, List, [], if◌then◌else◌, ◌==◌, ◌||◌}
 use Rattle.lis_frame.specs.Scanner.{Held, StandsFor}
 use Rattle.lis_link.specs.Receiver.{ReceiverState, new_receiver}
 use Rattle.lis_link.specs.inside.Kept.{Kept}
 use Rattle.lis_link.specs.inside.Stands.{IsIn}
-use Rattle.lis_c.specs.Status.{BAD_NUMBER, OK, OUT_OF_MEMORY}
+use Rattle.lis_c.specs.Status.{BAD_NUMBER, IN_SESSION, OK, OUT_OF_MEMORY}
 use Rattle.lis_c.specs.declared.receiving.AnyReceiver.{AnyReceiver}
 use Rattle.lis_c.specs.declared.receiving.AnyReceiver.TheVariants as receivers
+use Rattle.lis_link.specs.Sender.{SenderState}
+use Rattle.lis_link.specs.declared.sender.Phase.{Phase}
+use Rattle.lis_link.specs.declared.sender.Phase.TheVariants.{Neutral, AwaitLine, Busy, Contention, AwaitReply}
+use Rattle.lis_c.specs.declared.sending.AnySender.{AnySender}
+use Rattle.lis_c.specs.declared.sending.AnySender.TheVariants as senders
 use Rattle.lis_c.specs.declared.scanning.AnyScanner.{AnyScanner}
 use Rattle.lis_c.specs.declared.scanning.AnyScanner.TheVariants as scanners
 
@@ -61,3 +66,27 @@ pub record NewReceiver (limit : ℕ) (receiver : AnyReceiver) : Type 0 where
   pub limit_is : receiver_limit receiver ≡ limit
   pub state_is : Receives receiver new_receiver
   pub spare_is : spare_of receiver ≡ 0
+
+-- the limit of a sender and its state, and the same sender in another state
+abbrev pub sender_limit : AnySender → ℕ
+sender_limit (senders.Usual s) = 240
+sender_limit (senders.Long s) = 63993
+
+abbrev pub sender_state : AnySender → SenderState
+sender_state (senders.Usual s) = s
+sender_state (senders.Long s) = s
+
+abbrev pub with_state : AnySender → SenderState → AnySender
+with_state (senders.Usual s) new = senders.Usual new
+with_state (senders.Long s) new = senders.Long new
+
+-- a sender's limit is set while no session goes on
+abbrev pub limit_status : ℕ → ℕ
+limit_status limit = if limit == 240 || limit == 63993 then OK else BAD_NUMBER
+
+abbrev pub sender_limit_status : Phase → ℕ → ℕ
+sender_limit_status Neutral limit = limit_status limit
+sender_limit_status AwaitLine limit = IN_SESSION
+sender_limit_status Busy limit = IN_SESSION
+sender_limit_status Contention limit = IN_SESSION
+sender_limit_status AwaitReply limit = IN_SESSION

@@ -8,7 +8,7 @@ use denote.Memory.{lone}
 use denote.RattleType.{RattleType}
 use Rattle.lis_link.specs.Sender.{new_sender}
 use Rattle.lis_field.specs.Delimiters.{usual}
-use Rattle.lis_c.specs.Limits.{NewReceiver, NewScanner}
+use Rattle.lis_c.specs.Limits.{NewReceiver, NewScanner, sender_limit, sender_state}
 use Rattle.lis_c.specs.Reading.{new_reader}
 use Rattle.lis_c.specs.contracts.draft.WriterDesk as writer_desk
 use Rattle.lis_c.specs.contracts.desk.ReaderDesk as reader_desk
@@ -24,9 +24,10 @@ IsNew T P p = fex ((d : T.Denot) × P d) (λ d. lies_at T full_share p d.0)
 abbrev pub IsNewScanner : Ptr → Fml
 IsNewScanner = IsNew scanner_desk.the_row (λ d. NewScanner 240 d.scanner)
 
--- a desk with a sender that was never started, and no text
+-- a desk with a sender of the usual limit that was never started, and no text
 abbrev pub IsNewSender : Ptr → Fml
-IsNewSender = IsNew sender_desk.the_row (λ d. (d.sender ≡ new_sender) × (d.texts ≡ []))
+IsNewSender = IsNew sender_desk.the_row (λ d. (sender_limit d.sender ≡ 240)
+    × (sender_state d.sender ≡ new_sender) × (d.texts ≡ []))
 
 -- a desk with a new receiver of the usual limit, which has reserved nothing, and no text
 abbrev pub IsNewReceiver : Ptr → Fml

@@ -4,20 +4,21 @@ ghost use Rattle.std.specs.Prelude.{◌≡◌, ◌≢◌, ◌≤◌, ◌++◌, �
 ghost use Rattle.lis_c.specs.Codes.{note_code, note_detail, note_place};
 ghost use Rattle.lis_c.specs.Status.{AddStatus, OK};
 ghost use Rattle.lis_c.specs.Steps.{IsNotOutOfMemory, IsOutOfMemory, MakesStep, TellsRefusedFrame, TellsStep};
-ghost use Rattle.lis_c.specs.Limits.{NewReceiver, NewScanner, Receives, receiver_limit, spare_of};
+ghost use Rattle.lis_c.specs.Limits.{NewReceiver, NewScanner, Receives, receiver_limit, sender_limit, sender_state};
+ghost use Rattle.lis_c.specs.Limits.{spare_of, with_state};
 ghost use Rattle.lis_link.specs.Receiver.{ReceiverState, on_byte, on_bytes, on_receiver_timer};
 ghost use Rattle.lis_link.specs.Receiver.{with_heard};
 ghost use Rattle.lis_link.specs.Sender.{new_sender, start_fault, started};
 ghost use Rattle.lis_link.specs.inside.Stands.{SpareAfter};
-ghost use Rattle.lis_link.specs.declared.sender.EmitOf.TheVariants as Emits;
 ghost use Rattle.lis_c.specs.Reading.{new_reader};
 
 use crate::lent::{DeskTexts, LentTexts};
 use crate::out::{LisStep, fault_code, fault_place};
 use crate::receiving::AnyReceiver;
 use crate::scanning::AnyScanner;
+use crate::sending::AnySender;
 use crate::status;
-use lis_link::{Emit, Hearing, Note, SenderOver, StartFault, StartRefusedOf, Step};
+use lis_link::{Hearing, Note, StartFault, StartRefusedOf, Step};
 use lis_message::RecordReader;
 use lis_text::{LinkText, List, MOST_TEXTS, Texts};
 use std::alloc::Global;
@@ -33,7 +34,7 @@ pub struct ScannerDesk {
 #[derive(Drop)]
 pub struct SenderDesk {
     pub alloc: Global,
-    pub sender: SenderOver<240, DeskTexts>,
+    pub sender: AnySender,
     pub texts: Texts,
 }
 
@@ -84,11 +85,11 @@ impl ScannerDesk {
 
 impl SenderDesk {
     pub(crate) fn new(alloc: Global) -> Self
-        ensures { (result.sender ≡ new_sender) × (result.texts ≡ []) }
+        ensures { (sender_limit result.sender ≡ 240) × (sender_state result.sender ≡ new_sender) × (result.texts ≡ []) }
     {
         SenderDesk {
             alloc,
-            sender: SenderOver::new(),
+            sender: AnySender::usual(),
             texts: Texts::new(alloc),
         }
     }
@@ -121,15 +122,19 @@ impl SenderDesk {
     }
 
     /// Starts a session with the texts. Where it is refused the desk is as before.
-    pub(crate) fn start(&mut self) -> Result<Emit, StartFault>
+    pub(crate) fn start(&mut self) -> Result<(), StartFault>
         ensures { MatchResult result
-            (λ emit. (start_fault self.old.sender self.old.texts ≡ None) × (emit ≡ Emits.Enq)
-            × (self.new ≡ record self.old { sender = started 240 self.old.texts; texts = [] }))
-            (λ fault. (start_fault self.old.sender self.old.texts ≡ Some fault) × (self.new ≡ self.old)) }
+            (λ unit. (start_fault (sender_state self.old.sender) self.old.texts ≡ None)
+            × (self.new ≡ record self.old {
+              sender = with_state self.old.sender (started (sender_limit self.old.sender) self.old.texts);
+              texts = [];
+            }))
+            (λ fault. (start_fault (sender_state self.old.sender) self.old.texts ≡ Some fault)
+            × (self.new ≡ self.old)) }
     {
         let texts = mem::replace(&mut self.texts, Texts::new(self.alloc));
         match self.sender.start(DeskTexts::Copied(texts)) {
-            Ok(emit) => Ok(emit),
+            Ok(()) => Ok(()),
             Err(refused) => {
                 let StartRefusedOf { texts, fault } = refused;
                 if let DeskTexts::Copied(texts) = texts {
@@ -141,14 +146,16 @@ impl SenderDesk {
     }
 
     /// Starts a session with texts that stay with the caller. Where it is refused the desk is as before.
-    pub(crate) fn start_lent(&mut self, texts: LentTexts) -> Result<Emit, StartFault>
+    pub(crate) fn start_lent(&mut self, texts: LentTexts) -> Result<(), StartFault>
         ensures { MatchResult result
-            (λ emit. (start_fault self.old.sender texts ≡ None) × (emit ≡ Emits.Enq)
-            × (self.new ≡ record self.old { sender = started 240 texts }))
-            (λ fault. (start_fault self.old.sender texts ≡ Some fault) × (self.new ≡ self.old)) }
+            (λ unit. (start_fault (sender_state self.old.sender) texts ≡ None)
+            × (self.new ≡ record self.old {
+              sender = with_state self.old.sender (started (sender_limit self.old.sender) texts);
+            }))
+            (λ fault. (start_fault (sender_state self.old.sender) texts ≡ Some fault) × (self.new ≡ self.old)) }
     {
         match self.sender.start(DeskTexts::Lent(texts)) {
-            Ok(emit) => Ok(emit),
+            Ok(()) => Ok(()),
             Err(refused) => Err(refused.fault),
         }
     }

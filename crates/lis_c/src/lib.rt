@@ -18,5 +18,6 @@ mod records;
 mod scanner;
 mod scanning;
 mod sender;
+mod sending;
 mod status;
 mod writer;

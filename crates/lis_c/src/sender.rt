@@ -3,12 +3,14 @@
 ghost use Rattle.std.specs.Prelude.{◌≡◌, ◌≢◌, ◌++◌, ◌∷◌, [], MatchResult, Some, length};
 ghost use Rattle.lis_c.specs.declared.desk.SenderDesk.{SenderDesk};
 ghost use Rattle.lis_c.specs.Codes.{outcome_code, phase_code};
-ghost use Rattle.lis_c.specs.Emitted.{HoldsBytes, emitted_bytes};
+ghost use Rattle.lis_c.specs.Emitted.{FrameCopied, HoldsBytes, HoldsEmitted, emitted_bytes};
+ghost use Rattle.lis_c.specs.Limits.{sender_limit, sender_limit_status, sender_state, with_state};
 ghost use Rattle.lis_c.specs.Lent.{lent_bytes, lent_status};
 ghost use Rattle.lis_c.specs.New.{IsNewSender, type_align};
 ghost use Rattle.lis_c.specs.Status.{AddStatus, FULL, OK, start_index, start_place, start_status};
 ghost use Rattle.lis_c.specs.contracts.desk.SenderDesk.{the_row as desk_row};
-ghost use Rattle.lis_link.specs.Sender.{on_reply, on_sender_timer, sender_restarted, start_fault, started};
+ghost use Rattle.lis_link.specs.Sender.{awaited, new_sender, on_reply, on_sender_timer, sender_restarted, start_fault};
+ghost use Rattle.lis_link.specs.Sender.{started};
 ghost use Rattle.lis_text.specs.Control.{ENQ};
 ghost use Rattle.std.specs.Borrow.{sem};
 ghost use Rattle.std.specs.Mem.{type_size};
@@ -16,9 +18,10 @@ ghost use Rattle.std.specs.Ptr.{room_at};
 
 use crate::desk::{SenderDesk, let_go_sender};
 use crate::lent::{LentTexts, LisText};
-use crate::out::{LisBytes, LisPlace, put_emit};
+use crate::out::{LisBytes, LisPlace, put};
+use crate::sending::AnySender;
 use crate::status::{self, start_index, start_place, start_status};
-use lis_link::{Emit, Outcome, Phase, StartFault};
+use lis_link::{Outcome, Phase, StartFault};
 use lis_text::MOST_TEXTS;
 use std::alloc::Global;
 use std::marker::Model;
@@ -107,12 +110,15 @@ pub extern "C" fn lis_sender_start(
     out: &mut LisBytes,
     fault: &mut LisPlace,
 ) -> u8
-    ensures status { result ≡ start_status (start_fault s.old.state.sender s.old.state.texts) }
-    ensures index { fault.new.index ≡ start_index (start_fault s.old.state.sender s.old.state.texts) }
-    ensures place { fault.new.place ≡ start_place (start_fault s.old.state.sender s.old.state.texts) }
+    ensures status { result ≡ start_status (start_fault (sender_state s.old.state.sender) s.old.state.texts) }
+    ensures index { fault.new.index ≡ start_index (start_fault (sender_state s.old.state.sender) s.old.state.texts) }
+    ensures place { fault.new.place ≡ start_place (start_fault (sender_state s.old.state.sender) s.old.state.texts) }
     ensures emit { result ≡ OK → HoldsBytes out.new (ENQ ∷ []) }
     ensures started { result ≡ OK →
-        s.new.state ≡ record s.old.state { sender = started 240 s.old.state.texts; texts = [] } }
+        s.new.state ≡ record s.old.state {
+          sender = with_state s.old.state.sender (started (sender_limit s.old.state.sender) s.old.state.texts);
+          texts = [];
+        } }
     ensures refused { result ≢ OK → (out.new ≡ out.old) × (s.new.state ≡ s.old.state) }
 {
     tell_start(s.lend().start(), out, fault)
@@ -131,15 +137,18 @@ pub extern "C" fn lis_sender_start_lent(
     out: &mut LisBytes,
     fault: &mut LisPlace,
 ) -> u8
-    ensures status { result ≡ lent_status texts.now (start_fault s.old.state.sender (lent_bytes texts.now)) }
+    ensures status { result ≡ lent_status texts.now
+        (start_fault (sender_state s.old.state.sender) (lent_bytes texts.now)) }
     ensures index { result ≢ FULL →
-        fault.new.index ≡ start_index (start_fault s.old.state.sender (lent_bytes texts.now)) }
+        fault.new.index ≡ start_index (start_fault (sender_state s.old.state.sender) (lent_bytes texts.now)) }
     ensures place { result ≢ FULL →
-        fault.new.place ≡ start_place (start_fault s.old.state.sender (lent_bytes texts.now)) }
+        fault.new.place ≡ start_place (start_fault (sender_state s.old.state.sender) (lent_bytes texts.now)) }
     ensures full { result ≡ FULL → (fault.new.index ≡ 0) × (fault.new.place ≡ 0) }
     ensures emit { result ≡ OK → HoldsBytes out.new (ENQ ∷ []) }
     ensures started { result ≡ OK →
-        s.new.state ≡ record s.old.state { sender = started 240 (lent_bytes texts.now) } }
+        s.new.state ≡ record s.old.state {
+          sender = with_state s.old.state.sender (started (sender_limit s.old.state.sender) (lent_bytes texts.now));
+        } }
     ensures refused { result ≢ OK → (out.new ≡ out.old) × (s.new.state ≡ s.old.state) }
 {
     if texts.len() > MOST_TEXTS {
@@ -151,18 +160,17 @@ pub extern "C" fn lis_sender_start_lent(
 }
 
 /// Tells how a start went, and puts what goes on the link.
-fn tell_start(start: Result<Emit, StartFault>, out: &mut LisBytes, place: &mut LisPlace) -> u8
+fn tell_start(start: Result<(), StartFault>, out: &mut LisBytes, place: &mut LisPlace) -> u8
     ensures { MatchResult start
-        (λ emit. (result ≡ OK) × HoldsBytes out.new (emitted_bytes emit)
-        × (place.new.index ≡ 0) × (place.new.place ≡ 0))
+        (λ unit. (result ≡ OK) × HoldsBytes out.new (ENQ ∷ []) × (place.new.index ≡ 0) × (place.new.place ≡ 0))
         (λ fault. (result ≡ start_status (Some fault)) × (out.new ≡ out.old)
         × (place.new.index ≡ start_index (Some fault)) × (place.new.place ≡ start_place (Some fault))) }
 {
     place.index = 0;
     place.place = 0;
     match start {
-        Ok(emit) => {
-            put_emit(out, &emit);
+        Ok(()) => {
+            put(out, &[lis_text::ENQ]);
             status::OK
         }
         Err(fault) => {
@@ -173,32 +181,73 @@ fn tell_start(start: Result<Emit, StartFault>, out: &mut LisBytes, place: &mut L
     }
 }
 
-/// A reply byte comes: what goes on the link.
+/// A reply byte comes: what goes on the link. It is nothing for a frame of over 247 bytes, which `lis_sender_frame`
+/// copies.
 #[unsafe(no_mangle)]
 pub extern "C" fn lis_sender_reply(s: &mut LisSender, byte: u8, out: &mut LisBytes)
-    ensures emit { HoldsBytes out.new (emitted_bytes (on_reply {limit = 240} byte s.old.state.sender).emit) }
-    ensures after { s.new.state
-        ≡ record s.old.state { sender = (on_reply {limit = 240} byte s.old.state.sender).after } }
+    ensures emit { HoldsEmitted (sender_limit s.old.state.sender) out.new
+        (emitted_bytes (on_reply {limit = sender_limit s.old.state.sender} byte
+        (sender_state s.old.state.sender)).emit) }
+    ensures after { s.new.state ≡ record s.old.state {
+      sender = with_state s.old.state.sender
+          (on_reply {limit = sender_limit s.old.state.sender} byte (sender_state s.old.state.sender)).after;
+    } }
 {
-    let emit = s.lend().sender.reply(byte);
-    put_emit(out, &emit);
+    s.lend().sender.reply(byte, out);
 }
 
 /// The timer runs out: what goes on the link.
 #[unsafe(no_mangle)]
 pub extern "C" fn lis_sender_timer(s: &mut LisSender, out: &mut LisBytes)
-    ensures emit { HoldsBytes out.new (emitted_bytes (on_sender_timer {limit = 240} s.old.state.sender).emit) }
-    ensures after { s.new.state
-        ≡ record s.old.state { sender = (on_sender_timer {limit = 240} s.old.state.sender).after } }
+    ensures emit { HoldsEmitted (sender_limit s.old.state.sender) out.new
+        (emitted_bytes (on_sender_timer {limit = sender_limit s.old.state.sender}
+        (sender_state s.old.state.sender)).emit) }
+    ensures after { s.new.state ≡ record s.old.state {
+      sender = with_state s.old.state.sender
+          (on_sender_timer {limit = sender_limit s.old.state.sender} (sender_state s.old.state.sender)).after;
+    } }
 {
-    let emit = s.lend().sender.timer();
-    put_emit(out, &emit);
+    s.lend().sender.timer(out);
+}
+
+/// Copies the frame that was sent and awaits its reply to the front of a buffer: `OK`; `ABSENT` if none does;
+/// `TOO_SHORT`, and nothing is copied, if it is longer than the buffer. It can be copied until its reply comes.
+#[unsafe(no_mangle)]
+pub extern "C" fn lis_sender_frame(s: &mut LisSender, out: &mut [u8], size: &mut usize) -> u8
+    ensures copied { FrameCopied (awaited (sender_state s.old.state.sender)) result out.old out.new size.new }
+    ensures same { s.new.state ≡ s.old.state }
+{
+    s.lend().sender.copy_frame(out, size)
+}
+
+/// Sets how long the text of a frame may be, 240 bytes or 63,993, and makes the sender new; the texts of its next
+/// session stay. `OK`; `IN_SESSION`, or `BAD_NUMBER` if it is another limit, and nothing has changed.
+#[unsafe(no_mangle)]
+pub extern "C" fn lis_sender_set_limit(s: &mut LisSender, limit: usize) -> u8
+    ensures status { result ≡ sender_limit_status (sender_state s.old.state.sender).phase limit }
+    ensures set { result ≡ OK → (sender_limit s.new.state.sender ≡ limit)
+        × (sender_state s.new.state.sender ≡ new_sender) × (s.new.state.texts ≡ s.old.state.texts) }
+    ensures refused { result ≢ OK → s.new.state ≡ s.old.state }
+{
+    let desk = s.lend();
+    match desk.sender.phase() {
+        Phase::Neutral => {}
+        _ => return status::IN_SESSION,
+    }
+    desk.sender = match limit {
+        240 => AnySender::usual(),
+        63_993 => AnySender::long(),
+        _ => return status::BAD_NUMBER,
+    };
+    status::OK
 }
 
 /// The session, if one goes on, is given up; nothing goes on the link.
 #[unsafe(no_mangle)]
 pub extern "C" fn lis_sender_restart(s: &mut LisSender)
-    ensures { s.new.state ≡ record s.old.state { sender = sender_restarted s.old.state.sender } }
+    ensures { s.new.state ≡ record s.old.state {
+      sender = with_state s.old.state.sender (sender_restarted (sender_state s.old.state.sender));
+    } }
 {
     s.lend().sender.restart();
 }
@@ -207,7 +256,7 @@ pub extern "C" fn lis_sender_restart(s: &mut LisSender)
 /// reply to a frame.
 #[unsafe(no_mangle)]
 pub extern "C" fn lis_sender_phase(s: &mut LisSender) -> u8
-    ensures value { result ≡ phase_code s.old.state.sender.phase }
+    ensures value { result ≡ phase_code (sender_state s.old.state.sender).phase }
     ensures same { s.new.state ≡ s.old.state }
 {
     match s.lend().sender.phase() {
@@ -222,7 +271,7 @@ pub extern "C" fn lis_sender_phase(s: &mut LisSender) -> u8
 /// How the last session ended: 0 not yet, 1 done, 2 timed out, 3 six tries, 4 restarted.
 #[unsafe(no_mangle)]
 pub extern "C" fn lis_sender_outcome(s: &mut LisSender) -> u8
-    ensures value { result ≡ outcome_code s.old.state.sender.outcome }
+    ensures value { result ≡ outcome_code (sender_state s.old.state.sender).outcome }
     ensures same { s.new.state ≡ s.old.state }
 {
     match s.lend().sender.outcome() {
@@ -237,7 +286,7 @@ pub extern "C" fn lis_sender_outcome(s: &mut LisSender) -> u8
 /// How many frames of the session are acknowledged.
 #[unsafe(no_mangle)]
 pub extern "C" fn lis_sender_acknowledged(s: &mut LisSender) -> u64
-    ensures value { result ≡ s.old.state.sender.acknowledged }
+    ensures value { result ≡ (sender_state s.old.state.sender).acknowledged }
     ensures same { s.new.state ≡ s.old.state }
 {
     s.lend().sender.acknowledged()

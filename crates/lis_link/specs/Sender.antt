@@ -40,6 +40,22 @@ new_sender = record { frames = []; acknowledged = 0; phase = Neutral; tries = 0;
 abbrev pub most_tries : ℕ
 most_tries = 6
 
+-- the first frame of a list, if there is one
+abbrev pub first_frame : List FrameContent → Option FrameContent
+first_frame [] = None
+first_frame (frame ∷ frames) = Some frame
+
+-- the frame that was sent and awaits its reply
+abbrev pub awaited_in : Phase → SenderState → Option FrameContent
+awaited_in Neutral s = None
+awaited_in AwaitLine s = None
+awaited_in Busy s = None
+awaited_in Contention s = None
+awaited_in AwaitReply s = first_frame (drop s.acknowledged s.frames)
+
+abbrev pub awaited : SenderState → Option FrameContent
+awaited s = awaited_in s.phase s
+
 -- the session is over: nothing of its texts is kept
 abbrev pub over : Outcome → SenderState → SenderState
 over outcome s = record s { frames = []; phase = Neutral; outcome = Some outcome }

@@ -4,9 +4,8 @@ ghost use Rattle.std.specs.Prelude.{◌≡◌, ◌<◌, ◌+◌, length, drop, N
 ghost use Rattle.lis_frame.specs.Limit.{IsLimit};
 ghost use Rattle.lis_link.specs.declared.sender.EmitOf.TheVariants as Emits;
 ghost use Rattle.lis_link.specs.declared.sender.Phase.TheVariants as Phases;
-ghost use Rattle.lis_link.specs.inside.Queue.{first_frame};
 ghost use Rattle.lis_link.specs.Sender.{SenderState, reply_in, new_sender, over, bad_text, start_fault, started};
-ghost use Rattle.lis_link.specs.Sender.{sends_first};
+ghost use Rattle.lis_link.specs.Sender.{awaited, first_frame, sends_first};
 ghost use Rattle.lis_link.specs.Sender.{on_accepted, sends_again, on_reply, on_sender_timer, sender_restarted};
 
 use crate::queue::QueueOf;
@@ -229,6 +228,16 @@ impl<const N: usize, T: SessionTexts> SenderOver<N, T> {
         match self.phase {
             Phase::Neutral => {}
             _ => self.close(Outcome::Restarted),
+        }
+    }
+
+    /// The frame that was sent and awaits its reply, if one does.
+    pub fn awaited(&self) -> Option<FrameOf<N>>
+        ensures { result ≡ awaited self.now }
+    {
+        match self.phase {
+            Phase::AwaitReply => self.present(),
+            Phase::Neutral | Phase::AwaitLine | Phase::Busy | Phase::Contention => None,
         }
     }
 

@@ -281,9 +281,16 @@ class Scanner(Owner):
 
 
 class Sender(Owner):
-    """The sending end. `start`, `reply` and `timer` answer the bytes to send."""
+    """The sending end. `start`, `reply` and `timer` answer the bytes to send.
+
+    A frame's text has at most `frame_limit` bytes, FRAME_TEXT or LONG_FRAME_TEXT."""
 
     _kind = "sender"
+
+    def __init__(self, *, frame_limit: int = FRAME_TEXT) -> None:
+        super().__init__()
+        self._set_limit(frame_limit)
+        self._room = ctypes.create_string_buffer(LONG_FRAME_TEXT + 7) if frame_limit == LONG_FRAME_TEXT else None
 
     def add_text(self, text: bytes) -> None:
         """Puts a copy of a text to the next session."""
@@ -306,7 +313,14 @@ class Sender(Owner):
 
     def reply(self, byte: int) -> bytes:
         """A reply byte came."""
-        return self._sent("reply", as_number(byte, 0, 255, "the reply"))
+        return self._sent("reply", as_number(byte, 0, 255, "the reply")) or self._long_frame()
+
+    def _long_frame(self) -> bytes:
+        """The frame that the last reply asked for, if it is too long for a struct."""
+        size = ctypes.c_size_t()
+        if self._room is None or self._call("frame", self._room, len(self._room), ctypes.byref(size)):
+            return b""
+        return self._room.raw[: size.value]
 
     def timer(self) -> bytes:
         """The time of `seconds` is over."""

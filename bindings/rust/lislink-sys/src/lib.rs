@@ -280,6 +280,7 @@ extern "C" {
     pub fn lis_sender_align() -> usize;
     pub fn lis_sender_init(at: *mut c_void);
     pub fn lis_sender_end(s: lis_sender);
+    pub fn lis_sender_set_limit(s: *mut lis_sender, limit: usize) -> lis_status;
     pub fn lis_sender_add_text(s: *mut lis_sender, text: *const u8, text_len: usize) -> lis_status;
     pub fn lis_sender_clear(s: *mut lis_sender);
     pub fn lis_sender_start(
@@ -295,6 +296,12 @@ extern "C" {
         fault: *mut lis_place,
     ) -> lis_status;
     pub fn lis_sender_reply(s: *mut lis_sender, byte: u8, out: *mut lis_bytes);
+    pub fn lis_sender_frame(
+        s: *mut lis_sender,
+        out: *mut u8,
+        out_len: usize,
+        size: *mut usize,
+    ) -> lis_status;
     pub fn lis_sender_timer(s: *mut lis_sender, out: *mut lis_bytes);
     pub fn lis_sender_restart(s: *mut lis_sender);
     pub fn lis_sender_phase(s: *mut lis_sender) -> lis_phase;
@@ -315,6 +322,13 @@ extern "C" {
         fault: *mut lis_place,
     ) -> lis_status;
     pub fn lis_line_reply(line: *mut lis_line, connection: u64, byte: u8, out: *mut lis_bytes);
+    pub fn lis_line_frame(
+        line: *mut lis_line,
+        connection: u64,
+        out: *mut u8,
+        out_len: usize,
+        size: *mut usize,
+    ) -> lis_status;
     pub fn lis_line_timer(line: *mut lis_line, out: *mut lis_bytes);
     pub fn lis_line_restart(line: *mut lis_line);
     pub fn lis_receiver_size() -> usize;

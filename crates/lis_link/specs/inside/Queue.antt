@@ -58,8 +58,3 @@ pub record IsSender (limit : ℕ) (queue : Option Queue) (acknowledged : ℕ) (p
   pub few : length (frames_of limit queue) < 4294967295
   pub fits : PhaseFits phase acknowledged (length (frames_of limit queue))
   pub few_tries : tries ≤ 6
-
--- the first frame of a list, if there is one
-abbrev pub first_frame : List FrameContent → Option FrameContent
-first_frame [] = None
-first_frame (frame ∷ frames) = Some frame
