@@ -53,11 +53,11 @@ test:
 	@tests/all
 
 mutants:
-	tests/mutants $(CRATES)
-	tests/planted $(CRATES)
+	tests/proofs/mutants $(CRATES)
+	tests/proofs/planted $(CRATES)
 
 harmless:
-	tests/harmless $(CRATES)
+	tests/proofs/harmless $(CRATES)
 
 bench:
 	bench/run

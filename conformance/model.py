@@ -514,18 +514,31 @@ def upgrade(data, limit, ended=True):
 
 # Commands
 
-COMMANDS = {"show": (show, USUAL), "show --long": (show, LONG), "replay": (replay, USUAL), "replay --long": (replay, LONG),
-            "texts": (texts, USUAL), "texts --long": (texts, LONG), "upgrade": (upgrade, USUAL), "check": (check, USUAL),
-            "results": (results, USUAL)}
+# A command: what makes its run, and the kind of its input, a key of the tests' inputs.
+Command = namedtuple("Command", "run reads limit", defaults=(USUAL,))
+COMMANDS = {"show": Command(show, "link"), "show --long": Command(show, "link", LONG),
+            "replay": Command(replay, "capture"), "replay --long": Command(replay, "capture", LONG),
+            "texts": Command(texts, "capture"), "texts --long": Command(texts, "capture", LONG),
+            "upgrade": Command(upgrade, "capture"), "check": Command(check, "records"), "results": Command(results, "records")}
 
 
 def run(command, data, ended=True):
     """A run of a command over all of its input, or over the front of it that came before a failed read."""
-    function, limit = COMMANDS[command]
-    return function(data, limit, ended)
+    one = COMMANDS[command]
+    return one.run(data, one.limit, ended)
+
+
+def ran_word(call):
+    """What is answered to a row of a command."""
+    _, *words, text = call.split(" ")
+    ran = run(" ".join(words), bytes_of(text))
+    return f"{ran.status} {word_of(ran.output)} {ran.error}".rstrip()
 
 
 # Answers to the calls of rows
+
+NO_CALL = "no call"
+
 
 def bytes_of(word):
     return b"" if word == "-" else bytes.fromhex(word)
@@ -570,11 +583,18 @@ class Answers:
             self.limit = int(words[0])
             return "ok"
         call = getattr(self, name.replace(".", "_"), None)
-        return call(*words) if call else "no call"
+        return call(*words) if call else NO_CALL
 
     def frame_read(self, stretch):
         read = read_frame(bytes_of(stretch), self.limit)
         return f"fault {read}" if isinstance(read, str) else frame_word(read)
+
+    def frame_make(self, number, last, text):
+        fault = text_fault(bytes_of(text), self.limit)
+        if fault or int(number) > 7:
+            return f"fault {fault}" if fault else "none"
+        frame = Frame(int(number), last == "end", bytes_of(text))
+        return f"{frame_word(frame)} {unit_bytes(frame).hex()}"
 
     def frame_scan(self, _, stream):
         told = signals(bytes_of(stream), self.limit)

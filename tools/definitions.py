@@ -9,8 +9,8 @@ import re
 import sys
 
 ROOT = os.path.dirname(os.path.dirname(os.path.abspath(__file__)))
-sys.path.append(f"{ROOT}/tests")
-from edit import names_of  # noqa: E402: tests/ has it
+sys.path.append(f"{ROOT}/tests/proofs")
+from edit import names_of  # noqa: E402: tests/proofs has it
 
 HEAD = re.compile(r"^((?:(?:abbrev|unfoldable|opaque|pub|record|data) )+)(\S+)")
 IMPORT = re.compile(r"^\s*(?:ghost )?use Rattle\.([\w.]+)(?:\.\{([^}]*)\})?(?: as (\w+))?;?\s*$")

@@ -1,8 +1,8 @@
-/* All parts of a record at once, against a plain loop (tests/parts.h): the input is a record or a header, under the
+/* All parts of a record at once, against a plain loop (tests/ffi/parts.h): the input is a record or a header, under the
  * usual delimiters and under any. */
 #include "fuzz.h"
 
-#include "../parts_check.h"
+#include "../ffi/parts_check.h"
 
 static const char *const words[] = {"H|\\^&", "P|1", "O|1|S", "R|1|^^^A|5", "L|1|N", "C|1|", "Q|1|^", "h!+*-",
                                     "S|", "|", "\\", "^", "&F&", "&X4f&", "&", "&XA"};

@@ -1,9 +1,9 @@
 /* A stream of records by the call for a piece, in pieces and arrays of any size, against a plain loop
- * (tests/parts.h): the records that it gives are the lines of the stream, each with all its parts; where it stops for
+ * (tests/ffi/parts.h): the records that it gives are the lines of the stream, each with all its parts; where it stops for
  * good, lis_reader_read says why. */
 #include "fuzz.h"
 
-#include "../parts_check.h"
+#include "../ffi/parts_check.h"
 
 static const char *const words[] = {"H|\\^&", "\rP|1", "\rO|1|S", "\rR|1|^^^A|5", "\rL|1|N\r", "\rC|1|", "\rQ|1|^",
                                     "h!+*-", "\rS|", "|", "\\", "^", "&F&", "&X4f&", "&", "\r"};

@@ -1,5 +1,5 @@
 //! Calls that take no memory, on values that have an allocator. The tests come in pairs: one makes its values, the
-//! other makes the calls on them too. `tests/refusals` counts the growths of memory of both, those of memory that is
+//! other makes the calls on them too. `tests/faults` counts the growths of memory of both, those of memory that is
 //! released at once among them: they must be as many.
 
 use lis_link::{Outcome, Readiness, Receiver, Sender, Step};

@@ -1,6 +1,6 @@
 //! Lists to which memory is refused. Each test passes with memory, and where any one growth is refused: what is
 //! refused comes back, the list is as before, and the same call again is answered in full. All this is seen of the
-//! whole list, since what came back is pushed. `tests/refusals` refuses each growth.
+//! whole list, since what came back is pushed. `tests/faults` refuses each growth.
 
 ghost use Rattle.std.specs.Mem.{FitsInMemory};
 

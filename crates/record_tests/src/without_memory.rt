@@ -1,6 +1,6 @@
 //! Calls that take no memory, on values that have an allocator, and values that are made with memory for so many
 //! parts. The tests come in pairs: one makes its values, the other makes the calls on them too, or puts the parts into
-//! them. `tests/refusals` counts the growths of memory of both, those of memory that is released at once among them:
+//! them. `tests/faults` counts the growths of memory of both, those of memory that is released at once among them:
 //! they must be as many.
 
 use lis_field::*;

@@ -1,0 +1,9 @@
+"""The tests, by what they try; each folder says so in its `__init__.py`. `tests/run` runs them, `tests/all` is the
+gate."""
+import os
+import sys
+
+sys.dont_write_bytecode = True
+ROOT = os.path.dirname(os.path.dirname(os.path.abspath(__file__)))
+# The model and the rows, the generated inputs, the Python package.
+sys.path[1:1] = [os.path.join(ROOT, folder) for folder in ("conformance", "bench", "python/src")]

@@ -1,0 +1,1 @@
+"""The documents agree with the repository, and the tables in them with the code."""

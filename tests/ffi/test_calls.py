@@ -1,0 +1,168 @@
+"""Calls of the Python package, at values known from outside: each refusal, and each call on its happy path."""
+from tests import kit
+
+kit.library()
+from lislink import (FrameFault, Kind, LinkError, MessageError, Note, Outcome, Phase, Readiness, Reason,  # noqa: E402
+                     Reader, Receiver, Record, Scanner, Sender, Status, Writer, frame_bytes, messages, records)
+
+FIRST = bytes.fromhex("0231487c5c5e260d0345350d0a")
+
+
+def error_of(call):
+    """What a call is refused for."""
+    try:
+        call()
+    except MessageError as error:
+        return error.number, error.reason, error.detail, error.place
+    return None
+
+
+def read_error(pieces):
+    """What a stream is refused for."""
+    return error_of(lambda: list(messages(pieces)))
+
+
+class Calls(kit.Test):
+    def setUp(self):
+        self.calls = 0
+
+    def gives(self, found, wanted):
+        self.calls += 1
+        self.same(f"call {self.calls}", found, wanted)
+
+    def rejects(self, call, status, index=None, place=None):
+        try:
+            call()
+        except LinkError as error:
+            return self.gives((error.status, error.index, error.place), (status, index, place))
+        return self.gives("nothing was rejected", status)
+
+    def test_frames(self):
+        self.gives(frame_bytes(1, True, b"H|\\^&\r"), FIRST)
+        self.rejects(lambda: frame_bytes(8, True, b""), Status.BAD_NUMBER, None, 0)
+        self.rejects(lambda: frame_bytes(8, True, b"a\x02"), Status.FORBIDDEN, None, 1)
+        self.rejects(lambda: frame_bytes(1, True, b"a" * 241), Status.TOO_LONG, None, 0)
+        self.gives(len(frame_bytes(1, False, b"a" * 240)), 247)
+
+    def test_scanner(self):
+        with Scanner() as scanner:
+            signals = list(scanner.feed(b"\x05" + FIRST + b"\x021\x02\n\x04"))
+            self.gives([signal.kind for signal in signals], [Kind.ENQ, Kind.FRAME, Kind.BAD_FRAME, Kind.EOT])
+            self.gives(signals[1][1:], (1, True, FrameFault.NONE, 0, b"H|\\^&\r"))
+            self.gives(signals[2].fault, FrameFault.SHAPE)
+            self.gives(list(scanner.feed(FIRST[:5])), [])
+            self.gives([signal.text for signal in scanner.feed(FIRST[5:])], [b"H|\\^&\r"])
+            bad = list(scanner.feed(b"\x021a\x10\x0300\r\n"))
+            self.gives((bad[0].fault, bad[0].place), (FrameFault.FORBIDDEN, 1))
+
+    def test_sender(self):
+        with Sender() as sender:
+            self.rejects(sender.start, Status.NO_TEXT, 0, 0)
+            sender.add_text(b"ok")
+            sender.add_text(b"bad\n")
+            self.rejects(sender.start, Status.FORBIDDEN, 1, 3)
+            sender.clear()
+            sender.add_text(b"H|\\^&\r")
+            self.gives((sender.start(), sender.phase, sender.seconds), (b"\x05", Phase.AWAIT_LINE, 15))
+            sender.add_text(b"later")
+            self.rejects(sender.start, Status.IN_SESSION, 0, 0)
+            self.gives((sender.reply(21), sender.phase, sender.seconds), (b"", Phase.BUSY, 10))
+            self.gives((sender.timer(), sender.phase), (b"\x05", Phase.AWAIT_LINE))
+            self.gives((sender.reply(6), sender.phase), (FIRST, Phase.AWAIT_REPLY))
+            self.gives(sender.reply(21), FIRST)
+            self.gives((sender.reply(6), sender.outcome, sender.acknowledged), (b"\x04", Outcome.DONE, 1))
+            self.gives(sender.start(), b"\x05")
+            sender.restart()
+            self.gives((sender.phase, sender.outcome, sender.seconds), (Phase.NEUTRAL, Outcome.RESTARTED, None))
+
+    def test_writer(self):
+        with Writer() as writer:
+            self.rejects(lambda: writer.record("P", [b"1"]), Status.PUT_NOT_HEADER)
+            self.rejects(lambda: writer.record("x", []), Status.BAD_LETTER)
+            writer.record("H", [b"", b"", b"analyzer"])
+            self.rejects(lambda: writer.record("H", []), Status.PUT_SECOND_HEADER)
+            self.rejects(lambda: writer.record("R", [b"1"]), Status.PUT_NO_PARENT)
+            writer.record("P", [b"1"])
+            writer.record("O", [b"1", b"S7", b"", [b"", b"", b"", b"GLU"]])
+            self.rejects(lambda: writer.record("R", [b"1", b"a\nb"]), Status.FORBIDDEN, None, 3)
+            writer.record("R", [b"1", [b"", b"", b"", b"GLU"], b"5.4", b"a|b&c"])
+            writer.record("L", [b"1", b"N"])
+            self.gives(writer.texts(), [b"H|\\^&|||analyzer\r", b"P|1\r", b"O|1|S7||^^^GLU\r",
+                                        b"R|1|^^^GLU|5.4|a&F&b&E&c\r", b"L|1|N\r"])
+            self.gives([row.letter for row in records(writer.texts())], ["H", "P", "O", "R", "L"])
+            self.rejects(lambda: writer.start(b"||^&"), Status.BAD_DELIMITERS)
+            self.rejects(lambda: writer.start(b"|"), Status.BAD_DELIMITERS)
+            self.gives(len(writer.texts()), 5)
+            writer.start(b"*!+-")
+            self.gives(writer.texts(), [])
+            writer.record("H", [b"a*b", [b"", b"c-"]])
+            self.gives(writer.texts(), [b"H*!+-*a-F-b*+c-E-\r"])
+            writer.start()
+            writer.record("H", [])
+            self.gives(writer.texts(), [b"H|\\^&\r"])
+
+    def test_receiver(self):
+        with Receiver() as receiver:
+            receiver.reserve(1000)
+            self.rejects(lambda: receiver.reserve(1048577), Status.TOO_LONG)
+            steps = list(receiver.hear(b"noise\x05" + FIRST + FIRST + b"\x04"))
+            self.gives([step.note for step in steps], [Note.OPENED, Note.ACCEPTED, Note.DUPLICATE, Note.ENDED])
+            self.gives([step.reply for step in steps], [b"\x06", b"\x06", b"\x06", b""])
+            self.gives([step.text for step in steps], [None, b"H|\\^&\r", None, None])
+            receiver.set_ready(Readiness.BUSY)
+            self.gives([(step.note, step.reply) for step in receiver.hear(b"\x05")], [(Note.NOT_READY, b"\x15")])
+            receiver.set_ready(Readiness.READY)
+            receiver.set_room(False)
+            self.gives([(step.note, step.reply) for step in receiver.hear(b"\x05" + FIRST)],
+                       [(Note.OPENED, b"\x06"), (Note.NO_ROOM, b"\x15")])
+            self.gives(receiver.timer().note, Note.TIMED_OUT)
+            receiver.restart()
+            steps = list(receiver.hear(b"\x05" + FIRST[:-3] + b"0\r\n"))
+            self.gives((steps[1].note, steps[1].detail), (Note.REFUSED, FrameFault.SUM))
+        self.gives(receiver._handle, None)
+
+    def test_records(self):
+        header = Record(b"H|\\^&|||Analyzer&F&7")
+        self.gives((header.letter, header.fields, header.part(5)), ("H", 3, b"Analyzer|7"))
+        self.gives((header.part(2), header.part(9)), (None, None))
+        self.gives((header.delimiters, Record(b"H*!+-").delimiters), (b"|\\^&", b"*!+-"))
+        result = Record(b"r|1|^^^GLU\\^^^NA|5.4&X0d&&H&x&N&", header)
+        self.gives((result.letter, result.fields), ("R", 3))
+        self.gives((result.part(3, 0, 3), result.part(3, 1, 3), result.part(3, 2, 0)), (b"GLU", b"NA", None))
+        self.gives((result.part(4), result.part(2), result.part(1)), (b"5.4\rx", b"1", None))
+        self.gives(result.delimiters, header.delimiters)
+        self.rejects(lambda: Record(b""), Status.NO_RECORD, None, 0)
+        self.rejects(lambda: Record(b"P|1"), Status.BAD_LETTER, None, 0)
+        self.rejects(lambda: Record(b"H|\\^^"), Status.BAD_DELIMITERS, None, 0)
+        self.rejects(lambda: Record(b"R|1\x02", header), Status.FORBIDDEN, None, 3)
+        self.rejects(lambda: Record(b"R|" + b"1" * 65536, header), Status.TOO_LONG, None, 0)
+        self.rejects(lambda: Record(b"H|\\^&", header), Status.BAD_LETTER, None, 0)
+        texts = [b"H|\\^&\r", b"P|1\rO|1|S7\r", b"H*!+-\rP*2\r"]
+        self.gives([(record.letter, record.part(2)) for record in records(texts)],
+                   [("H", None), ("P", b"1"), ("O", b"1"), ("H", None), ("P", b"2")])
+
+    def test_reader(self):
+        fault = (2, Reason.NO_PARENT, ord("R"), 0)
+        with Reader() as reader:
+            self.gives([list(reader.feed(piece)) for piece in (b"", b"H|", b"", b"\\^&\r")], [[], [], [], [("H", [])]])
+            for piece in (b"R|1\r", b"", b"L|1\r"):
+                self.gives(error_of(lambda: list(reader.feed(piece))), fault)
+            self.gives(error_of(reader.finish), fault)
+
+    def test_messages(self):
+        stream = b"H|\\^&\rP|1\rO|1|S7||^^^GLU\\^^^NA\rR|1|^^^GLU|5&X0D&\rL|1|N\r"
+        for size in (1, 3, len(stream)):
+            pieces = [stream[at:at + size] for at in range(0, len(stream), size)]
+            told = list(messages(pieces + pieces))
+            self.gives([[row.letter for row in rows] for rows in told], [list("HPORL")] * 2)
+            tests = [[b"", b"", b"", b"GLU"], [b"", b"", b"", b"NA"]]
+            self.gives(told[1][2].fields, [[[b"1"]], [[b"S7"]], [[b""]], tests])
+            self.gives((told[0][3].part(3, 0, 3), told[0][3].part(4), told[0][3].part(5)), (b"GLU", b"5\r", None))
+        self.gives(read_error([b"H|\\^&\rR|1\r"]), (2, Reason.NO_PARENT, ord("R"), 0))
+        self.gives(read_error([b"P|1\r"]), (1, Reason.NOT_HEADER, 0, 0))
+        self.gives(read_error([b"H|\\^&\r", b"H|\\^&\r"]), (2, Reason.SECOND_HEADER, 0, 0))
+        self.gives(read_error([b"H|\\^&\rP|1", b"\x02\r"]), (2, Reason.BAD_RECORD, Status.FORBIDDEN, 3))
+        self.gives(read_error([b"H|\\^&\r\r"]), (2, Reason.BAD_RECORD, Status.NO_RECORD, 0))
+        self.gives(read_error([b"H|\\^&\rP|"]), (2, Reason.UNFINISHED, 0, 0))
+        self.gives(read_error([b"H|\\^&\rP|" + b"1" * 65536]), (2, Reason.TOO_LONG, 0, 0))
+        self.gives(read_error([]), None)

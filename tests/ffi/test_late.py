@@ -1,0 +1,51 @@
+"""Replies that come late (late.c): no session is done before the host has each of its texts. The same on old
+connections, and with a host that sends late replies, has sessions that are, so the test can see them."""
+import os
+import re
+import subprocess
+
+from tests import ROOT, kit
+from tests.ffi.c import C11, IN_C, SANITIZERS
+
+TALLY = re.compile(r"sessions (\d+) done (\d+) false (\d+) late (\d+)\n")
+IN_TIME = "(step.reply != 0 && is_late(work))"
+
+
+def build(test, archive, host, program):
+    """The test over a host."""
+    files = [os.path.join(ROOT, "tests/ffi/late.c"), host,
+             *(os.path.join(IN_C, name) for name in ("analyzer.c", "serial.c", "heap.c"))]
+    flags = [it.replace("_POSIX_C_SOURCE=200809L", "_XOPEN_SOURCE=700") for it in (*C11, *SANITIZERS)]
+    return test.runs([*flags, "-pthread", f"-I{ROOT}/examples/c", *files, archive, "-o", program])
+
+
+def tally(test, program, mode, sessions):
+    """How many sessions were done too early; the sessions are as many as asked for, and some of them fail."""
+    try:
+        ran = subprocess.run([program, mode, str(sessions)], capture_output=True, text=True, timeout=120)
+    except subprocess.TimeoutExpired:
+        return test.check(False, f"late {mode}: not over after 120 seconds")
+    found = TALLY.fullmatch(ran.stdout)
+    if not test.check(ran.returncode == 0 and found, f"late {mode}: {ran.returncode} {ran.stdout}{ran.stderr}"):
+        return None
+    all_of_them, done, wrong, failed = (int(it) for it in found.groups())
+    power = all_of_them >= sessions and done > sessions / 10 and failed > sessions / 20
+    test.check(power, f"late {mode}: too few sessions, or too few of a kind: {ran.stdout}")
+    return wrong
+
+
+class Late(kit.Test):
+    def test_replies(self):
+        archive, work = kit.built("archive"), kit.folder_of(self)
+        host = kit.read("examples/c/host.c")
+        self.check(host.count(IN_TIME) == 1, f"host.c has no {IN_TIME}")
+        with open(f"{work}/late_host.c", "w") as file:
+            file.write(host.replace(IN_TIME, "(false && is_late(work))"))
+        if build(self, archive, os.path.join(IN_C, "host.c"), f"{work}/late"):
+            for mode, sessions in (("connect", 1000), ("serial", 1000), ("host", 320)):
+                wrong = tally(self, f"{work}/late", mode, sessions)
+                self.check(wrong == 0, f"late {mode}: {wrong} sessions are done before the host has their texts")
+            self.check(tally(self, f"{work}/late", "old", 320),
+                       "late old: no session is done too early on an old connection")
+        if build(self, archive, f"{work}/late_host.c", f"{work}/late_host"):
+            self.check(tally(self, f"{work}/late_host", "host", 320), "late host: late replies do no harm")

@@ -1,0 +1,62 @@
+"""Programs over the library: those of examples/c and of this folder in C, with the sanitizers of addresses and of
+undefined behavior; one without a C library; those of examples/python over the package."""
+import os
+import re
+import sys
+
+from tests import ROOT, kit
+from tests.ffi.c import BARE, C11, IN_C, IN_PYTHON, RESULTS, SANITIZERS, compilers, python_over, shared
+
+VALUES = "".join(" ".join(line.split(" ")[:2]) + " \n" for line in RESULTS.splitlines())
+#: Each program: its files, those of this folder with their path, and the pattern of what it prints.
+PROGRAMS = {"values": (["values.c", "names.c", "pieces.c", "heap.c"], re.escape(VALUES)),
+            "null": (["../../tests/ffi/null.c", "heap.c"], r"\d+ compared\n"),
+            "parts": (["../../tests/ffi/parts.c", "heap.c"], r"\d+ compared\n"),
+            "serial": (["../../tests/ffi/serial.c", "serial.c"], r"in out\n"),
+            "line": (["../../tests/ffi/line.c", "connection.c", "heap.c"], r"\d+ compared\n"),
+            "pieces": (["../../tests/ffi/pieces.c", "pieces.c", "heap.c"], r"\d+ records are equal\n"),
+            "pair": (["pair.c", "analyzer.c", "host.c", "heap.c"], r"5 texts went over\n"),
+            "message": (["message.c"], r"\d+ calls refused in turn\n"),
+            "records": (["records.c"], r"\d+ calls refused in turn\n"),
+            "refused": (["refused.c"], r"\d+ calls refused in turn\n"),
+            "results": (["results.c", "heap.c"], re.escape(RESULTS))}
+
+
+def session(texts):
+    """The link bytes of a session: a frame for each text of at most 240 bytes (LIS01-A2, 6.3)."""
+    link = b"\x05"
+    for place, text in enumerate(texts, 1):
+        inside = b"%d" % (place % 8) + text + b"\x03"
+        link += b"\x02" + inside + b"%02X\r\n" % (sum(inside) % 256)
+    return link + b"\x04"
+
+
+class Programs(kit.Test):
+    @classmethod
+    def setUpClass(cls):
+        cls.archive, cls.panel = kit.built("archive"), os.path.join(ROOT, "samples/panel.records")
+
+    def test_c(self):
+        work = kit.folder_of(self)
+        if not compilers(self):
+            return
+        with open(self.panel, "rb") as records, open(f"{work}/link", "wb") as link:
+            link.write(session(records.read().splitlines(keepends=True)))
+        for name, (files, said) in PROGRAMS.items():
+            paths = [os.path.join(IN_C, file) for file in files]
+            if self.runs([*C11, *SANITIZERS, *paths, self.archive, "-o", f"{work}/{name}"]):
+                with open(self.panel if name == "values" else f"{work}/link") as given:
+                    self.runs([f"{work}/{name}"], re.compile(said), stdin=given)
+
+    def test_bare(self):
+        work = kit.folder_of(self)
+        if self.runs([*BARE, os.path.join(IN_C, "bare.c"), self.archive, "-o", f"{work}/bare"]):
+            self.runs([f"{work}/bare"], "")
+
+    def test_python(self):
+        work = kit.folder_of(self)
+        library = shared(self, self.archive, work)
+        if library:
+            with open(self.panel) as records:
+                self.runs([sys.executable, os.path.join(IN_PYTHON, "quick_results.py")], RESULTS, stdin=records,
+                          **python_over(library))

@@ -1,0 +1,88 @@
+"""One scripted session over the library from C, C++ and Rust.
+
+Each prints what session.txt has, and compares the rest itself: C99 and C++17 with gcc and, if it is there, clang, over
+the archive with the sanitizers and over the shared library; lislink.hpp without exceptions; the crates of bindings/rust
+with their tests, by cargo without a network. What a machine has no compiler for is skipped.
+"""
+import os
+import shutil
+import sys
+
+from tests import ROOT, kit
+from tests.ffi import test_samples as samples
+from tests.ffi.c import HERE
+
+RUST = os.path.join(ROOT, "bindings/rust")
+WARNINGS = ["-Wall", "-Wextra", "-Werror", "-pedantic", f"-I{ROOT}/include"]
+SANITIZERS = ["-g", "-O1", "-fsanitize=address,undefined", "-fno-sanitize-recover=all"]
+LANGUAGES = {"C": (("gcc", "clang"), ["-std=c99"], "session.c"),
+             "C++": (("g++", "clang++"), ["-std=c++17"], "session.cpp")}
+
+
+def receives(test, program, path, build):
+    """The example that receives: killed after each text, in a whole session, and with a text that can't be kept; and
+    stopped for so long that its reply would be late."""
+    def start(to):
+        return samples.InPython([program, "0", to], env={**os.environ, "LD_LIBRARY_PATH": build})
+    late = samples.paused(start(f"{path}-late"))
+    for cut in range(len(samples.TEXTS) + 1):
+        test.check(samples.killed(start, path, cut), f"receive.rs, killed after {cut} texts")
+    test.check(samples.whole(start, path, b""), "receive.rs, a whole session")
+    full = start("/dev/full")
+    good = samples.ask(full.line, samples.ENQ, samples.ACK)
+    good = good and samples.ask(full.line, samples.frame(1, samples.TEXTS[0]), b"")
+    test.check(good and samples.ask(full.line, samples.ENQ, samples.ACK), "receive.rs: a text that can't be kept")
+    full.end()
+    test.check(samples.is_silent_late(*late), "receive.rs, stopped for 12 seconds, sends no late reply")
+
+
+class Session(kit.Test):
+    @classmethod
+    def setUpClass(cls):
+        cls.build = kit.built("build")
+        with open(os.path.join(HERE, "session.txt")) as file:
+            cls.said = file.read()
+
+    def test_c(self):
+        self.compiled("C")
+
+    def test_cpp(self):
+        self.compiled("C++")
+
+    def compiled(self, language):
+        """The session by each compiler that is here."""
+        compilers, standard, file = LANGUAGES[language]
+        work, here = kit.folder_of(self), [it for it in compilers if shutil.which(it)]
+        if not here:
+            self.skipTest(f"the session in {language}, since there is no {compilers[0]}")
+        for compiler in here:
+            words = [compiler, *standard, *WARNINGS, os.path.join(HERE, file), "-o", f"{work}/session"]
+            if self.runs([*words, *SANITIZERS, os.path.join(self.build, "liblislink.a")]):
+                self.runs([f"{work}/session"], self.said)
+            if self.runs([*words, "-O2", f"-L{self.build}", "-llislink", f"-Wl,-rpath,{self.build}"]):
+                self.runs([f"{work}/session"], self.said)
+
+    def test_status(self):
+        """lislink.hpp without exceptions: a call answers its status."""
+        if not shutil.which("g++"):
+            self.skipTest("lislink.hpp without exceptions, since there is no g++")
+        work = kit.folder_of(self)
+        words = ["g++", "-std=c++17", "-fno-exceptions", *WARNINGS, os.path.join(HERE, "status.cpp"),
+                 os.path.join(self.build, "liblislink.a"), "-o", f"{work}/status"]
+        if self.runs(words):
+            self.runs([f"{work}/status"], "")
+
+    def test_rust_is_up_to_date(self):
+        self.assertTrue(self.runs([sys.executable, os.path.join(RUST, "generate"), "--check"]))
+
+    def test_rust(self):
+        """The crates for Rust: their tests, and the session."""
+        if not shutil.which("cargo"):
+            self.skipTest("the crates of bindings/rust, since there is no cargo")
+        work = kit.folder_of(self)
+        how = {"cwd": RUST, "env": {**os.environ, "CARGO_TARGET_DIR": f"{work}/rust", "LISLINK_LIB_DIR": self.build,
+                                    "CARGO_NET_OFFLINE": "true", "RUSTFLAGS": "-D warnings"}}
+        self.runs(["cargo", "test", "--quiet", "--offline", "--locked"], **how)
+        self.runs(["cargo", "run", "--quiet", "--offline", "--locked", "--example", "session"], self.said, **how)
+        self.runs(["cargo", "build", "--quiet", "--offline", "--locked", "--example", "receive"], **how)
+        receives(self, f"{work}/rust/debug/examples/receive", f"{work}/kept", self.build)

@@ -1,0 +1,1 @@
+"""The Python package and the field kit `lislab`."""

@@ -1,0 +1,363 @@
+"""Logs of tools: each gives the capture of the one session that all were made of."""
+import base64
+import glob
+import json
+import os
+import random
+import stat
+
+from lislink.capture import read_capture
+from tests import ROOT
+from tests.field import packets
+from tests.field.lab import FieldTest, lislab
+
+LOGS = os.path.join(ROOT, "samples", "logs")
+SESSION = os.path.join(ROOT, "samples", "session.capture")
+#: Logs that know no pieces: a byte a line, or a whole frame.
+BY_BYTES = ("interceptty", "interceptty-t", "saleae", "nolf")
+
+
+def bytes_of(path):
+    with open(path, "rb") as file:
+        return file.read()
+
+
+def timed_session():
+    """The session with times, as (mark, seconds, bytes)."""
+    seconds = (0.000012, 0.00431, 0.1015, 0.1099, 0.11502, 0.201333, 0.207111, 0.30101, 0.307222, 0.402004)
+    lines = [line for _, line in read_capture(bytes_of(SESSION)).lines]
+    return [(line.mark, second, line.data) for line, second in zip(lines, seconds)]
+
+
+def shown(data):
+    return "".join(chr(byte) if 32 <= byte < 127 else "." for byte in data)
+
+
+def written(pieces):
+    """The pieces in the forms of tools."""
+    clock = [f"09:15:{time:09.6f}" for _, time, _ in pieces]
+    rows = [(mark, stamp, data) for (mark, _, data), stamp in zip(pieces, clock)]
+    yield "socat", "".join(
+        f"{mark} 2026/11/20 {stamp}  length={len(data)} from=0 to=0\n"
+        + "".join(
+            " "
+            + data[at : at + 16].hex(" ")
+            + "   " * (16 - len(data[at : at + 16]))
+            + "  "
+            + shown(data[at : at + 16])
+            + "\n"
+            for at in range(0, len(data), 16)
+        )
+        + "--\n"
+        for mark, stamp, data in rows
+    ).encode()
+    yield "hex", "".join(
+        f"{stamp} {'RX' if mark == '>' else 'TX'}: {data.hex(' ')}\n" for mark, stamp, data in rows
+    ).encode()
+    yield "python", "".join(
+        f"{stamp} {'<-' if mark == '>' else '->'} {data!r}\n" for mark, stamp, data in rows
+    ).encode()
+    yield "strace", "".join(
+        f"12 {stamp} {'read' if mark == '>' else 'write'}(5, \""
+        f"{''.join(f'{chr(92)}x{byte:02x}' for byte in data)}\", 4096)"
+        f" = {len(data)}\n"
+        for mark, stamp, data in rows
+    ).encode()
+    yield "tshark", "".join(
+        f"17951661{at:02}.5\t{51234 if mark == '>' else 4001}\t{data.hex()}\n"
+        for at, (mark, _, data) in enumerate(rows)
+    ).encode()
+    yield "eltima", "".join(
+        f"[20/11/2026 09:15:02] {'Read' if mark == '>' else 'Written'} data (COM3)\n"
+        + "".join(f"\t{data[at:at + 16].hex(' '):50} {shown(data[at:at + 16])}\n" for at in range(0, len(data), 16))
+        for mark, _, data in rows
+    ).encode()
+    yield from written_in_rows(rows)
+    yield "json", "".join(
+        json.dumps({"dir": "rx" if mark == ">" else "tx", "data": data.hex()}) + "\n" for mark, _, data in rows
+    ).encode()
+    yield "pcapng", packets.pcapng(packets.segments(pieces))
+
+
+def written_in_rows(rows):
+    """The same as tools with rows of 16 bytes write it, and others."""
+
+    def dump(data, form, width=16):
+        return "".join(
+            form.format(data[at : at + width].hex(" "), shown(data[at : at + width])) + "\n"
+            for at in range(0, len(data), width)
+        )
+
+    yield "free-serial-port-monitor", "".join(
+        f"{'Answer' if mark == '>' else 'Request'}: 11/20/2026 9:15:02 AM.00012 (+0.0010 seconds)\n\n"
+        + dump(data, " {0:50}{1}")
+        + "\n"
+        for mark, _, data in rows
+    ).encode()
+    yield "jpnevulator", "".join(
+        f"2026-11-20 {stamp}: /dev/ttyS{0 if mark == '>' else 1}\n" + dump(data, "{0:47}\t{1}")
+        for mark, stamp, data in rows
+    ).encode()
+    yield "ngrep", "".join(
+        f"T 10.0.0.{1 if mark == '>' else 2}:1 -> 10.0.0.{2 if mark == '>' else 1}:1 [AP] #4\n"
+        + dump(data, "  {0:52}{1}")
+        + "#\n"
+        for mark, _, data in rows
+    ).encode()
+    yield "docklight", "".join(
+        f"20.11.2026 {stamp} [{'RX' if mark == '>' else 'TX'}] - {data.hex(' ').upper()} \n\n"
+        for mark, stamp, data in rows
+    ).encode()
+    yield "portmon", "".join(
+        f"{at}\t0.1\tlis.exe\tIRP_MJ_{'READ' if mark == '>' else 'WRITE'}\tSerial0\tSUCCESS\tLength {len(data)}: "
+        f"{data.hex(' ').upper()} \n"
+        for at, (mark, _, data) in enumerate(rows)
+    ).encode()
+    yield "slsnif", "".join(
+        f"{'Device' if mark == '>' else 'Host  '} --> "
+        + "".join(f"{chr(byte) if 32 < byte < 127 else '.'}({byte:03})" for byte in data)
+        + "\n"
+        for mark, _, data in rows
+    ).encode()
+    yield "C arrays", "".join(
+        f"char peer{0 if mark == '>' else 1}_{at}[] = {{ /* Packet {at} */\n"
+        + ",\n".join(", ".join(f"0x{byte:02x}" for byte in data[cut : cut + 8]) for cut in range(0, len(data), 8))
+        + " };\n"
+        for at, (mark, _, data) in enumerate(rows)
+    ).encode()
+    yield "YAML", "".join(
+        f"# Packet {at}\npeer{0 if mark == '>' else 1}_{at}: !!binary |\n"
+        + "".join(f"  {line}\n" for line in base64.encodebytes(data).decode().split())
+        for at, (mark, _, data) in enumerate(rows)
+    ).encode()
+    yield "escaped", "".join(
+        f"{stamp} {'recv' if mark == '>' else 'send'}: \"{''.join(f'{chr(92)}x{byte:02x}' for byte in data)}\"\n"
+        for mark, stamp, data in rows
+    ).encode()
+
+
+class Logs(FieldTest):
+    def test_samples(self):
+        """Each log of samples/logs: with its pieces, and a line a unit."""
+        wanted = bytes_of(SESSION).decode()
+        units = lislab("capture", os.path.join(LOGS, "socat-x.txt"), "--units").text
+        analyzer = "".join(line + "\n" for line in units.splitlines() if line.startswith(">"))
+        paths = [path for path in sorted(glob.glob(os.path.join(LOGS, "*"))) if not path.endswith((".bin", ".md"))]
+        self.check(len(paths) > 50, "there are logs", str(len(paths)))
+        for path in paths:
+            name = os.path.splitext(os.path.basename(path))[0]
+            one_side = name.startswith("one-") or name == "realterm-hex"
+            ran = lislab("capture", path, "--units")
+            self.same(f"{name}: a line a unit", ran.text, analyzer if one_side else units)
+            if not one_side and name not in BY_BYTES:
+                self.same(f"{name}: with its pieces", lislab("capture", path).text, wanted)
+            self.same(f"{name}: status", ran.status, 0)
+            shown = lislab("ladder", path)
+            self.has(f"{name}: the reason in one command", shown.text, "rejected: checksum wrong: 05 found, 06 wanted")
+            if not one_side:
+                self.has(f"{name}: the ladder's end", shown.text, "texts 2, differences 0, messages 1")
+        raw = self.path("raw.bin", b"".join(data for mark, _, data in timed_session() if mark == ">"))
+        self.same("the bytes themselves", lislab("capture", raw).text, analyzer)
+        mixed = self.path("mixed.bin", b"".join(data for _, _, data in timed_session()))
+        self.same("both sides in one stream", lislab("capture", mixed, "--mixed", "--units").text, units)
+        self.has("both sides in one stream, not told", lislab("capture", mixed).error, "--mixed takes them apart")
+
+    def test_packets(self):
+        """Packet files in each form, and what a network does."""
+        wanted = bytes_of(SESSION).decode()
+        session = timed_session()
+        for name, data in packets.variants(session):
+            path = self.path("trace.pcap", data)
+            out = self.path("trace.capture")
+            ran = lislab("capture", path, "-o", out)
+            self.same(f"{name}: status ({ran.error})", ran.status, 0)
+            self.same(name, bytes_of(out).decode(), wanted)
+            times = bytes_of(out + ".times").decode().splitlines()
+            self.check(
+                len(times) == 10 and times[0].startswith("2026-11-20T09:15:02.00001"), f"{name}: times", str(times[:2])
+            )
+        plain = packets.segments(session)
+        gap = self.path("gap.pcap", packets.pcap(plain[:5] + plain[6:]))
+        self.has("a packet is missing", lislab("capture", gap).error, "bytes are missing")
+        ran = lislab("capture", gap, "--skip-missing")
+        self.same("a packet is missing, and passed over", ran.text, wanted.replace("> 0231487c5c5e260d\n", ""))
+        self.has("a packet is missing, told", ran.error, "8 bytes aren't in the file")
+        cut = self.path("cut.pcap", packets.pcap(plain)[:-9])
+        self.same("a last packet that is cut", lislab("capture", cut).status, 0)
+        twice = self.path(
+            "twice.pcap",
+            packets.pcap(
+                plain + [(time + 5, packet.replace(b"\xc8\x22", b"\xc8\x23")) for time, packet in plain]
+            ),
+        )
+        ran = lislab("capture", twice)
+        self.same("a second connection follows", ran.text, "capture 2\n" + wanted + "R\n" + wanted)
+        self.same("the second connection alone", lislab("capture", twice, "--stream", "2").text, wanted)
+        noise = random.Random(3)
+        other = [
+            (
+                0.001 * at,
+                packets.tcp(
+                    ("10.0.0.9", 40000), ("10.0.0.8", 22), 5 + 900 * at, bytes(noise.choices(range(256), k=900))
+                ),
+            )
+            for at in range(300)
+        ]
+        mixed = self.path("mixed.pcap", packets.pcap(sorted(plain + other)))
+        self.same("among connections of other kinds", lislab("capture", mixed).text, wanted)
+        both = self.path(
+            "both.pcap",
+            packets.pcap(
+                sorted(plain + [(time, packet.replace(b"\x0a\0\0\x01", b"\x0a\0\0\x07")) for time, packet in plain])
+            ),
+        )
+        self.has("two lines at once", lislab("capture", both).error, "--stream 2: ")
+        self.same("two lines at once, the first", lislab("capture", both, "--stream", "1").text, wanted)
+
+    def test_two_dumps(self):
+        """Two raw dumps, one of each direction."""
+        ran = lislab(
+            "capture",
+            "--analyzer",
+            os.path.join(LOGS, "analyzer.bin"),
+            "--computer",
+            os.path.join(LOGS, "computer.bin"),
+        )
+        self.same("two dumps", ran.text, lislab("capture", os.path.join(LOGS, "socat-x.txt"), "--units").text)
+        self.has("two dumps: the order is unknown", ran.error, "their order isn't known")
+        self.same(
+            "a dump without the other", lislab("capture", "--analyzer", os.path.join(LOGS, "analyzer.bin")).status, 2
+        )
+
+    def test_errors(self):
+        """What is no log is an error, and never an empty capture."""
+        for name, data, words in (
+            ("nothing", b"", "empty"),
+            ("blanks", b"\n \n", "empty"),
+            ("a letter", b"Dear Sir,\nthe line is down.\n", "no line"),
+            ("ASCII of Follow", b"Follow: tcp,ascii\nFilter: tcp.stream eq 0\n1\n.\n", "lost the control bytes"),
+            ("socat -v alone", b"> 2026/11/20 09:15:02.000012  length=1 from=0 to=0\n.--\n", "use socat -x"),
+            ("a block that lacks a byte", b"> 2026/11/20 09:15:02.000012  length=2 from=0 to=1\n 05\n", "lacks"),
+            ("a cut strace", b'1 read(5, "\\5", 4096) = 1\n1 read(5, "\\0021H|"..., 4096) = 40\n', "-s 4096"),
+            ("a row that is missing", b"00000000  05 02 31\n00000010  48\n", "row is missing"),
+            (
+                "two descriptors",
+                b'1 read(5, "\\5", 9) = 1\n1 write(5, "\\6", 1) = 1\n1 read(6, "\\5", 9) = 1\n',
+                "choose one by --fd",
+            ),
+            (
+                "a Portmon line that is cut",
+                b"1\t0.1\ta.exe\tIRP_MJ_READ\tSerial0\tSUCCESS\tLength 3: 05 02\n",
+                "Portmon",
+            ),
+            ("an empty pcap", packets.pcap([]), "no TCP connection"),
+            (
+                "a capture of a bus",
+                packets.pcap(packets.segments(timed_session())).replace(
+                    b"\xff\xff\0\0\1\0\0\0", b"\xff\xff\0\0\xf9\0\0\0"
+                ),
+                "type 249",
+            ),
+            ("replies alone", b"RX: 06\nRX: 06\n", "replies alone"),
+            ("a capture", b"> 05\n", "already"),
+        ):
+            ran = lislab("capture", self.path("log", data))
+            self.same(f"{name}: status", ran.status, 3)
+            self.same(f"{name}: no capture", ran.output, b"")
+            self.has(name, ran.error, words)
+        self.has(
+            "records are no line",
+            lislab("ladder", os.path.join(ROOT, "samples", "panel.records")).error,
+            "normalize --explain",
+        )
+        out = self.path("never")
+        lislab("capture", self.path("log", b"nothing here\n"), "-o", out)
+        self.check(not os.path.exists(out), "no file is made of nothing")
+
+    def test_options(self):
+        """The side of the analyzer, the timer, modes and times."""
+        log = os.path.join(LOGS, "socat-x.txt")
+        swapped = lislab("capture", log, "--swap").lines
+        elf = b'1 read(3, "\\177ELF\\2\\1\\1\\0\\5", 832) = 9\n'
+        strace = elf + bytes_of(os.path.join(LOGS, "strace.txt")) + elf.replace(b"3,", b"4,")
+        self.same(
+            "descriptors of other kinds", lislab("capture", self.path("log", strace)).text, bytes_of(SESSION).decode()
+        )
+        self.same("--swap", swapped[:2], ["< 05", "> 06"])
+        self.same("--analyzer-side", lislab("capture", log, "--analyzer-side", "<").lines, swapped)
+        self.has(
+            "--analyzer-side of none",
+            lislab("capture", log, "--analyzer-side", "x").error,
+            "isn't one of the two sides",
+        )
+        self.has("--timer", lislab("capture", log, "--timer", "0.09").text, "\nT\n")
+        self.check("T" not in lislab("capture", log, "--timer", "30").lines, "no timer")
+        both = b"RX: 05\nTX: 06\nRX: 02 31 4F 7C 31 0D 03 42 35 0D 0A\nTX: 06\nRX: 04\n"
+        both += b"TX: 05\nRX: 06\nTX: 02 31 52 7C 31 0D 03 38 0D 0A\n"
+        ran = lislab("capture", self.path("log", both))
+        self.has("the side with results", ran.error, "alone sends results")
+        self.same("the side with results, lines", ran.lines[0], "< 05")
+        out = self.path("private.capture")
+        old = os.umask(0)
+        try:
+            lislab("capture", log, "-o", out)
+            lislab("ladder", log, "--html", self.path("private.html"))
+        finally:
+            os.umask(old)
+        for path in (out, out + ".times", self.path("private.html")):
+            self.same(f"mode of {os.path.basename(path)}", stat.S_IMODE(os.stat(path).st_mode), 0o600)
+        self.has("times beside a capture", lislab("ladder", out).text, "09:15:02.201")
+        long = b"RX: 05\nTX: 06\nRX: " + b"41 " * 3000 + b"\n"
+        self.same(
+            "more bytes than a line has room for",
+            [len(line) for line in lislab("capture", self.path("log", long)).lines],
+            [4, 4, 2 + 2 * 2047, 2 + 2 * 953],
+        )
+
+    def test_round_trips(self):
+        """Random sessions written in the form of tools come back as they were."""
+        chance = random.Random(7)
+        for trial in range(12):
+            # Letters that look like a dump's own digits and columns are in half of them.
+            letters = range(256) if trial % 2 else b"0123456789ABCDEFabcdef ..|<>:-x\r\n"
+            pieces = [
+                (chance.choice("<>"), 0.001 * number, bytes(chance.choices(letters, k=chance.randrange(1, 70))))
+                for number in range(12)
+            ]
+            pieces.insert(0, (">", 0.0, b"\x05\x021H|\\^&\r\x03E5\r\n"))
+            pieces = [
+                (mark, time, data if mark == ">" else data.replace(b"\x05", b"e").replace(b"\x02", b"s"))
+                for mark, time, data in pieces
+            ]
+            wanted = "".join(f"{mark} {data.hex()}\n" for mark, _, data in pieces)
+            for name, text in written(pieces):
+                ran = lislab("capture", self.path(f"log-{name}", text))
+                self.same(f"round trip {trial} of {name} {ran.error}", ran.text, wanted)
+
+    def test_bytes(self):
+        """Logs of text with the bytes as they came, and letters over 127."""
+        session = timed_session()
+        wanted = bytes_of(SESSION).decode()
+        for name, line in (("LF", b"\n"), ("CR LF", b"\r\n")):
+            text = b"".join(
+                b"2026-11-20 09:15:02.%03d %s: " % (int(time * 1000), b"RX" if mark == ">" else b"TX") + data + line
+                for mark, time, data in session
+            )
+            self.same(f"control bytes in a log, {name}", lislab("capture", self.path("log", text)).text, wanted)
+        for name, letters in (
+            ("Latin-1", "é".encode("latin-1")),
+            ("UTF-8", "é".encode("utf-8")),
+            ("GBK", "病".encode("gbk")),
+        ):
+            text = b"RX: <ENQ>\nTX: <ACK>\nRX: <STX>1" + letters + b"<CR><ETX>00<CR><LF>\n"
+            lines = lislab("capture", self.path("log", text)).lines
+            self.same(f"letters of {name}", lines[2:], ["> 0231" + letters.hex() + "0d0330300d0a"])
+        text = "RX: <ENQ>\r\nTX: <ACK>\r\nRX: <STX>1é<CR>\r\n".encode("utf-16")
+        self.same("letters of UTF-16", lislab("capture", self.path("log", text)).lines[2:], ["> 0231e90d"])
+        self.has(
+            "text around each reply",
+            lislab("capture", self.path("log", b"RX: a <ENQ>\nTX: b <ACK>\n")).error,
+            "text around it",
+        )
+        swapped = lislab("capture", SESSION, "--swap").text
+        self.same("a capture is turned round", swapped, wanted.replace(">", "x").replace("<", ">").replace("x", "<"))

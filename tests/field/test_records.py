@@ -1,0 +1,222 @@
+"""Record files: normalize, table, and messages as data."""
+import csv
+import io
+import json
+import os
+
+from lislink import Message, messages, read_all
+from lislink.field.normalize import CHANGES
+from tests import ROOT
+from tests.field.lab import FieldTest, lislab
+
+SAMPLES = os.path.join(ROOT, "samples")
+GOOD = (
+    b"H|\\^&|||A 1\rP|1||4711||Doe^Jane\rO|1|S7|I9|^^^GLU\r"
+    b"R|1|^^^GLU|5.4|mmol/L|3.9 to 6.1|N||F||op|20261120|20261121|A2\rL|1|N\r"
+)
+BAD = b"H|\\^&\rP|1\rR|1|^^^NA|139\rL|1|N\r"
+
+
+def changed(test, name, data, options, wanted, told):
+    ran = lislab("normalize", *options, data=data)
+    test.same(f"normalize: {name}", ran.output, wanted)
+    test.same(
+        f"normalize: {name}, told",
+        [line for line in ran.error.splitlines() if ": line " in line and "asked" not in line],
+        [f"lislab: line {one}" for one in told],
+    )
+
+
+def table(data, *options):
+    ran = lislab("table", *options, data=data)
+    return ran, list(csv.reader(io.StringIO(ran.text)))
+
+
+def framed(number, record):
+    from lislink import frame_bytes
+
+    return frame_bytes(number % 8, True, record + b"\r")
+
+
+class Records(FieldTest):
+    def test_normalize(self):
+        for path in ("panel", "query", "escapes"):
+            with open(os.path.join(SAMPLES, path + ".records"), "rb") as file:
+                data = file.read()
+            changed(self, f"{path} is as it was", data, ["--all"], data, [])
+        head = b"H|\\^&\r"
+        changed(
+            self,
+            "CR LF",
+            b"H|\\^&\r\nL|1\r\n",
+            ["--crlf"],
+            b"H|\\^&\rL|1\r",
+            ["1: CR LF became CR", "2: CR LF became CR"],
+        )
+        changed(self, "LF alone isn't CR LF", b"H|\\^&\nL|1\r\n", ["--crlf"], b"H|\\^&\nL|1\r", ["2: CR LF became CR"])
+        changed(self, "LF", b"H|\\^&\nL|1\n", ["--lf"], b"H|\\^&\rL|1\r", ["1: LF became CR", "2: LF became CR"])
+        changed(self, "nothing is asked for", b"H|\\^&\r\nL|1\r\n", [], b"H|\\^&\r\nL|1\r\n", [])
+        changed(
+            self, "NUL", head + b"P|1\0\0\rL|1\r", ["--nul"], head + b"P|1\rL|1\r", ["2: NUL was left out, 2 times"]
+        )
+        changed(
+            self,
+            "blank lines",
+            head + b"\r\rL|1\r",
+            ["--blank"],
+            head + b"L|1\r",
+            ["2: an empty record was left out", "3: an empty record was left out"],
+        )
+        changed(
+            self,
+            "behind L",
+            head + b"L|1\rC|1|x\r" + head + b"L|1\r",
+            ["--behind-l"],
+            (head + b"L|1\r") * 2,
+            ["3: a record after L was left out (C, 5 bytes)"],
+        )
+        changed(self, "the last CR", head + b"L|1", ["--last-cr"], head + b"L|1\r", ["2: the last record got its CR"])
+        changed(
+            self,
+            "L in both places",
+            head + b"P|1\r" + head + b"P|1\r",
+            ["--last-l"],
+            (head + b"P|1\rL|1|N\r") * 2,
+            ["3: L was put before this header", "5: L was put at the end"],
+        )
+        changed(
+            self,
+            "HL7's delimiters",
+            b"H|^~\\&|||x^y~z\rL|1\r",
+            ["--header-5"],
+            b"H|~^\\|||x^y~z\rL|1\r",
+            ["1: HL7's delimiters |^~\\& became repeat ~, component ^, escape \\: the header has H|~^\\"],
+        )
+        link = b"\x05\x021H|\\^&\rP|1\x17A1\r\n\x022|x\r\x03C4\r\n\x023L|1\r\x0300\r\n\x04"
+        ran = lislab("normalize", "--unframe", data=link)
+        self.same("normalize: frames", ran.output, head + b"P|1|x\rL|1\r")
+        for name, data in (("R without O", BAD), ("O without P", head + b"O|1\rL|1\r")):
+            ran = lislab("normalize", "--all", data=data)
+            self.same(f"normalize: {name} isn't mended by --all", (ran.status, ran.output), (1, data))
+            self.has(f"normalize: {name} names the option", ran.error, "--orders wasn't asked for")
+            ran = lislab("normalize", "--orders", data=data)
+            self.same(f"normalize: {name} by --orders", ran.status, 0)
+            self.has(f"normalize: {name} says what is lost", ran.error, "has no ")
+        for name in CHANGES:
+            self.has("each change has its option", lislab("normalize", "--help").text, f"--{name}")
+        mess = b"\xef\xbb\xbfH|\\^|||x\r\nP|1\nO|1|S7\r\n\r\nR|1|^^^GLU|5.4\0\r\nL|1"
+        self.same(
+            "normalize: many at once",
+            lislab("normalize", "--all", data=mess).output,
+            b"H|\\^&|||x\rP|1\rO|1|S7\rR|1|^^^GLU|5.4\rL|1\r",
+        )
+        self.has(
+            "normalize: explained in one line",
+            lislab("normalize", "--explain", data=mess).text,
+            "mended by: lislab normalize --bom --nul --crlf --lf --blank --header-3 --last-cr",
+        )
+        self.same("normalize: nothing is left to explain", lislab("normalize", "--explain", data=GOOD).status, 0)
+
+    def test_table(self):
+        ran, rows = table(GOOD)
+        self.same(
+            "table: the line of names",
+            rows[0],
+            "sample patient test value unit range flag status date instrument".split(),
+        )
+        self.same(
+            "table: a result", rows[1], ["S7", "4711", "GLU", "5.4", "mmol/L", "3.9 to 6.1", "N", "F", "20261121", "A2"]
+        )
+        self.same("table: the sample of field 4", table(GOOD, "--sample-from", "4")[1][1][0], "I9")
+        self.same("table: no line of names", len(table(GOOD, "--no-header")[1]), 1)
+        ran, rows = table(GOOD, "--fields", "s=O.3,P.6.2,result.operator,R.3,header.sender_name")
+        self.same(
+            "table: fields of choice",
+            rows,
+            [["s", "P.6.2", "result.operator", "R.3", "header.sender_name"], ["S7", "Jane", "op", "^^^GLU", "A 1"]],
+        )
+        self.same("table: no such field", lislab("table", "--fields", "X.3", data=GOOD).status, 2)
+        escaped = GOOD.replace(b"5.4", b'a&F&b&X0D0A&"&E&')
+        self.same("table: escapes are undone", table(escaped)[1][1][3], 'a|b\r\n"&')
+        tab = lislab("table", "--format", "tsv", data=escaped.replace(b"&F&", b"&X09&")).lines
+        self.same("table: TSV", (len(tab), tab[1].split("\t")[3]), (2, 'a\\tb\\r\\n"&'))
+        told = [json.loads(line) for line in lislab("table", "--format", "jsonl", data=escaped + GOOD).lines]
+        self.same("table: JSON lines", [one["value"] for one in told], ['a|b\r\n"&', "5.4"])
+        ran, rows = table(GOOD + BAD + GOOD)
+        self.same(
+            "table: a bad message hides no later one",
+            ([row[0] for row in rows], ran.status),
+            (["sample", "S7", "S7"], 1),
+        )
+        self.has("table: a bad message is named", ran.error, "message 2: record 3 is rejected (G3)")
+        cut = GOOD[: GOOD.index(b"L|1")]
+        ran, rows = table(cut + GOOD)
+        self.same("table: a message without L tells no result", (len(rows), ran.status), (2, 1))
+        self.has("table: how many results were left", ran.error, "1 results before it aren't told")
+        gbk = GOOD.replace(b"4711", "病人".encode("gbk"))
+        ran, rows = table(gbk)
+        self.check(ran.status == 1 and "--encoding" in ran.error, "table: another encoding is told", ran.error)
+        ran, rows = table(gbk, "--encoding", "gbk")
+        self.same("table: an encoding of choice", (rows[1][1], ran.status), ("病人", 0))
+        self.same("table: no such encoding", lislab("table", "--encoding", "klingon", data=GOOD).status, 2)
+        with open(os.path.join(SAMPLES, "panel.records"), "rb") as file:
+            panel = file.read()
+        mine = [
+            row[:1] + row[2:8]
+            for row in table(panel, "--fields", "sample,patient,R.3,value,unit,range,flag,status")[1][1:]
+        ]
+        program = [line.split("|") for line in self.lislink("results", data=panel).lines]
+        self.same("table: as the program's results", mine, program)
+        path = self.path(
+            "session.capture",
+            b"> 05\n"
+            + b"".join(
+                b"> " + framed(number, record).hex().encode() + b"\n"
+                for number, record in enumerate(GOOD.splitlines(), 1)
+            ),
+        )
+        self.same("table: of a capture", lislab("table", path).text, table(GOOD)[0].text)
+
+    def test_messages(self):
+        (rows,) = messages([GOOD])
+        message = Message(rows)
+        patient = message.patients[0]
+        (order,) = patient.orders
+        (result,) = order.results
+        self.same(
+            "message: names",
+            (
+                patient.name,
+                order.specimen_id,
+                order.instrument_specimen_id,
+                result.value,
+                result.unit,
+                result.operator,
+                message.header.sender_name,
+            ),
+            ("Doe^Jane", "S7", "I9", "5.4", "mmol/L", "op", "A 1"),
+        )
+        self.same(
+            "message: parts", (patient.text(6, 0, 1), result.part(3, 0, 3), result.part(99)), ("Jane", b"GLU", None)
+        )
+        self.raises("message: no such name", AttributeError, lambda: result.nonsense)
+        data = json.loads(message.to_json())
+        self.same("message: JSON", data["patients"][0]["orders"][0]["results"][0]["value"], "5.4")
+        self.same("message: no finding", message.findings(), [])
+        noted = b"H|\\^&\rC|1|I|a\rP|1\rC|1|I|b\rC|3|I|c\rQ|1|^S\rM|1\rP|3\rO|1|S\rR|1|t|1\rC|1|I|d\rL|2\r"
+        (rows,) = messages([noted])
+        found = [(one.number, one.letter, one.position) for one in Message(rows).findings()]
+        self.same("message: findings", found, [(5, "C", 2), (8, "P", 2), (12, "L", 1)])
+        told = [
+            tuple(map(int, line.split()[1::2]))
+            for line in self.lislink("check", data=noted).lines
+            if line.startswith("finding")
+        ]
+        self.same("message: findings as the program's", [(one[0], one[2]) for one in found], told)
+        self.same(
+            "message: notes",
+            [len(entry.notes) for entry in Message(rows).entries],
+            [1, 0, 2, 0, 0, 1, 0, 0, 0, 1, 0, 0],
+        )
+        kinds = [type(one).__name__ for one in read_all(BAD + GOOD + b"x\r" + GOOD + b"H|\\^&\r" + GOOD)]
+        self.same("message: all that can be read", kinds, ["Fault", "Found", "Fault", "Found", "Fault", "Found"])

@@ -1,0 +1,235 @@
+"""Ladders: they agree with the proved program on every capture, and docs/DIALECTS.md says what is so."""
+import glob
+import os
+import random
+import re
+
+from lislink import Note
+from lislink.capture import read_capture
+from lislink.field.faults import code_of
+from lislink.field.ladder import Ladder
+from lislink.field.page import page_of
+from lislink.message import Fault, Found
+from tests import ROOT
+from tests.field.lab import FieldTest, lislab
+
+DIALECTS = os.path.join(ROOT, "samples", "dialects")
+
+
+def bytes_of(path):
+    with open(path, "rb") as file:
+        return file.read()
+
+
+def agrees(test, name, data):
+    """A capture's ladder has the texts and differences of `replay`, and the messages and refusals of `check`."""
+    ladder = Ladder(read_capture(data))
+    replay = test.lislink("replay", data=data)
+    texts = re.findall(r"^text (\d+) (\d+)$", replay.text, re.M)
+    test.same(f"{name}: texts", [(str(text.line), str(len(text.data))) for text in ladder.texts], texts)
+    found = re.findall(r"^difference (\w+) (\S+) (\S+)$", replay.text, re.M)
+    mine = [
+        (str(line) if line else "end", wanted.hex() or "-", got.hex() or "-")
+        for line, wanted, got in ladder.differences
+    ]
+    test.same(f"{name}: differences", mine, found)
+    records = test.lislink("texts", data=data).output
+    test.same(f"{name}: records", ladder.stream, records)
+    check = test.lislink("check", data=records)
+    whole = [one for one in ladder.messages if isinstance(one, Found)]
+    fault = next((one for one in ladder.messages if isinstance(one, Fault)), None)
+    refused = re.search(r"^refused (\d+) (\d+) (.*)$", check.text, re.M)
+    before = ladder.messages.index(fault) if fault else len(whole)
+    test.same(
+        f"{name}: the first refusal",
+        (before + 1, fault.error.number, code_of(fault.error)) if fault else None,
+        (int(refused[1]), int(refused[2]), refused[3]) if refused else None,
+    )
+    findings = [
+        (one.number, one.letter, one.position) for message in whole[:before] for one in message.message.findings()
+    ]
+    told = re.findall(r"^finding (\d+) (\w) (\d+)$", check.text, re.M)
+    test.same(f"{name}: findings", findings, [(int(one), letter, int(place)) for one, letter, place in told])
+    signals = test.lislink("show", data=ladder.analyzer)
+    test.same(f"{name}: units", len(list(ladder.units())), len(signals.lines))
+    page = page_of(ladder, name)
+    test.check(
+        not re.search(r"(?:src|href)=\"?(?:https?:|//)|@import|url\(", page), f"{name}: the page asks for nothing"
+    )
+
+
+def spans(text):
+    """The code spans of a cell, each with the command that it belongs to."""
+    command = ""
+    for span in re.findall(r"`([^`]+)`", text):
+        if span in ("show", "replay", "check", "texts"):
+            command = span
+        else:
+            yield command, span
+
+
+def of_link_row(test, sample, path, seen, words):
+    data = bytes_of(path)
+    link = b"".join(line.data for _, line in read_capture(data).lines if line.mark == ">")
+    ran = {
+        "replay": test.lislink("replay", data=data),
+        "show": test.lislink("show", data=link),
+        "check": test.lislink("check", data=test.lislink("texts", data=data).output),
+    }
+    for command, span in spans(seen):
+        test.check(
+            any(line == span or re.match(re.escape(span) + r"( |$)", line) for line in ran[command].lines),
+            f"{sample}: {command} prints {span}",
+            ran[command].text,
+        )
+    show = ran["show"].lines
+    if "no frame" in seen:
+        test.check(not any(line.startswith(("frame", "bad")) for line in show), f"{sample}: no frame", str(show))
+    if "for every frame" in seen:
+        test.check(not any(line.startswith("frame") for line in show), f"{sample}: every frame is bad", str(show))
+    if "`show`: nothing" in seen:
+        test.same(f"{sample}: nothing is shown", show, [])
+    if "no line but `ENQ`" in seen:
+        test.same(f"{sample}: ENQ alone", set(show), {"ENQ"})
+    if "status 0" in seen:
+        test.same(f"{sample}: status", ran["replay"].status, 0)
+    if "once" in seen:
+        test.same(f"{sample}: once", sum(line.startswith("bad") for line in show), 1)
+    test.has(f"{sample}: what lislab says", lislab("ladder", path).text, words)
+
+
+def of_record_row(test, sample, path, seen, words, helps):
+    data = bytes_of(path)
+    check = test.lislink("check", data=data)
+    for _, span in spans(seen):
+        test.check(span in check.lines, f"{sample}: check prints {span}", check.text)
+    test.has(f"{sample}: what lislab says", lislab("normalize", "--explain", path).text, words)
+    command = re.search(r"`lislab (normalize --[\w-]+)`", helps)
+    if command:
+        ran = lislab(*command[1].split(), path)
+        test.same(f"{sample}: {command[1]}", ran.status, 0)
+        test.check("lislab: line " in ran.error, f"{sample}: each change is told", ran.error)
+        after = test.lislink("check", data=ran.output)
+        test.check("refused" not in after.text, f"{sample}: the program reads what is made", after.text)
+        if "--all" not in helps and "--orders" not in command[1]:
+            test.same(f"{sample}: --all does it too", lislab("normalize", "--all", path).status, 0)
+
+
+class Sessions(FieldTest):
+    def test_captures(self):
+        paths = sorted(
+            glob.glob(os.path.join(ROOT, "samples", "*.capture")) + glob.glob(os.path.join(DIALECTS, "*.capture"))
+        )
+        self.check(len(paths) > 35, "there are captures", str(len(paths)))
+        for path in paths:
+            agrees(self, os.path.basename(path), bytes_of(path))
+
+    def test_random(self):
+        """Random captures of units, noise, replies and events: in each the ladder agrees with the program."""
+        chance = random.Random(11)
+        units = [
+            b"\x05",
+            b"\x04",
+            b"\x021H|\\^&\r\x03E5\r\n",
+            b"\x022L|1|N\r\x0305\r\n",
+            b"\x021a\x17C9\r\n",
+            b"\x022b\x0397\r\n",
+            b"\x021H|\\^&\r\x0300\r\n",
+            b"\x02",
+            b"\n",
+            b"noise",
+            b"\x06",
+            b"\x023P|1\r\x03C3\r\n",
+            b"\x02\x05",
+            b"1H|\\^&\r",
+        ]
+        for trial in range(40):
+            rows = ["capture 2"]
+            for _ in range(chance.randrange(3, 25)):
+                kind = chance.randrange(12)
+                if kind < 8:
+                    rows.append("> " + b"".join(chance.choices(units, k=chance.randrange(1, 4))).hex())
+                else:
+                    rows.append(
+                        chance.choice(["< 06", "< 15", "< 0606", "T", "R", "S busy", "S ready", "S contending", ""])
+                    )
+            agrees(self, f"random {trial}", "".join(row + "\n" for row in rows).encode())
+
+    def test_versions(self):
+        """Malformed lines are told as the program tells them."""
+        for data in (
+            b"> 05\nhello\n",
+            b"> 5\n",
+            b">05\n",
+            b"R\n",
+            b"capture 2\ncapture 2\n",
+            b"S busy\n",
+            b"> 05 \n",
+            b"x" * 5000,
+            b"\r\n> 05\r\n< 06\r",
+            b"> 05\n\r",
+        ):
+            wanted = re.search(r"K1 line (\d+)", self.lislink("replay", data=data).error)
+            try:
+                read_capture(data)
+                found = None
+            except Exception as error:
+                found = re.search(r"line (\d+)", str(error))
+            self.same(f"a malformed line in {data[:20]!r}", found[1] if found else None, wanted[1] if wanted else None)
+
+    def test_dialects(self):
+        """Each row of docs/DIALECTS.md."""
+        with open(os.path.join(ROOT, "docs", "DIALECTS.md"), encoding="utf-8") as file:
+            rows = [
+                [cell.strip() for cell in line.strip().strip("|").split("|")]
+                for line in file
+                if re.match(r"\| `[\w-]+\.\w+`", line)
+            ]
+        named = {row[0].strip("`") for row in rows}
+        self.same("each sample has a row", sorted(named), sorted(os.listdir(DIALECTS)))
+        links, records = [sum(name.endswith(end) for name in named) for end in (".capture", ".records")]
+        self.check(links >= 25 and records >= 20, "25 dialects of the link and 20 of records", f"{links}, {records}")
+        for sample, seen, words, helps in rows:
+            sample = sample.strip("`")
+            path = os.path.join(DIALECTS, sample)
+            if sample.endswith(".capture"):
+                of_link_row(self, sample, path, seen, words)
+            else:
+                of_record_row(self, sample, path, seen, words, helps)
+
+    def test_words(self):
+        """The rows of a ladder in words."""
+        text = lislab("ladder", os.path.join(ROOT, "samples", "version-2.capture")).text
+        for words in (
+            "the computer is busy: ENQ is answered NAK",
+            "duplicate of 1: acknowledged, not taken again",
+            "rejected: checksum wrong: FC found, FD wanted",
+            "accepted, text of 17 bytes delivered",
+            "the receiver would answer <ACK>: the computer rejects a good frame",
+            "the receiver is restarted",
+            "the receiver's 30 seconds are over",
+            "the computer wants to send",
+            "summary: ENQ 4, frames 6",
+        ):
+            self.has("the words of a ladder", text, words)
+        out_of_turn = b"> 05\n> 0233410337370d0a\n> 04\n"
+        self.has(
+            "a frame out of turn",
+            lislab("ladder", "-", data=out_of_turn).text,
+            "rejected: out of turn, 1 is due (checksum 77) -> <NAK>",
+        )
+        self.has("no replies at all", lislab("ladder", "-", data=out_of_turn).text, "no bytes of the computer")
+        swapped = lislab("ladder", "--swap", os.path.join(ROOT, "samples", "session.capture")).text
+        self.has("the sides are swapped", swapped, "the sides are swapped")
+        self.has("a right checksum", text, "(checksum EC) -> <ACK>")
+        wrong = lislab("ladder", "--wrong", os.path.join(ROOT, "samples", "session.capture")).lines
+        self.same("only what looks wrong", sum("\u251c" in line or "\u2524" in line for line in wrong), 1)
+        late = self.path("late.capture", b"> 05\n< 06\n> 0231410337350d0a\n< 06\n> 04\n")
+        self.path("late.capture.times", b"09:00:00.000\n09:00:20.000\n09:01:00.000\n09:01:00.100\n09:01:00.200\n")
+        shown = lislab("ladder", late).text
+        self.has("a late answer", shown, "1 answer came over 15 seconds late")
+        self.has("a silence", shown, "60.0 seconds of silence")
+        self.has("a gap", shown, "20.0 s later")
+        ladder = Ladder(read_capture(bytes_of(os.path.join(ROOT, "samples", "two-sessions.capture"))))
+        self.same("notes are counted", ladder.notes[Note.ACCEPTED], 5)
+        self.same("a text at its line", [text.line for text in ladder.texts], [9, 11, 17])

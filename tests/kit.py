@@ -1,0 +1,185 @@
+"""What all tests share: checks that count one by one, what is tested, and runs of commands."""
+import os
+import re
+import subprocess
+import tempfile
+import unittest
+
+from tests import ROOT
+
+#: What is tested, and where the gate builds it; TESTED_NAME in the environment names another place.
+BUILT = {
+    "lislink": "crates/lislink/out/lislink",
+    "lislink_by_rattle": "crates/lislink/out/lislink.by-rattle",
+    "vectors": "crates/vectors/out/vectors",
+    "vectors_by_rattle": "crates/vectors/out/vectors.by-rattle",
+    "record_tests": "crates/record_tests/out/record_tests_tests",
+    "link_tests": "crates/link_tests/out/link_tests_tests",
+    "archive": "crates/lis_c/out/liblis_c.a",
+    "build": "build",
+}
+#: The most characters that are printed of a failure.
+SHOWN = 600
+LAST = re.compile(r"^\w+: (\d+) passed, (\d+) failed$", re.M)
+
+
+def place(name):
+    """Where something is that is tested."""
+    return os.path.join(ROOT, os.environ.get(f"TESTED_{name.upper()}", BUILT[name]))
+
+
+def built(name):
+    """The same; what isn't there fails the test."""
+    path = place(name)
+    if not os.path.exists(path):
+        raise AssertionError(f"{path} is not built")
+    return path
+
+
+def library():
+    """The shared library, which the Python package is to load."""
+    path = os.path.join(place("build"), "liblislink.so")
+    os.environ["LISLINK_LIBRARY"] = path
+    return path
+
+
+def read(path):
+    """The text of a file of the repository."""
+    with open(os.path.join(ROOT, path), encoding="utf-8") as file:
+        return file.read()
+
+
+def folder_of(test):
+    """A folder that is removed after the test."""
+    made = tempfile.TemporaryDirectory(prefix="lis-test-")
+    test.addCleanup(made.cleanup)
+    return made.name
+
+
+def without_library(**more):
+    """The environment of a user whose library and package are installed."""
+    left_out = ("LISLINK_LIBRARY", "PYTHONPATH")
+    return {**{name: value for name, value in os.environ.items() if name not in left_out}, **more}
+
+
+class Test(unittest.TestCase):
+    """A test whose checks count one by one: after one that failed the next ones are made too."""
+
+    def check(self, holds, what, why=""):
+        """One check, with its name, or what makes the name if it fails."""
+        if isinstance(holds, str):
+            raise TypeError("what holds comes first, the name second")
+        if holds:
+            with self.subTest():
+                return True
+        with self.subTest(what() if callable(what) else what):
+            self.fail(why)
+        return False
+
+    def same(self, name, found, wanted):
+        """Whether what was found is what is wanted."""
+        return self.check(found == wanted, name, f"{found!r}, wanted {wanted!r}")
+
+    def has(self, name, text, part):
+        """Whether a text has a part."""
+        return self.check(part in text, name, f"{part!r} isn't in {text[-1500:]!r}")
+
+    def raises(self, name, kind, call):
+        """Whether a call raises an error of this kind."""
+        try:
+            call()
+        except kind:
+            return self.check(True, name)
+        except Exception as error:  # the wrong one
+            return self.check(False, name, f"{type(error).__name__}: {error}")
+        return self.check(False, name, f"no {kind.__name__}")
+
+    def need(self, holds, why):
+        """A part of a check: if it fails, the check does, and `why` makes the reason."""
+        if not holds:
+            self.fail(why())
+
+    def runs(self, words, said=None, seconds=300, **how):
+        """Runs a command, which is to end with 0 and to print what is said, a text or a pattern; None if it doesn't."""
+        try:
+            ran = subprocess.run(words, capture_output=True, text=True, timeout=seconds, **how)
+        except (OSError, subprocess.TimeoutExpired) as error:
+            self.check(False, " ".join(words), str(error))
+            return None
+        printed = said is None or (said == ran.stdout if isinstance(said, str) else said.fullmatch(ran.stdout))
+        good = ran.returncode == 0 and printed
+        self.check(good, " ".join(words), f"status {ran.returncode}\n{ran.stdout}{ran.stderr}")
+        return ran if good else None
+
+    def counts(self, *words):
+        """Runs a script of the repository, whose last line is 'NAME: N passed, M failed', and counts its checks."""
+        ran = subprocess.run(words, cwd=ROOT, capture_output=True, text=True, errors="replace")
+        last = LAST.findall(ran.stdout)[-1:]
+        passed, failed = map(int, last[0]) if last else (0, 1)
+        COUNTED.passed += passed
+        if failed or ran.returncode or not passed:
+            COUNTED.failed += max(failed, 1) - 1
+            self.fail(f"{' '.join(words)}\n{(ran.stdout + ran.stderr)[-2000:]}")
+
+
+class Counted:
+    """How many checks other scripts made for a test, besides the test's own."""
+
+    passed = failed = 0
+
+
+COUNTED = Counted()
+
+
+class Result(unittest.TestResult):
+    """Counts the checks: those of a test that has some, else the test itself. Prints each failure with its name."""
+
+    def __init__(self):
+        super().__init__()
+        self.passed = self.failed = self.before = 0
+
+    def startTest(self, test):
+        super().startTest(test)
+        self.before = self.total()
+
+    def total(self):
+        return self.passed + self.failed + COUNTED.passed + COUNTED.failed
+
+    def add(self, test, error):
+        if error is None:
+            self.passed += 1
+            return
+        self.failed += 1
+        kind, value, _ = error
+        if issubclass(kind, AssertionError):
+            why = str(value)
+        else:
+            why = self._exc_info_to_string(error, test)
+            why = why if len(why) <= SHOWN else "... " + why[-SHOWN:]
+        print(f"FAILED: {name_of(test)}: {why[:SHOWN]}", flush=True)
+
+    def addSubTest(self, test, subtest, error):
+        super().addSubTest(test, subtest, error)
+        self.add(subtest, error)
+
+    def addSuccess(self, test):
+        super().addSuccess(test)
+        if self.total() == self.before:
+            self.add(test, None)
+
+    def addFailure(self, test, error):
+        super().addFailure(test, error)
+        self.add(test, error)
+
+    def addError(self, test, error):
+        super().addError(test, error)
+        self.add(test, error)
+
+    def addSkip(self, test, reason):
+        super().addSkip(test, reason)
+        print(f"skipped: {reason}", flush=True)
+
+
+def name_of(test):
+    """A test's name: folder, file, test, and the row or the check in brackets."""
+    return test.id().removeprefix("tests.").replace(".test_", "/", 1)
