@@ -11,7 +11,7 @@
 # make mutants  [CRATES="lis_link .."]   all mutants: the prover must reject each, and a test must notice it
 # make harmless [CRATES="lis_link .."]   rewrites that change nothing: each must still be proved
 # make fuzz     [EACH=600]               harnesses of libFuzzer over the library for C, so many seconds each
-# make soak                              the host by fire, for hours (tests/fire --soak)
+# make soak     [PARTS="kills=1000 .."]  the host by fire, for hours (tests/host/run soak)
 # make plant CRATE=lis_link              wrong bodies that the kit makes up: what a crate's contracts let through
 # make bench                             speed, memory and instructions; writes docs/PERFORMANCE.md (ten minutes at most)
 #
@@ -66,7 +66,7 @@ bench-check:
 	@bench/check
 
 soak: library
-	tests/fire $(BUILD)/liblislink.so --soak
+	tests/host/run build=$(BUILD) soak $(PARTS)
 
 plant:
 	@test -n '$(CRATE)' || { echo 'make plant CRATE=name, a folder of crates/'; exit 2; }

@@ -235,14 +235,7 @@ def _encoding(name: str) -> str:
         raise argparse.ArgumentTypeError(f"there is no encoding {name}") from None
 
 
-def parser() -> argparse.ArgumentParser:
-    """The words of the command."""
-    top = argparse.ArgumentParser(
-        prog="lislab", description="Tools for a laboratory's line, over the proved library."
-    )
-    top.add_argument("--version", action="version", version=f"lislab {__version__}")
-    commands = top.add_subparsers(dest="command", required=True, metavar="COMMAND")
-    one = commands.add_parser("ladder", help="show a capture or a log as a ladder, and what looks wrong")
+def _add_ladder(one: argparse.ArgumentParser) -> None:
     one.add_argument("capture", help="a capture, or a log of a sniffer (pcap, socat, ..); - is standard input")
     one.add_argument("--html", metavar="FILE", help="write a page of HTML, for a browser without a network")
     one.add_argument("--wrong", action="store_true", help="only the rows that look wrong, and the summary")
@@ -250,7 +243,9 @@ def parser() -> argparse.ArgumentParser:
     one.add_argument("--encoding", type=_encoding, default="utf-8", help="of the records' text (utf-8)")
     _import_options(one)
     one.set_defaults(run=run_ladder)
-    one = commands.add_parser("capture", help="make a capture of a sniffer's log")
+
+
+def _add_capture(one: argparse.ArgumentParser) -> None:
     one.add_argument("log", nargs="?", default="-", help="the log; standard input if none is named")
     one.add_argument("-o", "--output", metavar="FILE", help="the capture; times are kept in FILE.times")
     one.add_argument("--times", metavar="FILE", help="where times are kept")
@@ -258,7 +253,9 @@ def parser() -> argparse.ArgumentParser:
     one.add_argument("--computer", metavar="FILE", help="the bytes of the computer, as they came")
     _import_options(one)
     one.set_defaults(run=run_capture)
-    one = commands.add_parser("normalize", help="make record files of dialects readable, each change by its option")
+
+
+def _add_normalize(one: argparse.ArgumentParser) -> None:
     one.add_argument("records", nargs="?", default="-", help="a file of records; standard input if none is named")
     one.add_argument("-o", "--output", metavar="FILE")
     one.add_argument(
@@ -268,7 +265,9 @@ def parser() -> argparse.ArgumentParser:
     for name, what in normalize.CHANGES.items():
         one.add_argument(f"--{name}", action="store_true", help=what)
     one.set_defaults(run=run_normalize)
-    one = commands.add_parser("table", help="write results as CSV, TSV or JSON lines")
+
+
+def _add_table(one: argparse.ArgumentParser) -> None:
     one.add_argument(
         "records", nargs="*", help="files of records, captures or logs; standard input if none is named"
     )
@@ -286,6 +285,20 @@ def parser() -> argparse.ArgumentParser:
     one.add_argument("--no-header", action="store_true", help="no line of names")
     _import_options(one)
     one.set_defaults(run=run_table)
+
+
+def parser() -> argparse.ArgumentParser:
+    """The words of the command."""
+    top = argparse.ArgumentParser(
+        prog="lislab", description="Tools for a laboratory's line, over the proved library."
+    )
+    top.add_argument("--version", action="version", version=f"lislab {__version__}")
+    commands = top.add_subparsers(dest="command", required=True, metavar="COMMAND")
+    _add_ladder(commands.add_parser("ladder", help="show a capture or a log as a ladder, and what looks wrong"))
+    _add_capture(commands.add_parser("capture", help="make a capture of a sniffer's log"))
+    changes = "make record files of dialects readable, each change by its option"
+    _add_normalize(commands.add_parser("normalize", help=changes))
+    _add_table(commands.add_parser("table", help="write results as CSV, TSV or JSON lines"))
     host_commands.add_commands(commands)
     return top
 

@@ -42,7 +42,7 @@ NAMES: Dict[str, Dict[int, str]] = {
             2,
         )
     ),
-    "C": dict(enumerate("sequence source text type".split(), 2)),
+    "C": dict(enumerate("sequence source comment_text type".split(), 2)),
     "Q": dict(
         enumerate(
             """sequence starting_range ending_range test time_nature beginning ending physician

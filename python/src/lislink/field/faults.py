@@ -204,20 +204,24 @@ def _unfinished(record: bytes, is_rest: bool) -> RecordCause:
     return RecordCause("no-l", "the input ends before the message does: L is missing", ["--last-l"])
 
 
+def _bad_delimiters(record: bytes) -> RecordCause:
+    if record[:9] in (b"H|^~\\&|||", b"MSH|^~\\&|") or record[:6] == b"H|^~\\&":
+        return RecordCause(
+            "hl7-delimiters", "a header with five bytes of delimiters, as HL7 has them: H|^~\\&", ["--header-5"]
+        )
+    if record[1:2] == record[4:5]:
+        return RecordCause("header-3", "a header with three delimiters, the escape is missing", ["--header-3"])
+    if len(record) > 6 and record[6:7] == record[1:2]:
+        return RecordCause("header-5", "a header with five bytes of delimiters", ["--header-5"])
+    return RecordCause("delimiters", "a header whose four delimiters aren't distinct punctuation", [])
+
+
 def _bad_record(status: Status, error: MessageError, record: bytes) -> RecordCause:
     first = words(record[:1])
     if status is Status.NO_RECORD:
         return RecordCause("empty", "an empty record: CR after CR, or a blank line", ["--blank"])
     if status is Status.BAD_DELIMITERS:
-        if record[:9] in (b"H|^~\\&|||", b"MSH|^~\\&|") or record[:6] == b"H|^~\\&":
-            return RecordCause(
-                "hl7-delimiters", "a header with five bytes of delimiters, as HL7 has them: H|^~\\&", ["--header-5"]
-            )
-        if record[1:2] == record[4:5]:
-            return RecordCause("header-3", "a header with three delimiters, the escape is missing", ["--header-3"])
-        if len(record) > 6 and record[6:7] == record[1:2]:
-            return RecordCause("header-5", "a header with five bytes of delimiters", ["--header-5"])
-        return RecordCause("delimiters", "a header whose four delimiters aren't distinct punctuation", [])
+        return _bad_delimiters(record)
     if status is Status.FORBIDDEN:
         byte = record[error.place : error.place + 1]
         options = {b"\0": ["--nul"], b"\x1a": ["--ctrl-z"], b"\n": ["--lf"]}.get(byte, [])

@@ -150,7 +150,7 @@ class Ladder:
         start, was_open = 0, bool(self._carry)
         for place, signal in scanner.feed_placed(data):
             raw, self._carry = self._carry + data[start : place + 1], b""
-            held, opened = receiver.held, receiver.is_open
+            held = receiver.held
             step = next((step for _, step in receiver.hear_placed(data[start : place + 1])), None)
             start = place + 1
             cut = raw.rfind(2) if signal.kind in (Kind.FRAME, Kind.BAD_FRAME) else len(raw) - 1
@@ -158,7 +158,7 @@ class Ladder:
             was_open = False
             if held and step is not None and step.note in (Note.OPENED, Note.ENDED, Note.NOT_READY):
                 self.dropped.append((number, held))
-            self._unit(receiver, number, time, signal, step, raw[cut:], opened)
+            self._unit(receiver, number, time, signal, step, raw[cut:])
         rest = data[start:]
         if rest:
             for _ in receiver.hear_placed(rest):
@@ -219,7 +219,6 @@ class Ladder:
         signal: Signal,
         step: Optional[Step],
         raw: bytes,
-        opened: bool,
     ) -> None:
         note = step.note if step else Note.QUIET
         self.notes[note] = self.notes.get(note, 0) + 1
@@ -229,15 +228,27 @@ class Ladder:
             self.texts.append(Text(number, step.text))
         if signal.kind in (Kind.ENQ, Kind.EOT):
             self._signal(number, time, signal, note, raw, reply, receiver)
-            return
-        body = raw[1:-1]
-        told = checksum_of(body)
-        why, level, cause = self._why(receiver, signal, step, body, note)
+        else:
+            why = self._why(receiver, signal, step, raw[1:-1], note)
+            self._frame(number, time, signal, raw, note is Note.ACCEPTED, reply, why)
+
+    def _frame(
+        self,
+        number: int,
+        time: Optional[int],
+        signal: Signal,
+        raw: bytes,
+        is_accepted: bool,
+        reply: bytes,
+        said: Tuple[str, str, Optional[Cause]],
+    ) -> None:
+        """The row of a frame, or of what should be one."""
+        why, level, cause = said
         if signal.kind is Kind.FRAME:
             end = "" if signal.last else " intermediate (ETB)"
             title = f"frame {signal.number}{end} {len(signal.text)} bytes '{words(signal.text)}'"
             kind = "frame"
-            if note is Note.ACCEPTED:
+            if is_accepted:
                 self._last_text = signal.text
         else:
             title, kind = f"no frame: {words(raw)}", "bad"
@@ -253,7 +264,7 @@ class Ladder:
                 raw,
                 signal.text,
                 reply,
-                told,
+                checksum_of(raw[1:-1]),
                 cause,
                 signal.number if signal.kind is Kind.FRAME else -1,
                 signal.last,

@@ -60,9 +60,7 @@ def parity_of(data: bytes) -> Optional[str]:
     return "even" if not any(ones) else "odd" if all(ones) else None
 
 
-def _no_protocol(ladder: Ladder) -> Iterator[Look]:
-    data = ladder.analyzer
-    has_units = any(True for _ in ladder.units())
+def _other_protocol(data: bytes) -> Iterator[Look]:
     if b"MSH|" in data or re.search(rb"\x0b[^\x1c]*\x1c\r", data):
         yield Look(
             "hl7",
@@ -81,6 +79,12 @@ def _no_protocol(ladder: Ladder) -> Iterator[Look]:
             f"set both ends alike, 8N1 or 7{parity[0].upper()}1",
             [],
         )
+
+
+def _no_protocol(ladder: Ladder) -> Iterator[Look]:
+    data = ladder.analyzer
+    if other := list(_other_protocol(data)):
+        yield from other
         return
     if 5 not in data and 2 not in data and 5 in ladder.computer and 2 in ladder.computer:
         yield Look(
@@ -106,7 +110,7 @@ def _no_protocol(ladder: Ladder) -> Iterator[Look]:
             "compare speed, data bits and parity of both ends",
             [],
         )
-    elif not has_units and 2 in data:
+    elif 2 in data and not any(True for _ in ladder.units()):
         yield Look(
             "no-unit",
             "bad",
@@ -115,19 +119,19 @@ def _no_protocol(ladder: Ladder) -> Iterator[Look]:
             [],
         )
     elif 5 in data and 2 not in data:
-        rows = [row for row in ladder.rows if row.kind == "ENQ"]
-        level = (
-            "warn"
-            if ladder.has_replies and all(row.raw == b"\x06" for row in ladder.rows if row.side == "<")
-            else "bad"
-        )
-        yield Look(
-            "no-frame",
-            level,
-            f"ENQ came {_times(len(rows))}, and never a frame",
-            "see whether the computer answers ACK, and what the analyzer sends after it",
-            _lines(rows)[:5],
-        )
+        yield _no_frame(ladder)
+
+
+def _no_frame(ladder: Ladder) -> Look:
+    rows = [row for row in ladder.rows if row.kind == "ENQ"]
+    is_acknowledged = all(row.raw == b"\x06" for row in ladder.rows if row.side == "<")
+    return Look(
+        "no-frame",
+        "warn" if ladder.has_replies and is_acknowledged else "bad",
+        f"ENQ came {_times(len(rows))}, and never a frame",
+        "see whether the computer answers ACK, and what the analyzer sends after it",
+        _lines(rows)[:5],
+    )
 
 
 def _no_text(ladder: Ladder) -> Iterator[Look]:
@@ -355,33 +359,37 @@ def _outside(ladder: Ladder) -> Iterator[Look]:
         yield Look("outside", "warn", f"{_many(len(data), 'byte')} outside frames, ignored", "", _lines(rows)[:5])
 
 
+#: How a row of the computer ends, and what that means: its name, what is said, what to do.
+_ANSWERS = (
+    (
+        ": the computer rejects a good frame",
+        "rejects-good",
+        "the computer answers NAK to good frames",
+        "the computer's receiver counts or sums otherwise: the ladder has the checksum and the number that are due",
+    ),
+    (
+        ": the computer is busy (a line S busy says so in version 2)",
+        "busy",
+        "the computer answers NAK to ENQ: it is busy",
+        "put `capture 2` first and `S busy` before that ENQ, and `replay` agrees",
+    ),
+    (
+        ": the computer took what must be rejected",
+        "takes-bad",
+        "the computer acknowledges frames that must be rejected",
+        "its receiver checks too little: data may be lost or wrong",
+    ),
+    (
+        "asks to interrupt (EOT)",
+        "interrupt",
+        "the computer acknowledges by EOT: it asks the analyzer to end soon",
+        "",
+    ),
+)
+
+
 def _answers(ladder: Ladder) -> Iterator[Look]:
-    for tail, name, text, advice in (
-        (
-            ": the computer rejects a good frame",
-            "rejects-good",
-            "the computer answers NAK to good frames",
-            "the computer's receiver counts or sums otherwise: the ladder has the checksum and the number that are due",
-        ),
-        (
-            ": the computer is busy (a line S busy says so in version 2)",
-            "busy",
-            "the computer answers NAK to ENQ: it is busy",
-            "put `capture 2` first and `S busy` before that ENQ, and `replay` agrees",
-        ),
-        (
-            ": the computer took what must be rejected",
-            "takes-bad",
-            "the computer acknowledges frames that must be rejected",
-            "its receiver checks too little: data may be lost or wrong",
-        ),
-        (
-            "asks to interrupt (EOT)",
-            "interrupt",
-            "the computer acknowledges by EOT: it asks the analyzer to end soon",
-            "",
-        ),
-    ):
+    for tail, name, text, advice in _ANSWERS:
         rows = [row for row in ladder.rows if row.side == "<" and row.note.endswith(tail)]
         if rows:
             yield Look(

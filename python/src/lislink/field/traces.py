@@ -400,60 +400,53 @@ def _named(read: List[Tuple[int, str]], grammar: Grammar) -> Optional[Log]:
 
 def _unmarked(lines: List[str], grammar: Grammar) -> Log:
     """A log without directions: two columns by their indentation, or one with the replies among the rest."""
-    pieces: List[Piece] = []
-    indents: Dict[int, int] = {}
     if grammar.name not in ("words", "hex"):
         raise LogError("no line has a direction")
+    full = [(number, line) for number, line in enumerate(lines, 1) if line.strip()]
+    is_words = grammar.name == "words"
     read = [
         (number, line)
-        for number, line in enumerate(lines, 1)
-        if line.strip()
-        and (_SURE.search(line) if grammar.name == "words" else grammar.read(line.strip()) is not None)
+        for number, line in full
+        if (_SURE.search(line) if is_words else grammar.read(line.strip()) is not None)
     ]
-    named = _named(
-        read
-        if grammar.name == "words"
-        else [(number, line) for number, line in enumerate(lines, 1) if line.strip()],
-        grammar,
-    )
+    named = _named(read if is_words else full, grammar)
     if named is not None:
         return named
     if not read:
         raise LogError("no line holds ENQ, a frame or a reply")
-    for _, line in read:
-        indent = len(line.expandtabs()) - len(line.expandtabs().lstrip())
-        indents[indent] = indents.get(indent, 0) + 1
-    heads = [
-        number
-        for number, line in enumerate(lines, 1)
-        if number not in {one for one, _ in read} and re.search(r"\b(?:%s|%s)\b" % (_OUT, _IN), line, re.I)
-    ]
+    numbers = {number for number, _ in read}
+    left = [(number, line) for number, line in full if number not in numbers]
+    heads = [number for number, line in left if re.search(r"\b(?:%s|%s)\b" % (_OUT, _IN), line, re.I)]
     if len(heads) > 1:
         raise LogError(f"directions and bytes don't go together here: {lines[heads[0] - 1][:60]!r}", heads[0])
-    wide = max(indents) - min(indents) >= 4
-    for number, line in read:
-        bare = line.expandtabs()
-        indent = len(bare) - len(bare.lstrip())
+    pieces, how = _without_sides([line for _, line in read], grammar)
+    if is_words:
+        _no_text_around(pieces)
+    remarks = [f"no line has a direction: {how}"]
+    if left:
+        remarks.append("lines without bytes were left out: " + ", ".join(str(number) for number, _ in left[:20]))
+    return Log("trace-" + grammar.name, pieces, remarks)
+
+
+def _without_sides(lines: List[str], grammar: Grammar) -> Tuple[List[Piece], str]:
+    """The pieces of lines without directions, and what was taken for the two sides."""
+    indents = [_indent(line) for line in lines]
+    least = min(indents)
+    wide = max(indents) - least >= 4
+    pieces: List[Piece] = []
+    for line, indent in zip(lines, indents):
         head = re.match(r"\s*(?:\[?[\d/.\-]*[ T]?\d{1,2}:\d\d:\d\d(?:[.,]\d+)?\]?\s*)?(?:\d+[.:)]\s+)?", line)
         data = grammar.read(line[head.end() :].strip() if head else line.strip()) or b""
         if wide:
-            side = "right" if indent - min(indents) >= 4 else "left"
+            side = "right" if indent - least >= 4 else "left"
         else:
             side = "replies" if data in (b"\x06", b"\x15") else "rest"
         pieces.append(Piece(find_time(line), side, data))
-    if grammar.name == "words":
-        _no_text_around(pieces)
-    remarks = [
-        "no line has a direction: "
-        + (
-            "the columns are taken for the two sides"
-            if wide
-            else "lines that are one ACK or NAK are taken for the computer's"
-        )
-    ]
-    left = [
-        number for number, line in enumerate(lines, 1) if line.strip() and number not in {one for one, _ in read}
-    ]
-    if left:
-        remarks.append("lines without bytes were left out: " + ", ".join(map(str, left[:20])))
-    return Log("trace-" + grammar.name, pieces, remarks)
+    if wide:
+        return pieces, "the columns are taken for the two sides"
+    return pieces, "lines that are one ACK or NAK are taken for the computer's"
+
+
+def _indent(line: str) -> int:
+    bare = line.expandtabs()
+    return len(bare) - len(bare.lstrip())

@@ -214,6 +214,24 @@ def _time_column(rows: List[Tuple[int, List[str]]], payload: int, names: List[st
     return None
 
 
+def _segment_of(one: Dict[str, str], payload: str) -> Segment:
+    source = one.get("ip.src") or one.get("ipv6.src") or "a"
+    target = one.get("ip.dst") or one.get("ipv6.dst") or ("b" if source == "a" else "a")
+    time = one.get("frame.time_epoch") or one.get("frame.time") or one.get("frame.time_relative") or ""
+    if "ip.src" not in one and "ipv6.src" not in one:
+        source, target = "?", "?"
+    return Segment(
+        _seconds(time),
+        source,
+        int(one["tcp.srcport"]),
+        target,
+        int(one["tcp.dstport"]),
+        int(one["tcp.seq"]),
+        int(one.get("tcp.flags") or "0x18", 16) & ~2,
+        _bytes(one[payload].strip()),
+    )
+
+
 def _segments(
     told: List[Dict[str, str]], payload: str, form: str, port: Optional[int], stream: Optional[int]
 ) -> Log:
@@ -222,24 +240,7 @@ def _segments(
 
     segments, groups = [], {}  # type: List[Segment], Dict[str, List[Segment]]
     for one in told:
-        source = one.get("ip.src") or one.get("ipv6.src") or "a"
-        target = one.get("ip.dst") or one.get("ipv6.dst") or ("b" if source == "a" else "a")
-        time = _seconds(
-            one.get("frame.time_epoch") or one.get("frame.time") or one.get("frame.time_relative") or ""
-        )
-        flags = int(one.get("tcp.flags") or "0x18", 16) & ~2
-        if "ip.src" not in one and "ipv6.src" not in one:
-            source, target = "?", "?"
-        segment = Segment(
-            time,
-            source,
-            int(one["tcp.srcport"]),
-            target,
-            int(one["tcp.dstport"]),
-            int(one["tcp.seq"]),
-            flags,
-            _bytes(one[payload].strip()),
-        )
+        segment = _segment_of(one, payload)
         segments.append(segment)
         groups.setdefault(one.get("tcp.stream", ""), []).append(segment)
     if all(len({one.source_port for one in group}) == 1 for group in groups.values()):

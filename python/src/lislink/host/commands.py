@@ -1,6 +1,8 @@
 """The commands of the host: `lislab serve`, `send`, `status`, `export` and `deliver`."""
 import argparse
 import asyncio
+import functools
+import math
 import os
 import socket
 import sys
@@ -33,9 +35,30 @@ def _store(parser: argparse.ArgumentParser) -> None:
     )
 
 
+def _number(kind: Callable[[str], float], least: float, most: float = math.inf) -> Callable[[str], float]:
+    """What reads a number within these bounds."""
+
+    def read(word: str) -> float:
+        try:
+            value = kind(word)
+        except ValueError:
+            value = math.nan
+        if not least <= value <= most:
+            bounds = f"at least {least}" if most == math.inf else f"from {least} to {most}"
+            raise argparse.ArgumentTypeError(f"a number {bounds} is wanted, not {word}")
+        return value
+
+    return read
+
+
+#: Numbers of one and of zero or more; seconds that may be none, and others; a chance.
+_COUNT, _PLACE = _number(int, 1), _number(int, 0)
+_SECONDS, _FACTOR, _CHANCE = _number(float, 0), _number(float, 0.001), _number(float, 0, 1)
+
+
 def _scale(parser: argparse.ArgumentParser) -> None:
     parser.add_argument(
-        "--scale", type=float, default=1.0, metavar="S", help="for tests: each timer S times as long"
+        "--scale", type=_FACTOR, default=1.0, metavar="S", help="for tests: each timer S times as long"
     )
 
 
@@ -61,24 +84,21 @@ def _add_serve(one: argparse.ArgumentParser) -> None:
     one.add_argument(
         "--host-name", default=socket.gethostname(), metavar="NAME", help="this host's name in the store"
     )
-    one.add_argument("--lines", type=int, default=Limits().lines, help="the most TCP lines at once (%(default)s)")
-    one.add_argument("--message-bytes", type=int, default=Limits().message, help="of one message (%(default)s)")
-    one.add_argument(
-        "--idle", type=float, default=Limits().idle, help="seconds of silence that close a line (%(default)s)"
-    )
-    one.add_argument(
-        "--reply-within",
-        type=float,
-        default=Limits().reply,
-        help="seconds after which no reply is sent (%(default)s)",
-    )
-    one.add_argument(
-        "--grace", type=float, default=Limits().grace, help="seconds for open sessions at a stop (%(default)s)"
-    )
+    _add_limits(one, Limits())
     one.add_argument("--capture", metavar="PREFIX", help="write what goes over each line to PREFIX-NAME-..capture")
     one.add_argument("--status", metavar="FILE", help="where the state for lislab status is (STORE.status)")
     _scale(one)
     one.set_defaults(run=run_serve)
+
+
+def _add_limits(one: argparse.ArgumentParser, usual: Limits) -> None:
+    number = functools.partial(one.add_argument, metavar="N")
+    number("--lines", type=_COUNT, default=usual.lines, help="the most TCP lines at once (%(default)s)")
+    number("--message-bytes", type=_COUNT, default=usual.message, help="of one message (%(default)s)")
+    seconds = functools.partial(one.add_argument, metavar="SECONDS")
+    seconds("--idle", type=_FACTOR, default=usual.idle, help="the silence that closes a line (%(default)s)")
+    seconds("--reply-within", type=_FACTOR, default=usual.reply, help="after this no reply is sent (%(default)s)")
+    seconds("--grace", type=_SECONDS, default=usual.grace, help="for open sessions at a stop (%(default)s)")
 
 
 def _state_file(store: str, named: Optional[str]) -> Optional[str]:
@@ -96,7 +116,7 @@ def run_serve(ask: argparse.Namespace) -> int:
         raise OptionError("name a line by --listen or --serial")
     options.check_allowed(listens, networks)
     serve.check_frames([*listens, *serials])
-    if not 0 < ask.reply_within < 15:
+    if ask.reply_within >= 15:
         raise OptionError("--reply-within is below the analyzer's timer of 15 seconds")
     calls()  # without the library no line could be answered
     limits = Limits(ask.lines, ask.message_bytes, ask.idle, ask.reply_within, ask.grace, ask.scale)
@@ -117,19 +137,21 @@ def _add_send(one: argparse.ArgumentParser) -> None:
     one.add_argument("records", nargs="?", default="-", help="a file of records; standard input if none is named")
     one.add_argument("--to", metavar="HOST:PORT", help="a host's TCP port")
     one.add_argument("--serial", metavar="DEVICE:SPEED[,mode=8N1][,flow=..]", help="a serial line")
-    one.add_argument("--tries", type=int, default=10, help="sessions for a message, 0 for no end (%(default)s)")
-    one.add_argument("--rate", type=float, default=0.0, help="messages a second of each analyzer, at most")
-    one.add_argument("--analyzers", type=int, default=1, metavar="N", help="so many analyzers, each sends all")
-    one.add_argument("--made", type=int, metavar="N", help="send N made-up messages of each analyzer, and no file")
+    one.add_argument(
+        "--tries", type=_PLACE, default=10, help="sessions for a message, 0 for no end (%(default)s)"
+    )
+    one.add_argument("--rate", type=_SECONDS, default=0.0, help="messages a second of each analyzer, at most")
+    one.add_argument("--analyzers", type=_COUNT, default=1, metavar="N", help="so many analyzers, each sends all")
+    one.add_argument("--made", type=_COUNT, metavar="N", help="send N made-up messages of each analyzer, and no file")
     one.add_argument(
         "--name", default="A", help="the first letters of the names of made-up analyzers (%(default)s)"
     )
-    one.add_argument("--seconds", type=float, metavar="S", help="stop after so many seconds")
-    one.add_argument("--noise", type=float, default=0.0, metavar="P", help="the chance of a byte to be damaged")
+    one.add_argument("--seconds", type=_FACTOR, metavar="S", help="stop after so many seconds")
+    one.add_argument("--noise", type=_CHANCE, default=0.0, metavar="P", help="the chance of a byte to be damaged")
     one.add_argument(
-        "--late", type=float, default=0.0, metavar="P", help="the chance of a reply to come after its timer"
+        "--late", type=_CHANCE, default=0.0, metavar="P", help="the chance of a reply to come after its timer"
     )
-    one.add_argument("--reset", type=float, default=0.0, metavar="P", help="the chance of a reset before a unit")
+    one.add_argument("--reset", type=_CHANCE, default=0.0, metavar="P", help="the chance of a reset before a unit")
     one.add_argument("--cut", action="store_true", help="cut units at random places")
     one.add_argument("--seed", type=int, default=1, help="of what happens by chance (%(default)s)")
     one.add_argument("--log", metavar="FILE", help="a line of JSON for each message that is done")
@@ -203,7 +225,9 @@ def _add_export(one: argparse.ArgumentParser) -> None:
     _store(one)
     one.add_argument("--format", choices=export.FORMATS, default="json", help="(%(default)s)")
     one.add_argument("--since", metavar="TIME", help="kept at this time or later: 2026-11-27 or 2026-11-27T10:30")
-    one.add_argument("--after", type=int, default=0, metavar="NUMBER", help="whole messages with a greater number")
+    one.add_argument(
+        "--after", type=_PLACE, default=0, metavar="NUMBER", help="whole messages with a greater number"
+    )
     one.add_argument("--line", metavar="NAME", help="of this line alone")
     one.add_argument("--state", choices=(WHOLE, UNFINISHED, UNREADABLE, "all"), default=WHOLE, help="(%(default)s)")
     one.add_argument("--without-repeats", action="store_true", help="leave out messages that came again")
@@ -245,7 +269,7 @@ def _add_deliver(one: argparse.ArgumentParser) -> None:
     one.add_argument("--cursor", required=True, metavar="FILE", help="keeps which message was delivered last")
     one.add_argument("--directory", metavar="DIR", help="a file for each message")
     one.add_argument("--format", choices=export.FORMATS, default="records", help="(%(default)s)")
-    one.add_argument("--seconds", type=float, default=60.0, help="how long the command has (%(default)s)")
+    one.add_argument("--seconds", type=_FACTOR, default=60.0, help="how long the command has (%(default)s)")
     one.add_argument("--once", action="store_true", help="deliver what there is, and end")
     one.add_argument(
         "words", nargs="*", metavar="COMMAND", help="after --: a command that reads a message, and its words"

@@ -110,17 +110,20 @@ class Host:
         said = ""
         while not self.stopping:
             try:
-                wire = SerialWire(open_serial(serial), lambda: self.ticks.before)
+                late = self.limits.reply * self.limits.scale
+                wire = SerialWire(open_serial(serial), lambda: self.ticks.before, late)
             except (OSError, OptionError) as error:
                 if str(error) != said:
                     said = str(error)
                     say(f"{serial.name}: {said}")
                 await asyncio.sleep(REOPEN)
                 continue
-            said = ""
+            said, opened = "", time.monotonic()
             line = self.add(wire, serial, serial.device)
             wire.begin(line)
             await asyncio.wait([self.lines[line]])
+            if time.monotonic() < opened + REOPEN:  # a device that opens and is gone at once
+                await asyncio.sleep(REOPEN)
 
     async def stop(self) -> None:
         """Takes no new line, lets the sessions that go on end for a while, and keeps what came."""
@@ -190,6 +193,9 @@ class TcpWire(asyncio.BufferedProtocol, Wire):
         """An analyzer connects, or somebody who may not."""
         assert isinstance(transport, asyncio.Transport)
         host, peer = self._host, transport.get_extra_info("peername")
+        if peer is None:  # it is gone already
+            transport.abort()
+            return
         if host.stopping or len(host.lines) >= host.limits.lines or not is_allowed(peer[0], host.asked.networks):
             host.refused += 1
             transport.abort()

@@ -1,9 +1,11 @@
-"""A serial line: its device set up by termios, and read through the loop."""
+"""A serial line: its device opened by pyserial or termios, and read through the loop."""
 import asyncio
 import fcntl
+import importlib
 import os
+import struct
 import termios
-from typing import Callable, Optional
+from typing import Callable, Optional, Tuple
 
 from .line import Line, Wire
 from .options import OptionError, Serial
@@ -12,36 +14,67 @@ _SIZES = {"5": termios.CS5, "6": termios.CS6, "7": termios.CS7, "8": termios.CS8
 
 
 def open_serial(serial: Serial) -> int:
-    """Opens a device: raw, for this program alone, with nothing of what came before."""
-    speed = getattr(termios, f"B{serial.speed}", None)
-    if speed is None:
-        raise OptionError(f"{serial.device}: there is no speed of {serial.speed}")
-    descriptor = os.open(serial.device, os.O_RDWR | os.O_NOCTTY | os.O_NONBLOCK | os.O_CLOEXEC)
+    """Opens a device: raw, for this program alone, with nothing of what came before. If pyserial is installed it opens
+    the device, which may then have any speed that its driver takes."""
+    descriptor, speed = _by_pyserial(serial), None
+    if descriptor is None:
+        descriptor, speed = _by_termios(serial)
     try:
-        fcntl.ioctl(descriptor, termios.TIOCEXCL)
-        control = termios.CREAD | termios.CLOCAL | _SIZES[serial.mode[0]]
-        if serial.mode[1] != "N":
-            control |= termios.PARENB | (termios.PARODD if serial.mode[1] == "O" else 0)
-        control |= termios.CSTOPB if serial.mode[2] == "2" else 0
-        control |= termios.CRTSCTS if serial.flow == "rtscts" else 0
-        taken = termios.IXON | termios.IXOFF if serial.flow == "xonxoff" else 0
-        taken |= termios.INPCK if serial.mode[1] != "N" else 0
-        letters = termios.tcgetattr(descriptor)[6]
-        letters[termios.VMIN], letters[termios.VTIME] = 1, 0
-        termios.tcsetattr(descriptor, termios.TCSANOW, [taken, 0, control, 0, speed, speed, letters])
-        termios.tcflush(descriptor, termios.TCIOFLUSH)
+        _set_up(descriptor, serial, speed)
     except (OSError, termios.error) as error:
         os.close(descriptor)
         raise OSError(f"{serial.device}: {error}") from None
     return descriptor
 
 
-class SerialWire(Wire):
-    """The descriptor of a serial line."""
+def _by_pyserial(serial: Serial) -> Optional[int]:
+    """The open device at its speed; None without pyserial."""
+    try:
+        opened = importlib.import_module("serial").Serial
+    except (ImportError, AttributeError):
+        return None
+    try:
+        port = opened(serial.device, serial.speed, timeout=0, exclusive=True)
+    except ValueError as error:
+        raise OptionError(f"{serial.device}: {error}") from None
+    descriptor = os.dup(port.fileno())
+    port.close()
+    os.set_blocking(descriptor, False)
+    return descriptor
 
-    def __init__(self, descriptor: int, arrived: Callable[[], float]) -> None:
-        self._descriptor, self._arrived = descriptor, arrived
+
+def _by_termios(serial: Serial) -> Tuple[int, int]:
+    """The open device, and its speed as termios has it."""
+    speed = getattr(termios, f"B{serial.speed}", None)
+    if speed is None:
+        raise OptionError(f"{serial.device}: without pyserial there is no speed of {serial.speed}")
+    return os.open(serial.device, os.O_RDWR | os.O_NOCTTY | os.O_NONBLOCK | os.O_CLOEXEC), speed
+
+
+def _set_up(descriptor: int, serial: Serial, speed: Optional[int]) -> None:
+    """Sets all but the speed, and that too if it is named."""
+    fcntl.ioctl(descriptor, termios.TIOCEXCL)
+    control = termios.CREAD | termios.CLOCAL | _SIZES[serial.mode[0]]
+    if serial.mode[1] != "N":
+        control |= termios.PARENB | (termios.PARODD if serial.mode[1] == "O" else 0)
+    control |= termios.CSTOPB if serial.mode[2] == "2" else 0
+    control |= termios.CRTSCTS if serial.flow == "rtscts" else 0
+    taken = termios.IXON | termios.IXOFF if serial.flow == "xonxoff" else 0
+    taken |= termios.INPCK if serial.mode[1] != "N" else 0
+    *_, into, out, letters = termios.tcgetattr(descriptor)
+    letters[termios.VMIN], letters[termios.VTIME] = 1, 0
+    speeds = [into, out] if speed is None else [speed, speed]
+    termios.tcsetattr(descriptor, termios.TCSANOW, [taken, 0, control, 0, *speeds, letters])
+    termios.tcflush(descriptor, termios.TCIOFLUSH)
+
+
+class SerialWire(Wire):
+    """The descriptor of a serial line. A reply is late after so many seconds."""
+
+    def __init__(self, descriptor: int, arrived: Callable[[], float], late: float) -> None:
+        self._descriptor, self._arrived, self._late = descriptor, arrived, late
         self._loop = asyncio.get_running_loop()
+        self._alarm: Optional[asyncio.TimerHandle] = None
         self.line: Optional[Line] = None
 
     def begin(self, line: Line) -> None:
@@ -64,10 +97,20 @@ class SerialWire(Wire):
             self.line.lost()
 
     def write(self, data: bytes) -> None:
+        self._take_back()
         try:
             os.write(self._descriptor, data)
         except OSError:
-            pass  # a reply that the line doesn't take is lost: its sender runs into its timer
+            return  # a reply that the line doesn't take is lost: its sender runs into its timer
+        self._alarm = self._loop.call_later(self._late, self._take_back)
+
+    def _take_back(self) -> None:
+        """Drops a reply that flow control still holds up: later it could be taken for the answer to something else."""
+        if self._alarm is not None:
+            self._alarm.cancel()
+            self._alarm = None
+            if _is_held_up(self._descriptor):
+                termios.tcflush(self._descriptor, termios.TCOFLUSH)
 
     def pause(self) -> None:
         self._loop.remove_reader(self._descriptor)
@@ -76,7 +119,16 @@ class SerialWire(Wire):
         self._loop.add_reader(self._descriptor, self._readable)
 
     def close(self) -> None:
+        self._take_back()  # closing waits for what is held up
         if self._descriptor >= 0:
             self._loop.remove_reader(self._descriptor)
             os.close(self._descriptor)
             self._descriptor = -1
+
+
+def _is_held_up(descriptor: int) -> bool:
+    """Whether bytes that were written have not left yet."""
+    try:
+        return bool(struct.unpack("i", fcntl.ioctl(descriptor, termios.TIOCOUTQ, bytes(4)))[0])
+    except OSError:
+        return False

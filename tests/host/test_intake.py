@@ -1,24 +1,31 @@
-"""What a host keeps of random texts: every byte, in order, and the messages that a reader of the whole stream finds."""
+"""What a host keeps of random texts: every byte, in order, and the messages that a reader of the whole finds."""
 import hashlib
 import random
 
 from lislink import Found, read_all
 from lislink.host.intake import Intake
 from lislink.host.store import WHOLE, Add, Begin
+from tests.host import hosts
+from tests.host.hosts import HostTest
 
 HEADS = (b"H|\\^&|||A\r", b"H|\\^&\r", b"h*!+-\r", b"H|^^^\r", b"P|1\r")
 RECORDS = (b"P|1\r", b"O|1|S7\r", b"R|1|^^^GLU|5\r", b"C|1\r", b"\r", b"X|1\r", b"H|\\^&\r", b"R|\x02\r")
 
 
-def run(count, soak):
-    streams = 20000 if soak else 2000
-    count.same(f"intake: {streams} random streams", wrong(random.Random(9), streams), [])
-    right = Intake._pass_over
-    try:
+class Streams(HostTest):
+    """Random streams in random texts."""
+
+    def test_random_streams(self):
+        """Every byte is kept, in order, and each message ends once."""
+        streams = hosts.size("streams")
+        self.same(f"{streams} random streams", wrong(random.Random(9), streams), [])
+
+    def test_a_forgetful_intake(self):
+        """An intake that forgets what can't be read is noticed."""
+        right = Intake._pass_over
+        self.addCleanup(setattr, Intake, "_pass_over", right)
         Intake._pass_over = lambda self, one, text, start, changes: len(text)
-        count.true("an intake that forgets is noticed", bool(wrong(random.Random(9), 50)))
-    finally:
-        Intake._pass_over = right
+        self.true("an intake that forgets is noticed", wrong(random.Random(9), 50))
 
 
 def random_stream(rng):

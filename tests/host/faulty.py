@@ -1,4 +1,4 @@
-"""A wrong host, for the tests by fire: fire_faulty.py FAULT serve ..
+"""A wrong host, for the tests of the host: faulty.py FAULT serve ..
 
     commit        one commit of ten fails
     slow          a commit takes up to a twentieth of a second longer
@@ -117,7 +117,7 @@ def growing():
     kept, keep = [], line.Line._keep
 
     async def wrong(self, text):
-        kept.append(text + bytes(2000))
+        kept.append(text + bytes(10000))
         return await keep(self, text)
 
     line.Line._keep = wrong

@@ -1,0 +1,221 @@
+"""What the tests of the host share: hosts as processes of their own, analyzers, and what a store has against what was
+acknowledged."""
+import hashlib
+import json
+import os
+import signal
+import subprocess
+import sys
+import tempfile
+import time
+from typing import NamedTuple
+
+from lislink.host.store import open_store
+from tests import ROOT, kit
+from tests.host import SOURCE
+
+#: Each timer of the standard is so many times as long: 15 seconds are 0.3.
+SCALE = 0.02
+ENV = {**os.environ, "PYTHONPATH": SOURCE, "PYTHONDONTWRITEBYTECODE": "1"}
+FAULTY = os.path.join(ROOT, "tests", "host", "faulty.py")
+
+
+class Part(NamedTuple):
+    """A part of a long run: its test, and its size in the gate and in a long run."""
+
+    test: str
+    gate: int
+    soak: int
+
+
+#: Kills of a host on each store, seconds of a store that fails, seconds of 200 analyzers, messages, random streams.
+PARTS = {
+    "kills": Part("test_kills.Kills.test_sqlite", 20, 1000),
+    "spool": Part("test_kills.Kills.test_spool", 5, 250),
+    "postgres": Part("test_postgres.Postgres.test_kills", 10, 200),
+    "failing": Part("test_kills.Kills.test_failing_store", 6, 600),
+    "analyzers": Part("test_load.Load.test_200_analyzers", 12, 300),
+    "messages": Part("test_load.Load.test_memory", 3000, 1000000),
+    "streams": Part("test_intake.Streams.test_random_streams", 2000, 20000),
+}
+_SIZES = {name: part.gate for name, part in PARTS.items()}
+
+
+def size(part):
+    """The size of a part of this run."""
+    return _SIZES[part]
+
+
+def take_sizes(words):
+    """Takes the sizes of a long run, each `PART=SIZE` or `PART`: the tests to run; None if a word is none of these."""
+    wanted = []
+    for word in words or list(PARTS):
+        name, _, number = word.partition("=")
+        if name not in PARTS or (number and not number.isdigit()):
+            return None
+        _SIZES[name] = int(number) if number else PARTS[name].soak
+        wanted.append(PARTS[name].test)
+    return wanted
+
+
+def say(text):
+    """A line about how a run goes."""
+    print(f"host: {text}", flush=True)
+
+
+#: The processes of the test that runs.
+_PROCESSES = []
+
+
+class HostTest(kit.Test):
+    """Tests with a folder of their class. Their processes end with them, however they end."""
+
+    @classmethod
+    def setUpClass(cls):
+        cls.folder = tempfile.TemporaryDirectory(prefix="lis-host-")
+        cls.addClassCleanup(cls.folder.cleanup)
+
+    def path(self, name):
+        """A file of this class."""
+        return os.path.join(self.folder.name, name)
+
+    def true(self, name, holds, why=""):
+        """Whether something holds."""
+        return self.check(bool(holds), name, why)
+
+    def tearDown(self):
+        for one in _PROCESSES:
+            if one.poll() is None:
+                one.kill()
+                one.wait()
+        _PROCESSES.clear()
+
+
+def process(words, **how):
+    """A process of this test."""
+    one = subprocess.Popen([sys.executable, *words], **{"text": True, "env": ENV, **how})
+    _PROCESSES.append(one)
+    return one
+
+
+class Host:
+    """`lislab serve` as a process; with a fault, a wrong one."""
+
+    def __init__(self, store, *words, fault=None, scale=SCALE, listen=True, **how):
+        self.store, self.words, self.fault, self.scale = store, words, fault, scale
+        self.port, self.listen, self.how = 0, listen, how
+        self.errors = []
+        self.start()
+
+    def start(self):
+        """Starts it, on the same port as before."""
+        program = [FAULTY, self.fault] if self.fault else ["-m", "lislink"]
+        words = [*program, "serve", "--store", self.store, "--scale", str(self.scale)]
+        if self.listen:
+            words += ["--listen", f"127.0.0.1:{self.port},name=fire"]
+        self.said = tempfile.TemporaryFile("w+", encoding="utf-8")
+        self.process = process([*words, *self.words], stdout=subprocess.PIPE, stderr=self.said, **self.how)
+        for row in self.process.stdout:
+            if row.startswith("listening"):
+                self.port = int(row.split()[1].rsplit(":", 1)[1])
+            if row == "ready\n":
+                return
+        self.process.wait()
+        self._close()
+        raise RuntimeError(f"the host didn't start: {self.errors[-1]}")
+
+    def kill(self):
+        """Kills it, as a machine dies that loses its power."""
+        self.process.send_signal(signal.SIGKILL)
+        self.process.wait()
+        self._close()
+
+    def stop(self):
+        """Stops it in order; its exit status."""
+        self.process.send_signal(signal.SIGTERM)
+        try:
+            status = self.process.wait(30)
+        except subprocess.TimeoutExpired:
+            self.process.kill()
+            status = self.process.wait()
+        self._close()
+        return status
+
+    def _close(self):
+        self.said.seek(0)
+        self.errors.append(self.said.read())
+        self.process.stdout.close()
+        self.said.close()
+
+    def says(self):
+        """What it has said on standard error so far."""
+        return os.pread(self.said.fileno(), 1 << 20, 0).decode("utf-8", "replace")
+
+    def memory(self):
+        """Its resident memory, in KiB."""
+        with open(f"/proc/{self.process.pid}/status", encoding="ascii") as file:
+            return next(int(row.split()[1]) for row in file if row.startswith("VmRSS"))
+
+
+def lislab(*words, **how):
+    """Runs a command of lislab to its end."""
+    how = {"timeout": 120, **how}
+    return subprocess.run(
+        [sys.executable, "-m", "lislink", *words], capture_output=True, text=True, env=ENV, check=False, **how
+    )
+
+
+def sending(port, *words, scale=SCALE):
+    """`lislab send` as a process that goes on."""
+    to = ["--to", f"127.0.0.1:{port}", "--scale", str(scale), "--quiet"]
+    words = ["-m", "lislink", "send", *to, *words]
+    return process(words, stdout=subprocess.DEVNULL, stderr=subprocess.PIPE)
+
+
+def acknowledged(log):
+    """What analyzers hold as done: the name, the number and the digest of each message."""
+    if not os.path.exists(log):
+        return []
+    with open(log, encoding="utf-8") as file:
+        return [tuple(json.loads(row)) for row in file if row.endswith("\n")]
+
+
+class Found:
+    """What a store has."""
+
+    def __init__(self, store):
+        one = open_store(store)
+        try:
+            self.whole = list(one.messages())
+            self.others = list(one.others())
+            self.counts = one.counts()
+        finally:
+            one.close()
+        self.digests = {}
+        for message in self.whole:
+            digest = hashlib.sha256(message.body).hexdigest()
+            self.digests.setdefault(digest, []).append(message)
+
+    def lost(self, log):
+        """Acknowledged messages that aren't there."""
+        return [one for one in acknowledged(log) if one[2] not in self.digests]
+
+    def unmarked(self):
+        """Repeats that aren't marked, or not with the first one."""
+        return [
+            again.key for same in self.digests.values() for again in same[1:] if again.again_of != same[0].key
+        ] + [same[0].key for same in self.digests.values() if same[0].again_of is not None]
+
+    def again(self):
+        """How many are marked."""
+        return sum(one.again_of is not None for one in self.whole)
+
+
+def wait_for(holds, seconds=10.0):
+    """Whether something holds within this time."""
+    over = time.monotonic() + seconds
+    while time.monotonic() < over:
+        if holds():
+            return True
+        time.sleep(0.02)
+    return bool(holds())

@@ -1,0 +1,310 @@
+"""Faults that are planted in the source of the host, one for each test, which must notice it; and changes that mean
+nothing, which all tests must pass. Each is an edit: in this file of lislink, this text becomes that."""
+import glob
+import os
+import shutil
+import subprocess
+import sys
+import tempfile
+import unittest
+from typing import NamedTuple
+
+from tests.host import SOURCE
+
+HERE = os.path.dirname(os.path.abspath(__file__))
+
+
+class Edit(NamedTuple):
+    """An edit: the old text is in its file exactly once."""
+
+    file: str
+    old: str
+    new: str
+
+
+#: The tests that have a fault of their own (faulty.py, or a call of the host that they replace) and check that it is
+#: noticed.
+WITH_THEIR_OWN = (
+    "test_intake.Streams.test_a_forgetful_intake",
+    "test_kills.Kills.test_host_that_marks_nothing",
+    "test_kills.Kills.test_hosts_that_lose",
+    "test_load.Load.test_a_host_that_grows",
+    "test_out.OutOfSpool.test_hasty_delivery",
+    "test_out.OutOfSqlite.test_hasty_delivery",
+    "test_postgres.OutOfPostgres.test_hasty_delivery",
+    "test_planted.Planted.test_table",
+    "test_units.Units.test_units",
+)
+#: The other tests, and what each must notice.
+FAULTS = {
+    "test_intake.Streams.test_random_streams": Edit(
+        "host/intake.py",
+        'self._add(one, text[:start], changes)\n            self._end(UNFINISHED, "a header',
+        'self._end(UNFINISHED, "a header',
+    ),
+    "test_kills.Kills.test_sqlite": Edit(
+        "host/sqlite.py",
+        'self.run("COMMIT")\n        except',
+        'if self._db.total_changes % 9:\n                self.run("COMMIT")\n        except',
+    ),
+    "test_kills.Kills.test_spool": Edit(
+        "host/spool.py",
+        "for name in os.listdir(self._path(OPEN)):\n            os.unlink(self._path(OPEN, name))",
+        "for name in os.listdir(self._path(WHOLE)):\n            os.unlink(self._path(WHOLE, name))",
+    ),
+    "test_kills.Kills.test_failing_store": Edit(
+        "host/commits.py",
+        "call_soon_threadsafe(_settle, done, fault, self._say)",
+        "call_soon_threadsafe(_settle, done, None, self._say)",
+    ),
+    "test_kills.Kills.test_full_disk_of_sqlite": Edit(
+        "host/sqlite.py",
+        'self._undo()\n            raise StoreError(f"{self.path}: {error}") from None',
+        "self._undo()",
+    ),
+    "test_kills.Kills.test_full_disk_of_spool": Edit(
+        "host/spool.py",
+        'self._open[key].undo()\n            raise StoreError(f"{self.folder}: {error}") from None',
+        "self._open[key].undo()",
+    ),
+    "test_lines.Lines.test_cuts": Edit("host/line.py", "self._receiver.hear(data)", "self._receiver.hear(data[:64])"),
+    "test_lines.Lines.test_keeping": Edit(
+        "host/line.py",
+        "if changes:\n                await",
+        "if any(isinstance(change, End) for change in changes):\n                await",
+    ),
+    "test_lines.Lines.test_late": Edit(
+        "host/line.py", "arrived > self._limits.reply * self._limits.scale", "arrived > self._limits.idle"
+    ),
+    "test_lines.Lines.test_slow_lines": Edit("host/line.py", "WAITING, TURN = 1 << 16,", "WAITING, TURN = 1 << 40,"),
+    "test_lines.Lines.test_limits": Edit(
+        "host/serve.py", "len(host.lines) >= host.limits.lines", "len(host.lines) > host.limits.lines"
+    ),
+    "test_lines.Lines.test_peers": Edit("host/serve.py", "if peer is None:", "if peer == 0:"),
+    "test_lines.Lines.test_quarantine": Edit("host/intake.py", "one.fault or reason, changes", "reason, changes"),
+    "test_lines.Lines.test_stop": Edit(
+        "host/line.py", "(self._stopping and not self._receiver.is_open)", "self._stopping"
+    ),
+    "test_lines.Lines.test_capture": Edit(
+        "host/line.py", 'self._tape.bytes("<", reply)', 'self._tape.bytes("<", b"")'
+    ),
+    "test_lines.Lines.test_words": Edit(
+        "host/options.py",
+        "if not is_loopback(one.host) and not networks:",
+        "if not is_loopback(one.host) and networks:",
+    ),
+    "test_load.Load.test_200_analyzers": Edit("host/serve.py", ">= host.limits.lines", ">= 100"),
+    "test_load.Load.test_memory": Edit(
+        "host/sqlite.py",
+        "            self.apply(units)\n",
+        "            self.apply(units)\n"
+        '            self.__dict__.setdefault("units", []).append((units, bytes(1 << 17)))\n',
+    ),
+    "test_out.Files.test_modes": Edit(
+        "host/sqlite.py", "os.fchmod(descriptor, 0o600)", "os.fchmod(descriptor, 0o644)"
+    ),
+    "test_out.Files.test_modes_of_a_spool": Edit(
+        "host/commands.py", "os.fchmod(descriptor, 0o600)", "os.fchmod(descriptor, 0o644)"
+    ),
+    "test_out.Files.test_restored": Edit(
+        "host/deliver.py",
+        "if found is None or (found.number == self.number and found.key != self.key):",
+        "if found is None:",
+    ),
+    "test_out.Files.test_no_library": Edit("host/commands.py", "    calls()  # without", "    # without"),
+    "test_out.Names.test_names": Edit("message.py", "sequence source comment_text", "sequence source text"),
+    "test_out.OutOfSpool.test_delivery_to_a_command": Edit(
+        "host/spool.py", 'if not name.startswith("."))', 'if not name.startswith("."))[::-1]'
+    ),
+    "test_out.OutOfSpool.test_delivery_to_a_directory": Edit("host/spool.py", "names[:limit]", "names[-1:]"),
+    "test_out.OutOfSpool.test_export": Edit("host/spool.py", 'about["again_of"], body)', "None, body)"),
+    "test_out.OutOfSpool.test_one_host": Edit(
+        "host/spool.py", "fcntl.LOCK_EX | fcntl.LOCK_NB", "fcntl.LOCK_SH | fcntl.LOCK_NB"
+    ),
+    "test_out.OutOfSpool.test_sending": Edit(
+        "host/send.py", 'how = "done" if sent.done else f"failed: {sent.why}"', 'how = "done"'
+    ),
+    "test_out.OutOfSpool.test_status": Edit(
+        "host/spool.py", 'if about.get("again_of"))', 'if not about.get("again_of"))'
+    ),
+    "test_out.OutOfSpool.test_wanted": Edit("host/spool.py", '.split("-")[0]) > after]', '.split("-")[0]) >= after]'),
+    "test_out.OutOfSqlite.test_delivery_to_a_command": Edit(
+        "host/deliver.py", "if done.returncode:", "if done.returncode < 0:"
+    ),
+    "test_out.OutOfSqlite.test_delivery_to_a_directory": Edit(
+        "host/deliver.py", "fcntl.LOCK_EX | fcntl.LOCK_NB", "fcntl.LOCK_SH | fcntl.LOCK_NB"
+    ),
+    "test_out.OutOfSqlite.test_export": Edit("host/export.py", "line(own + row)", "line(row + own)"),
+    "test_out.OutOfSqlite.test_one_host": Edit(
+        "host/sqlite.py", "fcntl.LOCK_EX | fcntl.LOCK_NB", "fcntl.LOCK_SH | fcntl.LOCK_NB"
+    ),
+    "test_out.OutOfSqlite.test_sending": Edit(
+        "host/commands.py", "return WRONG if bad or summary.failed", "return WRONG if summary.failed"
+    ),
+    "test_out.OutOfSqlite.test_status": Edit("host/status.py", 'not state.get("stopped") and ', ""),
+    "test_out.OutOfSqlite.test_wanted": Edit("host/export.py", "at < wanted.since", "at > wanted.since"),
+    "test_postgres.OutOfPostgres.test_delivery_to_a_command": Edit(
+        "host/deliver.py", '"LISLAB_NUMBER": str(one.number)', '"LISLAB_NUMBER": str(one.number + 1)'
+    ),
+    "test_postgres.OutOfPostgres.test_delivery_to_a_directory": Edit(
+        "host/sql.py", "WHERE message = ? ORDER BY place", "WHERE message = ? ORDER BY place DESC"
+    ),
+    "test_postgres.OutOfPostgres.test_export": Edit(
+        "host/sql.py", "first and first[0], number, end.key", "None, number, end.key"
+    ),
+    "test_postgres.OutOfPostgres.test_sending": Edit(
+        "host/send.py", 'yield f"message {number}: record', 'f"message {number}: record'
+    ),
+    "test_postgres.OutOfPostgres.test_status": Edit("host/sql.py", '"again_of IS NOT NULL"]', '"again_of IS NULL"]'),
+    "test_postgres.OutOfPostgres.test_wanted": Edit(
+        "host/export.py", "one.line == wanted.line", "one.line != wanted.line"
+    ),
+    "test_postgres.Postgres.test_keeping": Edit(
+        "host/postgresql.py", "self.apply(units)\n            self._committed()", "self.apply(units)"
+    ),
+    "test_postgres.Postgres.test_kills": Edit(
+        "host/postgresql.py",
+        "may stay in the transaction\n"
+        "            self._give_up()\n"
+        '            raise StoreError(f"PostgreSQL: {_first_line(error)}") from None',
+        "may stay in the transaction\n            self._give_up()",
+    ),
+    "test_postgres.Postgres.test_later_tables": Edit(
+        "host/sql.py", "elif found[0] != str(SCHEMA):", "elif not found[0]:"
+    ),
+    "test_postgres.Postgres.test_names": Edit("host/postgresql.py", "if not taken:", "if taken is None:"),
+    "test_postgres.Postgres.test_start_while_another_commits": Edit(
+        "host/postgresql.py", "fetchone()[0] is not None", "fetchone()[0] == 0"
+    ),
+    "test_serial.Serial.test_a_device_that_is_gone_at_once": Edit(
+        "host/serve.py", "if time.monotonic() < opened + REOPEN:", "if time.monotonic() < opened:"
+    ),
+    "test_serial.Serial.test_a_reply_that_is_held_up": Edit(
+        "host/tty.py", "if _is_held_up(self._descriptor):", "if not _is_held_up(self._descriptor):"
+    ),
+    "test_serial.Serial.test_pyserial": Edit(
+        "host/tty.py", "opened(serial.device, serial.speed,", "opened(serial.device,"
+    ),
+    "test_serial.Serial.test_termios": Edit(
+        "host/tty.py", "[taken, 0, control, 0,", "[taken, 0, control, termios.ICANON,"
+    ),
+}
+#: Changes that mean nothing.
+HARMLESS = (
+    Edit(
+        "host/commits.py",
+        "        if fault is not None:\n            self.failed += 1\n",
+        "        if not fault is None:\n            self.failed = self.failed + 1\n",
+    ),
+    Edit(
+        "host/line.py",
+        "                    self._size -= len(data)\n                    self._last_byte = now\n",
+        "                    self._last_byte = now\n                    self._size -= len(data)\n",
+    ),
+    Edit(
+        "host/intake.py",
+        "        one.places += 1\n        one.size += len(body)\n        one.digest.update(body)\n",
+        "        one.digest.update(body)\n        one.size += len(body)\n        one.places += 1\n",
+    ),
+    Edit("host/serve.py", "            host.refused += 1\n", "            host.refused = 1 + host.refused\n"),
+    Edit("host/send.py", "            tried += 1\n", "            tried = 1 + tried\n"),
+    Edit("host/tty.py", "VMIN], letters[termios.VTIME] = 1, 0", "VTIME], letters[termios.VMIN] = 0, 1"),
+    Edit(
+        "host/sqlite.py",
+        "isolation_level=None, check_same_thread=False",
+        "check_same_thread=False, isolation_level=None",
+    ),
+    Edit("host/spool.py", "        self.size += len(body)\n", "        self.size = self.size + at\n"),
+    Edit(
+        "host/postgresql.py",
+        "        db, self._db = self._db, None\n",
+        "        db = self._db\n        self._db = None\n",
+    ),
+    Edit(
+        "host/sql.py",
+        "        if ends:\n            self._number(ends)",
+        "        if len(ends) > 0:\n            self._number(ends)",
+    ),
+    Edit("host/deliver.py", "        elif not found:\n", "        elif found == 0:\n"),
+    Edit(
+        "host/export.py",
+        "        if one is None:\n            return line(None)",
+        "        if one is None:  # the heading\n            return line(None)",
+    ),
+    Edit(
+        "host/status.py",
+        '                "whole": one.whole if one else 0,\n                "again": one.again if one else 0,\n',
+        '                "again": one.again if one else 0,\n                "whole": one.whole if one else 0,\n',
+    ),
+    Edit("host/options.py", "return found[1] or found[2] or", "return found[2] or found[1] or"),
+)
+
+
+def found(wanted=()):
+    """The tests of the host, or those whose names have one of these words."""
+    files = sorted(os.path.basename(path)[:-3] for path in glob.glob(os.path.join(HERE, "test_*.py")))
+    suite = unittest.defaultTestLoader.loadTestsFromNames([f"tests.host.{name}" for name in files])
+    return [one for one in _flat(suite) if not wanted or any(word in one.id() for word in wanted)]
+
+
+def _flat(suite):
+    for one in suite:
+        if isinstance(one, unittest.TestSuite):
+            yield from _flat(one)
+        else:
+            yield one
+
+
+def name_of(test):
+    """The name of a test in the table."""
+    return test.id().removeprefix("tests.host.")
+
+
+def plant(edit, source):
+    """Makes an edit in a copy of the source."""
+    path = os.path.join(source, "lislink", edit.file)
+    with open(path, encoding="utf-8") as file:
+        text = file.read()
+    assert text.count(edit.old) == 1, f"{edit.file}: {edit.old!r} is there {text.count(edit.old)} times"
+    with open(path, "w", encoding="utf-8") as file:
+        file.write(text.replace(edit.old, edit.new))
+
+
+def tried(edits, tests):
+    """What the tests say of a host with these edits: the exit status, and the lines."""
+    with tempfile.TemporaryDirectory(prefix="lis-planted-") as folder:
+        source = os.path.join(folder, "src")
+        shutil.copytree(SOURCE, source, ignore=shutil.ignore_patterns("__pycache__"))
+        for edit in edits:
+            plant(edit, source)
+        words = [os.path.join(HERE, "run"), *tests]
+        done = subprocess.run(
+            [sys.executable, *words],
+            env={**os.environ, "LISLINK_SOURCE": source},
+            stdout=subprocess.PIPE,
+            stderr=subprocess.STDOUT,
+            text=True,
+            check=False,
+        )
+    return done.returncode, done.stdout.splitlines()
+
+
+def run(words):
+    """Tries the faults of the tests whose names have one of these words, and then the harmless changes: the status."""
+    wanted = [name for name in FAULTS if not words or any(word in name for word in words)]
+    passed = failed = 0
+    for name in wanted:
+        status, rows = tried([FAULTS[name]], [name])
+        failing = [row for row in rows if row.startswith(f"FAILED: {name.replace('test_', 'host/', 1)}")]
+        skipped = any(row.startswith("skipped: ") for row in rows)
+        good = status == 1 and bool(failing)
+        word = "noticed" if good else "skipped" if skipped else "NOT NOTICED"
+        print(f"{word}: {name}: {(failing or rows or ['nothing'])[0][:200]}", flush=True)
+        passed, failed = passed + good, failed + (not good and not skipped)
+    status, rows = tried(HARMLESS, wanted)
+    for row in rows:
+        if row.startswith(("FAILED", "skipped", "host: ")):
+            print(f"harmless changes: {row}")
+    passed, failed = passed + (status == 0), failed + (status != 0)
+    print(f"host: {passed} passed, {failed} failed")
+    return 1 if failed else 0

@@ -1,0 +1,334 @@
+"""One line at a time: cuts, silence, late replies, limits, what can't be read, a stop in order."""
+import asyncio
+import os
+import signal
+import socket
+import time
+import unittest.mock
+
+from lislink import FrameFault, frame_bytes
+from lislink.host import options, serve
+from tests.host.hosts import Found, Host, HostTest, lislab, sending, wait_for
+
+#: The timers of tests in which they run out while a frame is answered in time: 15 seconds are 0.75.
+LATE = 0.05
+ENQ, ACK, NAK, EOT = b"\x05", b"\x06", b"\x15", b"\x04"
+TEXTS = [b"H|\\^&|||A\r", b"P|1\r", b"O|1|S7\r", b"R|1|^^^GLU|5.4\r", b"L|1|N\r"]
+
+
+def frames(texts):
+    """A session's frames."""
+    return [frame_bytes(number % 8, True, text) for number, text in enumerate(texts, 1)]
+
+
+def session(texts):
+    """The bytes of a session."""
+    return ENQ + b"".join(frames(texts)) + EOT
+
+
+class Client:
+    """A connection to a host, by hand."""
+
+    def __init__(self, port):
+        self.socket = socket.create_connection(("127.0.0.1", port))
+        self.socket.setsockopt(socket.IPPROTO_TCP, socket.TCP_NODELAY, 1)
+
+    def __enter__(self):
+        return self
+
+    def __exit__(self, *_):
+        self.socket.close()
+
+    def send(self, data):
+        """Sends bytes."""
+        self.socket.sendall(data)
+
+    def heard(self, wanted, seconds=5.0):
+        """So many bytes, or those that come in time."""
+        self.socket.settimeout(seconds)
+        data = b""
+        try:
+            while len(data) < wanted:
+                more = self.socket.recv(wanted - len(data))
+                if not more:
+                    break
+                data += more
+        except OSError:
+            pass
+        return data
+
+    def asks(self, data, wanted=1, seconds=5.0):
+        """What is answered to bytes."""
+        self.send(data)
+        return self.heard(wanted, seconds)
+
+    def whole(self, texts):
+        """Whether a session is acknowledged to its end."""
+        good = self.asks(ENQ) == ACK and all(self.asks(frame) == ACK for frame in frames(texts))
+        self.send(EOT)
+        return good
+
+    def is_closed(self, seconds=5.0):
+        """Whether the host closes the connection."""
+        self.socket.settimeout(seconds)
+        try:
+            return self.socket.recv(1) == b""
+        except TimeoutError:
+            return False
+        except OSError:
+            return True
+
+
+def late_reply(host, client, frame, place):
+    """What is answered to a frame that comes while the host is stopped."""
+    time.sleep(place * 0.003)
+    os.kill(host.process.pid, signal.SIGSTOP)
+    client.send(frame)
+    time.sleep(15 * LATE * 1.3)
+    os.kill(host.process.pid, signal.SIGCONT)
+    return client.heard(1, 0.2)
+
+
+def flood(client, seconds):
+    """Sends ENQ as fast as it is taken, and reads no reply."""
+    client.setblocking(False)
+    over = time.monotonic() + seconds
+    while time.monotonic() < over:
+        try:
+            client.send(ENQ * 4096)
+        except BlockingIOError:
+            time.sleep(0.001)
+        except OSError:
+            return
+
+
+GOOD = b"".join(TEXTS)
+#: Sessions with what can't be read: their texts, how many whole messages they have, and the reasons.
+ODD = (
+    ([b"H|\\^&\r", b"R|1\r", b"L|1\r"], 0, ["record 2: no record above it that it belongs to"]),
+    ([b"P|1\r", *TEXTS], 1, ["record 1: no header before it"]),
+    ([b"H|\\^&\r", b"P|1\r", *TEXTS], 1, ["a header comes before its L record"]),
+    ([b"H|\\^&\r", b"P|1\r"], 0, ["the session ended before its L record"]),
+    ([GOOD[:20], GOOD[20:]], 1, []),
+    ([GOOD + GOOD], 2, []),
+    ([GOOD + GOOD[:30], GOOD[30:]], 2, []),
+    ([GOOD + b"R|1\r" + GOOD], 2, ["record 1: no header before it"]),
+    ([b"H|^^^\rP|1\r" + GOOD], 1, ["record 1: malformed"]),
+    ([b"", *TEXTS], 1, []),
+)
+
+
+def kept_bytes(found):
+    """How many bytes a store has."""
+    return sum(len(one.body) for one in [*found.whole, *found.others])
+
+
+def keeps_each_text(test, store):
+    """Kills a host after each number of texts that it acknowledged."""
+    host = Host(store, scale=1.0)
+    for place in range(len(TEXTS) + 1):
+        with Client(host.port) as client:
+            front = frames(TEXTS)[:place]
+            good = client.asks(ENQ) == ACK and all(client.asks(frame) == ACK for frame in front)
+            host.kill()
+            host.start()
+        found = Found(store)
+        kept = [one.body for one in (found.others if place < len(TEXTS) else found.whole)]
+        good = good and (not place or kept[-1:] == [b"".join(TEXTS[:place])])
+        test.true(f"{store[:5]}: killed after {place} texts", good, repr(kept))
+    host.kill()
+
+
+class Lines(HostTest):
+    """A host and its lines."""
+
+    def test_cuts(self):
+        """A session that is cut in two anywhere, or into bytes, is answered and kept the same."""
+        store, whole = self.path("cuts.db"), session(TEXTS)
+        host, wanted, wrong = Host(store, scale=1.0), ACK * (len(TEXTS) + 1), []
+        ways = [[whole[:place], whole[place:]] for place in range(1, len(whole))]
+        ways.append([whole[place : place + 1] for place in range(len(whole))])
+        for pieces in ways:
+            with Client(host.port) as client:
+                for piece in pieces:
+                    client.send(piece)
+                if client.heard(len(wanted)) != wanted:
+                    wrong.append([len(piece) for piece in pieces])
+            if len(wrong) == 3:
+                break
+        host.stop()
+        found = Found(store)
+        self.same("all are acknowledged", wrong, [])
+        self.same("all are kept", [one.body for one in found.whole], [b"".join(TEXTS)] * len(whole))
+        self.same("the repeats are marked", found.unmarked(), [])
+
+    def test_keeping(self):
+        """Killed after each acknowledgement, the host has kept what it acknowledged."""
+        for store in (self.path("keeping.db"), "spool:" + self.path("keeping.spool")):
+            keeps_each_text(self, store)
+
+    def test_late(self):
+        """A host that was stopped for longer than the sender's timer sends no reply to what came before."""
+        for fault in (None, "late"):
+            host, replies, good = Host(self.path(f"late{fault}.db"), fault=fault, scale=LATE), [], True
+            for place in range(1, 5):
+                texts = [b"H|\\^&|||A%d\r" % place, *TEXTS[1:]]
+                with Client(host.port) as client:
+                    good = (
+                        client.asks(ENQ) == ACK
+                        and all(client.asks(frame) == ACK for frame in frames(texts)[:2])
+                        and good
+                    )
+                    replies.append(late_reply(host, client, frames(texts)[2], place))
+                    good = client.whole(texts) and good
+            host.stop()
+            if fault:
+                self.true("a host that replies late is noticed", ACK in replies, repr(replies))
+                continue
+            self.same("no reply", replies, [b""] * 4)
+            self.true("the lines go on", good)
+            found = Found(host.store)
+            self.same("each message is kept once, whole", (len(found.whole), found.again()), (4, 0))
+            front = [b"".join([b"H|\\^&|||A%d\r" % place, *TEXTS[1:]]) for place in range(1, 5)]
+            self.true(
+                "what was acknowledged before is kept",
+                len(found.others) == 4
+                and all(
+                    whole.startswith(one.body) and one.body.count(b"\r") >= 2
+                    for whole, one in zip(front, found.others)
+                ),
+                repr(found.others),
+            )
+
+    def test_slow_lines(self):
+        """Lines that stall, or read no reply, delay no other."""
+        host = Host(self.path("slow.db"), scale=1.0)
+        with Client(host.port) as stalled, Client(host.port) as deaf, Client(host.port) as client:
+            stalled.asks(ENQ)
+            stalled.send(frames(TEXTS)[0][:5])
+            deaf.socket.setsockopt(socket.SOL_SOCKET, socket.SO_RCVBUF, 1)
+            before = host.memory()
+            flood(deaf.socket, 2)
+            begun = time.monotonic()
+            good = all([client.whole(TEXTS) for _ in range(20)])
+            seconds = time.monotonic() - begun
+            self.true("another line is answered", good)
+            self.true("another line is answered at once", seconds < 20, f"{seconds:.1f} s for 20 messages")
+            grown = host.memory() - before
+            self.true("who reads no reply fills no memory", grown < 4096, f"{grown} KiB")
+            self.same("the stalled line goes on", stalled.asks(frames(TEXTS)[0][5:]), ACK)
+        self.same("the host's status", host.stop(), 0)
+
+    def test_limits(self):
+        """Limits on lines, on the size of a message, on silence and on the receiver's timer."""
+        words = ["--lines", "2", "--message-bytes", "1000", "--idle", "4"]
+        host = Host(self.path("limits.db"), *words, scale=LATE)
+        with Client(host.port) as one, Client(host.port) as two, Client(host.port) as three:
+            self.true("a line too many is closed", three.is_closed())
+            self.same("the others are heard", (one.asks(ENQ), two.asks(ENQ)), (ACK, ACK))
+            long = [TEXTS[0], *[b"C|1|I|" + b"x" * 190 + b"\r"] * 6]
+            replies = [one.asks(frame, 1, 0.5) for frame in frames(long)]
+            self.same("a message too long gets no reply", replies, [ACK] * 6 + [b""])
+            self.true("its line goes on", one.whole(TEXTS))
+            time.sleep(30 * LATE + 0.2)
+            self.same("the receiver's timer", two.asks(frames(TEXTS)[0], 1, 0.2), b"")
+            self.true("a silent line is closed", two.is_closed(8))
+        host.stop()
+        found = Found(host.store)
+        self.same("the short message is kept", [one.body for one in found.whole], [b"".join(TEXTS)])
+        self.true("what came of the long one is kept", "more than 1000 bytes" in found.others[0].reason)
+
+    def test_peers(self):
+        """Who may connect, who may not, and a peer that is gone before it is looked at."""
+        for peer, wanted in ((None, (1, 0, 0)), (("192.0.3.1", 1), (1, 0, 1)), (("192.0.2.7", 1), (0, 1, 0))):
+            transport = unittest.mock.create_autospec(asyncio.Transport, instance=True)
+            transport.get_extra_info.side_effect = {"peername": peer, "socket": unittest.mock.Mock()}.get
+            host = unittest.mock.Mock(stopping=False, lines={}, limits=options.Limits(), refused=0)
+            host.asked.networks = options.networks_of(["192.0.2.0/24"])
+            serve.TcpWire(host, options.listen_of("0")).connection_made(transport)
+            found = transport.abort.call_count, host.add.call_count, host.refused
+            self.same(f"{peer}: broken off, a line, refused", found, wanted)
+
+    def test_quarantine(self):
+        """What can't be read is kept with its reason, and hides nothing that follows."""
+        found = self.after_odd(None)
+        wholes = sum(whole for _, whole, _ in ODD)
+        sent = sum(len(text) for texts, _, _ in ODD for text in texts)
+        self.same("whole messages", [one.body for one in found.whole], [GOOD] * wholes)
+        self.same(
+            "reasons", [one.reason for one in found.others], [why for *_, whys in ODD for why in whys]
+        )
+        self.same("every byte is kept", kept_bytes(found), sent)
+        self.true(
+            "a host that forgets what it can't read is noticed", kept_bytes(self.after_odd("forgetful")) < sent
+        )
+
+    def after_odd(self, fault):
+        """What a host has kept of these sessions."""
+        host = Host(self.path(f"quarantine{fault}.db"), fault=fault, scale=1.0)
+        with Client(host.port) as client:
+            for texts, _, _ in ODD:
+                self.true(f"{texts!r} is acknowledged", client.whole(texts))
+            time.sleep(0.2)
+        self.same("the host's status", host.stop(), 0)
+        return Found(host.store)
+
+    def test_stop(self):
+        """A stop in order: an open session ends, no new one begins, and the status is 0."""
+        host = Host(self.path("stop.db"), scale=1.0)
+        with Client(host.port) as client, Client(host.port) as idle:
+            good = client.asks(ENQ) == ACK and client.asks(frames(TEXTS)[0]) == ACK
+            host.process.terminate()
+            self.true("a line without a session is closed", idle.is_closed())
+            good = good and all(client.asks(frame) == ACK for frame in frames(TEXTS)[1:])
+            client.send(EOT)
+            self.true("the open session ends", good and client.is_closed())
+            self.same("the status", host.stop(), 0)
+        self.same("its message is kept", [one.body for one in Found(host.store).whole], [b"".join(TEXTS)])
+
+    def test_capture(self):
+        """What went over a line is a capture that replays without a difference."""
+        host = Host(self.path("capture.db"), "--capture", self.path("tape"))
+        one = sending(host.port, "--made", "3", "--noise", "0.001", "--seed", "3")
+        one.communicate()
+        host.stop()
+        names = sorted(
+            name for name in os.listdir(self.folder.name) if name.startswith("tape") and name.endswith("capture")
+        )
+        self.true("there is one", bool(names), str(names))
+        for name in names:
+            shown = lislab("ladder", self.path(name))
+            self.has(f"{name} replays", shown.stdout, "differences 0")
+            times = open(self.path(name + ".times"), encoding="ascii").read().count("\n")
+            self.same("a time for each line", times, open(self.path(name), "rb").read().count(b"\n"))
+
+    def test_words(self):
+        """Words that make no sense, and networks."""
+        for words, why in (
+            (["--listen", "0.0.0.0:0"], "--allow"),
+            (["--listen", "x"], "HOST:PORT"),
+            (["--listen", "0,frame=241"], "240 or 63993"),
+            (["--listen", "0,encoding=latin-77"], "no encoding"),
+            (["--serial", "/dev/null"], "DEVICE:SPEED"),
+            (["--listen", "0", "--allow", "10.0.0.0/99"], "--allow"),
+            (["--listen", "0", "--reply-within", "15"], "15 seconds"),
+            ([], "name a line"),
+            (["--listen", "0", "--lines", "0"], "at least 1"),
+            (["--listen", "0", "--idle", "nan"], "at least 0.001"),
+        ):
+            done = lislab("serve", "--store", self.path("words.db"), *words)
+            self.true(f"{words}", done.returncode == 2 and why in done.stderr, done.stderr)
+        allowed = options.networks_of(["192.0.2.0/24", "2001:db8::/32"])
+        for address, good in (
+            ("127.0.0.1", True),
+            ("::1", True),
+            ("192.0.2.7", True),
+            ("::ffff:192.0.2.7", True),
+            ("2001:db8::7", True),
+            ("192.0.3.1", False),
+            ("::ffff:192.0.3.1", False),
+            ("2001:db9::7", False),
+            ("x", False),
+        ):
+            self.same(f"may {address} connect", options.is_allowed(address, allowed), good)
+        self.true("the library's faults have names", FrameFault.SUM.name == "SUM")

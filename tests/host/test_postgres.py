@@ -1,0 +1,224 @@
+"""The store in PostgreSQL, with a server that the test starts itself and kills in mid-session."""
+import glob
+import importlib.util
+import os
+import pwd
+import random
+import shutil
+import socket
+import subprocess
+import sys
+import tempfile
+import time
+import unittest
+
+from tests.host import hosts
+from tests.host.hosts import ENV, Found, Host, HostTest, acknowledged, lislab, sending
+from tests.host.test_kills import TROUBLE
+from tests.host.test_lines import keeps_each_text
+from tests.host.test_out import OutOf
+
+#: Where Debian's packages for Python are.
+DEBIAN = "/usr/lib/python3/dist-packages"
+
+
+def programs():
+    """The folder of initdb and pg_ctl; None if PostgreSQL isn't installed."""
+    for folder in [*sorted(glob.glob("/usr/lib/postgresql/*/bin"), reverse=True), "/usr/bin", "/usr/local/bin"]:
+        if os.path.exists(os.path.join(folder, "initdb")):
+            return folder
+    return None
+
+
+class Server:
+    """A server of its own, on loopback, with its files in a folder of its own."""
+
+    def __init__(self):
+        self.programs = programs()
+        self.folder = tempfile.mkdtemp(prefix="lis-host-")
+        self.data = os.path.join(self.folder, "data")
+        with socket.socket() as one:
+            one.bind(("127.0.0.1", 0))
+            self.port = one.getsockname()[1]
+        self.account = []
+        if os.getuid() == 0:
+            owner = pwd.getpwnam("postgres")
+            os.chown(self.folder, owner.pw_uid, owner.pw_gid)
+            self.account = ["setpriv", f"--reuid={owner.pw_uid}", f"--regid={owner.pw_gid}", "--clear-groups"]
+        self._run("initdb", "-D", self.data, "-U", "lis", "-A", "trust", "-E", "UTF8", "--no-instructions")
+        self.start()
+
+    def _run(self, program, *words):
+        done = subprocess.run(
+            [*self.account, os.path.join(self.programs, program), *words],
+            stdin=subprocess.DEVNULL,
+            stdout=subprocess.DEVNULL,
+            stderr=subprocess.PIPE,
+            text=True,
+            cwd=self.folder,
+            check=False,
+        )
+        if done.returncode:
+            raise RuntimeError(f"{program}: {done.stderr}")
+
+    def start(self):
+        """Starts it, and waits until it answers."""
+        words = f"-p {self.port} -c listen_addresses=127.0.0.1 -c unix_socket_directories={self.folder}"
+        self._run("pg_ctl", "-D", self.data, "-w", "-l", os.path.join(self.folder, "log"), "-o", words, "start")
+
+    def stop(self, how="fast"):
+        """Stops it: `immediate` is as if it was killed."""
+        self._run("pg_ctl", "-D", self.data, "-m", how, "-w", "stop")
+
+    def address(self, database):
+        """A new database's address."""
+        self._run("createdb", "-h", "127.0.0.1", "-p", str(self.port), "-U", "lis", database)
+        return f"postgresql://lis@127.0.0.1:{self.port}/{database}"
+
+    def psql(self, database, *words, **how):
+        """A psql that runs."""
+        address = ["-h", "127.0.0.1", "-p", str(self.port), "-U", "lis", database]
+        how = {"stdout": subprocess.PIPE, "text": True, **how}
+        return subprocess.Popen([os.path.join(self.programs, "psql"), *words, *address], **how)
+
+    def asks(self, database, statement):
+        """What is answered to a statement."""
+        with self.psql(database, "-Atc", statement) as one:
+            return one.communicate()[0].strip()
+
+    def end(self):
+        """Stops it, and takes its files away."""
+        try:
+            self.stop("immediate")
+        except RuntimeError:
+            pass
+        shutil.rmtree(self.folder, ignore_errors=True)
+
+
+def has_driver():
+    """Whether psycopg is there, perhaps Debian's for a Python of the same version."""
+    if any(importlib.util.find_spec(name) for name in ("psycopg", "psycopg2")):
+        return True
+    if not glob.glob(f"{DEBIAN}/psycopg*/_psycopg.cpython-{sys.version_info[0]}{sys.version_info[1]}-*"):
+        return False
+    sys.path.append(DEBIAN)
+    ENV["PYTHONPATH"] += ":" + DEBIAN
+    return True
+
+
+_SERVERS = []
+
+
+def the_server():
+    """The server of this run, which ends with it; SkipTest if there can't be one."""
+    if not _SERVERS:
+        if programs() is None or not has_driver():
+            what = "PostgreSQL" if programs() is None else "psycopg (Debian: python3-psycopg2)"
+            raise unittest.SkipTest(f"{what} is not installed")
+        _SERVERS.append(Server())
+        unittest.addModuleCleanup(lambda: _SERVERS.pop().end())
+    return _SERVERS[0]
+
+
+class OutOfPostgres(OutOf, HostTest):
+    """Out of a database."""
+
+    @classmethod
+    def where(cls):
+        """The store."""
+        return the_server().address("out")
+
+
+class Postgres(HostTest):
+    """Hosts that share a database."""
+
+    @classmethod
+    def setUpClass(cls):
+        super().setUpClass()
+        cls.server = the_server()
+
+    def test_kills(self):
+        """Two hosts on one database; either host, or the server, is killed again and again."""
+        kills, store = hosts.size("postgres"), self.server.address("kills")
+        both = [Host(store, "--host-name", f"h{number}") for number in range(2)]
+        logs = [self.path(f"postgres{number}.log") for number in range(2)]
+        many = ["--analyzers", "10", "--made", "1000000", "--tries", "0", *TROUBLE]
+        ones = [
+            sending(host.port, *many, "--name", f"P{number}x", "--log", log)
+            for number, (host, log) in enumerate(zip(both, logs))
+        ]
+        self.kill(both, kills)
+        for one in ones:
+            one.terminate()
+            one.communicate()
+        self.same("the hosts' status", [host.stop() for host in both], [0, 0])
+        found, done = Found(store), sum(len(acknowledged(log)) for log in logs)
+        lost = [one for log in logs for one in found.lost(log)]
+        self.true("messages are acknowledged", done > kills, str(done))
+        self.same("acknowledged and lost", lost, [])
+        self.same("repeats without a mark", found.unmarked(), [])
+        numbers = [one.number for one in found.whole]
+        self.same("numbers without a gap", numbers, list(range(1, len(numbers) + 1)))
+        self.same("no message stays open", sum(one.open for one in found.counts), 0)
+        hosts.say(
+            f"postgresql: {kills} kills of two hosts and the server, {done} messages acknowledged, "
+            f"{len(found.whole)} kept, {len(lost)} lost, {found.again()} repeats marked, {len(found.unmarked())} not"
+        )
+
+    def kill(self, both, kills):
+        """Kills a host and the server in turn."""
+        rng = random.Random(3)
+        for number in range(kills):
+            time.sleep(0.3 + rng.random())
+            if number % 2:
+                one = rng.choice(both)
+                one.kill()
+                one.start()
+            else:
+                self.server.stop("immediate")
+                time.sleep(rng.random() * 0.3)
+                self.server.start()
+            if number % 50 == 49:
+                hosts.say(f"{number + 1} of {kills} kills")
+        time.sleep(1)
+
+    def test_keeping(self):
+        """Killed after each acknowledgement, the host has kept what it acknowledged."""
+        keeps_each_text(self, self.server.address("keeping"))
+
+    def test_names(self):
+        """Two hosts of one name are refused."""
+        store = self.server.address("names")
+        host = Host(store, "--host-name", "same", scale=1.0)
+        second = lislab("serve", "--store", store, "--listen", "0", "--host-name", "same", timeout=20)
+        said = second.returncode == 3 and "another host has the name same" in second.stderr
+        self.true("two hosts of one name", said, second.stderr)
+        sending(host.port, "--made", "3", scale=1.0).communicate()
+        self.same("the first goes on", len(Found(store).whole), 3)
+        self.same("the host's status", host.stop(), 0)
+
+    def test_start_while_another_commits(self):
+        """A host starts while another holds the table as a commit does, and waits for none: each would wait for the
+        other."""
+        store = self.server.address("commits")
+        Host(store).stop()
+        lock = "LOCK TABLE message IN ROW EXCLUSIVE MODE; SELECT pg_sleep(60)"
+        with self.server.psql("commits", "-c", lock) as other:
+            asked = "SELECT count(*) FROM pg_locks WHERE mode = 'RowExclusiveLock' AND relation = 'message'::regclass"
+            held = hosts.wait_for(lambda: self.server.asks("commits", asked) == "1")
+            try:
+                status, why = Host(store, "--host-name", "second").stop(), ""
+            except RuntimeError as error:
+                status, why = None, str(error)
+            other.terminate()
+        self.same(f"a start while another host commits {why}", (held, status), (True, 0))
+
+    def test_later_tables(self):
+        """Tables of a later program, and a server that isn't there."""
+        store = self.server.address("tables")
+        Host(store).stop()
+        self.server.asks("tables", "UPDATE about SET value = '99' WHERE name = 'schema'")
+        done = lislab("serve", "--store", store, "--listen", "0", timeout=20)
+        self.true("later tables", done.returncode == 3 and "version 99" in done.stderr, done.stderr)
+        done = lislab("serve", "--store", "postgresql://lis@127.0.0.1:1/x", "--listen", "0", timeout=20)
+        self.true("no server", done.returncode == 3, done.stderr)
