@@ -1,7 +1,7 @@
 """The definitions that contracts cite: where they are, what they name, and what must be read to believe a contract.
 
 A definition is an entry of a file crates/NAME/specs/*.antt. What it names is found by the imports of its file, so a
-name that two files give to two things is never confused. Used by tools/trust and tests/rooms.
+name that two files give to two things is never confused. Used by tools/trust.
 """
 import glob
 import os

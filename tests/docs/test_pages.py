@@ -3,17 +3,21 @@
 Code that a page quotes is in a file that the gate proves or runs; each link and each path that a page names is there;
 each command of a page prints what the page says.
 
-A line '$ COMMAND' of a block is a command, and the lines up to the next one are its output, which also has what went to
-standard error; a line '..' is any lines. The commands of a page run in turn in one folder with samples/, tools/ and
-build/. A block of a shell that can't run here, since it takes minutes or needs a device, is marked ```sh norun. It is
-counted. Code that is no quotation is marked ```LANGUAGE sketch, and counted too.
+A line '$ COMMAND' of a block is a command, and the lines up to the next one are their output, which also has what went
+to standard error. A line '..' is any lines, '..' at the end of a line any characters. The commands of a page run in
+turn in one folder with samples/, tools/ and build/, with a free port in the place of 4000. What they leave running ends
+with the page. A block of a shell that can't run here, since it takes minutes or needs a device, is marked ```sh norun.
+It is counted. Code that is no quotation is marked ```LANGUAGE sketch, and counted too.
 """
 import glob
 import os
 import re
+import signal
+import socket
 import subprocess
 import tempfile
 import textwrap
+import time
 
 from tests import ROOT, kit
 
@@ -22,7 +26,7 @@ PAGES = ["README.md", "CONTRIBUTING.md", "CHANGELOG.md", "SECURITY.md", "docs/*.
 SOURCES = {
     "rust": ["crates/uses/src/*.rt", "crates/quick_results/src/*.rt", "bindings/rust/**/*.rs"],
     "c": ["examples/c/*.c", "bindings/**/*.c"],
-    "cpp": ["examples/c/*.cpp", "bindings/**/*.cpp"],
+    "cpp": ["tests/**/*.cpp"],
     "python": ["examples/python/*.py", "python/src/lislink/**/*.py"],
 }
 # What a command begins with: a block with such a line is a block of a shell.
@@ -32,6 +36,8 @@ COMMANDS = re.compile(
 FOLDERS = "docs|tests|tools|examples|crates|conformance|samples|include|bench|python|bindings"
 PATH = re.compile(rf"`((?:{FOLDERS})/[\w./+-]+)`")
 SHELL = {"sh", "sh norun", "console"}
+# The port of the pages' examples.
+PORT = re.compile(r"(?<=--listen )4000\b|(?<=:)4000\b")
 
 
 def blocks(text):
@@ -122,8 +128,9 @@ def commands(lines):
 
 
 def fits(got, wanted):
-    """Whether lines are the wanted ones but for blanks at their ends, '..' being any lines."""
-    form = "".join(r"(?:.*\n)*" if line == ".." else re.escape(line) + r"\n" for line in wanted)
+    """Whether lines are the wanted ones but for blanks at their ends, '..' being any lines or any end of a line."""
+    form = "".join(r"(?:.*\n)*" if line == ".." else re.sub(r" \\\.\\\.$", " .*", re.escape(line)) + r"\n"
+                   for line in wanted)
     return re.fullmatch(form, "".join(f"{line.rstrip()}\n" for line in got)) is not None
 
 
@@ -141,8 +148,44 @@ def make_folder(folder, program, build):
             os.symlink(os.path.join(build, name), os.path.join(folder, "build", name))
 
 
+def free_port():
+    """A port that no program has."""
+    with socket.socket() as one:
+        one.bind(("127.0.0.1", 0))
+        return str(one.getsockname()[1])
+
+
+def output_of(command, folder, environment, groups):
+    """The lines that a command prints within a minute; what it leaves running is in its process group."""
+    with subprocess.Popen(["bash", "-c", f"{{ {command}\n}} 2>&1"], cwd=folder, env=environment, text=True,
+                          errors="replace", stdout=subprocess.PIPE, stdin=subprocess.DEVNULL,
+                          start_new_session=True) as ran:
+        groups.append(ran.pid)
+        try:
+            text = ran.communicate(timeout=60)[0]
+        except subprocess.TimeoutExpired:
+            end_all(groups)
+            return ["not over after 60 seconds"]
+    return text.rstrip("\n").split("\n") if text.strip("\n") else []
+
+
+def end_all(groups):
+    """Ends the processes of these groups, and waits for 5 seconds at most until they are gone."""
+    until = time.monotonic() + 5
+    for group in groups:
+        try:
+            os.killpg(group, signal.SIGKILL)
+            while time.monotonic() < until:
+                os.killpg(group, 0)
+                time.sleep(0.05)
+        except ProcessLookupError:
+            continue
+    groups.clear()
+
+
 def run_page(test, page, text, program, build):
     """Runs the commands of a page in turn and compares what they print."""
+    port, groups = free_port(), []
     with tempfile.TemporaryDirectory() as folder:
         make_folder(folder, program, build)
         environment = {**os.environ, "PATH": f"{folder}/bin:{os.environ['PATH']}", "PYTHONDONTWRITEBYTECODE": "1",
@@ -151,14 +194,9 @@ def run_page(test, page, text, program, build):
             if words and words not in SHELL or words == "sh norun":
                 continue
             for command, wanted in commands(lines):
-                try:
-                    ran = subprocess.run(["bash", "-c", f"{{ {command}\n}} 2>&1"], cwd=folder, env=environment,
-                                         timeout=60, stdout=subprocess.PIPE, stdin=subprocess.DEVNULL, text=True,
-                                         errors="replace")
-                    got = ran.stdout.rstrip("\n").split("\n") if ran.stdout.strip("\n") else []
-                except subprocess.TimeoutExpired:
-                    got = ["not over after 60 seconds"]
+                got = output_of(PORT.sub(port, command), folder, environment, groups)
                 test.check(fits(got, wanted), f"{page}:{line}: {command}\n  wanted {wanted}\n  printed {got}")
+        end_all(groups)
 
 
 def pages():

@@ -1,11 +1,27 @@
-"""No document has a word of docs/words.table, outside code and quotations; each page is a check."""
+"""No document and no name or comment of the crates has a word of docs/words.table, outside code and quotations; each
+page and each crate is a check.
+
+In a crate a name is looked at part by part: `read_behind` has the parts `read` and `behind`. Names of the kit and of the
+C interface are not ours, and strings are what a program prints.
+"""
+import bisect
+import glob
+import itertools
+import os
 import re
 
-from tests import kit
+from tests import ROOT, kit
 from tests.docs.test_pages import pages
 
-# Made of names and comments in the code, whose words are the code's.
-MADE = {"docs/API.md", "docs/TRUST.md"}
+# Made of comments in the code, which are looked at there.
+MADE = {"docs/API.md"}
+SOURCES = ["src/**/*.rt", "specs/**/*.antt", "proofs/**/*.antt"]
+MUTANTS = ["must-fail/*.edit", "mutants/*.edit", "harmless/*.edit"]
+NAME = re.compile(r"[^\W\d]\w*(?:-[^\W\d]\w*)*")
+PART = re.compile(r"[A-Z]+(?![a-z])|[A-Z]?[a-z]+")
+STRING = re.compile(r'b?"(?:[^"\\]|\\.)*"')
+# What a file takes from the kit: its braces, or the last name of the path.
+OUTER = re.compile(r"use (?!Rattle\.(?:lis_|uses|vectors))[\w.]+?\.(?:\{([^}]*)\}|(\w+)$)", re.M)
 # The headline, whose words are fixed, is the one bold passage that ends so.
 HEADLINE = re.compile(r"\*\*Over every list of (?:[^*]|\*(?!\*))*?gives it back\.\*\*")
 
@@ -13,7 +29,7 @@ HEADLINE = re.compile(r"\*\*Over every list of (?:[^*]|\*(?!\*))*?gives it back\
 def banned():
     """The expressions, each with the word in its place."""
     for line in kit.read("docs/words.table").split("\n"):
-        if line and not line.startswith("#"):
+        if line and not line.startswith(("#", "name ", "keep ")):
             form, _, plain = line.rpartition(" | ")
             end = "" if form.endswith(")") and "(?!" in form else r"\b"
             yield re.compile(rf"\b{form}{end}", re.IGNORECASE), plain
@@ -28,8 +44,68 @@ def prose(text):
     return HEADLINE.sub(blank, text)
 
 
+def names_banned():
+    """The parts that no name has, each with the word in its place; and the names that stay all the same."""
+    rows = [line for line in kit.read("docs/words.table").split("\n") if line.startswith(("name ", "keep "))]
+    parts = {word: row.partition(" | ")[2] for row in rows if row.startswith("name ")
+             for word in row[5:].partition(" | ")[0].split()}
+    return parts, {name for row in rows if row.startswith("keep ") for name in row[5:].split()}
+
+
+def halves(path, text):
+    """A source file's code, in which lines stay where they are; and its comments without code, as (line, text): comments
+    on lines that follow each other are one text."""
+    mark = r"(?m)(?<![^\s])--(?=[\s-]|$).*" if path.endswith(".antt") else r"//.*"
+    blank = lambda found: re.sub(r"[^\n]", " ", found[0])
+    text = STRING.sub(blank, text) if path.endswith(".rt") else text
+    comments = []
+    for found in re.finditer(mark, text):
+        line = text.count("\n", 0, found.start()) + 1
+        words = re.sub(r"^(?://[/!]?|--+)", "", found[0]).strip()
+        if comments and line == comments[-1][-1][0] + 1:
+            comments[-1].append((line, words))
+        else:
+            comments.append([(line, words)])
+    return re.sub(mark, blank, text), comments
+
+
+def of_comments(comments, forms):
+    """(line, word, plain) for each word of the table."""
+    for block in comments:
+        text = re.sub(r"`[^`]*`", lambda found: " " * len(found[0]), " ".join(words for _, words in block))
+        ends = list(itertools.accumulate(len(words) + 1 for _, words in block))
+        for form, plain in forms:
+            for found in form.finditer(text):
+                yield block[bisect.bisect_right(ends, found.start())][0], found[0], plain
+
+
+def of_names(text, parts, kept):
+    """(place, name, plain) for each name of code that has a part of the table."""
+    outer = {name.strip() for found in OUTER.finditer(text) for name in (found[1] or found[2]).split(",")}
+    for found in NAME.finditer(text):
+        if found[0] in outer or found[0] in kept:
+            continue
+        for name in found[0].split("-"):
+            bad = [parts[part.lower()] for part in PART.findall(name) if part.lower() in parts]
+            if bad and name not in kept and not re.match(r"(?:lis_|LIS_|Lis[A-Z])", name):
+                yield found.start(), name, bad[0]
+
+
+def of_crate(crate, forms, parts, kept):
+    """(path, line, word, plain) for each word of the table in a crate's names and comments."""
+    base = os.path.join(ROOT, "crates", crate)
+    for path in sorted(path for form in SOURCES for path in glob.glob(form, root_dir=base, recursive=True)):
+        code, comments = halves(path, kit.read(f"crates/{crate}/{path}"))
+        found = [(code.count("\n", 0, place) + 1, name, plain) for place, name, plain in of_names(code, parts, kept)]
+        for line, word, plain in sorted(found + list(of_comments(comments, forms))):
+            yield path, line, word, plain
+    for path in sorted(path for form in MUTANTS for path in glob.glob(form, root_dir=base)):
+        for _, word, plain in of_names(os.path.basename(path)[:-5], parts, kept):
+            yield path, 0, word, plain
+
+
 class Words(kit.Test):
-    def test_words(self):
+    def test_pages(self):
         forms = list(banned())
         for page, text in pages():
             if page in MADE:
@@ -38,3 +114,10 @@ class Words(kit.Test):
             found = sorted((text.count("\n", 0, it.start()) + 1, " ".join(it[0].split()), plain)
                            for form, plain in forms for it in form.finditer(text))
             self.check(not found, page, "".join(f"\n{page}:{line}: {word}: say {plain}" for line, word, plain in found))
+
+    def test_crates(self):
+        forms, (parts, kept) = list(banned()), names_banned()
+        for crate in sorted(os.listdir(os.path.join(ROOT, "crates"))):
+            found = [f"\ncrates/{crate}/{path}:{line}: {' '.join(word.split())}: say {plain}"
+                     for path, line, word, plain in of_crate(crate, forms, parts, kept)]
+            self.check(not found, f"crates/{crate}", "".join(found))

@@ -9,9 +9,11 @@ mod texts;
 
 pub use lis_frame::{FrameFault, FrameOf, ScannerOf};
 pub use lis_text::{LinkText, TextFault, Texts};
-pub use receiver::{Hearing, MOST_FRAMES, Note, Readiness, Receiver, ReceiverOf, Step};
+pub use receiver::{
+    Hearing, MOST_FRAMES, Note, RECEIVER_SECONDS, Readiness, Receiver, ReceiverOf, Step,
+};
 pub use sender::{
-    BorrowingSender, BorrowingSenderOf, Emit, EmitOf, Outcome, Phase, Sender, SenderOf, SenderOver,
-    StartFault, StartRefused, StartRefusedOf,
+    BUSY_SECONDS, BorrowingSender, BorrowingSenderOf, CONTENTION_SECONDS, Emit, EmitOf, Outcome,
+    Phase, REPLY_SECONDS, Sender, SenderOf, SenderOver, StartFault, StartRefused, StartRefusedOf,
 };
 pub use texts::{BorrowedTexts, SessionTexts};

@@ -79,6 +79,9 @@ pub struct Hearing {
 /// The most frames that a receiver counts in a session.
 pub const MOST_FRAMES: u64 = 4_294_967_295;
 
+/// Seconds to wait for a frame or EOT while the line is open (LIS01-A2, 6.5).
+pub const RECEIVER_SECONDS: u32 = 30;
+
 /// The receiving end. It keeps a count of the accepted frames and the text that is held, never a
 /// frame.
 #[derive(Drop)]

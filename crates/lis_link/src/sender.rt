@@ -15,7 +15,10 @@ use lis_text::{ACK, ENQ, EOT, TextFault, Texts, check_text};
 use std::marker::Model;
 use thiserror::Error;
 
+mod duties;
 mod state;
+
+pub use duties::{BUSY_SECONDS, CONTENTION_SECONDS, REPLY_SECONDS};
 
 /// Where the sender stands between two events.
 #[derive(Debug, Clone, Copy, PartialEq, Eq)]

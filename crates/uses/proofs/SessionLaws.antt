@@ -3,9 +3,10 @@ use Rattle.std.proofs.Common.{◌≡◌, ◌≢◌, ℕ, ◌+◌, ◌-◌, ◌<�
 use Rattle.std.proofs.Common.{arith, append_assoc}
 use Rattle.lis_text.specs.Control.{ENQ}
 use Rattle.lis_link.specs.declared.sender.Outcome.{Outcome}
+use Rattle.lis_link.specs.Duties.{timer_seconds}
 use Rattle.lis_link.specs.Sender.{SenderState, sender_restarted, started}
 use Rattle.uses.specs.Analyzer.{IsSession, MeansNothing, WasSession, closed, over, quiet, answered, given_up, put_out}
-use Rattle.uses.specs.Analyzer.{renewal, seconds_in, sender_step_at}
+use Rattle.uses.specs.Analyzer.{renewal, sender_step_at}
 use Rattle.uses.specs.Line.{Deed, GoesOn, most_events, sent, timed, waited}
 use Rattle.uses.specs.declared.line.Event.{Event}
 use Rattle.uses.specs.declared.line.Event.TheVariants.{Closed}
@@ -63,7 +64,7 @@ was_closed texts first past now last turn s end so_far more behind restarts =
 pub was_over : (texts : List (List ℕ)) (first : SenderState) (past now mid last : Option (List Deed)) (turn : ℕ)
     (s : SenderState) (event : Event)
     → IsSoFar texts first past now turn s → turn < most_events → event ≢ Closed → GoesOn now mid (waited event ∷ [])
-    → GoesOn mid last (put_out (sender_step_at event s).emit) → seconds_in (sender_step_at event s).after.phase ≡ None
+    → GoesOn mid last (put_out (sender_step_at event s).emit) → timer_seconds (sender_step_at event s).after.phase ≡ None
     → WasSession texts first past last (sender_step_at event s).after.outcome (sender_step_at event s).after
 was_over texts first past now mid last turn s event so_far more still waits puts none =
     ended texts first past now last turn (most_events - turn) s (sender_step_at event s).after
@@ -78,7 +79,7 @@ pub goes_on_quiet : (texts : List (List ℕ)) (first : SenderState) (past now mi
     (s : SenderState) (event : Event) (seconds : ℕ)
     → IsSoFar texts first past now turn s → event ≢ Closed → GoesOn now mid (waited event ∷ [])
     → GoesOn mid last (put_out (sender_step_at event s).emit)
-    → seconds_in (sender_step_at event s).after.phase ≡ Some seconds
+    → timer_seconds (sender_step_at event s).after.phase ≡ Some seconds
     → MeansNothing s.phase (sender_step_at event s)
     → IsSoFar texts first past last (turn + 1) (sender_step_at event s).after
 goes_on_quiet texts first past now mid last turn s event seconds so_far still waits puts some nothing = record {
@@ -96,7 +97,7 @@ pub goes_on_answered : (texts : List (List ℕ)) (first : SenderState) (past now
     (turn : ℕ) (s : SenderState) (event : Event) (seconds : ℕ)
     → IsSoFar texts first past now turn s → event ≢ Closed → GoesOn now mid (waited event ∷ [])
     → GoesOn mid sent_on (put_out (sender_step_at event s).emit) → GoesOn sent_on last (timed seconds ∷ [])
-    → seconds_in (sender_step_at event s).after.phase ≡ Some seconds → ¬ (MeansNothing s.phase (sender_step_at event s))
+    → timer_seconds (sender_step_at event s).after.phase ≡ Some seconds → ¬ (MeansNothing s.phase (sender_step_at event s))
     → IsSoFar texts first past last (turn + 1) (sender_step_at event s).after
 goes_on_answered texts first past now mid sent_on last turn s event seconds so_far still waits puts timing some means =
     let emitted = put_out (sender_step_at event s).emit in

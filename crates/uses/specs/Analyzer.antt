@@ -2,13 +2,12 @@
 -- runs while a reply is awaited or the line is left to others. A session starts on a new line if a reply to the last
 -- one may still come.
 use Rattle.std.specs.Prelude.{◌≡◌, ◌≢◌, ℕ, ◌+◌, false, List, [], ◌∷◌, ◌++◌, Option, None, Some, if◌then◌else◌}
-use Rattle.lis_text.specs.Control.{ENQ, EOT, NAK}
-use Rattle.lis_frame.specs.Frame.{frame_bytes}
+use Rattle.lis_text.specs.Control.{ENQ}
 use Rattle.lis_link.specs.declared.sender.EmitOf.{EmitOf}
 use Rattle.lis_link.specs.declared.sender.EmitOf.TheVariants as emits
 use Rattle.lis_link.specs.declared.sender.Outcome.{Outcome}
 use Rattle.lis_link.specs.declared.sender.Phase.{Phase}
-use Rattle.lis_link.specs.declared.sender.Phase.TheVariants.{Neutral, AwaitLine, Busy, Contention, AwaitReply}
+use Rattle.lis_link.specs.Duties.{emitted_bytes, timer_seconds}
 use Rattle.lis_link.specs.Sender.{SenderState, SenderStep, gives, on_reply, on_sender_timer, sender_restarted, started}
 use Rattle.lis_world.specs.declared.event.Event.TheVariants.{Start}
 use Rattle.lis_world.specs.declared.event.LateEvent.{LateEvent}
@@ -20,21 +19,14 @@ use Rattle.uses.specs.declared.line.Event.{Event}
 use Rattle.uses.specs.declared.line.Event.TheVariants.{Byte, Timer, Closed}
 use Rattle.uses.specs.Line.{Deed, GoesOn, most_events, reconnected, sent, timed, waited}
 
--- the seconds of the timer in a phase (LIS01-A2, 6.2 to 6.5): for a reply, behind NAK to ENQ, behind ENQ to ENQ
-abbrev pub seconds_in : Phase → Option ℕ
-seconds_in Neutral = None
-seconds_in AwaitLine = Some 15
-seconds_in AwaitReply = Some 15
-seconds_in Busy = Some 10
-seconds_in Contention = Some 1
+-- bytes are sent, if there are any
+abbrev pub sent_if_any : List ℕ → List Deed
+sent_if_any [] = []
+sent_if_any (byte ∷ bytes) = sent (byte ∷ bytes) ∷ []
 
 -- what is sent of what the sender emits
 abbrev pub put_out : EmitOf 240 → List Deed
-put_out emits.Nothing = []
-put_out emits.Enq = sent (ENQ ∷ []) ∷ []
-put_out emits.Eot = sent (EOT ∷ []) ∷ []
-put_out emits.Nak = sent (NAK ∷ []) ∷ []
-put_out (emits.Frame frame) = sent (frame_bytes frame) ∷ []
+put_out emit = sent_if_any (emitted_bytes emit)
 
 -- the sender's step at an event
 abbrev pub sender_step_at : Event → SenderState → SenderStep 240
@@ -54,17 +46,17 @@ pub data IsSession : ℕ → SenderState → List Deed → Option Outcome → Se
       → left ≡ more + 1 → deeds ≡ waited Closed ∷ [] → outcome ≡ None → last ≡ sender_restarted s
       → IsSession left s deeds outcome last
   over : {left : ℕ} {s last : SenderState} {deeds : List Deed} {outcome : Option Outcome} (more : ℕ) (event : Event)
-      → left ≡ more + 1 → event ≢ Closed → seconds_in (sender_step_at event s).after.phase ≡ None
+      → left ≡ more + 1 → event ≢ Closed → timer_seconds (sender_step_at event s).after.phase ≡ None
       → deeds ≡ waited event ∷ put_out (sender_step_at event s).emit → outcome ≡ (sender_step_at event s).after.outcome
       → last ≡ (sender_step_at event s).after → IsSession left s deeds outcome last
   quiet : {left : ℕ} {s last : SenderState} {deeds : List Deed} {outcome : Option Outcome} (more : ℕ) (event : Event)
       (seconds : ℕ) (rest : List Deed)
-      → left ≡ more + 1 → event ≢ Closed → seconds_in (sender_step_at event s).after.phase ≡ Some seconds
+      → left ≡ more + 1 → event ≢ Closed → timer_seconds (sender_step_at event s).after.phase ≡ Some seconds
       → MeansNothing s.phase (sender_step_at event s) → deeds ≡ waited event ∷ rest
       → IsSession more (sender_step_at event s).after rest outcome last → IsSession left s deeds outcome last
   answered : {left : ℕ} {s last : SenderState} {deeds : List Deed} {outcome : Option Outcome} (more : ℕ)
       (event : Event) (seconds : ℕ) (rest : List Deed)
-      → left ≡ more + 1 → event ≢ Closed → seconds_in (sender_step_at event s).after.phase ≡ Some seconds
+      → left ≡ more + 1 → event ≢ Closed → timer_seconds (sender_step_at event s).after.phase ≡ Some seconds
       → ¬ (MeansNothing s.phase (sender_step_at event s))
       → deeds ≡ waited event ∷ put_out (sender_step_at event s).emit ++ timed seconds ∷ rest
       → IsSession more (sender_step_at event s).after rest outcome last → IsSession left s deeds outcome last

@@ -4,33 +4,13 @@ ghost use Rattle.std.specs.Prelude.{◌≡◌, ◌≢◌, ◌↔◌, IsTrue, Som
 ghost use Rattle.lis_link.specs.declared.sender.EmitOf.TheVariants as Emits;
 ghost use Rattle.lis_link.specs.Sender.{sender_restarted, start_fault};
 ghost use Rattle.lis_world.specs.Late.{reply_may_come};
-ghost use Rattle.uses.specs.Analyzer.{KeepsTheRule, WasSession, put_out, renewal, seconds_in, sender_step_at};
+ghost use Rattle.uses.specs.Analyzer.{KeepsTheRule, WasSession, put_out, renewal, sender_step_at};
 ghost use Rattle.uses.specs.Line.{GoesOn};
 ghost use Rattle.uses.specs.declared.line.Event.TheVariants as Events;
 
 use crate::line::{Event, Line};
-use lis_frame::frame_bytes;
-use lis_link::{Emit, EmitOf, Outcome, Phase, Sender, StartRefused};
-use lis_text::{ENQ, EOT, NAK, Texts};
-
-/// Seconds to wait for the reply to ENQ or to a frame.
-pub const REPLY_SECONDS: u32 = 15;
-/// Seconds to wait behind NAK to ENQ before the line is asked for again.
-pub const BUSY_SECONDS: u32 = 10;
-/// Seconds to wait behind ENQ to ENQ; the computer waits longer, so the analyzer goes first.
-pub const CONTENTION_SECONDS: u32 = 1;
-
-/// The seconds of the timer that runs beside a sender in this phase; none where none runs.
-pub fn sender_seconds(phase: Phase) -> Option<u32>
-    ensures { result ≡ seconds_in phase }
-{
-    match phase {
-        Phase::Neutral => None,
-        Phase::AwaitLine | Phase::AwaitReply => Some(REPLY_SECONDS),
-        Phase::Busy => Some(BUSY_SECONDS),
-        Phase::Contention => Some(CONTENTION_SECONDS),
-    }
-}
+use lis_link::{Emit, EmitOf, Outcome, Phase, REPLY_SECONDS, Sender, StartRefused};
+use lis_text::Texts;
 
 /// Whether a reply to a session may still come, by how it ended. A sender without an outcome is new; the line may be
 /// older, so this counts as a session that was restarted.
@@ -70,7 +50,7 @@ pub fn send_texts<L: Line>(
             return Ok(None);
         };
         put(line, &emit);
-        let Some(seconds) = sender_seconds(sender.phase()) else {
+        let Some(seconds) = sender.phase().timer_seconds() else {
             return Ok(sender.outcome());
         };
         // An event that means nothing here leaves the timer running.
@@ -119,11 +99,8 @@ fn means_nothing(before: Phase, after: Phase, emit: &Emit) -> bool
 pub fn put<L: Line>(line: &mut L, emit: &Emit)
     ensures { GoesOn (L.deeds line.old) (L.deeds line.new) (put_out emit.now) }
 {
-    match emit {
-        EmitOf::Nothing => {}
-        EmitOf::Enq => line.send(&[ENQ]),
-        EmitOf::Eot => line.send(&[EOT]),
-        EmitOf::Nak => line.send(&[NAK]),
-        EmitOf::Frame(frame) => line.send(frame_bytes(frame).as_slice()),
+    let bytes = emit.bytes();
+    if !bytes.is_empty() {
+        line.send(bytes.as_slice());
     }
 }

@@ -10,11 +10,8 @@ ghost use Rattle.uses.specs.Line.{GoesOn};
 ghost use Rattle.uses.specs.declared.line.Event.TheVariants as Events;
 
 use crate::line::{Event, Host, Line};
-use lis_link::{Note, Receiver, Step};
+use lis_link::{Note, RECEIVER_SECONDS, Receiver, Step};
 use lis_text::LinkText;
-
-/// Seconds to wait for a frame or EOT while the line is open.
-pub const RECEIVER_SECONDS: u32 = 30;
 
 /// Waits for the analyzer's next whole text, keeps it, and only then acknowledges its last frame. Answers all that
 /// comes before it. A text that can't be kept gets no reply, and the receiver restarts: the analyzer's timer runs out,
