@@ -1,4 +1,5 @@
-//! A line in memory on which the events of a script happen, with a store, and a log of all that was done on it.
+//! Devices for tests: a line in memory on which the events of a script happen, with a store, and a log of all that was
+//! done on it.
 
 ghost use Rattle.std.specs.Prelude.{◌≡◌, ◌∷◌, [], None, Some, MatchOption, if◌then◌else◌, map};
 ghost use Rattle.uses.specs.Line.{GoesOn, keeping};

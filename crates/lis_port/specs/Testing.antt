@@ -1,8 +1,8 @@
--- The ports over memory: what a cut source and a slow sink hold, and what one call of each does.
+-- Devices for tests: what a cut source and a slow sink hold, and what one call of each does.
 use Rattle.std.specs.Prelude.{ℕ, ◌-◌, Bool, false, List, [], ◌∷◌, Option, None, Some, Ok, Err, length, min, take}
 use Rattle.std.specs.declared.result.Result.{Result}
-use Rattle.lis_port.specs.declared.cut.Then.{Then}
-use Rattle.lis_port.specs.declared.cut.Then.TheVariants.{End, Fail, Again}
+use Rattle.lis_port.specs.declared.testing.cut.Then.{Then}
+use Rattle.lis_port.specs.declared.testing.cut.Then.TheVariants.{End, Fail, Again}
 use Rattle.lis_port.specs.declared.port.Failed.{Failed}
 
 -- a cut source: the bytes left, the most that a read gives, what comes behind them, and its last answers

@@ -4,7 +4,7 @@
 ghost use Rattle.std.specs.Prelude.{◌≡◌, ◌+◌, ◌≤◌, ◌<◌, ◌↔◌, true, false, IfOk, IsTrue, MatchResult, drop, is_err};
 ghost use Rattle.std.specs.Prelude.{length, min, take};
 ghost use Rattle.std.specs.Io.KnownBytes.{ReadConsumes};
-ghost use Rattle.lis_port.specs.Port.{cut_answer, cut_given, known_left, new_cut};
+ghost use Rattle.lis_port.specs.Testing.{cut_answer, cut_given, known_left, new_cut};
 
 use crate::port::{Failed, Source};
 use std::marker::Model;
@@ -33,7 +33,7 @@ pub struct Cut<'a> {
 
 impl<'a> Model for Cut<'a> {
     ghost use Rattle.std.specs.Prelude.{◌≤◌};
-    ghost use Rattle.lis_port.specs.Port.{CutState};
+    ghost use Rattle.lis_port.specs.Testing.{CutState};
 
     ghost Value = { CutState };
 

@@ -3,7 +3,7 @@
 
 ghost use Rattle.std.specs.Prelude.{◌≡◌, ◌≤◌, ◌<◌, [], false, Some, IfOk, MatchResult, is_err, length};
 ghost use Rattle.std.specs.Io.KnownBytes.{WriteAppends};
-ghost use Rattle.lis_port.specs.Port.{slow_count};
+ghost use Rattle.lis_port.specs.Testing.{slow_count};
 
 use crate::port::{Failed, Sink};
 use arrayvec::ArrayVec;
@@ -23,7 +23,7 @@ pub struct Slow {
 
 impl Model for Slow {
     ghost use Rattle.std.specs.Prelude.{◌≤◌};
-    ghost use Rattle.lis_port.specs.Port.{SlowState};
+    ghost use Rattle.lis_port.specs.Testing.{SlowState};
 
     ghost Value = { SlowState };
 
