@@ -3,6 +3,7 @@
 ghost use Rattle.std.specs.Prelude.{◌≤◌};
 
 use lis_capture::*;
+use lis_engine::{PAGE_ROOM, Page};
 use std::process::Abort;
 
 /// The number of the last line of a capture that is read in pieces of at most `step` bytes, and whether it is refused.

@@ -1,6 +1,5 @@
 -- Lemmas on captures.
 pub mod DigitsLemmas
-pub mod EncodeLemmas
 pub mod LineLemmas
 pub mod CaptureLemmas
 pub mod SizeLemmas

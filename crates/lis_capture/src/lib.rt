@@ -4,12 +4,10 @@
 mod digits;
 pub mod laws;
 pub mod line;
-pub mod page;
 pub mod reader;
 pub mod spelling;
 
 pub use line::{CaptureVersion, LONGEST_LINE, Line, LineBytes, MOST_BYTES};
 pub use lis_link::Readiness;
-pub use page::{PAGE_ROOM, Page};
 pub use reader::{Found, LineReader};
 pub use spelling::LONGEST_SPELLING;

@@ -11,7 +11,7 @@ ghost use Rattle.lis_capture.specs.inside.Kept.{KeptAs, kept_bytes, kept_room};
 ghost use Rattle.lis_capture.specs.inside.Told.{line_with};
 
 use crate::digits::{decode, lower};
-use crate::page::{PAGE_ROOM, Page};
+use lis_engine::{PAGE_ROOM, Page};
 use lis_link::Readiness;
 use lis_text::CR;
 use std::marker::Model;

@@ -1,18 +1,18 @@
 -- What each command's run does.
 use Rattle.std.specs.Prelude.{Bool, true, false}
 use Rattle.std.specs.declared.result.Result.{Result}
-use Rattle.lis_run.specs.declared.fault.ToolFault.{ToolFault}
-use Rattle.lis_run.specs.declared.report.Report.{Report}
+use Rattle.lis_engine.specs.declared.fault.ToolFault.{ToolFault}
+use Rattle.lis_report.specs.Answers.{Report}
 use Rattle.lis_run.specs.CaptureRuns.{CaptureRan}
 use Rattle.lis_run.specs.Replay.{replay_writes, texts_writes}
-use Rattle.lis_run.specs.Runs.{Seen, Shown}
+use Rattle.lis_engine.specs.Runs.{Seen, Shown}
 use Rattle.lis_run.specs.Show.{show}
 use Rattle.lis_run.specs.Upgrade.{upgrade_writes}
 use Rattle.lis_commands.specs.declared.commands.Command.{Command}
 use Rattle.lis_commands.specs.declared.commands.Command.TheVariants.{Show, Check, Results, Replay, Texts, Upgrade}
-use Rattle.lis_commands.specs.Check.{check_writes}
-use Rattle.lis_commands.specs.MessageRuns.{MessagesRan}
-use Rattle.lis_commands.specs.Results.{results_writes}
+use Rattle.lis_record_commands.specs.Check.{check_writes}
+use Rattle.lis_record_commands.specs.MessageRuns.{MessagesRan}
+use Rattle.lis_record_commands.specs.Results.{results_writes}
 use Rattle.lis_commands.specs.Words.{limit_by}
 
 -- how it ran, by what is known of its ports before and behind it

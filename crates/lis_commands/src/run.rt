@@ -1,13 +1,12 @@
 //! A command, run by its name.
 
 ghost use Rattle.std.specs.Prelude.{◌≡◌, ◌≤◌, false, IfOk};
-ghost use Rattle.lis_run.specs.Runs.{AreFresh, Stops};
+ghost use Rattle.lis_engine.specs.Runs.{AreFresh, Stops};
 ghost use Rattle.lis_commands.specs.Commands.{CommandRan, closes, refuses};
 
-use crate::check::run_check;
 use crate::commands::Command;
-use crate::results::run_results;
 use lis_port::Sink;
+use lis_record_commands::{run_check, run_results};
 use lis_run::{
     Ended, SourceFor, run_replay, run_replay_of, run_show, run_show_of, run_texts, run_texts_of,
     run_upgrade,

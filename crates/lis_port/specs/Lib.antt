@@ -1,2 +1,2 @@
--- What a read gives and a write takes.
-pub mod Port
+-- What the devices for tests give and take.
+pub mod Testing

@@ -3,25 +3,21 @@
 #![tactic(auto)]
 
 mod buffered;
-mod cut;
 mod discard;
-mod faltering;
 mod in_memory;
 mod once;
 mod port;
 mod read_ahead;
 mod reading;
-mod slow;
+mod testing;
 mod writing;
 
 pub use buffered::Buffered;
-pub use cut::{Cut, Then};
 pub use discard::Discard;
-pub use faltering::Faltering;
 pub use in_memory::InMemory;
 pub use once::Once;
 pub use port::{Failed, Sink, Source, read_sent, write_all};
 pub use read_ahead::ReadAhead;
 pub use reading::Reading;
-pub use slow::Slow;
+pub use testing::{Cut, Faltering, Slow, Then};
 pub use writing::Writing;

@@ -6,13 +6,13 @@ use Rattle.std.specs.Io.KnownBytes.{Appends}
 use Rattle.lis_frame.specs.Stream.{stream_with}
 use Rattle.lis_capture.specs.declared.line.Line.{Line}
 use Rattle.lis_capture.specs.Capture.{capture}
-use Rattle.lis_run.specs.declared.fault.ToolFault.{ToolFault}
-use Rattle.lis_run.specs.declared.fault.ToolFault.TheVariants.{CaptureLine, Read, Write, OutOfMemory, TooManyReads}
-use Rattle.lis_run.specs.declared.report.Report.{Report}
+use Rattle.lis_engine.specs.declared.fault.ToolFault.{ToolFault}
+use Rattle.lis_engine.specs.declared.fault.ToolFault.TheVariants.{CaptureLine, Read, Write, OutOfMemory, TooManyReads}
+use Rattle.lis_report.specs.Answers.{Report}
 use Rattle.lis_run.specs.CaptureRuns.{CaptureRan, LineAnswer}
 use Rattle.lis_run.specs.LineOutcome.{Writes, capture_outcome, lines_outcome, lines_text}
-use Rattle.lis_run.specs.Outcome.{Outcome}
-use Rattle.lis_run.specs.Runs.{RanOver, Seen, WroteOutcome}
+use Rattle.lis_report.specs.Answers.{Outcome}
+use Rattle.lis_engine.specs.Runs.{RanOver, Seen, WroteOutcome}
 
 module _ (memory : Bool) (w : Writes) (old new : Option (List ℕ)) where
   -- a run that lines do not halt has none refused, and their text went out

@@ -14,13 +14,13 @@ use Rattle.lis_link.specs.Receiver.{ReceiverState, ReceiverStep, ReceiverHearing
 use Rattle.lis_link.specs.Receiver.{with_heard}
 use Rattle.lis_link.specs.inside.Stands.{IsIn, Makes}
 use Rattle.lis_link.proofs.HearingLaws.{on_byte-quiet}
-use Rattle.lis_run.specs.declared.fault.ToolFault.{ToolFault}
+use Rattle.lis_engine.specs.declared.fault.ToolFault.{ToolFault}
 use Rattle.lis_run.specs.declared.playing.Account.{Account}
 use Rattle.lis_run.specs.declared.playing.Account.TheVariants.{Lines}
-use Rattle.lis_run.specs.Output.{Gathered, Out, most_counted}
+use Rattle.lis_engine.specs.Output.{Gathered, Out, most_counted}
 use Rattle.lis_run.specs.inside.Playing.{IsHearing, text_part, text_parts}
 use Rattle.lis_run.specs.Replay.{having_heard, replies, handed}
-use Rattle.lis_run.proofs.GatherLaws.{gathered_then, gathered_stops}
+use Rattle.lis_engine.proofs.GatherLaws.{gathered_then, gathered_stops}
 
 -- what an error tells, where a result is none that is good
 pub refused_if_not_ok : {T E P : Type 0} (result : Result T E) → OnErr result P → is_ok result ≡ false → P

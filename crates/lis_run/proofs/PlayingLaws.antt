@@ -13,21 +13,21 @@ use Rattle.lis_link.specs.inside.Kept.{Kept}
 use Rattle.lis_link.specs.Receiver.{ReceiverState, on_byte}
 use Rattle.lis_link.specs.inside.Stands.{IsIn}
 use Rattle.std.specs.declared.result.Result.{Result}
-use Rattle.lis_run.specs.declared.fault.ToolFault.{ToolFault}
-use Rattle.lis_run.specs.declared.machine.Halt.{Halt}
-use Rattle.lis_run.specs.declared.machine.Turn.{Turn}
-use Rattle.lis_run.specs.declared.machine.Turn.TheVariants.{On, Off}
+use Rattle.lis_engine.specs.declared.fault.ToolFault.{ToolFault}
+use Rattle.lis_report.specs.Answers.{Halt}
+use Rattle.lis_report.specs.Answers.{Turn}
+use Rattle.lis_engine.specs.declared.machine.Turn.TheVariants.{On, Off}
 use Rattle.lis_frame.specs.Stream.{stream_with}
 use Rattle.lis_capture.specs.Capture.{capture}
 use Rattle.lis_run.specs.CaptureRuns.{CaptureRan}
-use Rattle.lis_run.specs.declared.report.Report.{Report}
-use Rattle.lis_run.specs.LineOutcome.{LineEnds, LineSteps}
+use Rattle.lis_report.specs.Answers.{Report}
+use Rattle.lis_engine.specs.inside.Steps.{LineEnds, LineSteps}
 use Rattle.lis_run.specs.declared.playing.Account.{Account}
 use Rattle.lis_run.specs.declared.playing.Account.TheVariants.{Lines, Texts}
 use Rattle.std.specs.List.{flat_map}
-use Rattle.lis_run.specs.Output.{Gathered, Out, most_counted}
-use Rattle.lis_run.specs.Runs.{Seen}
-use Rattle.lis_run.proofs.GatherLaws.{gathered_nothing, gathered_then}
+use Rattle.lis_engine.specs.Output.{Gathered, Out, most_counted}
+use Rattle.lis_engine.specs.Runs.{Seen}
+use Rattle.lis_engine.proofs.GatherLaws.{gathered_nothing, gathered_then}
 use Rattle.lis_run.specs.inside.Playing.{IsHearing, IsPlaying, playing_writes, text_parts}
 use Rattle.lis_run.specs.Replay.{Played, all_differences, compared_line, count_with, difference_count, differs_at}
 use Rattle.lis_run.specs.Replay.{handed, having_heard, played, played_line, replay_line, replay_writes, replies}

@@ -4,9 +4,9 @@ use Rattle.std.specs.Fmt.{digits}
 use Rattle.hex.specs.Hex.{decode_pairs, encode_with}
 use Rattle.lis_frame.specs.Stretch.{stretch_fault}
 use Rattle.lis_frame.specs.Stream.{signal_after, open_stretch, stream_with}
-use Rattle.lis_run.specs.declared.fault.ToolFault.TheVariants.{CaptureLine}
+use Rattle.lis_engine.specs.declared.fault.ToolFault.TheVariants.{CaptureLine}
 use Rattle.lis_run.specs.LineOutcome.{capture_outcome}
-use Rattle.lis_run.specs.Outcome.{whole}
+use Rattle.lis_engine.specs.Outcome.{whole}
 use Rattle.lis_run.specs.Replay.{replay, replay_writes, texts}
 use Rattle.lis_run.specs.Upgrade.{upgrade_writes}
 

@@ -8,14 +8,15 @@ use Rattle.lis_frame.specs.Frame.{FrameContent}
 use Rattle.lis_frame.specs.Scanner.{lent_signals}
 use Rattle.std.specs.declared.result.Result.{Result}
 use Rattle.std.specs.Io.KnownBytes.{Appends}
-use Rattle.lis_run.specs.declared.fault.ToolFault.{ToolFault}
-use Rattle.lis_run.specs.declared.fault.ToolFault.TheVariants.{CaptureLine, Read, Write, OutOfMemory, TooManyReads}
-use Rattle.lis_run.specs.declared.report.Report.{Report}
-use Rattle.lis_run.specs.Outcome.{Outcome, at_end, whole}
-use Rattle.lis_run.specs.Parts.{text_if_any}
-use Rattle.lis_run.specs.Output.{Gathered, Out, WentOut}
-use Rattle.lis_run.proofs.GatherLaws.{gathered_stops}
-use Rattle.lis_run.specs.Runs.{RanOver, Seen, Shown, WroteOutcome, WroteText}
+use Rattle.lis_engine.specs.declared.fault.ToolFault.{ToolFault}
+use Rattle.lis_engine.specs.declared.fault.ToolFault.TheVariants.{CaptureLine, Read, Write, OutOfMemory, TooManyReads}
+use Rattle.lis_report.specs.Answers.{Report}
+use Rattle.lis_engine.specs.Outcome.{at_end, whole}
+use Rattle.lis_report.specs.Answers.{Outcome}
+use Rattle.lis_engine.specs.Parts.{text_if_any}
+use Rattle.lis_engine.specs.Output.{Gathered, Out, WentOut}
+use Rattle.lis_engine.proofs.GatherLaws.{gathered_stops}
+use Rattle.lis_engine.specs.Runs.{RanOver, Seen, Shown, WroteOutcome, WroteText}
 use Rattle.lis_run.specs.Show.{Shows, clean, frame_line, show, signal_line, signal_lines}
 use Rattle.lis_link.proofs.HearingLaws.{stream_with-append}
 

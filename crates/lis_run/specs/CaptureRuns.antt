@@ -4,13 +4,13 @@ use Rattle.std.specs.declared.result.Result.{Result}
 use Rattle.std.specs.Io.KnownBytes.{Appends, Consumes}
 use Rattle.lis_frame.specs.Stream.{stream_with}
 use Rattle.lis_capture.specs.Capture.{Lines, capture}
-use Rattle.lis_run.specs.declared.fault.ToolFault.{ToolFault}
-use Rattle.lis_run.specs.declared.fault.ToolFault.TheVariants.{CaptureLine, Read, Write, OutOfMemory, TooManyReads}
-use Rattle.lis_run.specs.declared.report.Report.{Report}
+use Rattle.lis_engine.specs.declared.fault.ToolFault.{ToolFault}
+use Rattle.lis_engine.specs.declared.fault.ToolFault.TheVariants.{CaptureLine, Read, Write, OutOfMemory, TooManyReads}
+use Rattle.lis_report.specs.Answers.{Report}
 use Rattle.lis_run.specs.LineOutcome.{Writes, lines_outcome, lines_text}
-use Rattle.lis_run.specs.Outcome.{whole}
-use Rattle.lis_run.specs.Output.{WentOut}
-use Rattle.lis_run.specs.Runs.{Seen}
+use Rattle.lis_engine.specs.Outcome.{whole}
+use Rattle.lis_engine.specs.Output.{WentOut}
+use Rattle.lis_engine.specs.Runs.{Seen}
 
 -- A report is answered only where the input was read to its end and no line is refused; then the text of all lines
 -- and the closing lines went out. The number of a line is answered only where it is the first that is refused; then

@@ -1,13 +1,12 @@
--- What a run comes to, and what the commands over link bytes and captures write.
-pub mod Output
-pub mod Outcome
-pub mod Runs
-pub mod Reads
-pub mod Parts
+-- What the commands over link bytes and captures write.
 pub mod LineOutcome
 pub mod CaptureRuns
-pub mod Codes
 pub mod Upgrade
 pub mod Show
 pub mod Replay
 pub mod inside
+pub use Rattle.lis_engine.specs.Output
+pub use Rattle.lis_engine.specs.Outcome
+pub use Rattle.lis_engine.specs.Runs
+pub use Rattle.lis_engine.specs.Parts
+pub use Rattle.lis_engine.specs.inside.Steps

@@ -1,18 +1,13 @@
 -- What the lines of a capture come to, for a command that writes something for each. Lines are kept newest first.
 use Rattle.std.specs.Prelude.{◌≡◌, ℕ, ◌+◌, Bool, true, false, List, [], ◌∷◌, ◌++◌, length, Some, Ok, Err}
-use Rattle.std.specs.declared.result.Result.{Result}
 use Rattle.lis_frame.specs.Stream.{stream_with}
 use Rattle.lis_capture.specs.declared.line.Line.{Line}
 use Rattle.lis_capture.specs.Capture.{capture}
 use Rattle.lis_capture.specs.Reader.{HasRead, Reading}
-use Rattle.lis_run.specs.declared.fault.ToolFault.{ToolFault}
-use Rattle.lis_run.specs.declared.fault.ToolFault.TheVariants.{CaptureLine, OutOfMemory}
-use Rattle.lis_run.specs.declared.machine.Halt.{Halt}
-use Rattle.lis_run.specs.declared.machine.Turn.{Turn}
-use Rattle.lis_run.specs.declared.machine.Turn.TheVariants.{On, Off}
-use Rattle.lis_run.specs.declared.report.Report.{Report}
-use Rattle.lis_run.specs.Outcome.{Outcome, going}
-use Rattle.lis_run.specs.Output.{Gathered, Out}
+use Rattle.lis_engine.specs.declared.fault.ToolFault.TheVariants.{CaptureLine}
+use Rattle.lis_report.specs.Answers.{Report}
+use Rattle.lis_engine.specs.Outcome.{going}
+use Rattle.lis_report.specs.Answers.{Outcome}
 
 -- what a command writes for a line behind others, and behind the last; and how it ends
 pub record Writes : Type 0 where
@@ -41,22 +36,6 @@ lines_outcome w false false lines = going (lines_text w lines)
 -- what bytes come to, newest first
 abbrev pub capture_outcome : Writes → List ℕ → Bool → Outcome
 capture_outcome w past ended = lines_outcome w (capture past ended).refused ended (capture past ended).lines
-
--- ---- by steps
-
--- what a step gathers for a line: all of its text, or a part where memory is refused or the sink fails
-abbrev pub LineSteps : (takes_memory : Bool) (stands : Type 0) → Out → Out → ℕ → List ℕ → Result Turn ToolFault → Type 0
-LineSteps takes_memory stands old new before text (Ok (On after)) = Gathered old new before (Ok after) text × stands
-LineSteps takes_memory stands old new before text (Ok (Off halt)) =
-    (halt.result ≡ Err OutOfMemory) × (takes_memory ≡ true)
-    × (more : List ℕ) × (rest : List ℕ) × (text ≡ more ++ rest) × Gathered old new before (Ok halt.written) more
-LineSteps takes_memory stands old new before text (Err fault) = Gathered old new before (Err fault) text
-
--- and behind the last line
-abbrev pub LineEnds : Report → Out → Out → ℕ → List ℕ → Result Halt ToolFault → Type 0
-LineEnds report old new before text (Ok halt) =
-    (halt.result ≡ Ok report) × Gathered old new before (Ok halt.written) text
-LineEnds report old new before text (Err fault) = Gathered old new before (Err fault) text
 
 -- these bytes were read, no line of them is refused, and the command stands for the lines; their text is this
 pub record IsLined (w : Writes) (stands : List Line → Type 0) (reader : Reading) (bytes text : List ℕ) : Type 0 where

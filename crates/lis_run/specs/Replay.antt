@@ -12,10 +12,10 @@ use Rattle.lis_link.specs.Receiver.{with_readiness}
 use Rattle.lis_capture.specs.declared.line.Line.{Line}
 use Rattle.lis_capture.specs.declared.line.Line.TheVariants.{Empty, FromAnalyzer, FromComputer, Timer, Restart}
 use Rattle.lis_capture.specs.declared.line.Line.TheVariants.{SetReady, Version}
-use Rattle.lis_run.specs.declared.report.Report.{Report}
+use Rattle.lis_report.specs.Answers.{Report}
 use Rattle.lis_run.specs.LineOutcome.{Writes, capture_outcome}
-use Rattle.lis_run.specs.Outcome.{whole}
-use Rattle.lis_run.specs.Parts.{joined}
+use Rattle.lis_engine.specs.Outcome.{whole}
+use Rattle.lis_engine.specs.Parts.{joined}
 use Rattle.lis_run.specs.Show.{clean}
 
 -- ---- the receiver

@@ -10,8 +10,9 @@ use Rattle.lis_frame.specs.declared.scanner.Heard.{Heard}
 use Rattle.lis_frame.specs.declared.scanner.Heard.TheVariants as heards
 use Rattle.lis_frame.specs.Frame.{FrameContent}
 use Rattle.lis_frame.specs.Stream.{signals}
-use Rattle.lis_run.specs.Outcome.{Outcome, at_end}
-use Rattle.lis_run.specs.declared.report.Report.{Report}
+use Rattle.lis_engine.specs.Outcome.{at_end}
+use Rattle.lis_report.specs.Answers.{Outcome}
+use Rattle.lis_report.specs.Answers.{Report}
 
 -- the code of a fault, as it is printed
 abbrev pub printed_fault : FrameFault → List ℕ

@@ -5,7 +5,7 @@ use Rattle.lis_capture.specs.declared.line.Line.{Line}
 use Rattle.lis_capture.specs.declared.line.Line.TheVariants.{Version}
 use Rattle.lis_capture.specs.Spelling.{added_spelling, line_spelling}
 use Rattle.lis_run.specs.LineOutcome.{Writes, capture_outcome}
-use Rattle.lis_run.specs.Outcome.{whole}
+use Rattle.lis_engine.specs.Outcome.{whole}
 use Rattle.lis_run.specs.Show.{clean}
 
 -- the version stands before the first line, and alone where there is none

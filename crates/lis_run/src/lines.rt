@@ -6,18 +6,17 @@ ghost use Rattle.lis_capture.specs.declared.line.Line.{Line as LineContent};
 ghost use Rattle.lis_capture.specs.Capture.{capture};
 ghost use Rattle.lis_capture.specs.Reader.{HasRead};
 ghost use Rattle.lis_run.specs.CaptureRuns.{CaptureRan};
-ghost use Rattle.lis_run.specs.LineOutcome.{IsLined, LineEnds, LineSteps, Writes, capture_outcome, lines_outcome};
-ghost use Rattle.lis_run.specs.Outcome.{going};
-ghost use Rattle.lis_run.specs.Output.{out};
-ghost use Rattle.lis_run.specs.Runs.{AreFresh, Stops};
+ghost use Rattle.lis_run.specs.LineOutcome.{IsLined, Writes, capture_outcome, lines_outcome};
+ghost use Rattle.lis_engine.specs.inside.Steps.{LineEnds, LineSteps};
+ghost use Rattle.lis_engine.specs.Outcome.{going};
+ghost use Rattle.lis_engine.specs.Output.{out};
+ghost use Rattle.lis_engine.specs.Runs.{AreFresh, Stops};
 ghost use Rattle.std.proofs.Common.{ap, sym, ◌∙◌};
 
-use crate::fault::ToolFault;
-use crate::machine::{Fate, Halt, Machine, Turn};
-use crate::ports::SourceFor;
-use crate::report::Ended;
-use lis_capture::{Found, Line, LineReader, MOST_BYTES, Page};
+use lis_capture::{Found, Line, LineReader, MOST_BYTES};
+use lis_engine::{Machine, Page, SourceFor, ToolFault};
 use lis_port::Sink;
+use lis_report::{Ended, Fate, Halt, Refused, Turn};
 
 /// A command that takes a capture line by line. Contracts see the lines newest first.
 pub trait LineMachine: Drop {
@@ -131,7 +130,7 @@ impl<C: LineMachine> Lines<C> {
     }
 }
 
-impl<C: LineMachine> Machine for Lines<C> {
+impl<C: LineMachine> Machine<Refused> for Lines<C> {
     ghost means = { λ bytes ended o. o ≡ capture_outcome C.writes (stream_with [] bytes) ended };
 
     ghost stands = { λ m bytes text. IsLined C.writes (C.stands m.command) m.reader bytes text };

@@ -10,20 +10,18 @@ ghost use Rattle.lis_link.specs.Receiver.{ReceiverState};
 ghost use Rattle.lis_link.specs.inside.Stands.{IsIn};
 ghost use Rattle.lis_run.specs.declared.playing.Account.{Account as AccountOf};
 ghost use Rattle.lis_run.specs.declared.playing.Account.TheVariants as accounts;
-ghost use Rattle.lis_run.specs.LineOutcome.{LineEnds, LineSteps};
-ghost use Rattle.lis_run.specs.Output.{out};
+ghost use Rattle.lis_engine.specs.inside.Steps.{LineEnds, LineSteps};
+ghost use Rattle.lis_engine.specs.Output.{out};
 ghost use Rattle.lis_run.specs.inside.Playing.{IsHearing, IsPlaying, Took, playing_writes, text_parts};
 ghost use Rattle.lis_run.specs.Replay.{handed, having_heard, replay_writes, replies, status_of};
 
-use crate::fault::ToolFault;
 use crate::lines::LineMachine;
-use crate::machine::{Halt, Turn};
 use crate::replay::{TextLine, gather_difference};
-use crate::report::Report;
-use crate::tell::{Counts, Part, Tell};
-use lis_capture::{Line, LineReader, MOST_BYTES, Page};
+use lis_capture::{Line, LineReader, MOST_BYTES};
+use lis_engine::{Counts, Page, Part, Tell, ToolFault};
 use lis_link::{Hearing, Note, ReceiverOf, Step};
 use lis_port::Sink;
+use lis_report::{Halt, Report, Turn};
 use lis_text::LinkText;
 use std::alloc::Global;
 

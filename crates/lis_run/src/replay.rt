@@ -3,20 +3,16 @@
 ghost use Rattle.std.specs.Prelude.{◌≡◌, ◌≤◌, [], true, false, is_err, if◌then◌else◌, IfOk};
 ghost use Rattle.lis_frame.specs.Limit.{IsLimit};
 ghost use Rattle.lis_run.specs.CaptureRuns.{CaptureRan};
-ghost use Rattle.lis_run.specs.Parts.{part_text};
-ghost use Rattle.lis_run.specs.Output.{Gathered, out};
+ghost use Rattle.lis_engine.specs.Parts.{part_text};
+ghost use Rattle.lis_engine.specs.Output.{Gathered, out};
 ghost use Rattle.lis_run.specs.Replay.{difference_line, digits_or_dash, replay_writes, text_line};
-ghost use Rattle.lis_run.specs.Runs.{AreFresh, Stops};
+ghost use Rattle.lis_engine.specs.Runs.{AreFresh, Stops};
 
-use crate::fault::ToolFault;
-use crate::gather::{append_number, make_room};
 use crate::lines::run_lines;
 use crate::playing::{InLines, Playing};
-use crate::ports::SourceFor;
-use crate::report::Ended;
-use crate::tell::{Part, Tell};
-use lis_capture::Page;
+use lis_engine::{Page, Part, SourceFor, Tell, ToolFault, make_room};
 use lis_port::Sink;
+use lis_report::Ended;
 use std::alloc::Global;
 
 /// The room for the line of a text: its words and two numbers.
@@ -71,14 +67,11 @@ impl Tell for TextLine<'_> {
     ghost text = { λ line. text_line line.number line.text.now };
 
     fn tell<W: Sink>(&self, sink: &mut W, page: &mut Page, written: u64) -> Result<u64, ToolFault> {
-        let after = match make_room(sink, page, written, TEXT_LINE_ROOM) {
-            Ok(after) => after,
-            Err(fault) => return Err(fault),
-        };
+        let after = make_room(sink, page, written, TEXT_LINE_ROOM)?;
         page.append(b"text ");
-        append_number(page, self.number);
+        page.append_number(self.number);
         page.append(b" ");
-        append_number(page, self.text.len() as u64);
+        page.append_number(self.text.len() as u64);
         page.append(b"\n");
         Ok(after)
     }

@@ -5,24 +5,19 @@ ghost use Rattle.std.specs.Prelude.{OnOk};
 ghost use Rattle.lis_frame.specs.Limit.{IsLimit};
 ghost use Rattle.lis_frame.specs.Scanner.{StandsFor};
 ghost use Rattle.lis_frame.specs.Stream.{signal_after, signals_after, stream_with, with_signal};
-ghost use Rattle.lis_capture.specs.declared.page.TheConstants.{PAGE_ROOM};
-ghost use Rattle.lis_run.specs.Output.{Gathered, most_counted, out};
-ghost use Rattle.lis_run.specs.Runs.{AreFresh, RanOver, Shown, Stops};
+ghost use Rattle.lis_engine.specs.declared.page.TheConstants.{PAGE_ROOM};
+ghost use Rattle.lis_engine.specs.Output.{Gathered, most_counted, out};
+ghost use Rattle.lis_engine.specs.Runs.{AreFresh, RanOver, Shown, Stops};
 ghost use Rattle.lis_run.specs.Show.{bad_line, digits_part, frame_line, frame_start, heard_line, Shows};
 ghost use Rattle.lis_run.specs.Show.{printed_fault, show, signal_lines};
-ghost use Rattle.lis_run.specs.Outcome.{going};
-ghost use Rattle.lis_run.specs.Parts.{part_text, text_if_any};
+ghost use Rattle.lis_engine.specs.Outcome.{going};
+ghost use Rattle.lis_engine.specs.Parts.{part_text, text_if_any};
 ghost use Rattle.std.proofs.Common.{ap};
 
-use crate::fault::{ToolFault, Written};
-use crate::gather::{append_number, make_room};
-use crate::machine::{Fate, Halt, Machine, Turn};
-use crate::ports::SourceFor;
-use crate::report::{Ended, Report};
-use crate::tell::{Part, Tell};
-use lis_capture::Page;
+use lis_engine::{Machine, Page, Part, SourceFor, Tell, ToolFault, Written, make_room};
 use lis_frame::{FrameFault, Heard, LentFrame, ScannerOf};
 use lis_port::Sink;
+use lis_report::{Ended, Fate, Halt, Refused, Report, Turn};
 
 /// The room that the beginning of a frame's line has: as far as the length of its text, and a space.
 const FRAME_ROOM: usize = 100;
@@ -80,7 +75,7 @@ impl<const N: usize> Show<N> {
     }
 }
 
-impl<const N: usize> Machine for Show<N> {
+impl<const N: usize> Machine<Refused> for Show<N> {
     ghost means = { Shows N };
 
     ghost stands = { λ m bytes text. (text ≡ show N bytes) × StandsFor N m.scanner (stream_with [] bytes) };
@@ -171,7 +166,7 @@ fn tell_lent<W: Sink>(
 {
     match frame {
         None => Ok(written),
-        Some(frame) => frame.tell(sink, page, written),
+        Some(frame) => tell_frame(sink, page, written, &frame),
     }
 }
 
@@ -193,34 +188,41 @@ fn show_byte<const N: usize, W: Sink>(
 {
     let result = match scanner.told(byte) {
         None => Ok(written),
-        Some(heard) => heard.tell(sink, page, written),
+        Some(heard) => tell_heard(sink, page, written, &heard),
     };
     scanner.take(byte);
     result
 }
 
-/// The line of a signal.
-impl Tell for Heard<'_> {
-    ghost text = { heard_line };
-
-    fn tell<W: Sink>(&self, sink: &mut W, page: &mut Page, written: u64) -> Written {
-        match self {
-            Heard::Enq => Part::Text(b"ENQ\n").tell(sink, page, written),
-            Heard::Eot => Part::Text(b"EOT\n").tell(sink, page, written),
-            Heard::Good(frame) => frame.tell(sink, page, written),
-            Heard::Bad(fault) => fault.tell(sink, page, written),
-        }
+/// Gathers the line of a signal.
+fn tell_heard<W: Sink>(sink: &mut W, page: &mut Page, written: u64, heard: &Heard<'_>) -> Written
+    requires { W.failed sink.old ≡ false }
+    ensures gathered { Gathered (out (W.taken sink.old) page.old) (out (W.taken sink.new) page.new) written result
+        (heard_line heard.now) }
+    ensures failed { W.failed sink.new ≡ is_err result }
+{
+    match heard {
+        Heard::Enq => Part::Text(b"ENQ\n").tell(sink, page, written),
+        Heard::Eot => Part::Text(b"EOT\n").tell(sink, page, written),
+        Heard::Good(frame) => tell_frame(sink, page, written, frame),
+        Heard::Bad(fault) => tell_fault(sink, page, written, *fault),
     }
 }
 
-/// The line of a frame.
-impl Tell for LentFrame<'_> {
-    ghost text = { frame_line };
-
-    fn tell<W: Sink>(&self, sink: &mut W, page: &mut Page, written: u64) -> Written {
-        let digits = digits_part(self.text());
-        ((FrameStart(self), digits), Part::Text(b"\n")).tell(sink, page, written)
-    }
+/// Gathers the line of a frame.
+fn tell_frame<W: Sink>(
+    sink: &mut W,
+    page: &mut Page,
+    written: u64,
+    frame: &LentFrame<'_>,
+) -> Written
+    requires { W.failed sink.old ≡ false }
+    ensures gathered { Gathered (out (W.taken sink.old) page.old) (out (W.taken sink.new) page.new) written result
+        (frame_line frame.now) }
+    ensures failed { W.failed sink.new ≡ is_err result }
+{
+    let digits = digits_part(frame.text());
+    ((FrameStart(frame), digits), Part::Text(b"\n")).tell(sink, page, written)
 }
 
 /// The line of a frame as far as the length of its text.
@@ -233,10 +235,7 @@ impl Tell for FrameStart<'_> {
     #[inline(always)]
     fn tell<W: Sink>(&self, sink: &mut W, page: &mut Page, written: u64) -> Written {
         let FrameStart(frame) = self;
-        let after = match make_room(sink, page, written, FRAME_ROOM) {
-            Ok(after) => after,
-            Err(fault) => return Err(fault),
-        };
+        let after = make_room(sink, page, written, FRAME_ROOM)?;
         start_frame(page, frame.number(), frame.is_last(), frame.text().len());
         Ok(after)
     }
@@ -249,13 +248,13 @@ fn start_frame(page: &mut Page, number: u8, last: bool, count: usize)
     ensures { page.new ≡ page.old ++ (frame_start number last ++ decimal count) }
 {
     page.append(b"frame ");
-    append_number(page, number as u64);
+    page.append_number(number as u64);
     if last {
         page.append(b" end ");
     } else {
         page.append(b" more ");
     }
-    append_number(page, count as u64);
+    page.append_number(count as u64);
 }
 
 /// A space and the digits of bytes, where there are any.
@@ -269,20 +268,18 @@ fn digits_part(bytes: &[u8]) -> Option<(Part<'_>, Part<'_>)>
     Some((Part::Text(b" "), Part::Digits(bytes)))
 }
 
-/// The line of a bad frame.
-impl Tell for FrameFault {
-    ghost text = { bad_line };
-
-    fn tell<W: Sink>(&self, sink: &mut W, page: &mut Page, written: u64) -> Written {
-        let after = match make_room(sink, page, written, FRAME_ROOM) {
-            Ok(after) => after,
-            Err(fault) => return Err(fault),
-        };
-        page.append(b"bad ");
-        append_fault(page, *self);
-        page.append(b"\n");
-        Ok(after)
-    }
+/// Gathers the line of a bad frame.
+fn tell_fault<W: Sink>(sink: &mut W, page: &mut Page, written: u64, fault: FrameFault) -> Written
+    requires { W.failed sink.old ≡ false }
+    ensures gathered { Gathered (out (W.taken sink.old) page.old) (out (W.taken sink.new) page.new) written result
+        (bad_line fault) }
+    ensures failed { W.failed sink.new ≡ is_err result }
+{
+    let after = make_room(sink, page, written, FRAME_ROOM)?;
+    page.append(b"bad ");
+    append_fault(page, fault);
+    page.append(b"\n");
+    Ok(after)
 }
 
 /// Puts the code of a fault behind the page, with the place of a byte that a text may not hold.
@@ -297,7 +294,7 @@ fn append_fault(page: &mut Page, fault: FrameFault)
         FrameFault::Number => page.append(b"F3"),
         FrameFault::Text(place) => {
             page.append(b"F4 ");
-            append_number(page, place as u64);
+            page.append_number(place as u64);
         }
         FrameFault::Sum => page.append(b"F5"),
     }

@@ -4,13 +4,13 @@ ghost use Rattle.std.specs.Prelude.{◌≡◌, false, true, IfOk};
 ghost use Rattle.lis_frame.specs.Limit.{IsLimit};
 ghost use Rattle.lis_run.specs.CaptureRuns.{CaptureRan};
 ghost use Rattle.lis_run.specs.Replay.{texts_writes};
-ghost use Rattle.lis_run.specs.Runs.{AreFresh, Stops};
+ghost use Rattle.lis_engine.specs.Runs.{AreFresh, Stops};
 
 use crate::lines::run_lines;
 use crate::playing::{InTexts, Playing};
-use crate::ports::SourceFor;
-use crate::report::Ended;
+use lis_engine::SourceFor;
 use lis_port::Sink;
+use lis_report::Ended;
 use std::alloc::Global;
 
 /// Plays a capture to a new receiver whose frames have at most `N` bytes of text (LIS01-A2, 6.3): it hears what the

@@ -4,19 +4,15 @@ ghost use Rattle.std.specs.Prelude.{◌≡◌, ◌≤◌, ◌++◌, [], List, tr
 ghost use Rattle.lis_capture.specs.declared.line.Line.{Line as LineContent};
 ghost use Rattle.lis_capture.specs.Spelling.{added_spelling};
 ghost use Rattle.lis_run.specs.CaptureRuns.{CaptureRan};
-ghost use Rattle.lis_run.specs.Parts.{part_text, text_if_any};
-ghost use Rattle.lis_run.specs.Runs.{AreFresh, Stops};
+ghost use Rattle.lis_engine.specs.Parts.{part_text, text_if_any};
+ghost use Rattle.lis_engine.specs.Runs.{AreFresh, Stops};
 ghost use Rattle.lis_run.specs.Upgrade.{is_begun, opening, upgrade_writes};
 
-use crate::fault::ToolFault;
-use crate::gather::make_room;
 use crate::lines::{LineMachine, run_lines};
-use crate::machine::{Halt, Turn};
-use crate::ports::SourceFor;
-use crate::report::{Ended, Report};
-use crate::tell::{Part, Tell};
-use lis_capture::{LONGEST_SPELLING, Line, LineReader, MOST_BYTES, Page};
+use lis_capture::{LONGEST_SPELLING, Line, LineReader, MOST_BYTES};
+use lis_engine::{Page, Part, SourceFor, Tell, ToolFault, make_room};
 use lis_port::Sink;
+use lis_report::{Ended, Halt, Report, Turn};
 
 /// Writes a capture as one of version 2: the line `capture 2`, and then each of its lines, with digits in
 /// lower case and without CR. Where a line is none, the lines before it are written. It takes no memory.
@@ -60,20 +56,16 @@ impl LineMachine for Upgrade {
     ) -> Result<Turn, ToolFault> {
         let opening = opening_behind(self.begun);
         self.begun = true;
-        match (opening, line).tell(sink, page, written) {
-            Ok(after) => Ok(Turn::On(after)),
-            Err(fault) => Err(fault),
-        }
+        let after = (opening, AddedLine(line)).tell(sink, page, written)?;
+        Ok(Turn::On(after))
     }
 
     fn end<W: Sink>(self, sink: &mut W, page: &mut Page, written: u64) -> Result<Halt, ToolFault> {
-        match opening_behind(self.begun).tell(sink, page, written) {
-            Ok(written) => Ok(Halt {
-                written,
-                result: Ok(Report::of(false)),
-            }),
-            Err(fault) => Err(fault),
-        }
+        let written = opening_behind(self.begun).tell(sink, page, written)?;
+        Ok(Halt {
+            written,
+            result: Ok(Report::of(false)),
+        })
     }
 }
 
@@ -88,20 +80,21 @@ fn opening_behind(begun: bool) -> Option<Part<'static>>
     Some(Part::Text(b"capture 2\n"))
 }
 
-/// The text of a line; the version stands in front alone.
-impl Tell for Line<'_> {
-    ghost text = { added_spelling };
+/// A line as it is written; the version stands in front alone.
+#[derive(Clone, Copy)]
+struct AddedLine<'a, 'b>(&'b Line<'a>);
+
+impl Tell for AddedLine<'_, '_> {
+    ghost text = { λ added. added_spelling added.0.now };
 
     #[inline(always)]
     fn tell<W: Sink>(&self, sink: &mut W, page: &mut Page, written: u64) -> Result<u64, ToolFault> {
-        if let Line::Version = self {
+        let AddedLine(line) = self;
+        if let Line::Version = line {
             return Ok(written);
         }
-        let after = match make_room(sink, page, written, LONGEST_SPELLING) {
-            Ok(after) => after,
-            Err(fault) => return Err(fault),
-        };
-        page.append_line(self);
+        let after = make_room(sink, page, written, LONGEST_SPELLING)?;
+        line.append_to(page);
         Ok(after)
     }
 }

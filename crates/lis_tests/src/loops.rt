@@ -17,7 +17,7 @@ use uses::frames::ends_message;
 use uses::line::Event;
 use uses::results::{Reading, count_results, readings};
 use uses::resuming::write_to_both;
-use uses::scripted::{Entry, ScriptedLine};
+use uses::testing::{Entry, ScriptedLine};
 
 /// ENQ, the text A in one frame, and EOT.
 const SESSION: &[u8] = b"\x05\x021A\x0375\r\n\x04";

@@ -12,7 +12,8 @@ use Rattle.lis_capture.proofs.SpellingLemmas.{AreRead-read_lines, capture-upgrad
 use Rattle.lis_capture.proofs.SpellingLemmas.{version_of-upgraded_lines}
 use Rattle.lis_capture.proofs.VersionLemmas.{Gains, gains-capture}
 use Rattle.lis_run.specs.LineOutcome.{Writes, capture_outcome, lines_outcome, lines_text}
-use Rattle.lis_run.specs.Outcome.{Outcome, whole}
+use Rattle.lis_engine.specs.Outcome.{whole}
+use Rattle.lis_report.specs.Answers.{Outcome}
 use Rattle.lis_run.specs.Replay.{difference_count, played, played_line, replay_writes_from, text_count, texts}
 use Rattle.lis_run.specs.Replay.{texts_writes}
 use Rattle.lis_run.specs.Upgrade.{opening, upgrade, upgrade_writes}

@@ -11,7 +11,7 @@ use Rattle.lis_message.specs.Stream.{IsCut}
 use Rattle.lis_message.specs.Texts.{FitsInTexts}
 use Rattle.lis_message.specs.Writing.{message_bytes, message_texts_of}
 use Rattle.lis_run.specs.LineOutcome.{capture_outcome}
-use Rattle.lis_run.specs.Outcome.{Outcome}
+use Rattle.lis_report.specs.Answers.{Outcome}
 use Rattle.lis_run.specs.Replay.{replay_writes_from, texts}
 use Rattle.lis_run.specs.Upgrade.{upgrade}
 use Rattle.lis_field.specs.declared.faults.MessageFault.{MessageFault}

@@ -7,12 +7,12 @@ use Rattle.lis_frame.specs.Stream.{stream_with}
 use Rattle.lis_link.proofs.HearingLaws.{stream_with-append}
 use Rattle.lis_capture.specs.Capture.{capture}
 use Rattle.lis_capture.proofs.CaptureLemmas.{capture-refused}
-use Rattle.lis_run.specs.declared.fault.ToolFault.{ToolFault}
-use Rattle.lis_run.specs.declared.fault.ToolFault.TheVariants.{CaptureLine, Read, Write, OutOfMemory, TooManyReads}
+use Rattle.lis_engine.specs.declared.fault.ToolFault.{ToolFault}
+use Rattle.lis_engine.specs.declared.fault.ToolFault.TheVariants.{CaptureLine, Read, Write, OutOfMemory, TooManyReads}
 use Rattle.lis_run.specs.CaptureRuns.{LineAnswer}
 use Rattle.lis_run.specs.LineOutcome.{Writes}
 use Rattle.lis_run.specs.Replay.{all_differences}
-use Rattle.lis_run.specs.Runs.{EachGave, Stopped}
+use Rattle.lis_engine.specs.Runs.{EachGave, Stopped}
 use Rattle.uses.specs.Played.{WasNotPlayed, WasPlayed}
 
 -- the lines of what was read up to a refused one are those of the whole

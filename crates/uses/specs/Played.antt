@@ -2,8 +2,8 @@
 use Rattle.std.specs.Prelude.{◌≡◌, ℕ, ◌≤◌, ◌↔◌, Bool, true, false, List, [], IsTrue, length, ⊤}
 use Rattle.lis_capture.specs.Capture.{capture, number_of}
 use Rattle.lis_frame.specs.Stream.{stream_with}
-use Rattle.lis_run.specs.declared.fault.ToolFault.{ToolFault}
-use Rattle.lis_run.specs.declared.fault.ToolFault.TheVariants.{CaptureLine, Read, Write, OutOfMemory, TooManyReads}
+use Rattle.lis_engine.specs.declared.fault.ToolFault.{ToolFault}
+use Rattle.lis_engine.specs.declared.fault.ToolFault.TheVariants.{CaptureLine, Read, Write, OutOfMemory, TooManyReads}
 use Rattle.lis_run.specs.Replay.{all_differences}
 
 -- each line is one, and this is whether each reply of the computer is the receiver's

@@ -1,7 +1,7 @@
 -- What the log of a line in memory says.
 use Rattle.std.specs.Prelude.{Bool, true, false, List, Option, None, Some, map}
-use Rattle.uses.specs.declared.scripted.Entry.{Entry}
-use Rattle.uses.specs.declared.scripted.Entry.TheVariants as entries
+use Rattle.uses.specs.declared.testing.Entry.{Entry}
+use Rattle.uses.specs.declared.testing.Entry.TheVariants as entries
 use Rattle.uses.specs.Line.{Deed, kept, not_kept, reconnected, sent, timed, waited}
 
 abbrev pub deed_of : Entry → Deed

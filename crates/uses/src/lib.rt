@@ -10,4 +10,4 @@ pub mod frames;
 pub mod line;
 pub mod results;
 pub mod resuming;
-pub mod scripted;
+pub mod testing;

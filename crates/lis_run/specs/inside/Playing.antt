@@ -9,14 +9,14 @@ use Rattle.lis_link.specs.declared.receiver.Step.{Step}
 use Rattle.lis_link.specs.inside.Kept.{Kept}
 use Rattle.lis_link.specs.Receiver.{ReceiverState}
 use Rattle.lis_link.specs.inside.Stands.{IsIn}
-use Rattle.lis_run.specs.declared.fault.ToolFault.{ToolFault}
-use Rattle.lis_run.specs.declared.fault.ToolFault.TheVariants as faults
-use Rattle.lis_run.specs.declared.machine.Turn.{Turn}
-use Rattle.lis_run.specs.declared.machine.Turn.TheVariants.{On, Off}
+use Rattle.lis_engine.specs.declared.fault.ToolFault.{ToolFault}
+use Rattle.lis_engine.specs.declared.fault.ToolFault.TheVariants as faults
+use Rattle.lis_report.specs.Answers.{Turn}
+use Rattle.lis_engine.specs.declared.machine.Turn.TheVariants.{On, Off}
 use Rattle.lis_run.specs.declared.playing.Account.{Account}
 use Rattle.lis_run.specs.declared.playing.Account.TheVariants.{Lines, Texts}
 use Rattle.lis_run.specs.LineOutcome.{Writes}
-use Rattle.lis_run.specs.Output.{Gathered, Out, most_counted}
+use Rattle.lis_engine.specs.Output.{Gathered, Out, most_counted}
 use Rattle.lis_run.specs.Replay.{difference_count, played, replay_writes, text_count, text_line, texts_writes}
 
 abbrev pub playing_writes : Account → ℕ → Writes

@@ -1,6 +1,6 @@
 use Rattle.std.proofs.Common.{arith}
-use Rattle.lis_run.specs.Output.{out}
-use Rattle.lis_run.proofs.GatherLaws.{gathered_unless}
+use Rattle.lis_engine.specs.Output.{out}
+use Rattle.lis_engine.proofs.GatherLaws.{gathered_unless}
 use Rattle.lis_run.proofs.replay.gather_difference.Goals as goal
 
 pub returns-clause-gathered : goal.returns-clause-gathered

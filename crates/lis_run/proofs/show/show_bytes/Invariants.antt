@@ -2,8 +2,8 @@ use Rattle.std.proofs.Common.{◌≡◌, ℕ, false, ◌≤◌, List, length}
 use Rattle.std.specs.declared.result.Result.{Result}
 use Rattle.lis_frame.specs.Scanner.{StandsFor}
 use Rattle.lis_frame.specs.Stream.{stream_with, signals_after}
-use Rattle.lis_run.specs.declared.fault.ToolFault.{ToolFault}
-use Rattle.lis_run.specs.Output.{Gathered, Out, most_counted, out}
+use Rattle.lis_engine.specs.declared.fault.ToolFault.{ToolFault}
+use Rattle.lis_engine.specs.Output.{Gathered, Out, most_counted, out}
 use Rattle.lis_run.specs.Show.{signal_lines}
 use Rattle.lis_run.proofs.show.show_bytes.Given as goal
 

@@ -1,6 +1,6 @@
 use Rattle.std.proofs.Common.{rules, None, Some, sym, Option, List, ℕ, subst}
 use Rattle.std.specs.Io.KnownBytes.{Consumes}
-use Rattle.lis_run.specs.Runs.{EachGave}
+use Rattle.lis_engine.specs.Runs.{EachGave}
 use Rattle.uses.specs.Played.{WasNotPlayed}
 use Rattle.uses.proofs.PlayedLaws.{not_played, was_played}
 use Rattle.uses.proofs.ReadingLaws.{if_err}

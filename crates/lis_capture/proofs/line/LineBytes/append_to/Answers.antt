@@ -1,6 +1,6 @@
 use Rattle.std.proofs.Common.{length-append, arith}
 use Rattle.hex.specs.Hex.{encode_lower}
-use Rattle.lis_capture.proofs.EncodeLemmas.{length-encode_lower}
+use Rattle.lis_engine.proofs.EncodeLemmas.{length-encode_lower}
 use Rattle.lis_capture.proofs.KeptLemmas.{short_bytes}
 use Rattle.lis_capture.proofs.line.LineBytes.append_to.Goals as goal
 

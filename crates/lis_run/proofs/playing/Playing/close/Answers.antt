@@ -1,7 +1,7 @@
 use Rattle.std.proofs.Common.{Ok, Err, ap, ◌∙◌}
-use Rattle.lis_run.specs.Output.{out}
+use Rattle.lis_engine.specs.Output.{out}
 use Rattle.lis_run.specs.Replay.{all_differences, counts_line, left_line, played, status_of, text_count}
-use Rattle.lis_run.proofs.GatherLaws.{gathered_stops}
+use Rattle.lis_engine.proofs.GatherLaws.{gathered_stops}
 use Rattle.lis_run.proofs.PlayingLaws.{closed, is_left, left_gathered}
 use Rattle.lis_run.proofs.playing.Playing.close.Goals as goal
 

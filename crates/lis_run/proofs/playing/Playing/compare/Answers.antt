@@ -1,6 +1,6 @@
 use Rattle.std.proofs.Common.{◌≡◌, ◌≤◌, ℕ, List, Ok, sym, ◌∙◌, subst, arith}
 use Rattle.lis_run.specs.declared.playing.Account.TheVariants.{Lines}
-use Rattle.lis_run.specs.Output.{Gathered, most_counted, out}
+use Rattle.lis_engine.specs.Output.{Gathered, most_counted, out}
 use Rattle.lis_run.specs.Replay.{difference_count}
 use Rattle.lis_run.proofs.PlayingLaws.{compared_text, difference_count-few, is_lines, passed_computer, played_computer}
 use Rattle.lis_run.proofs.playing.Playing.compare.Goals as goal

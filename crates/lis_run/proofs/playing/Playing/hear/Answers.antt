@@ -1,7 +1,7 @@
 use Rattle.std.proofs.Common.{◌<◌, [], length, refl, arith, ◌∙◌}
 use Rattle.std.proofs.lemmas.Bool.Decides.{nat_tests}
-use Rattle.lis_run.specs.Output.{out}
-use Rattle.lis_run.proofs.GatherLaws.{gathered_nothing}
+use Rattle.lis_engine.specs.Output.{out}
+use Rattle.lis_engine.proofs.GatherLaws.{gathered_nothing}
 use Rattle.lis_run.proofs.HearingLaws.{all_heard, hears_failing, hears_on, hears_starved}
 use Rattle.lis_run.proofs.playing.Playing.hear.Goals as goal
 

@@ -1,6 +1,6 @@
 use Rattle.std.proofs.Common.{◌≡◌, ◌+◌, ◌^◌, ◌≤◌, ℕ, List, false, length}
 use Rattle.lis_link.specs.Receiver.{ReceiverState}
-use Rattle.lis_run.specs.Output.{out}
+use Rattle.lis_engine.specs.Output.{out}
 use Rattle.lis_run.specs.inside.Playing.{IsHearing}
 use Rattle.lis_run.proofs.HearingLaws.{IsHearingOn}
 use Rattle.lis_run.proofs.playing.Playing.hear.Given as goal

@@ -1,5 +1,5 @@
 use Rattle.std.proofs.Common.{◌≤◌, sym, ◌∙◌, arith}
-use Rattle.lis_run.specs.Output.{most_counted}
+use Rattle.lis_engine.specs.Output.{most_counted}
 use Rattle.lis_run.proofs.PlayingLaws.{lines_end, texts_end}
 use Rattle.lis_run.proofs.playing.PlayingLineMachine.end.Goals as goal
 

@@ -1,0 +1,4 @@
+pub mod EncodeLemmas
+pub mod GatherLaws
+pub mod PutLaws
+pub mod RunLaws

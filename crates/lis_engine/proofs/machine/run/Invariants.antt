@@ -1,0 +1,16 @@
+use Rattle.std.proofs.Common.{◌≡◌, false}
+use Rattle.lis_engine.proofs.RunLaws.{IsSoFar}
+use Rattle.lis_engine.proofs.machine.run.Given as goal
+
+-- so many reads were made; for the bytes that they gave all of the text went out
+abbrev pub invariant-loop-turn : goal.invariant-loop-turn
+invariant-loop-turn g l = record {
+  made : g.R.Source.made l.source ≡ l._turn;
+  not_failed : g.R.Source.failed l.source ≡ false;
+  not_ended : g.R.Source.ended l.source ≡ false;
+  working : g.W.Sink.failed l.sink ≡ false;
+  so_far :
+      IsSoFar (g.M.Machine.stands l.machine) (g.R.Source.left l.fn.source) (g.R.Source.left l.source)
+      (g.W.Sink.taken l.fn.sink)
+      (g.W.Sink.taken l.sink) l.page l.written l._turn;
+}

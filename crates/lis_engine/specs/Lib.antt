@@ -1,0 +1,7 @@
+-- What a run comes to, and what its parts write.
+pub mod Output
+pub mod Outcome
+pub mod Runs
+pub mod Reads
+pub mod Parts
+pub mod inside

@@ -1,0 +1,434 @@
+-- Record text, record by record: what a step gathers, and steps one behind the other.
+use Rattle.std.proofs.Common.{◌≡◌, ℕ, ◌+◌, ◌<◌, ◌≤◌, ◌^◌, true, false, List, [], ◌∷◌, ◌++◌, Option, None, Some, Ok}
+use Rattle.std.proofs.Common.{Err, length, refl, sym, ◌∙◌, ap, subst, inl, inr, arith, append-nil, append_assoc}
+use Rattle.std.proofs.Common.{length-append}
+use Rattle.std.specs.declared.result.Result.{Result}
+use Rattle.std.specs.Option.{option_to_list}
+use Rattle.lis_field.specs.declared.kinds.Kind.TheVariants as kinds
+use Rattle.lis_field.specs.Delimiters.{DelimiterBytes}
+use Rattle.lis_field.specs.Shape.{RecordContent}
+use Rattle.lis_message.specs.Feeding.{StopsReading}
+use Rattle.lis_message.specs.inside.Kept.{RecordsState}
+use Rattle.lis_message.specs.Records.{HasLeft, ReadsOn, ReadsRecord, Refuses}
+use Rattle.lis_message.specs.Stream.{IsCut, IsReadFrom}
+use Rattle.lis_message.specs.inside.Taking.{ComesNext, Completes, begun_with, left_after, records_of}
+use Rattle.lis_message.proofs.Cuts.{left_after-more}
+use Rattle.lis_message.proofs.EveryStream.{goes_on as reads_more}
+use Rattle.lis_message.proofs.RecordLaws.{cut_held, cut_stops, reads_record}
+use Rattle.lis_record.specs.Lent.{Lent}
+use Rattle.lis_field.specs.declared.faults.MessageFault.{MessageFault}
+use Rattle.lis_field.specs.declared.faults.Reason.TheVariants as reasons
+use Rattle.lis_tree.specs.inside.Begun.{Begun}
+use Rattle.lis_tree.specs.Tree.{MessageTree, flatten}
+use Rattle.lis_engine.specs.declared.fault.ToolFault.{ToolFault}
+use Rattle.lis_engine.specs.declared.fault.ToolFault.TheVariants.{OutOfMemory}
+use Rattle.lis_report.specs.Answers.{Halt}
+use Rattle.lis_report.specs.Answers.{Turn}
+use Rattle.lis_engine.specs.declared.machine.Turn.TheVariants.{On, Off}
+use Rattle.lis_engine.specs.inside.Steps.{LineEnds, LineSteps}
+use Rattle.lis_report.specs.Answers.{Outcome}
+use Rattle.lis_engine.specs.Output.{Gathered, Out, most_counted}
+use Rattle.lis_engine.specs.inside.Steps.{Halts, IsEarly, Puts, Steps}
+use Rattle.lis_engine.proofs.GatherLaws.{gathered_nothing, gathered_then}
+use Rattle.lis_record_commands.specs.Messages.{Comes, IsReadingMessages, MessageWrites, RefusesBy, StepsOver}
+use Rattle.lis_record_commands.specs.Messages.{messages_text}
+use Rattle.lis_record_commands.specs.Messages.{whole_outcome, record_count, refused, report_after, whole_begun}
+use Rattle.lis_record_commands.specs.Messages.{with_record}
+use Rattle.lis_record_commands.proofs.MessageLaws.{cut_few, ends_over, is_refused, messages_few, messages_text-append}
+use Rattle.lis_record_commands.proofs.MessageLaws.{refuses_over}
+use Rattle.lis_record_commands.proofs.MessageRunLaws.{read_behind}
+
+-- ---- what a record completes
+
+closed_is : (left : Option Begun) (entry : Lent RecordContent) (m : MessageTree) → Completes left entry (Some m)
+    → with_record left entry ≡ whole_begun m
+closed_is left entry m whole =
+    sym (ap (λ (d : DelimiterBytes). begun_with d (flatten m)) whole.2
+    ∙ ap (λ (rs : List RecordContent). begun_with entry.delimiters rs) whole.3)
+
+module _ (w : MessageWrites) (stands : List MessageTree → Option Begun → Type 0) (messages : List MessageTree)
+    (left : Option Begun)
+    (entry : Lent RecordContent) where
+  pub closing_text :
+      (message : Option MessageTree) (a b : Out) (written : ℕ) (result : Result ℕ ToolFault)
+      → entry.content.kind ≡ kinds.L
+      → Completes left entry message → stands messages (with_record left entry)
+      → ((m : MessageTree) → stands messages (whole_begun m) → record_count (messages ++ m ∷ []) < 2 ^ 44
+      → Gathered a b written result (w.message (length messages) m))
+      → record_count (messages ++ option_to_list message) < 2 ^ 44
+      → Gathered a b written result (messages_text w (length messages) (option_to_list message))
+  closing_text None a b written result kind completes stood writes few = absurd (completes kind)
+  closing_text (Some m) a b written result kind completes stood writes few =
+      subst (λ (t : List ℕ). Gathered a b written result t) (sym (append-nil (w.message (length messages) m)))
+      (writes m (subst (stands messages) (closed_is left entry m completes) stood) few)
+
+  pub closing_stood :
+      (after : List MessageTree → Option Begun → Type 0) (message : Option MessageTree) → entry.content.kind ≡ kinds.L
+      → Completes left entry message → stands messages (with_record left entry)
+      → ((m : MessageTree) → stands messages (whole_begun m) → record_count (messages ++ m ∷ []) < 2 ^ 44
+      → after (messages ++ m ∷ []) None)
+      → record_count (messages ++ option_to_list message) < 2 ^ 44
+      → after (messages ++ option_to_list message) (left_after left entry entry.content.kind)
+  closing_stood after None kind completes stood next few = absurd (completes kind)
+  closing_stood after (Some m) kind completes stood next few =
+      subst (after (messages ++ m ∷ [])) (sym (ap (left_after left entry) kind))
+      (next m (subst (stands messages) (closed_is left entry m completes) stood) few)
+
+  -- one more message is counted
+  pub closing_counted :
+      (message : Option MessageTree) (count next : ℕ) → entry.content.kind ≡ kinds.L → Completes left entry message
+      → record_count (messages ++ option_to_list message) < 2 ^ 44 → count ≡ length messages
+      → (count < 2 ^ 44 → next ≡ count + 1)
+      → next ≡ length (messages ++ option_to_list message)
+  closing_counted None count next kind completes few is counts = absurd (completes kind)
+  closing_counted (Some m) count next kind completes few is counts =
+      let short : count < 2 ^ 44 =
+      omega (arith, few, is, messages_few (messages ++ m ∷ []), length-append messages (m ∷ [])) in
+      omega (arith, counts short, is, length-append messages (m ∷ []))
+
+  -- a record that completes none
+  pub open_steps :
+      (message : Option MessageTree) (a : Out) (written count : ℕ) → (entry.content.kind ≡ kinds.L → ⊥)
+      → Completes left entry message
+      → stands messages (with_record left entry) → written ≤ most_counted → count ≡ length messages
+      → Gathered a a written (Ok written) (messages_text w (length messages) (option_to_list message))
+      × (stands (messages ++ option_to_list message) (left_after left entry entry.content.kind)
+      × (count ≡ length (messages ++ option_to_list message)))
+  open_steps None a written count other completes stood fits is = (
+    gathered_nothing a written fits,
+    (
+      subst (λ (ms : List MessageTree). stands ms (left_after left entry entry.content.kind))
+          (sym (append-nil messages))
+          (subst (stands messages) (sym (left_after-more left entry entry.content.kind other)) stood),
+      is ∙ ap length (sym (append-nil messages)),
+    ),
+  )
+  open_steps (Some m) a written count other completes stood fits is = absurd (other completes.0)
+
+-- ---- a record
+
+module _ (w : MessageWrites) (after : List MessageTree → Option Begun → Type 0) (now : RecordsState) (count : ℕ)
+    (past bytes front behind text : List ℕ) (a b : Out) (written : ℕ)
+    (messages : List MessageTree) (message : Option MessageTree) (left : Option Begun) (whole : bytes ≡ front ++ behind)
+    (cut : IsCut (past ++ front) (messages ++ option_to_list message) left now.held) (has : HasLeft now left)
+    (text_is : text ≡ messages_text w 0 messages) where
+  abbrev more : List ℕ
+  more = messages_text w (length messages) (option_to_list message)
+
+  abbrev all : List MessageTree
+  all = messages ++ option_to_list message
+
+  bytes_are : past ++ bytes ≡ (past ++ front) ++ behind
+  bytes_are = ap (λ (l : List ℕ). past ++ l) whole ∙ sym (append_assoc past front behind)
+
+  text_with : text ++ more ≡ messages_text w 0 all
+  text_with =
+      ap (λ (t : List ℕ). t ++ more) text_is
+      ∙ ap (λ (k : ℕ). messages_text w 0 messages ++ messages_text w k (option_to_list message)) (omega arith)
+      ∙ sym (messages_text-append w 0 messages (option_to_list message))
+
+  taken_step :
+      (result : Result Turn ToolFault) → LineSteps true (after all left × (count ≡ length all)) a b written more result
+      → Steps true true (IsReadingMessages w after now count (past ++ front)) (Comes w (past ++ bytes) false) a b
+      written text result
+  taken_step (Ok (On next)) (put, (stood, counted)) =
+      record {
+        more = more;
+        put = put;
+        behind = record {
+          messages = all;
+          left = left;
+          has = has;
+          cut = cut;
+          stood = stood;
+          count_is =
+              counted;
+          text_is = text_with;
+        };
+      }
+  taken_step (Ok (Off halt)) (is, memory, some, rest, parts, put) =
+      record {
+        more = some;
+        put = put;
+        behind = rw is (
+          (
+            record { text = messages_text w 0 all; closing = []; halt = Some (Err OutOfMemory) },
+            inr (record {
+              front = past ++ front;
+              more = behind;
+              joined = bytes_are;
+              messages = all;
+              left = left;
+              held = now.held;
+              cut = cut;
+              outcome_is = refl;
+            }),
+            rest,
+            sym text_with ∙ ap (λ (t : List ℕ). text ++ t) parts ∙ sym (append_assoc text some rest),
+            refl,
+          ),
+          tt,
+        );
+      }
+  taken_step (Err fault) put =
+      let later = read_behind w (past ++ bytes) false all
+      (subst (λ (l : List ℕ). IsReadFrom l all) (sym bytes_are)
+      (reads_more behind (past ++ front) all left now.held cut)) in
+      record {
+        outcome = later.outcome;
+        meant = inl later.reads;
+        more = more;
+        rest = later.rest ++ later.outcome.closing;
+        joined =
+            ap (λ (t : List ℕ). t ++ later.outcome.closing)
+            (later.text_is ∙ ap (λ (t : List ℕ). t ++ later.rest) (sym text_with))
+            ∙ append_assoc (text ++ more) later.rest later.outcome.closing;
+        put = put;
+      }
+
+pub record_steps :
+    {w : MessageWrites} {stands : List MessageTree → Option Begun → Type 0}
+    (after : List MessageTree → Option Begun → Type 0) {before now : RecordsState} {count : ℕ} (more : ℕ)
+    {past bytes behind text : List ℕ} {entry : Lent RecordContent} (a b : Out) (written : ℕ)
+    (result : Result Turn ToolFault)
+    → length past + length bytes < 2 ^ 44 → (reading : IsReadingMessages w stands before count past text)
+    → ReadsRecord before now reading.left bytes behind entry
+    → ((messages : List MessageTree) (left : Option Begun) (message : Option MessageTree) (line : List ℕ)
+    → stands messages left
+    → count ≡ length messages → ComesNext left line entry → Completes left entry message
+    → record_count messages + length (records_of left) < 2 ^ 44
+    → record_count (messages ++ option_to_list message) < 2 ^ 44
+    → LineSteps true (after (messages ++ option_to_list message) (left_after left entry entry.content.kind)
+    × (more ≡ length (messages ++ option_to_list message)))
+    a b written (messages_text w (length messages) (option_to_list message)) result)
+    → StepsOver w (IsReadingMessages w after now more) past bytes behind a b written text result
+record_steps {w} {stands} after {before} {now} {count} more {past} {bytes} {behind} {text} {entry} a b written result
+    few reading r takes =
+    let found = reads_record before now past reading.messages reading.left bytes behind entry reading.cut r in
+    let all = reading.messages ++ option_to_list found.0 in
+    let front = found.2.0 in
+    let short : record_count reading.messages + length (records_of reading.left) < 2 ^ 44 =
+    omega (arith, few, cut_few past reading.messages reading.left before.held reading.cut) in
+    let short' : record_count all < 2 ^ 44 =
+    omega (
+      arith,
+      few,
+      cut_few (past ++ front) all _ now.held found.2.2,
+      length-append past front,
+      ap length
+          found.2.1,
+      length-append front behind,
+    ) in (
+      front,
+      found.2.1,
+      taken_step w after now more past bytes front behind text a b written reading.messages found.0
+          (left_after reading.left entry entry.content.kind) found.2.1 found.2.2 r.left_then reading.text_is result
+          (takes reading.messages reading.left found.0 (before.held ++ r.text) reading.stood reading.count_is r.comes
+          found.1 short short'),
+    )
+
+-- ---- no record ends in the bytes
+
+pub held_steps :
+    (w : MessageWrites) (stands : List MessageTree → Option Begun → Type 0) (before now : RecordsState) (count : ℕ)
+    (past bytes behind text : List ℕ) (a : Out) (written : ℕ) → written ≤ most_counted
+    → (reading : IsReadingMessages w stands before count past text) → ReadsOn before now reading.left bytes behind
+    → StepsOver w (IsReadingMessages w stands now count) past bytes behind a a written text (Ok (On written))
+held_steps w stands before now count past bytes behind text a written fits reading r = (
+  bytes,
+  sym (ap (λ (l : List ℕ). bytes ++ l) r.all ∙ append-nil bytes),
+  record {
+    more = [];
+    put = gathered_nothing a written fits;
+    behind = subst (λ (t : List ℕ). IsReadingMessages w stands now count (past ++ bytes) t) (sym (append-nil text))
+        (record {
+          messages = reading.messages;
+          left = reading.left;
+          has = r.left_then;
+          cut = cut_held before now past reading.messages reading.left bytes behind reading.cut r;
+          stood = reading.stood;
+          count_is = reading.count_is;
+          text_is = reading.text_is;
+        });
+  },
+)
+
+-- ---- a record is refused, or memory is
+
+pub refused_why :
+    (w : MessageWrites) (stands : List MessageTree → Option Begun → Type 0) (before now : RecordsState) (count : ℕ)
+    (past bytes behind text : List ℕ) (fault : MessageFault)
+    → (reading : IsReadingMessages w stands before count past text) → Refuses before now reading.left bytes behind fault
+    → StopsReading (past ++ bytes) reading.messages fault
+refused_why w stands before now count past bytes behind text fault reading r =
+    cut_stops past reading.messages reading.left before.held bytes fault reading.cut r.place r.why
+
+pub stops_part :
+    (w : MessageWrites) (stream : List ℕ) (messages : List MessageTree) (fault : MessageFault)
+    → StopsReading stream messages fault
+    → (o : Outcome) × Comes w stream false o × (o.text ≡ messages_text w 0 messages)
+stops_part w stream messages fault (inl starved) = (
+  record { text = messages_text w 0 messages; closing = []; halt = Some (Err OutOfMemory) },
+  inr (record {
+    front = starved.front;
+    more = starved.more;
+    joined = starved.whole;
+    messages = messages;
+    left = starved.left;
+    held = [];
+    cut = starved.cut;
+    outcome_is = refl;
+  }),
+  refl,
+)
+stops_part w stream messages fault (inr is) =
+    (whole_outcome w messages (Some fault), inl (refused messages fault is refl), refl)
+
+-- memory was refused
+pub starved_by :
+    (w : MessageWrites) (stream : List ℕ) (a : Out) (written : ℕ) (text : List ℕ) (messages : List MessageTree)
+    (fault : MessageFault)
+    → written ≤ most_counted → text ≡ messages_text w 0 messages → StopsReading stream messages fault
+    → RefusesBy w stream a a written text (Ok (record { written = written; result = Err OutOfMemory }))
+starved_by w stream a written text messages fault fits text_is stops =
+    let part = stops_part w stream messages fault stops in
+    record {
+      more = [];
+      put = gathered_nothing a written fits;
+      behind = (
+        (part.0, part.1, [], part.2 ∙ sym text_is ∙ sym (append-nil text) ∙ sym (append-nil (text ++ [])), refl),
+        tt,
+      );
+    }
+
+-- a record was
+pub refused_by :
+    (w : MessageWrites) (stream : List ℕ) (a b : Out) (written : ℕ) (text : List ℕ) (messages : List MessageTree)
+    (fault : MessageFault)
+    (result : Result Halt ToolFault) → written ≤ most_counted → text ≡ messages_text w 0 messages
+    → StopsReading stream messages fault
+    → (fault.reason ≡ reasons.OutOfMemory → ⊥)
+    → LineEnds (report_after w messages (Some fault)) a b written (w.last messages (Some fault)) result
+    → RefusesBy w stream a b written text result
+refused_by w stream a b written text messages fault (Ok halt) fits text_is stops other last =
+    refuses_over w stream a a b written written text [] messages fault halt
+    (inl (refused messages fault (is_refused stream messages fault stops other) refl)) (append-nil text ∙ text_is)
+    (gathered_nothing a written fits) last
+refused_by w stream a b written text messages fault (Err stop) fits text_is stops other last =
+    ends_over w stream false a a b written written text [] messages (Some fault) (Err stop)
+    (inl (refused messages fault (is_refused stream messages fault stops other) refl)) (append-nil text ∙ text_is)
+    (gathered_nothing a written fits) last
+
+pub read_few :
+    (w : MessageWrites) (stands : List MessageTree → Option Begun → Type 0) (reader : RecordsState) (count : ℕ)
+    (past text : List ℕ)
+    → (reading : IsReadingMessages w stands reader count past text) → length past < 2 ^ 44
+    → length reading.messages < 2 ^ 44
+read_few w stands reader count past text reading few =
+    omega (
+      arith,
+      few,
+      cut_few past reading.messages reading.left reader.held reading.cut,
+      messages_few
+          reading.messages,
+    )
+
+-- the step over the bytes in which it stands
+pub refused_over :
+    {w : MessageWrites} {stands : List MessageTree → Option Begun → Type 0} {before now : RecordsState} {count : ℕ}
+    {past bytes behind text : List ℕ} {fault : MessageFault} (a b : Out) (written : ℕ) (result : Result Halt ToolFault)
+    → ((messages : List MessageTree) (left : Option Begun) (stream told : List ℕ) → stands messages left
+    → count ≡ length messages → length messages < 2 ^ 44 → told ≡ messages_text w 0 messages
+    → StopsReading stream messages fault → RefusesBy w stream a b written told result)
+    → (reading : IsReadingMessages w stands before count past text) → Refuses before now reading.left bytes behind fault
+    → length past + length bytes < 2 ^ 44
+    → (front : List ℕ) × (bytes ≡ front ++ behind) × RefusesBy w (past ++ bytes) a b written text result
+refused_over {w} {stands} {before} {now} {count} {past} {bytes} {behind} {text} {fault} a b written result refuses
+    reading r few =
+    let short = read_few w stands before count past text reading (omega (arith, few)) in (
+      [],
+      sym r.none_read,
+      refuses reading.messages reading.left (past ++ bytes) text reading.stood reading.count_is short reading.text_is
+          (refused_why w stands before now count past bytes behind text fault reading r),
+    )
+
+-- ---- one step behind another
+
+puts_behind :
+    (here holds : List ℕ → Type 0) (a b c : Out) (before middle after : ℕ) (text : List ℕ)
+    (so_far : Puts here a b before middle text)
+    → Puts holds b c middle after (text ++ so_far.more) → Puts holds a c before after text
+puts_behind here holds a b c before middle after text so_far next =
+    record {
+      more = so_far.more ++ next.more;
+      put = gathered_then a b c before middle (Ok after) so_far.more next.more so_far.put next.put;
+      behind = subst holds (append_assoc text so_far.more next.more) next.behind;
+    }
+
+steps_behind :
+    (here stands : List ℕ → Type 0) (means : Outcome → Type 0) (a b c : Out) (before middle : ℕ) (text : List ℕ)
+    (result : Result Turn ToolFault) (so_far : Puts here a b before middle text)
+    → Steps true true stands means b c middle (text ++ so_far.more) result
+    → Steps true true stands means a c before text result
+steps_behind here stands means a b c before middle text (Ok (On after)) so_far next =
+    puts_behind here stands a b c before middle after text so_far next
+steps_behind here stands means a b c before middle text (Ok (Off halt)) so_far next =
+    puts_behind here (λ all. Halts true means all halt.result × IsEarly true halt.result) a b c before middle
+    halt.written text so_far next
+steps_behind here stands means a b c before middle text (Err fault) so_far next =
+    record {
+      outcome = next.outcome;
+      meant = next.meant;
+      more = so_far.more ++ next.more;
+      rest = next.rest;
+      joined = next.joined ∙ ap (λ (t : List ℕ). t ++ next.rest) (append_assoc text so_far.more next.more);
+      put = gathered_then a b c before middle (Err fault) so_far.more next.more so_far.put next.put;
+    }
+
+-- a step over the bytes that are left
+pub steps_then :
+    (w : MessageWrites) (here stands : List ℕ → List ℕ → Type 0) (past bytes done rest behind text : List ℕ)
+    (a b c : Out)
+    (before middle : ℕ) (result : Result Turn ToolFault) → bytes ≡ done ++ rest
+    → (so_far : Puts (here (past ++ done)) a b before middle text)
+    → StepsOver w stands (past ++ done) rest behind b c middle (text ++ so_far.more) result
+    → StepsOver w stands past bytes behind a c before text result
+steps_then w here stands past bytes done rest behind text a b c before middle result whole so_far
+    (front, front_is, steps) =
+    let bytes_are : (past ++ done) ++ rest ≡ past ++ bytes =
+    append_assoc past done rest ∙ ap (λ (l : List ℕ). past ++ l) (sym whole) in (
+      done ++ front,
+      whole ∙ ap (λ (l : List ℕ). done ++ l) front_is ∙ sym (append_assoc done front behind),
+      steps_behind (here (past ++ done)) (stands (past ++ (done ++ front))) (Comes w (past ++ bytes) false) a b c
+          before middle text result so_far
+          (subst (λ (l : List ℕ). Steps true true (stands l) (Comes w (past ++ bytes) false) b c middle
+          (text ++ so_far.more) result)
+          (append_assoc past done front)
+          (subst (λ (l : List ℕ). Steps true true (stands ((past ++ done) ++ front)) (Comes w l false) b c middle
+          (text ++ so_far.more) result)
+          bytes_are steps)),
+    )
+
+-- the same, where a step is known over what is left, whatever was read before
+pub steps_on :
+    {w : MessageWrites} {here : List MessageTree → Option Begun → Type 0} {before : RecordsState} {count : ℕ}
+    {bytes rest behind text : List ℕ} {a b : Out} {written middle : ℕ}
+    (stands : List MessageTree → Option Begun → Type 0) (now : RecordsState) (more : ℕ) (past : List ℕ) (c : Out)
+    (result : Result Turn ToolFault)
+    → ((read told : List ℕ) → IsReadingMessages w here before count read told → length read + length rest < 2 ^ 44
+    → StepsOver w (IsReadingMessages w stands now more) read rest behind b c middle told result)
+    → (done : List ℕ) × (bytes ≡ done ++ rest)
+    × Puts (IsReadingMessages w here before count (past ++ done)) a b written middle text
+    → length past + length bytes < 2 ^ 44
+    → StepsOver w (IsReadingMessages w stands now more) past bytes behind a c written text result
+steps_on {w} {here} {before} {count} {bytes} {rest} {behind} {text} {a} {b} {written} {middle} stands now more past c
+    result step (done, whole, so_far) few =
+    steps_then w (IsReadingMessages w here before count) (IsReadingMessages w stands now more) past bytes done rest
+    behind text a b c written middle result whole so_far
+    (step (past ++ done) (text ++ so_far.more) so_far.behind
+    (omega (arith, few, ap length whole, length-append past done, length-append done rest)))
+
+-- all of the bytes
+pub all_read : (bytes done rest : List ℕ) → bytes ≡ done ++ rest → length rest ≡ 0 → done ≡ bytes
+all_read bytes done [] whole none = sym (append-nil done) ∙ sym whole
+all_read bytes done (x ∷ rest) whole none = cc

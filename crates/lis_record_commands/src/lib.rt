@@ -1,0 +1,12 @@
+//! The commands over record text.
+#![tactic(auto)]
+
+pub mod check;
+mod held_text;
+pub mod messages;
+pub mod results;
+
+pub use check::run_check;
+pub use lis_engine::{Machine, SourceFor, ToolFault, status_of};
+pub use lis_report::{Ended, Halt, Refused, Report, Turn};
+pub use results::run_results;

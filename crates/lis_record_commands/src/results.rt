@@ -1,0 +1,142 @@
+//! The command `results`: the result records of messages, with the samples that their orders name (LIS02-A2).
+
+ghost use Rattle.std.specs.Prelude.{◌≡◌, ◌^◌, ◌<◌, ◌≤◌, ◌++◌, ◌∷◌, List, Option, None, OnOk, true, length, IfOk};
+ghost use Rattle.lis_field.specs.declared.kinds.Kind.TheVariants as kinds;
+ghost use Rattle.lis_field.specs.Shape.{Repeats};
+ghost use Rattle.lis_engine.specs.Runs.{AreFresh, Stops};
+ghost use Rattle.lis_record_commands.specs.MessageRuns.{MessagesRan};
+ghost use Rattle.lis_record_commands.specs.Messages.{report_after};
+ghost use Rattle.lis_record_commands.specs.Results.{IsTelling, field_text, fields_behind, result_line, results_writes};
+ghost use Rattle.lis_record_commands.specs.Results.{told_fields};
+ghost use Rattle.lis_tree.specs.Tree.{MessageTree};
+
+use crate::held_text::HeldText;
+use crate::messages::{Closing, MessageMachine, report_behind, run_messages};
+use lis_engine::{Page, Part, SourceFor, Tell, ToolFault};
+use lis_field::Kind;
+use lis_message::{LentRecord, MessageFault};
+use lis_port::Sink;
+use lis_report::Ended;
+use std::alloc::{AllocError, Global};
+
+/// Reads record text and writes a line for each result record: field 3 of its order, and its own fields 3 to 7 and 9,
+/// each by its spelling. The status is 1 where a record is refused, or the end of the input comes before that of a
+/// message; the lines of the whole messages before it are written.
+///
+/// The source was never read, and neither it nor the sink has failed.
+pub fn run_results<R: SourceFor<W>, W: Sink>(
+    alloc: Global,
+    source: &mut R,
+    sink: &mut W,
+    reads: u32,
+) -> Ended
+    requires { AreFresh (R.seen source.old sink.old) }
+    ensures ran { MessagesRan results_writes (R.seen source.old sink.old) (R.seen source.new sink.new) result }
+    ensures stops { Stops true true (R.seen source.old sink.old) (R.seen source.new sink.new) reads result }
+    ensures status { IfOk result (λ report. report.status ≤ 1) }
+{
+    run_messages(alloc, Results::new(alloc), source, sink, reads)
+}
+
+/// What waits of a message that isn't whole: the lines of its results, and the sample that its last order names.
+#[derive(Drop)]
+struct Results {
+    lines: HeldText,
+    sample: HeldText,
+}
+
+impl Results {
+    /// No message was read.
+    fn new(alloc: Global) -> Self
+        ensures { IsTelling result.lines.bytes.items result.sample.bytes.items None }
+    {
+        Results {
+            lines: HeldText::new(alloc),
+            sample: HeldText::new(alloc),
+        }
+    }
+}
+
+impl MessageMachine for Results {
+    ghost writes = { results_writes };
+
+    ghost stands = { λ m messages left. IsTelling m.lines.bytes.items m.sample.bytes.items left };
+
+    #[inline(always)]
+    fn record(&mut self, entry: &LentRecord<'_>) -> Result<(), AllocError> {
+        match entry.kind() {
+            Kind::O => {
+                self.sample.clear();
+                self.sample.add_field(&entry.again(), 3)
+            }
+            Kind::R => add_result(&mut self.lines, self.sample.as_slice(), entry),
+            _ => Ok(()),
+        }
+    }
+
+    #[inline(never)]
+    fn message<W: Sink>(
+        &mut self,
+        sink: &mut W,
+        page: &mut Page,
+        written: u64,
+        _before: u64,
+    ) -> Result<u64, ToolFault> {
+        let result = Part::Text(self.lines.as_slice()).tell(sink, page, written);
+        self.lines.clear();
+        self.sample.clear();
+        result
+    }
+
+    fn closing(&self, before: u64, fault: Option<MessageFault>) -> Closing {
+        Closing {
+            report: report_behind(before, false, fault),
+            lines: (None, None),
+        }
+    }
+}
+
+/// Adds the line of a result under this sample.
+#[inline(always)]
+fn add_result(lines: &mut HeldText, sample: &[u8], entry: &LentRecord<'_>) -> Result<(), AllocError>
+    requires { entry.now.content.kind ≡ kinds.R }
+    ensures { OnOk result ((named : Option Repeats) → sample.now ≡ field_text entry.now.delimiters named →
+        lines.new.bytes.items ≡ lines.old.bytes.items ++ result_line entry.now.delimiters named entry.now.content) }
+{
+    lines.add(sample)?;
+    add_told(lines, entry)?;
+    lines.add_byte(b'\n')
+}
+
+/// Adds the fields of a result that are told, each behind a field delimiter.
+#[inline(always)]
+fn add_told(lines: &mut HeldText, entry: &LentRecord<'_>) -> Result<(), AllocError>
+    requires { entry.now.content.kind ≡ kinds.R }
+    ensures { OnOk result (lines.new.bytes.items ≡ lines.old.bytes.items
+        ++ fields_behind entry.now.delimiters entry.now.content told_fields) }
+{
+    let mut fields = entry.fields();
+    let _number = fields.next();
+    if !lines.add_fields(&mut fields, 5)? {
+        return add_each(lines, &entry.again());
+    }
+    let _nature = fields.next();
+    lines.add_next(entry.delimiters().field(), &mut fields)
+}
+
+/// The same, of fields of which some may be absent: one by one.
+#[inline(never)]
+fn add_each(lines: &mut HeldText, entry: &LentRecord<'_>) -> Result<(), AllocError>
+    requires { entry.now.content.kind ≡ kinds.R }
+    ensures { OnOk result (lines.new.bytes.items ≡ lines.old.bytes.items
+        ++ fields_behind entry.now.delimiters entry.now.content told_fields) }
+{
+    let mark = entry.delimiters().field();
+    let mut fields = entry.fields();
+    let _number = fields.next();
+    for _field in 0..5usize {
+        lines.add_next(mark, &mut fields)?;
+    }
+    let _nature = fields.next();
+    lines.add_next(mark, &mut fields)
+}

@@ -1,0 +1,3 @@
+-- How a command of the program ends, and how a refused record is told.
+pub mod Answers
+pub mod Codes

@@ -1,0 +1,7 @@
+//! How a command of the program ends: its report, and the record that it refused.
+#![tactic(auto)]
+
+mod refused;
+
+pub use lis_engine::{ToolFault, status_of};
+pub use refused::{Ended, Fate, Halt, Refused, Report, Turn, printed_reason};

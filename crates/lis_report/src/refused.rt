@@ -1,0 +1,87 @@
+//! A record that a command refused, and how it is told.
+
+ghost use Rattle.std.specs.Prelude.{◌≡◌};
+ghost use Rattle.lis_report.specs.Codes.{printed_reason, refused_line};
+
+use lis_engine::{Page, Part, Tell, ToolFault};
+use lis_field::{MessageFault, Reason, RecordFault};
+use lis_port::Sink;
+use std::fmt;
+
+/// A record that was refused, or an end of the input that came before the end of a message.
+#[derive(Debug, Clone, Copy, PartialEq, Eq)]
+pub struct Refused {
+    /// The number of its message, counted from 1: one more than the whole messages before it.
+    pub message: u64,
+    /// The place of the record in that message, and why.
+    pub fault: MessageFault,
+}
+
+/// How a command's run ended that read its input to the end, or to a record that is refused.
+pub type Report = lis_engine::Report<Refused>;
+
+/// How a command's run ended: with its report, or by a fault.
+pub type Ended = lis_engine::Ended<Refused>;
+
+/// How a command's run halts.
+pub type Halt = lis_engine::Halt<Refused>;
+
+/// What becomes of a command's run after a step.
+pub type Turn = lis_engine::Turn<Refused>;
+
+/// What becomes of a command's run after a step, or why it stopped there.
+pub type Fate = lis_engine::Fate<Refused>;
+
+impl fmt::Display for Refused {
+    fn fmt<W: fmt::Write>(&self, f: &mut fmt::Formatter<W>) -> fmt::Result {
+        let code = printed_reason(self.fault.reason);
+        write!(f, "refused {} {} {}", self.message, self.fault.place, code)
+    }
+}
+
+/// The line of a refusal.
+impl Tell for Refused {
+    ghost text = { λ it. refused_line it.message it.fault };
+
+    fn tell<W: Sink>(&self, sink: &mut W, page: &mut Page, written: u64) -> Result<u64, ToolFault> {
+        let parts = [
+            Part::Text(b"refused "),
+            Part::Number(self.message),
+            Part::Text(b" "),
+            Part::Number(self.fault.place),
+            Part::Text(b" "),
+            Part::Text(printed_reason(self.fault.reason).as_bytes()),
+            Part::Text(b"\n"),
+        ];
+        parts.as_slice().tell(sink, page, written)
+    }
+}
+
+/// The code of a reason, as it is printed: `G1 C1`, `G2` and so on.
+pub fn printed_reason(reason: Reason) -> &'static str
+    ensures { result.now ≡ printed_reason reason }
+{
+    match reason {
+        Reason::BadRecord(fault) => printed_record_fault(fault),
+        Reason::NotHeader => "G2",
+        Reason::NoParent(_) => "G3",
+        Reason::SecondHeader => "G4",
+        Reason::Unfinished => "G5",
+        Reason::RecordTooLong => "G6",
+        Reason::OutOfMemory => "G7",
+    }
+}
+
+/// The code of a text that is no record.
+fn printed_record_fault(fault: RecordFault) -> &'static str
+    ensures { result.now ≡ printed_reason (Reason.BadRecord fault) }
+{
+    match fault {
+        RecordFault::Empty => "G1 C1",
+        RecordFault::UnknownKind(_) => "G1 C2",
+        RecordFault::DelimiterPart(_) => "G1 C3",
+        RecordFault::Byte(_) => "G1 C4",
+        RecordFault::TooLong => "G1 C5",
+        RecordFault::OutOfMemory => "G1 C6",
+    }
+}

@@ -1,0 +1,31 @@
+use Rattle.std.proofs.Common.{[], ◌++◌, refl, ap, sym}
+use Rattle.lis_frame.specs.Stream.{signals_after, stream_with}
+use Rattle.lis_engine.specs.Outcome.{going}
+use Rattle.lis_run.specs.Show.{show, signal_lines}
+use Rattle.lis_run.proofs.ShowLaws.{shown_more}
+use Rattle.lis_link.proofs.HearingLaws.{stream_with-append}
+use Rattle.lis_run.proofs.show.ShowMachineRefused.feed.Goals as goal
+
+pub returns-in-Ok-clause-steps : goal.returns-in-Ok-clause-steps
+returns-in-Ok-clause-steps g c = λ past text stood few.
+    let bytes = c.args.bytes.now in
+    record {
+      more = signal_lines (signals_after g.row.N (stream_with [] past) bytes);
+      put = c.in-Ok.ensures.gathered (stream_with [] past) stood.1;
+      behind = (
+        shown_more g.row.N past bytes text stood.0,
+        rw (stream_with-append past bytes []) (c.in-Ok.ensures.stands (stream_with [] past) stood.1),
+      );
+    }
+
+pub returns-in-Err-clause-steps : goal.returns-in-Err-clause-steps
+returns-in-Err-clause-steps g c = λ past text stood few.
+    let bytes = c.args.bytes.now in
+    record {
+      outcome = going (show g.row.N (past ++ bytes));
+      meant = refl;
+      more = signal_lines (signals_after g.row.N (stream_with [] past) bytes);
+      rest = [];
+      joined = ap (λ l. l ++ []) (sym (shown_more g.row.N past bytes text stood.0));
+      put = c.in-Err.ensures.gathered (stream_with [] past) stood.1;
+    }

@@ -1,0 +1,143 @@
+//! Devices for tests: a line in memory on which the events of a script happen, with a store, and a log of all that was
+//! done on it.
+
+ghost use Rattle.std.specs.Prelude.{◌≡◌, ◌∷◌, [], None, Some, MatchOption, if◌then◌else◌, map};
+ghost use Rattle.uses.specs.Line.{GoesOn, keeping};
+ghost use Rattle.uses.specs.Scripted.{deed_of, log_of};
+
+use crate::line::{Event, Host, Line};
+use lis_text::LinkText;
+use std::alloc::Global;
+
+/// What was done on a line.
+#[derive(Debug, Drop)]
+pub enum Entry {
+    /// This event was waited for.
+    Waited(Event),
+    /// These bytes were sent.
+    Sent(Vec<u8>),
+    /// The timer was started, to run out after so many seconds.
+    Timed(u32),
+    /// The line was connected anew.
+    Reconnected,
+    /// This text was kept.
+    Kept(Vec<u8>),
+    /// This text was to be kept, and wasn't.
+    NotKept(Vec<u8>),
+}
+
+/// A line on which the events of a script happen, one after another, until it is closed. Its store keeps each text but
+/// those that a second script refuses. Its log is what was done, oldest first; if memory for that was refused, the log
+/// is lost from then on.
+#[derive(Drop)]
+pub struct ScriptedLine<'a> {
+    alloc: Global,
+    events: &'a [Event],
+    answers: &'a [bool],
+    entries: Vec<Entry>,
+    is_whole: bool,
+}
+
+impl<'a> ScriptedLine<'a> {
+    /// A line on which nothing was done. It takes no memory yet.
+    pub fn new(alloc: Global, events: &'a [Event]) -> Self
+        ensures { log_of result.is_whole result.entries.items ≡ Some [] }
+    {
+        ScriptedLine {
+            alloc,
+            events,
+            answers: &[],
+            entries: Vec::new(alloc),
+            is_whole: true,
+        }
+    }
+
+    /// The same line, whose store answers the next texts by these: whether it keeps them.
+    pub fn with_answers(self, answers: &'a [bool]) -> Self
+        ensures { log_of result.is_whole result.entries.items ≡ log_of self.entry.is_whole self.entry.entries.items }
+    {
+        ScriptedLine { answers, ..self }
+    }
+
+    /// The log; none if memory for it was refused.
+    pub fn log(&self) -> Option<&[Entry]>
+        ensures { MatchOption result (log_of self.now.is_whole self.now.entries.items ≡ None)
+            (λ log. log_of self.now.is_whole self.now.entries.items ≡ Some (map deed_of log.now)) }
+    {
+        if self.is_whole {
+            Some(self.entries.as_slice())
+        } else {
+            None
+        }
+    }
+
+    /// Adds an entry to the log.
+    fn add(&mut self, entry: Entry)
+        ensures { GoesOn (log_of self.old.is_whole self.old.entries.items)
+            (log_of self.new.is_whole self.new.entries.items) (deed_of entry ∷ []) }
+    {
+        if self.is_whole {
+            self.is_whole = self.entries.push(entry).is_ok();
+        }
+    }
+}
+
+impl Line for ScriptedLine<'_> {
+    ghost deeds = { λ line. log_of line.is_whole line.entries.items };
+
+    fn send(&mut self, bytes: &[u8]) {
+        match Vec::from_slice(self.alloc, bytes) {
+            Ok(bytes) => self.add(Entry::Sent(bytes)),
+            Err(_) => self.is_whole = false,
+        }
+    }
+
+    fn start_timer(&mut self, seconds: u32) {
+        self.add(Entry::Timed(seconds));
+    }
+
+    fn reconnect(&mut self) {
+        self.add(Entry::Reconnected);
+    }
+
+    fn wait(&mut self) -> Event {
+        let event = match self.events.split_first() {
+            Some((event, rest)) => {
+                self.events = rest;
+                *event
+            }
+            None => Event::Closed,
+        };
+        self.add(Entry::Waited(event));
+        event
+    }
+}
+
+impl Host for ScriptedLine<'_> {
+    fn keep(&mut self, text: &LinkText) -> bool {
+        let is_kept = match self.answers.split_first() {
+            Some((answer, rest)) => {
+                self.answers = rest;
+                *answer
+            }
+            None => true,
+        };
+        let Ok(text) = Vec::from_slice(self.alloc, text.as_slice()) else {
+            self.is_whole = false;
+            return is_kept;
+        };
+        self.add(kept_entry(text, is_kept));
+        is_kept
+    }
+}
+
+/// The entry of a text that was to be kept.
+fn kept_entry(text: Vec<u8>, is_kept: bool) -> Entry
+    ensures { deed_of result ≡ keeping text.items is_kept }
+{
+    if is_kept {
+        Entry::Kept(text)
+    } else {
+        Entry::NotKept(text)
+    }
+}
