@@ -42,6 +42,7 @@ class Kills(HostTest):
         host = Host(store, fault="commit")
         one = sending(host.port, "--analyzers", "20", "--made", "1000000", "--tries", "0", "--log", log)
         time.sleep(hosts.size("failing"))
+        wait_for(lambda: len(acknowledged(log)) > 20, 60)
         one.terminate()
         one.communicate()
         status, found, done = host.stop(), Found(store), len(acknowledged(log))
