@@ -223,14 +223,15 @@ module _ (d : DelimiterBytes) (inside digits : List ℕ) (letter : ℕ) (whole :
   no_letter_meant none is = let add = λ (s : Sym). s ∷ [] in
       escape_of-letter d inside digits letter whole none ∙ ap (option_map add) is
 
-  pub pairs_meant : (symbol : Sym) (rest : List ℕ) → length digits ≢ 0 → letter ≡ 88 → ArePairs digits
-      → digit_symbols digits ≡ symbol ∷ digit_symbols rest → escape_of d inside ≡ Some (symbol ∷ digit_symbols rest)
-  pairs_meant symbol rest some is pairs first = escape_of-digits d inside digits letter whole some is
-      ∙ raw_of_pairs digits pairs ∙ ap (λ (l : Symbols). Some l) first
-
   pub others_meant : length digits ≢ 0 → letter ≡ 88 → is_some (raw_symbols (decode_of digits)) ≡ false
       → escape_of d inside ≡ None
   others_meant some is none = escape_of-digits d inside digits letter whole some is ∙ raw_of_others digits none
+
+-- X and pairs of digits
+pub meant_pairs : (d : DelimiterBytes) (letter : ℕ) (digits : List ℕ) → letter ≡ 88 → length digits ≢ 0
+    → ArePairs digits → escape_of d (letter ∷ digits) ≡ Some (digit_symbols digits)
+meant_pairs d letter digits is some pairs =
+    escape_of-digits d (letter ∷ digits) digits letter refl some is ∙ raw_of_pairs digits pairs
 
 -- ---- where the byte is found nowhere
 

@@ -84,6 +84,7 @@ pub fn first_pair(digits: &[u8]) -> Option<(u8, &[u8])>
 }
 
 /// The first symbol of what an escape means, and the digits of those behind it; none where this is no escape.
+#[tactic(auto, using(crate::proofs::Places::meant_pairs))]
 pub fn escape_meaning(delimiters: Delimiters, inside: &[u8]) -> Option<(Sym, &[u8])>
     ensures { MatchOption result (escape_of delimiters inside.now ≡ None)
         (λ found. (escape_of delimiters inside.now ≡ Some (found.0 ∷ digit_symbols found.1.now))

@@ -13,7 +13,7 @@ loop-delimiter-init c =
       fields =
           ap (λ (r : RecordContent). r.fields ++ fields_of c.args.delimiters c.args.text.now) content;
       ends = ([], refl);
-      padded = rw c.field-2.ensures.byte at c.padded_end-end.ensures;
+      padded = λ last ends few. cc (c.padded_end-end.ensures last ends few);
     }
 
 pub push_next-requires : goal.push_next-requires

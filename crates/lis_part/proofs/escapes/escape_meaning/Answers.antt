@@ -1,9 +1,8 @@
+-- What each letter means, by the lemmas of Places; pairs of digits by meant_pairs, which the function names.
 use Rattle.std.proofs.Common.{sym, ◌∙◌, length}
 use Rattle.std.proofs.lemmas.Bool.{eqb-true}
 use Rattle.lis_field.proofs.FirstFaults.{differ}
-use Rattle.lis_field.specs.declared.symbols.Sym.TheVariants.{Raw}
 use Rattle.lis_part.proofs.Places.{escape_of-empty, escape_of-other, letter_meant, no_letter_meant, others_meant}
-use Rattle.lis_part.proofs.Places.{pairs_meant}
 use Rattle.lis_part.proofs.escapes.escape_meaning.Goals as goal
 
 pub returns-in_default : goal.returns-in_default
@@ -33,13 +32,3 @@ returns-then-not-are_pairs c =
     others_meant c.args.delimiters c.args.inside.now c.in-Some.digits.now c.in-Some.letter.now c.in-Some.ensures.cases.0
     (differ (length c.in-Some.digits.now) 0 (sym c.is_empty.ensures ∙ c.if-is_empty.false)) c.if-letter-ne88.false
     (sym c.are_pairs.ensures ∙ c.if-not-are_pairs.true)
-
-pub returns-in-Some-first_pair : goal.returns-in-Some-first_pair
-returns-in-Some-first_pair c = (
-  pairs_meant c.args.delimiters c.args.inside.now c.in-Some.digits.now c.in-Some.letter.now c.in-Some.ensures.cases.0
-      (Raw c.in-Some-first_pair.byte) c.in-Some-first_pair.rest.now
-      (differ (length c.in-Some.digits.now) 0 (sym c.is_empty.ensures ∙ c.if-is_empty.false)) c.if-letter-ne88.false
-      (sym c.are_pairs.ensures ∙ c.if-not-are_pairs.false)
-      c.in-Some-first_pair.ensures.0,
-  c.in-Some-first_pair.ensures.1,
-)
