@@ -2,7 +2,7 @@
 use Rattle.std.proofs.Common.{◌≡◌, ◌≢◌, ℕ, suc, ◌+◌, ◌-◌, ◌<◌, ◌≤◌, List, [], ◌∷◌, ◌++◌, length, map, take, drop}
 use Rattle.std.proofs.Common.{None, Some, refl, sym, ap, ◌∙◌, arith, append_assoc, append-nil, length-append, true}
 use Rattle.std.proofs.Common.{false, ◌==◌, Option, unwrap_or, eq-eqb, get_or, slice_get}
-use Rattle.std.specs.List.{All, flat_map, position}
+use Rattle.std.specs.List.{All, drop-map, flat_map, position}
 use Rattle.std.proofs.lemmas.Bool.Decides.{nat_tests}
 use Rattle.std.proofs.lemmas.Iterator.Adapters.{position_from-zero}
 use Rattle.lis_field.specs.Delimiters.{is_punctuation, DelimiterBytes, IsDelimiters}
@@ -21,6 +21,7 @@ use Rattle.lis_field.specs.Relation.{Lacks}
 use Rattle.lis_part.proofs.FieldTexts.{plain_read, trailing-none}
 use Rattle.lis_part.proofs.Joins.{parts_of-apart, parts_of-some}
 use Rattle.lis_part.proofs.Places.{parts_of-first}
+use Rattle.lis_record.specs.inside.Marks.{SplitsParts}
 use Rattle.lis_record.specs.inside.Respelling.{respelled}
 use Rattle.lis_record.proofs.Respelled.{fields_respelled, respelled-mark}
 
@@ -182,3 +183,12 @@ fields_added d good all taken count whole =
     apart : (text : List ℕ) → All (Lacks d.field) (parts_behind d.field text)
     apart [] = All-nil (Lacks d.field)
     apart (byte ∷ bytes) = parts_of-apart d.field bytes
+
+-- what is added for so many fields, and the fields that are left
+pub fields_taken : (d : DelimiterBytes) → IsDelimiters d → (old new all taken rest : List ℕ) (count : ℕ)
+    → SplitsParts d.field count all taken rest → new ≡ old ++ d.field ∷ respelled d (drop 1 taken)
+    → (new ≡ old ++ more_fields d (take count (fields_of d all))) × (fields_of d rest ≡ drop count (fields_of d all))
+fields_taken d good old new all taken rest count split is = (
+  is ∙ ap (λ (l : List ℕ). old ++ l) (fields_added d good all (drop 1 taken) count split.1),
+  ap (map (repeats_of d)) split.2 ∙ sym (drop-map (repeats_of d) count (parts_behind d.field all)),
+)

@@ -1,7 +1,13 @@
+-- What comes before the first field delimiter holds none, by Lacks-first.
+use Rattle.std.proofs.Common.{◌≡◌, ◌∷◌, ℕ, List}
+use Rattle.lis_field.specs.Relation.{Lacks}
+use Rattle.lis_part.specs.inside.FrontReading.{parts_behind, parts_of}
 use Rattle.lis_part.proofs.FieldTexts.{Lacks-first}
 use Rattle.lis_record.proofs.lent.LentFields.next.Goals as goal
 
+first_lacks : (mark byte : ℕ) (text part rest : List ℕ) → parts_of byte text ≡ part ∷ parts_behind byte rest
+    → byte ≡ mark → Lacks mark part
+first_lacks mark byte text part rest parts is = rw is at (Lacks-first byte text part rest parts)
+
 pub of_text-requires : goal.of_text-requires
-of_text-requires c =
-    rw c.field.ensures.byte at (Lacks-first c.field.result c.in-Some.behind.now c.first_marked-marks.result.0.now
-    c.first_marked-marks.result.1.now c.first_marked-marks.ensures.parts)
+of_text-requires c = search first_lacks
