@@ -1,3 +1,4 @@
+-- The bytes that are left are the same before and after a step, by the cases of Steps.
 use Rattle.std.proofs.Common.{sym, ◌∙◌, length, refl}
 use Rattle.std.proofs.lemmas.Bool.{eqb-true}
 use Rattle.lis_spelling.proofs.Steps.{component_case, end_case, field_case, nothing_left, repeat_case, symbols_case}
@@ -17,7 +18,7 @@ returns-in-Some-clause-same c =
     c.symbols-self-inside.result.now c.in-Some.component.now i.components.now c.in-Some.components.now
     i.repeats.now i.fields.now i.end.now
     c.self.view_is (eqb-true (length i.symbols.now) 0 (sym c.is_empty.ensures ∙ c.if-not-is_empty.false))
-    c.in-Some.ensures.cases.0 c.symbols-self-inside.ensures.value (rw c.component.ensures at c.push.ensures)
+    c.in-Some.ensures.cases.0 c.symbols-self-inside.ensures.value (cc)
 
 pub returns-in-Some-split_first-clause-same : goal.returns-in-Some-split_first-clause-same
 returns-in-Some-split_first-clause-same c =
@@ -27,7 +28,7 @@ returns-in-Some-split_first-clause-same c =
     i.repeats.now c.in-Some-split_first.repeats.now i.fields.now i.end.now
     c.self.view_is (eqb-true (length i.symbols.now) 0 (sym c.is_empty.ensures ∙ c.if-not-is_empty.false))
     c.in_default.ensures.cases c.in-Some-split_first.ensures.cases.0 (c.open_repeat.ensures i.delimiters)
-    (rw c.repeat.ensures at c.push-in-Some-split_first.ensures)
+    (cc)
 
 pub returns-in-Some-split_first-2-clause-same : goal.returns-in-Some-split_first-2-clause-same
 returns-in-Some-split_first-2-clause-same c =
@@ -37,7 +38,7 @@ returns-in-Some-split_first-2-clause-same c =
     c.in-Some-split_first-2.field.now i.fields.now c.in-Some-split_first-2.fields.now i.end.now
     c.self.view_is (eqb-true (length i.symbols.now) 0 (sym c.is_empty.ensures ∙ c.if-not-is_empty.false))
     c.in_default.ensures.cases c.in_default-split_first.ensures.cases c.in-Some-split_first-2.ensures.cases.0
-    (c.open_field.ensures i.delimiters) (rw c.field.ensures.byte at c.push-in-Some-split_first-2.ensures)
+    (c.open_field.ensures i.delimiters) (cc)
 
 pub returns-in-Some-split_first-3-clause-same : goal.returns-in-Some-split_first-3-clause-same
 returns-in-Some-split_first-3-clause-same c =
