@@ -1,22 +1,22 @@
-use Rattle.std.proofs.Common.{sym, ◌∙◌, refl}
+-- Four bytes are delimiters exactly if fault_of finds nothing, by DelimiterFaults.
+use Rattle.std.proofs.Common.{refl}
 use Rattle.lis_field.specs.Delimiters.{delimiters_of}
-use Rattle.lis_field.proofs.FirstFaults.{some_none}
 use Rattle.lis_field.proofs.DelimiterFaults.{IsDelimiters-delimiters_of, delimiter_fault-IsDelimiters}
 use Rattle.lis_field.proofs.delimiting.Delimiters.new.Goals as goal
 
 pub returns-in-Some-clause-only : goal.returns-in-Some-clause-only
 returns-in-Some-clause-only c = λ good.
     let a = c.args in
-    absurd (some_none c.in-Some.fault c.fault_of.result c.in-Some.is
-    (c.fault_of.ensures ∙ delimiter_fault-IsDelimiters (delimiters_of a.field a.repeat a.component a.escape) good))
+    let none = delimiter_fault-IsDelimiters (delimiters_of a.field a.repeat a.component a.escape) good in
+    cc
 
 pub invariant_of-result : goal.invariant_of-result
-invariant_of-result c = let a = c.args in IsDelimiters-delimiters_of a.field a.repeat a.component a.escape
-    (sym c.fault_of.ensures ∙ c.in_default.is)
+invariant_of-result c =
+    let a = c.args in
+    IsDelimiters-delimiters_of a.field a.repeat a.component a.escape (cc)
 
 pub returns-clause-found : goal.returns-clause-found
 returns-clause-found c = let a = c.args in (
   refl,
-  IsDelimiters-delimiters_of a.field a.repeat a.component a.escape
-      (sym c.fault_of.ensures ∙ c.in_default.is),
+  IsDelimiters-delimiters_of a.field a.repeat a.component a.escape (cc),
 )
