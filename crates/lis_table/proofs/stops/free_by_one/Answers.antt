@@ -7,5 +7,5 @@ pub loop-count-preserved : goal.loop-count-preserved
 loop-count-preserved c = (
   omega arith,
   free-more (stops c.args.delimiters c.args.delimiters.escape) c.args.text.now c.loop-count.count
-      c.loop-count-test.true (cc (c.is_stop.ensures, c.if-is_stop.false)) c.loop-count.invariant.1,
+      c.loop-count-test.true (cc) c.loop-count.invariant.1,
 )
