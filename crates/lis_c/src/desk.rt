@@ -172,6 +172,8 @@ impl ReceiverDesk {
     }
 
     /// Tells a step. A text that it hands out is kept; the receiver has the room of the one before.
+    // Within its callers the step is not copied.
+    #[inline(always)]
     pub(crate) fn tell(&mut self, step: Step, out: &mut LisStep)
         ensures told { TellsStep step self.old.text out.new self.new.text }
         ensures receiver { (r : ReceiverState) → Receives self.old.receiver r → Receives self.new.receiver r }
