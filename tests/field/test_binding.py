@@ -35,11 +35,17 @@ from lislink import (
     messages,
     records,
 )
-from tests import ROOT
+from tests import ROOT, kit
 from tests.field.lab import FieldTest
 
 FIRST = bytes.fromhex("0231487c5c5e260d0345350d0a")
 PYTHON = os.path.join(ROOT, "python")
+
+
+def printed(words, **more):
+    """A run of a command from the root of the file system, without the library and the package of this checkout."""
+    how = {"cwd": "/", "env": kit.without_library(**more), "capture_output": True, "text": True, "check": False}
+    return subprocess.run(words, **how)
 
 
 def rejected(test, name, call, status):
@@ -222,6 +228,10 @@ class Binding(FieldTest):
             self.same(
                 "nothing was heard", (receiver.is_open, receiver.waiting, list(receiver.hear(b""))), (False, 0, [])
             )
+
+    def test_closed_handles(self):
+        with Receiver() as receiver, Sender() as sender:
+            pass
         self.raises("a closed receiver", ValueError, lambda: receiver.hear(b"\x05"))
         self.raises("a closed sender", ValueError, sender.timer)
 
@@ -315,55 +325,35 @@ class Binding(FieldTest):
         """The wheel is built without a network, installed in a folder of its own, and found from anywhere."""
         if importlib.util.find_spec("pip") is None:
             self.skipTest("the wheel, since there is no pip")
-        folder = self.path("wheel")
-        done = subprocess.run(
-            [sys.executable, "-m", "pip", "wheel", "--quiet", "--no-index", "--no-deps", "-w", folder, PYTHON],
-            capture_output=True,
-            text=True,
-            check=False,
-        )
-        wheels = glob.glob(os.path.join(folder, "*.whl"))
-        if not self.check(len(wheels) == 1, "the wheel is built offline", done.stderr[-1500:]):
+        python = self.installed()
+        if not python:
             return
-        home = self.path("home")
-        venv.create(home, with_pip=False, symlinks=True)
-        python = os.path.join(home, "bin", "python")
-        target = sysconfig.get_path(
-            "purelib",
-            "venv" if "venv" in sysconfig.get_scheme_names() else "posix_prefix",
-            vars={"base": home, "platbase": home},
-        )
-        done = subprocess.run(
-            [sys.executable, "-m", "pip", "install", "--quiet", "--no-index", "--no-deps", "--target", target, *wheels],
-            capture_output=True,
-            text=True,
-            check=False,
-        )
-        self.same("the wheel is installed", (done.returncode, done.stderr if done.returncode else ""), (0, ""))
-        clean = {name: value for name, value in os.environ.items() if name not in ("LISLINK_LIBRARY", "PYTHONPATH")}
         sample = os.path.join(ROOT, "samples", "session.capture")
-        done = subprocess.run(
-            [python, "-m", "lislink", "ladder", sample], cwd="/", env=clean, capture_output=True, text=True, check=False
-        )
+        done = printed([python, "-m", "lislink", "ladder", sample])
         self.has("the installed package finds its library", done.stdout + done.stderr, "texts 2, differences 0")
-        done = subprocess.run(
-            [python, "-c", "import lislink; print(lislink.__version__, lislink.__doc__ != '')"],
-            cwd="/",
-            env=clean,
-            capture_output=True,
-            text=True,
-            check=False,
-        )
+        done = printed([python, "-c", "import lislink; print(lislink.__version__, lislink.__doc__ != '')"])
         self.same("the version", done.stdout, "0.1.0 True\n")
-        lost = subprocess.run(
+        lost = printed(
             [sys.executable, "-c", "import lislink; lislink.Scanner()"],
-            cwd="/",
-            capture_output=True,
-            text=True,
-            env={**clean, "PYTHONPATH": os.path.join(PYTHON, "src"), "LISLINK_LIBRARY": "/nowhere.so"},
-            check=False,
+            PYTHONPATH=os.path.join(PYTHON, "src"),
+            LISLINK_LIBRARY="/nowhere.so",
         )
         self.has("a library that isn't there", lost.stderr, "make library")
+
+    def installed(self):
+        """A Python in a folder of its own, in which the wheel is installed; None if it can't be built."""
+        folder, home = self.path("wheel"), self.path("home")
+        pip = [sys.executable, "-m", "pip"]
+        done = printed([*pip, "wheel", "--quiet", "--no-index", "--no-deps", "-w", folder, PYTHON], **os.environ)
+        wheels = glob.glob(os.path.join(folder, "*.whl"))
+        if not self.check(len(wheels) == 1, "the wheel is built offline", done.stderr[-1500:]):
+            return None
+        venv.create(home, with_pip=False, symlinks=True)
+        scheme = "venv" if "venv" in sysconfig.get_scheme_names() else "posix_prefix"
+        target = sysconfig.get_path("purelib", scheme, vars={"base": home, "platbase": home})
+        done = printed([*pip, "install", "-q", "--no-index", "--no-deps", "--target", target, *wheels], **os.environ)
+        self.same("the wheel is installed", (done.returncode, done.stderr if done.returncode else ""), (0, ""))
+        return os.path.join(home, "bin", "python")
 
     def test_mypy(self):
         """The type hints, where mypy is."""

@@ -54,9 +54,6 @@ def written(pieces):
     yield "hex", "".join(
         f"{stamp} {'RX' if mark == '>' else 'TX'}: {data.hex(' ')}\n" for mark, stamp, data in rows
     ).encode()
-    yield "python", "".join(
-        f"{stamp} {'<-' if mark == '>' else '->'} {data!r}\n" for mark, stamp, data in rows
-    ).encode()
     yield "strace", "".join(
         f"12 {stamp} {'read' if mark == '>' else 'write'}(5, \""
         f"{''.join(f'{chr(92)}x{byte:02x}' for byte in data)}\", 4096)"
@@ -67,12 +64,8 @@ def written(pieces):
         f"17951661{at:02}.5\t{51234 if mark == '>' else 4001}\t{data.hex()}\n"
         for at, (mark, _, data) in enumerate(rows)
     ).encode()
-    yield "eltima", "".join(
-        f"[20/11/2026 09:15:02] {'Read' if mark == '>' else 'Written'} data (COM3)\n"
-        + "".join(f"\t{data[at:at + 16].hex(' '):50} {shown(data[at:at + 16])}\n" for at in range(0, len(data), 16))
-        for mark, _, data in rows
-    ).encode()
     yield from written_in_rows(rows)
+    yield from written_otherwise(rows)
     yield "json", "".join(
         json.dumps({"dir": "rx" if mark == ">" else "tx", "data": data.hex()}) + "\n" for mark, _, data in rows
     ).encode()
@@ -113,12 +106,10 @@ def written_in_rows(rows):
         f"{data.hex(' ').upper()} \n"
         for at, (mark, _, data) in enumerate(rows)
     ).encode()
-    yield "slsnif", "".join(
-        f"{'Device' if mark == '>' else 'Host  '} --> "
-        + "".join(f"{chr(byte) if 32 < byte < 127 else '.'}({byte:03})" for byte in data)
-        + "\n"
-        for mark, _, data in rows
-    ).encode()
+
+
+def written_otherwise(rows):
+    """The same as code of C, Python and YAML, and with a word for each side."""
     yield "C arrays", "".join(
         f"char peer{0 if mark == '>' else 1}_{at}[] = {{ /* Packet {at} */\n"
         + ",\n".join(", ".join(f"0x{byte:02x}" for byte in data[cut : cut + 8]) for cut in range(0, len(data), 8))
@@ -134,6 +125,54 @@ def written_in_rows(rows):
         f"{stamp} {'recv' if mark == '>' else 'send'}: \"{''.join(f'{chr(92)}x{byte:02x}' for byte in data)}\"\n"
         for mark, stamp, data in rows
     ).encode()
+    yield "eltima", "".join(
+        f"[20/11/2026 09:15:02] {'Read' if mark == '>' else 'Written'} data (COM3)\n"
+        + "".join(f"\t{data[at:at + 16].hex(' '):50} {shown(data[at:at + 16])}\n" for at in range(0, len(data), 16))
+        for mark, _, data in rows
+    ).encode()
+    yield "python", "".join(
+        f"{stamp} {'<-' if mark == '>' else '->'} {data!r}\n" for mark, stamp, data in rows
+    ).encode()
+    yield "slsnif", "".join(
+        f"{'Device' if mark == '>' else 'Host  '} --> "
+        + "".join(f"{chr(byte) if 32 < byte < 127 else '.'}({byte:03})" for byte in data)
+        + "\n"
+        for mark, _, data in rows
+    ).encode()
+
+
+def errors():
+    """What is no log: its name, its bytes, and words of the error."""
+    return (
+    ("nothing", b"", "empty"),
+    ("blanks", b"\n \n", "empty"),
+    ("a letter", b"Dear Sir,\nthe line is down.\n", "no line"),
+    ("ASCII of Follow", b"Follow: tcp,ascii\nFilter: tcp.stream eq 0\n1\n.\n", "lost the control bytes"),
+    ("socat -v alone", b"> 2026/11/20 09:15:02.000012  length=1 from=0 to=0\n.--\n", "use socat -x"),
+    ("a block that lacks a byte", b"> 2026/11/20 09:15:02.000012  length=2 from=0 to=1\n 05\n", "lacks"),
+    ("a cut strace", b'1 read(5, "\\5", 4096) = 1\n1 read(5, "\\0021H|"..., 4096) = 40\n', "-s 4096"),
+    ("a row that is missing", b"00000000  05 02 31\n00000010  48\n", "row is missing"),
+    (
+        "two descriptors",
+        b'1 read(5, "\\5", 9) = 1\n1 write(5, "\\6", 1) = 1\n1 read(6, "\\5", 9) = 1\n',
+        "choose one by --fd",
+    ),
+    (
+        "a Portmon line that is cut",
+        b"1\t0.1\ta.exe\tIRP_MJ_READ\tSerial0\tSUCCESS\tLength 3: 05 02\n",
+        "Portmon",
+    ),
+    ("an empty pcap", packets.pcap([]), "no TCP connection"),
+    (
+        "a capture of a bus",
+        packets.pcap(packets.segments(timed_session())).replace(
+            b"\xff\xff\0\0\1\0\0\0", b"\xff\xff\0\0\xf9\0\0\0"
+        ),
+        "type 249",
+    ),
+    ("replies alone", b"RX: 06\nRX: 06\n", "replies alone"),
+    ("a capture", b"> 05\n", "already"),
+    )
 
 
 class Logs(FieldTest):
@@ -163,7 +202,7 @@ class Logs(FieldTest):
         self.has("both sides in one stream, not told", lislab("capture", mixed).error, "--mixed takes them apart")
 
     def test_packets(self):
-        """Packet files in each form, and what a network does."""
+        """Packet files in each form."""
         wanted = bytes_of(SESSION).decode()
         session = timed_session()
         for name, data in packets.variants(session):
@@ -176,6 +215,11 @@ class Logs(FieldTest):
             self.check(
                 len(times) == 10 and times[0].startswith("2026-11-20T09:15:02.00001"), f"{name}: times", str(times[:2])
             )
+
+    def test_packets_of_a_network(self):
+        """What a network does to packets."""
+        wanted = bytes_of(SESSION).decode()
+        session = timed_session()
         plain = packets.segments(session)
         gap = self.path("gap.pcap", packets.pcap(plain[:5] + plain[6:]))
         self.has("a packet is missing", lislab("capture", gap).error, "bytes are missing")
@@ -193,6 +237,10 @@ class Logs(FieldTest):
         ran = lislab("capture", twice)
         self.same("a second connection follows", ran.text, "capture 2\n" + wanted + "R\n" + wanted)
         self.same("the second connection alone", lislab("capture", twice, "--stream", "2").text, wanted)
+
+    def test_packets_of_other_connections(self):
+        wanted = bytes_of(SESSION).decode()
+        plain = packets.segments(timed_session())
         noise = random.Random(3)
         other = [
             (
@@ -231,36 +279,7 @@ class Logs(FieldTest):
 
     def test_errors(self):
         """What is no log is an error, and never an empty capture."""
-        for name, data, words in (
-            ("nothing", b"", "empty"),
-            ("blanks", b"\n \n", "empty"),
-            ("a letter", b"Dear Sir,\nthe line is down.\n", "no line"),
-            ("ASCII of Follow", b"Follow: tcp,ascii\nFilter: tcp.stream eq 0\n1\n.\n", "lost the control bytes"),
-            ("socat -v alone", b"> 2026/11/20 09:15:02.000012  length=1 from=0 to=0\n.--\n", "use socat -x"),
-            ("a block that lacks a byte", b"> 2026/11/20 09:15:02.000012  length=2 from=0 to=1\n 05\n", "lacks"),
-            ("a cut strace", b'1 read(5, "\\5", 4096) = 1\n1 read(5, "\\0021H|"..., 4096) = 40\n', "-s 4096"),
-            ("a row that is missing", b"00000000  05 02 31\n00000010  48\n", "row is missing"),
-            (
-                "two descriptors",
-                b'1 read(5, "\\5", 9) = 1\n1 write(5, "\\6", 1) = 1\n1 read(6, "\\5", 9) = 1\n',
-                "choose one by --fd",
-            ),
-            (
-                "a Portmon line that is cut",
-                b"1\t0.1\ta.exe\tIRP_MJ_READ\tSerial0\tSUCCESS\tLength 3: 05 02\n",
-                "Portmon",
-            ),
-            ("an empty pcap", packets.pcap([]), "no TCP connection"),
-            (
-                "a capture of a bus",
-                packets.pcap(packets.segments(timed_session())).replace(
-                    b"\xff\xff\0\0\1\0\0\0", b"\xff\xff\0\0\xf9\0\0\0"
-                ),
-                "type 249",
-            ),
-            ("replies alone", b"RX: 06\nRX: 06\n", "replies alone"),
-            ("a capture", b"> 05\n", "already"),
-        ):
+        for name, data, words in errors():
             ran = lislab("capture", self.path("log", data))
             self.same(f"{name}: status", ran.status, 3)
             self.same(f"{name}: no capture", ran.output, b"")

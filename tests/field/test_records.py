@@ -59,6 +59,9 @@ class Records(FieldTest):
         changed(
             self, "NUL", head + b"P|1\0\0\rL|1\r", ["--nul"], head + b"P|1\rL|1\r", ["2: NUL was left out, 2 times"]
         )
+
+    def test_normalize_records(self):
+        head = b"H|\\^&\r"
         changed(
             self,
             "blank lines",
@@ -92,6 +95,9 @@ class Records(FieldTest):
             b"H|~^\\|||x^y~z\rL|1\r",
             ["1: HL7's delimiters |^~\\& became repeat ~, component ^, escape \\: the header has H|~^\\"],
         )
+
+    def test_normalize_explained(self):
+        head = b"H|\\^&\r"
         link = b"\x05\x021H|\\^&\rP|1\x17A1\r\n\x022|x\r\x03C4\r\n\x023L|1\r\x0300\r\n\x04"
         ran = lislab("normalize", "--unframe", data=link)
         self.same("normalize: frames", ran.output, head + b"P|1|x\rL|1\r")
@@ -142,6 +148,8 @@ class Records(FieldTest):
         self.same("table: TSV", (len(tab), tab[1].split("\t")[3]), (2, 'a\\tb\\r\\n"&'))
         told = [json.loads(line) for line in lislab("table", "--format", "jsonl", data=escaped + GOOD).lines]
         self.same("table: JSON lines", [one["value"] for one in told], ['a|b\r\n"&', "5.4"])
+
+    def test_table_of_bad_messages(self):
         ran, rows = table(GOOD + BAD + GOOD)
         self.same(
             "table: a bad message hides no later one",
@@ -159,6 +167,8 @@ class Records(FieldTest):
         ran, rows = table(gbk, "--encoding", "gbk")
         self.same("table: an encoding of choice", (rows[1][1], ran.status), ("病人", 0))
         self.same("table: no such encoding", lislab("table", "--encoding", "klingon", data=GOOD).status, 2)
+
+    def test_table_as_the_program(self):
         with open(os.path.join(SAMPLES, "panel.records"), "rb") as file:
             panel = file.read()
         mine = [
@@ -203,6 +213,8 @@ class Records(FieldTest):
         data = json.loads(message.to_json())
         self.same("message: JSON", data["patients"][0]["orders"][0]["results"][0]["value"], "5.4")
         self.same("message: no finding", message.findings(), [])
+
+    def test_findings(self):
         noted = b"H|\\^&\rC|1|I|a\rP|1\rC|1|I|b\rC|3|I|c\rQ|1|^S\rM|1\rP|3\rO|1|S\rR|1|t|1\rC|1|I|d\rL|2\r"
         (rows,) = messages([noted])
         found = [(one.number, one.letter, one.position) for one in Message(rows).findings()]
