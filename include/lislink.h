@@ -30,10 +30,10 @@
  *     again. A computer sends no reply if it last saw the line empty more than two thirds of LIS_SECONDS_REPLY ago,
  *     which is 10 seconds: it calls lis_receiver_restart.
  *
- * Memory. A scanner, lis_frame_write and the calls of records take none. A sender takes it in lis_sender_add_text
- * alone, a receiver for the text that it holds, a reader for the bytes of one record, and a writer for the record that
- * is begun and the texts of those that are put; lis_X_end gives it back. If there is none, the call says so, and what
- * it left is stated with it. */
+ * Memory. A scanner, the calls that write a frame, and the calls of records take none. A sender takes it in
+ * lis_sender_add_text alone, a receiver for the text that it holds, a reader for the bytes of one record, and a writer
+ * for the record that is begun and the texts of those that are put; for long frames lis_X_set_limit takes it.
+ * lis_X_end gives it back. If there is none, the call says so, and what it left is stated with it. */
 #ifndef LISLINK_H
 #define LISLINK_H
 
@@ -76,6 +76,8 @@ enum lis_seconds {
 enum lis_limit {
     LIS_LIMIT_FRAME_TEXT = 240,       /* bytes of a frame's text */
     LIS_LIMIT_FRAME_BYTES = 247,      /* bytes of a frame */
+    LIS_LIMIT_LONG_FRAME_TEXT = 63993,   /* bytes of a frame's text, with the long limit (lis_X_set_limit) */
+    LIS_LIMIT_LONG_FRAME_BYTES = 64000,  /* bytes of a frame, with the long limit */
     LIS_LIMIT_TEXTS = 65536,          /* texts of a session */
     LIS_LIMIT_TEXT_BYTES = 1048576,   /* bytes of a text */
     LIS_LIMIT_RECORD_BYTES = 65536    /* bytes of a record without its CR */
@@ -122,7 +124,8 @@ LIS_ENUM(lis_signal_kind) {
     LIS_SIGNAL_ENQ = 1,
     LIS_SIGNAL_EOT = 2,
     LIS_SIGNAL_FRAME = 3,
-    LIS_SIGNAL_BAD_FRAME = 4
+    LIS_SIGNAL_BAD_FRAME = 4,
+    LIS_SIGNAL_LONG_FRAME = 5   /* a frame whose text has over 240 bytes; only after lis_scanner_set_limit */
 } LIS_ENUM_END(lis_signal_kind);
 
 /* What is wrong with a frame, the first that applies. */
@@ -135,8 +138,9 @@ LIS_ENUM(lis_fault) {
     LIS_FAULT_SUM = 5           /* the checksum is another */
 } LIS_ENUM_END(lis_fault);
 
-/* A frame has a number, whether it is the last of its message, and the first `len` bytes of `text`. A bad frame has a
- * fault and, for LIS_FAULT_FORBIDDEN, the byte's place in the text. All else is 0. */
+/* A frame has a number, whether it is the last of its message, and the first `len` bytes of `text`; the text of a long
+ * one is copied by lis_scanner_text, and `len` is 0. A bad frame has a fault and, for LIS_FAULT_FORBIDDEN, the byte's
+ * place in the text. All else is 0. */
 typedef struct lis_signal {
     lis_signal_kind kind;
     uint8_t number;
@@ -158,11 +162,20 @@ size_t lis_scanner_size(void);
 size_t lis_scanner_align(void);
 void lis_scanner_init(void *at);
 void lis_scanner_end(lis_scanner s);
+/* Sets how long the text of a frame may be, LIS_LIMIT_FRAME_TEXT (as after _init) or LIS_LIMIT_LONG_FRAME_TEXT, and
+ * begins anew, as after _init: LIS_STATUS_OK; LIS_STATUS_BAD_NUMBER for another limit, or LIS_STATUS_OUT_OF_MEMORY, and
+ * nothing has changed. The long limit takes about 128 kB from the heap, which the other one or _end gives back. */
+lis_status lis_scanner_set_limit(lis_scanner *s, size_t limit);
 /* Reads one byte, and reports the signal that it gives. `out` is always written. */
 void lis_scanner_push(lis_scanner *s, uint8_t byte, lis_signal *out);
 /* Reads bytes up to the first that gives a signal, or all of them if none does; answers how many it read. `out` is
  * always written. */
 size_t lis_scanner_feed(lis_scanner *s, const uint8_t *bytes, size_t bytes_len, lis_signal *out);
+/* The text of a frame that was told as LIS_SIGNAL_LONG_FRAME, until the next byte is read: its length, and a copy:
+ * LIS_STATUS_OK, or LIS_STATUS_TOO_SHORT if the buffer is shorter, and nothing is copied. After any other signal it has
+ * no byte. */
+size_t lis_scanner_text_len(lis_scanner *s);
+lis_status lis_scanner_text(lis_scanner *s, uint8_t *out, size_t out_len);
 
 /* ---- Frames. ---- */
 
@@ -170,6 +183,11 @@ size_t lis_scanner_feed(lis_scanner *s, const uint8_t *bytes, size_t bytes_len, 
  * be sent; LIS_STATUS_BAD_NUMBER if the number is over 7. `place` is always written, else 0; `out` only with OK. */
 lis_status lis_frame_write(uint8_t number, bool last, const uint8_t *text, size_t text_len, lis_bytes *out,
                            size_t *place);
+/* Writes a frame whose text has up to LIS_LIMIT_LONG_FRAME_TEXT bytes to the front of a buffer; `size` is its length.
+ * The same answers, and LIS_STATUS_TOO_SHORT if the frame, 7 bytes longer than its text, does not fit. `size` and
+ * `place` are always written, else 0; `out` only with OK. It takes about 200 kB of the stack, and no heap. */
+lis_status lis_long_frame_write(uint8_t number, bool last, const uint8_t *text, size_t text_len, uint8_t *out,
+                                size_t out_len, size_t *size, size_t *place);
 
 /* ---- Sender. ---- */
 
@@ -313,6 +331,11 @@ size_t lis_receiver_size(void);
 size_t lis_receiver_align(void);
 void lis_receiver_init(void *at);
 void lis_receiver_end(lis_receiver s);
+/* Sets how long the text of a frame may be, LIS_LIMIT_FRAME_TEXT (as after _init) or LIS_LIMIT_LONG_FRAME_TEXT, and
+ * makes the receiver new, as after _init: LIS_STATUS_OK; LIS_STATUS_BAD_NUMBER for another limit, or
+ * LIS_STATUS_OUT_OF_MEMORY, and nothing has changed. The long limit takes about 64 kB from the heap, which the other
+ * one or _end gives back. All other calls are the same. */
+lis_status lis_receiver_set_limit(lis_receiver *s, size_t limit);
 /* Hears one byte. `out` is always written. */
 void lis_receiver_byte(lis_receiver *s, uint8_t byte, lis_step *out);
 /* Hears bytes up to the first that means something, or all of them if none does; answers how many it heard. `out` is

@@ -149,19 +149,31 @@ struct nothing {
 // What a scanner reads: ENQ, EOT, a frame or a bad frame.
 class signal {
     lis_signal signal_{};
+    std::string long_;    // the text of a frame, if `signal_` has no room for it
     friend class scanner;
 
 public:
-    lis_signal_kind kind() const noexcept { return signal_.kind; }
+    // A long frame is LIS_SIGNAL_FRAME too: text() has its text.
+    lis_signal_kind kind() const noexcept {
+        return signal_.kind == LIS_SIGNAL_LONG_FRAME ? LIS_SIGNAL_FRAME : signal_.kind;
+    }
     std::uint8_t number() const noexcept { return signal_.number; }
     bool is_last() const noexcept { return signal_.last; }
     lis_fault fault() const noexcept { return signal_.fault; }
     std::size_t place() const noexcept { return signal_.place; }
-    std::string_view text() const noexcept { return detail::view(signal_.text, signal_.len); }
+    std::string_view text() const noexcept {
+        return signal_.kind == LIS_SIGNAL_LONG_FRAME ? std::string_view(long_)
+                                                     : detail::view(signal_.text, signal_.len);
+    }
 };
 
 class scanner {
     detail::owner<lis_scanner, lis_scanner_size, lis_scanner_align, lis_scanner_init, lis_scanner_end> own_;
+
+    void take_text(signal &found) {
+        found.long_.resize(lis_scanner_text_len(own_.get()));
+        lis_scanner_text(own_.get(), detail::at(found.long_), found.long_.size());
+    }
 
 public:
 #if defined(__cpp_exceptions)
@@ -170,10 +182,18 @@ public:
     explicit scanner(std::nothrow_t) noexcept : own_(std::nothrow) {}
     explicit operator bool() const noexcept { return static_cast<bool>(own_); }
 
+    // Sets how long the text of a frame may be, LIS_LIMIT_FRAME_TEXT or LIS_LIMIT_LONG_FRAME_TEXT, and begins anew.
+    lis_status try_set_frame_limit(std::size_t limit) noexcept { return lis_scanner_set_limit(own_.get(), limit); }
+#if defined(__cpp_exceptions)
+    void set_frame_limit(std::size_t limit) { detail::check(try_set_frame_limit(limit)); }
+#endif
+
     // Calls each(signal) for each signal of the bytes.
     template <class Each> void feed(std::string_view bytes, Each &&each) {
         for (signal found; !bytes.empty();) {
             bytes.remove_prefix(lis_scanner_feed(own_.get(), detail::at(bytes), bytes.size(), &found.signal_));
+            if (found.signal_.kind == LIS_SIGNAL_LONG_FRAME)
+                take_text(found);
             if (found.kind() != LIS_SIGNAL_NONE)
                 each(static_cast<const signal &>(found));
         }
@@ -190,11 +210,31 @@ inline lis_status try_frame(std::uint8_t number, bool last, std::string_view tex
     return status;
 }
 
+// The same for a text of up to LIS_LIMIT_LONG_FRAME_TEXT bytes.
+inline lis_status try_long_frame(std::uint8_t number, bool last, std::string_view text, std::string &out,
+                                 std::size_t &place) {
+    std::string bytes(text.size() + 7, '\0');
+    std::size_t size = 0;
+    lis_status status = lis_long_frame_write(number, last, detail::at(text), text.size(), detail::at(bytes),
+                                             bytes.size(), &size, &place);
+    if (status == LIS_STATUS_OK)
+        out = std::move(bytes);
+    return status;
+}
+
 #if defined(__cpp_exceptions)
 inline std::string frame(std::uint8_t number, bool last, std::string_view text) {
     std::string out;
     std::size_t place = 0;
     lis_status status = try_frame(number, last, text, out, place);
+    detail::check(status, 0, place);
+    return out;
+}
+
+inline std::string long_frame(std::uint8_t number, bool last, std::string_view text) {
+    std::string out;
+    std::size_t place = 0;
+    lis_status status = try_long_frame(number, last, text, out, place);
     detail::check(status, 0, place);
     return out;
 }
@@ -367,8 +407,12 @@ public:
     void set_room(bool room) noexcept { lis_receiver_set_room(get(), room); }
     void set_ready(lis_ready readiness) noexcept { lis_receiver_set_ready(get(), readiness); }
     lis_status try_reserve(std::uint64_t bytes) noexcept { return lis_receiver_reserve(get(), bytes); }
+    // Sets how long the text of a frame may be, LIS_LIMIT_FRAME_TEXT or LIS_LIMIT_LONG_FRAME_TEXT, and makes the
+    // receiver new.
+    lis_status try_set_frame_limit(std::size_t limit) noexcept { return lis_receiver_set_limit(get(), limit); }
 #if defined(__cpp_exceptions)
     void reserve(std::uint64_t bytes) { detail::check(try_reserve(bytes)); }
+    void set_frame_limit(std::size_t limit) { detail::check(try_set_frame_limit(limit)); }
 #endif
     bool is_open() noexcept { return lis_receiver_is_open(get()); }
     std::uint64_t accepted() noexcept { return lis_receiver_accepted(get()); }

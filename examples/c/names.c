@@ -39,6 +39,7 @@ const char *lis_signal_text(lis_signal_kind kind) {
         [LIS_SIGNAL_EOT] = "EOT",
         [LIS_SIGNAL_FRAME] = "frame",
         [LIS_SIGNAL_BAD_FRAME] = "bad frame",
+        [LIS_SIGNAL_LONG_FRAME] = "long frame",
     };
     return WORDS(words, kind);
 }

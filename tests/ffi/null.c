@@ -21,13 +21,21 @@ static size_t size;
 static void of_frames(void) {
     lis_scanner scanner = {malloc(lis_scanner_size())};
     lis_signal signal;
+    size_t place;
     lis_scanner_init(scanner.at);
-    SAME(lis_scanner_feed(&scanner, NULL, 0, &signal), 0);
-    SAME(signal.kind, LIS_SIGNAL_NONE);
+    for (int i = 0; i < 2; i++) {
+        SAME(lis_scanner_feed(&scanner, NULL, 0, &signal), 0);
+        SAME(signal.kind, LIS_SIGNAL_NONE);
+        SAME(lis_scanner_text(&scanner, NULL, 0), LIS_STATUS_OK);
+        SAME(lis_scanner_set_limit(&scanner, LIS_LIMIT_LONG_FRAME_TEXT), LIS_STATUS_OK);
+    }
     lis_scanner_end(scanner);
     free(scanner.at);
     SAME(lis_frame_write(1, true, NULL, 0, &out, &size), LIS_STATUS_OK);
     SAME(out.len, 7);
+    SAME(lis_long_frame_write(1, true, NULL, 0, NULL, 0, &size, &place), LIS_STATUS_TOO_SHORT);
+    SAME(lis_long_frame_write(1, true, NULL, 0, out.bytes, sizeof out.bytes, &size, &place), LIS_STATUS_OK);
+    SAME(size, 7);
 }
 
 static void of_sender(void) {
@@ -52,6 +60,10 @@ static void of_receiver(void) {
     lis_receiver receiver = {malloc(lis_receiver_size())};
     lis_step step;
     lis_receiver_init(receiver.at);
+    SAME(lis_receiver_set_limit(&receiver, LIS_LIMIT_LONG_FRAME_TEXT), LIS_STATUS_OK);
+    SAME(lis_receiver_hear(&receiver, NULL, 0, &step), 0);
+    SAME(step.note, LIS_NOTE_QUIET);
+    SAME(lis_receiver_set_limit(&receiver, LIS_LIMIT_FRAME_TEXT), LIS_STATUS_OK);
     SAME(lis_receiver_hear(&receiver, NULL, 0, &step), 0);
     SAME(step.note, LIS_NOTE_QUIET);
     SAME(lis_receiver_text(&receiver, NULL, 0), LIS_STATUS_OK);
@@ -69,6 +81,19 @@ static void of_receiver(void) {
 static void of_records(void) {
     lis_delimiters by = {'|', '\\', '^', '&'};
     lis_record record;
+    lis_part part;
+    uint8_t plain;
+    SAME(lis_header_parts(NULL, 0, NULL, 0, &size), LIS_STATUS_NO_RECORD);
+    SAME(lis_record_parts(&by, NULL, 0, NULL, 0, &size), LIS_STATUS_NO_RECORD);
+    SAME(lis_record_parts(&by, (const uint8_t *)"P|", 2, NULL, 0, &size), LIS_STATUS_TOO_SHORT);
+    SAME(size, 1);
+    SAME(lis_record_parts(&by, (const uint8_t *)"P|", 2, &part, 1, &size), LIS_STATUS_OK);
+    SAME(lis_header_parts((const uint8_t *)"H|\\^&|", 6, NULL, 0, &size), LIS_STATUS_TOO_SHORT);
+    SAME(size, 1);
+    SAME(lis_part_decode(&by, NULL, 0, NULL, 0, &size), LIS_STATUS_OK);
+    SAME(size, 0);
+    SAME(lis_part_decode(&by, NULL, 0, &plain, 1, &size), LIS_STATUS_OK);
+    SAME(lis_part_decode(&by, (const uint8_t *)"1", 1, NULL, 0, &size), LIS_STATUS_TOO_SHORT);
     SAME(lis_header_read(NULL, 0, &by, &record), LIS_STATUS_NO_RECORD);
     SAME(lis_record_read(&by, NULL, 0, &record), LIS_STATUS_NO_RECORD);
     SAME(lis_header_part(NULL, 0, 3, 0, 0, NULL, 0, &size), LIS_STATUS_NO_RECORD);
@@ -80,6 +105,7 @@ static void of_records(void) {
 static void of_reader(void) {
     lis_reader reader = {malloc(lis_reader_size())};
     lis_found found;
+    lis_table table;
     lis_reader_init(reader.at);
     SAME(lis_reader_read(&reader, NULL, 0, &found), 0);
     SAME(found.kind, LIS_FOUND_NOTHING);
@@ -89,6 +115,12 @@ static void of_reader(void) {
     SAME(found.kind, LIS_FOUND_RECORD);
     SAME(lis_reader_part(&reader, 3, 0, 0, NULL, 0, &size), LIS_STATUS_OK);
     SAME(lis_reader_part(&reader, 4, 0, 0, NULL, 0, &size), LIS_STATUS_ABSENT);
+    lis_reader_end(reader);
+    lis_reader_init(reader.at);
+    SAME(lis_reader_next(&reader, NULL, 0, &found, NULL, 0, &table), 0);
+    SAME(lis_reader_next(&reader, (const uint8_t *)"H|\\^&|\r", 7, &found, NULL, 0, &table), 7);
+    SAME(found.kind, LIS_FOUND_RECORD);
+    SAME(table.count, 1);
     lis_reader_end(reader);
     free(reader.at);
 }

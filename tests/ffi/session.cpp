@@ -137,8 +137,35 @@ static void of_frames() {
     SAME(lislink::try_frame(1, true, {}, out, place) == LIS_STATUS_OK && out.size() == 7);
 }
 
+// Frames of over 240 bytes of text, with the limit that takes them and with the usual one.
+static void of_long_frames() {
+    const std::string text(5000, 'a'), bytes = lislink::long_frame(1, true, text);
+    SAME(bytes.size() == 5007 && lislink::long_frame(1, true, "H|\\^&\r") == lislink::frame(1, true, "H|\\^&\r"));
+    lislink::scanner scanner;
+    lislink::receiver receiver;
+    int good = 0, bad = 0;
+    auto each = [&](const lislink::signal &signal) {
+        good += signal.kind() == LIS_SIGNAL_FRAME && signal.text() == text;
+        bad += signal.kind() == LIS_SIGNAL_BAD_FRAME && signal.fault() == LIS_FAULT_TOO_LONG;
+    };
+    auto keep = [&](std::string_view kept) { good += kept == text; };
+    auto send = [&](std::uint8_t byte) { bad += byte == 21; };
+    scanner.feed(bytes, each);
+    SAME(receiver.hear("\x05" + bytes, keep, send) && good == 0 && bad == 2);
+    scanner.set_frame_limit(LIS_LIMIT_LONG_FRAME_TEXT);
+    receiver.set_frame_limit(LIS_LIMIT_LONG_FRAME_TEXT);
+    scanner.feed(bytes, each);
+    SAME(receiver.hear("\x05" + bytes, keep, send) && good == 2 && bad == 2);
+    SAME(scanner.try_set_frame_limit(241) == LIS_STATUS_BAD_NUMBER);
+    SAME(receiver.try_set_frame_limit(0) == LIS_STATUS_BAD_NUMBER);
+    std::string out;
+    std::size_t place = 0;
+    SAME(lislink::try_long_frame(1, true, std::string(63994, 'a'), out, place) == LIS_STATUS_TOO_LONG && out.empty());
+}
+
 int main() {
     of_frames();
+    of_long_frames();
     lislink::writer writer;
     std::vector<std::string> texts = texts_of(writer);
     lislink::sender first, sender = std::move(first);

@@ -2,10 +2,12 @@
 from tests import kit
 
 kit.library()
-from lislink import (FrameFault, Kind, LinkError, MessageError, Note, Outcome, Phase, Readiness, Reason,  # noqa: E402
-                     Reader, Receiver, Record, Scanner, Sender, Status, Writer, frame_bytes, messages, records)
+from lislink import (LONG_FRAME_TEXT, FrameFault, Kind, LinkError, MessageError, Note, Outcome, Phase,  # noqa: E402
+                     Readiness, Reason, Reader, Receiver, Record, Scanner, Sender, Status, Writer, frame_bytes,
+                     messages, records)
 
 FIRST = bytes.fromhex("0231487c5c5e260d0345350d0a")
+LONG = b"\x021" + b"a" * 63993 + b"\x03%02X\r\n" % ((ord("1") + 63993 * ord("a") + 3) % 256)
 
 
 def error_of(call):
@@ -43,6 +45,24 @@ class Calls(kit.Test):
         self.rejects(lambda: frame_bytes(8, True, b"a\x02"), Status.FORBIDDEN, None, 1)
         self.rejects(lambda: frame_bytes(1, True, b"a" * 241), Status.TOO_LONG, None, 0)
         self.gives(len(frame_bytes(1, False, b"a" * 240)), 247)
+        self.gives(frame_bytes(1, True, b"H|\\^&\r", frame_limit=LONG_FRAME_TEXT), FIRST)
+        self.gives(frame_bytes(1, True, b"a" * 63993, frame_limit=LONG_FRAME_TEXT), LONG)
+        self.rejects(lambda: frame_bytes(1, True, b"a" * 63994, frame_limit=LONG_FRAME_TEXT), Status.TOO_LONG, None, 0)
+        self.rejects(lambda: frame_bytes(1, True, b"", frame_limit=241), Status.BAD_NUMBER)
+
+    def test_long_frames(self):
+        self.rejects(lambda: Scanner(frame_limit=241), Status.BAD_NUMBER)
+        self.rejects(lambda: Receiver(frame_limit=0), Status.BAD_NUMBER)
+        with Scanner(frame_limit=LONG_FRAME_TEXT) as scanner:
+            signals = list(scanner.feed(LONG + FIRST + LONG[:9] + b"\n"))
+            self.gives([signal.kind for signal in signals], [Kind.FRAME, Kind.FRAME, Kind.BAD_FRAME])
+            self.gives([signal.text for signal in signals], [b"a" * LONG_FRAME_TEXT, b"H|\\^&\r", b""])
+        with Scanner() as scanner:
+            self.gives([signal.fault for signal in scanner.feed(LONG)], [FrameFault.TOO_LONG])
+        with Receiver(frame_limit=LONG_FRAME_TEXT) as receiver:
+            self.gives([step.text for step in receiver.hear(b"\x05" + LONG)], [None, b"a" * LONG_FRAME_TEXT])
+        with Receiver() as receiver:
+            self.gives([step.detail for step in receiver.hear(b"\x05" + LONG)], [0, FrameFault.TOO_LONG])
 
     def test_scanner(self):
         with Scanner() as scanner:

@@ -11,6 +11,7 @@ VALUES = "".join(" ".join(line.split(" ")[:2]) + " \n" for line in RESULTS.split
 #: Each program: its files, those of this folder with their path, and the pattern of what it prints.
 PROGRAMS = {"values": (["values.c", "names.c", "pieces.c", "heap.c"], re.escape(VALUES)),
             "null": (["../../tests/ffi/null.c", "heap.c"], r"\d+ compared\n"),
+            "long": (["../../tests/ffi/long.c"], r"\d+ compared\n"),
             "parts": (["../../tests/ffi/parts.c", "heap.c"], r"\d+ compared\n"),
             "serial": (["../../tests/ffi/serial.c", "serial.c"], r"in out\n"),
             "line": (["../../tests/ffi/line.c", "connection.c", "heap.c"], r"\d+ compared\n"),

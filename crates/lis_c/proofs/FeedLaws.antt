@@ -15,51 +15,53 @@ use Rattle.lis_link.proofs.HearingLaws.{frame_ends, stream_with-append}
 use Rattle.lis_c.specs.Feeding.{TellsLast}
 
 -- one byte
-pub one_byte : (past bytes : List ℕ) → 0 < length bytes →
-    TellsLast 240 past bytes 1 (signal_after 240 past (get_or bytes 0 0))
-one_byte past [] some = absurd (omega (some, arith))
-one_byte past (b ∷ bytes) some = record {
+pub one_byte : (limit : ℕ) (past bytes : List ℕ) → 0 < length bytes →
+    TellsLast limit past bytes 1 (signal_after limit past (get_or bytes 0 0))
+one_byte limit past [] some = absurd (omega (some, arith))
+one_byte limit past (b ∷ bytes) some = record {
   within = omega arith;
-  tells = by (signal_after 240 past b);
+  tells = by (signal_after limit past b);
   before = refl;
 }
   where
-    by : (signal : Option (SignalOf 240)) → with_signal signal [] ≡ option_to_list signal
+    by : (signal : Option (SignalOf limit)) → with_signal signal [] ≡ option_to_list signal
     by None = refl
     by (Some signal) = refl
 
 -- the front of bytes that give no signal gives none
-signals-front : (past xs ys : List ℕ) → signals_after 240 past (xs ++ ys) ≡ [] → signals_after 240 past xs ≡ []
-signals-front past [] ys none = refl
-signals-front past (x ∷ xs) ys none = by (signal_after 240 past x) none (signals-front (x ∷ past) xs ys)
+signals-front : (limit : ℕ) (past xs ys : List ℕ) → signals_after limit past (xs ++ ys) ≡ [] →
+    signals_after limit past xs ≡ []
+signals-front limit past [] ys none = refl
+signals-front limit past (x ∷ xs) ys none =
+    by (signal_after limit past x) none (signals-front limit (x ∷ past) xs ys)
   where
     by :
-        (signal : Option (SignalOf 240)) → with_signal signal (signals_after 240 (x ∷ past) (xs ++ ys)) ≡ [] →
-        (signals_after 240 (x ∷ past) (xs ++ ys) ≡ [] → signals_after 240 (x ∷ past) xs ≡ []) →
-        with_signal signal (signals_after 240 (x ∷ past) xs) ≡ []
+        (signal : Option (SignalOf limit)) → with_signal signal (signals_after limit (x ∷ past) (xs ++ ys)) ≡ [] →
+        (signals_after limit (x ∷ past) (xs ++ ys) ≡ [] → signals_after limit (x ∷ past) xs ≡ []) →
+        with_signal signal (signals_after limit (x ∷ past) xs) ≡ []
     by None e later = later e
     by (Some signal) e later = absurd cc
 
 -- a run that gives no signal
-pub silent_run : (past bytes : List ℕ) (count : ℕ) → count ≤ length bytes →
-    signals_after 240 past (take count bytes) ≡ [] → TellsLast 240 past bytes count None
-silent_run past bytes count within silent =
+pub silent_run : (limit : ℕ) (past bytes : List ℕ) (count : ℕ) → count ≤ length bytes →
+    signals_after limit past (take count bytes) ≡ [] → TellsLast limit past bytes count None
+silent_run limit past bytes count within silent =
     let run = take count bytes in
-    let split : signals_after 240 past (take (count - 1) run ++ drop (count - 1) run) ≡ [] =
+    let split : signals_after limit past (take (count - 1) run ++ drop (count - 1) run) ≡ [] =
     rw (take-append-drop (count - 1) run) silent in
     let shorter = take-take (count - 1) count bytes (omega arith) in
     record {
       within = within;
       tells = silent;
-      before = rw shorter at (signals-front past (take (count - 1) run) (drop (count - 1) run) split);
+      before = rw shorter at (signals-front limit past (take (count - 1) run) (drop (count - 1) run) split);
     }
 
 -- a whole frame
-pub whole_frame : (past bytes : List ℕ) (count : ℕ) (frame : FrameContent) → count ≤ length bytes →
-    IsFrame 240 (take count bytes) frame → signals_after 240 past (take count bytes) ≡ Good frame ∷ [] →
-    TellsLast 240 past bytes count (Some (Good frame))
-whole_frame past bytes count frame within is_frame signals =
-    let ends = frame_ends 240 past (take count bytes) frame is_frame signals in
+pub whole_frame : (limit : ℕ) (past bytes : List ℕ) (count : ℕ) (frame : FrameContent) → count ≤ length bytes →
+    IsFrame limit (take count bytes) frame → signals_after limit past (take count bytes) ≡ Good frame ∷ [] →
+    TellsLast limit past bytes count (Some (Good frame))
+whole_frame limit past bytes count frame within is_frame signals =
+    let ends = frame_ends limit past (take count bytes) frame is_frame signals in
     let long : length ends.before + 1 ≡ count =
     sym (length-append ends.before (LF ∷ [])) ∙ ap length (sym ends.bytes_are) ∙ length-take-le count bytes within in
     let front : take (count - 1) (take count bytes) ≡ ends.before =
@@ -68,34 +70,34 @@ whole_frame past bytes count frame within is_frame signals =
     record {
       within = within;
       tells = signals;
-      before = ap (signals_after 240 past) (sym shorter ∙ front) ∙ ends.silent;
+      before = ap (signals_after limit past) (sym shorter ∙ front) ∙ ends.silent;
     }
 
 -- the signal behind bytes that give none
-pub behind_silent : (past bytes : List ℕ) (count more : ℕ) (signal : Option (SignalOf 240)) → count ≤ length bytes →
-    0 < more → signals_after 240 past (take count bytes) ≡ [] →
-    TellsLast 240 (stream_with past (take count bytes)) (drop count bytes) more signal →
-    TellsLast 240 past bytes (count + more) signal
-behind_silent past bytes count more signal within some silent told =
+pub behind_silent : (limit : ℕ) (past bytes : List ℕ) (count more : ℕ) (signal : Option (SignalOf limit)) →
+    count ≤ length bytes → 0 < more → signals_after limit past (take count bytes) ≡ [] →
+    TellsLast limit (stream_with past (take count bytes)) (drop count bytes) more signal →
+    TellsLast limit past bytes (count + more) signal
+behind_silent limit past bytes count more signal within some silent told =
     let front = take count bytes in
-    let joined : (n : ℕ) → signals_after 240 past (take (count + n) bytes)
-    ≡ signals_after 240 (stream_with past front) (take n (drop count bytes)) =
-    λ n. ap (signals_after 240 past) (take-add count n bytes)
-    ∙ signals_after-append 240 front (take n (drop count bytes)) past
-    ∙ ap (λ xs. xs ++ signals_after 240 (stream_with past front) (take n (drop count bytes))) silent in
+    let joined : (n : ℕ) → signals_after limit past (take (count + n) bytes)
+    ≡ signals_after limit (stream_with past front) (take n (drop count bytes)) =
+    λ n. ap (signals_after limit past) (take-add count n bytes)
+    ∙ signals_after-append limit front (take n (drop count bytes)) past
+    ∙ ap (λ xs. xs ++ signals_after limit (stream_with past front) (take n (drop count bytes))) silent in
     let less : count + more - 1 ≡ count + (more - 1) = omega (some, arith) in
     record {
       within = omega (told.within, length-drop count bytes, within, arith);
       tells = joined more ∙ told.tells;
-      before = ap (λ n. signals_after 240 past (take n bytes)) less ∙ joined (more - 1) ∙ told.before;
+      before = ap (λ n. signals_after limit past (take n bytes)) less ∙ joined (more - 1) ∙ told.before;
     }
 
 -- the scanner stands for all that was read
-pub stands_behind : (past bytes : List ℕ) (count more : ℕ) (held : Held) →
-    StandsFor 240 held (stream_with (stream_with past (take count bytes)) (take more (drop count bytes))) →
-    StandsFor 240 held (stream_with past (take (count + more) bytes))
-stands_behind past bytes count more held stands =
-    subst (λ xs. StandsFor 240 held xs)
+pub stands_behind : (limit : ℕ) (past bytes : List ℕ) (count more : ℕ) (held : Held) →
+    StandsFor limit held (stream_with (stream_with past (take count bytes)) (take more (drop count bytes))) →
+    StandsFor limit held (stream_with past (take (count + more) bytes))
+stands_behind limit past bytes count more held stands =
+    subst (λ xs. StandsFor limit held xs)
     (sym (stream_with-append (take count bytes) (take more (drop count bytes)) past)
     ∙ ap (stream_with past) (sym (take-add count more bytes)))
     stands

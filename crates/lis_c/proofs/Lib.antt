@@ -3,4 +3,5 @@ pub mod HandleLaws
 pub mod Handles
 pub mod NextLaws
 pub mod RecordLaws
+pub mod SignalLaws
 pub mod StepLaws

@@ -4,14 +4,15 @@ use Rattle.lis_frame.specs.Frame.{FrameContent}
 use Rattle.lis_link.specs.declared.receiver.Note.{Note}
 use Rattle.lis_link.specs.declared.receiver.Note.TheVariants as Notes
 use Rattle.lis_link.specs.declared.receiver.Step.{Step}
-use Rattle.lis_link.specs.inside.Kept.{Kept}
 use Rattle.lis_link.specs.Receiver.{ReceiverState, ReceiverStep}
-use Rattle.lis_link.specs.inside.Stands.{IsIn, SpareAfter}
+use Rattle.lis_link.specs.inside.Stands.{SpareAfter}
 use Rattle.lis_link.specs.inside.Stands as Stands
 use Rattle.lis_c.specs.Codes.{note_code, note_detail, note_place, reply_code}
+use Rattle.lis_c.specs.Limits.{Receives, kept_by, receiver_limit, spare_of}
 use Rattle.lis_c.specs.Steps.{TellsRefusedFrame, TellsStep, HoldsText}
 use Rattle.lis_c.specs.declared.desk.ReceiverDesk.{ReceiverDesk}
 use Rattle.lis_c.specs.declared.out.LisStep.{LisStep}
+use Rattle.lis_c.specs.declared.receiving.AnyReceiver.{AnyReceiver}
 
 pub out_of_memory : (note : Note) → note_code note ≡ 11 → note ≡ Notes.OutOfMemory
 out_of_memory Notes.OutOfMemory e = refl
@@ -24,10 +25,12 @@ is_out answer before text out told same = out_of_memory answer.note (sym told.no
 
 -- a step for which memory was refused is told
 pub refused :
-    (step : ReceiverStep) (r : ReceiverState) (answer : Step) (kept : Kept) (old new : ReceiverDesk) (out : LisStep) →
-    (answer.note ≡ Notes.OutOfMemory → Stands.RefusesFrame 240 old.receiver.spare step r answer kept) →
-    TellsStep answer old.text out new.text → out.note ≡ 11 → kept.spare ≤ new.receiver.spare →
-    ((s : ReceiverState) → IsIn 240 kept s → IsIn 240 new.receiver s) → TellsRefusedFrame step r old out new
+    (step : ReceiverStep) (r : ReceiverState) (answer : Step) (kept : AnyReceiver) (old new : ReceiverDesk)
+    (out : LisStep) →
+    (answer.note ≡ Notes.OutOfMemory →
+    Stands.RefusesFrame (receiver_limit kept) (spare_of old.receiver) step r answer (kept_by kept)) →
+    TellsStep answer old.text out new.text → out.note ≡ 11 → spare_of kept ≤ spare_of new.receiver →
+    ((s : ReceiverState) → Receives kept s → Receives new.receiver s) → TellsRefusedFrame step r old out new
 refused step r answer kept old new out refuses told same more stays =
     let note = is_out answer old.text new.text out told same in
     let was = refuses note in

@@ -3,11 +3,14 @@ pub mod Codes
 pub mod Emitted
 pub mod Feeding
 pub mod Lent
+pub mod Limits
+pub mod Long
 pub mod New
 pub mod Next
 pub mod Parts
 pub mod Reading
 pub mod Records
+pub mod Reports
 pub mod Signals
 pub mod Status
 pub mod Steps

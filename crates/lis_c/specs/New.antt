@@ -6,11 +6,9 @@ use base.Fml.{Fml, fex}
 use prog.Memory.{align}
 use denote.Memory.{lone}
 use denote.RattleType.{RattleType}
-use Rattle.lis_frame.specs.Scanner.{StandsFor}
-use Rattle.lis_link.specs.Receiver.{new_receiver}
 use Rattle.lis_link.specs.Sender.{new_sender}
-use Rattle.lis_link.specs.inside.Stands.{IsIn}
 use Rattle.lis_field.specs.Delimiters.{usual}
+use Rattle.lis_c.specs.Limits.{NewReceiver, NewScanner}
 use Rattle.lis_c.specs.Reading.{new_reader}
 use Rattle.lis_c.specs.contracts.draft.WriterDesk as writer_desk
 use Rattle.lis_c.specs.contracts.desk.ReaderDesk as reader_desk
@@ -22,18 +20,17 @@ use Rattle.lis_c.specs.contracts.desk.ReceiverDesk as receiver_desk
 abbrev pub IsNew : (T : RattleType) → (T.Denot → Type 0) → Ptr → Fml
 IsNew T P p = fex ((d : T.Denot) × P d) (λ d. lies_at T full_share p d.0)
 
--- a desk with a scanner that has read no byte
+-- a desk with a scanner of the usual limit that has read no byte
 abbrev pub IsNewScanner : Ptr → Fml
-IsNewScanner = IsNew scanner_desk.the_row (λ d. StandsFor 240 d.scanner [])
+IsNewScanner = IsNew scanner_desk.the_row (λ d. NewScanner 240 d.scanner)
 
 -- a desk with a sender that was never started, and no text
 abbrev pub IsNewSender : Ptr → Fml
 IsNewSender = IsNew sender_desk.the_row (λ d. (d.sender ≡ new_sender) × (d.texts ≡ []))
 
--- a desk with a new receiver, which has reserved nothing, and no text
+-- a desk with a new receiver of the usual limit, which has reserved nothing, and no text
 abbrev pub IsNewReceiver : Ptr → Fml
-IsNewReceiver = IsNew receiver_desk.the_row (λ d. IsIn 240 d.receiver new_receiver × (d.receiver.spare ≡ 0)
-    × (d.text ≡ []))
+IsNewReceiver = IsNew receiver_desk.the_row (λ d. NewReceiver 240 d.receiver × (d.text ≡ []))
 
 -- a desk with a reader at the start of a stream
 abbrev pub IsNewReader : Ptr → Fml

@@ -73,10 +73,19 @@ text_place None = 0
 text_place (Some TooLong) = 0
 text_place (Some (Forbidden place)) = place
 
+-- a copy to a buffer of so many bytes of a text of so many
+abbrev pub copy_status : ℕ → ℕ → ℕ
+copy_status room length = if nat_lt room length then TOO_SHORT else OK
+
 -- a frame can be written: its text is told before its number
 abbrev pub frame_status : ℕ → Option TextFault → ℕ
 frame_status number None = if nat_lt 7 number then BAD_NUMBER else OK
 frame_status number (Some fault) = text_status (Some fault)
+
+-- and it has to fit into a buffer of so many bytes
+abbrev pub long_frame_status : ℕ → Option TextFault → ℕ → ℕ → ℕ
+long_frame_status number None room size = if nat_lt 7 number then BAD_NUMBER else copy_status room size
+long_frame_status number (Some fault) room size = text_status (Some fault)
 
 -- a session can be started, or why it can't, and which text and which byte of it is at fault
 abbrev pub start_status : Option StartFault → ℕ
@@ -108,7 +117,3 @@ abbrev pub ReserveStatus : ℕ → ℕ → Type 0
 ReserveStatus status bytes =
     ((status ≡ TOO_LONG) × (longest_text < bytes))
     ⊎ ((bytes ≤ longest_text) × ((status ≡ OK) ⊎ (status ≡ OUT_OF_MEMORY)))
-
--- a copy to a buffer of so many bytes of a text of so many
-abbrev pub copy_status : ℕ → ℕ → ℕ
-copy_status room length = if nat_lt room length then TOO_SHORT else OK

@@ -5,8 +5,8 @@ use Rattle.lis_frame.specs.Frame.{FrameContent}
 use Rattle.lis_link.specs.declared.receiver.Note.TheVariants.{OutOfMemory}
 use Rattle.lis_link.specs.declared.receiver.Step.{Step}
 use Rattle.lis_link.specs.Receiver.{ReceiverState, ReceiverStep}
-use Rattle.lis_link.specs.inside.Stands.{IsIn}
 use Rattle.lis_c.specs.Codes.{note_code, note_detail, note_place, reply_code}
+use Rattle.lis_c.specs.Limits.{Receives, spare_of}
 use Rattle.lis_c.specs.declared.desk.ReceiverDesk.{ReceiverDesk}
 use Rattle.lis_c.specs.declared.out.LisStep.{LisStep}
 
@@ -37,7 +37,7 @@ pub record MakesStep (step : ReceiverStep) (old : ReceiverDesk) (out : LisStep) 
   pub detail_is : out.detail ≡ note_detail step.note
   pub place_is : out.place ≡ note_place step.note
   pub text_is : HoldsText step.message out.has_text old.text new.text
-  pub state : IsIn 240 new.receiver step.after
+  pub state : Receives new.receiver step.after
 
 -- memory was refused for a frame that would be accepted and is longer than the spare room: NAK, and nothing else; what
 -- was reserved stays
@@ -45,10 +45,10 @@ pub record TellsRefusedFrame (step : ReceiverStep) (r : ReceiverState) (old : Re
     (new : ReceiverDesk) : Type 0 where
   pub frame : FrameContent
   pub would_accept : step.taken ≡ Some frame
-  pub too_long : old.receiver.spare < length frame.text
+  pub too_long : spare_of old.receiver < length frame.text
   pub reply_is : out.reply ≡ NAK
   pub detail_is : out.detail ≡ 0
   pub place_is : out.place ≡ 0
   pub text_is : HoldsText None out.has_text old.text new.text
-  pub spare_kept : old.receiver.spare ≤ new.receiver.spare
-  pub state : IsIn 240 new.receiver r
+  pub spare_kept : spare_of old.receiver ≤ spare_of new.receiver
+  pub state : Receives new.receiver r

@@ -4,19 +4,20 @@ ghost use Rattle.std.specs.Prelude.{◌≡◌, ◌≢◌, ◌≤◌, ◌++◌, �
 ghost use Rattle.lis_c.specs.Codes.{note_code, note_detail, note_place};
 ghost use Rattle.lis_c.specs.Status.{AddStatus, OK};
 ghost use Rattle.lis_c.specs.Steps.{IsNotOutOfMemory, IsOutOfMemory, MakesStep, TellsRefusedFrame, TellsStep};
-ghost use Rattle.lis_frame.specs.Scanner.{StandsFor};
-ghost use Rattle.lis_link.specs.Receiver.{ReceiverState, new_receiver, on_byte, on_bytes, on_receiver_timer};
+ghost use Rattle.lis_c.specs.Limits.{NewReceiver, NewScanner, Receives, receiver_limit, spare_of};
+ghost use Rattle.lis_link.specs.Receiver.{ReceiverState, on_byte, on_bytes, on_receiver_timer};
 ghost use Rattle.lis_link.specs.Receiver.{with_heard};
 ghost use Rattle.lis_link.specs.Sender.{new_sender, start_fault, started};
-ghost use Rattle.lis_link.specs.inside.Stands.{IsIn, SpareAfter};
+ghost use Rattle.lis_link.specs.inside.Stands.{SpareAfter};
 ghost use Rattle.lis_link.specs.declared.sender.EmitOf.TheVariants as Emits;
 ghost use Rattle.lis_c.specs.Reading.{new_reader};
 
 use crate::lent::{DeskTexts, LentTexts};
 use crate::out::{LisStep, fault_code, fault_place};
+use crate::receiving::AnyReceiver;
+use crate::scanning::AnyScanner;
 use crate::status;
-use lis_frame::Scanner;
-use lis_link::{Emit, Hearing, Note, Receiver, SenderOver, StartFault, StartRefusedOf, Step};
+use lis_link::{Emit, Hearing, Note, SenderOver, StartFault, StartRefusedOf, Step};
 use lis_message::RecordReader;
 use lis_text::{LinkText, List, MOST_TEXTS, Texts};
 use std::alloc::Global;
@@ -25,7 +26,7 @@ use std::mem;
 /// A scanner.
 #[derive(Drop)]
 pub struct ScannerDesk {
-    pub scanner: Scanner,
+    pub scanner: AnyScanner,
 }
 
 /// A sender, and the texts of its next session.
@@ -39,7 +40,7 @@ pub struct SenderDesk {
 /// A receiver, and the text that it handed out last.
 #[derive(Drop)]
 pub struct ReceiverDesk {
-    pub receiver: Receiver,
+    pub receiver: AnyReceiver,
     pub text: LinkText,
 }
 
@@ -73,10 +74,10 @@ impl ReaderDesk {
 
 impl ScannerDesk {
     pub(crate) fn new(_alloc: Global) -> Self
-        ensures { StandsFor 240 result.scanner [] }
+        ensures { NewScanner 240 result.scanner }
     {
         ScannerDesk {
-            scanner: Scanner::new(),
+            scanner: AnyScanner::usual(),
         }
     }
 }
@@ -155,10 +156,10 @@ impl SenderDesk {
 
 impl ReceiverDesk {
     pub(crate) fn new(alloc: Global) -> Self
-        ensures { IsIn 240 result.receiver new_receiver × (result.receiver.spare ≡ 0) × (result.text ≡ []) }
+        ensures { NewReceiver 240 result.receiver × (result.text ≡ []) }
     {
         ReceiverDesk {
-            receiver: Receiver::new(alloc),
+            receiver: AnyReceiver::usual(alloc),
             text: List::new(alloc),
         }
     }
@@ -166,8 +167,9 @@ impl ReceiverDesk {
     /// Tells a step. A text that it hands out is kept; the receiver has the room of the one before.
     pub(crate) fn tell(&mut self, step: Step, out: &mut LisStep)
         ensures told { TellsStep step self.old.text out.new self.new.text }
-        ensures receiver { (r : ReceiverState) → IsIn 240 self.old.receiver r → IsIn 240 self.new.receiver r }
-        ensures spare { self.old.receiver.spare ≤ self.new.receiver.spare }
+        ensures receiver { (r : ReceiverState) → Receives self.old.receiver r → Receives self.new.receiver r }
+        ensures spare { spare_of self.old.receiver ≤ spare_of self.new.receiver }
+        ensures limit { receiver_limit self.new.receiver ≡ receiver_limit self.old.receiver }
     {
         let Step {
             reply,
@@ -191,12 +193,15 @@ impl ReceiverDesk {
     #[tactic(auto, using(crate::proofs::StepLaws::refused))]
     /// Hears one byte, and tells the step.
     pub(crate) fn byte(&mut self, byte: u8, out: &mut LisStep)
-        ensures step { (r : ReceiverState) → IsIn 240 self.old.receiver r → IsNotOutOfMemory out.new
-            → MakesStep (on_byte 240 byte r) self.old out.new self.new }
-        ensures refused { (r : ReceiverState) → IsIn 240 self.old.receiver r → IsOutOfMemory out.new
-            → TellsRefusedFrame (on_byte 240 byte r) (record r { past = byte ∷ r.past }) self.old out.new self.new }
-        ensures spare { (r : ReceiverState) → IsIn 240 self.old.receiver r
-            → SpareAfter self.old.receiver.spare self.new.receiver.spare (on_byte 240 byte r).taken }
+        ensures step { (r : ReceiverState) → Receives self.old.receiver r → IsNotOutOfMemory out.new
+            → MakesStep (on_byte (receiver_limit self.old.receiver) byte r) self.old out.new self.new }
+        ensures refused { (r : ReceiverState) → Receives self.old.receiver r → IsOutOfMemory out.new
+            → TellsRefusedFrame (on_byte (receiver_limit self.old.receiver) byte r)
+            (record r { past = byte ∷ r.past }) self.old out.new self.new }
+        ensures spare { (r : ReceiverState) → Receives self.old.receiver r
+            → SpareAfter (spare_of self.old.receiver) (spare_of self.new.receiver)
+            (on_byte (receiver_limit self.old.receiver) byte r).taken }
+        ensures limit { receiver_limit self.new.receiver ≡ receiver_limit self.old.receiver }
     {
         let step = self.receiver.byte(byte);
         self.tell(step, out);
@@ -205,15 +210,17 @@ impl ReceiverDesk {
     #[tactic(auto, using(crate::proofs::StepLaws::refused, crate::proofs::StepLaws::with_more))]
     /// Hears bytes up to the first that means something, tells the step, and answers how many it heard.
     pub(crate) fn hear(&mut self, bytes: &[u8], out: &mut LisStep) -> usize
-        ensures count { (r : ReceiverState) → IsIn 240 self.old.receiver r →
-            result ≡ (on_bytes 240 bytes.now r).count }
-        ensures step { (r : ReceiverState) → IsIn 240 self.old.receiver r → IsNotOutOfMemory out.new
-            → MakesStep (on_bytes 240 bytes.now r).step self.old out.new self.new }
-        ensures refused { (r : ReceiverState) → IsIn 240 self.old.receiver r → IsOutOfMemory out.new
-            → TellsRefusedFrame (on_bytes 240 bytes.now r).step (with_heard (take result bytes.now) r) self.old out.new
-            self.new }
-        ensures spare { (r : ReceiverState) → IsIn 240 self.old.receiver r
-            → SpareAfter self.old.receiver.spare self.new.receiver.spare (on_bytes 240 bytes.now r).step.taken }
+        ensures count { (r : ReceiverState) → Receives self.old.receiver r →
+            result ≡ (on_bytes (receiver_limit self.old.receiver) bytes.now r).count }
+        ensures step { (r : ReceiverState) → Receives self.old.receiver r → IsNotOutOfMemory out.new
+            → MakesStep (on_bytes (receiver_limit self.old.receiver) bytes.now r).step self.old out.new self.new }
+        ensures refused { (r : ReceiverState) → Receives self.old.receiver r → IsOutOfMemory out.new
+            → TellsRefusedFrame (on_bytes (receiver_limit self.old.receiver) bytes.now r).step
+            (with_heard (take result bytes.now) r) self.old out.new self.new }
+        ensures spare { (r : ReceiverState) → Receives self.old.receiver r
+            → SpareAfter (spare_of self.old.receiver) (spare_of self.new.receiver)
+            (on_bytes (receiver_limit self.old.receiver) bytes.now r).step.taken }
+        ensures limit { receiver_limit self.new.receiver ≡ receiver_limit self.old.receiver }
     {
         let Hearing { count, step } = self.receiver.bytes(bytes);
         self.tell(step, out);
@@ -222,9 +229,10 @@ impl ReceiverDesk {
 
     /// The receiver's timer runs out.
     pub(crate) fn timer(&mut self, out: &mut LisStep)
-        ensures step { (r : ReceiverState) → IsIn 240 self.old.receiver r →
+        ensures step { (r : ReceiverState) → Receives self.old.receiver r →
             MakesStep (on_receiver_timer r) self.old out.new self.new }
-        ensures spare { self.old.receiver.spare ≤ self.new.receiver.spare }
+        ensures spare { spare_of self.old.receiver ≤ spare_of self.new.receiver }
+        ensures limit { receiver_limit self.new.receiver ≡ receiver_limit self.old.receiver }
     {
         let step = self.receiver.timer();
         self.tell(step, out);

@@ -4,11 +4,10 @@ ghost use Rattle.std.specs.Prelude.{◌≡◌, ◌≢◌, ◌≤◌, length};
 ghost use Rattle.lis_c.specs.Codes.{fault_code, fault_place};
 ghost use Rattle.lis_c.specs.Emitted.{HoldsBytes, emitted_bytes};
 ghost use Rattle.lis_c.specs.Records.{IsCopied};
-ghost use Rattle.lis_c.specs.Signals.{TellsSignal};
 ghost use Rattle.lis_c.specs.Status.{OK, copy_status};
 
 use crate::status;
-use lis_frame::{FrameFault, Signal, SignalOf, frame_bytes};
+use lis_frame::{FrameFault, frame_bytes};
 use lis_link::{Emit, EmitOf};
 use lis_text::{ENQ, EOT, NAK};
 
@@ -50,9 +49,10 @@ pub struct LisPlace {
     pub place: usize,
 }
 
-/// A signal: 0 none, 1 ENQ, 2 EOT, 3 a frame, 4 bytes that are no frame. A frame has its number, whether it is the
-/// last of its message, and the first `len` bytes of `text`, at most 240. Bytes that are none have a fault (1 too
-/// long, 2 shape, 3 number, 4 text, 5 sum) and, where a byte of the text is at fault, its place. All else is 0.
+/// A signal: 0 none, 1 ENQ, 2 EOT, 3 a frame, 4 bytes that are no frame, 5 a frame whose text has over 240 bytes. A
+/// frame has its number, whether it is the last of its message, and, with 3, the first `len` bytes of `text`; with 5
+/// `lis_scanner_text` copies the text. Bytes that are none have a fault (1 too long, 2 shape, 3 number, 4 text, 5 sum)
+/// and, where a byte of the text is at fault, its place. All else is 0.
 #[repr(C)]
 #[derive(Drop)]
 pub struct LisSignal {
@@ -97,36 +97,6 @@ pub(crate) fn fault_place(fault: FrameFault) -> usize
     match fault {
         FrameFault::Text(place) => place,
         _ => 0,
-    }
-}
-
-/// Tells a signal.
-pub(crate) fn tell_signal(signal: Option<Signal>, out: &mut LisSignal)
-    ensures { TellsSignal signal out.new }
-{
-    out.kind = 0;
-    out.number = 0;
-    out.last = false;
-    out.fault = 0;
-    out.place = 0;
-    out.len = 0;
-    match signal {
-        None => {}
-        Some(SignalOf::Enq) => out.kind = 1,
-        Some(SignalOf::Eot) => out.kind = 2,
-        Some(SignalOf::Good(frame)) => {
-            out.kind = 3;
-            out.number = frame.number();
-            out.last = frame.is_last();
-            let text = frame.text().as_slice();
-            out.len = text.len();
-            out.text[..text.len()].copy_from_slice(text);
-        }
-        Some(SignalOf::Bad(fault)) => {
-            out.kind = 4;
-            out.fault = fault_code(fault);
-            out.place = fault_place(fault);
-        }
     }
 }
 

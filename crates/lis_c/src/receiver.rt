@@ -1,8 +1,9 @@
 //! The receiver for programs in C.
 
-ghost use Rattle.std.specs.Prelude.{◌≡◌, ◌≢◌, ◌≤◌, ◌<◌, ◌∷◌, length, take};
+ghost use Rattle.std.specs.Prelude.{◌≡◌, ◌≢◌, ◌≤◌, ◌<◌, ◌∷◌, [], length, take};
 ghost use Rattle.lis_c.specs.declared.desk.ReceiverDesk.{ReceiverDesk};
 ghost use Rattle.lis_c.specs.Codes.{readiness_code};
+ghost use Rattle.lis_c.specs.Limits.{LimitStatus, NewReceiver, Receives, receiver_limit, spare_of};
 ghost use Rattle.lis_c.specs.New.{IsNewReceiver, type_align};
 ghost use Rattle.lis_c.specs.Status.{BAD_NUMBER, OK, OUT_OF_MEMORY, ReserveStatus, copy_status};
 ghost use Rattle.lis_c.specs.Steps.{IsNotOutOfMemory, IsOutOfMemory, TellsRefusedFrame, MakesStep};
@@ -10,16 +11,17 @@ ghost use Rattle.lis_c.specs.contracts.desk.ReceiverDesk.{the_row as desk_row};
 ghost use Rattle.lis_link.specs.declared.receiver.Readiness.{Readiness};
 ghost use Rattle.lis_link.specs.Receiver.{ReceiverState, on_byte, on_bytes, on_receiver_timer, receiver_restarted};
 ghost use Rattle.lis_link.specs.Receiver.{held_length, with_heard, with_readiness, with_room};
-ghost use Rattle.lis_link.specs.inside.Stands.{IsIn, SpareAfter};
+ghost use Rattle.lis_link.specs.inside.Stands.{SpareAfter};
 ghost use Rattle.std.specs.Borrow.{sem};
 ghost use Rattle.std.specs.Mem.{type_size};
 ghost use Rattle.std.specs.Ptr.{room_at};
 
 use crate::desk::{ReceiverDesk, let_go_receiver};
 use crate::out::{LisStep, copy_text};
+use crate::receiving::AnyReceiver;
 use crate::status;
 use lis_link::Readiness;
-use lis_text::LONGEST_TEXT;
+use lis_text::{LONGEST_TEXT, List};
 use std::alloc::Global;
 use std::marker::Model;
 use std::mem::{align_of, size_of};
@@ -78,16 +80,42 @@ pub unsafe extern "C" fn lis_receiver_init(alloc: Global, at: *mut u8)
     (at as *mut ReceiverDesk).write(ReceiverDesk::new(alloc));
 }
 
+/// Sets how long the text of a frame may be, 240 bytes or 63,993, and makes the receiver new: neutral and ready,
+/// without a text. `OK`; `BAD_NUMBER` if it is another limit; `OUT_OF_MEMORY`. Else than with `OK` nothing has changed.
+/// Only the long limit takes memory.
+#[unsafe(no_mangle)]
+pub extern "C" fn lis_receiver_set_limit(alloc: Global, s: &mut LisReceiver, limit: usize) -> u8
+    ensures status { LimitStatus result limit }
+    ensures set { result ≡ OK → NewReceiver limit s.new.state.receiver × (s.new.state.text ≡ []) }
+    ensures refused { result ≢ OK → s.new.state ≡ s.old.state }
+{
+    let receiver = match limit {
+        240 => AnyReceiver::usual(alloc),
+        63_993 => match AnyReceiver::long(alloc) {
+            Ok(receiver) => receiver,
+            Err(_) => return status::OUT_OF_MEMORY,
+        },
+        _ => return status::BAD_NUMBER,
+    };
+    let desk = s.lend();
+    desk.receiver = receiver;
+    desk.text = List::new(alloc);
+    status::OK
+}
+
 /// Hears one byte. Only where a frame would be accepted whose text is longer than the spare room may memory be
 /// refused, note 11; the frame is then answered NAK and not taken.
 #[unsafe(no_mangle)]
 pub extern "C" fn lis_receiver_byte(s: &mut LisReceiver, byte: u8, out: &mut LisStep)
-    ensures step { (r : ReceiverState) → IsIn 240 s.old.state.receiver r → IsNotOutOfMemory out.new
-        → MakesStep (on_byte 240 byte r) s.old.state out.new s.new.state }
-    ensures refused { (r : ReceiverState) → IsIn 240 s.old.state.receiver r → IsOutOfMemory out.new
-        → TellsRefusedFrame (on_byte 240 byte r) (record r { past = byte ∷ r.past }) s.old.state out.new s.new.state }
-    ensures spare { (r : ReceiverState) → IsIn 240 s.old.state.receiver r
-        → SpareAfter s.old.state.receiver.spare s.new.state.receiver.spare (on_byte 240 byte r).taken }
+    ensures step { (r : ReceiverState) → Receives s.old.state.receiver r → IsNotOutOfMemory out.new
+        → MakesStep (on_byte (receiver_limit s.old.state.receiver) byte r) s.old.state out.new s.new.state }
+    ensures refused { (r : ReceiverState) → Receives s.old.state.receiver r → IsOutOfMemory out.new
+        → TellsRefusedFrame (on_byte (receiver_limit s.old.state.receiver) byte r)
+        (record r { past = byte ∷ r.past }) s.old.state out.new s.new.state }
+    ensures spare { (r : ReceiverState) → Receives s.old.state.receiver r
+        → SpareAfter (spare_of s.old.state.receiver) (spare_of s.new.state.receiver)
+        (on_byte (receiver_limit s.old.state.receiver) byte r).taken }
+    ensures limit { receiver_limit s.new.state.receiver ≡ receiver_limit s.old.state.receiver }
 {
     s.lend().byte(byte, out);
 }
@@ -96,15 +124,17 @@ pub extern "C" fn lis_receiver_byte(s: &mut LisReceiver, byte: u8, out: &mut Lis
 /// `lis_receiver_byte` is the case of one byte.
 #[unsafe(no_mangle)]
 pub extern "C" fn lis_receiver_hear(s: &mut LisReceiver, bytes: &[u8], out: &mut LisStep) -> usize
-    ensures count { (r : ReceiverState) → IsIn 240 s.old.state.receiver r →
-        result ≡ (on_bytes 240 bytes.now r).count }
-    ensures step { (r : ReceiverState) → IsIn 240 s.old.state.receiver r → IsNotOutOfMemory out.new
-        → MakesStep (on_bytes 240 bytes.now r).step s.old.state out.new s.new.state }
-    ensures refused { (r : ReceiverState) → IsIn 240 s.old.state.receiver r → IsOutOfMemory out.new
-        → TellsRefusedFrame (on_bytes 240 bytes.now r).step (with_heard (take result bytes.now) r) s.old.state out.new
-        s.new.state }
-    ensures spare { (r : ReceiverState) → IsIn 240 s.old.state.receiver r
-        → SpareAfter s.old.state.receiver.spare s.new.state.receiver.spare (on_bytes 240 bytes.now r).step.taken }
+    ensures count { (r : ReceiverState) → Receives s.old.state.receiver r →
+        result ≡ (on_bytes (receiver_limit s.old.state.receiver) bytes.now r).count }
+    ensures step { (r : ReceiverState) → Receives s.old.state.receiver r → IsNotOutOfMemory out.new
+        → MakesStep (on_bytes (receiver_limit s.old.state.receiver) bytes.now r).step s.old.state out.new s.new.state }
+    ensures refused { (r : ReceiverState) → Receives s.old.state.receiver r → IsOutOfMemory out.new
+        → TellsRefusedFrame (on_bytes (receiver_limit s.old.state.receiver) bytes.now r).step
+        (with_heard (take result bytes.now) r) s.old.state out.new s.new.state }
+    ensures spare { (r : ReceiverState) → Receives s.old.state.receiver r
+        → SpareAfter (spare_of s.old.state.receiver) (spare_of s.new.state.receiver)
+        (on_bytes (receiver_limit s.old.state.receiver) bytes.now r).step.taken }
+    ensures limit { receiver_limit s.new.state.receiver ≡ receiver_limit s.old.state.receiver }
 {
     s.lend().hear(bytes, out)
 }
@@ -112,9 +142,10 @@ pub extern "C" fn lis_receiver_hear(s: &mut LisReceiver, bytes: &[u8], out: &mut
 /// The receiver's timer runs out.
 #[unsafe(no_mangle)]
 pub extern "C" fn lis_receiver_timer(s: &mut LisReceiver, out: &mut LisStep)
-    ensures step { (r : ReceiverState) → IsIn 240 s.old.state.receiver r →
+    ensures step { (r : ReceiverState) → Receives s.old.state.receiver r →
         MakesStep (on_receiver_timer r) s.old.state out.new s.new.state }
-    ensures spare { s.old.state.receiver.spare ≤ s.new.state.receiver.spare }
+    ensures spare { spare_of s.old.state.receiver ≤ spare_of s.new.state.receiver }
+    ensures limit { receiver_limit s.new.state.receiver ≡ receiver_limit s.old.state.receiver }
 {
     s.lend().timer(out);
 }
@@ -122,10 +153,11 @@ pub extern "C" fn lis_receiver_timer(s: &mut LisReceiver, out: &mut LisStep)
 /// The receiver is neutral, ready and has room again; the text that it handed out last stays.
 #[unsafe(no_mangle)]
 pub extern "C" fn lis_receiver_restart(s: &mut LisReceiver)
-    ensures state { (r : ReceiverState) → IsIn 240 s.old.state.receiver r →
-        IsIn 240 s.new.state.receiver (receiver_restarted r) }
+    ensures state { (r : ReceiverState) → Receives s.old.state.receiver r →
+        Receives s.new.state.receiver (receiver_restarted r) }
     ensures text { s.new.state.text ≡ s.old.state.text }
-    ensures spare { s.old.state.receiver.spare ≤ s.new.state.receiver.spare }
+    ensures spare { spare_of s.old.state.receiver ≤ spare_of s.new.state.receiver }
+    ensures limit { receiver_limit s.new.state.receiver ≡ receiver_limit s.old.state.receiver }
 {
     s.lend().receiver.restart();
 }
@@ -133,10 +165,11 @@ pub extern "C" fn lis_receiver_restart(s: &mut LisReceiver)
 /// Whether there is room for another frame from now on.
 #[unsafe(no_mangle)]
 pub extern "C" fn lis_receiver_set_room(s: &mut LisReceiver, room: bool)
-    ensures state { (r : ReceiverState) → IsIn 240 s.old.state.receiver r →
-        IsIn 240 s.new.state.receiver (with_room room r) }
+    ensures state { (r : ReceiverState) → Receives s.old.state.receiver r →
+        Receives s.new.state.receiver (with_room room r) }
     ensures text { s.new.state.text ≡ s.old.state.text }
-    ensures spare { s.new.state.receiver.spare ≡ s.old.state.receiver.spare }
+    ensures spare { spare_of s.new.state.receiver ≡ spare_of s.old.state.receiver }
+    ensures limit { receiver_limit s.new.state.receiver ≡ receiver_limit s.old.state.receiver }
 {
     s.lend().receiver.set_room(room);
 }
@@ -145,12 +178,13 @@ pub extern "C" fn lis_receiver_set_room(s: &mut LisReceiver, room: bool)
 /// other number.
 #[unsafe(no_mangle)]
 pub extern "C" fn lis_receiver_set_ready(s: &mut LisReceiver, readiness: u8) -> u8
-    ensures state { (r : ReceiverState) (known : Readiness) → IsIn 240 s.old.state.receiver r →
+    ensures state { (r : ReceiverState) (known : Readiness) → Receives s.old.state.receiver r →
         readiness ≡ readiness_code known →
-        (result ≡ OK) × IsIn 240 s.new.state.receiver (with_readiness known r) }
+        (result ≡ OK) × Receives s.new.state.receiver (with_readiness known r) }
     ensures refused { 3 ≤ readiness → (result ≡ BAD_NUMBER) × (s.new.state ≡ s.old.state) }
     ensures text { s.new.state.text ≡ s.old.state.text }
-    ensures spare { s.new.state.receiver.spare ≡ s.old.state.receiver.spare }
+    ensures spare { spare_of s.new.state.receiver ≡ spare_of s.old.state.receiver }
+    ensures limit { receiver_limit s.new.state.receiver ≡ receiver_limit s.old.state.receiver }
 {
     let readiness = match readiness {
         0 => Readiness::Ready,
@@ -167,11 +201,12 @@ pub extern "C" fn lis_receiver_set_ready(s: &mut LisReceiver, readiness: u8) -> 
 #[unsafe(no_mangle)]
 pub extern "C" fn lis_receiver_reserve(s: &mut LisReceiver, bytes: u64) -> u8
     ensures status { ReserveStatus result bytes }
-    ensures spare { result ≡ OK → bytes ≤ s.new.state.receiver.spare }
-    ensures kept { s.old.state.receiver.spare ≤ s.new.state.receiver.spare }
-    ensures refused { result ≡ OUT_OF_MEMORY → s.old.state.receiver.spare < bytes }
-    ensures state { (r : ReceiverState) → IsIn 240 s.old.state.receiver r → IsIn 240 s.new.state.receiver r }
+    ensures spare { result ≡ OK → bytes ≤ spare_of s.new.state.receiver }
+    ensures kept { spare_of s.old.state.receiver ≤ spare_of s.new.state.receiver }
+    ensures refused { result ≡ OUT_OF_MEMORY → spare_of s.old.state.receiver < bytes }
+    ensures state { (r : ReceiverState) → Receives s.old.state.receiver r → Receives s.new.state.receiver r }
     ensures text { s.new.state.text ≡ s.old.state.text }
+    ensures limit { receiver_limit s.new.state.receiver ≡ receiver_limit s.old.state.receiver }
 {
     if bytes > LONGEST_TEXT as u64 {
         return status::TOO_LONG;
@@ -185,7 +220,7 @@ pub extern "C" fn lis_receiver_reserve(s: &mut LisReceiver, bytes: u64) -> u8
 /// Whether the line is open: while it is, the caller runs the receiver's timer.
 #[unsafe(no_mangle)]
 pub extern "C" fn lis_receiver_is_open(s: &mut LisReceiver) -> bool
-    ensures value { (r : ReceiverState) → IsIn 240 s.old.state.receiver r → result ≡ r.is_open }
+    ensures value { (r : ReceiverState) → Receives s.old.state.receiver r → result ≡ r.is_open }
     ensures same { s.new.state ≡ s.old.state }
 {
     s.lend().receiver.is_open()
@@ -194,7 +229,7 @@ pub extern "C" fn lis_receiver_is_open(s: &mut LisReceiver) -> bool
 /// How many frames were accepted since the line was last opened.
 #[unsafe(no_mangle)]
 pub extern "C" fn lis_receiver_accepted(s: &mut LisReceiver) -> u64
-    ensures value { (r : ReceiverState) → IsIn 240 s.old.state.receiver r → result ≡ length r.accepted }
+    ensures value { (r : ReceiverState) → Receives s.old.state.receiver r → result ≡ length r.accepted }
     ensures same { s.new.state ≡ s.old.state }
 {
     s.lend().receiver.accepted()
@@ -203,7 +238,7 @@ pub extern "C" fn lis_receiver_accepted(s: &mut LisReceiver) -> u64
 /// How many bytes are held of the text that isn't complete.
 #[unsafe(no_mangle)]
 pub extern "C" fn lis_receiver_held(s: &mut LisReceiver) -> u64
-    ensures value { (r : ReceiverState) → IsIn 240 s.old.state.receiver r → result ≡ held_length r }
+    ensures value { (r : ReceiverState) → Receives s.old.state.receiver r → result ≡ held_length r }
     ensures same { s.new.state ≡ s.old.state }
 {
     s.lend().receiver.held()

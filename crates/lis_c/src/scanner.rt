@@ -1,9 +1,10 @@
 //! The scanner for programs in C.
 
-ghost use Rattle.std.specs.Prelude.{◌≡◌, ◌∷◌, ℕ, List, take};
+ghost use Rattle.std.specs.Prelude.{◌≡◌, ◌≢◌, ◌∷◌, ℕ, List, length, take};
 ghost use Rattle.lis_c.specs.declared.desk.ScannerDesk.{ScannerDesk};
+ghost use Rattle.lis_c.specs.Limits.{LimitStatus, NewScanner, ScansFor, scanner_limit, scanner_text};
 ghost use Rattle.lis_c.specs.Signals.{FedAndTold, TellsSignal};
-ghost use Rattle.lis_frame.specs.Scanner.{StandsFor};
+ghost use Rattle.lis_c.specs.Status.{OK, copy_status};
 ghost use Rattle.lis_frame.specs.Stream.{signal_after, stream_with};
 ghost use Rattle.lis_c.specs.New.{IsNewScanner, type_align};
 ghost use Rattle.lis_c.specs.contracts.desk.ScannerDesk.{the_row as desk_row};
@@ -12,8 +13,9 @@ ghost use Rattle.std.specs.Mem.{type_size};
 ghost use Rattle.std.specs.Ptr.{room_at};
 
 use crate::desk::{ScannerDesk, let_go_scanner};
-use crate::feed::feed;
-use crate::out::{LisSignal, tell_signal};
+use crate::out::{LisSignal, copy_text};
+use crate::scanning::AnyScanner;
+use crate::status;
 use std::alloc::Global;
 use std::marker::Model;
 use std::mem::{align_of, size_of};
@@ -72,30 +74,73 @@ pub unsafe extern "C" fn lis_scanner_init(alloc: Global, at: *mut u8)
     (at as *mut ScannerDesk).write(ScannerDesk::new(alloc));
 }
 
+/// Sets how long the text of a frame may be, 240 bytes or 63,993, and begins anew: `OK`; `BAD_NUMBER` if it is another
+/// limit; `OUT_OF_MEMORY`. Else than with `OK` nothing has changed. Only the long limit takes memory.
+#[unsafe(no_mangle)]
+pub extern "C" fn lis_scanner_set_limit(alloc: Global, s: &mut LisScanner, limit: usize) -> u8
+    ensures status { LimitStatus result limit }
+    ensures set { result ≡ OK → NewScanner limit s.new.state.scanner }
+    ensures refused { result ≢ OK → s.new.state ≡ s.old.state }
+{
+    let scanner = match limit {
+        240 => AnyScanner::usual(),
+        63_993 => match AnyScanner::long(alloc) {
+            Ok(scanner) => scanner,
+            Err(_) => return status::OUT_OF_MEMORY,
+        },
+        _ => return status::BAD_NUMBER,
+    };
+    s.lend().scanner = scanner;
+    status::OK
+}
+
 /// Reads one byte, and tells the signal that it gives.
 #[unsafe(no_mangle)]
 pub extern "C" fn lis_scanner_push(s: &mut LisScanner, byte: u8, out: &mut LisSignal)
-    ensures signal { (past : List ℕ) → StandsFor 240 s.old.state.scanner past →
-        TellsSignal (signal_after 240 past byte) out.new }
-    ensures after { (past : List ℕ) → StandsFor 240 s.old.state.scanner past →
-        StandsFor 240 s.new.state.scanner (byte ∷ past) }
+    ensures signal { (past : List ℕ) → ScansFor s.old.state.scanner past →
+        TellsSignal (signal_after (scanner_limit s.old.state.scanner) past byte) out.new
+        (scanner_text s.new.state.scanner) }
+    ensures after { (past : List ℕ) → ScansFor s.old.state.scanner past →
+        ScansFor s.new.state.scanner (byte ∷ past) }
+    ensures limit { scanner_limit s.new.state.scanner ≡ scanner_limit s.old.state.scanner }
 {
-    let signal = s.lend().scanner.push(byte);
-    tell_signal(signal, out);
+    s.lend().scanner.push(byte, out);
 }
 
 /// Reads bytes up to the first that gives a signal, or all of them where none does, tells the signal, and answers how
 /// many it read.
 #[unsafe(no_mangle)]
 pub extern "C" fn lis_scanner_feed(s: &mut LisScanner, bytes: &[u8], out: &mut LisSignal) -> usize
-    ensures signal { (past : List ℕ) → StandsFor 240 s.old.state.scanner past →
-        FedAndTold past bytes.now result out.new }
-    ensures after { (past : List ℕ) → StandsFor 240 s.old.state.scanner past →
-        StandsFor 240 s.new.state.scanner (stream_with past (take result bytes.now)) }
+    ensures signal { (past : List ℕ) → ScansFor s.old.state.scanner past →
+        FedAndTold (scanner_limit s.old.state.scanner) past bytes.now result out.new
+        (scanner_text s.new.state.scanner) }
+    ensures after { (past : List ℕ) → ScansFor s.old.state.scanner past →
+        ScansFor s.new.state.scanner (stream_with past (take result bytes.now)) }
+    ensures limit { scanner_limit s.new.state.scanner ≡ scanner_limit s.old.state.scanner }
 {
-    let (count, signal) = feed(&mut s.lend().scanner, bytes);
-    tell_signal(signal, out);
-    count
+    s.lend().scanner.feed(bytes, out)
+}
+
+/// The length of the text of the frame that was read last, if a signal has no room for it; else 0.
+#[unsafe(no_mangle)]
+pub extern "C" fn lis_scanner_text_len(s: &mut LisScanner) -> usize
+    ensures value { result ≡ length (scanner_text s.old.state.scanner) }
+    ensures same { s.new.state ≡ s.old.state }
+{
+    s.lend().scanner.text().len()
+}
+
+/// Copies that text to the front of a buffer. `TOO_SHORT`, and nothing is copied, if it is longer than the buffer.
+#[unsafe(no_mangle)]
+pub extern "C" fn lis_scanner_text(s: &mut LisScanner, out: &mut [u8]) -> u8
+    ensures status { result ≡ copy_status (length out.old) (length (scanner_text s.old.state.scanner)) }
+    ensures copied { result ≡ OK →
+        take (length (scanner_text s.old.state.scanner)) out.new ≡ scanner_text s.old.state.scanner }
+    ensures refused { result ≢ OK → out.new ≡ out.old }
+    ensures same { s.new.state ≡ s.old.state }
+{
+    let mut size = 0;
+    copy_text(s.lend().scanner.text(), out, &mut size)
 }
 
 /// Ends a scanner; its block is the caller's again.

@@ -74,7 +74,11 @@ class RecordOut(ctypes.Structure):
 # What each call answers, and what it takes.
 _CALLS: Dict[str, Any] = {
     "frame_write": (_BYTE, _BYTE, _FLAG, _POINTER, _SIZE, _POINTER, _POINTER),
+    "long_frame_write": (_BYTE, _BYTE, _FLAG, _POINTER, _SIZE, _POINTER, _SIZE, _POINTER, _POINTER),
+    "scanner_set_limit": (_BYTE, _POINTER, _SIZE),
     "scanner_feed": (_SIZE, _POINTER, _POINTER, _SIZE, _POINTER),
+    "scanner_text_len": (_SIZE, _POINTER),
+    "scanner_text": (_BYTE, _POINTER, _POINTER, _SIZE),
     "header_read": (_BYTE, _POINTER, _SIZE, _POINTER, _POINTER),
     "record_read": (_BYTE, _POINTER, _POINTER, _SIZE, _POINTER),
     "header_part": (_BYTE, _POINTER, _SIZE, _SIZE, _SIZE, _SIZE, _POINTER, _SIZE, _POINTER),
@@ -100,6 +104,7 @@ _CALLS: Dict[str, Any] = {
     "sender_phase": (_BYTE, _POINTER),
     "sender_outcome": (_BYTE, _POINTER),
     "sender_acknowledged": (_COUNT, _POINTER),
+    "receiver_set_limit": (_BYTE, _POINTER, _SIZE),
     "receiver_hear": (_SIZE, _POINTER, _POINTER, _SIZE, _POINTER),
     "receiver_timer": (None, _POINTER, _POINTER),
     "receiver_restart": (None, _POINTER),

@@ -13,8 +13,10 @@ from ._checks import as_bytes, as_flag, as_number
 
 #: The standard's timers, in seconds.
 REPLY, BUSY, CONTENTION, RECEIVER = 15, 10, 1, 30
-#: The most bytes of a frame's text.
-FRAME_TEXT = 240
+#: The most bytes of a frame's text: with the usual limit, and with the long one.
+FRAME_TEXT, LONG_FRAME_TEXT = 240, 63993
+# The kind of a signal whose text is next to it; it is a FRAME here.
+_LONG_FRAME = 5
 
 
 class Status(enum.IntEnum):
@@ -129,9 +131,13 @@ def address(data: bytes) -> int:
     return ctypes.cast(ctypes.c_char_p(data), ctypes.c_void_p).value or 0
 
 
-def frame_bytes(number: int, last: bool, text: bytes) -> bytes:
-    """The bytes of a frame, STX to LF."""
+def frame_bytes(number: int, last: bool, text: bytes, *, frame_limit: int = FRAME_TEXT) -> bytes:
+    """The bytes of a frame, STX to LF. Its text has at most `frame_limit` bytes, FRAME_TEXT or LONG_FRAME_TEXT."""
     number, last, text = as_number(number, 0, 255, "the frame's number"), as_flag(last, "last"), as_bytes(text)
+    if frame_limit == LONG_FRAME_TEXT:
+        return _long_frame_bytes(number, last, text)
+    if frame_limit != FRAME_TEXT:
+        raise LinkError(Status.BAD_NUMBER)
     out, place = _library.Bytes(), ctypes.c_size_t()
     status = _library.calls()["frame_write"](
         number, last, address(text), len(text), ctypes.byref(out), ctypes.byref(place)
@@ -139,6 +145,16 @@ def frame_bytes(number: int, last: bool, text: bytes) -> bytes:
     if status:
         raise LinkError(status, None, place.value)
     return bytes(out.bytes[: out.len])
+
+
+def _long_frame_bytes(number: int, last: bool, text: bytes) -> bytes:
+    out, size, place = ctypes.create_string_buffer(len(text) + 7), ctypes.c_size_t(), ctypes.c_size_t()
+    status = _library.calls()["long_frame_write"](
+        number, last, address(text), len(text), out, len(out), ctypes.byref(size), ctypes.byref(place)
+    )
+    if status:
+        raise LinkError(status, None, place.value)
+    return out.raw[: size.value]
 
 
 class Owner:
@@ -167,6 +183,27 @@ class Owner:
 
     def _call(self, name: str, *words: Any) -> Any:
         return _library.calls()[f"{self._kind}_{name}"](ctypes.byref(self._owned()), *words)
+
+    def _set_limit(self, limit: int) -> None:
+        """How long a frame's text may be; an object that can't have that limit is closed."""
+        if limit == FRAME_TEXT:
+            return
+        try:
+            status = self._call("set_limit", as_number(limit, 0, (1 << 64) - 1, "the frame limit"))
+            if status:
+                raise LinkError(status)
+        except BaseException:
+            self.close()
+            raise
+
+    def _text(self) -> bytes:
+        """The text that is there to be copied."""
+        size = self._call("text_len")
+        copy = (ctypes.c_uint8 * max(size, 1))()
+        status = self._call("text", copy, size)
+        if status:
+            raise LinkError(status)
+        return bytes(copy[:size])
 
     def _add(self, data: bytes) -> int:
         """Puts a piece behind what is left; answers the place of its first byte, less than nothing is never it."""
@@ -210,9 +247,13 @@ class Owner:
 
 
 class Scanner(Owner):
-    """Reads link bytes in pieces."""
+    """Reads link bytes in pieces. A frame's text has at most `frame_limit` bytes, FRAME_TEXT or LONG_FRAME_TEXT."""
 
     _kind = "scanner"
+
+    def __init__(self, *, frame_limit: int = FRAME_TEXT) -> None:
+        super().__init__()
+        self._set_limit(frame_limit)
 
     def feed(self, data: bytes) -> Iterator[Signal]:
         """The signals of further bytes, in order. Bytes that a loop leaves unread are read by the next call."""
@@ -228,13 +269,14 @@ class Scanner(Owner):
         while self._at < len(self._piece):
             self._read_on("feed", out)
             if out.kind:
+                is_long = out.kind == _LONG_FRAME
                 yield self._at - 1 - left, Signal(
-                    Kind(out.kind),
+                    Kind.FRAME if is_long else Kind(out.kind),
                     out.number,
                     out.last,
                     FrameFault(out.fault),
                     out.place,
-                    bytes(out.text[: out.len]),
+                    self._text() if is_long else bytes(out.text[: out.len]),
                 )
 
 
@@ -301,9 +343,15 @@ class Sender(Owner):
 
 
 class Receiver(Owner):
-    """The receiving end. Keep a step's text first, then send its reply; can't you keep it, restart and send nothing."""
+    """The receiving end. Keep a step's text first, then send its reply; can't you keep it, restart and send nothing.
+
+    A frame's text has at most `frame_limit` bytes, FRAME_TEXT or LONG_FRAME_TEXT."""
 
     _kind = "receiver"
+
+    def __init__(self, *, frame_limit: int = FRAME_TEXT) -> None:
+        super().__init__()
+        self._set_limit(frame_limit)
 
     def hear(self, data: bytes) -> Iterator[Step]:
         """The steps of further bytes that mean something, in order. Bytes that a loop leaves unheard are heard by the
@@ -364,12 +412,5 @@ class Receiver(Owner):
         return int(self._call("held"))
 
     def _told(self, out: _library.StepOut) -> Step:
-        text = None
-        if out.has_text:
-            size = self._call("text_len")
-            copy = (ctypes.c_uint8 * max(size, 1))()
-            status = self._call("text", copy, size)
-            if status:
-                raise LinkError(status)
-            text = bytes(copy[:size])
+        text = self._text() if out.has_text else None
         return Step(bytes([out.reply]) if out.reply else b"", text, Note(out.note), out.detail, out.place)

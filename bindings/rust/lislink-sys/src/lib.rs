@@ -30,6 +30,7 @@ pub const LIS_SIGNAL_ENQ: lis_signal_kind = 1;
 pub const LIS_SIGNAL_EOT: lis_signal_kind = 2;
 pub const LIS_SIGNAL_FRAME: lis_signal_kind = 3;
 pub const LIS_SIGNAL_BAD_FRAME: lis_signal_kind = 4;
+pub const LIS_SIGNAL_LONG_FRAME: lis_signal_kind = 5;
 
 pub type lis_fault = u8;
 pub const LIS_FAULT_NONE: lis_fault = 0;
@@ -95,6 +96,8 @@ pub const LIS_SECONDS_RECEIVER: u64 = 30;
 
 pub const LIS_LIMIT_FRAME_TEXT: u64 = 240;
 pub const LIS_LIMIT_FRAME_BYTES: u64 = 247;
+pub const LIS_LIMIT_LONG_FRAME_TEXT: u64 = 63993;
+pub const LIS_LIMIT_LONG_FRAME_BYTES: u64 = 64000;
 pub const LIS_LIMIT_TEXTS: u64 = 65536;
 pub const LIS_LIMIT_TEXT_BYTES: u64 = 1048576;
 pub const LIS_LIMIT_RECORD_BYTES: u64 = 65536;
@@ -245,6 +248,7 @@ extern "C" {
     pub fn lis_scanner_align() -> usize;
     pub fn lis_scanner_init(at: *mut c_void);
     pub fn lis_scanner_end(s: lis_scanner);
+    pub fn lis_scanner_set_limit(s: *mut lis_scanner, limit: usize) -> lis_status;
     pub fn lis_scanner_push(s: *mut lis_scanner, byte: u8, out: *mut lis_signal);
     pub fn lis_scanner_feed(
         s: *mut lis_scanner,
@@ -252,12 +256,24 @@ extern "C" {
         bytes_len: usize,
         out: *mut lis_signal,
     ) -> usize;
+    pub fn lis_scanner_text_len(s: *mut lis_scanner) -> usize;
+    pub fn lis_scanner_text(s: *mut lis_scanner, out: *mut u8, out_len: usize) -> lis_status;
     pub fn lis_frame_write(
         number: u8,
         last: bool,
         text: *const u8,
         text_len: usize,
         out: *mut lis_bytes,
+        place: *mut usize,
+    ) -> lis_status;
+    pub fn lis_long_frame_write(
+        number: u8,
+        last: bool,
+        text: *const u8,
+        text_len: usize,
+        out: *mut u8,
+        out_len: usize,
+        size: *mut usize,
         place: *mut usize,
     ) -> lis_status;
     pub fn lis_sender_size() -> usize;
@@ -305,6 +321,7 @@ extern "C" {
     pub fn lis_receiver_align() -> usize;
     pub fn lis_receiver_init(at: *mut c_void);
     pub fn lis_receiver_end(s: lis_receiver);
+    pub fn lis_receiver_set_limit(s: *mut lis_receiver, limit: usize) -> lis_status;
     pub fn lis_receiver_byte(s: *mut lis_receiver, byte: u8, out: *mut lis_step);
     pub fn lis_receiver_hear(
         s: *mut lis_receiver,

@@ -1,8 +1,8 @@
 //! The scripted session over the crate: a message is written, sent, heard, kept and read back, with each refusal on the
 //! way. Prints what tests/ffi/session.txt has.
 use lislink::{
-    frame, Connection, Error, Fault, Heard, Outcome, Phase, Reader, Reason, Receiver, Scanner,
-    Sender, Signal,
+    frame, long_frame, Connection, Error, Fault, FrameLimit, Heard, Outcome, Phase, Reader, Reason,
+    Receiver, Scanner, Sender, Signal,
 };
 use lislink::{Status, Writer};
 
@@ -114,8 +114,31 @@ fn of_frames() {
     assert_eq!(frame(1, true, b"").map(|it| it.len()), Ok(7));
 }
 
+/// Frames of over 240 bytes of text, with the limit that takes them and with the usual one.
+fn of_long_frames() {
+    let text = vec![b'a'; 5000];
+    let bytes = long_frame(1, true, &text).expect("a frame");
+    assert_eq!(long_frame(1, true, b"P|1\r"), frame(1, true, b"P|1\r").map(|it| it.to_vec()));
+    assert_eq!(long_frame(8, true, b"").err().map(|it| it.status), Some(Status::BadNumber));
+    let stream = [b"\x05", &bytes[..]].concat();
+    let refused: Vec<Signal> = Scanner::new().feed(&bytes).collect();
+    assert_eq!(refused, [Signal::BadFrame(Fault::TooLong, 0)]);
+    let mut scanner = Scanner::with_frame_limit(FrameLimit::Long).expect("memory");
+    let signals: Vec<Signal> = scanner.feed(&bytes).collect();
+    assert_eq!(signals, [Signal::Frame { number: 1, last: true, text: text.clone() }]);
+    let mut receiver = Receiver::with_frame_limit(FrameLimit::Long).expect("memory");
+    let mut kept = Vec::new();
+    let keep = |text: &[u8]| {
+        kept.extend_from_slice(text);
+        true
+    };
+    assert_eq!(receiver.hear(&stream, keep, |reply| reply == 6), Heard::All);
+    assert_eq!(kept, text);
+}
+
 fn main() {
     of_frames();
+    of_long_frames();
     let texts = texts_of(&mut Writer::new()).expect("a message");
     let (mut sender, mut receiver) = (Sender::new(), Receiver::new());
     fail_to_keep(&mut sender, &mut receiver, &texts);

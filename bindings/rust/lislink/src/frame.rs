@@ -41,6 +41,45 @@ pub fn frame(number: u8, last: bool, text: &[u8]) -> Result<Bytes, Error> {
     Ok(out)
 }
 
+/// The most bytes of a frame's text.
+#[derive(Clone, Copy, Debug, PartialEq, Eq)]
+pub enum FrameLimit {
+    /// 240, as the standard has it.
+    Usual,
+    /// 63,993.
+    Long,
+}
+
+impl FrameLimit {
+    pub(crate) fn bytes(self) -> usize {
+        match self {
+            FrameLimit::Usual => sys::LIS_LIMIT_FRAME_TEXT as usize,
+            FrameLimit::Long => sys::LIS_LIMIT_LONG_FRAME_TEXT as usize,
+        }
+    }
+}
+
+/// As [`frame`], for a text of up to 63,993 bytes.
+pub fn long_frame(number: u8, last: bool, text: &[u8]) -> Result<Vec<u8>, Error> {
+    let mut out = vec![0; text.len() + 7];
+    let (mut size, mut place) = (0, 0);
+    let (to, room) = (out.as_mut_ptr(), out.len());
+    let status = unsafe {
+        sys::lis_long_frame_write(
+            number,
+            last,
+            text.as_ptr(),
+            text.len(),
+            to,
+            room,
+            &mut size,
+            &mut place,
+        )
+    };
+    Error::of(status, 0, place)?;
+    Ok(out)
+}
+
 /// What a scanner reads.
 #[derive(Clone, Debug, PartialEq, Eq)]
 pub enum Signal {
@@ -76,6 +115,22 @@ impl Scanner {
         Scanner(Block::new())
     }
 
+    /// The same for frames whose texts are within a limit; an error if there is no memory for it.
+    pub fn with_frame_limit(limit: FrameLimit) -> Result<Self, Error> {
+        let mut scanner = Self::new();
+        let status = unsafe { sys::lis_scanner_set_limit(scanner.0.get(), limit.bytes()) };
+        Error::of(status, 0, 0)?;
+        Ok(scanner)
+    }
+
+    /// The text of a long frame that was read last.
+    fn text(&mut self) -> Vec<u8> {
+        let scanner = self.0.get();
+        let mut text = vec![0; unsafe { sys::lis_scanner_text_len(scanner) }];
+        unsafe { sys::lis_scanner_text(scanner, text.as_mut_ptr(), text.len()) };
+        text
+    }
+
     /// The signals of these bytes. What the iterator was not asked for is not read.
     pub fn feed<'a>(&'a mut self, bytes: &'a [u8]) -> impl Iterator<Item = Signal> + 'a {
         let mut rest = bytes;
@@ -87,7 +142,12 @@ impl Scanner {
                     sys::lis_scanner_feed(scanner, rest.as_ptr(), rest.len(), out.as_mut_ptr())
                 };
                 rest = &rest[read..];
-                if let Some(signal) = signal_of(unsafe { &*out.as_ptr() }) {
+                let found = unsafe { &*out.as_ptr() };
+                if found.kind == sys::LIS_SIGNAL_LONG_FRAME {
+                    let text = self.text();
+                    return Some(Signal::Frame { number: found.number, last: found.last, text });
+                }
+                if let Some(signal) = signal_of(found) {
                     return Some(signal);
                 }
             }

@@ -1,5 +1,5 @@
 //! The receiver.
-use crate::{block::Block, Error, Note, Ready};
+use crate::{block::Block, Error, FrameLimit, Note, Ready};
 use lislink_sys as sys;
 use std::time::{Duration, Instant};
 
@@ -54,6 +54,14 @@ impl Receiver {
     /// A receiver, neutral and ready.
     pub fn new() -> Self {
         Receiver { block: Block::new(), text: Vec::new() }
+    }
+
+    /// The same for frames whose texts are within a limit; an error if there is no memory for it.
+    pub fn with_frame_limit(limit: FrameLimit) -> Result<Self, Error> {
+        let mut receiver = Self::new();
+        let status = unsafe { sys::lis_receiver_set_limit(receiver.block.get(), limit.bytes()) };
+        Error::of(status, 0, 0)?;
+        Ok(receiver)
     }
 
     /// Hears bytes. For each text that is complete `keep` is called, and only if it says true `send`, with the reply.

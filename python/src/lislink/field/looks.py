@@ -204,7 +204,7 @@ def _never_ended(ladder: Ladder) -> Iterator[Look]:
 
 
 _ADVICE = {
-    "long": "`lislink replay --long` takes frames of up to 63,993 bytes; the library for C and this ladder have 240",
+    "long": "`lislink replay --long` takes frames of up to 63,993 bytes; this ladder has 240",
     "lf-in-text": "the sender must put CR alone after a record; no receiver can take LF inside a frame",
     "no-sum": "another dialect of the link: frames without a checksum aren't taken",
     "flow-control": "turn XON/XOFF off at both ends",

@@ -1,44 +1,58 @@
-use Rattle.std.proofs.Common.{arith, length-drop}
+-- The signal is that of the front that gave one, and all bytes before it give none.
+use Rattle.std.proofs.Common.{None, arith, length-drop, ◌∙◌}
 use Rattle.std.proofs.lemmas.List.{take_rest}
 use Rattle.lis_c.proofs.FeedLaws.{behind_silent, silent_run, stands_behind}
+use Rattle.lis_c.proofs.SignalLaws.{heard, silent}
 use Rattle.lis_c.proofs.feed.feed.Goals as goal
 
-pub returns-in-Some-clause-fed : goal.returns-in-Some-clause-fed
-returns-in-Some-clause-fed c past stands =
-    let inv = c.loop-count.invariant.1 past stands in
-    let told = rw (take_rest c.args.bytes.now c.loop-count.count) at (c.front-more.ensures.tells _ inv.1) in
+pub returns-then-report-ne0-clause-fed : goal.returns-then-report-ne0-clause-fed
+returns-then-report-ne0-clause-fed g c past stands =
+    let i = c.loop-count.invariant in
+    let told = rw (take_rest c.args.bytes.now c.loop-count.count) at
+    (c.front-more.ensures.last _ (i.stands past stands)) in
     record {
-      first =
-          rw c.in-Some.is at
-          (behind_silent past c.args.bytes.now c.loop-count.count c.front-more.result.0 c.front-more.result.1
-          c.loop-count.invariant.0 c.front-more.ensures.some inv.0 told);
-      all = λ e. absurd cc;
+      signal = told.signal;
+      fed = record {
+        first = behind_silent g.row.N past c.args.bytes.now c.loop-count.count c.front-more.result.0 told.signal
+            i.within c.front-more.ensures.some (i.silent past stands) told.last;
+        all = λ none. absurd (heard told.signal _ _ told.reported c.if-report-ne0.true none);
+      };
+      reported = told.reported;
     }
 
-pub returns-in-Some-clause-after : goal.returns-in-Some-clause-after
-returns-in-Some-clause-after c past stands =
-    let inv = c.loop-count.invariant.1 past stands in
-    let after = rw (take_rest c.args.bytes.now c.loop-count.count) at (c.front-more.ensures.after _ inv.1) in
-    stands_behind past c.args.bytes.now c.loop-count.count c.front-more.result.0 _ after
+pub returns-then-report-ne0-clause-after : goal.returns-then-report-ne0-clause-after
+returns-then-report-ne0-clause-after g c past stands =
+    let after = rw (take_rest c.args.bytes.now c.loop-count.count) at
+    (c.front-more.ensures.after _ (c.loop-count.invariant.stands past stands)) in
+    stands_behind g.row.N past c.args.bytes.now c.loop-count.count c.front-more.result.0 _ after
 
 pub loop-count-preserved : goal.loop-count-preserved
-loop-count-preserved c =
-    let more = rw (take_rest c.args.bytes.now c.loop-count.count) at c.front-more.ensures.bound in (
-      omega (arith, length-drop c.loop-count.count c.args.bytes.now, more, c.loop-count.invariant.0),
-      λ past stands.
-          let inv = c.loop-count.invariant.1 past stands in
-          let told = rw (take_rest c.args.bytes.now c.loop-count.count) at (c.front-more.ensures.tells _ inv.1) in
-          let after = rw (take_rest c.args.bytes.now c.loop-count.count) at (c.front-more.ensures.after _ inv.1) in
-          let on =
-          rw c.in_default.is at
-          (behind_silent past c.args.bytes.now c.loop-count.count c.front-more.result.0 c.front-more.result.1
-          c.loop-count.invariant.0 c.front-more.ensures.some inv.0 told) in
-          (on.tells, stands_behind past c.args.bytes.now c.loop-count.count c.front-more.result.0 _ after),
-    )
+loop-count-preserved g c =
+    let i = c.loop-count.invariant in
+    let more = rw (take_rest c.args.bytes.now c.loop-count.count) at c.front-more.ensures.bound in
+    record {
+      within = omega (arith, length-drop c.loop-count.count c.args.bytes.now, more, i.within);
+      room = c.front-more.ensures.room ∙ i.room;
+      silent = λ past stands.
+          let told = rw (take_rest c.args.bytes.now c.loop-count.count) at
+          (c.front-more.ensures.last _ (i.stands past stands)) in
+          let none = silent told.signal _ _ told.reported c.if-report-ne0.false in
+          (rw none at
+          (behind_silent g.row.N past c.args.bytes.now c.loop-count.count c.front-more.result.0 told.signal i.within
+          c.front-more.ensures.some (i.silent past stands) told.last)).tells;
+      stands = λ past stands.
+          let after = rw (take_rest c.args.bytes.now c.loop-count.count) at
+          (c.front-more.ensures.after _ (i.stands past stands)) in
+          stands_behind g.row.N past c.args.bytes.now c.loop-count.count c.front-more.result.0 _ after;
+    }
 
 pub returns-clause-fed : goal.returns-clause-fed
-returns-clause-fed c past stands = record {
-  first = silent_run past c.args.bytes.now c.loop-count.count c.loop-count.invariant.0
-      (c.loop-count.invariant.1 past stands).0;
-  all = λ e. omega (arith, c.loop-count.invariant.0, c.loop-count-test.false);
+returns-clause-fed g c past stands = record {
+  signal = None;
+  fed = record {
+    first = silent_run g.row.N past c.args.bytes.now c.loop-count.count c.loop-count.invariant.within
+        (c.loop-count.invariant.silent past stands);
+    all = λ e. omega (arith, c.loop-count.invariant.within, c.loop-count-test.false);
+  };
+  reported = c.report_heard.ensures.signal;
 }

@@ -1,0 +1,63 @@
+-- The limit on a frame's text: the usual one of 240 bytes, or the long one of 63,993.
+use Rattle.std.specs.Prelude.{◌≡◌, ◌≢◌, ℕ, ◌⊎◌, List, []}
+use Rattle.lis_frame.specs.Scanner.{Held, StandsFor}
+use Rattle.lis_link.specs.Receiver.{ReceiverState, new_receiver}
+use Rattle.lis_link.specs.inside.Kept.{Kept}
+use Rattle.lis_link.specs.inside.Stands.{IsIn}
+use Rattle.lis_c.specs.Status.{BAD_NUMBER, OK, OUT_OF_MEMORY}
+use Rattle.lis_c.specs.declared.receiving.AnyReceiver.{AnyReceiver}
+use Rattle.lis_c.specs.declared.receiving.AnyReceiver.TheVariants as receivers
+use Rattle.lis_c.specs.declared.scanning.AnyScanner.{AnyScanner}
+use Rattle.lis_c.specs.declared.scanning.AnyScanner.TheVariants as scanners
+
+-- a limit was set: it is one of the two, and memory may be refused for the long one
+abbrev pub LimitStatus : ℕ → ℕ → Type 0
+LimitStatus status limit =
+    ((status ≡ BAD_NUMBER) × (limit ≢ 240) × (limit ≢ 63993))
+    ⊎ ((status ≡ OK) × (limit ≡ 240))
+    ⊎ ((limit ≡ 63993) × ((status ≡ OK) ⊎ (status ≡ OUT_OF_MEMORY)))
+
+-- the limit of a scanner, what it holds, and the text of the frame that was read last, if a signal has no room for it
+abbrev pub scanner_limit : AnyScanner → ℕ
+scanner_limit (scanners.Usual held) = 240
+scanner_limit (scanners.Long long) = 63993
+
+abbrev pub scanner_held : AnyScanner → Held
+scanner_held (scanners.Usual held) = held
+scanner_held (scanners.Long long) = long.value.scanner
+
+abbrev pub scanner_text : AnyScanner → List ℕ
+scanner_text (scanners.Usual held) = []
+scanner_text (scanners.Long long) = long.value.text
+
+-- it stands for a stream, newest byte first
+abbrev pub ScansFor : AnyScanner → List ℕ → Type 0
+ScansFor scanner past = StandsFor (scanner_limit scanner) (scanner_held scanner) past
+
+-- a scanner of a limit that has read no byte
+pub record NewScanner (limit : ℕ) (scanner : AnyScanner) : Type 0 where
+  pub limit_is : scanner_limit scanner ≡ limit
+  pub stream_is : ScansFor scanner []
+  pub text_is : scanner_text scanner ≡ []
+
+-- the limit of a receiver, what it keeps, and its spare room
+abbrev pub receiver_limit : AnyReceiver → ℕ
+receiver_limit (receivers.Usual kept) = 240
+receiver_limit (receivers.Long long) = 63993
+
+abbrev pub kept_by : AnyReceiver → Kept
+kept_by (receivers.Usual kept) = kept
+kept_by (receivers.Long long) = long.value
+
+abbrev pub spare_of : AnyReceiver → ℕ
+spare_of receiver = (kept_by receiver).spare
+
+-- it is in this state
+abbrev pub Receives : AnyReceiver → ReceiverState → Type 0
+Receives receiver r = IsIn (receiver_limit receiver) (kept_by receiver) r
+
+-- a new receiver of a limit, which has reserved nothing
+pub record NewReceiver (limit : ℕ) (receiver : AnyReceiver) : Type 0 where
+  pub limit_is : receiver_limit receiver ≡ limit
+  pub state_is : Receives receiver new_receiver
+  pub spare_is : spare_of receiver ≡ 0

@@ -1,0 +1,190 @@
+//! A receiver of the usual limit on a frame's text, or of the long one.
+
+ghost use Rattle.std.specs.Prelude.{◌≡◌, ◌≢◌, ◌≤◌, ◌<◌, ◌∷◌, length, take, IfOk, OnErr, OnOk};
+ghost use Rattle.lis_c.specs.Limits.{NewReceiver, Receives, kept_by, receiver_limit, spare_of};
+ghost use Rattle.lis_link.specs.declared.receiver.Note.TheVariants as Notes;
+ghost use Rattle.lis_link.specs.Receiver.{ReceiverState, held_length, on_byte, on_bytes, on_receiver_timer};
+ghost use Rattle.lis_link.specs.Receiver.{receiver_restarted, with_heard, with_readiness, with_room};
+ghost use Rattle.lis_link.specs.inside.Stands.{IsIn, Makes, RefusesFrame, SpareAfter};
+ghost use Rattle.lis_text.specs.LinkText.{longest_text};
+
+use lis_link::{Hearing, Readiness, Receiver, ReceiverOf, Step};
+use lis_text::LinkText;
+use std::alloc::{AllocError, Global};
+
+/// A receiver of either limit.
+#[derive(Drop)]
+pub enum AnyReceiver {
+    Usual(Receiver),
+    Long(Box<ReceiverOf<63_993>>),
+}
+
+impl AnyReceiver {
+    /// A new receiver of the usual limit.
+    pub(crate) fn usual(alloc: Global) -> Self
+        ensures { NewReceiver 240 result }
+    {
+        AnyReceiver::Usual(Receiver::new(alloc))
+    }
+
+    /// A new receiver of the long limit.
+    #[inline(never)]
+    pub(crate) fn long(alloc: Global) -> Result<Self, AllocError>
+        ensures { IfOk result (NewReceiver 63993) }
+    {
+        Ok(AnyReceiver::Long(Box::new(alloc, ReceiverOf::new(alloc))?))
+    }
+
+    /// How ENQ is answered from now on.
+    pub(crate) fn set_ready(&mut self, readiness: Readiness)
+        ensures state { (r : ReceiverState) → Receives self.old r → Receives self.new (with_readiness readiness r) }
+        ensures spare { spare_of self.new ≡ spare_of self.old }
+        ensures limit { receiver_limit self.new ≡ receiver_limit self.old }
+    {
+        match self {
+            AnyReceiver::Usual(receiver) => receiver.set_ready(readiness),
+            AnyReceiver::Long(receiver) => receiver.set_ready(readiness),
+        }
+    }
+
+    /// Whether there is room for another frame from now on.
+    pub(crate) fn set_room(&mut self, room: bool)
+        ensures state { (r : ReceiverState) → Receives self.old r → Receives self.new (with_room room r) }
+        ensures spare { spare_of self.new ≡ spare_of self.old }
+        ensures limit { receiver_limit self.new ≡ receiver_limit self.old }
+    {
+        match self {
+            AnyReceiver::Usual(receiver) => receiver.set_room(room),
+            AnyReceiver::Long(receiver) => receiver.set_room(room),
+        }
+    }
+
+    /// The receiver is neutral, ready and has room again.
+    pub(crate) fn restart(&mut self)
+        ensures state { (r : ReceiverState) → Receives self.old r → Receives self.new (receiver_restarted r) }
+        ensures spare { spare_of self.old ≤ spare_of self.new }
+        ensures limit { receiver_limit self.new ≡ receiver_limit self.old }
+    {
+        match self {
+            AnyReceiver::Usual(receiver) => receiver.restart(),
+            AnyReceiver::Long(receiver) => restart_long(receiver),
+        }
+    }
+
+    /// The receiver's timer runs out.
+    pub(crate) fn timer(&mut self) -> Step
+        ensures step { (r : ReceiverState) → Receives self.old r →
+            Makes (receiver_limit self.new) (on_receiver_timer r) result (kept_by self.new) }
+        ensures spare { spare_of self.old ≤ spare_of self.new }
+        ensures limit { receiver_limit self.new ≡ receiver_limit self.old }
+    {
+        match self {
+            AnyReceiver::Usual(receiver) => receiver.timer(),
+            AnyReceiver::Long(receiver) => receiver.timer(),
+        }
+    }
+
+    /// Makes room for `bytes` more bytes of held text, at most 1,048,576.
+    pub(crate) fn reserve(&mut self, bytes: u64) -> Result<(), AllocError>
+        requires { bytes ≤ longest_text }
+        ensures ok { OnOk result (bytes ≤ spare_of self.new) }
+        ensures refused { OnErr result (spare_of self.old < bytes) }
+        ensures state { (r : ReceiverState) → Receives self.old r → Receives self.new r }
+        ensures spare { spare_of self.old ≤ spare_of self.new }
+        ensures limit { receiver_limit self.new ≡ receiver_limit self.old }
+    {
+        match self {
+            AnyReceiver::Usual(receiver) => receiver.reserve(bytes),
+            AnyReceiver::Long(receiver) => receiver.reserve(bytes),
+        }
+    }
+
+    /// Takes back a text that was delivered and is needed no more.
+    pub(crate) fn reuse(&mut self, text: LinkText)
+        ensures state { (r : ReceiverState) → Receives self.old r → Receives self.new r }
+        ensures spare { spare_of self.old ≤ spare_of self.new }
+        ensures limit { receiver_limit self.new ≡ receiver_limit self.old }
+    {
+        match self {
+            AnyReceiver::Usual(receiver) => receiver.reuse(text),
+            AnyReceiver::Long(receiver) => receiver.reuse(text),
+        }
+    }
+
+    /// Hears one byte and answers it.
+    pub(crate) fn byte(&mut self, byte: u8) -> Step
+        ensures step { (r : ReceiverState) → Receives self.old r → result.note ≢ Notes.OutOfMemory →
+            Makes (receiver_limit self.new) (on_byte (receiver_limit self.old) byte r) result (kept_by self.new) }
+        ensures refused { (r : ReceiverState) → Receives self.old r → result.note ≡ Notes.OutOfMemory →
+            RefusesFrame (receiver_limit self.new) (spare_of self.old) (on_byte (receiver_limit self.old) byte r)
+            (record r { past = byte ∷ r.past }) result (kept_by self.new) }
+        ensures spare { (r : ReceiverState) → Receives self.old r →
+            SpareAfter (spare_of self.old) (spare_of self.new) (on_byte (receiver_limit self.old) byte r).taken }
+        ensures limit { receiver_limit self.new ≡ receiver_limit self.old }
+    {
+        match self {
+            AnyReceiver::Usual(receiver) => receiver.byte(byte),
+            AnyReceiver::Long(receiver) => receiver.byte(byte),
+        }
+    }
+
+    /// Hears bytes up to the first that is not quiet, or all of them if each is quiet.
+    pub(crate) fn bytes(&mut self, bytes: &[u8]) -> Hearing
+        ensures count { (r : ReceiverState) → Receives self.old r →
+            result.count ≡ (on_bytes (receiver_limit self.old) bytes.now r).count }
+        ensures step { (r : ReceiverState) → Receives self.old r → result.step.note ≢ Notes.OutOfMemory →
+            Makes (receiver_limit self.new) (on_bytes (receiver_limit self.old) bytes.now r).step result.step
+            (kept_by self.new) }
+        ensures refused { (r : ReceiverState) → Receives self.old r → result.step.note ≡ Notes.OutOfMemory →
+            RefusesFrame (receiver_limit self.new) (spare_of self.old)
+            (on_bytes (receiver_limit self.old) bytes.now r).step (with_heard (take result.count bytes.now) r)
+            result.step (kept_by self.new) }
+        ensures spare { (r : ReceiverState) → Receives self.old r → SpareAfter (spare_of self.old)
+            (spare_of self.new) (on_bytes (receiver_limit self.old) bytes.now r).step.taken }
+        ensures limit { receiver_limit self.new ≡ receiver_limit self.old }
+    {
+        match self {
+            AnyReceiver::Usual(receiver) => receiver.bytes(bytes),
+            AnyReceiver::Long(receiver) => receiver.bytes(bytes),
+        }
+    }
+
+    /// Whether the line is open.
+    pub(crate) fn is_open(&self) -> bool
+        ensures { (r : ReceiverState) → Receives self.now r → result ≡ r.is_open }
+    {
+        match self {
+            AnyReceiver::Usual(receiver) => receiver.is_open(),
+            AnyReceiver::Long(receiver) => receiver.is_open(),
+        }
+    }
+
+    /// How many frames were accepted since the line was last opened.
+    pub(crate) fn accepted(&self) -> u64
+        ensures { (r : ReceiverState) → Receives self.now r → result ≡ length r.accepted }
+    {
+        match self {
+            AnyReceiver::Usual(receiver) => receiver.accepted(),
+            AnyReceiver::Long(receiver) => receiver.accepted(),
+        }
+    }
+
+    /// How many bytes are held of the text that isn't complete.
+    pub(crate) fn held(&self) -> u64
+        ensures { (r : ReceiverState) → Receives self.now r → result ≡ held_length r }
+    {
+        match self {
+            AnyReceiver::Usual(receiver) => receiver.held(),
+            AnyReceiver::Long(receiver) => receiver.held(),
+        }
+    }
+}
+
+/// The same for the long limit, whose new scanner takes 64 kB of the stack for a moment.
+#[inline(never)]
+fn restart_long(receiver: &mut ReceiverOf<63_993>)
+    ensures state { (r : ReceiverState) → IsIn 63993 receiver.old r → IsIn 63993 receiver.new (receiver_restarted r) }
+    ensures spare { receiver.old.spare ≤ receiver.new.spare }
+{
+    receiver.restart();
+}
