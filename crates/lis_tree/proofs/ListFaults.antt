@@ -137,13 +137,18 @@ tree_kinds m is =
           ∙ closing_level (level_after outside (kinds_of front)) m.closing.kind is.closing,
     )
 
+-- A list whose records are in the hierarchy and whose last one closes it has no fault.
+pub faultless_kinds : (ks : List Kind) (fault : MessageFault) → StandsFrom outside ks → level_after outside ks ≡ closed
+    → IsListFault ks fault → ⊥
+faultless_kinds ks fault placed ends why =
+    ⊎_elim (λ (w : IsMisplacedAt ks fault).
+    let stands = stands_back outside w.before (w.kind ∷ w.behind) (subst (StandsFrom outside) w.whole placed) in
+    let e : None ≡ Some fault.reason = sym stands.0 ∙ w.why in cc)
+    (λ (w : IsUnclosed ks fault). w.unclosed ends) why
+
 faultless : (m : MessageTree) → IsTree m → (fault : MessageFault) → IsListFault (kinds_of (flatten m)) fault → ⊥
 faultless m is fault why =
-    let all = tree_kinds m is in
-    ⊎_elim (λ (w : IsMisplacedAt (kinds_of (flatten m)) fault).
-    let stands = stands_back outside w.before (w.kind ∷ w.behind) (subst (StandsFrom outside) w.whole all.0) in
-    let e : None ≡ Some fault.reason = sym stands.0 ∙ w.why in cc)
-    (λ (w : IsUnclosed (kinds_of (flatten m)) fault). w.unclosed all.1) why
+    let all = tree_kinds m is in faultless_kinds (kinds_of (flatten m)) fault all.0 all.1 why
 
 -- so where a message has these records, memory was refused
 pub only_memory : (records : List RecordContent) (fault : MessageFault)

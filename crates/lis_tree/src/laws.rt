@@ -1,10 +1,12 @@
 //! What holds of the kinds of all lists of records, over the definitions that the contracts cite.
 ghost use Rattle.std.specs.Prelude.{◌≡◌, List, [], ◌∷◌, ◌++◌, Some, None, map};
 ghost use Rattle.lis_field.specs.declared.kinds.Kind.{Kind};
+ghost use Rattle.lis_field.specs.declared.faults.MessageFault.{MessageFault};
 ghost use Rattle.lis_field.specs.declared.faults.Reason.{Reason};
 ghost use Rattle.lis_tree.specs.Findings.{findings_of};
 ghost use Rattle.lis_tree.specs.Hierarchy.{IsViable};
-ghost use Rattle.lis_tree.specs.Level.{StandsFrom, kinds_of, level_after, misplaced, outside};
+ghost use Rattle.lis_tree.specs.Level.{StandsFrom, closed, kinds_of, level_after, misplaced, outside};
+ghost use Rattle.lis_tree.specs.ListFaults.{IsListFault};
 ghost use Rattle.lis_tree.specs.Notes.{IsNotedOn, Placed, placed};
 ghost use Rattle.lis_tree.specs.Places.{number_findings, tree_numbers};
 ghost use Rattle.lis_tree.specs.Refusing.{IsClosed, IsRefusedFor};
@@ -23,6 +25,13 @@ pub fn trees()
     ensures viable { (m : MessageTree) → IsTree m → IsViable (kinds_of (flatten m)) }
     ensures stands { (m : MessageTree) → IsTree m → StandsFrom outside (kinds_of (flatten m)) }
     ensures closed { (m : MessageTree) → IsTree m → IsClosed (kinds_of (flatten m)) }
+{}
+
+/// A list of records in the hierarchy whose last one closes the message has no fault: `Message::from_records` makes the
+/// message of it, or memory runs out.
+pub fn whole_lists()
+    ensures { (ks : List Kind) (fault : MessageFault) → StandsFrom outside ks → level_after outside ks ≡ closed
+        → IsListFault ks fault → ⊥ }
 {}
 
 /// Why a record can't come next, by its place, is why it can't in the standard's words: no message is open, one is

@@ -9,6 +9,7 @@ ghost use Rattle.uses.specs.Building.{glucose_record, glucose_test, result_recor
 
 use lis_field::{Component, Delimiters, Field, Kind, Record, Repeat};
 use lis_message::{Message, MessageFault, Records, Texts, TextsFault, message_texts};
+use lis_tree::laws::whole_lists;
 use std::alloc::{AllocError, Global};
 use std::mem::drop;
 use thiserror::Error;
@@ -29,6 +30,7 @@ pub fn result_message(alloc: Global, sample: &[u8], value: &[u8]) -> Result<Mess
     ensures ok { IfOk result (IsResultMessage sample.now value.now) }
     ensures err { IfErr result IsMemory }
 {
+    whole_lists();
     let mut records = Records::new(alloc);
     push_result(alloc, &mut records, sample, value).map_err(BuildFault::Memory)?;
     Message::from_records(alloc, Delimiters::usual(), records).map_err(BuildFault::Message)
