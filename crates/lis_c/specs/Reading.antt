@@ -85,11 +85,11 @@ abbrev pub new_reader : RecordsState
 new_reader = record { opened = None; held = []; cut = None; fault = None }
 
 -- a part of the record that was read last
-abbrev pub IsCutPart : Option (Lent RecordContent) → (field repeat component : ℕ) → (status : ℕ) (out : List ℕ)
-    (size : ℕ) → Type 0
-IsCutPart None field repeat component status out size = (status ≡ ABSENT) × (size ≡ 0)
-IsCutPart (Some entry) field repeat component status out size =
-    IsPart (part_at entry.content field repeat component) status out size
+abbrev pub IsCutPart : Option (Lent RecordContent) → (field repeat component : ℕ) → (status : ℕ)
+    (before after : List ℕ) (size : ℕ) → Type 0
+IsCutPart None field repeat component status before after size = (status ≡ ABSENT) × (after ≡ before) × (size ≡ 0)
+IsCutPart (Some entry) field repeat component status before after size =
+    IsPart (part_at entry.content field repeat component) status before after size
 
 -- the end of the stream
 abbrev pub AtEnd : Result (Unit {0}) MessageFault → ℕ → LisFound → Type 0

@@ -1,5 +1,5 @@
 -- What C is told of a record's parts.
-use Rattle.std.specs.Prelude.{◌≡◌, ℕ, ◌<◌, ◌⊎◌, List, [], ◌∷◌, Option, None, Some, length, slice_get, take}
+use Rattle.std.specs.Prelude.{◌≡◌, ℕ, ◌<◌, ◌≤◌, ◌⊎◌, List, [], ◌∷◌, ◌++◌, Option, None, Some, drop, length, slice_get}
 use Rattle.std.specs.List.{flat_map}
 use Rattle.lis_field.specs.declared.symbols.Sym.{Sym}
 use Rattle.lis_field.specs.declared.symbols.Sym.TheVariants.{Char, Raw, On, Off}
@@ -73,12 +73,13 @@ symbol_bytes Off = []
 abbrev pub plain : Symbols → List ℕ
 plain symbols = flat_map symbol_bytes symbols
 
--- its bytes are copied to the front of the buffer, where they fit
-abbrev pub IsCopied : List ℕ → (status : ℕ) (out : List ℕ) (size : ℕ) → Type 0
-IsCopied bytes status out size =
-    ((status ≡ OK) × (take size out ≡ bytes) × (size ≡ length bytes))
-    ⊎ ((status ≡ TOO_SHORT) × (length out < length bytes) × (size ≡ 0))
+-- its bytes are copied to the front of the buffer if they fit, and what follows them in the buffer stays
+abbrev pub IsCopied : List ℕ → (status : ℕ) (before after : List ℕ) (size : ℕ) → Type 0
+IsCopied bytes status before after size =
+    ((status ≡ OK) × (after ≡ bytes ++ drop size before) × (size ≡ length bytes) × (size ≤ length before))
+    ⊎ ((status ≡ TOO_SHORT) × (length before < length bytes) × (size ≡ 0))
 
-abbrev pub IsPart : Option Symbols → (status : ℕ) (out : List ℕ) (size : ℕ) → Type 0
-IsPart None status out size = (status ≡ ABSENT) × (size ≡ 0)
-IsPart (Some symbols) status out size = IsCopied (plain symbols) status out size
+-- if there is no such part the buffer stays
+abbrev pub IsPart : Option Symbols → (status : ℕ) (before after : List ℕ) (size : ℕ) → Type 0
+IsPart None status before after size = (status ≡ ABSENT) × (after ≡ before) × (size ≡ 0)
+IsPart (Some symbols) status before after size = IsCopied (plain symbols) status before after size

@@ -114,6 +114,6 @@ pub record IsPut (old new : WriterDesk) : Type 0 where
   pub text : new.texts ≡ old.texts ++ written old.delimiters draft.entry ∷ []
 
 -- a text by its place
-abbrev pub IsTextAt : Option (List ℕ) → (status : ℕ) (out : List ℕ) (size : ℕ) → Type 0
-IsTextAt None status out size = (status ≡ ABSENT) × (size ≡ 0)
-IsTextAt (Some text) status out size = IsCopied text status out size
+abbrev pub IsTextAt : Option (List ℕ) → (status : ℕ) (before after : List ℕ) (size : ℕ) → Type 0
+IsTextAt None status before after size = (status ≡ ABSENT) × (after ≡ before) × (size ≡ 0)
+IsTextAt (Some text) status before after size = IsCopied text status before after size

@@ -104,7 +104,7 @@ pub(crate) fn fault_place(fault: FrameFault) -> usize
 /// copied, where it is longer than the buffer.
 pub(crate) fn copy_text(text: &[u8], out: &mut [u8], size: &mut usize) -> u8
     ensures status { result ≡ copy_status (length out.old) (length text.now) }
-    ensures copied { IsCopied text.now result out.new size.new }
+    ensures copied { IsCopied text.now result out.old out.new size.new }
     ensures refused { result ≢ OK → out.new ≡ out.old }
 {
     *size = 0;

@@ -78,7 +78,7 @@ pub extern "C" fn lis_part_decode(
 ) -> u8
     ensures decoded { (symbols : Symbols) → IsDelimiters (delimiters_in delimiters.now)
         → IsComponent (delimiters_in delimiters.now) part.now symbols
-        → IsCopied (plain symbols) result out.new size.new }
+        → IsCopied (plain symbols) result out.old out.new size.new }
     ensures delimiters { (IsDelimiters (delimiters_in delimiters.now) → ⊥)
         → (result ≡ BAD_DELIMITERS) × (size.new ≡ 0) × (out.new ≡ out.old) }
     ensures length { length out.new ≡ length out.old }

@@ -120,7 +120,7 @@ pub extern "C" fn lis_reader_part(
     out: &mut [u8],
     size: &mut usize,
 ) -> u8
-    ensures part { IsCutPart s.old.state.reader.cut field repeat component result out.new size.new }
+    ensures part { IsCutPart s.old.state.reader.cut field repeat component result out.old out.new size.new }
     ensures same { s.new.state ≡ s.old.state }
 {
     *size = 0;

@@ -1,6 +1,6 @@
 //! The receiver for programs in C.
 
-ghost use Rattle.std.specs.Prelude.{◌≡◌, ◌≢◌, ◌≤◌, ◌<◌, ◌∷◌, [], length, take};
+ghost use Rattle.std.specs.Prelude.{◌≡◌, ◌≢◌, ◌≤◌, ◌<◌, ◌∷◌, ◌++◌, [], drop, length, take};
 ghost use Rattle.lis_c.specs.declared.desk.ReceiverDesk.{ReceiverDesk};
 ghost use Rattle.lis_c.specs.Codes.{readiness_code};
 ghost use Rattle.lis_c.specs.Limits.{LimitStatus, NewReceiver, Receives, receiver_limit, spare_of};
@@ -258,7 +258,7 @@ pub extern "C" fn lis_receiver_text_len(s: &mut LisReceiver) -> usize
 #[unsafe(no_mangle)]
 pub extern "C" fn lis_receiver_text(s: &mut LisReceiver, out: &mut [u8]) -> u8
     ensures status { result ≡ copy_status (length out.old) (length s.old.state.text) }
-    ensures copied { result ≡ OK → take (length s.old.state.text) out.new ≡ s.old.state.text }
+    ensures copied { result ≡ OK → out.new ≡ s.old.state.text ++ drop (length s.old.state.text) out.old }
     ensures refused { result ≢ OK → out.new ≡ out.old }
     ensures same { s.new.state ≡ s.old.state }
 {

@@ -1,6 +1,6 @@
 //! Records for programs in C, read where they stand (LIS02-A2, Delimiters). No call takes memory.
 
-ghost use Rattle.std.specs.Prelude.{◌≡◌, ◌≢◌, ◌<◌, ◌≤◌, length, take, None, Some, Ok, Err};
+ghost use Rattle.std.specs.Prelude.{◌≡◌, ◌++◌, ◌≢◌, ◌<◌, ◌≤◌, length, drop, None, Some, Ok, Err};
 ghost use Rattle.std.specs.Prelude.{IfOk, IfErr, IfSome, IfNone, MatchOption, MatchResult};
 ghost use Rattle.std.specs.Option.{option_to_list};
 ghost use Rattle.lis_c.specs.Records.{IsCopied, IsPart, TellsRecordFault, TellsRecord, delimiters_in, part_at, plain};
@@ -100,7 +100,7 @@ pub extern "C" fn lis_header_part(
     size: &mut usize,
 ) -> u8
     ensures part { (d : DelimiterBytes) (content : RecordContent) → IsDelimiters d → IsRecord d text.now content
-        → content.kind ≡ kinds.H → IsPart (part_at content field repeat component) result out.new size.new }
+        → content.kind ≡ kinds.H → IsPart (part_at content field repeat component) result out.old out.new size.new }
     ensures fault { (fault : RecordFault) → header_fault text.now ≡ Some fault
         → (result ≡ record_status fault) × (size.new ≡ 0) × (out.new ≡ out.old) }
 {
@@ -124,7 +124,7 @@ pub extern "C" fn lis_record_part(
 ) -> u8
     ensures part { (content : RecordContent) → IsDelimiters (delimiters_in delimiters.now)
         → IsRecord (delimiters_in delimiters.now) text.now content → content.kind ≢ kinds.H
-        → IsPart (part_at content field repeat component) result out.new size.new }
+        → IsPart (part_at content field repeat component) result out.old out.new size.new }
     ensures fault { (fault : RecordFault) → IsDelimiters (delimiters_in delimiters.now)
         → record_fault (delimiters_in delimiters.now) text.now ≡ Some fault
         → (result ≡ record_status fault) × (size.new ≡ 0) × (out.new ≡ out.old) }
@@ -236,7 +236,7 @@ pub(crate) fn copy_part(
     size: &mut usize,
 ) -> u8
     requires { size.old ≡ 0 }
-    ensures { IsPart (part_at entry.now.content field repeat component) result out.new size.new }
+    ensures { IsPart (part_at entry.now.content field repeat component) result out.old out.new size.new }
 {
     let Some(part) = part(entry, field, repeat, component) else {
         return status::ABSENT;
@@ -247,7 +247,7 @@ pub(crate) fn copy_part(
 /// Copies the bytes that symbols mean, and says how many they are.
 pub(crate) fn tell_symbols(symbols: LentSymbols<'_>, out: &mut [u8], size: &mut usize) -> u8
     requires { size.old ≡ 0 }
-    ensures copied { IsCopied (plain symbols.entry) result out.new size.new }
+    ensures copied { IsCopied (plain symbols.entry) result out.old out.new size.new }
     ensures length { length out.new ≡ length out.old }
 {
     match copy_symbols(symbols, out) {
@@ -281,8 +281,8 @@ fn part<'a>(
 /// Copies the bytes of symbols to the front of a buffer, and answers how many they are; none where it is too short.
 fn copy_symbols(symbols: LentSymbols<'_>, out: &mut [u8]) -> Option<usize>
     ensures length { length out.new ≡ length out.old }
-    ensures some { IfSome result (λ count. (take count out.new ≡ plain symbols.entry)
-        × (count ≡ length (plain symbols.entry))) }
+    ensures some { IfSome result (λ count. (out.new ≡ plain symbols.entry ++ drop count out.old)
+        × (count ≡ length (plain symbols.entry)) × (count ≤ length out.old)) }
     ensures none { IfNone result (length out.new < length (plain symbols.entry)) }
 {
     let mut rest = symbols;

@@ -165,7 +165,7 @@ pub extern "C" fn lis_writer_text(
     out: &mut [u8],
     size: &mut usize,
 ) -> u8
-    ensures text { IsTextAt (slice_get s.old.state.texts place) result out.new size.new }
+    ensures text { IsTextAt (slice_get s.old.state.texts place) result out.old out.new size.new }
     ensures same { s.new.state ≡ s.old.state }
 {
     *size = 0;
