@@ -32,5 +32,5 @@ HoldsEmitted limit out bytes = HoldsBytes out (fits_in limit bytes)
 abbrev pub FrameCopied : Option FrameContent → (status : ℕ) (old out : List ℕ) (size : ℕ) → Type 0
 FrameCopied None status old out size = (status ≡ ABSENT) × (out ≡ old) × (size ≡ 0)
 FrameCopied (Some frame) status old out size =
-    IsCopied (frame_bytes frame) status out size × (status ≡ copy_status (length old) (length (frame_bytes frame)))
+    IsCopied (frame_bytes frame) status old out size × (status ≡ copy_status (length old) (length (frame_bytes frame)))
     × (status ≢ OK → out ≡ old)

@@ -1,6 +1,6 @@
 //! Frames for programs in C.
 
-ghost use Rattle.std.specs.Prelude.{◌≡◌, ◌≢◌, length, take};
+ghost use Rattle.std.specs.Prelude.{◌≡◌, ◌≢◌, ◌++◌, drop, length};
 ghost use Rattle.lis_c.specs.Emitted.{HoldsBytes};
 ghost use Rattle.lis_c.specs.Status.{OK, frame_status, long_frame_status, text_place};
 ghost use Rattle.lis_frame.specs.Frame.{frame_bytes};
@@ -58,8 +58,8 @@ pub extern "C" fn lis_long_frame_write(
     ensures status { result ≡ long_frame_status number (text_fault 63993 text.now) (length out.old)
         (length (frame_bytes (record { number = number; last = last; text = text.now }))) }
     ensures place { place.new ≡ text_place (text_fault 63993 text.now) }
-    ensures written { result ≡ OK →
-        take size.new out.new ≡ frame_bytes (record { number = number; last = last; text = text.now }) }
+    ensures written { result ≡ OK → out.new
+        ≡ frame_bytes (record { number = number; last = last; text = text.now }) ++ drop size.new out.old }
     ensures size { result ≡ OK →
         size.new ≡ length (frame_bytes (record { number = number; last = last; text = text.now })) }
     ensures refused { result ≢ OK → (out.new ≡ out.old) × (size.new ≡ 0) }

@@ -1,6 +1,6 @@
 //! The scanner for programs in C.
 
-ghost use Rattle.std.specs.Prelude.{◌≡◌, ◌≢◌, ◌∷◌, ℕ, List, length, take};
+ghost use Rattle.std.specs.Prelude.{◌≡◌, ◌≢◌, ◌∷◌, ℕ, List, ◌++◌, drop, length, take};
 ghost use Rattle.lis_c.specs.declared.desk.ScannerDesk.{ScannerDesk};
 ghost use Rattle.lis_c.specs.Limits.{LimitStatus, NewScanner, ScansFor, scanner_limit, scanner_text};
 ghost use Rattle.lis_c.specs.Signals.{FedAndTold, TellsSignal};
@@ -134,8 +134,8 @@ pub extern "C" fn lis_scanner_text_len(s: &mut LisScanner) -> usize
 #[unsafe(no_mangle)]
 pub extern "C" fn lis_scanner_text(s: &mut LisScanner, out: &mut [u8]) -> u8
     ensures status { result ≡ copy_status (length out.old) (length (scanner_text s.old.state.scanner)) }
-    ensures copied { result ≡ OK →
-        take (length (scanner_text s.old.state.scanner)) out.new ≡ scanner_text s.old.state.scanner }
+    ensures copied { result ≡ OK → out.new
+        ≡ scanner_text s.old.state.scanner ++ drop (length (scanner_text s.old.state.scanner)) out.old }
     ensures refused { result ≢ OK → out.new ≡ out.old }
     ensures same { s.new.state ≡ s.old.state }
 {
