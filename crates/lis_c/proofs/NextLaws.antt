@@ -5,9 +5,9 @@ use Rattle.lis_field.specs.Shape.{RecordContent}
 use Rattle.lis_field.specs.Text.{record_limit}
 use Rattle.lis_record.specs.Lent.{Lent}
 use Rattle.std.specs.Prelude.{Option}
-use Rattle.lis_tree.specs.inside.Begun.{Begun}
-use Rattle.lis_message.specs.inside.Taking.{ComesNext, header, inner}
-use Rattle.lis_message.specs.inside.Kept.{RecordsState}
+use Rattle.lis_tree.specs.Begun.{Begun}
+use Rattle.lis_message.specs.Taking.{ComesNext, header, inner}
+use Rattle.lis_message.specs.Kept.{RecordsState}
 use Rattle.lis_message.specs.Records.{ReadsRecord}
 
 comes_short : (left : Option Begun) (text : List ℕ) (entry : Lent RecordContent) → ComesNext left text entry

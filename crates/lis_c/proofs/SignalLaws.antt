@@ -4,9 +4,10 @@ use Rattle.std.proofs.Common.{Bool, arith, true, false, nat_lt}
 use Rattle.std.proofs.lemmas.Bool.Decides.{nat_tests}
 use Rattle.lis_frame.specs.declared.scanner.SignalOf.{SignalOf}
 use Rattle.lis_frame.specs.declared.scanner.SignalOf.TheVariants.{Enq, Eot, Good, Bad}
-use Rattle.lis_c.specs.Feeding.{FedAndReported}
-use Rattle.lis_c.specs.Reports.{IsReport, Reports}
-use Rattle.lis_c.specs.Signals.{FedAndTold, HasParts, Puts, PutsLong, TellsFrame, TellsSignal}
+use Rattle.lis_c.specs.inside.Feeding.{FedAndReported}
+use Rattle.lis_c.specs.inside.Reports.{IsReport, Reports}
+use Rattle.lis_c.specs.Signals.{FedAndTold, HasParts, TellsFrame, TellsSignal}
+use Rattle.lis_c.specs.inside.Signals.{Puts, PutsLong}
 use Rattle.lis_c.specs.declared.feed.Report.{Report}
 use Rattle.lis_c.specs.declared.out.LisSignal.{LisSignal}
 

@@ -5,11 +5,12 @@ use Rattle.lis_link.specs.declared.receiver.Note.{Note}
 use Rattle.lis_link.specs.declared.receiver.Note.TheVariants as Notes
 use Rattle.lis_link.specs.declared.receiver.Step.{Step}
 use Rattle.lis_link.specs.Receiver.{ReceiverState, ReceiverStep}
-use Rattle.lis_link.specs.inside.Stands.{SpareAfter}
-use Rattle.lis_link.specs.inside.Stands as Stands
+use Rattle.lis_link.specs.Stands.{SpareAfter}
+use Rattle.lis_link.specs.Stands as Stands
 use Rattle.lis_c.specs.Codes.{note_code, note_detail, note_place, reply_code}
 use Rattle.lis_c.specs.Limits.{Receives, kept_by, receiver_limit, spare_of}
-use Rattle.lis_c.specs.Steps.{TellsRefusedFrame, TellsStep, HoldsText}
+use Rattle.lis_c.specs.Steps.{TellsRefusedFrame, HoldsText}
+use Rattle.lis_c.specs.inside.Steps.{TellsStep}
 use Rattle.lis_c.specs.declared.desk.ReceiverDesk.{ReceiverDesk}
 use Rattle.lis_c.specs.declared.out.LisStep.{LisStep}
 use Rattle.lis_c.specs.declared.receiving.AnyReceiver.{AnyReceiver}

@@ -3,8 +3,6 @@ use Rattle.std.specs.Prelude.{◌≡◌, ℕ, ◌-◌, ◌≤◌, List, [], leng
 use Rattle.std.specs.Option.{option_to_list}
 use Rattle.lis_frame.specs.declared.scanner.SignalOf.{SignalOf}
 use Rattle.lis_frame.specs.Stream.{signals_after}
-use Rattle.lis_c.specs.Reports.{Reports}
-use Rattle.lis_c.specs.declared.feed.Report.{Report}
 
 -- so many bytes were read: they give this signal and no other, and it stands at their last byte
 pub record TellsLast (limit : ℕ) (past bytes : List ℕ) (count : ℕ) (signal : Option (SignalOf limit)) : Type 0 where
@@ -16,14 +14,3 @@ pub record TellsLast (limit : ℕ) (past bytes : List ℕ) (count : ℕ) (signal
 pub record IsFed (limit : ℕ) (past bytes : List ℕ) (count : ℕ) (signal : Option (SignalOf limit)) : Type 0 where
   pub first : TellsLast limit past bytes count signal
   pub all : signal ≡ None → count ≡ length bytes
-
--- and the signal is reported, with a frame's text at the front of these bytes
-pub record ReportsLast (limit : ℕ) (past bytes : List ℕ) (count : ℕ) (report : Report) (text : List ℕ) : Type 0 where
-  pub signal : Option (SignalOf limit)
-  pub last : TellsLast limit past bytes count signal
-  pub reported : Reports signal report text
-
-pub record FedAndReported (limit : ℕ) (past bytes : List ℕ) (count : ℕ) (report : Report) (text : List ℕ) : Type 0 where
-  pub signal : Option (SignalOf limit)
-  pub fed : IsFed limit past bytes count signal
-  pub reported : Reports signal report text

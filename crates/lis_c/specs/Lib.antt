@@ -10,8 +10,8 @@ pub mod Next
 pub mod Parts
 pub mod Reading
 pub mod Records
-pub mod Reports
 pub mod Signals
 pub mod Status
 pub mod Steps
 pub mod Writing
+pub mod inside

@@ -2,8 +2,8 @@
 use Rattle.std.specs.Prelude.{◌≡◌, ◌≢◌, ℕ, ◌⊎◌, List, [], if◌then◌else◌, ◌==◌, ◌||◌}
 use Rattle.lis_frame.specs.Scanner.{Held, StandsFor}
 use Rattle.lis_link.specs.Receiver.{ReceiverState, new_receiver}
-use Rattle.lis_link.specs.inside.Kept.{Kept}
-use Rattle.lis_link.specs.inside.Stands.{IsIn}
+use Rattle.lis_link.specs.Kept.{Kept}
+use Rattle.lis_link.specs.Stands.{IsIn}
 use Rattle.lis_c.specs.Status.{BAD_NUMBER, IN_SESSION, OK, OUT_OF_MEMORY}
 use Rattle.lis_c.specs.declared.receiving.AnyReceiver.{AnyReceiver}
 use Rattle.lis_c.specs.declared.receiving.AnyReceiver.TheVariants as receivers

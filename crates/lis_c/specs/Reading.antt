@@ -5,13 +5,13 @@ use Rattle.lis_text.specs.Control.{CR}
 use Rattle.lis_field.specs.Kinds.{letter_of}
 use Rattle.lis_field.specs.Shape.{RecordContent}
 use Rattle.lis_record.specs.Lent.{Lent}
-use Rattle.lis_tree.specs.inside.Begun.{Begun}
+use Rattle.lis_tree.specs.Begun.{Begun}
 use Rattle.lis_field.specs.declared.faults.MessageFault.{MessageFault}
 use Rattle.lis_field.specs.declared.faults.Reason.{Reason}
 use Rattle.lis_field.specs.declared.faults.Reason.TheVariants as Reasons
 use Rattle.lis_message.specs.declared.records.Found.{Found}
 use Rattle.lis_message.specs.declared.records.Found.TheVariants as founds
-use Rattle.lis_message.specs.inside.Kept.{RecordsState}
+use Rattle.lis_message.specs.Kept.{RecordsState}
 use Rattle.lis_message.specs.Records.{Reads}
 use Rattle.lis_c.specs.Records.{IsPart, part_at, record_place, record_status}
 use Rattle.lis_c.specs.Status.{OK, UNFINISHED, ABSENT}

@@ -3,7 +3,6 @@ use Rattle.std.specs.Prelude.{◌≡◌, ◌≢◌, ℕ, ◌<◌, ◌≤◌, Boo
 use Rattle.lis_text.specs.Control.{NAK}
 use Rattle.lis_frame.specs.Frame.{FrameContent}
 use Rattle.lis_link.specs.declared.receiver.Note.TheVariants.{OutOfMemory}
-use Rattle.lis_link.specs.declared.receiver.Step.{Step}
 use Rattle.lis_link.specs.Receiver.{ReceiverState, ReceiverStep}
 use Rattle.lis_c.specs.Codes.{note_code, note_detail, note_place, reply_code}
 use Rattle.lis_c.specs.Limits.{Receives, spare_of}
@@ -21,14 +20,6 @@ IsNotOutOfMemory out = out.note ≢ note_code OutOfMemory
 abbrev pub HoldsText : Option (List ℕ) → Bool → List ℕ → List ℕ → Type 0
 HoldsText None has before text = (has ≡ false) × (text ≡ before)
 HoldsText (Some message) has before text = (has ≡ true) × (text ≡ message)
-
--- the answer of a receiver, in numbers
-pub record TellsStep (step : Step) (before : List ℕ) (out : LisStep) (text : List ℕ) : Type 0 where
-  pub reply_is : out.reply ≡ reply_code step.reply
-  pub note_is : out.note ≡ note_code step.note
-  pub detail_is : out.detail ≡ note_detail step.note
-  pub place_is : out.place ≡ note_place step.note
-  pub text_is : HoldsText step.message out.has_text before text
 
 -- the step was made and told
 pub record MakesStep (step : ReceiverStep) (old : ReceiverDesk) (out : LisStep) (new : ReceiverDesk) : Type 0 where

@@ -10,7 +10,7 @@ use Rattle.lis_spelling.specs.Spelling.{written}
 use Rattle.lis_field.specs.declared.faults.Reason.{Reason}
 use Rattle.lis_field.specs.declared.faults.Reason.TheVariants as Reasons
 use Rattle.lis_tree.specs.declared.standing.Standing.{Standing}
-use Rattle.lis_tree.specs.inside.Standing.{standing_level}
+use Rattle.lis_tree.specs.Standing.{standing_level}
 use Rattle.lis_tree.specs.Level.{Level, outside, closed, misplaced, next_level}
 use Rattle.lis_c.specs.Records.{IsCopied}
 use Rattle.lis_c.specs.Status.{ABSENT, AddStatus, BAD_LETTER, FORBIDDEN, NO_RECORD, OK, OUT_OF_MEMORY, PUT_NOT_HEADER}

@@ -3,13 +3,14 @@
 ghost use Rattle.std.specs.Prelude.{◌≡◌, ◌≢◌, ◌≤◌, ◌++◌, ◌∷◌, [], length, None, Some, MatchResult, take};
 ghost use Rattle.lis_c.specs.Codes.{note_code, note_detail, note_place};
 ghost use Rattle.lis_c.specs.Status.{AddStatus, OK};
-ghost use Rattle.lis_c.specs.Steps.{IsNotOutOfMemory, IsOutOfMemory, MakesStep, TellsRefusedFrame, TellsStep};
+ghost use Rattle.lis_c.specs.Steps.{IsNotOutOfMemory, IsOutOfMemory, MakesStep, TellsRefusedFrame};
+ghost use Rattle.lis_c.specs.inside.Steps.{TellsStep};
 ghost use Rattle.lis_c.specs.Limits.{NewReceiver, NewScanner, Receives, receiver_limit, sender_limit, sender_state};
 ghost use Rattle.lis_c.specs.Limits.{spare_of, with_state};
 ghost use Rattle.lis_link.specs.Receiver.{ReceiverState, on_byte, on_bytes, on_receiver_timer};
 ghost use Rattle.lis_link.specs.Receiver.{with_heard};
 ghost use Rattle.lis_link.specs.Sender.{new_sender, start_fault, started};
-ghost use Rattle.lis_link.specs.inside.Stands.{SpareAfter};
+ghost use Rattle.lis_link.specs.Stands.{SpareAfter};
 ghost use Rattle.lis_c.specs.Reading.{new_reader};
 
 use crate::lent::{DeskTexts, LentTexts};

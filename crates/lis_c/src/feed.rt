@@ -1,8 +1,8 @@
 //! Reading bytes up to the first that gives a signal.
 
 ghost use Rattle.std.specs.Prelude.{◌≡◌, ◌≤◌, ◌<◌, ◌∷◌, ℕ, List, length, take, IfSome};
-ghost use Rattle.lis_c.specs.Feeding.{FedAndReported, ReportsLast};
-ghost use Rattle.lis_c.specs.Reports.{Reports};
+ghost use Rattle.lis_c.specs.inside.Feeding.{FedAndReported, ReportsLast};
+ghost use Rattle.lis_c.specs.inside.Reports.{Reports};
 ghost use Rattle.lis_frame.specs.Scanner.{IsHeardWithin, StandsFor, heard_signal};
 ghost use Rattle.lis_frame.specs.Stream.{signal_after, stream_with};
 

@@ -1,7 +1,8 @@
 //! Texts that stay with a caller in C, and what holds those of a session.
 
 ghost use Rattle.std.specs.Prelude.{◌≡◌, ◌≤◌, length};
-ghost use Rattle.lis_c.specs.Lent.{lent_bytes, session_texts};
+ghost use Rattle.lis_c.specs.Lent.{lent_bytes};
+ghost use Rattle.lis_c.specs.inside.Lent.{session_texts};
 
 use lis_link::SessionTexts;
 use lis_text::Texts;

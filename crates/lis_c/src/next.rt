@@ -6,7 +6,7 @@ ghost use Rattle.lis_c.specs.Reading.{nothing};
 ghost use Rattle.lis_field.specs.Text.{record_limit};
 ghost use Rattle.lis_message.specs.Records.{HasLeft, IsRecordRefused};
 ghost use Rattle.lis_message.specs.Stream.{LacksReturn};
-ghost use Rattle.lis_tree.specs.inside.Begun.{Begun};
+ghost use Rattle.lis_tree.specs.Begun.{Begun};
 
 use crate::desk::ReaderDesk;
 use crate::reader::{LisFound, LisReader, clear, tell};

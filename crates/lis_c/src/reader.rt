@@ -9,7 +9,7 @@ ghost use Rattle.lis_c.specs.Reading.{detail_of, nothing, piece_length, place_of
 ghost use Rattle.lis_c.specs.contracts.desk.ReaderDesk.{the_row as desk_row};
 ghost use Rattle.lis_message.specs.Feeding.{answer_at_end};
 ghost use Rattle.lis_message.specs.Records.{HasLeft};
-ghost use Rattle.lis_tree.specs.inside.Begun.{Begun};
+ghost use Rattle.lis_tree.specs.Begun.{Begun};
 ghost use Rattle.lis_text.specs.Control.{CR};
 ghost use Rattle.std.specs.Borrow.{sem};
 ghost use Rattle.std.specs.Mem.{type_size};

@@ -11,7 +11,7 @@ ghost use Rattle.lis_c.specs.contracts.desk.ReceiverDesk.{the_row as desk_row};
 ghost use Rattle.lis_link.specs.declared.receiver.Readiness.{Readiness};
 ghost use Rattle.lis_link.specs.Receiver.{ReceiverState, on_byte, on_bytes, on_receiver_timer, receiver_restarted};
 ghost use Rattle.lis_link.specs.Receiver.{held_length, with_heard, with_readiness, with_room};
-ghost use Rattle.lis_link.specs.inside.Stands.{SpareAfter};
+ghost use Rattle.lis_link.specs.Stands.{SpareAfter};
 ghost use Rattle.std.specs.Borrow.{sem};
 ghost use Rattle.std.specs.Mem.{type_size};
 ghost use Rattle.std.specs.Ptr.{room_at};

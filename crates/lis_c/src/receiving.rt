@@ -5,7 +5,7 @@ ghost use Rattle.lis_c.specs.Limits.{NewReceiver, Receives, kept_by, receiver_li
 ghost use Rattle.lis_link.specs.declared.receiver.Note.TheVariants as Notes;
 ghost use Rattle.lis_link.specs.Receiver.{ReceiverState, held_length, on_byte, on_bytes, on_receiver_timer};
 ghost use Rattle.lis_link.specs.Receiver.{receiver_restarted, with_heard, with_readiness, with_room};
-ghost use Rattle.lis_link.specs.inside.Stands.{IsIn, Makes, RefusesFrame, SpareAfter};
+ghost use Rattle.lis_link.specs.Stands.{IsIn, Makes, RefusesFrame, SpareAfter};
 ghost use Rattle.lis_text.specs.LinkText.{longest_text};
 
 use lis_link::{Hearing, Readiness, Receiver, ReceiverOf, Step};

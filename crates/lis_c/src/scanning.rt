@@ -2,7 +2,8 @@
 
 ghost use Rattle.std.specs.Prelude.{◌≡◌, ◌≤◌, ◌∷◌, ℕ, [], List, length, take, IfOk};
 ghost use Rattle.lis_c.specs.Limits.{NewScanner, ScansFor, scanner_limit, scanner_text};
-ghost use Rattle.lis_c.specs.Signals.{FedAndTold, Puts, PutsLong, TellsSignal};
+ghost use Rattle.lis_c.specs.Signals.{FedAndTold, TellsSignal};
+ghost use Rattle.lis_c.specs.inside.Signals.{Puts, PutsLong};
 ghost use Rattle.lis_frame.specs.Scanner.{StandsFor};
 ghost use Rattle.lis_frame.specs.Stream.{signal_after, stream_with};
 

@@ -11,7 +11,7 @@ use Rattle.lis_frame.specs.Stream.{stream_with}
 use Rattle.lis_capture.specs.declared.line.Line.{Line}
 use Rattle.lis_capture.specs.Line.{longest_line, line_of, said, without_return}
 use Rattle.lis_capture.specs.Capture.{Lines, begun, ended_lines, with_said, next_by, read_lines, capture, version_of}
-use Rattle.lis_capture.specs.Reader.{is_long}
+use Rattle.lis_capture.specs.inside.Reader.{is_long}
 use Rattle.lis_link.proofs.HearingLaws.{stream_with-append}
 
 -- ---- bytes that end no line

@@ -18,7 +18,8 @@ use Rattle.std.proofs.lemmas.Simd.{pick_l_whole, put_chunk_whole}
 use Rattle.std.proofs.Math.Seq.{take-add}
 use Rattle.hex.specs.Hex.{decode_pairs, hex_digit_value, is_hex_digit}
 use Rattle.hex.proofs.HexLemmas.{decode_of-even}
-use Rattle.lis_capture.specs.Digits.{bytes_of, is_digit_value, told_digit}
+use Rattle.lis_capture.specs.Digits.{bytes_of}
+use Rattle.lis_capture.specs.inside.Digits.{is_digit_value, told_digit}
 use Rattle.lis_capture.proofs.BelowLemmas.{all-greater, all_below, bit_clear, bit_set, bits_fit, bits_over, greater}
 use Rattle.lis_capture.proofs.BelowLemmas.{greater_below, length-greater}
 use Rattle.lis_capture.proofs.DigitsLemmas.{by_value, bytes_of-decoded, bytes_of-other, pair_of_digits, pairs_from_some}

@@ -9,7 +9,7 @@ use Rattle.hex.specs.Hex.{encode_lower}
 use Rattle.lis_capture.specs.declared.line.Keeping.{Keeping}
 use Rattle.lis_capture.specs.declared.line.Keeping.TheVariants.{Bytes, Digits}
 use Rattle.lis_capture.specs.Digits.{bytes_of}
-use Rattle.lis_capture.specs.inside.Kept.{KeptAs, kept_bytes}
+use Rattle.lis_capture.specs.Kept.{KeptAs, kept_bytes}
 use Rattle.lis_engine.proofs.EncodeLemmas.{length-encode_lower}
 use Rattle.lis_capture.proofs.LowerLemmas.{encoded_nothing}
 use Rattle.lis_capture.proofs.SpellingLemmas.{IsSent-bytes_of, bytes_of-digits}

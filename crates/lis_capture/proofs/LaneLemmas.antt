@@ -7,7 +7,7 @@ use Rattle.std.proofs.lemmas.Bool.{eqb-true}
 use mir.Syntax.{w8}
 use mir.Val.{Fits}
 use Rattle.hex.specs.Hex.{hex_digit_value}
-use Rattle.lis_capture.specs.Digits.{told_digit}
+use Rattle.lis_capture.specs.inside.Digits.{told_digit}
 use Rattle.lis_capture.proofs.BelowLemmas.{below, lanes_told, less}
 use Rattle.lis_capture.proofs.DigitsLemmas.{passes, passes_at}
 

@@ -18,7 +18,8 @@ use borrow.Rule.Slice.PartMut.{put_mid}
 use mir.Syntax.{w8}
 use mir.Val.{Fits}
 use Rattle.hex.specs.Hex.{encode_lower, encode_with, hex_digit_value, is_hex_digit, lower_digits}
-use Rattle.lis_capture.specs.Digits.{bytes_of, is_none_far, lower_case}
+use Rattle.lis_capture.specs.Digits.{bytes_of}
+use Rattle.lis_capture.specs.inside.Digits.{is_none_far, lower_case}
 use Rattle.lis_capture.proofs.DigitsLemmas.{by_value, bytes_of-other, digit_passes, passes, passes_at}
 use Rattle.lis_capture.proofs.BelowLemmas.{all-greater, all_below, below, bits_fit, bits_over, greater, length-greater}
 use Rattle.lis_capture.proofs.BelowLemmas.{lanes_told, less}

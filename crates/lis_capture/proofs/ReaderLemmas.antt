@@ -14,8 +14,8 @@ use Rattle.lis_capture.specs.declared.reader.Found.TheVariants as found
 use Rattle.lis_capture.specs.Line.{line_of, longest_line, version_after}
 use Rattle.lis_capture.specs.Capture.{Lines, begun, capture, number_of, version_of, with_said}
 use Rattle.lis_text.specs.Capped.{capped}
-use Rattle.lis_capture.specs.Reader.{HasRead, Known, Reading, found_holding, found_lines, found_of, holding_more}
-use Rattle.lis_capture.specs.Reader.{is_long, known_of, known_with}
+use Rattle.lis_capture.specs.Reader.{HasRead, Known, Reading, found_lines, known_of}
+use Rattle.lis_capture.specs.inside.Reader.{found_holding, found_of, holding_more, is_long, known_with}
 use Rattle.lis_capture.proofs.CaptureLemmas.{begun-ended, begun-within, capture-ended, capture-last, capture-long}
 use Rattle.lis_capture.proofs.CaptureLemmas.{capture-within}
 use Rattle.lis_capture.proofs.CaptureLemmas.{has_end, has_end-before}

@@ -26,8 +26,8 @@ use Rattle.lis_capture.specs.Digits.{bytes_of}
 use Rattle.lis_capture.specs.Line.{added_line, line_of, longest_line, plain_line, said, sent_by, without_return}
 use Rattle.lis_capture.specs.Capture.{Lines, begun, capture, counts, ended_lines, next_by, read_lines, version_of}
 use Rattle.lis_capture.specs.Capture.{with_said}
-use Rattle.lis_capture.specs.Spelling.{added_spelling, line_spelling, line_text, lines_spelling, upgraded}
-use Rattle.lis_capture.specs.Spelling.{upgraded_lines}
+use Rattle.lis_capture.specs.Spelling.{added_spelling, line_spelling, line_text, upgraded, upgraded_lines}
+use Rattle.lis_capture.specs.inside.Spelling.{lines_spelling}
 use Rattle.lis_capture.proofs.CaptureLemmas.{begun-within, ended_lines-within, has_end}
 use Rattle.lis_capture.proofs.LineLemmas.{without_return-length}
 use Rattle.lis_link.proofs.HearingLaws.{stream_with-append}

@@ -1,5 +1,5 @@
 -- Pairs of hexadecimal digits: the high digit first, letters in either case.
-use Rattle.std.specs.Prelude.{ℕ, Bool, ◌==◌, bit_or, nat_lt, List, [], ◌∷◌, Option, None, Some, if◌then◌else◌}
+use Rattle.std.specs.Prelude.{ℕ, List, [], ◌∷◌, Option, None}
 use Rattle.std.specs.Result.{result_ok}
 use Rattle.hex.specs.Hex.{decode_of}
 
@@ -7,19 +7,3 @@ use Rattle.hex.specs.Hex.{decode_of}
 abbrev pub bytes_of : List ℕ → Option (List ℕ)
 bytes_of [] = None
 bytes_of (digit ∷ digits) = result_ok (decode_of (digit ∷ digits))
-
--- what a number tells of a digit: its value; none where it is no value of a digit
-abbrev pub told_digit : ℕ → Option ℕ
-told_digit value = if nat_lt value 16 then Some value else None
-
--- whether it tells a value
-abbrev pub is_digit_value : ℕ → Bool
-is_digit_value value = nat_lt value 16
-
--- a digit in lower case: those of numbers have that bit too
-abbrev pub lower_case : ℕ → ℕ
-lower_case digit = bit_or digit 32
-
--- what a number tells of a byte: whether it is no step from a digit
-abbrev pub is_none_far : ℕ → Bool
-is_none_far steps = steps == 0

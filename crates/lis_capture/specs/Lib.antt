@@ -5,4 +5,6 @@ pub mod Capture
 pub mod Reader
 pub mod Spelling
 pub mod Laws
+pub mod Kept
+pub mod Told
 pub mod inside

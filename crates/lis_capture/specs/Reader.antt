@@ -1,13 +1,11 @@
 -- What a reader of captures keeps.
-use Rattle.std.specs.Prelude.{◌≡◌, ℕ, ◌+◌, nat_lt, Bool, true, false, List, [], ◌∷◌, ◌++◌, length, Option, None}
-use Rattle.std.specs.Prelude.{Some, if◌then◌else◌}
+use Rattle.std.specs.Prelude.{◌≡◌, ℕ, Bool, true, false, List, [], ◌∷◌}
 use Rattle.lis_text.specs.Capped.{capped}
 use Rattle.lis_capture.specs.declared.line.CaptureVersion.{CaptureVersion}
 use Rattle.lis_capture.specs.declared.line.Line.{Line}
 use Rattle.lis_capture.specs.declared.line.Line.TheVariants.{Empty}
 use Rattle.lis_capture.specs.declared.reader.Found.{Found}
 use Rattle.lis_capture.specs.declared.reader.Found.TheVariants as found
-use Rattle.lis_capture.specs.Line.{longest_line, version_after}
 use Rattle.lis_capture.specs.Capture.{Lines, begun, capture, number_of, version_of}
 
 -- what is to be known of the lines so far: their version, whether one is refused, the number of the last one, and what
@@ -45,27 +43,3 @@ abbrev pub found_lines : Lines → Found → Line → Lines
 found_lines read found.Nothing line = read
 found_lines read found.Line line = record { lines = line ∷ read.lines; refused = false }
 found_lines read found.Refused line = record { lines = read.lines; refused = true }
-
--- ---- by steps
-
--- a line more, by what it says
-abbrev pub known_with : Known → Option Line → Known
-known_with known None = record known { refused = true; number = capped (known.number + 1) }
-known_with known (Some line) =
-    record known { version = version_after known.version line; number = capped (known.number + 1); line = line }
-
-abbrev pub found_of : Option Line → Found
-found_of None = found.Refused
-found_of (Some line) = found.Line
-
--- bytes of a line that doesn't end in them: at most so many that the line isn't too long
-abbrev pub is_long : List ℕ → Bool
-is_long text = nat_lt longest_line (length text)
-
-abbrev pub holding_more : Reading → List ℕ → Reading
-holding_more r text =
-    if is_long (r.held ++ text) then record r { known = known_with r.known None }
-    else record r { held = r.held ++ text }
-
-abbrev pub found_holding : List ℕ → Found
-found_holding text = if is_long text then found.Refused else found.Nothing

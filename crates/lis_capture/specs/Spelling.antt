@@ -27,11 +27,6 @@ line_text Version = codes "capture 2"
 abbrev pub line_spelling : Line → List ℕ
 line_spelling line = line_text line ++ LF ∷ []
 
--- the text of lines, which are newest first
-abbrev pub lines_spelling : List Line → List ℕ
-lines_spelling [] = []
-lines_spelling (line ∷ lines) = lines_spelling lines ++ line_spelling line
-
 -- ---- a capture as one of version 2
 
 -- what a line is written as; the version's stands in front, once

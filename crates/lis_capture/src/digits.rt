@@ -5,7 +5,8 @@ ghost use Rattle.std.specs.Prelude.{map, take, unwrap_or, ◌+◌};
 ghost use Rattle.std.specs.List.{list_all};
 ghost use Rattle.hex.specs.Hex.{encode_lower, hex_digit_value, is_hex_digit};
 ghost use Rattle.std.specs.Option.{option_map};
-ghost use Rattle.lis_capture.specs.Digits.{bytes_of, is_none_far, is_digit_value, lower_case, told_digit};
+ghost use Rattle.lis_capture.specs.Digits.{bytes_of};
+ghost use Rattle.lis_capture.specs.inside.Digits.{is_none_far, is_digit_value, lower_case, told_digit};
 
 use std::simd::prelude::*;
 

@@ -7,8 +7,9 @@ ghost use Rattle.lis_capture.specs.declared.line.Line.TheVariants.{Empty};
 ghost use Rattle.lis_capture.specs.Digits.{bytes_of};
 ghost use Rattle.lis_capture.specs.Line.{added_line, line_of, plain_line, said, version_after, without_return};
 ghost use Rattle.hex.specs.Hex.{encode_lower};
-ghost use Rattle.lis_capture.specs.inside.Kept.{KeptAs, kept_bytes, kept_room};
-ghost use Rattle.lis_capture.specs.inside.Told.{line_with};
+ghost use Rattle.lis_capture.specs.Kept.{KeptAs, kept_bytes};
+ghost use Rattle.lis_capture.specs.inside.Kept.{kept_room};
+ghost use Rattle.lis_capture.specs.Told.{line_with};
 
 use crate::digits::{decode, lower};
 use lis_engine::{PAGE_ROOM, Page};
@@ -73,7 +74,7 @@ pub struct LineBytes<'a> {
 
 impl<'a> Model for LineBytes<'a> {
     ghost use Rattle.std.specs.Prelude.{ℕ, List};
-    ghost use Rattle.lis_capture.specs.inside.Kept.{KeptAs, kept_bytes};
+    ghost use Rattle.lis_capture.specs.Kept.{KeptAs, kept_bytes};
 
     ghost Value = { List ℕ };
 
@@ -139,8 +140,8 @@ pub(crate) struct Told {
 impl Model for Told {
     ghost use Rattle.std.specs.Prelude.{◌≡◌, ◌≤◌, if◌then◌else◌, length, take};
     ghost use Rattle.lis_capture.specs.declared.line.Line.{Line};
-    ghost use Rattle.lis_capture.specs.inside.Kept.{KeptAs, kept_bytes};
-    ghost use Rattle.lis_capture.specs.inside.Told.{line_with};
+    ghost use Rattle.lis_capture.specs.Kept.{KeptAs, kept_bytes};
+    ghost use Rattle.lis_capture.specs.Told.{line_with};
 
     ghost Value = { Line };
 

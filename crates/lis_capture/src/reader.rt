@@ -5,8 +5,8 @@ ghost use Rattle.memchr.specs.Find.{IsFirstByte, is_byte};
 ghost use Rattle.lis_frame.specs.Stream.{stream_with};
 ghost use Rattle.lis_capture.specs.Capture.{Lines, capture};
 ghost use Rattle.lis_capture.specs.Line.{line_of};
-ghost use Rattle.lis_capture.specs.Reader.{HasRead, found_holding, found_lines, found_of, holding_more};
-ghost use Rattle.lis_capture.specs.Reader.{known_of, known_with};
+ghost use Rattle.lis_capture.specs.Reader.{HasRead, found_lines, known_of};
+ghost use Rattle.lis_capture.specs.inside.Reader.{found_holding, found_of, holding_more, known_with};
 
 use crate::line::{CaptureVersion, Keeping, LONGEST_LINE, Line, Told, version_after};
 use arrayvec::ArrayVec;

@@ -9,8 +9,8 @@ pub use Rattle.lis_engine.specs.Output
 pub use Rattle.lis_engine.specs.Outcome
 pub use Rattle.lis_engine.specs.Runs
 pub use Rattle.lis_engine.specs.Parts
+pub use Rattle.lis_engine.specs.Steps
 pub use Rattle.lis_report.specs.Codes
-pub use Rattle.lis_engine.specs.inside
 pub use Rattle.lis_run.specs.LineOutcome
 pub use Rattle.lis_run.specs.CaptureRuns
 pub use Rattle.lis_run.specs.Upgrade

@@ -12,9 +12,11 @@ use Rattle.lis_engine.specs.declared.fault.ToolFault.TheVariants.{CaptureLine, R
 use Rattle.lis_engine.specs.declared.report.Report.{Report}
 use Rattle.lis_engine.specs.declared.machine.Halt.{Halt}
 use Rattle.lis_engine.specs.Outcome.{Outcome, whole, going}
-use Rattle.lis_engine.specs.Output.{Gathered, Out, PartWentOut, Put, WentOut, out}
+use Rattle.lis_engine.specs.Output.{Gathered, Out, Put, WentOut, out}
+use Rattle.lis_engine.specs.inside.Output.{PartWentOut}
 use Rattle.lis_engine.specs.Runs.{EachGave, IsOver, WroteOutcome, Ran, StopsBy}
-use Rattle.lis_engine.specs.inside.Steps.{Halts, Fails, Puts, IsEarly, IsTold}
+use Rattle.lis_engine.specs.Steps.{Halts, Fails, Puts, IsEarly}
+use Rattle.lis_engine.specs.inside.Steps.{IsTold}
 use Rattle.lis_engine.proofs.GatherLaws.{gathered_sent, gathered_settled, gathered_then}
 use Rattle.lis_engine.proofs.PutLaws.{part_then, put_stops}
 

@@ -2,6 +2,6 @@
 pub mod Output
 pub mod Outcome
 pub mod Runs
-pub mod Reads
 pub mod Parts
+pub mod Steps
 pub mod inside

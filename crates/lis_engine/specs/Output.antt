@@ -25,14 +25,6 @@ Put old new before (Err Read) text = ⊥
 Put old new before (Err OutOfMemory) text = ⊥
 Put old new before (Err TooManyReads) text = ⊥
 
--- a part of the text went out, or all of it, which could not be sent on: so many bytes, as the fault tells
-abbrev pub PartWentOut : Option (List ℕ) → Option (List ℕ) → ℕ → ToolFault → List ℕ → Type 0
-PartWentOut old new before (Write written) text = (count : ℕ) × WentOut old new before written text count
-PartWentOut old new before (CaptureLine line) text = ⊥
-PartWentOut old new before Read text = ⊥
-PartWentOut old new before OutOfMemory text = ⊥
-PartWentOut old new before TooManyReads text = ⊥
-
 -- what a sink took, and the bytes that are gathered to go out behind it
 pub record Out : Type 0 where
   pub taken : Option (List ℕ)

@@ -1,2 +1,5 @@
--- What holds within a run. A public contract that speaks of it cites it.
+-- What proofs and private functions speak of. No public contract cites it.
+pub mod Output
+pub mod Parts
+pub mod Reads
 pub mod Steps

@@ -5,8 +5,9 @@ ghost use Rattle.std.specs.Prelude.{IfOk, IsTrue, MatchResult, Ok, OnOk};
 ghost use Rattle.std.specs.Io.KnownBytes.{ReadConsumes};
 ghost use Rattle.hex.specs.Hex.{encode_lower};
 ghost use Rattle.lis_engine.specs.declared.page.TheConstants.{PAGE_ROOM};
-ghost use Rattle.lis_engine.specs.Output.{Gathered, PartWentOut, Put, out};
-ghost use Rattle.lis_engine.specs.Reads.{read_room};
+ghost use Rattle.lis_engine.specs.Output.{Gathered, Put, out};
+ghost use Rattle.lis_engine.specs.inside.Output.{PartWentOut};
+ghost use Rattle.lis_engine.specs.inside.Reads.{read_room};
 
 use crate::fault::Written;
 use crate::output::{put, send};

@@ -6,7 +6,8 @@ ghost use Rattle.std.specs.Io.KnownBytes.{Keeps};
 ghost use Rattle.lis_engine.specs.Outcome.{Outcome, going};
 ghost use Rattle.lis_engine.specs.Output.{out};
 ghost use Rattle.lis_engine.specs.Runs.{EachGave, IsFresh, Ran, StopsBy};
-ghost use Rattle.lis_engine.specs.inside.Steps.{Ends, IsTold, Steps};
+ghost use Rattle.lis_engine.specs.Steps.{Ends, Steps};
+ghost use Rattle.lis_engine.specs.inside.Steps.{IsTold};
 ghost use Rattle.lis_engine.specs.declared.machine.Halt.{Halt};
 ghost use Rattle.lis_engine.specs.declared.machine.Turn.TheVariants.{Off};
 

@@ -4,3 +4,4 @@ pub mod Kinds
 pub mod Relation
 pub mod Shape
 pub mod Text
+pub mod inside

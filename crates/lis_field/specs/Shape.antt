@@ -1,19 +1,10 @@
 -- What contracts see of components, repeats, fields and records, and what each value of those types keeps.
 use Rattle.std.specs.Prelude.{◌<◌, List, [], ◌∷◌, length, map, ℕ, ◌-◌, nat_lt, if◌then◌else◌, slice_get, Option, None}
 use Rattle.std.specs.List.{All}
-use Rattle.lis_field.specs.declared.one_or_more.Items.{Items}
-use Rattle.lis_field.specs.declared.one_or_more.Items.TheVariants.{One, Many}
-use Rattle.lis_field.specs.declared.symbol_list.Kept.{Kept}
-use Rattle.lis_field.specs.declared.symbol_list.Kept.TheVariants.{Few, Many as ManySymbols}
 use Rattle.lis_field.specs.declared.symbols.Sym.{Sym}
 use Rattle.lis_field.specs.declared.symbols.Sym.TheVariants.{Char, Raw, On, Off}
 use Rattle.lis_field.specs.declared.kinds.Kind.{Kind}
 use Rattle.lis_field.specs.declared.kinds.Kind.TheVariants as kinds
-
--- the items of a list that keeps an only item in place
-abbrev pub items_of : {A : Type 0} → Items A → List A
-items_of (One item) = item ∷ []
-items_of (Many items) = items.items
 
 -- a component: its symbols
 abbrev pub Symbols : Type 0
@@ -26,11 +17,6 @@ Components = List Symbols
 -- a field: its repeats
 abbrev pub Repeats : Type 0
 Repeats = List Components
-
--- the symbols of a list that keeps few of them in place
-abbrev pub symbols_kept : Kept → Symbols
-symbols_kept (Few few) = few
-symbols_kept (ManySymbols many) = many.items
 
 -- these bytes, each a character
 abbrev pub plain_component : List ℕ → Symbols

@@ -22,7 +22,7 @@ pub(crate) struct OneOrMore<T> {
 
 impl<T> Model for OneOrMore<T> {
     ghost use Rattle.std.specs.Prelude.{List, ◌<◌, length};
-    ghost use Rattle.lis_field.specs.Shape.{items_of};
+    ghost use Rattle.lis_field.specs.inside.Shape.{items_of};
 
     ghost Value = { List T };
 

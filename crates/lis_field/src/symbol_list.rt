@@ -23,7 +23,8 @@ pub(crate) struct SymbolList {
 }
 
 impl Model for SymbolList {
-    ghost use Rattle.lis_field.specs.Shape.{Symbols, symbols_kept};
+    ghost use Rattle.lis_field.specs.Shape.{Symbols};
+    ghost use Rattle.lis_field.specs.inside.Shape.{symbols_kept};
 
     ghost Value = { Symbols };
 

@@ -12,8 +12,9 @@ use Rattle.lis_frame.specs.declared.frame.FrameFault.{FrameFault}
 use Rattle.lis_text.specs.Text.{first_forbidden}
 use Rattle.lis_frame.specs.Frame.{FrameContent, IsContent, IsDigits, IsFrame, number_byte, end_byte, checksum}
 use Rattle.lis_frame.specs.Frame.{digit_value, upper_digit, frame_bytes}
-use Rattle.lis_frame.specs.Stretch.{stretch_of, text_of, end_of, content_of, has_shape, digits_value, is_number_byte}
-use Rattle.lis_frame.specs.Stretch.{pair_value, is_value, first_fault, stretch_fault}
+use Rattle.lis_frame.specs.Stretch.{text_of, end_of, content_of, has_shape, digits_value, is_number_byte, pair_value}
+use Rattle.lis_frame.specs.Stretch.{is_value, first_fault, stretch_fault}
+use Rattle.lis_frame.specs.inside.Stretch.{stretch_of}
 use Rattle.lis_frame.proofs.StretchLemmas.{stretch_fault-stretch_of, content_of-stretch_of, stretch_parts}
 use Rattle.lis_frame.proofs.StretchLemmas.{number_byte-back, end_byte-back}
 

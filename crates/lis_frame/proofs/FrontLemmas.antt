@@ -8,7 +8,8 @@ use Rattle.std.specs.List.{position_from, sum}
 use Rattle.lis_text.specs.Control.{STX, ETX, ETB, CR, LF}
 use Rattle.lis_text.specs.Text.{first_forbidden, is_forbidden}
 use Rattle.lis_frame.specs.Frame.{BeginsWith, FrameContent, IsFrame, checksum, digit_value, end_byte, number_byte}
-use Rattle.lis_frame.specs.Stretch.{stretch_of, content_of, stretch_fault, is_value, pair_value}
+use Rattle.lis_frame.specs.Stretch.{content_of, stretch_fault, is_value, pair_value}
+use Rattle.lis_frame.specs.inside.Stretch.{stretch_of}
 use Rattle.lis_frame.proofs.FrameLaws.{found, value_by}
 
 take_five : (xs : List ℕ) → 5 ≤ length xs → take 5 xs ≡ get_or xs 0 0 ∷ get_or xs 1 0 ∷ get_or xs 2 0

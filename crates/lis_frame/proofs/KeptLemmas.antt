@@ -13,10 +13,12 @@ use Rattle.lis_frame.specs.declared.frame.FrameFault.{FrameFault}
 use Rattle.lis_frame.specs.declared.frame.FrameFault.TheVariants.{Shape}
 use Rattle.lis_frame.specs.declared.scanner.SignalOf.{SignalOf}
 use Rattle.lis_frame.specs.declared.scanner.SignalOf.TheVariants.{Good, Bad}
-use Rattle.lis_frame.specs.Scanner.{outside, beyond, kept, with_bytes, ended_held}
+use Rattle.lis_frame.specs.Scanner.{outside, beyond, kept}
+use Rattle.lis_frame.specs.inside.Scanner.{with_bytes, ended_held}
 use Rattle.lis_frame.specs.inside.Kept.{kept_held}
 use Rattle.lis_frame.specs.Frame.{FrameContent}
-use Rattle.lis_frame.specs.Stretch.{stretch_of, content_of, stretch_fault}
+use Rattle.lis_frame.specs.Stretch.{content_of, stretch_fault}
+use Rattle.lis_frame.specs.inside.Stretch.{stretch_of}
 use Rattle.lis_frame.specs.Stream.{read_stretch}
 use Rattle.lis_frame.proofs.StretchLemmas.{last_four_at, stretch_fault-few}
 use Rattle.lis_frame.proofs.ScannerLemmas.{kept-push}

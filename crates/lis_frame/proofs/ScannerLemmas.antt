@@ -8,8 +8,8 @@ use Rattle.lis_text.specs.Control.{STX, EOT, ENQ, LF}
 use Rattle.lis_frame.specs.declared.scanner.SignalOf.{SignalOf}
 use Rattle.lis_frame.specs.declared.scanner.SignalOf.TheVariants.{Enq, Eot}
 use Rattle.lis_frame.specs.Stream.{look_back, open_stretch, signal_after, ended_stretch, read_stretch}
-use Rattle.lis_frame.specs.Scanner.{Held, outside, within, beyond, HoldsAtMost, kept, held_of, with_byte, with_bytes}
-use Rattle.lis_frame.specs.Scanner.{ended_held, held_signal, held_after, StandsFor}
+use Rattle.lis_frame.specs.Scanner.{Held, outside, within, beyond, HoldsAtMost, kept, held_of, StandsFor}
+use Rattle.lis_frame.specs.inside.Scanner.{with_byte, with_bytes, ended_held, held_signal, held_after}
 use Rattle.lis_frame.proofs.StretchLemmas.{stretch_fault-long}
 
 -- the byte behind what was found goes on behind it

@@ -8,11 +8,11 @@ use Rattle.lis_text.specs.Control.{STX, EOT, ENQ, CR, LF}
 use Rattle.lis_frame.specs.declared.scanner.SignalOf.{SignalOf}
 use Rattle.lis_frame.specs.declared.scanner.SignalOf.TheVariants.{Good}
 use Rattle.lis_text.specs.Text.{is_forbidden, first_forbidden}
-use Rattle.lis_frame.specs.Scanner.{Held, held_after, outside, quiet_length, unmarked_length, with_byte, with_bytes}
-use Rattle.lis_frame.specs.Scanner.{StandsFor}
+use Rattle.lis_frame.specs.Scanner.{Held, outside, quiet_length, unmarked_length, StandsFor}
+use Rattle.lis_frame.specs.inside.Scanner.{held_after, with_byte, with_bytes}
 use Rattle.lis_frame.specs.Frame.{FrameContent, IsContent, IsFrame, number_byte, end_byte, checksum, digit_value}
 use Rattle.lis_frame.specs.Frame.{upper_digit, frame_bytes}
-use Rattle.lis_frame.specs.Stretch.{stretch_of}
+use Rattle.lis_frame.specs.inside.Stretch.{stretch_of}
 use Rattle.lis_frame.specs.Stream.{is_mark, look_back, open_stretch, read_stretch, signal_after, with_signal}
 use Rattle.lis_frame.specs.Stream.{signals_after, stream_with}
 use Rattle.lis_frame.proofs.FrameLaws.{only, IsFrame-frame_bytes}

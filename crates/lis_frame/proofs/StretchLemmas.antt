@@ -11,8 +11,9 @@ use Rattle.lis_text.specs.Control.{ETX, ETB, CR}
 use Rattle.lis_frame.specs.declared.frame.FrameFault.TheVariants.{TooLong, Shape}
 use Rattle.lis_frame.specs.Frame.{number_byte, end_byte, digit_value}
 use Rattle.lis_text.specs.Text.{first_forbidden}
-use Rattle.lis_frame.specs.Stretch.{stretch_of, text_of, end_of, content_of, digits_value, is_number_byte, pair_value}
-use Rattle.lis_frame.specs.Stretch.{is_value, first_fault, stretch_fault}
+use Rattle.lis_frame.specs.Stretch.{text_of, end_of, content_of, digits_value, is_number_byte, pair_value, is_value}
+use Rattle.lis_frame.specs.Stretch.{first_fault, stretch_fault}
+use Rattle.lis_frame.specs.inside.Stretch.{stretch_of}
 
 -- the sum is asked for only in a stretch of the right shape with a number
 first_fault-sum :

@@ -1,15 +1,14 @@
 -- What a scanner holds of the stream that it has read.
-use Rattle.std.specs.Prelude.{◌≡◌, ℕ, ◌+◌, ◌≤◌, List, [], ◌∷◌, ◌++◌, Option, None, Some, length, if◌then◌else◌, nat_lt}
-use Rattle.std.specs.Prelude.{◌==◌, ◌||◌, not, ⊤}
+use Rattle.std.specs.Prelude.{◌≡◌, ℕ, ◌+◌, ◌≤◌, List, [], ◌∷◌, Option, None, Some, length, if◌then◌else◌, nat_lt, ◌==◌}
+use Rattle.std.specs.Prelude.{not, ⊤}
 use Rattle.std.specs.List.{prefix_len}
-use Rattle.lis_text.specs.Control.{STX, EOT, ENQ, LF}
-use Rattle.lis_frame.specs.declared.frame.FrameFault.TheVariants.{TooLong}
+use Rattle.lis_text.specs.Control.{STX}
 use Rattle.lis_frame.specs.declared.scanner.SignalOf.{SignalOf}
 use Rattle.lis_frame.specs.declared.scanner.SignalOf.TheVariants.{Enq, Eot, Good, Bad}
 use Rattle.lis_frame.specs.declared.scanner.Heard.{Heard}
 use Rattle.lis_frame.specs.declared.scanner.Heard.TheVariants as heards
 use Rattle.lis_frame.specs.Frame.{FrameContent, IsContent}
-use Rattle.lis_frame.specs.Stream.{is_mark, open_stretch, read_stretch}
+use Rattle.lis_frame.specs.Stream.{is_mark, open_stretch}
 
 -- it stands outside a frame, in one within these bytes since STX, or in one beyond what any frame has
 pub data Held : Type 0 where
@@ -34,17 +33,6 @@ held_of limit (Some stretch) = kept limit stretch
 -- what is held is all that is to be known of the stream, newest byte first
 unfoldable pub StandsFor : ℕ → Held → List ℕ → Type 0
 StandsFor limit held past = held ≡ held_of limit (open_stretch past)
-
--- what is held after a byte that is no mark
-abbrev pub with_byte : ℕ → Held → ℕ → Held
-with_byte limit outside b = outside
-with_byte limit (within stretch) b = kept limit (stretch ++ b ∷ [])
-with_byte limit beyond b = beyond
-
--- and after several such bytes
-abbrev pub with_bytes : ℕ → Held → List ℕ → Held
-with_bytes limit held [] = held
-with_bytes limit held (b ∷ bytes) = with_bytes limit (with_byte limit held b) bytes
 
 -- how many bytes stand before the next mark; and how many give no signal, where an STX that stands first is read too
 abbrev pub unmarked_length : List ℕ → ℕ
@@ -73,19 +61,3 @@ IsHeardWithin limit (heards.Bad fault) = ⊤
 abbrev pub lent_signals : {limit : ℕ} → Option FrameContent → List (SignalOf limit)
 lent_signals None = []
 lent_signals (Some frame) = Good frame ∷ []
-
--- what an LF tells
-abbrev pub ended_held : (limit : ℕ) → Held → Option (SignalOf limit)
-ended_held limit outside = None
-ended_held limit (within stretch) = Some (read_stretch limit stretch)
-ended_held limit beyond = Some (Bad TooLong)
-
--- what a byte tells, by what is held
-abbrev pub held_signal : (limit : ℕ) → Held → ℕ → Option (SignalOf limit)
-held_signal limit held b =
-    if b == ENQ then Some Enq else if b == EOT then Some Eot else if b == LF then ended_held limit held else None
-
--- what is held after a byte
-abbrev pub held_after : ℕ → Held → ℕ → Held
-held_after limit held b =
-    if b == STX then within [] else if b == EOT || b == ENQ || b == LF then outside else with_byte limit held b

@@ -1,6 +1,6 @@
 -- Reading the bytes between an STX and the next LF: their parts by places, and what is wrong with them first.
-use Rattle.std.specs.Prelude.{ℕ, ◌+◌, ◌-◌, ◌*◌, Bool, true, false, List, [], ◌∷◌, ◌++◌, Option, None, Some, length}
-use Rattle.std.specs.Prelude.{drop, take, slice_index, nat_lt, nat_le, ◌==◌, ◌&&◌, ◌||◌}
+use Rattle.std.specs.Prelude.{ℕ, ◌+◌, ◌-◌, ◌*◌, Bool, true, false, List, Option, None, Some, length, drop, take}
+use Rattle.std.specs.Prelude.{slice_index, nat_lt, nat_le, ◌==◌, ◌&&◌, ◌||◌}
 use Rattle.lis_text.specs.Control.{ETX, ETB, CR}
 use Rattle.lis_frame.specs.declared.frame.FrameFault.{FrameFault}
 use Rattle.lis_frame.specs.declared.frame.FrameFault.TheVariants.{TooLong, Shape, Number, Text, Sum}
@@ -13,10 +13,6 @@ text_of stretch = take (length stretch - 5) (drop 1 stretch)
 
 abbrev pub end_of : List ℕ → ℕ
 end_of stretch = slice_index stretch (length stretch - 4)
-
--- the stretch of these parts
-abbrev pub stretch_of : ℕ → List ℕ → ℕ → ℕ → ℕ → ℕ → List ℕ
-stretch_of number text end high low close = number ∷ (text ++ (end ∷ high ∷ low ∷ close ∷ []))
 
 -- the frame that stands there, if one does
 abbrev pub content_of : List ℕ → FrameContent

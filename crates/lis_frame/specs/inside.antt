@@ -1,2 +1,4 @@
--- What private fields stand for, and what holds within loops. A public contract that speaks of private state cites it.
+-- What proofs and private functions speak of. No public contract cites it.
 pub mod Kept
+pub mod Scanner
+pub mod Stretch

@@ -7,8 +7,8 @@ ghost use Rattle.std.specs.List.{sum};
 ghost use Rattle.lis_frame.specs.Limit.{IsLimit};
 ghost use Rattle.lis_frame.specs.Frame.{BeginsWith, FrameContent, IsContent, IsFrame, digit_value};
 ghost use Rattle.lis_text.specs.Text.{first_forbidden};
-ghost use Rattle.lis_frame.specs.Stretch.{stretch_of, stretch_fault, content_of, first_fault, is_number_byte, is_value};
-ghost use Rattle.lis_frame.specs.Stretch.{pair_value};
+ghost use Rattle.lis_frame.specs.Stretch.{stretch_fault, content_of, first_fault, is_number_byte, is_value, pair_value};
+ghost use Rattle.lis_frame.specs.inside.Stretch.{stretch_of};
 
 use crate::frame::{Frame, FrameFault, FrameOf};
 use crate::lent::LentFrame;

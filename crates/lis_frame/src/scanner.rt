@@ -4,8 +4,9 @@ ghost use Rattle.std.specs.Prelude.{◌≡◌, ◌+◌, ◌≤◌, ℕ, List, []
 ghost use Rattle.lis_frame.specs.Frame.{BeginsWith, FrameContent, IsFrame};
 ghost use Rattle.lis_frame.specs.Limit.{IsLimit};
 ghost use Rattle.lis_frame.specs.Stream.{is_mark, signal_after, signals_after, stream_with};
-ghost use Rattle.lis_frame.specs.Scanner.{HoldsAtMost, IsHeardWithin, StandsFor, held_signal, held_after, heard_signal};
-ghost use Rattle.lis_frame.specs.Scanner.{lent_signals, quiet_length, unmarked_length, with_bytes};
+ghost use Rattle.lis_frame.specs.Scanner.{HoldsAtMost, IsHeardWithin, StandsFor, heard_signal, lent_signals};
+ghost use Rattle.lis_frame.specs.Scanner.{quiet_length, unmarked_length};
+ghost use Rattle.lis_frame.specs.inside.Scanner.{held_signal, held_after, with_bytes};
 
 use crate::frame::{FrameFault, FrameOf};
 use crate::lent::LentFrame;

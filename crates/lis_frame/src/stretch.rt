@@ -3,7 +3,8 @@
 ghost use Rattle.std.specs.Prelude.{◌≡◌, ◌+◌, ◌≤◌, ◌<◌, [], ◌++◌, Some, IfOk, MatchResult, length, take, slice_index};
 ghost use Rattle.lis_frame.specs.Frame.{IsContent};
 ghost use Rattle.lis_frame.specs.Limit.{IsLimit};
-ghost use Rattle.lis_frame.specs.Scanner.{within, with_bytes, ended_held};
+ghost use Rattle.lis_frame.specs.Scanner.{within};
+ghost use Rattle.lis_frame.specs.inside.Scanner.{with_bytes, ended_held};
 ghost use Rattle.lis_frame.specs.declared.scanner.SignalOf.TheVariants.{Good, Bad};
 
 use crate::frame::FrameFault;

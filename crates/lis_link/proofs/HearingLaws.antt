@@ -20,8 +20,9 @@ use Rattle.lis_link.specs.declared.receiver.Note.TheVariants.{TooLong, OutOfMemo
 use Rattle.lis_link.specs.declared.receiver.Readiness.{Readiness}
 use Rattle.lis_link.specs.declared.receiver.Readiness.TheVariants.{Ready, Busy, Contending}
 use Rattle.lis_link.specs.declared.receiver.Step.{Step}
-use Rattle.lis_link.specs.inside.Kept.{Kept, KeptLine, kept_of}
-use Rattle.lis_link.specs.inside.Stands.{IsIn, Makes, RefusesFrame, SpareAfter, HearsFront}
+use Rattle.lis_link.specs.Kept.{Kept, KeptLine, kept_of}
+use Rattle.lis_link.specs.Stands.{IsIn, Makes, RefusesFrame, SpareAfter}
+use Rattle.lis_link.specs.inside.Stands.{HearsFront}
 use Rattle.lis_link.specs.Receiver.{ReceiverState, ReceiverStep, ReceiverHearing, answers, bid_with, judged_by, judged}
 use Rattle.lis_link.specs.Receiver.{on_judged, held_text, most_frames, heard_by, heard, on_byte, on_bytes, heard_on}
 use Rattle.lis_link.specs.Receiver.{with_heard}

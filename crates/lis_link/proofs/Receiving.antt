@@ -7,9 +7,10 @@ use Rattle.lis_link.specs.declared.receiver.Note.TheVariants.{Accepted}
 use Rattle.lis_link.specs.declared.receiver.Step.{Step}
 use Rattle.lis_link.specs.Joining.{held_with, completed}
 use Rattle.lis_frame.specs.Scanner.{Held}
-use Rattle.lis_link.specs.inside.Kept.{KeptLine, kept_of}
+use Rattle.lis_link.specs.Kept.{KeptLine, kept_of}
 use Rattle.lis_link.specs.Receiver.{ReceiverState, judged_by, judged, on_judged, heard_by, held_text, held_while}
-use Rattle.lis_link.specs.inside.Stands.{IsIn, IsTaken, Makes}
+use Rattle.lis_link.specs.Stands.{IsIn, Makes}
+use Rattle.lis_link.specs.inside.Stands.{IsTaken}
 use Rattle.lis_link.proofs.JoiningLaws.{rest-append}
 
 taken_step :

@@ -9,7 +9,7 @@ use Rattle.lis_frame.specs.Pieces.{session_frames}
 use Rattle.lis_link.specs.declared.sender.Phase.{Phase}
 use Rattle.lis_link.specs.declared.sender.Phase.TheVariants.{Neutral, AwaitLine}
 use Rattle.lis_link.specs.Sender.{first_frame}
-use Rattle.lis_link.specs.inside.Queue.{Queue, IsSender}
+use Rattle.lis_link.specs.Queue.{Queue, IsSender}
 use Rattle.lis_link.proofs.Counting.{few-session_frames}
 use Rattle.lis_link.proofs.StartLaws.{Faultless, texts-faultless}
 

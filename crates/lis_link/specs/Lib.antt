@@ -4,4 +4,7 @@ pub mod Sender
 pub mod Duties
 pub mod Receiver
 pub mod Laws
+pub mod Kept
+pub mod Queue
+pub mod Stands
 pub mod inside

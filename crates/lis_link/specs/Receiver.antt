@@ -85,12 +85,6 @@ on_judged r frame (Accepted number) =
 on_judged r frame (Duplicate number) = answers (Some ACK) (Duplicate number) r
 on_judged r frame note = answers (Some NAK) note r
 
--- the reply to what was found
-abbrev pub found_reply : Note → ℕ
-found_reply (Accepted number) = ACK
-found_reply (Duplicate number) = ACK
-found_reply note = NAK
-
 -- a signal that is no ENQ, while the line is open
 abbrev pub heard_open : {limit : ℕ} → SignalOf limit → ReceiverState → ReceiverStep
 heard_open Enq r = bid_with r.readiness r

@@ -21,7 +21,8 @@ pub(crate) struct QueueOf<const N: usize, T: SessionTexts> {
 }
 
 impl<const N: usize, T: SessionTexts> Model for QueueOf<N, T> {
-    ghost use Rattle.lis_link.specs.inside.Queue.{Queue, frames_left, IsPlace};
+    ghost use Rattle.lis_link.specs.Queue.{Queue};
+    ghost use Rattle.lis_link.specs.inside.Queue.{frames_left, IsPlace};
 
     ghost Value = { Queue };
 

@@ -7,7 +7,8 @@ ghost use Rattle.lis_frame.specs.Scanner.{StandsFor};
 ghost use Rattle.lis_link.specs.Receiver.{ReceiverState, new_receiver, on_byte, on_bytes, on_receiver_timer};
 ghost use Rattle.lis_link.specs.Receiver.{receiver_restarted, with_heard, with_readiness, with_room};
 ghost use Rattle.lis_link.specs.declared.receiver.Note.TheVariants as Notes;
-ghost use Rattle.lis_link.specs.inside.Stands.{IsIn, Makes, RefusesFrame, SpareAfter, HearsFront, KeepsRoom, room_of};
+ghost use Rattle.lis_link.specs.Stands.{IsIn, Makes, RefusesFrame, SpareAfter, KeepsRoom, room_of};
+ghost use Rattle.lis_link.specs.inside.Stands.{HearsFront};
 
 use crate::receiver::line::Line;
 use lis_frame::{FrameFault, ScannerOf};
@@ -92,7 +93,7 @@ pub struct ReceiverOf<const N: usize> {
 
 impl<const N: usize> Model for ReceiverOf<N> {
     ghost use Rattle.lis_frame.specs.Limit.{IsLimit};
-    ghost use Rattle.lis_link.specs.inside.Kept.{Kept, kept_of};
+    ghost use Rattle.lis_link.specs.Kept.{Kept, kept_of};
 
     ghost Value = { Kept };
 

@@ -107,7 +107,7 @@ pub struct SenderOver<const N: usize, T: SessionTexts> {
 
 impl<const N: usize, T: SessionTexts> Model for SenderOver<N, T> {
     ghost use Rattle.lis_link.specs.Sender.{SenderState};
-    ghost use Rattle.lis_link.specs.inside.Queue.{frames_of, IsSender};
+    ghost use Rattle.lis_link.specs.Queue.{frames_of, IsSender};
 
     ghost Value = { SenderState };
 

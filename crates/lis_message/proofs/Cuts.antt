@@ -11,10 +11,10 @@ use Rattle.lis_spelling.specs.declared.writing.TheConstants.{RECORD_LIMIT}
 use Rattle.lis_field.specs.Delimiters.{DelimiterBytes, IsDelimiters}
 use Rattle.lis_field.specs.Relation.{IsRecord}
 use Rattle.lis_field.specs.Shape.{RecordContent}
-use Rattle.lis_tree.specs.inside.Begun.{Begun, level_of}
+use Rattle.lis_tree.specs.Begun.{Begun, level_of}
 use Rattle.lis_tree.specs.Level.{outside, closed, next_level, misplaced}
 use Rattle.lis_message.specs.Stream.{ended, AreMessage, IsCut, LacksReturn}
-use Rattle.lis_message.specs.inside.Taking.{ComesNext, Completes, begun_with, header, inner, left_after, records_of}
+use Rattle.lis_message.specs.Taking.{ComesNext, Completes, begun_with, header, inner, left_after, records_of}
 use Rattle.lis_record.specs.Lent.{Lent}
 use Rattle.lis_tree.specs.Tree.{MessageTree, IsTree, flatten}
 use Rattle.lis_tree.proofs.Levels.{level_more, next_unclosed, stands_more}

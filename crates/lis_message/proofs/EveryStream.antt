@@ -22,18 +22,18 @@ use Rattle.lis_spelling.specs.declared.writing.TheConstants.{RECORD_LIMIT}
 use Rattle.lis_record.specs.Faults.{delimiter_part_fault, header_fault, is_header_kind, is_other_kind, record_fault}
 use Rattle.lis_record.specs.Faults.{record_text_fault}
 use Rattle.lis_field.specs.Text.{trailing_byte}
-use Rattle.lis_part.specs.inside.FrontReading.{fields_of}
+use Rattle.lis_part.specs.FrontReading.{fields_of}
 use Rattle.lis_field.specs.Relation.{IsRecord}
 use Rattle.lis_tree.proofs.Trees.{tree_of}
 use Rattle.lis_field.specs.declared.faults.MessageFault.{MessageFault}
 use Rattle.lis_field.specs.declared.faults.Reason.TheVariants as reasons
-use Rattle.lis_tree.specs.inside.Begun.{Begun, level_of}
+use Rattle.lis_tree.specs.Begun.{Begun, level_of}
 use Rattle.lis_tree.specs.Level.{misplaced}
 use Rattle.lis_tree.specs.Tree.{MessageTree}
 use Rattle.lis_message.specs.Feeding.{next_place}
 use Rattle.lis_message.specs.Stream.{AreBegun, AreLeft, IsCut, IsReadFrom, IsRefused, kind_refusal, letter_refusal}
 use Rattle.lis_message.specs.Stream.{refusal}
-use Rattle.lis_message.specs.inside.Taking.{ComesNext, Completes, header, inner, left_after, records_of}
+use Rattle.lis_message.specs.Taking.{ComesNext, Completes, header, inner, left_after, records_of}
 use Rattle.lis_record.specs.Lent.{Lent, lent}
 use Rattle.lis_message.proofs.Cuts.{cut_hold, cut_start, cut_taken}
 use Rattle.lis_message.proofs.Stopping.{refused_line, refused_long}

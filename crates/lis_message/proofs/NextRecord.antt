@@ -9,12 +9,14 @@ use Rattle.lis_field.specs.declared.kinds.Kind.TheVariants as kinds
 use Rattle.lis_field.specs.Delimiters.{DelimiterBytes}
 use Rattle.lis_field.specs.Shape.{RecordContent}
 use Rattle.lis_message.specs.Feeding.{answer_at_end}
-use Rattle.lis_message.specs.inside.Kept.{Holding, Opened, RecordsState, opened_of, opened_with}
+use Rattle.lis_message.specs.Kept.{Opened, RecordsState, opened_of, opened_with}
+use Rattle.lis_message.specs.inside.Kept.{Holding}
 use Rattle.lis_message.specs.declared.records.Found.{Found}
 use Rattle.lis_message.specs.declared.records.Found.TheVariants as found
 use Rattle.lis_message.specs.Records.{IsRecordRefusedFor, IsStopped, Reads, ReadsRecord}
 use Rattle.lis_message.specs.Stream.{LacksReturn, refusal}
-use Rattle.lis_message.specs.inside.Taking.{ComesNext, front_refusal, header, inner, left_after}
+use Rattle.lis_message.specs.Taking.{ComesNext, header, inner, left_after}
+use Rattle.lis_message.specs.inside.Taking.{front_refusal}
 use Rattle.lis_message.proofs.Cuts.{left_after-more}
 use Rattle.lis_message.proofs.TakingLaws.{inner_refused, place_refused}
 use Rattle.lis_field.specs.declared.faults.RecordFault.{RecordFault}
@@ -26,10 +28,10 @@ use Rattle.lis_field.specs.declared.faults.Reason.{Reason}
 use Rattle.lis_field.specs.declared.faults.Reason.TheVariants as reasons
 use Rattle.lis_tree.specs.declared.standing.Standing.{Standing}
 use Rattle.lis_tree.specs.declared.standing.Standing.TheVariants as standings
-use Rattle.lis_tree.specs.inside.Begun.{Begun, level_of}
+use Rattle.lis_tree.specs.Begun.{Begun, level_of}
 use Rattle.lis_tree.specs.Level.{Level, closed, misplaced, next_level}
 use Rattle.lis_text.specs.Capped.{capped}
-use Rattle.lis_tree.specs.inside.Standing.{standing_level}
+use Rattle.lis_tree.specs.Standing.{standing_level}
 use Rattle.std.proofs.lemmas.List.{nil_from_length}
 
 -- ---- in an open message

@@ -4,7 +4,7 @@ use Rattle.std.proofs.Common.{ap, subst, append_assoc, arith}
 use Rattle.std.proofs.lemmas.List.{append-nil}
 use Rattle.lis_field.specs.declared.faults.MessageFault.{MessageFault}
 use Rattle.lis_field.specs.declared.faults.Reason.{Reason}
-use Rattle.lis_tree.specs.inside.Begun.{Begun}
+use Rattle.lis_tree.specs.Begun.{Begun}
 use Rattle.lis_message.specs.Feeding.{next_place}
 use Rattle.lis_message.specs.Stream.{ended, refusal, IsRefused, IsRefusedText, IsLongText, LacksReturn}
 use Rattle.lis_tree.specs.Tree.{MessageTree}

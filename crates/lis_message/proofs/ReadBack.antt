@@ -11,7 +11,7 @@ use Rattle.lis_spelling.specs.Spelling.{spelled, written}
 use Rattle.lis_spelling.proofs.ReadBack.{IsRecord-spelled}
 use Rattle.lis_field.specs.declared.faults.MessageFault.{MessageFault}
 use Rattle.lis_field.specs.declared.faults.Reason.TheVariants as reasons
-use Rattle.lis_tree.specs.inside.Begun.{Begun}
+use Rattle.lis_tree.specs.Begun.{Begun}
 use Rattle.lis_message.specs.Feeding.{ReadsWhole, StopsReading, IsWantOfMemory, IsCutShort, answer_at_end}
 use Rattle.lis_message.specs.Stream.{ended, AreMessage, IsMessage, IsCut, IsRefused}
 use Rattle.lis_tree.specs.Tree.{MessageTree, IsTree, flatten}

@@ -8,10 +8,10 @@ use Rattle.lis_field.specs.Delimiters.{DelimiterBytes, IsDelimiters, delimiter_l
 use Rattle.lis_field.specs.Relation.{IsRecord, declared_part}
 use Rattle.lis_field.specs.Shape.{RecordContent}
 use Rattle.lis_record.proofs.RecordTexts.{IsRecord-one}
-use Rattle.lis_tree.specs.inside.Begun.{Begun, level_of}
+use Rattle.lis_tree.specs.Begun.{Begun, level_of}
 use Rattle.lis_tree.specs.Level.{Level, outside, closed, next_level}
 use Rattle.lis_tree.specs.Level.{level_after, misplaced, StandsFrom, kinds_of}
-use Rattle.lis_message.specs.inside.Taking.{begun_with}
+use Rattle.lis_message.specs.Taking.{begun_with}
 use Rattle.lis_message.specs.Stream.{ended, AreMessage, AreLeft, IsCut, LacksReturn}
 use Rattle.lis_tree.specs.Tree.{MessageTree, IsTree, flatten, group_records}
 use Rattle.lis_tree.proofs.Flatten.{flatten_one}

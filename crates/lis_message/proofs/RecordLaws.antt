@@ -4,12 +4,13 @@ use Rattle.std.proofs.Common.{length, Option, Some, sym, ◌∙◌, ap, subst, a
 use Rattle.std.specs.Option.{option_to_list}
 use Rattle.lis_field.specs.Shape.{RecordContent}
 use Rattle.lis_message.specs.declared.records.Found.TheVariants as found
-use Rattle.lis_message.specs.Feeding.{GoesBefore, StopsReading, StopsIn, next_place}
-use Rattle.lis_message.specs.inside.Kept.{RecordsState}
-use Rattle.lis_message.specs.Records.{Adds, CantCome, IsReadUpTo, IsStopped}
-use Rattle.lis_message.specs.Records.{Reads, ReadsOn, ReadsRecord, Refuses, unended}
+use Rattle.lis_message.specs.Feeding.{StopsReading, next_place}
+use Rattle.lis_message.specs.inside.Feeding.{GoesBefore, StopsIn}
+use Rattle.lis_message.specs.Kept.{RecordsState}
+use Rattle.lis_message.specs.Records.{CantCome, IsReadUpTo, IsStopped, Reads, ReadsOn, ReadsRecord, Refuses}
+use Rattle.lis_message.specs.inside.Records.{Adds, unended}
 use Rattle.lis_message.specs.Stream.{IsCut, IsRefused, IsRefusedText}
-use Rattle.lis_message.specs.inside.Taking.{ComesNext, Completes, header, inner, left_after}
+use Rattle.lis_message.specs.Taking.{ComesNext, Completes, header, inner, left_after}
 use Rattle.lis_message.proofs.Cuts.{cut_hold, cut_taken}
 use Rattle.lis_message.proofs.EveryStream.{completing}
 use Rattle.lis_message.proofs.Stopping.{refused_line, refused_long, starved}
@@ -17,7 +18,7 @@ use Rattle.lis_spelling.specs.declared.writing.TheConstants.{RECORD_LIMIT}
 use Rattle.lis_record.specs.Lent.{Lent}
 use Rattle.lis_field.specs.declared.faults.MessageFault.{MessageFault}
 use Rattle.lis_field.specs.declared.faults.Reason.TheVariants as reasons
-use Rattle.lis_tree.specs.inside.Begun.{Begun}
+use Rattle.lis_tree.specs.Begun.{Begun}
 use Rattle.lis_tree.specs.Tree.{MessageTree}
 
 comes_short : (left : Option Begun) (text : List ℕ) (entry : Lent RecordContent) → ComesNext left text entry

@@ -15,7 +15,7 @@ use Rattle.lis_record.proofs.FaultLaws.{header_fault-IsRecord, record_fault-IsRe
 use Rattle.lis_field.specs.declared.faults.MessageFault.{MessageFault}
 use Rattle.lis_field.specs.declared.faults.Reason.{Reason}
 use Rattle.lis_field.specs.declared.faults.Reason.TheVariants as reasons
-use Rattle.lis_tree.specs.inside.Begun.{Begun, level_of}
+use Rattle.lis_tree.specs.Begun.{Begun, level_of}
 use Rattle.lis_tree.specs.Level.{misplaced}
 use Rattle.lis_message.specs.Stream.{ended, kind_refusal, letter_refusal, refusal, IsCut, IsRefused, IsRefusedText}
 use Rattle.lis_message.specs.Stream.{IsLongText, LacksReturn}

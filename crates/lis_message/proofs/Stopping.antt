@@ -6,8 +6,9 @@ use Rattle.std.proofs.lemmas.List.{append-nil, take-append-drop}
 use Rattle.lis_spelling.specs.declared.writing.TheConstants.{RECORD_LIMIT}
 use Rattle.lis_field.specs.declared.faults.MessageFault.{MessageFault}
 use Rattle.lis_field.specs.declared.faults.Reason.TheVariants as reasons
-use Rattle.lis_tree.specs.inside.Begun.{Begun}
-use Rattle.lis_message.specs.Feeding.{Unended, IsWantOfMemory, StopsReading, Goes, StopsIn, next_place}
+use Rattle.lis_tree.specs.Begun.{Begun}
+use Rattle.lis_message.specs.Feeding.{IsWantOfMemory, StopsReading, next_place}
+use Rattle.lis_message.specs.inside.Feeding.{Unended, Goes, StopsIn}
 use Rattle.lis_message.specs.Stream.{ended, refusal, IsCut, IsRefused, LacksReturn}
 use Rattle.lis_tree.specs.Tree.{MessageTree}
 use Rattle.lis_message.proofs.Lines.{lacks_append}

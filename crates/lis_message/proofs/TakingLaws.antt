@@ -12,7 +12,7 @@ use Rattle.lis_field.specs.Shape.{RecordContent}
 use Rattle.lis_record.proofs.FaultLaws.{record_fault-IsRecord}
 use Rattle.lis_field.specs.declared.faults.Reason.{Reason}
 use Rattle.lis_field.specs.declared.faults.Reason.TheVariants as reasons
-use Rattle.lis_tree.specs.inside.Begun.{Begun, level_of}
+use Rattle.lis_tree.specs.Begun.{Begun, level_of}
 use Rattle.lis_tree.specs.Level.{misplaced}
 use Rattle.lis_message.specs.Stream.{kind_refusal, letter_refusal, refusal}
 use Rattle.lis_message.specs.inside.Taking.{front_refusal, letter_front}

@@ -2,7 +2,7 @@
 use Rattle.std.proofs.Common.{◌≡◌, ℕ, List, [], ◌∷◌, ◌++◌, Option, Some, None, Ok, Err, inl, inr, refl, sym, ◌∙◌, ap}
 use Rattle.std.proofs.Common.{subst}
 use Rattle.lis_field.specs.declared.faults.MessageFault.{MessageFault}
-use Rattle.lis_tree.specs.inside.Begun.{Begun}
+use Rattle.lis_tree.specs.Begun.{Begun}
 use Rattle.lis_message.specs.Feeding.{ReaderState, ReadsStream, ReadsWhole, answer_at_end, finished}
 use Rattle.lis_message.specs.Stream.{IsCut}
 use Rattle.lis_tree.specs.Tree.{MessageTree}

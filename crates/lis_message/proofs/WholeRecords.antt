@@ -17,7 +17,7 @@ use Rattle.lis_field.specs.Text.{IsRecordText, bad_byte_place, is_text_byte, rec
 use Rattle.lis_field.specs.Delimiters.{DelimiterBytes}
 use Rattle.lis_field.specs.declared.faults.Reason.{Reason}
 use Rattle.lis_field.specs.declared.faults.Reason.TheVariants as reasons
-use Rattle.lis_tree.specs.inside.Begun.{Begun}
+use Rattle.lis_tree.specs.Begun.{Begun}
 use Rattle.lis_message.specs.Records.{IsRecordRefused, IsRecordRefusedFor}
 use Rattle.lis_message.specs.Stream.{refusal}
 use Rattle.lis_message.specs.Stream.{LacksReturn}

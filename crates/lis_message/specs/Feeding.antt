@@ -1,18 +1,13 @@
 -- What a message reader keeps of a stream, and what it answers to a piece of it.
-use Rattle.std.specs.Prelude.{◌≡◌, ℕ, List, [], ◌++◌, Option, Some, None, Result, Ok, Err, ◌⊎◌, ◌+◌, ◌<◌, length}
+use Rattle.std.specs.Prelude.{◌≡◌, ℕ, List, [], ◌++◌, Option, Some, None, Result, Ok, Err, ◌⊎◌, ◌+◌}
 use Rattle.lis_field.specs.declared.faults.MessageFault.{MessageFault}
 use Rattle.lis_field.specs.declared.faults.Reason.TheVariants as reasons
-use Rattle.lis_tree.specs.inside.Begun.{Begun}
+use Rattle.lis_tree.specs.Begun.{Begun}
 use Rattle.lis_text.specs.Capped.{capped}
 use Rattle.lis_message.specs.Stream.{IsCut, IsRefused, count_of}
 use Rattle.lis_tree.specs.Tree.{MessageTree}
 
--- what follows the whole messages of a stream: a message that isn't closed, and bytes of a record that isn't ended
-pub record Unended : Type 0 where
-  pub left : Option Begun
-  pub held : List ℕ
-
--- the same of a reader, and the fault that it met
+-- what a reader keeps: a message that isn't closed, bytes of a record that isn't ended, and the fault that it met
 pub record ReaderState : Type 0 where
   pub left : Option Begun
   pub held : List ℕ
@@ -35,26 +30,6 @@ pub record IsWantOfMemory (stream : List ℕ) (messages : List MessageTree) (fau
 -- Memory is refused, or a record is.
 abbrev pub StopsReading : List ℕ → List MessageTree → MessageFault → Type 0
 StopsReading stream messages fault = IsWantOfMemory stream messages fault ⊎ IsRefused stream messages fault
-
--- These bytes lead from what is kept to what is kept then, and add to the messages, whatever came before.
-abbrev pub Goes : Unended → List MessageTree → List ℕ → Unended → List MessageTree → Type 0
-Goes before messages bytes after more =
-    (past : List ℕ) (base : List MessageTree) → IsCut past (base ++ messages) before.left before.held
-    → IsCut (past ++ bytes) (base ++ more) after.left after.held
-
--- These bytes, up to those behind, lead there; there is one at least.
-pub record GoesBefore (before : Unended) (messages : List MessageTree) (bytes behind : List ℕ) (after : Unended)
-    (more : List MessageTree) : Type 0 where
-  pub front : List ℕ
-  pub whole : bytes ≡ front ++ behind
-  pub shorter : length behind < length bytes
-  pub goes : Goes before messages front after more
-
--- The reading stops in these bytes, with these messages, whatever came before.
-abbrev pub StopsIn : Unended → List MessageTree → List ℕ → List MessageTree → MessageFault → Type 0
-StopsIn before messages bytes more fault =
-    (past : List ℕ) (base : List MessageTree) → IsCut past (base ++ messages) before.left before.held
-    → StopsReading (past ++ bytes) (base ++ more) fault
 
 -- what a reader tells and keeps of a stream
 abbrev pub ReadsStream : List ℕ → List MessageTree → ReaderState → Option MessageFault → Type 0

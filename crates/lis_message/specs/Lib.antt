@@ -1,6 +1,8 @@
 pub mod Feeding
+pub mod Kept
 pub mod Records
 pub mod Stream
+pub mod Taking
 pub mod Texts
 pub mod Writing
 pub mod inside

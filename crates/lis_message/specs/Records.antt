@@ -1,19 +1,18 @@
 -- What a reader of records answers to a piece of a stream.
 use Rattle.std.specs.Prelude.{◌≡◌, ℕ, List, [], ◌∷◌, ◌++◌, ◌⊎◌, ◌<◌, ◌≤◌, length, Option, None, Some, is_some, true, ⊤}
-use Rattle.std.specs.Option.{option_to_list}
 use Rattle.lis_field.specs.Shape.{RecordContent}
 use Rattle.lis_message.specs.declared.records.Found.{Found}
 use Rattle.lis_message.specs.declared.records.Found.TheVariants as found
-use Rattle.lis_message.specs.Feeding.{Unended, next_place}
-use Rattle.lis_message.specs.inside.Kept.{RecordsState, opened_of}
+use Rattle.lis_message.specs.Feeding.{next_place}
+use Rattle.lis_message.specs.Kept.{RecordsState, opened_of}
 use Rattle.lis_message.specs.Stream.{IsCut, IsRefusedText, LacksReturn, refusal}
-use Rattle.lis_message.specs.inside.Taking.{ComesNext, Completes, left_after}
+use Rattle.lis_message.specs.Taking.{ComesNext, left_after}
 use Rattle.lis_record.specs.Lent.{Lent}
 use Rattle.lis_field.specs.Text.{record_limit}
 use Rattle.lis_field.specs.declared.faults.MessageFault.{MessageFault}
 use Rattle.lis_field.specs.declared.faults.Reason.{Reason}
 use Rattle.lis_field.specs.declared.faults.Reason.TheVariants as reasons
-use Rattle.lis_tree.specs.inside.Begun.{Begun}
+use Rattle.lis_tree.specs.Begun.{Begun}
 use Rattle.lis_tree.specs.Tree.{MessageTree}
 
 -- This is what is left of the stream that the reader has read, beside the bytes that it holds.
@@ -94,24 +93,7 @@ IsRecordRefusedFor left text reason =
 abbrev pub IsRecordRefused : Option Begun → List ℕ → Type 0
 IsRecordRefused left text = (reason : Reason) × IsRecordRefusedFor left text reason
 
--- what was held and this text come next, as the record that was cut
-pub record EndsHeld (before after : RecordsState) (left : Option Begun) (text : List ℕ) : Type 0 where
-  pub entry : Lent RecordContent
-  pub comes : ComesNext left (before.held ++ text) entry
-  pub opened : after.opened ≡ opened_of (left_after left entry entry.content.kind)
-  pub told : after.cut ≡ Some entry
-  pub empty : after.held ≡ []
-
 -- ---- the reader of messages
-
--- A message that the record completes is added to the others.
-pub record Adds (left : Option Begun) (entry : Lent RecordContent) (before after : List MessageTree) : Type 0 where
-  pub message : Option MessageTree
-  pub completes : Completes left entry message
-  pub added : after ≡ before ++ option_to_list message
-
-abbrev pub unended : Option Begun → RecordsState → Unended
-unended left reader = record { left = left; held = reader.held }
 
 -- What is open for the reader of records is the open message, until a fault is met; then nothing is kept.
 abbrev pub IsOpenFor : RecordsState → Option Begun → Option MessageFault → Type 0

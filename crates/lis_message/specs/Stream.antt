@@ -12,7 +12,7 @@ use Rattle.lis_field.specs.Relation.{IsRecord}
 use Rattle.lis_field.specs.declared.faults.MessageFault.{MessageFault}
 use Rattle.lis_field.specs.declared.faults.Reason.{Reason}
 use Rattle.lis_field.specs.declared.faults.Reason.TheVariants as reasons
-use Rattle.lis_tree.specs.inside.Begun.{Begun, level_of}
+use Rattle.lis_tree.specs.Begun.{Begun, level_of}
 use Rattle.lis_tree.specs.Level.{outside, closed, kinds_of, level_after, misplaced, StandsFrom}
 use Rattle.lis_text.specs.Capped.{capped}
 use Rattle.lis_tree.specs.Tree.{MessageTree, IsTree, flatten}

@@ -4,14 +4,14 @@ ghost use Rattle.std.specs.Prelude.{◌≡◌, ◌++◌, ℕ, List, [], Option, 
 ghost use Rattle.std.specs.List.{AllByRecursion, flat_map};
 ghost use Rattle.lis_field.specs.declared.kinds.Kind.TheVariants as kinds;
 ghost use Rattle.lis_field.specs.Delimiters.{DelimiterBytes};
-ghost use Rattle.lis_message.specs.inside.Taking.{Completes, left_after};
+ghost use Rattle.lis_message.specs.Taking.{Completes, left_after};
 ghost use Rattle.lis_record.specs.Lent.{Lent};
 ghost use Rattle.lis_field.specs.Relation.{IsRecord};
 ghost use Rattle.lis_field.specs.Shape.{RecordContent};
 ghost use Rattle.lis_field.specs.declared.faults.MessageFault.{MessageFault};
-ghost use Rattle.lis_tree.specs.inside.Begun.{Begun};
+ghost use Rattle.lis_tree.specs.Begun.{Begun};
 ghost use Rattle.lis_message.specs.Feeding.{StopsReading};
-ghost use Rattle.lis_message.specs.inside.Kept.{RecordsState};
+ghost use Rattle.lis_message.specs.Kept.{RecordsState};
 ghost use Rattle.lis_message.specs.Records.{IsReadUpTo, ReadsOn, ReadsRecord, Refuses};
 ghost use Rattle.lis_message.specs.Stream.{IsCut, IsMessage, IsReadFrom, IsRefused};
 ghost use Rattle.lis_tree.specs.Tree.{MessageTree, IsTree, flatten};

@@ -2,10 +2,12 @@
 ghost use Rattle.std.specs.Prelude.{◌≡◌, ℕ, ◌++◌, ◌∷◌, ◌≤◌, [], List, IfOk, IfErr};
 ghost use Rattle.std.specs.Prelude.{OnOk, OnSome, IfSome, IfNone, MatchOption, None, Some, Option, length};
 ghost use Rattle.std.specs.List.{AllByRecursion, flat_map};
-ghost use Rattle.lis_message.specs.Feeding.{Goes, GoesBefore, ReadsWhole, ReadsStream, StopsIn, finished};
-ghost use Rattle.lis_message.specs.Records.{Adds, HasLeft, unended};
+ghost use Rattle.lis_message.specs.Feeding.{ReadsWhole, ReadsStream, finished};
+ghost use Rattle.lis_message.specs.inside.Feeding.{Goes, GoesBefore, StopsIn};
+ghost use Rattle.lis_message.specs.Records.{HasLeft};
+ghost use Rattle.lis_message.specs.inside.Records.{Adds, unended};
 ghost use Rattle.lis_message.specs.Stream.{IsCut};
-ghost use Rattle.lis_message.specs.inside.Taking.{ComesNext, begun_with, left_after};
+ghost use Rattle.lis_message.specs.Taking.{ComesNext, begun_with, left_after};
 ghost use Rattle.lis_message.specs.Writing.{IsWritable, message_bytes};
 ghost use Rattle.lis_field.specs.declared.kinds.Kind.TheVariants as kinds;
 ghost use Rattle.lis_field.specs.declared.faults.Reason.TheVariants as reasons;

@@ -6,16 +6,17 @@ ghost use Rattle.std.specs.Prelude.{List, Option, IfOk, IfErr, OnErr, OnOk, OnSo
 ghost use Rattle.std.specs.Prelude.{IfSome, IfNone, IsTrue, None, Some, Ok, Err, is_some, length};
 ghost use Rattle.lis_message.specs.declared.records.Found.TheVariants.{Record as IsFound, Refused as IsRefusal};
 ghost use Rattle.lis_message.specs.Feeding.{answer_at_end, next_place};
-ghost use Rattle.lis_message.specs.inside.Kept.{opened_of, opened_with};
-ghost use Rattle.lis_message.specs.Records.{EndsHeld, HasLeft, IsStopped, IsRecordRefused, IsRecordRefusedFor, Reads};
-ghost use Rattle.lis_message.specs.Records.{ReadsSome};
+ghost use Rattle.lis_message.specs.Kept.{opened_of, opened_with};
+ghost use Rattle.lis_message.specs.Records.{HasLeft, IsStopped, IsRecordRefused, IsRecordRefusedFor, Reads, ReadsSome};
+ghost use Rattle.lis_message.specs.inside.Records.{EndsHeld};
 ghost use Rattle.lis_message.specs.Stream.{LacksReturn, refusal};
-ghost use Rattle.lis_message.specs.inside.Taking.{ComesNext, front_refusal, left_after};
+ghost use Rattle.lis_message.specs.Taking.{ComesNext, left_after};
+ghost use Rattle.lis_message.specs.inside.Taking.{front_refusal};
 ghost use Rattle.lis_spelling.specs.declared.writing.TheConstants.{RECORD_LIMIT};
 ghost use Rattle.lis_record.specs.Lent.{Lent, record_in};
 ghost use Rattle.lis_field.specs.Text.{bad_byte_place};
 ghost use Rattle.lis_field.specs.Shape.{RecordContent};
-ghost use Rattle.lis_tree.specs.inside.Begun.{Begun};
+ghost use Rattle.lis_tree.specs.Begun.{Begun};
 ghost use Rattle.lis_field.specs.declared.faults.Reason.TheVariants as reasons;
 
 use lis_record::{
@@ -39,8 +40,8 @@ struct Opened {
 }
 
 impl Model for Opened {
-    ghost use Rattle.lis_message.specs.inside.Kept.{Opened};
-    ghost use Rattle.lis_tree.specs.inside.Standing.{standing_level};
+    ghost use Rattle.lis_message.specs.Kept.{Opened};
+    ghost use Rattle.lis_tree.specs.Standing.{standing_level};
 
     ghost Value = { Opened };
 
@@ -329,7 +330,7 @@ pub struct RecordReader {
 }
 
 impl Model for RecordReader {
-    ghost use Rattle.lis_message.specs.inside.Kept.{RecordsState};
+    ghost use Rattle.lis_message.specs.Kept.{RecordsState};
 
     ghost Value = { RecordsState };
 

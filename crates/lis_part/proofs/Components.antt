@@ -16,7 +16,7 @@ use Rattle.lis_field.specs.Delimiters.{DelimiterBytes, IsDelimiters, is_punctuat
 use Rattle.lis_field.proofs.FirstFaults.{ltb_tells, some_none, test_false}
 use Rattle.lis_field.specs.Escapes.{IsComponent, nothing, plain, escape, lone, BeginsEscape, escape_of}
 use Rattle.lis_field.specs.Escapes.{letter_symbol, raw_symbols}
-use Rattle.lis_part.specs.inside.FrontReading.{escape_at, symbols_after, symbols_of}
+use Rattle.lis_part.specs.FrontReading.{escape_at, symbols_after, symbols_of}
 use Rattle.lis_field.specs.Relation.{Lacks}
 use Rattle.lis_field.specs.Shape.{Symbols}
 

@@ -11,7 +11,7 @@ use Rattle.lis_field.specs.Delimiters.{DelimiterBytes}
 use Rattle.lis_field.specs.Text.{trailing_byte}
 use Rattle.lis_field.specs.Shape.{Symbols, plain_component, plain_field}
 use Rattle.lis_field.specs.declared.symbols.Sym.TheVariants.{Char}
-use Rattle.lis_part.specs.inside.FrontReading.{components_of, parts_behind, parts_of, repeats_of, symbols_of}
+use Rattle.lis_part.specs.FrontReading.{components_of, parts_behind, parts_of, repeats_of, symbols_of}
 use Rattle.lis_field.specs.Relation.{Lacks}
 use Rattle.lis_part.proofs.Components.{symbols_of-plain}
 use Rattle.lis_part.proofs.Joins.{Lacks-tests, parts_of-apart}

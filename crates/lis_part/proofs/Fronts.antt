@@ -12,8 +12,8 @@ use Rattle.lis_field.specs.Delimiters.{DelimiterBytes, IsDelimiters}
 use Rattle.lis_field.specs.Shape.{Components, Symbols, plain_component}
 use Rattle.lis_field.specs.Text.{trailing_byte}
 use Rattle.lis_field.specs.Relation.{Lacks}
-use Rattle.lis_part.specs.inside.FrontReading.{BeginsWith, ComponentFront, components_of, parts_behind}
-use Rattle.lis_part.specs.inside.FrontReading.{repeats_of, stops, symbols_of}
+use Rattle.lis_part.specs.FrontReading.{components_of, parts_behind, repeats_of, symbols_of}
+use Rattle.lis_part.specs.inside.FrontReading.{BeginsWith, ComponentFront, stops}
 use Rattle.lis_part.proofs.FieldTexts.{plain_symbols, symbols_of-front, trailing-none, whole_part}
 use Rattle.lis_part.proofs.Places.{Lacks-position}
 use Rattle.lis_part.proofs.Stops.{NoStop, before, parts-marked}

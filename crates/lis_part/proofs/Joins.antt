@@ -5,7 +5,7 @@ use Rattle.std.proofs.lemmas.Bool.Decides.{eqb_tells}
 use Rattle.std.proofs.lemmas.List.Elements.{All-head, All-tail, All-cons, All-nil, All-weaker}
 use Rattle.std.proofs.lemmas.List.Splits.{slice_split_none, slice_split_at, join_with_byte-slice_split}
 use Rattle.std.specs.List.{All, AllZip, flat_map, join_with_byte, onto_first}
-use Rattle.lis_part.specs.inside.FrontReading.{parts_of}
+use Rattle.lis_part.specs.FrontReading.{parts_of}
 use Rattle.lis_field.specs.Relation.{Lacks, IsJoined}
 
 -- ---- the parts of a text round a byte

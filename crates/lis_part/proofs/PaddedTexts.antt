@@ -13,8 +13,8 @@ use Rattle.lis_field.specs.declared.kinds.Kind.{Kind}
 use Rattle.lis_field.specs.Shape.{RecordContent, Repeats}
 use Rattle.lis_field.specs.Text.{trailing_byte}
 use Rattle.lis_field.specs.Relation.{Lacks}
-use Rattle.lis_part.specs.inside.FrontReading.{EndsWith, TakesField, fields_of, parts_behind, parts_of}
-use Rattle.lis_part.specs.inside.FrontReading.{repeats_of}
+use Rattle.lis_part.specs.FrontReading.{fields_of, parts_behind, parts_of, repeats_of}
+use Rattle.lis_part.specs.inside.FrontReading.{EndsWith, TakesField}
 use Rattle.lis_part.proofs.FieldTexts.{Lacks-first, part_behind-mark}
 use Rattle.lis_part.proofs.Joins.{Lacks-tests}
 use Rattle.lis_part.proofs.Places.{IsFound-position, parts_of-first}

@@ -11,7 +11,7 @@ use Rattle.hex.proofs.HexLemmas.{decode_of-digits, decode_of-even, decode_of-odd
 use Rattle.lis_field.specs.declared.symbols.Sym.TheVariants.{Raw}
 use Rattle.lis_field.specs.Shape.{Symbols}
 use Rattle.lis_field.specs.Escapes.{raw_symbols}
-use Rattle.lis_part.specs.inside.FrontReading.{ArePairs, digit_symbols}
+use Rattle.lis_part.specs.FrontReading.{ArePairs, digit_symbols}
 
 some_of : {X : Type 0} (o : Option X) → is_some o ≡ true → (x : X) × (o ≡ Some x)
 some_of None h = cc h

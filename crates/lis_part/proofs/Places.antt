@@ -13,8 +13,8 @@ use Rattle.std.proofs.lemmas.List.Sums.{fails_before_first}
 use Rattle.lis_field.specs.declared.symbols.Sym.TheVariants.{Char}
 use Rattle.lis_field.specs.Delimiters.{DelimiterBytes}
 use Rattle.lis_field.specs.Escapes.{escape_of, letter_symbol, raw_symbols}
-use Rattle.lis_part.specs.inside.FrontReading.{ArePairs, digit_symbols, escape_at, parts_behind, parts_of}
-use Rattle.lis_part.specs.inside.FrontReading.{symbols_after, symbols_left, symbols_of}
+use Rattle.lis_part.specs.FrontReading.{ArePairs, digit_symbols, escape_at, parts_behind, parts_of, symbols_after}
+use Rattle.lis_part.specs.FrontReading.{symbols_left, symbols_of}
 use Rattle.lis_field.specs.Shape.{Symbols}
 use Rattle.lis_field.proofs.FirstFaults.{ltb_tells, test_false}
 use Rattle.std.proofs.Common.{get_or, eq-eqb}

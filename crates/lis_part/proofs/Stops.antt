@@ -9,7 +9,8 @@ use Rattle.std.proofs.lemmas.List.Splits.{slice_split_at}
 use Rattle.lis_field.specs.Delimiters.{DelimiterBytes}
 use Rattle.lis_field.specs.Shape.{plain_field}
 use Rattle.lis_field.specs.Relation.{Lacks}
-use Rattle.lis_part.specs.inside.FrontReading.{parts_behind, parts_of, repeats_of, stops, symbols_of}
+use Rattle.lis_part.specs.FrontReading.{parts_behind, parts_of, repeats_of, symbols_of}
+use Rattle.lis_part.specs.inside.FrontReading.{stops}
 use Rattle.lis_part.proofs.FieldTexts.{plain_read, single_read}
 use Rattle.lis_part.proofs.Joins.{Lacks-tests}
 use Rattle.lis_text.proofs.SearchLemmas.{clean-before, found-chunk, found-within}

@@ -1,1 +1,2 @@
+pub mod FrontReading
 pub mod inside

@@ -2,9 +2,9 @@
 
 ghost use Rattle.std.specs.Prelude.{◌≡◌, ◌<◌, ◌≤◌, ◌-◌, ◌++◌, ◌∷◌, ◌↔◌, [], ℕ, List, IfOk, IfSome, IsTrue, OnOk};
 ghost use Rattle.std.specs.Prelude.{drop, length, replicate, take};
-ghost use Rattle.lis_part.specs.inside.FrontReading.{components_of, fields_of, parts_behind, parts_of, repeats_of};
+ghost use Rattle.lis_part.specs.FrontReading.{components_of, fields_of, parts_behind, parts_of, repeats_of};
+ghost use Rattle.lis_part.specs.FrontReading.{IsPlainText, symbols_of};
 ghost use Rattle.lis_part.specs.inside.FrontReading.{BeginsWith, ComponentFront, EndsWith, TakesField, IsPaddedBy};
-ghost use Rattle.lis_part.specs.inside.FrontReading.{IsPlainText, symbols_of};
 ghost use Rattle.lis_field.specs.Relation.{Lacks};
 
 use crate::escapes::{read_component, read_short_component};

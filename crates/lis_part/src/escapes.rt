@@ -6,7 +6,8 @@ ghost use Rattle.std.specs.List.{list_all};
 ghost use Rattle.lis_field.specs.declared.symbols.Sym.TheVariants.{Raw};
 ghost use Rattle.hex.specs.Hex.{decode_of, hex_digit_value, is_hex_digit};
 ghost use Rattle.lis_field.specs.Escapes.{escape_of, letter_symbol, raw_symbols};
-ghost use Rattle.lis_part.specs.inside.FrontReading.{ArePairs, BeginsWith, digit_symbols, symbols_left, symbols_of};
+ghost use Rattle.lis_part.specs.FrontReading.{ArePairs, digit_symbols, symbols_left, symbols_of};
+ghost use Rattle.lis_part.specs.inside.FrontReading.{BeginsWith};
 ghost use Rattle.lis_field.specs.Relation.{Lacks};
 
 use crate::search::{bits_of, place_of};
@@ -156,7 +157,7 @@ pub struct LentSymbols<'a> {
 
 impl<'a> Model for LentSymbols<'a> {
     ghost use Rattle.lis_field.specs.Shape.{Symbols};
-    ghost use Rattle.lis_part.specs.inside.FrontReading.{ArePairs, symbols_left};
+    ghost use Rattle.lis_part.specs.FrontReading.{ArePairs, symbols_left};
 
     ghost Value = { Symbols };
 

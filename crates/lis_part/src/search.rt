@@ -4,7 +4,8 @@ ghost use Rattle.std.specs.Prelude.{◌≡◌, ◌≤◌, ◌<◌, ◌==◌, ◌
 ghost use Rattle.std.specs.Prelude.{◌-◌, count_by, position, take};
 ghost use Rattle.std.specs.List.{position_from};
 ghost use Rattle.std.specs.Simd.Lanes.{mask_l};
-ghost use Rattle.lis_part.specs.inside.FrontReading.{parts_behind, parts_of, stops};
+ghost use Rattle.lis_part.specs.FrontReading.{parts_behind, parts_of};
+ghost use Rattle.lis_part.specs.inside.FrontReading.{stops};
 ghost use Rattle.lis_field.specs.Text.{IsRecordText, bad_byte_place, is_text_byte};
 
 use lis_field::{Delimiters, is_text_byte};

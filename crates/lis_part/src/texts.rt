@@ -2,7 +2,7 @@
 
 ghost use Rattle.std.specs.Prelude.{◌≡◌, ◌<◌, ◌≤◌, ◌∷◌, ◌++◌, None, length};
 ghost use Rattle.lis_field.specs.Text.{trailing_byte};
-ghost use Rattle.lis_part.specs.inside.FrontReading.{parts_behind, parts_of};
+ghost use Rattle.lis_part.specs.FrontReading.{parts_behind, parts_of};
 
 use crate::search::{count_of, place_of};
 

@@ -17,7 +17,7 @@ use Rattle.lis_field.specs.Escapes.{escape_of, letter_symbol}
 use Rattle.lis_field.specs.Text.{trailing_byte}
 use Rattle.lis_field.specs.Relation.{Lacks}
 use Rattle.lis_spelling.specs.Spelling.{letter_spelling, spelled_symbol}
-use Rattle.lis_part.specs.inside.FrontReading.{escape_at}
+use Rattle.lis_part.specs.FrontReading.{escape_at}
 use Rattle.lis_record.specs.inside.Respelling.{respelled, respelled_after}
 use Rattle.lis_part.proofs.Components.{Lacks-letter}
 use Rattle.lis_part.proofs.FieldTexts.{Lacks-first, part_behind-mark, trailing-none}

@@ -13,7 +13,7 @@ use Rattle.lis_field.specs.Relation.{IsRecord}
 use Rattle.lis_field.specs.Shape.{Fields, RecordContent}
 use Rattle.lis_record.specs.Faults.{record_text_fault, record_fault, delimiter_part_fault, header_fault}
 use Rattle.lis_spelling.specs.WriteFaults.{check_fault}
-use Rattle.lis_part.specs.inside.FrontReading.{escape_at, symbols_after, symbols_of}
+use Rattle.lis_part.specs.FrontReading.{escape_at, symbols_after, symbols_of}
 use Rattle.lis_field.specs.Kinds.{kind_of}
 use Rattle.lis_spelling.specs.Spelling.{spelled_symbol, spelled}
 use Rattle.lis_field.specs.Text.{is_text_byte}

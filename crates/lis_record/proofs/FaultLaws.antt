@@ -14,7 +14,7 @@ use Rattle.lis_field.specs.Delimiters.{DelimiterBytes, IsDelimiters, delimiter_f
 use Rattle.lis_record.specs.Faults.{delimiter_part_fault, header_fault, is_other_kind, record_fault}
 use Rattle.lis_record.specs.Faults.{record_text_fault, is_header_kind}
 use Rattle.lis_field.specs.Text.{trailing_byte, IsRecordText, is_text_byte, bad_byte_place, record_limit}
-use Rattle.lis_part.specs.inside.FrontReading.{fields_of}
+use Rattle.lis_part.specs.FrontReading.{fields_of}
 use Rattle.lis_field.specs.Kinds.{kind_of}
 use Rattle.lis_field.specs.Relation.{AreFieldTexts, IsRecord, declared_part}
 use Rattle.lis_field.specs.Shape.{RecordContent}

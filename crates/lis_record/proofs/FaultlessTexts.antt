@@ -14,7 +14,7 @@ use Rattle.lis_record.specs.Faults.{delimiter_part_fault, header_fault, is_heade
 use Rattle.lis_record.specs.Faults.{record_text_fault}
 use Rattle.lis_field.specs.Text.{trailing_byte}
 use Rattle.lis_record.specs.Faultless.{IsSomeHeader, IsSomeRecord}
-use Rattle.lis_part.specs.inside.FrontReading.{fields_of}
+use Rattle.lis_part.specs.FrontReading.{fields_of}
 use Rattle.lis_record.proofs.FaultLaws.{IsRecord-fields_of, IsRecord-header, header_fault-IsRecord}
 use Rattle.lis_record.proofs.FaultLaws.{record_fault-IsRecord}
 

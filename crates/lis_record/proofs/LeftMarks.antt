@@ -13,9 +13,9 @@ use Rattle.std.proofs.lemmas.Nat.{pow-add}
 use Rattle.std.proofs.lemmas.Simd.{trailing_mask_l}
 use Rattle.std.proofs.lemmas.Bool.Decides.{nat_tests}
 use Rattle.lis_text.proofs.SearchLemmas.{found-chunk, found-within}
-use Rattle.lis_record.specs.inside.Marks.{AreMarks}
+use Rattle.lis_record.specs.Marks.{AreMarks}
 use Rattle.lis_field.specs.Text.{trailing_byte}
-use Rattle.lis_part.specs.inside.FrontReading.{parts_behind}
+use Rattle.lis_part.specs.FrontReading.{parts_behind}
 use Rattle.lis_record.proofs.TakenFields.{Passed, passed_more, taken_parts}
 use Rattle.lis_part.proofs.FieldTexts.{part_behind-mark, trailing-none}
 use Rattle.lis_part.proofs.LastBits.{mask_l-drop}

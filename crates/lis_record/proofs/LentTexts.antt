@@ -13,8 +13,7 @@ use Rattle.lis_field.specs.Shape.{Symbols, field_at, first_number}
 use Rattle.lis_field.specs.declared.kinds.Kind.{Kind}
 use Rattle.lis_field.proofs.FirstFaults.{ltb-past, test_false}
 use Rattle.lis_record.specs.Lent.{Lent, lent}
-use Rattle.lis_part.specs.inside.FrontReading.{components_of, fields_of, parts_behind, parts_of, repeats_of}
-use Rattle.lis_part.specs.inside.FrontReading.{symbols_of}
+use Rattle.lis_part.specs.FrontReading.{components_of, fields_of, parts_behind, parts_of, repeats_of, symbols_of}
 use Rattle.lis_field.specs.Relation.{Lacks}
 use Rattle.lis_spelling.specs.inside.Remaining.{more_components}
 use Rattle.lis_record.specs.inside.LentRemaining.{remaining_text}

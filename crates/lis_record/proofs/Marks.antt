@@ -10,7 +10,7 @@ use Rattle.std.proofs.lemmas.Iterator.Adapters.{position_from-zero}
 use Rattle.std.proofs.lemmas.List.{drop-drop, drop-take, length-drop, length-map, take-take}
 use Rattle.std.proofs.lemmas.Simd.{mask_l-lt}
 use Rattle.lis_text.proofs.SearchLemmas.{found-chunk, found-within}
-use Rattle.lis_record.specs.inside.Marks.{AreMarks}
+use Rattle.lis_record.specs.Marks.{AreMarks}
 use Rattle.lis_part.proofs.LastBits.{mask_l-drop}
 
 module _ (f : ℕ → Bool) where

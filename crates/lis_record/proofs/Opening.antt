@@ -5,7 +5,7 @@ use Rattle.lis_field.specs.declared.kinds.Kind.TheVariants as kinds
 use Rattle.lis_field.specs.Delimiters.{DelimiterBytes, IsDelimiters}
 use Rattle.lis_record.specs.Faults.{delimiter_part_fault, header_fault, record_fault}
 use Rattle.lis_record.specs.inside.Opening.{DeclaresDelimiters, OpensHeader, OpensRecord}
-use Rattle.lis_part.specs.inside.FrontReading.{fields_of}
+use Rattle.lis_part.specs.FrontReading.{fields_of}
 use Rattle.lis_record.specs.Lent.{Lent, front_length, lent, record_in}
 use Rattle.lis_field.specs.declared.faults.RecordFault.{RecordFault}
 use Rattle.lis_field.specs.Relation.{IsRecord}

@@ -17,8 +17,7 @@ use Rattle.lis_field.specs.Shape.{RecordContent, Symbols, plain_component, plain
 use Rattle.lis_field.specs.Escapes.{IsComponent, nothing, plain, escape, lone, escape_of, letter_symbol, raw_symbols}
 use Rattle.lis_record.specs.Lent.{Lent, lent}
 use Rattle.lis_field.specs.Relation.{Lacks, LacksDelimiters}
-use Rattle.lis_part.specs.inside.FrontReading.{IsPlainText, components_of, fields_of, parts_of}
-use Rattle.lis_part.specs.inside.FrontReading.{repeats_of, symbols_of}
+use Rattle.lis_part.specs.FrontReading.{IsPlainText, components_of, fields_of, parts_of, repeats_of, symbols_of}
 use Rattle.lis_part.proofs.Components.{IsComponent-symbols_of, option_map-some, raw_symbols-ok}
 use Rattle.lis_record.proofs.TakenFields.{digit-apart}
 use Rattle.lis_part.proofs.FieldTexts.{plain_read}

@@ -7,7 +7,7 @@ use Rattle.std.specs.List.{All, flat_map, join_with_byte}
 use Rattle.lis_field.specs.declared.kinds.Kind.{Kind}
 use Rattle.lis_field.specs.declared.kinds.Kind.TheVariants as kinds
 use Rattle.lis_field.specs.Delimiters.{DelimiterBytes, IsDelimiters}
-use Rattle.lis_part.specs.inside.FrontReading.{parts_of, symbols_of, components_of, repeats_of, fields_of}
+use Rattle.lis_part.specs.FrontReading.{parts_of, symbols_of, components_of, repeats_of, fields_of}
 use Rattle.lis_field.specs.Kinds.{kind_of}
 use Rattle.lis_field.specs.Relation.{AreFieldTexts, IsField, IsRecord, IsRepeat, Lacks, declared_part}
 use Rattle.lis_field.specs.Escapes.{IsComponent}

@@ -12,10 +12,8 @@ use Rattle.lis_field.specs.Delimiters.{DelimiterBytes, IsDelimiters, is_punctuat
 use Rattle.lis_field.specs.Shape.{Symbols}
 use Rattle.lis_field.proofs.FirstFaults.{some_none, test_false}
 use Rattle.lis_field.specs.Relation.{Lacks}
-use Rattle.lis_spelling.specs.Spelling.{spelled_component, spelled_field, spelled_repeat, spelled_symbol}
-use Rattle.lis_part.specs.inside.FrontReading.{components_of, escape_at, parts_of, repeats_of, symbols_after}
-use Rattle.lis_part.specs.inside.FrontReading.{symbols_of}
-use Rattle.lis_spelling.specs.inside.Remaining.{more_fields}
+use Rattle.lis_spelling.specs.Spelling.{spelled_component, spelled_field, spelled_repeat, spelled_symbol, more_fields}
+use Rattle.lis_part.specs.FrontReading.{components_of, escape_at, parts_of, repeats_of, symbols_after, symbols_of}
 use Rattle.lis_record.specs.inside.Respelling.{respelled, respelled_after}
 use Rattle.lis_part.proofs.Components.{BegunAt-escape_at, Lacks-inside, escape_at-begun, escape_cases}
 use Rattle.lis_part.proofs.Joins.{parts_of-apart}

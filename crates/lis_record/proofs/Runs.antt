@@ -10,7 +10,7 @@ use Rattle.lis_field.specs.Shape.{Symbols}
 use Rattle.lis_field.specs.Escapes.{escape_of}
 use Rattle.lis_field.specs.Text.{trailing_byte}
 use Rattle.lis_spelling.specs.Spelling.{spelled_component, spelled_symbol}
-use Rattle.lis_part.specs.inside.FrontReading.{digit_symbols, escape_at}
+use Rattle.lis_part.specs.FrontReading.{digit_symbols, escape_at}
 use Rattle.lis_record.specs.inside.Respelling.{respelled, respelled_after}
 use Rattle.lis_part.proofs.FieldTexts.{trailing-none}
 use Rattle.lis_part.proofs.Places.{escape_at-found}

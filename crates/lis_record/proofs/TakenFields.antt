@@ -15,8 +15,8 @@ use Rattle.lis_field.specs.Text.{trailing_byte}
 use Rattle.lis_field.specs.declared.kinds.Kind.{Kind}
 use Rattle.lis_field.specs.Shape.{RecordContent, plain_field}
 use Rattle.lis_record.specs.Lent.{Lent, lent}
-use Rattle.lis_part.specs.inside.FrontReading.{fields_of, parts_behind, parts_of, repeats_of}
-use Rattle.lis_spelling.specs.inside.Remaining.{more_fields}
+use Rattle.lis_part.specs.FrontReading.{fields_of, parts_behind, parts_of, repeats_of}
+use Rattle.lis_spelling.specs.Spelling.{more_fields}
 use Rattle.lis_field.specs.Relation.{Lacks}
 use Rattle.lis_part.proofs.FieldTexts.{plain_read, trailing-none}
 use Rattle.lis_part.proofs.Joins.{parts_of-apart, parts_of-some}

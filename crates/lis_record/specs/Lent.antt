@@ -4,7 +4,7 @@ use Rattle.lis_field.specs.declared.kinds.Kind.{Kind}
 use Rattle.lis_field.specs.declared.kinds.Kind.TheVariants as kinds
 use Rattle.lis_field.specs.Delimiters.{DelimiterBytes}
 use Rattle.lis_field.specs.Shape.{RecordContent}
-use Rattle.lis_part.specs.inside.FrontReading.{fields_of}
+use Rattle.lis_part.specs.FrontReading.{fields_of}
 
 -- what stands in a text, as it is read under the delimiters of its message
 pub record Lent (A : Type 0) : Type 0 where

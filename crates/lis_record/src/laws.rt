@@ -8,7 +8,7 @@ ghost use Rattle.lis_record.specs.Faults.{header_fault, record_fault};
 ghost use Rattle.lis_field.specs.Escapes.{IsComponent};
 ghost use Rattle.lis_field.specs.Relation.{AreFieldTexts, IsField, IsRecord, IsRepeat};
 ghost use Rattle.lis_field.specs.Shape.{Components, Fields, IsRecordShape, RecordContent, Repeats, Symbols};
-ghost use Rattle.lis_part.specs.inside.FrontReading.{components_of, fields_of, repeats_of, symbols_of};
+ghost use Rattle.lis_part.specs.FrontReading.{components_of, fields_of, repeats_of, symbols_of};
 ghost use Rattle.lis_spelling.specs.Spelling.{spelled};
 ghost use Rattle.lis_field.specs.declared.kinds.Kind.TheVariants as kinds;
 

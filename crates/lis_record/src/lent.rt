@@ -7,11 +7,10 @@ ghost use Rattle.std.specs.Io.{StartsWith};
 ghost use Rattle.std.specs.Option.{option_copied};
 ghost use Rattle.lis_field.specs.Delimiters.{DelimiterBytes};
 ghost use Rattle.lis_field.specs.Shape.{field_at, plain_field};
-ghost use Rattle.lis_part.specs.inside.FrontReading.{components_of, fields_of, parts_of, symbols_of};
-ghost use Rattle.lis_spelling.specs.inside.Remaining.{more_fields};
+ghost use Rattle.lis_part.specs.FrontReading.{components_of, fields_of, parts_of, symbols_of};
+ghost use Rattle.lis_spelling.specs.Spelling.{more_fields, spelled_field};
 ghost use Rattle.lis_record.specs.Lent.{front_length, lent, record_in};
 ghost use Rattle.lis_field.specs.Relation.{Lacks, LacksDelimiters};
-ghost use Rattle.lis_spelling.specs.Spelling.{spelled_field};
 ghost use Rattle.lis_spelling.specs.Writing.{WroteAny, is_io};
 
 use crate::lent_cursor::LentCursor;
@@ -34,7 +33,7 @@ pub struct LentComponent<'a> {
 
 impl<'a> Model for LentComponent<'a> {
     ghost use Rattle.lis_field.specs.Shape.{Symbols};
-    ghost use Rattle.lis_part.specs.inside.FrontReading.{symbols_of};
+    ghost use Rattle.lis_part.specs.FrontReading.{symbols_of};
     ghost use Rattle.lis_record.specs.Lent.{Lent, lent};
 
     ghost Value = { Lent Symbols };
@@ -117,7 +116,7 @@ pub type LentField<'a> = LentParts<'a, Repeat>;
 
 impl<'a, P: LentPart> Model for LentParts<'a, P> {
     ghost use Rattle.std.specs.Prelude.{List, map};
-    ghost use Rattle.lis_part.specs.inside.FrontReading.{parts_of};
+    ghost use Rattle.lis_part.specs.FrontReading.{parts_of};
     ghost use Rattle.lis_record.specs.Lent.{Lent, lent};
 
     ghost Value = { Lent (List P) };
@@ -244,8 +243,8 @@ pub struct LentFields<'a> {
 
 impl<'a> Model for LentFields<'a> {
     ghost use Rattle.lis_field.specs.Shape.{Fields};
-    ghost use Rattle.lis_part.specs.inside.FrontReading.{fields_of};
-    ghost use Rattle.lis_record.specs.inside.Marks.{AreMarks};
+    ghost use Rattle.lis_part.specs.FrontReading.{fields_of};
+    ghost use Rattle.lis_record.specs.Marks.{AreMarks};
     ghost use Rattle.lis_record.specs.Lent.{Lent, lent};
 
     ghost Value = { Lent Fields };
@@ -330,7 +329,7 @@ pub struct LentRecord<'a> {
 
 impl<'a> Model for LentRecord<'a> {
     ghost use Rattle.lis_field.specs.Shape.{RecordContent};
-    ghost use Rattle.lis_part.specs.inside.FrontReading.{fields_of};
+    ghost use Rattle.lis_part.specs.FrontReading.{fields_of};
     ghost use Rattle.lis_record.specs.Lent.{Lent, lent};
 
     ghost Value = { Lent RecordContent };

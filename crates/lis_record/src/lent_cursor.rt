@@ -1,7 +1,7 @@
 //! What is left of a lent field while it is written.
 
 ghost use Rattle.std.specs.Prelude.{◌≡◌};
-ghost use Rattle.lis_part.specs.inside.FrontReading.{repeats_of};
+ghost use Rattle.lis_part.specs.FrontReading.{repeats_of};
 ghost use Rattle.lis_spelling.specs.Spelling.{spelled_field};
 
 use lis_field::Delimiters;

@@ -2,7 +2,7 @@
 
 ghost use Rattle.std.specs.Prelude.{◌≡◌, ◌≤◌, ◌<◌, ◌==◌, length, map, take};
 ghost use Rattle.std.specs.Simd.Lanes.{mask_l};
-ghost use Rattle.lis_record.specs.inside.Marks.{AreMarks};
+ghost use Rattle.lis_record.specs.Marks.{AreMarks};
 
 use lis_part::bits_of;
 use std::simd::prelude::*;

@@ -5,7 +5,7 @@ ghost use Rattle.std.specs.Prelude.{take};
 ghost use Rattle.std.specs.Io.{StartsWith};
 ghost use Rattle.lis_field.specs.Text.{trailing_byte};
 ghost use Rattle.lis_spelling.specs.Spelling.{spelled_component};
-ghost use Rattle.lis_part.specs.inside.FrontReading.{ArePairs, digit_symbols};
+ghost use Rattle.lis_part.specs.FrontReading.{ArePairs, digit_symbols};
 ghost use Rattle.lis_record.specs.inside.Respelling.{respelled};
 
 use lis_field::{Delimiters, Sym};

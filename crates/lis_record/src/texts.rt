@@ -3,8 +3,9 @@
 ghost use Rattle.std.specs.Prelude.{◌≡◌, ◌<◌, ◌≤◌, ◌∷◌, ◌++◌, IfSome, MatchOption, None, length, slice_get};
 ghost use Rattle.std.specs.Option.{option_copied};
 ghost use Rattle.lis_field.specs.Text.{trailing_byte};
-ghost use Rattle.lis_record.specs.inside.Marks.{SplitsParts, AreMarks};
-ghost use Rattle.lis_part.specs.inside.FrontReading.{parts_behind, parts_of};
+ghost use Rattle.lis_record.specs.Marks.{AreMarks};
+ghost use Rattle.lis_record.specs.inside.Marks.{SplitsParts};
+ghost use Rattle.lis_part.specs.FrontReading.{parts_behind, parts_of};
 
 use lis_part::first_part;
 

@@ -8,10 +8,10 @@ use Rattle.std.specs.List.{flat_map}
 use Rattle.std.specs.Option.{option_to_list}
 use Rattle.lis_field.specs.declared.kinds.Kind.{Kind}
 use Rattle.lis_field.specs.Shape.{RecordContent, field_at}
-use Rattle.lis_message.specs.inside.Taking.{records_of}
+use Rattle.lis_message.specs.Taking.{records_of}
 use Rattle.lis_record.specs.Lent.{Lent}
 use Rattle.lis_tree.specs.declared.numbering.Numbering.{Numbering}
-use Rattle.lis_tree.specs.inside.Begun.{Begun}
+use Rattle.lis_tree.specs.Begun.{Begun}
 use Rattle.lis_tree.specs.declared.numbering.Finding.{Finding}
 use Rattle.lis_tree.specs.Findings.{HasNumbered, finding_on, findings_from, findings_of}
 use Rattle.lis_tree.specs.Numbers.{expected_number, field_number, is_number, is_numbered}
@@ -20,10 +20,10 @@ use Rattle.lis_tree.specs.Tree.{MessageTree, flatten}
 use Rattle.lis_report.specs.Codes.{refused_line}
 use Rattle.lis_report.specs.declared.refused.Refused.{Refused}
 use Rattle.lis_report.specs.Answers.{Report}
-use Rattle.lis_engine.specs.Parts.{text_if_any}
-use Rattle.lis_record_commands.specs.Check.{IsChecking, check_writes, finding_count, finding_line, message_line}
-use Rattle.lis_record_commands.specs.Check.{record_line}
+use Rattle.lis_engine.specs.inside.Parts.{text_if_any}
+use Rattle.lis_record_commands.specs.Check.{check_writes, finding_count, finding_line, message_line, record_line}
 use Rattle.lis_record_commands.specs.Check.{record_lines, sums_line}
+use Rattle.lis_record_commands.specs.inside.Check.{IsChecking}
 use Rattle.lis_record_commands.specs.Messages.{record_count, report_after, whole_begun, with_record}
 use Rattle.lis_field.specs.declared.faults.MessageFault.{MessageFault}
 use Rattle.lis_record_commands.proofs.MessageLaws.{record_count-append}

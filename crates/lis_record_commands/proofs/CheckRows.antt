@@ -8,7 +8,7 @@ use Rattle.lis_field.specs.Delimiters.{DelimiterBytes, delimiters_of}
 use Rattle.lis_field.specs.Shape.{RecordContent}
 use Rattle.lis_field.specs.declared.faults.RecordFault.TheVariants as record_faults
 use Rattle.lis_field.specs.Escapes.{escape_of}
-use Rattle.lis_part.specs.inside.FrontReading.{escape_at, fields_of, symbols_after}
+use Rattle.lis_part.specs.FrontReading.{escape_at, fields_of, symbols_after}
 use Rattle.lis_spelling.specs.Spelling.{spelled_symbol}
 use Rattle.lis_field.specs.declared.faults.Reason.TheVariants as reasons
 use Rattle.lis_tree.specs.declared.tree.Group.TheVariants as groups

@@ -9,19 +9,18 @@ use Rattle.lis_field.specs.Shape.{RecordContent}
 use Rattle.lis_field.specs.Relation.{IsRecord}
 use Rattle.lis_field.specs.declared.faults.MessageFault.{MessageFault}
 use Rattle.lis_field.specs.declared.faults.Reason.TheVariants as reasons
-use Rattle.lis_tree.specs.inside.Begun.{Begun}
+use Rattle.lis_tree.specs.Begun.{Begun}
 use Rattle.lis_tree.specs.Tree.{MessageTree, flatten}
 use Rattle.lis_message.specs.Feeding.{answer_at_end, StopsReading}
 use Rattle.lis_message.specs.Stream.{IsCut, IsRefused, AreLeft, AreMessage, ended}
-use Rattle.lis_message.specs.inside.Taking.{records_of}
+use Rattle.lis_message.specs.Taking.{records_of}
 use Rattle.lis_engine.specs.declared.fault.ToolFault.{ToolFault}
-use Rattle.lis_report.specs.Answers.{Halt}
-use Rattle.lis_engine.specs.inside.Steps.{LineEnds}
+use Rattle.lis_report.specs.inside.Answers.{Halt}
+use Rattle.lis_engine.specs.Steps.{LineEnds, Halts, IsEarly, Puts, Ends}
 use Rattle.lis_engine.specs.Output.{Gathered, Out}
-use Rattle.lis_engine.specs.inside.Steps.{Halts, IsEarly, Puts, Ends}
 use Rattle.lis_engine.proofs.GatherLaws.{gathered_then}
-use Rattle.lis_record_commands.specs.Messages.{MessageWrites, Comes, messages_text, whole_outcome, record_count}
-use Rattle.lis_record_commands.specs.Messages.{report_after}
+use Rattle.lis_record_commands.specs.Messages.{MessageWrites, messages_text, whole_outcome, record_count, report_after}
+use Rattle.lis_record_commands.specs.inside.Messages.{Comes}
 
 -- no byte is no message
 pub cut_nothing : IsCut [] [] None []

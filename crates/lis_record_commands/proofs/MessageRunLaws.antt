@@ -5,7 +5,7 @@ use Rattle.std.proofs.Common.{IfOk}
 use Rattle.std.proofs.lemmas.List.{take-append-le}
 use Rattle.std.specs.declared.result.Result.{Result}
 use Rattle.std.specs.Io.KnownBytes.{Appends}
-use Rattle.lis_tree.specs.inside.Begun.{Begun}
+use Rattle.lis_tree.specs.Begun.{Begun}
 use Rattle.lis_field.specs.declared.faults.MessageFault.{MessageFault}
 use Rattle.lis_tree.specs.Tree.{MessageTree}
 use Rattle.lis_message.specs.Feeding.{answer_at_end}
@@ -19,9 +19,9 @@ use Rattle.lis_report.specs.Answers.{Outcome}
 use Rattle.lis_engine.specs.Output.{WentOut}
 use Rattle.lis_engine.specs.Runs.{RanOver, Seen, WroteOutcome}
 use Rattle.lis_record_commands.specs.MessageRuns.{MessageAnswer, MessagesRan}
-use Rattle.lis_record_commands.specs.Messages.{Comes, IsStarved, MessageWrites, HasOutcome, complete, cut_short}
-use Rattle.lis_record_commands.specs.Messages.{goes_on}
-use Rattle.lis_record_commands.specs.Messages.{messages_text, whole_outcome, refused, report_after}
+use Rattle.lis_record_commands.specs.Messages.{MessageWrites, HasOutcome, complete, cut_short, goes_on, messages_text}
+use Rattle.lis_record_commands.specs.Messages.{whole_outcome, refused, report_after}
+use Rattle.lis_record_commands.specs.inside.Messages.{Comes, IsStarved}
 use Rattle.lis_record_commands.proofs.MessageLaws.{cut_whole, messages_text-append, nothing_left}
 
 -- ---- a front of the bytes, and all of them

@@ -8,32 +8,29 @@ use Rattle.lis_field.specs.declared.kinds.Kind.TheVariants as kinds
 use Rattle.lis_field.specs.Delimiters.{DelimiterBytes}
 use Rattle.lis_field.specs.Shape.{RecordContent}
 use Rattle.lis_message.specs.Feeding.{StopsReading}
-use Rattle.lis_message.specs.inside.Kept.{RecordsState}
+use Rattle.lis_message.specs.Kept.{RecordsState}
 use Rattle.lis_message.specs.Records.{HasLeft, ReadsOn, ReadsRecord, Refuses}
 use Rattle.lis_message.specs.Stream.{IsCut, IsReadFrom}
-use Rattle.lis_message.specs.inside.Taking.{ComesNext, Completes, begun_with, left_after, records_of}
+use Rattle.lis_message.specs.Taking.{ComesNext, Completes, begun_with, left_after, records_of}
 use Rattle.lis_message.proofs.Cuts.{left_after-more}
 use Rattle.lis_message.proofs.EveryStream.{goes_on as reads_more}
 use Rattle.lis_message.proofs.RecordLaws.{cut_held, cut_stops, reads_record}
 use Rattle.lis_record.specs.Lent.{Lent}
 use Rattle.lis_field.specs.declared.faults.MessageFault.{MessageFault}
 use Rattle.lis_field.specs.declared.faults.Reason.TheVariants as reasons
-use Rattle.lis_tree.specs.inside.Begun.{Begun}
+use Rattle.lis_tree.specs.Begun.{Begun}
 use Rattle.lis_tree.specs.Tree.{MessageTree, flatten}
 use Rattle.lis_engine.specs.declared.fault.ToolFault.{ToolFault}
 use Rattle.lis_engine.specs.declared.fault.ToolFault.TheVariants.{OutOfMemory}
-use Rattle.lis_report.specs.Answers.{Halt}
-use Rattle.lis_report.specs.Answers.{Turn}
+use Rattle.lis_report.specs.inside.Answers.{Halt, Turn}
 use Rattle.lis_engine.specs.declared.machine.Turn.TheVariants.{On, Off}
-use Rattle.lis_engine.specs.inside.Steps.{LineEnds, LineSteps}
+use Rattle.lis_engine.specs.Steps.{LineEnds, LineSteps, Halts, IsEarly, Puts, Steps}
 use Rattle.lis_report.specs.Answers.{Outcome}
 use Rattle.lis_engine.specs.Output.{Gathered, Out, most_counted}
-use Rattle.lis_engine.specs.inside.Steps.{Halts, IsEarly, Puts, Steps}
 use Rattle.lis_engine.proofs.GatherLaws.{gathered_nothing, gathered_then}
-use Rattle.lis_record_commands.specs.Messages.{Comes, IsReadingMessages, MessageWrites, RefusesBy, StepsOver}
-use Rattle.lis_record_commands.specs.Messages.{messages_text}
-use Rattle.lis_record_commands.specs.Messages.{whole_outcome, record_count, refused, report_after, whole_begun}
-use Rattle.lis_record_commands.specs.Messages.{with_record}
+use Rattle.lis_record_commands.specs.Messages.{IsReadingMessages, MessageWrites, messages_text, whole_outcome}
+use Rattle.lis_record_commands.specs.Messages.{record_count, refused, report_after, whole_begun, with_record}
+use Rattle.lis_record_commands.specs.inside.Messages.{Comes, RefusesBy, StepsOver}
 use Rattle.lis_record_commands.proofs.MessageLaws.{cut_few, ends_over, is_refused, messages_few, messages_text-append}
 use Rattle.lis_record_commands.proofs.MessageLaws.{refuses_over}
 use Rattle.lis_record_commands.proofs.MessageRunLaws.{read_behind}

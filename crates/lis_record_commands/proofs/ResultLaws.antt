@@ -8,14 +8,14 @@ use Rattle.lis_field.specs.declared.kinds.Kind.{Kind}
 use Rattle.lis_field.specs.declared.kinds.Kind.TheVariants as kinds
 use Rattle.lis_field.specs.Delimiters.{DelimiterBytes}
 use Rattle.lis_field.specs.Shape.{Fields, RecordContent, Repeats, field_at}
-use Rattle.lis_spelling.specs.inside.Remaining.{more_fields}
-use Rattle.lis_message.specs.inside.Taking.{ComesNext, header, inner}
+use Rattle.lis_spelling.specs.Spelling.{more_fields}
+use Rattle.lis_message.specs.Taking.{ComesNext, header, inner}
 use Rattle.lis_record.specs.Lent.{Lent, lent}
-use Rattle.lis_tree.specs.inside.Begun.{Begun}
+use Rattle.lis_tree.specs.Begun.{Begun}
 use Rattle.lis_record_commands.specs.Messages.{with_record}
-use Rattle.lis_record_commands.specs.Results.{IsTelling, field_text, fields_behind, told_fields, result_line_of}
-use Rattle.lis_record_commands.specs.Results.{result_lines}
-use Rattle.lis_record_commands.specs.Results.{sample_after, sample_behind}
+use Rattle.lis_record_commands.specs.Results.{field_text, fields_behind, told_fields, result_line_of, result_lines}
+use Rattle.lis_record_commands.specs.Results.{sample_after}
+use Rattle.lis_record_commands.specs.inside.Results.{IsTelling, sample_behind}
 
 result_lines-more : (d : DelimiterBytes) (sample : Option Repeats) (records : List RecordContent) (r : RecordContent)
     → result_lines d sample (records ++ r ∷ []) ≡ result_lines d sample records

@@ -1,19 +1,16 @@
 -- What `check` writes: a line for each message and each of its records, its findings, and what is refused.
-use Rattle.std.specs.Prelude.{◌≡◌, ℕ, ◌+◌, nat_lt, List, [], ◌∷◌, ◌++◌, length, codes, decimal, Option, None, Some}
+use Rattle.std.specs.Prelude.{ℕ, ◌+◌, nat_lt, List, [], ◌∷◌, ◌++◌, length, codes, decimal, Option, None, Some}
 use Rattle.std.specs.Prelude.{if◌then◌else◌}
 use Rattle.std.specs.List.{flat_map}
 use Rattle.lis_field.specs.declared.kinds.Kind.{Kind}
 use Rattle.lis_field.specs.Kinds.{letter_of}
 use Rattle.lis_field.specs.Shape.{RecordContent}
-use Rattle.lis_message.specs.inside.Taking.{records_of}
 use Rattle.lis_report.specs.Codes.{refused_line}
 use Rattle.lis_engine.specs.Parts.{joined}
 use Rattle.lis_record_commands.specs.Messages.{MessageWrites}
 use Rattle.lis_field.specs.declared.faults.MessageFault.{MessageFault}
 use Rattle.lis_tree.specs.declared.numbering.Finding.{Finding}
-use Rattle.lis_tree.specs.declared.numbering.Numbering.{Numbering}
-use Rattle.lis_tree.specs.inside.Begun.{Begun}
-use Rattle.lis_tree.specs.Findings.{HasNumbered, findings_from, findings_of}
+use Rattle.lis_tree.specs.Findings.{findings_of}
 use Rattle.lis_tree.specs.Tree.{MessageTree, flatten}
 
 -- `message M`
@@ -63,17 +60,3 @@ check_writes =
           ++ sums_line (length messages) (finding_count messages);
       status = λ messages. if nat_lt 0 (finding_count messages) then 1 else 0;
     }
-
--- ---- while the records come
-
--- What waits of a message that isn't closed yet: the lines of its records, those of its findings, and how many these
--- are.
--- So many findings were told of the messages before it.
-pub record IsChecking
-    (records findings : List ℕ) (numbering : Numbering) (found told : ℕ) (messages : List MessageTree)
-    (left : Option Begun) : Type 0 where
-  pub record_lines_are : records ≡ record_lines 1 (records_of left)
-  pub finding_lines_are : findings ≡ flat_map finding_line (findings_from [] 1 (records_of left))
-  pub numbered : HasNumbered numbering (records_of left)
-  pub found_is : found ≡ length (findings_from [] 1 (records_of left))
-  pub told_is : told ≡ finding_count messages

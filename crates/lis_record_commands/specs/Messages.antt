@@ -1,26 +1,15 @@
 -- What a stream of record text comes to, for a command that writes something for each of its messages (LIS02-A2).
-use Rattle.std.specs.Prelude.{◌≡◌, ℕ, ◌+◌, ◌<◌, Bool, true, false, List, [], ◌∷◌, ◌++◌, ◌⊎◌, length, Option, None}
-use Rattle.std.specs.Prelude.{Some, Ok, Err, refl, ⊤}
-use Rattle.std.proofs.Common.{ap, inl}
-use Rattle.std.specs.declared.result.Result.{Result}
+use Rattle.std.specs.Prelude.{◌≡◌, ℕ, ◌+◌, Bool, true, false, List, [], ◌∷◌, ◌++◌, length, Option, None, Some, Ok}
 use Rattle.lis_field.specs.Shape.{RecordContent}
 use Rattle.lis_message.specs.Feeding.{IsCutShort}
-use Rattle.lis_message.specs.inside.Kept.{RecordsState}
+use Rattle.lis_message.specs.Kept.{RecordsState}
 use Rattle.lis_message.specs.Records.{HasLeft}
 use Rattle.lis_message.specs.Stream.{IsCut, IsRefused}
-use Rattle.lis_message.specs.inside.Taking.{begun_with, records_of}
+use Rattle.lis_message.specs.Taking.{begun_with, records_of}
 use Rattle.lis_record.specs.Lent.{Lent}
-use Rattle.lis_engine.specs.declared.fault.ToolFault.{ToolFault}
-use Rattle.lis_engine.specs.declared.fault.ToolFault.TheVariants.{OutOfMemory}
-use Rattle.lis_report.specs.Answers.{Halt}
-use Rattle.lis_report.specs.Answers.{Turn}
-use Rattle.lis_engine.specs.declared.machine.Turn.TheVariants.{On, Off}
-use Rattle.lis_report.specs.Answers.{Report}
+use Rattle.lis_report.specs.Answers.{Report, Outcome}
 use Rattle.lis_engine.specs.Outcome.{going}
-use Rattle.lis_report.specs.Answers.{Outcome}
-use Rattle.lis_engine.specs.Output.{Out}
-use Rattle.lis_engine.specs.inside.Steps.{Fails, Halts, IsEarly, Puts, Steps}
-use Rattle.lis_tree.specs.inside.Begun.{Begun}
+use Rattle.lis_tree.specs.Begun.{Begun}
 use Rattle.lis_field.specs.declared.faults.MessageFault.{MessageFault}
 use Rattle.lis_tree.specs.Tree.{MessageTree, flatten}
 
@@ -72,21 +61,6 @@ abbrev pub record_count : List MessageTree → ℕ
 record_count [] = 0
 record_count (m ∷ messages) = length (flatten m) + record_count messages
 
--- Memory was refused behind these messages, which are read of a front of the bytes.
-pub record IsStarved (w : MessageWrites) (bytes : List ℕ) (outcome : Outcome) : Type 0 where
-  pub front : List ℕ
-  pub more : List ℕ
-  pub joined : bytes ≡ front ++ more
-  pub messages : List MessageTree
-  pub left : Option Begun
-  pub held : List ℕ
-  pub cut : IsCut front messages left held
-  pub outcome_is : outcome ≡ record { text = messages_text w 0 messages; closing = []; halt = Some (Err OutOfMemory) }
-
--- what a run comes to
-abbrev pub Comes : MessageWrites → List ℕ → Bool → Outcome → Type 0
-Comes w bytes ended outcome = HasOutcome w bytes ended outcome ⊎ IsStarved w bytes outcome
-
 -- it has read these bytes, no record of them is refused, and this is the text for their messages
 pub record IsReadingMessages
     (w : MessageWrites) (stands : List MessageTree → Option Begun → Type 0) (reader : RecordsState) (count : ℕ)
@@ -99,14 +73,6 @@ pub record IsReadingMessages
   pub count_is : count ≡ length messages
   pub text_is : text ≡ messages_text w 0 messages
 
--- so far the bytes are whole messages and a part of one
-abbrev pub reads_on :
-    {w : MessageWrites} {stands : List MessageTree → Option Begun → Type 0} {reader : RecordsState} {count : ℕ}
-    {bytes text : List ℕ}
-    → IsReadingMessages w stands reader count bytes text → Comes w bytes false (going text)
-reads_on {reader = reader} reading =
-    inl (goes_on reading.messages reading.left reader.held reading.cut refl (ap going reading.text_is))
-
 -- ---- by steps
 
 -- what is left with one more record, the closing one too
@@ -116,30 +82,3 @@ with_record left entry = begun_with entry.delimiters (records_of left ++ entry.c
 -- a whole message, before it is let go of
 abbrev pub whole_begun : MessageTree → Option Begun
 whole_begun m = begun_with m.delimiters (flatten m)
-
--- The run halts at a refused record, behind the text for these bytes.
-abbrev pub RefusesBy : MessageWrites → List ℕ → Out → Out → ℕ → List ℕ → Result Halt ToolFault → Type 0
-RefusesBy w bytes old new before text (Ok halt) =
-    Puts (λ all. Halts true (Comes w bytes false) all halt.result × IsEarly true halt.result) old new before
-    halt.written text
-RefusesBy w bytes old new before text (Err fault) = Fails (Comes w bytes false) old new before text fault
-
--- what becomes of the run where a record was taken: it goes on, or memory was refused, or the sink failed
-abbrev pub turn_after : ℕ → Result (Option ℕ) ToolFault → Result Turn ToolFault
-turn_after written (Ok (Some after)) = Ok (On after)
-turn_after written (Ok None) = Ok (Off (record { written = written; result = Err OutOfMemory }))
-turn_after written (Err fault) = Err fault
-
--- a step over a front of bytes that follow these
-abbrev pub StepsOver :
-    (w : MessageWrites) (stands : List ℕ → List ℕ → Type 0) (past bytes behind : List ℕ) → Out → Out → ℕ → List ℕ
-    → Result Turn ToolFault → Type 0
-StepsOver w stands past bytes behind old new before text result =
-    (front : List ℕ) × (bytes ≡ front ++ behind)
-    × Steps true true (stands (past ++ front)) (Comes w (past ++ bytes) false) old new before text result
-
--- where the run goes on, the bytes behind are fewer
-abbrev pub IsShorter : Result Turn ToolFault → (behind bytes : List ℕ) → Type 0
-IsShorter (Ok (On after)) behind bytes = length behind < length bytes
-IsShorter (Ok (Off halt)) behind bytes = ⊤
-IsShorter (Err fault) behind bytes = ⊤

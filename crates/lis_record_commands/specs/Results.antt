@@ -1,5 +1,5 @@
 -- What `results` writes: a line for each result record, with the sample that its order names.
-use Rattle.std.specs.Prelude.{◌≡◌, ℕ, List, [], ◌∷◌, ◌++◌, codes, Option, None, Some}
+use Rattle.std.specs.Prelude.{ℕ, List, [], ◌∷◌, ◌++◌, codes, Option, None, Some}
 use Rattle.std.specs.List.{flat_map}
 use Rattle.lis_field.specs.declared.kinds.Kind.{Kind}
 use Rattle.lis_field.specs.declared.kinds.Kind.TheVariants as kinds
@@ -7,7 +7,6 @@ use Rattle.lis_field.specs.Delimiters.{DelimiterBytes}
 use Rattle.lis_field.specs.Shape.{RecordContent, Repeats, field_at}
 use Rattle.lis_spelling.specs.Spelling.{spelled_field}
 use Rattle.lis_record_commands.specs.Messages.{MessageWrites}
-use Rattle.lis_tree.specs.inside.Begun.{Begun}
 use Rattle.lis_tree.specs.Tree.{flatten}
 
 -- a field by its spelling, empty where it is absent
@@ -51,17 +50,3 @@ results_writes =
       last = λ messages fault. [];
       status = λ messages. 0;
     }
-
--- ---- while the records come
-
--- the sample behind records
-abbrev pub sample_behind : Option Repeats → List RecordContent → Option Repeats
-sample_behind sample [] = sample
-sample_behind sample (r ∷ records) = sample_behind (sample_after sample r r.kind) records
-
--- What waits of a message that isn't closed yet: the lines of its results, and the sample of its last order.
-abbrev pub IsTelling : (lines sample : List ℕ) → Option Begun → Type 0
-IsTelling lines sample None = (lines ≡ []) × (sample ≡ [])
-IsTelling lines sample (Some begun) =
-    (lines ≡ result_lines begun.delimiters None begun.records)
-    × (sample ≡ field_text begun.delimiters (sample_behind None begun.records))

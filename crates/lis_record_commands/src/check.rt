@@ -2,8 +2,8 @@
 
 ghost use Rattle.std.specs.Prelude.{◌≡◌, ◌^◌, ◌<◌, ◌≤◌, ◌++◌, [], List, None, OnOk, true, false, is_err, length, IfOk};
 ghost use Rattle.lis_engine.specs.Runs.{AreFresh, Stops};
-ghost use Rattle.lis_record_commands.specs.Check.{IsChecking, check_writes, finding_count, finding_line, message_line};
-ghost use Rattle.lis_record_commands.specs.Check.{record_line};
+ghost use Rattle.lis_record_commands.specs.Check.{check_writes, finding_count, finding_line, message_line, record_line};
+ghost use Rattle.lis_record_commands.specs.inside.Check.{IsChecking};
 ghost use Rattle.lis_record_commands.specs.MessageRuns.{MessagesRan};
 ghost use Rattle.lis_record_commands.specs.Messages.{report_after};
 ghost use Rattle.lis_tree.specs.Tree.{MessageTree};

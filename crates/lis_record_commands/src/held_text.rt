@@ -4,7 +4,7 @@ ghost use Rattle.std.specs.Prelude.{◌≡◌, ◌<◌, ◌≤◌, ◌++◌, ◌
 ghost use Rattle.std.specs.Prelude.{length, slice_get, take};
 ghost use Rattle.lis_field.specs.Shape.{field_at};
 ghost use Rattle.lis_record.specs.Lent.{lent};
-ghost use Rattle.lis_spelling.specs.inside.Remaining.{more_fields};
+ghost use Rattle.lis_spelling.specs.Spelling.{more_fields};
 ghost use Rattle.lis_record_commands.specs.Results.{field_text};
 
 use itoa::Buffer;

@@ -4,16 +4,16 @@ ghost use Rattle.std.specs.Prelude.{◌≡◌, ◌+◌, ◌^◌, ◌<◌, ◌++�
 ghost use Rattle.std.specs.Prelude.{OnOk, false, true, if◌then◌else◌, is_err, length, Ok};
 ghost use Rattle.std.specs.Option.{option_to_list};
 ghost use Rattle.lis_message.specs.Feeding.{StopsReading};
-ghost use Rattle.lis_message.specs.inside.Taking.{ComesNext, Completes, left_after, records_of};
-ghost use Rattle.lis_engine.specs.inside.Steps.{LineEnds, LineSteps};
+ghost use Rattle.lis_message.specs.Taking.{ComesNext, Completes, left_after, records_of};
+ghost use Rattle.lis_engine.specs.Steps.{LineEnds, LineSteps};
 ghost use Rattle.lis_engine.specs.Output.{Gathered, out};
 ghost use Rattle.lis_engine.specs.Runs.{AreFresh, Stops};
 ghost use Rattle.lis_record_commands.specs.MessageRuns.{MessagesRan};
-ghost use Rattle.lis_record_commands.specs.Messages.{Comes, IsReadingMessages, IsShorter, MessageWrites, RefusesBy};
-ghost use Rattle.lis_record_commands.specs.Messages.{StepsOver};
-ghost use Rattle.lis_record_commands.specs.Messages.{messages_text, reads_on, record_count, report_after, turn_after};
-ghost use Rattle.lis_record_commands.specs.Messages.{whole_begun, with_record};
-ghost use Rattle.lis_tree.specs.inside.Begun.{Begun};
+ghost use Rattle.lis_record_commands.specs.Messages.{IsReadingMessages, MessageWrites, messages_text, record_count};
+ghost use Rattle.lis_record_commands.specs.Messages.{report_after, whole_begun, with_record};
+ghost use Rattle.lis_record_commands.specs.inside.Messages.{Comes, IsShorter, RefusesBy, StepsOver, reads_on};
+ghost use Rattle.lis_record_commands.specs.inside.Messages.{turn_after};
+ghost use Rattle.lis_tree.specs.Begun.{Begun};
 ghost use Rattle.lis_tree.specs.Tree.{MessageTree};
 
 use lis_engine::{Counts, Machine, Page, SourceFor, Tell, ToolFault};

@@ -6,8 +6,9 @@ ghost use Rattle.lis_field.specs.Shape.{Repeats};
 ghost use Rattle.lis_engine.specs.Runs.{AreFresh, Stops};
 ghost use Rattle.lis_record_commands.specs.MessageRuns.{MessagesRan};
 ghost use Rattle.lis_record_commands.specs.Messages.{report_after};
-ghost use Rattle.lis_record_commands.specs.Results.{IsTelling, field_text, fields_behind, result_line, results_writes};
+ghost use Rattle.lis_record_commands.specs.Results.{field_text, fields_behind, result_line, results_writes};
 ghost use Rattle.lis_record_commands.specs.Results.{told_fields};
+ghost use Rattle.lis_record_commands.specs.inside.Results.{IsTelling};
 ghost use Rattle.lis_tree.specs.Tree.{MessageTree};
 
 use crate::held_text::HeldText;

@@ -6,13 +6,13 @@ use Rattle.std.specs.List.{flat_map}
 use Rattle.std.specs.Option.{option_to_list}
 use Rattle.std.specs.Result.{OnErr, is_ok}
 use Rattle.std.specs.declared.result.Result.{Result}
-use Rattle.lis_link.specs.inside.Kept.{Kept}
+use Rattle.lis_link.specs.Kept.{Kept}
 use Rattle.lis_link.specs.declared.receiver.Note.{Note}
 use Rattle.lis_link.specs.declared.receiver.Note.TheVariants.{Quiet}
 use Rattle.lis_link.specs.declared.receiver.Step.{Step}
 use Rattle.lis_link.specs.Receiver.{ReceiverState, ReceiverStep, ReceiverHearing, heard_on, on_byte, on_bytes}
 use Rattle.lis_link.specs.Receiver.{with_heard}
-use Rattle.lis_link.specs.inside.Stands.{IsIn, Makes}
+use Rattle.lis_link.specs.Stands.{IsIn, Makes}
 use Rattle.lis_link.proofs.HearingLaws.{on_byte-quiet}
 use Rattle.lis_engine.specs.declared.fault.ToolFault.{ToolFault}
 use Rattle.lis_run.specs.declared.playing.Account.{Account}

@@ -13,19 +13,18 @@ use Rattle.lis_capture.specs.declared.reader.Found.TheVariants as found
 use Rattle.lis_capture.specs.Line.{longest_line, line_of}
 use Rattle.lis_capture.specs.Capture.{Lines, begun, capture, counts, ended_lines, lines_of, next_by, read_lines}
 use Rattle.lis_capture.specs.Capture.{version_of, with_said}
-use Rattle.lis_capture.specs.Reader.{HasRead, Known, Reading, found_lines, is_long, known_of}
+use Rattle.lis_capture.specs.Reader.{HasRead, Known, Reading, found_lines, known_of}
+use Rattle.lis_capture.specs.inside.Reader.{is_long}
 use Rattle.lis_capture.proofs.CaptureLemmas.{capture-ended, capture-long, capture-refused, capture-within, has_end}
 use Rattle.lis_engine.specs.declared.fault.ToolFault.{ToolFault}
 use Rattle.lis_engine.specs.declared.fault.ToolFault.TheVariants.{CaptureLine}
-use Rattle.lis_report.specs.Answers.{Halt}
-use Rattle.lis_report.specs.Answers.{Report}
+use Rattle.lis_report.specs.inside.Answers.{Halt}
+use Rattle.lis_report.specs.Answers.{Report, Outcome}
 use Rattle.lis_engine.specs.declared.machine.Turn.TheVariants.{Off}
 use Rattle.lis_run.specs.LineOutcome.{IsLined, Writes, capture_outcome, lines_outcome, lines_text}
-use Rattle.lis_engine.specs.inside.Steps.{LineEnds, LineSteps}
+use Rattle.lis_engine.specs.Steps.{LineEnds, LineSteps, Ends, Fails, Halts, Puts}
 use Rattle.lis_engine.specs.Outcome.{whole}
-use Rattle.lis_report.specs.Answers.{Outcome}
 use Rattle.lis_engine.specs.Output.{Gathered, Out, most_counted}
-use Rattle.lis_engine.specs.inside.Steps.{Ends, Fails, Halts, Puts}
 use Rattle.lis_engine.proofs.GatherLaws.{gathered_nothing, gathered_then}
 use Rattle.lis_run.proofs.ShowLaws.{front_stream}
 use Rattle.lis_link.proofs.HearingLaws.{stream_with-append}

@@ -9,19 +9,18 @@ use Rattle.lis_capture.specs.declared.line.Line.{Line}
 use Rattle.lis_capture.specs.declared.line.Line.TheVariants.{Empty, FromAnalyzer, FromComputer, Restart, SetReady}
 use Rattle.lis_capture.specs.declared.line.Line.TheVariants.{Timer, Version}
 use Rattle.std.specs.Prelude.{⊤}
-use Rattle.lis_link.specs.inside.Kept.{Kept}
+use Rattle.lis_link.specs.Kept.{Kept}
 use Rattle.lis_link.specs.Receiver.{ReceiverState, on_byte}
-use Rattle.lis_link.specs.inside.Stands.{IsIn}
+use Rattle.lis_link.specs.Stands.{IsIn}
 use Rattle.std.specs.declared.result.Result.{Result}
 use Rattle.lis_engine.specs.declared.fault.ToolFault.{ToolFault}
-use Rattle.lis_report.specs.Answers.{Halt}
-use Rattle.lis_report.specs.Answers.{Turn}
+use Rattle.lis_report.specs.inside.Answers.{Halt, Turn}
 use Rattle.lis_engine.specs.declared.machine.Turn.TheVariants.{On, Off}
 use Rattle.lis_frame.specs.Stream.{stream_with}
 use Rattle.lis_capture.specs.Capture.{capture}
 use Rattle.lis_run.specs.CaptureRuns.{CaptureRan}
 use Rattle.lis_report.specs.Answers.{Report}
-use Rattle.lis_engine.specs.inside.Steps.{LineEnds, LineSteps}
+use Rattle.lis_engine.specs.Steps.{LineEnds, LineSteps}
 use Rattle.lis_run.specs.declared.playing.Account.{Account}
 use Rattle.lis_run.specs.declared.playing.Account.TheVariants.{Lines, Texts}
 use Rattle.std.specs.List.{flat_map}

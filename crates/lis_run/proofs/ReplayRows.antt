@@ -7,7 +7,8 @@ use Rattle.lis_frame.specs.Stream.{signal_after, open_stretch, stream_with}
 use Rattle.lis_engine.specs.declared.fault.ToolFault.TheVariants.{CaptureLine}
 use Rattle.lis_run.specs.LineOutcome.{capture_outcome}
 use Rattle.lis_engine.specs.Outcome.{whole}
-use Rattle.lis_run.specs.Replay.{replay, replay_writes, texts}
+use Rattle.lis_run.specs.Replay.{replay_writes, texts}
+use Rattle.lis_run.specs.inside.Replay.{replay}
 use Rattle.lis_run.specs.Upgrade.{upgrade_writes}
 
 session : List ℕ

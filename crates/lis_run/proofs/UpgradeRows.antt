@@ -5,7 +5,8 @@ use Rattle.std.specs.Fmt.{digits}
 use Rattle.hex.specs.Hex.{decode_pairs, encode_with}
 use Rattle.lis_frame.specs.Stretch.{stretch_fault}
 use Rattle.lis_frame.specs.Stream.{signal_after, open_stretch}
-use Rattle.lis_run.specs.Replay.{replay, texts}
+use Rattle.lis_run.specs.Replay.{texts}
+use Rattle.lis_run.specs.inside.Replay.{replay}
 use Rattle.lis_run.specs.Upgrade.{upgrade}
 
 -- a capture of version 1 with empty lines, CR, digits in both cases, and no end of its last line

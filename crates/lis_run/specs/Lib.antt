@@ -9,4 +9,4 @@ pub use Rattle.lis_engine.specs.Output
 pub use Rattle.lis_engine.specs.Outcome
 pub use Rattle.lis_engine.specs.Runs
 pub use Rattle.lis_engine.specs.Parts
-pub use Rattle.lis_engine.specs.inside.Steps
+pub use Rattle.lis_engine.specs.Steps

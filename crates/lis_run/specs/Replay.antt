@@ -1,7 +1,7 @@
 -- What `replay` and `texts` write of a capture: a new receiver hears what the analyzer sent, what it replies is
 -- compared with what the computer sent, and the texts that it hands out are told.
-use Rattle.std.specs.Prelude.{ℕ, ◌+◌, nat_lt, not, Bool, true, false, List, [], ◌∷◌, ◌++◌, length, codes, decimal}
-use Rattle.std.specs.Prelude.{None, if◌then◌else◌}
+use Rattle.std.specs.Prelude.{ℕ, ◌+◌, nat_lt, not, Bool, true, false, List, [], ◌∷◌, ◌++◌, length, codes, decimal, None}
+use Rattle.std.specs.Prelude.{if◌then◌else◌}
 use Rattle.std.specs.List.{flat_map}
 use Rattle.std.specs.Option.{option_to_list}
 use Rattle.std.specs.Str.{bytes_eq}
@@ -138,10 +138,6 @@ replay_writes_from first limit =
 -- lines are numbered from 1
 abbrev pub replay_writes : ℕ → Writes
 replay_writes limit = replay_writes_from 1 limit
-
--- all that is written of a capture
-abbrev pub replay : ℕ → List ℕ → List ℕ
-replay limit bytes = whole (capture_outcome (replay_writes limit) (stream_with [] bytes) true)
 
 -- ---- texts
 

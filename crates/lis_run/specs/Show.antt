@@ -1,18 +1,14 @@
 -- What `show` writes: a line for each signal of the stream.
-use Rattle.std.specs.Prelude.{◌≡◌, ℕ, Bool, List, [], ◌∷◌, ◌++◌, length, codes, decimal, None}
-use Rattle.std.specs.Prelude.{if◌then◌else◌}
+use Rattle.std.specs.Prelude.{◌≡◌, ℕ, Bool, List, [], ◌∷◌, ◌++◌, length, codes, decimal, None, if◌then◌else◌}
 use Rattle.hex.specs.Hex.{encode_lower}
 use Rattle.lis_frame.specs.declared.frame.FrameFault.{FrameFault}
 use Rattle.lis_frame.specs.declared.frame.FrameFault.TheVariants.{TooLong, Shape, Number, Text, Sum}
 use Rattle.lis_frame.specs.declared.scanner.SignalOf.{SignalOf}
 use Rattle.lis_frame.specs.declared.scanner.SignalOf.TheVariants.{Enq, Eot, Good, Bad}
-use Rattle.lis_frame.specs.declared.scanner.Heard.{Heard}
-use Rattle.lis_frame.specs.declared.scanner.Heard.TheVariants as heards
 use Rattle.lis_frame.specs.Frame.{FrameContent}
 use Rattle.lis_frame.specs.Stream.{signals}
 use Rattle.lis_engine.specs.Outcome.{at_end}
-use Rattle.lis_report.specs.Answers.{Outcome}
-use Rattle.lis_report.specs.Answers.{Report}
+use Rattle.lis_report.specs.Answers.{Outcome, Report}
 
 -- the code of a fault, as it is printed
 abbrev pub printed_fault : FrameFault → List ℕ
@@ -44,13 +40,6 @@ signal_line Enq = codes "ENQ\n"
 signal_line Eot = codes "EOT\n"
 signal_line (Good frame) = frame_line frame
 signal_line (Bad fault) = bad_line fault
-
--- the same of a signal that is heard with a lent frame
-abbrev pub heard_line : Heard → List ℕ
-heard_line heards.Enq = codes "ENQ\n"
-heard_line heards.Eot = codes "EOT\n"
-heard_line (heards.Good frame) = frame_line frame
-heard_line (heards.Bad fault) = bad_line fault
 
 abbrev pub signal_lines : {limit : ℕ} → List (SignalOf limit) → List ℕ
 signal_lines [] = []

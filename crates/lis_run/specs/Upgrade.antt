@@ -1,5 +1,5 @@
 -- What `upgrade` writes: the lines of a capture as those of version 2.
-use Rattle.std.specs.Prelude.{ℕ, Bool, List, [], ◌∷◌, ◌++◌, true, false}
+use Rattle.std.specs.Prelude.{ℕ, List, [], ◌∷◌, ◌++◌, true}
 use Rattle.lis_frame.specs.Stream.{stream_with}
 use Rattle.lis_capture.specs.declared.line.Line.{Line}
 use Rattle.lis_capture.specs.declared.line.Line.TheVariants.{Version}
@@ -20,8 +20,3 @@ upgrade_writes =
 -- all that is written of a capture
 abbrev pub upgrade : List ℕ → List ℕ
 upgrade bytes = whole (capture_outcome upgrade_writes (stream_with [] bytes) true)
-
--- whether a line was there
-abbrev pub is_begun : List Line → Bool
-is_begun [] = false
-is_begun (line ∷ lines) = true

@@ -7,7 +7,7 @@ ghost use Rattle.lis_capture.specs.Capture.{capture};
 ghost use Rattle.lis_capture.specs.Reader.{HasRead};
 ghost use Rattle.lis_run.specs.CaptureRuns.{CaptureRan};
 ghost use Rattle.lis_run.specs.LineOutcome.{IsLined, Writes, capture_outcome, lines_outcome};
-ghost use Rattle.lis_engine.specs.inside.Steps.{LineEnds, LineSteps};
+ghost use Rattle.lis_engine.specs.Steps.{LineEnds, LineSteps};
 ghost use Rattle.lis_engine.specs.Outcome.{going};
 ghost use Rattle.lis_engine.specs.Output.{out};
 ghost use Rattle.lis_engine.specs.Runs.{AreFresh, Stops};

@@ -3,7 +3,7 @@
 ghost use Rattle.std.specs.Prelude.{◌≡◌, ◌≤◌, [], true, false, is_err, if◌then◌else◌, IfOk};
 ghost use Rattle.lis_frame.specs.Limit.{IsLimit};
 ghost use Rattle.lis_run.specs.CaptureRuns.{CaptureRan};
-ghost use Rattle.lis_engine.specs.Parts.{part_text};
+ghost use Rattle.lis_engine.specs.inside.Parts.{part_text};
 ghost use Rattle.lis_engine.specs.Output.{Gathered, out};
 ghost use Rattle.lis_run.specs.Replay.{difference_line, digits_or_dash, replay_writes, text_line};
 ghost use Rattle.lis_engine.specs.Runs.{AreFresh, Stops};

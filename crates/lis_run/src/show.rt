@@ -8,10 +8,11 @@ ghost use Rattle.lis_frame.specs.Stream.{signal_after, signals_after, stream_wit
 ghost use Rattle.lis_engine.specs.declared.page.TheConstants.{PAGE_ROOM};
 ghost use Rattle.lis_engine.specs.Output.{Gathered, most_counted, out};
 ghost use Rattle.lis_engine.specs.Runs.{AreFresh, RanOver, Shown, Stops};
-ghost use Rattle.lis_run.specs.Show.{bad_line, digits_part, frame_line, frame_start, heard_line, Shows};
-ghost use Rattle.lis_run.specs.Show.{printed_fault, show, signal_lines};
+ghost use Rattle.lis_run.specs.Show.{bad_line, digits_part, frame_line, frame_start, Shows, printed_fault, show};
+ghost use Rattle.lis_run.specs.Show.{signal_lines};
+ghost use Rattle.lis_run.specs.inside.Show.{heard_line};
 ghost use Rattle.lis_engine.specs.Outcome.{going};
-ghost use Rattle.lis_engine.specs.Parts.{part_text, text_if_any};
+ghost use Rattle.lis_engine.specs.inside.Parts.{part_text, text_if_any};
 ghost use Rattle.std.proofs.Common.{ap};
 
 use lis_engine::{Machine, Page, Part, SourceFor, Tell, ToolFault, Written, make_room};

@@ -4,9 +4,10 @@ ghost use Rattle.std.specs.Prelude.{◌≡◌, ◌≤◌, ◌++◌, [], List, tr
 ghost use Rattle.lis_capture.specs.declared.line.Line.{Line as LineContent};
 ghost use Rattle.lis_capture.specs.Spelling.{added_spelling};
 ghost use Rattle.lis_run.specs.CaptureRuns.{CaptureRan};
-ghost use Rattle.lis_engine.specs.Parts.{part_text, text_if_any};
+ghost use Rattle.lis_engine.specs.inside.Parts.{part_text, text_if_any};
 ghost use Rattle.lis_engine.specs.Runs.{AreFresh, Stops};
-ghost use Rattle.lis_run.specs.Upgrade.{is_begun, opening, upgrade_writes};
+ghost use Rattle.lis_run.specs.Upgrade.{opening, upgrade_writes};
+ghost use Rattle.lis_run.specs.inside.Upgrade.{is_begun};
 
 use crate::lines::{LineMachine, run_lines};
 use lis_capture::{LONGEST_SPELLING, Line, LineReader, MOST_BYTES};

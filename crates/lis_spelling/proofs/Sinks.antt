@@ -8,7 +8,7 @@ use Rattle.std.specs.Io.KnownBytes.{Appends, Keeps}
 use Rattle.lis_spelling.specs.declared.faults.WriteFault.{WriteFault}
 use Rattle.lis_spelling.specs.declared.faults.WriteFault.TheVariants as write_faults
 use Rattle.lis_port.proofs.Sinks.{Appends-none, Appends-then, take-split}
-use Rattle.lis_spelling.specs.Writing.{SentOn}
+use Rattle.lis_spelling.specs.inside.Writing.{SentOn}
 
 -- what a count comes to in two steps, as far as it goes
 pub sum_told : (passed size count later told top : ℕ) → later ≡ min (passed + size) top → told ≡ min (later + count) top

@@ -6,10 +6,10 @@ use Rattle.std.proofs.Common.{append_assoc, arith, Option, Some, None}
 use Rattle.std.specs.List.{flat_map, join_with_byte}
 use Rattle.lis_field.specs.declared.symbols.Sym.{Sym}
 use Rattle.lis_field.specs.Delimiters.{DelimiterBytes}
-use Rattle.lis_spelling.specs.inside.Remaining.{more_components, more_fields, more_repeats, remaining}
+use Rattle.lis_spelling.specs.Spelling.{more_fields, spelled_component, spelled_field, spelled_repeat, spelled_symbol}
+use Rattle.lis_spelling.specs.Spelling.{char_spelling, delimiter_letter}
+use Rattle.lis_spelling.specs.inside.Remaining.{more_components, more_repeats, remaining}
 use Rattle.lis_field.specs.Shape.{Components, Fields, Repeats, Symbols}
-use Rattle.lis_spelling.specs.Spelling.{spelled_component, spelled_field, spelled_repeat, spelled_symbol, char_spelling}
-use Rattle.lis_spelling.specs.Spelling.{delimiter_letter}
 
 -- a join is its first part, and each other one behind a delimiter
 join-first : {A : Type 0} (byte : ℕ) (spell : A → List ℕ) (item : A) (items : List A)

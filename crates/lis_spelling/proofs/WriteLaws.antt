@@ -13,7 +13,8 @@ use Rattle.lis_spelling.specs.WriteFaults.{bad_field_number, check_fault, field_
 use Rattle.lis_spelling.specs.WriteFaults.{long_fault}
 use Rattle.lis_field.specs.Shape.{RecordContent, Repeats}
 use Rattle.lis_spelling.specs.Spelling.{spelled, spelled_field, written}
-use Rattle.lis_spelling.specs.Writing.{SentOn, Wrote, WroteAny, is_io}
+use Rattle.lis_spelling.specs.Writing.{Wrote, WroteAny, is_io}
+use Rattle.lis_spelling.specs.inside.Writing.{SentOn}
 use Rattle.lis_field.proofs.FirstFaults.{ltb-past, ltb_tells}
 use Rattle.lis_field.proofs.FirstFaults.{option_or-none}
 use Rattle.lis_field.proofs.FirstFaults.{none_cond}

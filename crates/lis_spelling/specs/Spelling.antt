@@ -7,7 +7,7 @@ use Rattle.lis_field.specs.declared.symbols.Sym.TheVariants.{Char, Raw, On, Off}
 use Rattle.lis_field.specs.Delimiters.{DelimiterBytes}
 use Rattle.lis_field.specs.Kinds.{letter_of}
 use Rattle.lis_field.specs.Relation.{declared_part}
-use Rattle.lis_field.specs.Shape.{Symbols, Components, Repeats, RecordContent}
+use Rattle.lis_field.specs.Shape.{Symbols, Components, Repeats, RecordContent, Fields}
 
 -- an escape of one letter
 abbrev pub letter_spelling : DelimiterBytes → ℕ → List ℕ
@@ -53,3 +53,7 @@ spelled d content =
 -- a record as it goes out, with its CR
 abbrev pub written : DelimiterBytes → RecordContent → List ℕ
 written d content = spelled d content ++ 13 ∷ []
+
+-- the fields of a record
+abbrev pub more_fields : DelimiterBytes → Fields → List ℕ
+more_fields d fields = flat_map (λ field. d.field ∷ spelled_field d field) fields

@@ -1,6 +1,6 @@
 -- What a call that writes answers, and what the sink has then taken.
-use Rattle.std.specs.Prelude.{◌≡◌, ℕ, ◌+◌, ◌-◌, ◌^◌, ◌<◌, ◌≤◌, min, Bool, true, false, List, length, take, drop}
-use Rattle.std.specs.Prelude.{Option, Some, None, Result, Ok, Err}
+use Rattle.std.specs.Prelude.{◌≡◌, ℕ, ◌-◌, ◌^◌, ◌<◌, ◌≤◌, min, Bool, true, false, List, length, take, drop, Option}
+use Rattle.std.specs.Prelude.{Some, None, Result, Ok, Err}
 use Rattle.std.specs.Io.KnownBytes.{Appends, Keeps}
 use Rattle.lis_spelling.specs.declared.faults.WriteFault.{WriteFault}
 use Rattle.lis_spelling.specs.declared.faults.WriteFault.TheVariants as write_faults
@@ -25,11 +25,3 @@ WroteAny refusal bytes old new (Err fault) = (refusal ≡ Some fault) × Keeps o
 abbrev pub is_io : Result Unit WriteFault → Bool
 is_io (Err (write_faults.Io count)) = true
 is_io _ = false
-
--- What the engine answers: all of the bytes went out, or so many of them; `passed` went before.
-abbrev pub SentOn : ℕ → List ℕ → Option (List ℕ) → Option (List ℕ) → Result Unit WriteFault → Type 0
-SentOn passed bytes old new (Ok done) = Appends old new bytes
-SentOn passed bytes old new (Err (write_faults.Io told)) =
-    (count : ℕ) × (told ≡ min (passed + count) (2 ^ 64 - 1)) × (count < length bytes)
-    × Appends old new (take count bytes)
-SentOn passed bytes old new (Err fault) = ⊥

@@ -1,3 +1,3 @@
--- What private fields stand for, and what holds within loops. A public contract that speaks of private state cites it.
-pub mod Pieces
+-- What proofs and private functions speak of. No public contract cites it.
 pub mod Remaining
+pub mod Writing

@@ -2,8 +2,8 @@
 
 ghost use Rattle.std.specs.Prelude.{◌≡◌, ◌+◌, ◌<◌, ◌≤◌, ◌++◌, [], ℕ, List, length, IsTrue, IsFalse};
 ghost use Rattle.lis_field.specs.Delimiters.{DelimiterBytes};
-ghost use Rattle.lis_spelling.specs.inside.Remaining.{more_components, more_fields, more_repeats, remaining};
-ghost use Rattle.lis_spelling.specs.Spelling.{spelled_component, spelled_field, spelled_repeat};
+ghost use Rattle.lis_spelling.specs.Spelling.{more_fields, spelled_component, spelled_field, spelled_repeat};
+ghost use Rattle.lis_spelling.specs.inside.Remaining.{more_components, more_repeats, remaining};
 
 use crate::chunk::{CHUNK, Chunk, LONGEST_SYMBOL};
 use lis_field::{Component, Delimiters, Field, Repeat, Sym};

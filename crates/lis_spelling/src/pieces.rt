@@ -19,7 +19,7 @@ pub struct FieldSpelling<'a> {
 
 impl<'a> Model for FieldSpelling<'a> {
     ghost use Rattle.std.specs.Prelude.{◌≡◌, [], length};
-    ghost use Rattle.lis_spelling.specs.inside.Pieces.{Pieces};
+    ghost use Rattle.lis_spelling.specs.Pieces.{Pieces};
 
     ghost Value = { Pieces };
 

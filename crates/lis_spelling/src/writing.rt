@@ -8,7 +8,8 @@ ghost use Rattle.lis_field.specs.Relation.{IsRecord, declared_part};
 ghost use Rattle.lis_field.specs.Shape.{IsRecordShape, first_number};
 ghost use Rattle.lis_spelling.specs.Spelling.{spelled, spelled_field, written};
 ghost use Rattle.lis_spelling.specs.declared.faults.WriteFault.TheVariants as write_faults;
-ghost use Rattle.lis_spelling.specs.Writing.{SentOn, Wrote, WroteAny, is_io};
+ghost use Rattle.lis_spelling.specs.Writing.{Wrote, WroteAny, is_io};
+ghost use Rattle.lis_spelling.specs.inside.Writing.{SentOn};
 
 use crate::chunk::Chunk;
 use crate::cursor::{Cursor, Spelling};

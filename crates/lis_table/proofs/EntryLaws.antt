@@ -8,7 +8,7 @@ use Rattle.std.proofs.lemmas.List.Splits.{join_with_byte-slice_split}
 use Rattle.lis_field.specs.declared.kinds.Kind.{Kind}
 use Rattle.lis_field.specs.Delimiters.{DelimiterBytes}
 use Rattle.lis_field.specs.Shape.{first_number}
-use Rattle.lis_part.specs.inside.FrontReading.{components_of, parts_behind, parts_of, repeats_of, symbols_of}
+use Rattle.lis_part.specs.FrontReading.{components_of, parts_behind, parts_of, repeats_of, symbols_of}
 use Rattle.lis_record.specs.Lent.{front_length, record_in}
 use Rattle.lis_table.specs.declared.table.LisPart.{LisPart}
 use Rattle.lis_table.specs.Entries.{Entry, component_entries, entries_of, entry_at, field_entries, repeat_entries}

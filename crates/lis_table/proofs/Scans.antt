@@ -8,9 +8,10 @@ use Rattle.lis_field.specs.declared.kinds.Kind.{Kind}
 use Rattle.lis_field.specs.Delimiters.{DelimiterBytes}
 use Rattle.lis_field.specs.Shape.{first_number}
 use Rattle.lis_record.specs.Lent.{front_length}
-use Rattle.lis_part.specs.inside.FrontReading.{parts_behind, parts_of}
+use Rattle.lis_part.specs.FrontReading.{parts_behind, parts_of}
 use Rattle.lis_table.specs.declared.table.LisPart.{LisPart}
-use Rattle.lis_table.specs.Table.{component_places, field_places, first_place, place_of, repeat_places, table_of}
+use Rattle.lis_table.specs.Table.{component_places, field_places, place_of, repeat_places, table_of}
+use Rattle.lis_table.specs.inside.Table.{first_place}
 use Rattle.lis_table.specs.inside.Scan.{longer, next_place, scanned}
 
 -- the first part, and the others

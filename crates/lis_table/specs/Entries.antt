@@ -3,7 +3,7 @@
 use Rattle.std.specs.Prelude.{ℕ, ◌+◌, List, [], ◌∷◌, ◌++◌, drop, take}
 use Rattle.lis_field.specs.Delimiters.{DelimiterBytes}
 use Rattle.lis_field.specs.Shape.{Components, Fields, RecordContent, Repeats, Symbols, first_number}
-use Rattle.lis_part.specs.inside.FrontReading.{symbols_of}
+use Rattle.lis_part.specs.FrontReading.{symbols_of}
 use Rattle.lis_table.specs.declared.table.LisPart.{LisPart}
 
 -- a component of a record, and which it is

@@ -5,7 +5,7 @@ use Rattle.std.specs.List.{list_any}
 use Rattle.lis_field.specs.declared.kinds.Kind.{Kind}
 use Rattle.lis_field.specs.Delimiters.{DelimiterBytes}
 use Rattle.lis_field.specs.Shape.{first_number}
-use Rattle.lis_part.specs.inside.FrontReading.{parts_behind, parts_of}
+use Rattle.lis_part.specs.FrontReading.{parts_behind, parts_of}
 use Rattle.lis_record.specs.Lent.{front_length}
 use Rattle.lis_table.specs.declared.table.LisPart.{LisPart}
 
@@ -46,14 +46,3 @@ abbrev pub table_of : DelimiterBytes → Kind → List ℕ → List LisPart
 table_of d kind text =
     field_places d (first_number kind) (front_length kind + 1)
     (parts_behind d.field (drop (front_length kind) text))
-
--- where the first component begins
-abbrev pub first_place : Kind → LisPart
-first_place kind = record {
-  offset = front_length kind + 1;
-  len = 0;
-  field = first_number kind;
-  repeat = 0;
-  component = 0;
-  flags = 0;
-}

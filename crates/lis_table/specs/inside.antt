@@ -1,3 +1,4 @@
--- What proofs and private functions see.
+-- What proofs and private functions speak of. No public contract cites it.
 pub mod Scan
 pub mod Stops
+pub mod Table

@@ -3,7 +3,8 @@
 ghost use Rattle.std.specs.Prelude.{◌≡◌, ◌≤◌, ◌<◌, ◌+◌, ◌++◌, MatchOption, Some, drop, length, slice_set, take};
 ghost use Rattle.lis_field.specs.Text.{record_limit};
 ghost use Rattle.lis_record.specs.Lent.{front_length};
-ghost use Rattle.lis_table.specs.Table.{first_place, table_of};
+ghost use Rattle.lis_table.specs.Table.{table_of};
+ghost use Rattle.lis_table.specs.inside.Table.{first_place};
 ghost use Rattle.lis_table.specs.inside.Scan.{IsRoomy, longer, next_place, scanned};
 
 use crate::stops::{end_stops, next_stop};

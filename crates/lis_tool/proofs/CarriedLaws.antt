@@ -10,7 +10,7 @@ use Rattle.lis_message.specs.Texts.{FitsInTexts}
 use Rattle.lis_message.specs.Writing.{IsWritable, message_bytes, message_texts_of}
 use Rattle.lis_message.proofs.WritingLaws.{all_writable}
 use Rattle.lis_spelling.specs.Spelling.{written}
-use Rattle.lis_tree.specs.inside.Begun.{Begun}
+use Rattle.lis_tree.specs.Begun.{Begun}
 use Rattle.lis_field.specs.declared.faults.MessageFault.{MessageFault}
 use Rattle.lis_field.specs.declared.faults.Reason.TheVariants as reasons
 use Rattle.lis_tree.specs.Tree.{IsTree, MessageTree, flatten}

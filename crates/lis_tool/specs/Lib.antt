@@ -10,10 +10,10 @@ pub use Rattle.lis_engine.specs.Output
 pub use Rattle.lis_engine.specs.Outcome
 pub use Rattle.lis_engine.specs.Runs
 pub use Rattle.lis_engine.specs.Parts
+pub use Rattle.lis_engine.specs.Steps
 pub use Rattle.lis_run.specs.LineOutcome
 pub use Rattle.lis_run.specs.CaptureRuns
 pub use Rattle.lis_report.specs.Codes
 pub use Rattle.lis_run.specs.Upgrade
 pub use Rattle.lis_run.specs.Show
 pub use Rattle.lis_run.specs.Replay
-pub use Rattle.lis_engine.specs.inside

@@ -10,7 +10,7 @@ use Rattle.lis_tree.specs.declared.tree.Group.TheVariants as groups
 use Rattle.lis_tree.specs.Tree.{MessageTree, noted_records, order_records, patient_records, group_records, flatten}
 use Rattle.lis_tree.specs.Tree.{IsBranch, IsNote, AreNotes, IsNoted, IsOrder, IsPatient, IsGroup, IsTree}
 use Rattle.lis_tree.specs.Tree.{branch_records}
-use Rattle.lis_tree.specs.inside.Front.{message_tree}
+use Rattle.lis_tree.specs.Front.{message_tree}
 
 -- each record's kind passes a test
 abbrev Pass : (Kind → Bool) → List RecordContent → Type 0

@@ -6,7 +6,8 @@ use Rattle.lis_field.specs.declared.kinds.Kind.TheVariants as kinds
 use Rattle.lis_field.specs.Shape.{RecordContent}
 use Rattle.lis_field.specs.declared.faults.Reason.TheVariants as reasons
 use Rattle.lis_tree.specs.Nodes.{Branch, Noted, OrderTree, PatientTree}
-use Rattle.lis_tree.specs.inside.Front.{IsFront, front_level, front_records, group_level, groups_level, orders_level}
+use Rattle.lis_tree.specs.Front.{IsFront, front_records}
+use Rattle.lis_tree.specs.inside.Front.{front_level, group_level, groups_level, orders_level}
 use Rattle.lis_tree.proofs.Flatten.{front_is, front_tree}
 use Rattle.lis_tree.specs.declared.tree.Group.{Group}
 use Rattle.lis_tree.specs.declared.tree.Group.TheVariants as groups

@@ -6,7 +6,7 @@ use Rattle.lis_field.specs.Shape.{RecordContent}
 use Rattle.lis_tree.specs.Nodes.{Noted, OrderTree, PatientTree}
 use Rattle.lis_tree.specs.declared.tree.Group.{Group}
 use Rattle.lis_tree.specs.declared.tree.Group.TheVariants as groups
-use Rattle.lis_tree.specs.inside.Walk.{walk_records}
+use Rattle.lis_tree.specs.Walk.{walk_records}
 
 -- before the next record, where its head was told
 module _

@@ -1,12 +1,17 @@
+pub mod Begun
 pub mod Findings
+pub mod Front
 pub mod Hierarchy
 pub mod Level
 pub mod ListFaults
 pub mod Nodes
 pub mod Notes
 pub mod Numbers
+pub mod Open
 pub mod Places
 pub mod Refusing
 pub mod Results
+pub mod Standing
 pub mod Tree
+pub mod Walk
 pub mod inside

@@ -1,9 +1,5 @@
--- What private fields stand for, and what holds within loops. A public contract that speaks of private state cites it.
-pub mod Begun
+-- What proofs and private functions speak of. No public contract cites it.
 pub mod Front
 pub mod Joining
 pub mod Last
-pub mod Open
 pub mod ResultsLeft
-pub mod Standing
-pub mod Walk

@@ -4,9 +4,10 @@ ghost use Rattle.std.specs.Prelude.{◌≡◌, ◌≢◌, ◌∷◌, [], ◌++�
 ghost use Rattle.lis_field.specs.declared.kinds.Kind.TheVariants as kinds;
 ghost use Rattle.lis_tree.specs.Level.{misplaced};
 ghost use Rattle.lis_tree.specs.Tree.{group_records, order_records, patient_records, IsGroup, IsOrder, IsPatient};
-ghost use Rattle.lis_tree.specs.inside.Front.{IsFront, front_level, front_records};
+ghost use Rattle.lis_tree.specs.Front.{IsFront, front_records};
+ghost use Rattle.lis_tree.specs.inside.Front.{front_level};
 ghost use Rattle.lis_tree.specs.inside.Joining.{JoinsGroup, JoinsOrder, JoinsPatient};
-ghost use Rattle.lis_tree.specs.inside.Standing.{standing_level};
+ghost use Rattle.lis_tree.specs.Standing.{standing_level};
 
 use crate::standing::Standing;
 use crate::tree::{Branch, Group, Noted, Order, Patient};

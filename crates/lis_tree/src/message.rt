@@ -4,7 +4,7 @@ ghost use Rattle.lis_field.specs.declared.kinds.Kind.TheVariants as kinds;
 ghost use Rattle.lis_field.specs.declared.faults.Reason.TheVariants as reasons;
 ghost use Rattle.lis_tree.specs.Level.{misplaced, closed, kinds_of};
 ghost use Rattle.lis_tree.specs.ListFaults.{IsListFault};
-ghost use Rattle.lis_tree.specs.inside.Front.{message_tree};
+ghost use Rattle.lis_tree.specs.Front.{message_tree};
 ghost use Rattle.lis_text.specs.Capped.{capped};
 ghost use Rattle.lis_tree.specs.Results.{results_left, results_of};
 ghost use Rattle.lis_tree.specs.Tree.{MessageTree, IsTree, flatten};
@@ -30,7 +30,7 @@ pub struct Message {
 
 impl Model for Message {
     ghost use Rattle.lis_tree.specs.Tree.{MessageTree, IsTree};
-    ghost use Rattle.lis_tree.specs.inside.Front.{message_tree};
+    ghost use Rattle.lis_tree.specs.Front.{message_tree};
 
     ghost Value = { MessageTree };
 

@@ -3,7 +3,7 @@ ghost use Rattle.std.specs.Prelude.{◌≡◌, ◌≢◌, ◌+◌, ◌∷◌, []
 ghost use Rattle.lis_field.specs.declared.kinds.Kind.TheVariants as kinds;
 ghost use Rattle.lis_field.specs.Delimiters.{IsDelimiters};
 ghost use Rattle.lis_tree.specs.Level.{misplaced};
-ghost use Rattle.lis_tree.specs.inside.Begun.{level_of};
+ghost use Rattle.lis_tree.specs.Begun.{level_of};
 ghost use Rattle.lis_text.specs.Capped.{capped};
 ghost use Rattle.lis_tree.specs.Tree.{flatten, IsTree};
 
@@ -26,12 +26,12 @@ pub struct OpenMessage {
 
 impl Model for OpenMessage {
     ghost use Rattle.std.specs.Prelude.{◌≡◌, length};
-    ghost use Rattle.lis_tree.specs.inside.Begun.{Begun};
+    ghost use Rattle.lis_tree.specs.Begun.{Begun};
 
     ghost Value = { Begun };
 
-    ghost use Rattle.lis_tree.specs.inside.Open.{IsOpen};
-    ghost use Rattle.lis_tree.specs.inside.Front.{front_records};
+    ghost use Rattle.lis_tree.specs.Open.{IsOpen};
+    ghost use Rattle.lis_tree.specs.Front.{front_records};
 
     ghost view = { λ m. record { delimiters = m.delimiters; records = front_records m.front } };
 

@@ -1,7 +1,7 @@
 //! Where the next record of an open message will stand (LIS02-A2, the hierarchy of records).
 ghost use Rattle.std.specs.Prelude.{◌≡◌};
 ghost use Rattle.lis_tree.specs.Level.{misplaced, next_level};
-ghost use Rattle.lis_tree.specs.inside.Standing.{standing_level, standing_or_closed};
+ghost use Rattle.lis_tree.specs.Standing.{standing_level, standing_or_closed};
 
 use lis_field::Reason;
 use lis_record::Kind;

@@ -27,7 +27,7 @@ impl<'a> Model for Walk<'a> {
 
     ghost Value = { List RecordContent };
 
-    ghost use Rattle.lis_tree.specs.inside.Walk.{walk_records};
+    ghost use Rattle.lis_tree.specs.Walk.{walk_records};
 
     ghost view = { λ w. walk_records (option_copied w.head) w.notes.now w.results.now w.orders.now w.groups.now
         (option_copied w.closing) };

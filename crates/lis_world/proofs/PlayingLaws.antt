@@ -16,8 +16,8 @@ use Rattle.lis_link.specs.declared.receiver.Note.TheVariants.{Accepted, Opened, 
 use Rattle.lis_link.specs.declared.receiver.Step.{Step}
 use Rattle.lis_link.specs.Receiver.{ReceiverState, ReceiverStep, ReceiverHearing, bid_with, judged, on_judged, heard_by}
 use Rattle.lis_link.specs.Receiver.{heard, on_byte, on_bytes, heard_on, with_heard, with_room}
-use Rattle.lis_link.specs.inside.Kept.{Kept}
-use Rattle.lis_link.specs.inside.Stands.{IsIn, IsStep, Makes}
+use Rattle.lis_link.specs.Kept.{Kept}
+use Rattle.lis_link.specs.Stands.{IsIn, IsStep, Makes}
 use Rattle.lis_link.proofs.HearingLaws.{on_byte-quiet}
 use Rattle.lis_world.specs.declared.event.Event.{Event}
 use Rattle.lis_world.specs.declared.event.LateEvent.{LateEvent}

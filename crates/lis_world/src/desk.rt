@@ -6,7 +6,7 @@ ghost use Rattle.lis_frame.specs.Frame.{frame_bytes};
 ghost use Rattle.lis_link.specs.declared.receiver.Note.TheVariants as Notes;
 ghost use Rattle.lis_link.specs.Receiver.{ReceiverState, ReceiverStep, new_receiver, on_receiver_timer};
 ghost use Rattle.lis_link.specs.Receiver.{receiver_restarted, with_readiness, with_room};
-ghost use Rattle.lis_link.specs.inside.Stands.{IsIn, IsStep};
+ghost use Rattle.lis_link.specs.Stands.{IsIn, IsStep};
 ghost use Rattle.lis_frame.specs.Stream.{signals_after};
 ghost use Rattle.lis_world.specs.Session.{changed};
 ghost use Rattle.lis_world.specs.Unit.{load_bytes, one_frame};

@@ -2,7 +2,7 @@
 
 ghost use Rattle.std.specs.Prelude.{◌≡◌, OnOk};
 ghost use Rattle.lis_link.specs.Receiver.{ReceiverState};
-ghost use Rattle.lis_link.specs.inside.Stands.{IsIn};
+ghost use Rattle.lis_link.specs.Stands.{IsIn};
 ghost use Rattle.lis_world.specs.Late.{after_late_event, happens_late, is_empty, reconnected};
 ghost use Rattle.lis_world.specs.declared.event.Event.TheVariants.{Start};
 ghost use Rattle.lis_world.specs.inside.Playing.{IsWorld, world_at};

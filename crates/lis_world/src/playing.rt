@@ -3,7 +3,7 @@
 ghost use Rattle.std.specs.Prelude.{◌≡◌, ℕ, List, [], ◌∷◌, OnOk, IfOk, All, map};
 ghost use Rattle.lis_frame.specs.Limit.{IsLimit};
 ghost use Rattle.lis_link.specs.Receiver.{ReceiverState};
-ghost use Rattle.lis_link.specs.inside.Stands.{IsIn};
+ghost use Rattle.lis_link.specs.Stands.{IsIn};
 ghost use Rattle.lis_world.specs.declared.event.LateEvent.TheVariants.{Happens};
 ghost use Rattle.lis_world.specs.inside.Playing.{IsWorld, world_at, run_by};
 ghost use Rattle.lis_world.specs.Late.{after_late_event, late_world, is_empty};

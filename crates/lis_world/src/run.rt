@@ -5,7 +5,7 @@ ghost use Rattle.lis_frame.specs.Limit.{IsLimit};
 ghost use Rattle.lis_frame.specs.Stream.{signals_after};
 ghost use Rattle.lis_link.specs.Receiver.{ReceiverState};
 ghost use Rattle.lis_link.specs.Sender.{start_fault, on_sender_timer, sender_restarted};
-ghost use Rattle.lis_link.specs.inside.Stands.{IsIn};
+ghost use Rattle.lis_link.specs.Stands.{IsIn};
 ghost use Rattle.lis_world.specs.inside.Loads.{load_of};
 ghost use Rattle.lis_world.specs.inside.Playing.{IsWorld, world_at, front_noticed, kept_given_up, kept_forgotten};
 ghost use Rattle.lis_world.specs.inside.Playing.{kept_following, kept_sending, kept_with};

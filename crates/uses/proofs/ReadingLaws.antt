@@ -8,7 +8,7 @@ use Rattle.std.proofs.lemmas.List.{take_more, take-append-drop}
 use Rattle.std.specs.List.{AllZip, flat_map}
 use Rattle.lis_message.specs.Feeding.{ReaderState, answer_at_end, finished}
 use Rattle.lis_message.specs.Stream.{IsCut}
-use Rattle.lis_tree.specs.inside.Begun.{Begun}
+use Rattle.lis_tree.specs.Begun.{Begun}
 use Rattle.lis_tree.specs.Results.{ResultNode, results_of}
 use Rattle.lis_tree.specs.Tree.{MessageTree}
 use Rattle.uses.specs.declared.results.Reading.{Reading}

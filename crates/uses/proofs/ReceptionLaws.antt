@@ -5,12 +5,13 @@ use Rattle.std.specs.Option.{option_to_list}
 use Rattle.lis_link.specs.declared.receiver.Note.{Note}
 use Rattle.lis_link.specs.declared.receiver.Note.TheVariants as Notes
 use Rattle.lis_link.specs.declared.receiver.Step.{Step}
-use Rattle.lis_link.specs.inside.Kept.{Kept}
-use Rattle.lis_link.specs.inside.Stands.{IsIn, RefusesFrame, Makes}
+use Rattle.lis_link.specs.Kept.{Kept}
+use Rattle.lis_link.specs.Stands.{IsIn, RefusesFrame, Makes}
 use Rattle.lis_link.specs.Joining.{groups}
 use Rattle.lis_link.specs.Receiver.{ReceiverState, on_byte, on_receiver_timer, receiver_restarted}
-use Rattle.uses.specs.Computer.{AcknowledgedIsKept, Answers, IsReception, WasReception, acknowledged, closed, given_up}
+use Rattle.uses.specs.Computer.{AcknowledgedIsKept, IsReception, WasReception, acknowledged, closed, given_up}
 use Rattle.uses.specs.Computer.{answer_deeds, goes_on, made, refused, unanswered}
+use Rattle.uses.specs.inside.Computer.{Answers}
 use Rattle.uses.specs.Line.{Deed, GoesOn, kept, most_events, not_kept, waited}
 use Rattle.uses.specs.declared.line.Event.{Event}
 use Rattle.uses.specs.declared.line.Event.TheVariants.{Byte, Timer, Closed}

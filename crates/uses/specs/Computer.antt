@@ -6,8 +6,8 @@ use Rattle.lis_frame.specs.Frame.{FrameContent}
 use Rattle.lis_link.specs.declared.receiver.Note.{Note}
 use Rattle.lis_link.specs.declared.receiver.Note.TheVariants.{OutOfMemory, Quiet}
 use Rattle.lis_link.specs.declared.receiver.Step.{Step}
-use Rattle.lis_link.specs.inside.Kept.{Kept}
-use Rattle.lis_link.specs.inside.Stands.{IsIn, IsStep}
+use Rattle.lis_link.specs.Kept.{Kept}
+use Rattle.lis_link.specs.Stands.{IsIn, IsStep}
 use Rattle.lis_link.specs.Joining.{groups}
 use Rattle.lis_link.specs.Receiver.{ReceiverState, ReceiverStep, answers, on_byte, on_receiver_timer}
 use Rattle.lis_link.specs.Receiver.{receiver_restarted}
@@ -29,12 +29,6 @@ pub data IsAnswer (event : Event) (r : ReceiverState) (answer : Step) (after : R
       → after ≡ record r { past = byte ∷ r.past } → IsStep (answers (Some NAK) OutOfMemory after) answer
       → IsAnswer event r answer after
 
--- an answer was given, and the receiver is in the state behind it
-pub record Answers (event : Event) (r : ReceiverState) (given : Step) (new : Kept) : Type 0 where
-  pub after : ReceiverState
-  pub answer : IsAnswer event r given after
-  pub state : IsIn 240 new after
-
 -- the reply goes out
 abbrev pub reply_deeds : Option ℕ → List Deed
 reply_deeds None = []
@@ -50,15 +44,6 @@ timer_behind note true = timed 30 ∷ []
 -- the reply, and the timer
 abbrev pub answer_deeds : Step → Bool → List Deed
 answer_deeds answer is_open = reply_deeds answer.reply ++ timer_behind answer.note is_open
-
--- a whole text is kept, and then the reply is sent; if it can't be kept, nothing is sent, and the receiver restarts
-abbrev pub keeping_deeds : Bool → List ℕ → List Deed → List Deed
-keeping_deeds true text replies = kept text ∷ replies
-keeping_deeds false text replies = not_kept text ∷ []
-
-abbrev pub state_after_keeping : Bool → ReceiverState → ReceiverState
-state_after_keeping true r = r
-state_after_keeping false r = receiver_restarted r
 
 -- The deeds on the line until a text is whole and kept, of which so many events are waited for at most, the text, none
 -- if the line was closed before, and the receiver after them. A whole text is kept first, and then the reply to its

@@ -7,3 +7,4 @@ pub mod Played
 pub mod Readings
 pub mod Resuming
 pub mod Scripted
+pub mod inside

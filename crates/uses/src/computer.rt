@@ -2,10 +2,10 @@
 
 ghost use Rattle.std.specs.Prelude.{◌≡◌, ◌≢◌, ◌++◌, MatchOption};
 ghost use Rattle.lis_link.specs.declared.receiver.Note.TheVariants as Notes;
-ghost use Rattle.lis_link.specs.inside.Stands.{IsIn};
+ghost use Rattle.lis_link.specs.Stands.{IsIn};
 ghost use Rattle.lis_link.specs.Receiver.{ReceiverState};
-ghost use Rattle.uses.specs.Computer.{Answers, WasReception, keeping_deeds, reply_deeds, state_after_keeping};
-ghost use Rattle.uses.specs.Computer.{timer_behind};
+ghost use Rattle.uses.specs.Computer.{WasReception, reply_deeds, timer_behind};
+ghost use Rattle.uses.specs.inside.Computer.{Answers, keeping_deeds, state_after_keeping};
 ghost use Rattle.uses.specs.Line.{GoesOn};
 ghost use Rattle.uses.specs.declared.line.Event.TheVariants as Events;
 

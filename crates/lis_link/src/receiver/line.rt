@@ -7,10 +7,12 @@ ghost use Rattle.lis_frame.specs.Scanner.{Held, heard_signal};
 ghost use Rattle.lis_frame.specs.declared.scanner.SignalOf.TheVariants as Signals;
 ghost use Rattle.lis_text.specs.Control.{NAK};
 ghost use Rattle.lis_link.specs.declared.receiver.Note.TheVariants as Notes;
-ghost use Rattle.lis_link.specs.inside.Kept.{idle_line, kept_of};
-ghost use Rattle.lis_link.specs.Receiver.{ReceiverState, bid_with, judged_by, found_reply, heard_by, heard};
-ghost use Rattle.lis_link.specs.Receiver.{on_receiver_timer};
-ghost use Rattle.lis_link.specs.inside.Stands.{IsIn, Makes, RefusesFrame, IsTaken, SpareAfter, KeepsRoom, room_in};
+ghost use Rattle.lis_link.specs.Kept.{kept_of};
+ghost use Rattle.lis_link.specs.inside.Kept.{idle_line};
+ghost use Rattle.lis_link.specs.Receiver.{ReceiverState, bid_with, judged_by, heard_by, heard, on_receiver_timer};
+ghost use Rattle.lis_link.specs.inside.Receiver.{found_reply};
+ghost use Rattle.lis_link.specs.Stands.{IsIn, Makes, RefusesFrame, SpareAfter, KeepsRoom};
+ghost use Rattle.lis_link.specs.inside.Stands.{IsTaken, room_in};
 
 use crate::receiver::{MOST_FRAMES, Note, Readiness, Step};
 use lis_frame::{FrameFault, Heard, LentFrame};
@@ -34,7 +36,7 @@ pub(crate) struct Line {
 impl Model for Line {
     ghost use Rattle.std.specs.Prelude.{◌-◌, ◌≤◌, length, vec_len, vec_capacity};
     ghost use Rattle.lis_text.specs.LinkText.{longest_text};
-    ghost use Rattle.lis_link.specs.inside.Kept.{KeptLine};
+    ghost use Rattle.lis_link.specs.Kept.{KeptLine};
 
     ghost Value = { KeptLine };
 

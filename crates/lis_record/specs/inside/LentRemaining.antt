@@ -2,7 +2,7 @@
 use Rattle.std.specs.Prelude.{ℕ, List, [], map}
 use Rattle.lis_field.specs.Delimiters.{DelimiterBytes}
 use Rattle.lis_field.specs.Shape.{Symbols}
-use Rattle.lis_part.specs.inside.FrontReading.{components_of, parts_behind, symbols_of}
+use Rattle.lis_part.specs.FrontReading.{components_of, parts_behind, symbols_of}
 use Rattle.lis_spelling.specs.inside.Remaining.{remaining}
 
 -- the rest of a component, and the texts of the components and of the repeats that follow, each behind its delimiter

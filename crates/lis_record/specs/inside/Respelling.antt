@@ -3,7 +3,7 @@ use Rattle.std.specs.Prelude.{ℕ, zero, suc, ◌==◌, cond, List, [], ◌∷�
 use Rattle.lis_field.specs.declared.symbols.Sym.TheVariants.{Char}
 use Rattle.lis_field.specs.Delimiters.{DelimiterBytes}
 use Rattle.lis_field.specs.Shape.{Symbols}
-use Rattle.lis_part.specs.inside.FrontReading.{escape_at}
+use Rattle.lis_part.specs.FrontReading.{escape_at}
 use Rattle.lis_spelling.specs.Spelling.{spelled_component, spelled_symbol}
 
 -- what an escape means, spelled, and what stands behind it; where there is none, the escape byte is itself

@@ -6,12 +6,12 @@ use Rattle.std.specs.Option.{option_to_list}
 use Rattle.lis_capture.specs.declared.line.Line.{Line}
 use Rattle.lis_link.specs.declared.receiver.Note.TheVariants.{OutOfMemory}
 use Rattle.lis_link.specs.declared.receiver.Step.{Step}
-use Rattle.lis_link.specs.inside.Kept.{Kept}
+use Rattle.lis_link.specs.Kept.{Kept}
 use Rattle.lis_link.specs.Receiver.{ReceiverState}
-use Rattle.lis_link.specs.inside.Stands.{IsIn}
+use Rattle.lis_link.specs.Stands.{IsIn}
 use Rattle.lis_engine.specs.declared.fault.ToolFault.{ToolFault}
 use Rattle.lis_engine.specs.declared.fault.ToolFault.TheVariants as faults
-use Rattle.lis_report.specs.Answers.{Turn}
+use Rattle.lis_report.specs.inside.Answers.{Turn}
 use Rattle.lis_engine.specs.declared.machine.Turn.TheVariants.{On, Off}
 use Rattle.lis_run.specs.declared.playing.Account.{Account}
 use Rattle.lis_run.specs.declared.playing.Account.TheVariants.{Lines, Texts}

@@ -3,7 +3,7 @@ use Rattle.std.specs.Prelude.{ℕ, List, ◌∷◌, ◌++◌}
 use Rattle.std.specs.List.{flat_map}
 use Rattle.lis_field.specs.Delimiters.{DelimiterBytes}
 use Rattle.lis_field.specs.Shape.{Components, Fields, Repeats, Symbols}
-use Rattle.lis_spelling.specs.Spelling.{spelled_component, spelled_field, spelled_repeat}
+use Rattle.lis_spelling.specs.Spelling.{spelled_component, spelled_repeat, more_fields}
 
 -- components behind the first one of a repeat
 abbrev pub more_components : DelimiterBytes → Components → List ℕ
@@ -12,10 +12,6 @@ more_components d components = flat_map (λ symbols. d.component ∷ spelled_com
 -- repeats behind the first one of a field
 abbrev pub more_repeats : DelimiterBytes → Repeats → List ℕ
 more_repeats d repeats = flat_map (λ components. d.repeat ∷ spelled_repeat d components) repeats
-
--- the fields of a record
-abbrev pub more_fields : DelimiterBytes → Fields → List ℕ
-more_fields d fields = flat_map (λ field. d.field ∷ spelled_field d field) fields
 
 -- the rest of a component, of its repeat, of its field, of its record, and what ends it
 unfoldable pub remaining : DelimiterBytes → Symbols → Components → Repeats → Fields → List ℕ → List ℕ

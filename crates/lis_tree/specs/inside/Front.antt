@@ -1,19 +1,9 @@
--- A message that isn't closed yet: the header with its notes, and the patients and queries so far.
+-- Where in an open message the next record will be, by the records below each other.
 use Rattle.std.specs.Prelude.{List, [], ◌∷◌}
-use Rattle.lis_field.specs.declared.kinds.Kind.TheVariants as kinds
-use Rattle.lis_field.specs.Delimiters.{DelimiterBytes}
-use Rattle.lis_field.specs.Shape.{RecordContent}
 use Rattle.lis_tree.specs.declared.tree.Group.{Group}
 use Rattle.lis_tree.specs.declared.tree.Group.TheVariants as groups
 use Rattle.lis_tree.specs.Level.{Level, in_header, in_patient, in_order, in_query}
 use Rattle.lis_tree.specs.Nodes.{Branch, OrderTree}
-use Rattle.lis_tree.specs.Tree.{IsBranch, IsGroup, MessageTree, branch_records, group_records}
-
-abbrev pub front_records : Branch Group → List RecordContent
-front_records = branch_records group_records
-
-abbrev pub IsFront : Branch Group → Type 0
-IsFront = IsBranch kinds.H IsGroup
 
 -- where the next record will stand behind these orders of a patient
 abbrev pub orders_level : Level → List OrderTree → Level
@@ -32,13 +22,3 @@ groups_level level (g ∷ groups) = groups_level (group_level g) groups
 -- where it will stand behind all of these
 abbrev pub front_level : Branch Group → Level
 front_level f = groups_level in_header f.below
-
--- the message that a record closes
-abbrev pub message_tree : DelimiterBytes → Branch Group → RecordContent → MessageTree
-message_tree delimiters front closing = record {
-  delimiters = delimiters;
-  header = front.top.head;
-  notes = front.top.notes;
-  groups = front.below;
-  closing = closing;
-}

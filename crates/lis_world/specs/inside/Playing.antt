@@ -4,10 +4,10 @@ use Rattle.lis_frame.specs.declared.scanner.SignalOf.{SignalOf}
 use Rattle.lis_frame.specs.declared.scanner.SignalOf.TheVariants.{Enq, Eot, Good, Bad}
 use Rattle.lis_frame.specs.Frame.{FrameContent}
 use Rattle.lis_frame.specs.Scanner.{Held, StandsFor}
-use Rattle.lis_link.specs.inside.Kept.{Kept}
+use Rattle.lis_link.specs.Kept.{Kept}
 use Rattle.lis_link.specs.declared.receiver.Note.TheVariants.{Accepted}
 use Rattle.lis_link.specs.Receiver.{ReceiverState, ReceiverStep}
-use Rattle.lis_link.specs.inside.Stands.{IsIn}
+use Rattle.lis_link.specs.Stands.{IsIn}
 use Rattle.lis_world.specs.Session.{Session, with_more, changed, sends_frame}
 use Rattle.lis_link.specs.declared.sender.Outcome.{Outcome}
 use Rattle.lis_link.specs.declared.sender.Phase.{Phase}

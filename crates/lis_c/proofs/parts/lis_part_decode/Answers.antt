@@ -1,7 +1,7 @@
 use Rattle.std.proofs.Common.{ap, subst, sym, ◌∙◌}
 use Rattle.lis_field.specs.Delimiters.{DelimiterBytes}
 use Rattle.lis_field.specs.Shape.{Symbols}
-use Rattle.lis_part.specs.inside.FrontReading.{symbols_of}
+use Rattle.lis_part.specs.FrontReading.{symbols_of}
 use Rattle.lis_part.proofs.Components.{symbols_of-IsComponent}
 use Rattle.lis_c.specs.Records.{IsCopied, delimiters_in, plain}
 use Rattle.lis_c.proofs.parts.lis_part_decode.Goals as goal

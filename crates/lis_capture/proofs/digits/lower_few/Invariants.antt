@@ -1,7 +1,7 @@
 use Rattle.std.proofs.Common.{◌≡◌, map, take}
 use Rattle.std.specs.List.{list_all}
 use Rattle.hex.specs.Hex.{is_hex_digit}
-use Rattle.lis_capture.specs.Digits.{lower_case}
+use Rattle.lis_capture.specs.inside.Digits.{lower_case}
 use Rattle.lis_capture.proofs.digits.lower_few.Given as goal
 
 abbrev pub invariant-digits : goal.invariant-digits

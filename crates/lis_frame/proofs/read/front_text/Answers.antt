@@ -1,6 +1,7 @@
 use Rattle.std.proofs.Common.{◌≡◌, ◌∙◌, ◌+◌, ◌%◌, None, ap, get_or, length, refl, sym, arith}
 use Rattle.std.specs.List.{sum}
-use Rattle.lis_frame.specs.Stretch.{stretch_of, stretch_fault}
+use Rattle.lis_frame.specs.Stretch.{stretch_fault}
+use Rattle.lis_frame.specs.inside.Stretch.{stretch_of}
 use Rattle.lis_text.specs.Text.{is_forbidden, first_forbidden}
 use Rattle.lis_text.proofs.SearchLemmas.{clean-before}
 use Rattle.lis_frame.proofs.FrontLemmas.{front-frame, front_parts, same_place}

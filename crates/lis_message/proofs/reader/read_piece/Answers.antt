@@ -1,6 +1,6 @@
 use Rattle.std.proofs.Common.{◌++◌, List, ℕ, sym, ◌∙◌, ap, subst, append_assoc}
-use Rattle.lis_message.specs.Feeding.{Goes, StopsIn}
-use Rattle.lis_message.specs.Records.{unended}
+use Rattle.lis_message.specs.inside.Feeding.{Goes, StopsIn}
+use Rattle.lis_message.specs.inside.Records.{unended}
 use Rattle.lis_message.proofs.Stopping.{goes_stops, goes_then}
 use Rattle.lis_message.proofs.reader.read_piece.Goals as goal
 

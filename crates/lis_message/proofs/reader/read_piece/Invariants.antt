@@ -1,6 +1,7 @@
 use Rattle.std.proofs.Common.{◌≡◌, ℕ, ◌++◌, List, length}
-use Rattle.lis_message.specs.Feeding.{Goes}
-use Rattle.lis_message.specs.Records.{HasLeft, unended}
+use Rattle.lis_message.specs.inside.Feeding.{Goes}
+use Rattle.lis_message.specs.Records.{HasLeft}
+use Rattle.lis_message.specs.inside.Records.{unended}
 use Rattle.lis_message.proofs.reader.read_piece.Given as goal
 
 -- what is read, and that it leads here

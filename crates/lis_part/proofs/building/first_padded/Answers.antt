@@ -1,5 +1,5 @@
 use Rattle.std.proofs.Common.{ℕ, List, ◌∷◌, drop, ap, ◌∙◌}
-use Rattle.lis_part.specs.inside.FrontReading.{parts_behind}
+use Rattle.lis_part.specs.FrontReading.{parts_behind}
 use Rattle.lis_part.proofs.PaddedTexts.{begins_padded}
 use Rattle.lis_part.proofs.building.first_padded.Goals as goal
 

@@ -1,7 +1,7 @@
 use Rattle.std.proofs.Common.{◌≢◌, ℕ, arith, refl}
 use Rattle.std.proofs.lemmas.List.{take_all}
 use Rattle.std.proofs.lemmas.List.Elements.{All-weaker}
-use Rattle.lis_part.specs.inside.FrontReading.{IsPlainText}
+use Rattle.lis_part.specs.FrontReading.{IsPlainText}
 use Rattle.lis_part.proofs.building.is_plain.Goals as goal
 
 pub returns : goal.returns

@@ -3,7 +3,8 @@ use Rattle.std.proofs.Common.{◌≡◌, ◌∷◌, [], ℕ, List, Some, ap, ref
 use Rattle.std.specs.List.{position_from}
 use Rattle.lis_field.specs.Delimiters.{DelimiterBytes}
 use Rattle.lis_field.specs.Shape.{Components, Symbols, plain_field}
-use Rattle.lis_part.specs.inside.FrontReading.{repeats_of, stops}
+use Rattle.lis_part.specs.FrontReading.{repeats_of}
+use Rattle.lis_part.specs.inside.FrontReading.{stops}
 use Rattle.lis_part.proofs.PaddedTexts.{begins_padded, takes_padded}
 use Rattle.lis_part.proofs.Stops.{stop-plain}
 use Rattle.lis_part.proofs.building.push_next.Goals as goal

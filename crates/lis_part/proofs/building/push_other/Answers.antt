@@ -1,6 +1,6 @@
 use Rattle.std.proofs.Common.{◌∷◌, [], ap, sym, ◌∙◌}
 use Rattle.lis_field.specs.Shape.{Components, Symbols}
-use Rattle.lis_part.specs.inside.FrontReading.{symbols_of}
+use Rattle.lis_part.specs.FrontReading.{symbols_of}
 use Rattle.lis_part.proofs.PaddedTexts.{begins_padded, takes_padded}
 use Rattle.lis_part.proofs.Stops.{stop-single}
 use Rattle.lis_part.proofs.building.push_other.Goals as goal

@@ -1,6 +1,6 @@
 use Rattle.std.proofs.Common.{◌≤◌, ◌++◌, [], List, ℕ, length, ap, refl, sym, ◌∙◌, arith, append-nil}
 use Rattle.lis_field.specs.Shape.{RecordContent}
-use Rattle.lis_part.specs.inside.FrontReading.{fields_of}
+use Rattle.lis_part.specs.FrontReading.{fields_of}
 use Rattle.lis_part.proofs.PaddedTexts.{reading_next, reading_on}
 use Rattle.lis_part.proofs.building.read_fields.Goals as goal
 use Rattle.lis_part.proofs.building.read_fields.Goals.{in-Some+then-more-lt16, in_default}

@@ -1,5 +1,5 @@
 use Rattle.std.proofs.Common.{◌≡◌, ◌++◌, length, map}
-use Rattle.lis_part.specs.inside.FrontReading.{symbols_of, components_of, parts_behind}
+use Rattle.lis_part.specs.FrontReading.{symbols_of, components_of, parts_behind}
 use Rattle.lis_part.proofs.building.read_repeat.Given as goal
 
 abbrev pub invariant-loop-delimiter : goal.invariant-loop-delimiter

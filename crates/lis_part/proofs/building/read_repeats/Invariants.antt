@@ -1,5 +1,5 @@
 use Rattle.std.proofs.Common.{◌≡◌, ◌++◌, length, map}
-use Rattle.lis_part.specs.inside.FrontReading.{components_of, repeats_of, parts_behind}
+use Rattle.lis_part.specs.FrontReading.{components_of, repeats_of, parts_behind}
 use Rattle.lis_part.proofs.building.read_repeats.Given as goal
 
 abbrev pub invariant-loop-delimiter : goal.invariant-loop-delimiter

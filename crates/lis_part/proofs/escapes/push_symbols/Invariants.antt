@@ -1,5 +1,5 @@
 use Rattle.std.proofs.Common.{◌≡◌, ◌++◌, length}
-use Rattle.lis_part.specs.inside.FrontReading.{symbols_of}
+use Rattle.lis_part.specs.FrontReading.{symbols_of}
 use Rattle.lis_part.proofs.escapes.push_symbols.Given as goal
 
 abbrev pub invariant-loop-symbol : goal.invariant-loop-symbol

@@ -3,7 +3,7 @@ use Rattle.lis_field.specs.declared.symbols.Sym.TheVariants.{Char}
 use Rattle.lis_spelling.specs.Spelling.{spelled_symbol}
 use Rattle.lis_field.specs.Shape.{Symbols}
 use Rattle.lis_field.specs.Escapes.{escape_of}
-use Rattle.lis_part.specs.inside.FrontReading.{escape_at}
+use Rattle.lis_part.specs.FrontReading.{escape_at}
 use Rattle.lis_record.proofs.AsIs.{escape_spelled}
 use Rattle.lis_part.proofs.Places.{escape_at-found, escape_at-none}
 use Rattle.lis_record.proofs.Runs.{escape_added, lone_added}

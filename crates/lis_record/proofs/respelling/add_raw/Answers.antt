@@ -1,6 +1,6 @@
 use Rattle.std.proofs.Common.{◌++◌, List, ℕ, append-nil, ap, sym, ◌∙◌}
 use Rattle.lis_spelling.specs.Spelling.{spelled_component}
-use Rattle.lis_part.specs.inside.FrontReading.{digit_symbols}
+use Rattle.lis_part.specs.FrontReading.{digit_symbols}
 use Rattle.lis_part.proofs.Pairs.{digit_symbols-none}
 use Rattle.lis_record.proofs.respelling.add_raw.Goals as goal
 

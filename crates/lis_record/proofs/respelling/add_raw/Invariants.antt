@@ -1,6 +1,6 @@
 use Rattle.std.proofs.Common.{length}
 use Rattle.lis_spelling.specs.Spelling.{spelled_component}
-use Rattle.lis_part.specs.inside.FrontReading.{ArePairs, digit_symbols}
+use Rattle.lis_part.specs.FrontReading.{ArePairs, digit_symbols}
 use Rattle.lis_record.proofs.Grown.{Adds}
 use Rattle.lis_record.proofs.respelling.add_raw.Given as goal
 

@@ -1,6 +1,6 @@
 use Rattle.std.proofs.Common.{sym, ◌∙◌, ap, ◌≡◌, arith}
 use Rattle.std.specs.Prelude.{slice_get}
-use Rattle.lis_part.specs.inside.FrontReading.{parts_behind, parts_of}
+use Rattle.lis_part.specs.FrontReading.{parts_behind, parts_of}
 use Rattle.lis_part.proofs.Places.{part_first, part_past, part_step}
 use Rattle.lis_record.proofs.texts.part_at.Goals as goal
 

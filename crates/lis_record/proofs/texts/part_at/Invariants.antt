@@ -1,5 +1,5 @@
 use Rattle.std.proofs.Common.{◌≡◌, slice_get}
-use Rattle.lis_part.specs.inside.FrontReading.{parts_of}
+use Rattle.lis_part.specs.FrontReading.{parts_of}
 use Rattle.lis_record.proofs.texts.part_at.Given as goal
 
 abbrev pub invariant-loop-left : goal.invariant-loop-left

@@ -1,6 +1,6 @@
 use Rattle.std.proofs.Common.{◌≡◌, ℕ, ◌+◌, ◌≤◌, List, [], ◌++◌, length, drop, false, Option, Result}
 use Rattle.lis_spelling.specs.declared.faults.WriteFault.{WriteFault}
-use Rattle.lis_spelling.specs.Writing.{SentOn}
+use Rattle.lis_spelling.specs.inside.Writing.{SentOn}
 use Rattle.lis_spelling.proofs.writing.send.Given as goal
 
 -- whatever sends the rest from here sends all from the start

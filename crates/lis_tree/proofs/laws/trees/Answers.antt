@@ -6,7 +6,7 @@ use Rattle.lis_tree.proofs.ListFaults.{tree_kinds}
 use Rattle.lis_tree.proofs.Viable.{viable_from}
 use Rattle.lis_tree.specs.Level.{kinds_of}
 use Rattle.lis_tree.specs.Tree.{flatten}
-use Rattle.lis_tree.specs.inside.Front.{front_records}
+use Rattle.lis_tree.specs.Front.{front_records}
 use Rattle.lis_tree.proofs.laws.trees.Goals as goal
 
 pub returns-clause-viable : goal.returns-clause-viable

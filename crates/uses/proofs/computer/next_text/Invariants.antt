@@ -1,4 +1,4 @@
-use Rattle.lis_link.specs.inside.Stands.{IsIn}
+use Rattle.lis_link.specs.Stands.{IsIn}
 use Rattle.lis_link.specs.Receiver.{ReceiverState}
 use Rattle.uses.proofs.ReceptionLaws.{IsSoFar}
 use Rattle.uses.proofs.computer.next_text.Given as goal

@@ -1,5 +1,5 @@
 use Rattle.std.proofs.Common.{◌∙◌, sym}
-use Rattle.lis_frame.specs.Stretch.{stretch_of}
+use Rattle.lis_frame.specs.inside.Stretch.{stretch_of}
 use Rattle.lis_frame.proofs.FrameLaws.{found-content}
 use Rattle.lis_frame.proofs.StretchLemmas.{stretch_fault-parts, content_of-stretch_of}
 use Rattle.lis_frame.proofs.read.Parts.lent.Goals as goal

@@ -1,5 +1,6 @@
 use Rattle.std.proofs.Common.{◌≡◌, ℕ, ◌+◌, List, subst, sym, take}
-use Rattle.lis_frame.specs.Scanner.{Held, HoldsAtMost, unmarked_length, with_bytes}
+use Rattle.lis_frame.specs.Scanner.{Held, HoldsAtMost, unmarked_length}
+use Rattle.lis_frame.specs.inside.Scanner.{with_bytes}
 use Rattle.lis_frame.proofs.KeptLemmas.{with_bytes-outside}
 use Rattle.lis_frame.proofs.ScannerLemmas.{HoldsAtMost-with_bytes}
 use Rattle.lis_frame.proofs.scanner.ScannerOf.run_on.Goals as goal

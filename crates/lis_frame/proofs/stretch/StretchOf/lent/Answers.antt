@@ -1,5 +1,5 @@
 use Rattle.std.proofs.Common.{◌++◌, arith}
-use Rattle.lis_frame.specs.Stretch.{stretch_of}
+use Rattle.lis_frame.specs.inside.Stretch.{stretch_of}
 use Rattle.lis_frame.proofs.KeptLemmas.{ended-few, kept-parts, told-parts}
 use Rattle.lis_frame.proofs.stretch.StretchOf.lent.Goals as goal
 

@@ -1,6 +1,6 @@
 use Rattle.std.proofs.Common.{◌≡◌, length, sym, ap, ◌∙◌, subst, arith}
 use Rattle.lis_frame.specs.Pieces.{session_frames}
-use Rattle.lis_link.specs.inside.Queue.{frames_of, IsSender}
+use Rattle.lis_link.specs.Queue.{frames_of, IsSender}
 use Rattle.lis_link.proofs.SenderLaws.{advanced_sender}
 use Rattle.lis_link.proofs.sender.SenderOver.count_off.Goals as goal
 

@@ -1,7 +1,8 @@
 use Rattle.std.proofs.Common.{List, ℕ, ◌++◌, sym, ap, subst, ◌∙◌}
 use Rattle.lis_field.specs.declared.kinds.Kind.{Kind}
-use Rattle.lis_message.specs.inside.Kept.{Holding, RecordsState, opened_of}
-use Rattle.lis_message.specs.inside.Taking.{ComesNext, left_after}
+use Rattle.lis_message.specs.Kept.{RecordsState, opened_of}
+use Rattle.lis_message.specs.inside.Kept.{Holding}
+use Rattle.lis_message.specs.Taking.{ComesNext, left_after}
 use Rattle.lis_message.proofs.NextRecord.{known_told}
 use Rattle.lis_message.proofs.records.RecordReader.end_held.Goals as goal
 

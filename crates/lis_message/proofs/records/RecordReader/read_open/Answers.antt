@@ -1,5 +1,5 @@
 use Rattle.std.proofs.Common.{List, ℕ, length, ◌==◌, ap, ◌∙◌}
-use Rattle.lis_message.specs.inside.Kept.{RecordsState}
+use Rattle.lis_message.specs.Kept.{RecordsState}
 use Rattle.lis_message.proofs.NextRecord.{nothing_held, whole_stopped}
 use Rattle.lis_message.proofs.records.RecordReader.read_open.Goals as goal
 

@@ -1,6 +1,7 @@
 use Rattle.std.proofs.Common.{◌≡◌, ◌∷◌, ◌++◌, [], ℕ, List, sym, ap, subst, ◌∙◌, drop, take-append-drop}
-use Rattle.lis_message.specs.inside.Kept.{Holding, RecordsState}
-use Rattle.lis_message.specs.inside.Taking.{ComesNext}
+use Rattle.lis_message.specs.Kept.{RecordsState}
+use Rattle.lis_message.specs.inside.Kept.{Holding}
+use Rattle.lis_message.specs.Taking.{ComesNext}
 use Rattle.lis_message.proofs.Lines.{text_lacks}
 use Rattle.lis_message.proofs.WholeRecords.{bad_line, ended_line, no_line}
 use Rattle.lis_message.proofs.records.RecordReader.read_whole.Goals as goal

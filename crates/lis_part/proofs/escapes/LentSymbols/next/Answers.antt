@@ -1,5 +1,5 @@
 use Rattle.std.proofs.Common.{sym, ◌∙◌, ap, List, ℕ}
-use Rattle.lis_part.specs.inside.FrontReading.{symbols_left}
+use Rattle.lis_part.specs.FrontReading.{symbols_left}
 use Rattle.lis_part.proofs.Places.{symbols_left-none}
 use Rattle.lis_part.proofs.escapes.LentSymbols.next.Goals as goal
 

@@ -1,7 +1,7 @@
 -- What comes before the first field delimiter holds none, by Lacks-first.
 use Rattle.std.proofs.Common.{◌≡◌, ◌∷◌, ℕ, List}
 use Rattle.lis_field.specs.Relation.{Lacks}
-use Rattle.lis_part.specs.inside.FrontReading.{parts_behind, parts_of}
+use Rattle.lis_part.specs.FrontReading.{parts_behind, parts_of}
 use Rattle.lis_part.proofs.FieldTexts.{Lacks-first}
 use Rattle.lis_record.proofs.lent.LentFields.next.Goals as goal
 

@@ -1,6 +1,6 @@
 use Rattle.std.proofs.Common.{[], ap, refl, length, map}
 use Rattle.lis_field.specs.Shape.{Symbols}
-use Rattle.lis_part.specs.inside.FrontReading.{components_of, parts_behind, symbols_of}
+use Rattle.lis_part.specs.FrontReading.{components_of, parts_behind, symbols_of}
 use Rattle.lis_record.proofs.LentTexts.{behind_first, behind_none, symbol_taken, text_repeat-first}
 use Rattle.lis_spelling.proofs.Steps.{component_case, nothing_left, repeat_case, symbols_case}
 use Rattle.lis_record.proofs.lent_cursor.LentCursorSpelling.step.Goals as goal

@@ -1,6 +1,6 @@
 use Rattle.std.proofs.Common.{Err, Ok, arith}
 use Rattle.lis_message.proofs.RecordLaws.{cut_told}
-use Rattle.lis_record_commands.specs.Messages.{turn_after}
+use Rattle.lis_record_commands.specs.inside.Messages.{turn_after}
 use Rattle.lis_record_commands.proofs.RecordSteps.{held_steps, record_steps, refused_over}
 use Rattle.lis_record_commands.proofs.messages.Messages.read_next.Goals as goal
 

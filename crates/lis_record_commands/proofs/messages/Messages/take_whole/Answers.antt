@@ -1,4 +1,4 @@
-use Rattle.lis_record_commands.specs.Messages.{turn_after}
+use Rattle.lis_record_commands.specs.inside.Messages.{turn_after}
 use Rattle.lis_record_commands.proofs.RecordSteps.{record_steps}
 use Rattle.lis_record_commands.proofs.messages.Messages.take_whole.Goals as goal
 

@@ -2,7 +2,7 @@ use Rattle.std.proofs.Common.{◌≡◌, ◌++◌, [], ℕ, List, Ok, length, re
 use Rattle.std.proofs.Common.{◌∙◌, ap, subst, append-nil, arith}
 use Rattle.std.proofs.lemmas.Bool.{eqb-true}
 use Rattle.lis_engine.specs.Output.{out}
-use Rattle.lis_engine.specs.inside.Steps.{Puts}
+use Rattle.lis_engine.specs.Steps.{Puts}
 use Rattle.lis_engine.proofs.GatherLaws.{gathered_nothing}
 use Rattle.lis_record_commands.specs.Messages.{IsReadingMessages}
 use Rattle.lis_record_commands.proofs.RecordSteps.{all_read, steps_on}

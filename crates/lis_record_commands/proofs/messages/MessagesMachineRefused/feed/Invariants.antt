@@ -1,6 +1,6 @@
 use Rattle.std.proofs.Common.{◌≡◌, ◌+◌, ◌<◌, ◌^◌, ◌++◌, ℕ, List, false, length}
 use Rattle.lis_engine.specs.Output.{out}
-use Rattle.lis_engine.specs.inside.Steps.{Puts}
+use Rattle.lis_engine.specs.Steps.{Puts}
 use Rattle.lis_record_commands.specs.Messages.{IsReadingMessages}
 use Rattle.lis_record_commands.proofs.messages.MessagesMachineRefused.feed.Given as goal
 

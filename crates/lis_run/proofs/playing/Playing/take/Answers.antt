@@ -1,6 +1,6 @@
 use Rattle.std.proofs.Common.{arith, subst, sym}
-use Rattle.lis_link.specs.inside.Kept.{Kept}
-use Rattle.lis_link.specs.inside.Stands.{IsIn}
+use Rattle.lis_link.specs.Kept.{Kept}
+use Rattle.lis_link.specs.Stands.{IsIn}
 use Rattle.lis_engine.proofs.GatherLaws.{gathered_nothing}
 use Rattle.lis_run.proofs.playing.Playing.take.Goals as goal
 

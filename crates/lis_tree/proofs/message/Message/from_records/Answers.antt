@@ -3,7 +3,7 @@ use Rattle.std.proofs.lemmas.List.{nil_from_length}
 use Rattle.lis_field.specs.declared.faults.MessageFault.{MessageFault}
 use Rattle.lis_field.specs.declared.faults.Reason.TheVariants as reasons
 use Rattle.lis_tree.specs.Level.{misplaced}
-use Rattle.lis_tree.specs.inside.Begun.{level_of}
+use Rattle.lis_tree.specs.Begun.{level_of}
 use Rattle.lis_tree.proofs.ListFaults.{closed_list, so_far_more, misplaced_fault, unclosed_fault, header_fault}
 use Rattle.lis_tree.proofs.ListFaults.{only_memory}
 use Rattle.std.specs.Vec.Iter.{into_iter_items}

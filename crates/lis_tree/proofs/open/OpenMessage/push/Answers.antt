@@ -1,5 +1,5 @@
 use Rattle.std.proofs.Common.{ap, ◌∙◌}
-use Rattle.lis_tree.specs.inside.Begun.{Begun}
+use Rattle.lis_tree.specs.Begun.{Begun}
 use Rattle.lis_tree.specs.inside.Front.{front_level}
 use Rattle.lis_tree.specs.Level.{misplaced}
 use Rattle.lis_tree.proofs.Levels.{front_misplaced}

@@ -1,6 +1,6 @@
 use Rattle.std.proofs.Common.{IsOk, arith, rules, drop, length-drop, subst, sym}
 use Rattle.std.proofs.lemmas.List.{take_rest, drop-drop, drop_all}
-use Rattle.lis_link.specs.inside.Stands.{IsIn}
+use Rattle.lis_link.specs.Stands.{IsIn}
 use Rattle.lis_world.specs.World.{hears}
 use Rattle.lis_world.specs.inside.Playing.{desk_at}
 use Rattle.lis_world.proofs.PlayingLaws.{IsHearing, hearing_next, heard_all, with_receiver}

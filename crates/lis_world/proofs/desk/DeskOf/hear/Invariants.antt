@@ -1,7 +1,7 @@
 use Rattle.std.proofs.Common.{◌-◌, ◌≤◌, drop, length}
 use Rattle.lis_frame.specs.Stream.{signals_after}
 use Rattle.lis_link.specs.Receiver.{ReceiverState}
-use Rattle.lis_link.specs.inside.Stands.{IsIn}
+use Rattle.lis_link.specs.Stands.{IsIn}
 use Rattle.lis_world.specs.World.{hears}
 use Rattle.lis_world.specs.inside.Playing.{desk_at, OnlyLoad}
 use Rattle.lis_world.proofs.PlayingLaws.{IsHearing}

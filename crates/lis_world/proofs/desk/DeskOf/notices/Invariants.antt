@@ -1,7 +1,7 @@
 use Rattle.std.proofs.Common.{drop}
 use Rattle.lis_frame.specs.Stream.{signals_after}
 use Rattle.lis_link.specs.Receiver.{ReceiverState}
-use Rattle.lis_link.specs.inside.Stands.{IsIn}
+use Rattle.lis_link.specs.Stands.{IsIn}
 use Rattle.lis_world.specs.Steps.{is_noticed}
 use Rattle.lis_world.specs.inside.Playing.{IsNoticing}
 use Rattle.lis_world.proofs.desk.DeskOf.notices.Given as goal

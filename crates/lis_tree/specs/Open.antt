@@ -4,7 +4,7 @@ use Rattle.std.specs.List.{AllByRecursion}
 use Rattle.lis_field.specs.Delimiters.{DelimiterBytes, IsDelimiters}
 use Rattle.lis_field.specs.Shape.{IsRecordShape}
 use Rattle.lis_tree.specs.declared.tree.Group.{Group}
-use Rattle.lis_tree.specs.inside.Front.{IsFront, front_records}
+use Rattle.lis_tree.specs.Front.{IsFront, front_records}
 use Rattle.lis_tree.specs.Nodes.{Branch}
 use Rattle.lis_text.specs.Capped.{capped}
 

@@ -1,0 +1,30 @@
+-- What a reader of captures keeps after one more line, or after more bytes of a line.
+use Rattle.std.specs.Prelude.{ℕ, ◌+◌, nat_lt, Bool, true, List, ◌++◌, length, Option, None, Some, if◌then◌else◌}
+use Rattle.lis_text.specs.Capped.{capped}
+use Rattle.lis_capture.specs.declared.line.Line.{Line}
+use Rattle.lis_capture.specs.declared.reader.Found.{Found}
+use Rattle.lis_capture.specs.declared.reader.Found.TheVariants as found
+use Rattle.lis_capture.specs.Line.{longest_line, version_after}
+use Rattle.lis_capture.specs.Reader.{Known, Reading}
+
+-- a line more, by what it says
+abbrev pub known_with : Known → Option Line → Known
+known_with known None = record known { refused = true; number = capped (known.number + 1) }
+known_with known (Some line) =
+    record known { version = version_after known.version line; number = capped (known.number + 1); line = line }
+
+abbrev pub found_of : Option Line → Found
+found_of None = found.Refused
+found_of (Some line) = found.Line
+
+-- bytes of a line that doesn't end in them: at most so many that the line isn't too long
+abbrev pub is_long : List ℕ → Bool
+is_long text = nat_lt longest_line (length text)
+
+abbrev pub holding_more : Reading → List ℕ → Reading
+holding_more r text =
+    if is_long (r.held ++ text) then record r { known = known_with r.known None }
+    else record r { held = r.held ++ text }
+
+abbrev pub found_holding : List ℕ → Found
+found_holding text = if is_long text then found.Refused else found.Nothing
