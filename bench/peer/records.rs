@@ -282,7 +282,7 @@ pub fn escape_length(text: &[u8], escape: u8) -> Option<usize> {
 
 /// A field's spelling: as it stands but for an escape byte that begins no escape, and for hexadecimal escapes, of
 /// which each byte gets one of its own in lower case.
-fn put_spelling(field: &[u8], escape: u8, spelling: &mut Lines) {
+fn put_encoding(field: &[u8], escape: u8, spelling: &mut Lines) {
     let mut rest = field;
     while let Some(place) = rest.iter().position(|byte| *byte == escape) {
         let (plain, escaped) = rest.split_at(place);
@@ -309,7 +309,7 @@ impl Command for Results {
         match record.kind {
             b'O' => {
                 self.order.clear();
-                put_spelling(record.field(3).unwrap_or_default(), escape, &mut self.order);
+                put_encoding(record.field(3).unwrap_or_default(), escape, &mut self.order);
             }
             b'R' => {
                 self.lines.put(self.order.as_slice());
@@ -320,7 +320,7 @@ impl Command for Results {
                     self.lines.put(&[field]);
                     let field = fields.as_mut().and_then(|fields| fields.nth(passed)).unwrap_or_default();
                     if escaped {
-                        put_spelling(field, escape, &mut self.lines);
+                        put_encoding(field, escape, &mut self.lines);
                     } else {
                         self.lines.put(field);
                     }

@@ -1,7 +1,7 @@
 """No document and no name or comment of the crates has a word of docs/words.table, outside code and quotations; each
 page and each crate is a check.
 
-In a crate a name is looked at part by part: `read_behind` has the parts `read` and `behind`. Names of the kit and of the
+In a crate a name is looked at part by part: `read_after` has the parts `read` and `behind`. Names of the kit and of the
 C interface are not ours, and strings are what a program prints.
 """
 import bisect

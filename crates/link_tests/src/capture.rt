@@ -1,12 +1,13 @@
-//! Captures whose lines are known from outside: how far each is read, however it is cut. The room of a page.
+//! Captures whose lines are known from outside: how far each is read, however it is split. The room of an
+//! output buffer.
 
 ghost use Rattle.std.specs.Prelude.{◌≤◌};
 
 use lis_capture::*;
-use lis_engine::{PAGE_ROOM, Page};
+use lis_engine::{OUTPUT_ROOM, OutputBuffer};
 use std::process::Abort;
 
-/// The number of the last line of a capture that is read in pieces of at most `step` bytes, and whether it is refused.
+/// The number of the last line of a capture that is read in pieces of at most `step` bytes, and whether it is rejected.
 fn last_line(capture: &[u8], step: usize) -> (u64, bool)
     requires { 1 ≤ step }
 {
@@ -16,19 +17,19 @@ fn last_line(capture: &[u8], step: usize) -> (u64, bool)
         for _ in 0..=piece.len() {
             let (taken, found) = reader.read(rest);
             match found {
-                Found::Nothing => break,
-                Found::Line => {}
-                Found::Refused => return (reader.number(), true),
+                LineFound::Nothing => break,
+                LineFound::Line => {}
+                LineFound::Refused => return (reader.number(), true),
             }
-            let (_, behind) = rest.split_at(taken);
-            rest = behind;
+            let (_, following) = rest.split_at(taken);
+            rest = following;
         }
     }
-    let is_refused = reader.finish() == Found::Refused;
+    let is_refused = reader.finish() == LineFound::Refused;
     (reader.number(), is_refused)
 }
 
-/// Captures, each with the number of the line that is refused, or of its last one.
+/// Captures, each with the number of the line that is rejected, or of its last one.
 const CAPTURES: [(&[u8], (u64, bool)); 25] = [
     (b"", (0, false)),
     (b"T", (1, false)),
@@ -60,7 +61,7 @@ const CAPTURES: [(&[u8], (u64, bool)); 25] = [
     (b"T\r\r\n", (1, true)),
 ];
 
-/// Fails where a capture's last line has another number, or is refused and should not be, or the other way round.
+/// Fails where a capture's last line has another number, or is rejected and should not be, or the other way round.
 fn assert_read(rt: &impl Abort, capture: &[u8], want: (u64, bool)) {
     for step in [1, 2, 3, 7, 4096] {
         assert!(rt; last_line(capture, step) == want);
@@ -75,20 +76,20 @@ fn lines_of_both_versions(rt: HostRuntime) {
 }
 
 #[test]
-fn behind_a_refused_line_nothing_is_read(rt: HostRuntime) {
+fn after_a_refused_line_nothing_is_read(rt: HostRuntime) {
     let mut reader = LineReader::new();
-    assert!(rt; reader.read(b"> 4z\nT\n") == (5, Found::Refused));
-    assert!(rt; reader.read(b"T\n") == (0, Found::Refused));
-    assert!(rt; reader.finish() == Found::Refused);
-    assert!(rt; (reader.number(), reader.version()) == (1, CaptureVersion::Untold));
+    assert!(rt; reader.read(b"> 4z\nT\n") == (5, LineFound::Refused));
+    assert!(rt; reader.read(b"T\n") == (0, LineFound::Refused));
+    assert!(rt; reader.finish() == LineFound::Refused);
+    assert!(rt; (reader.number(), reader.version()) == (1, CaptureVersion::Unsaid));
 }
 
 #[test]
-fn the_room_of_a_page_is_what_is_left(rt: HostRuntime) {
-    let mut page = Page::new();
-    page.append(b"abc");
-    assert!(rt; page.room() == PAGE_ROOM - 3);
-    assert!(rt; page.as_slice() == b"abc".as_slice());
-    page.clear();
-    assert!(rt; page.room() == PAGE_ROOM);
+fn the_room_of_an_output_buffer_is_what_is_left(rt: HostRuntime) {
+    let mut outgoing = OutputBuffer::new();
+    outgoing.append(b"abc");
+    assert!(rt; outgoing.room() == OUTPUT_ROOM - 3);
+    assert!(rt; outgoing.as_slice() == b"abc".as_slice());
+    outgoing.clear();
+    assert!(rt; outgoing.room() == OUTPUT_ROOM);
 }

@@ -1,4 +1,4 @@
-//! Ports over a reader or a writer that fails at one call and works again behind it: a call that was made again would
+//! Ports over a reader or a writer that fails at one call and works again after it: a call that was made again would
 //! be seen to succeed.
 
 use lis_port::{Buffered, Faltering, Once, ReadAhead, Reading, Sink, Source, Writing, read_sent};
@@ -42,7 +42,7 @@ fn a_faltering_writer_fails_at_a_flush(rt: HostRuntime) {
 }
 
 #[test]
-fn an_interrupted_write_is_told_once(rt: HostRuntime) {
+fn an_interrupted_write_is_reported_once(rt: HostRuntime) {
     let mut room = [0; 4];
     let mut writer = Once::new(Faltering::new(room.as_mut_slice(), 0, ErrorKind::Interrupted));
     let failed = writer.write(b"ab");
@@ -53,17 +53,17 @@ fn an_interrupted_write_is_told_once(rt: HostRuntime) {
 }
 
 #[test]
-fn a_flush_that_fails_is_told_once(rt: HostRuntime) {
+fn a_flush_that_fails_is_reported_once(rt: HostRuntime) {
     let kinds = [
         (ErrorKind::Interrupted, ErrorKind::Other),
         (ErrorKind::BrokenPipe, ErrorKind::BrokenPipe),
     ];
-    for (kind, told) in &kinds {
+    for (kind, reported) in &kinds {
         let mut room = [0; 4];
         let mut writer = Once::new(Faltering::new(room.as_mut_slice(), 1, *kind));
         assert!(rt; matches!(writer.write(b"ab"), Ok(2)));
         let failed = writer.flush();
-        assert!(rt; failed.is_err_and(|error| error.kind() == *told));
+        assert!(rt; failed.is_err_and(|error| error.kind() == *reported));
         assert!(rt; writer.flush().is_ok());
     }
 }
@@ -98,7 +98,7 @@ fn a_sink_fails_where_its_writer_takes_nothing(rt: HostRuntime) {
 }
 
 #[test]
-fn a_sink_tells_whether_its_flush_failed(rt: HostRuntime) {
+fn a_sink_reports_whether_its_flush_failed(rt: HostRuntime) {
     let mut room = [0; 4];
     let writer = Faltering::new(room.as_mut_slice(), 1, ErrorKind::BrokenPipe);
     let mut sink = Writing::new(writer);
@@ -122,7 +122,7 @@ fn a_source_that_reads_ahead_reads_once(rt: HostRuntime) {
 }
 
 #[test]
-fn a_source_that_reads_ahead_tells_its_end(rt: HostRuntime) {
+fn a_source_that_reads_ahead_reports_its_end(rt: HostRuntime) {
     let mut buffer = [0; 2];
     let reader = BufReader::with_capacity(rt.alloc(), 4, b"abc".as_slice());
     let mut source = ReadAhead::new(reader.expect(&rt, "memory"));
@@ -135,7 +135,7 @@ fn a_source_that_reads_ahead_tells_its_end(rt: HostRuntime) {
 }
 
 #[test]
-fn a_read_behind_what_was_sent_is_made_once(rt: HostRuntime) {
+fn a_read_after_what_was_sent_is_made_once(rt: HostRuntime) {
     let mut buffer = [0; 4];
     let mut room = [0; 4];
     let sink = Writing::new(room.as_mut_slice());

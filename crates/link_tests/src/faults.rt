@@ -9,16 +9,16 @@ use std::process::Abort;
 
 /// Fails where a fault says something else of itself.
 fn assert_says<T: Display>(rt: &impl Abort, alloc: Global, fault: &T, want: &str) {
-    let told = format!(in alloc; "{fault}").expect(rt, "memory");
-    assert!(rt; told.as_str() == want);
-    drop(told);
+    let reported = format!(in alloc; "{fault}").expect(rt, "memory");
+    assert!(rt; reported.as_str() == want);
+    drop(reported);
 }
 
 #[test]
 fn faults_of_texts_say_what_is_wrong(rt: HostRuntime) {
     let alloc = rt.alloc();
     assert_says(&rt, alloc, &TextFault::TooLong, "the text is too long");
-    let forbidden = "the byte at place 3 may not stand in a text";
+    let forbidden = "the byte at place 3 may not be in a text";
     assert_says(&rt, alloc, &TextFault::Forbidden(3), forbidden);
 }
 
@@ -41,7 +41,7 @@ fn faults_of_frames_say_what_is_wrong(rt: HostRuntime) {
     assert_says(&rt, alloc, &FrameFault::Shape, shape);
     let number = "the frame's number is no digit from 0 to 7 [F3]";
     assert_says(&rt, alloc, &FrameFault::Number, number);
-    let text = "the byte at place 5 of the frame's text may not stand in a text [F4]";
+    let text = "the byte at place 5 of the frame's text may not be in a text [F4]";
     assert_says(&rt, alloc, &FrameFault::Text(5), text);
     let sum = "the checksum is not that of the frame [F5]";
     assert_says(&rt, alloc, &FrameFault::Sum, sum);
@@ -54,7 +54,7 @@ fn texts_that_come_back_say_why(rt: HostRuntime) {
     assert_says(&rt, alloc, &full, "a session has 65536 texts at most");
     drop(full);
     let starved = TextRefused::OutOfMemory(LinkText::new(alloc));
-    assert_says(&rt, alloc, &starved, "memory was refused");
+    assert_says(&rt, alloc, &starved, "memory ran out");
     drop(starved);
 }
 

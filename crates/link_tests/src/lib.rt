@@ -1,6 +1,6 @@
 //! Tests over the public calls of ports, texts, frames, the link and captures: what no contract, no conformance row and
 //! no test of the programs says.
-//! They stand in a crate of their own, as a crate that has tests is proved once more with them.
+//! They are in a crate of their own, as a crate that has tests is proved once more with them.
 #![tactic(auto)]
 
 #[cfg(test)]

@@ -14,9 +14,9 @@ fn texts_are_at_most_65536(rt: HostRuntime) {
             Err(TextRefused::Full(_))
         )
     );
-    let told = (texts.len(), texts.get(65_535).is_some());
+    let reported = (texts.len(), texts.get(65_535).is_some());
     drop(texts);
-    assert!(rt; told == (65_536, true));
+    assert!(rt; reported == (65_536, true));
 }
 
 #[test]

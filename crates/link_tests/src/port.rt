@@ -24,7 +24,7 @@ fn an_interrupted_write_is_not_made_again(rt: HostRuntime) {
 }
 
 #[test]
-fn a_flush_is_handed_on_once(rt: HostRuntime) {
+fn a_flush_is_passed_on_once(rt: HostRuntime) {
     let mut room = [0; 2];
     let writer = Faltering::new(room.as_mut_slice(), 1, ErrorKind::Interrupted);
     let mut sink = Writing::new(writer);
@@ -34,7 +34,7 @@ fn a_flush_is_handed_on_once(rt: HostRuntime) {
 }
 
 #[test]
-fn a_source_that_reads_ahead_hands_back_what_is_left(rt: HostRuntime) {
+fn a_source_that_reads_ahead_gives_back_what_is_left(rt: HostRuntime) {
     let mut buffer = [0; 3];
     let reader = BufReader::with_capacity(rt.alloc(), 4, b"abcdef".as_slice());
     let mut source = ReadAhead::new(reader.expect(&rt, "memory"));

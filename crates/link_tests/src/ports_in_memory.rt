@@ -31,7 +31,7 @@ fn a_cut_source_gives_its_steps(rt: HostRuntime) {
 }
 
 #[test]
-fn a_cut_source_fails_or_repeats_a_byte_behind_its_bytes(rt: HostRuntime) {
+fn a_cut_source_fails_or_repeats_a_byte_after_its_bytes(rt: HostRuntime) {
     let mut buffer = [0; 4];
     let mut source = Cut::new(b"a", 1, Then::Again(b'z'));
     assert!(rt; source.read(&mut buffer) == Ok(1));

@@ -9,7 +9,7 @@ use std::process::Abort;
 /// An ENQ and an intermediate frame with the text `A`.
 const BEGUN: [u8; 9] = *b"\x05\x021A\x1789\r\n";
 
-/// Fails where a receiver isn't open with one byte held behind these.
+/// Fails where a receiver isn't open with one byte held after these.
 fn begin(rt: &impl Abort, receiver: &mut Receiver) {
     for byte in &BEGUN {
         drop(receiver.byte(*byte));
@@ -28,7 +28,7 @@ fn a_text_that_comes_back_leaves_what_is_held(rt: HostRuntime) {
 }
 
 #[test]
-fn a_timer_is_told_and_closes_the_line(rt: HostRuntime) {
+fn a_timer_is_reported_and_closes_the_line(rt: HostRuntime) {
     let mut receiver = Receiver::new(rt.alloc());
     begin(&rt, &mut receiver);
     assert!(rt; matches!(receiver.timer().note, Note::TimedOut));
@@ -56,11 +56,11 @@ fn texts_of_frames_are_equal_by_their_bytes(rt: HostRuntime) {
 }
 
 #[test]
-fn a_whole_frame_is_lent_at_once(rt: HostRuntime) {
+fn a_whole_frame_is_borrowed_at_once(rt: HostRuntime) {
     let text = Text::from_slice(&[0x41; 240]).ok().expect(&rt, "a text");
     let frame = Frame::new(1, true, text).expect(&rt, "a frame");
     let bytes = frame_bytes(&frame);
-    let (count, lent) = Scanner::new().scan(bytes.as_slice());
+    let (count, borrowed) = Scanner::new().scan(bytes.as_slice());
     assert!(rt; count == 247);
-    assert!(rt; lent.is_some_and(|frame| frame.is_last() && frame.text().len() == 240));
+    assert!(rt; borrowed.is_some_and(|frame| frame.is_last() && frame.text().len() == 240));
 }

@@ -4,10 +4,10 @@ ghost use Rattle.lis_frame.specs.Limit.{IsLimit};
 use lis_frame::{FrameFault, Heard, ScannerOf};
 use std::process::Abort;
 
-/// What an observer counts: the signals and the bytes of good frames' texts, beside the last fault.
+/// What an observer counts: the signals and the bytes of good frames' texts, next to the last fault.
 type Count = (usize, usize, Option<FrameFault>);
 
-/// The count behind one signal more.
+/// The count after one signal more.
 fn counted(count: Count, heard: &Heard<'_>) -> Count {
     let (signals, bytes, fault) = count;
     let signals = signals.saturating_add(1);
@@ -18,13 +18,13 @@ fn counted(count: Count, heard: &Heard<'_>) -> Count {
     }
 }
 
-/// The count behind bytes that are scanned in one piece.
+/// The count after bytes that are scanned in one piece.
 fn scanned<const N: usize>(scanner: &mut ScannerOf<N>, bytes: &[u8], before: Count) -> Count {
     let mut count = before;
     let mut rest = bytes;
     // Each turn reads a byte at least.
     for _turn in 0..bytes.len() {
-        let Some((byte, behind)) = rest.split_first() else {
+        let Some((byte, following)) = rest.split_first() else {
             break;
         };
         let (read, frame) = scanner.scan(rest);
@@ -36,24 +36,24 @@ fn scanned<const N: usize>(scanner: &mut ScannerOf<N>, bytes: &[u8], before: Cou
             rest = left;
             continue;
         }
-        if let Some(heard) = scanner.told(*byte) {
+        if let Some(heard) = scanner.peek(*byte) {
             count = counted(count, &heard);
         }
         scanner.take(*byte);
-        rest = behind;
+        rest = following;
     }
     count
 }
 
-/// Fails where a new scanner tells otherwise of a stream, somewhere that it is cut in two.
+/// Fails where a new scanner reports otherwise of a stream, somewhere that it is split in two.
 fn assert_cut<const N: usize>(rt: &impl Abort, stream: &[u8], want: Count)
     requires { IsLimit N }
 {
     for place in 0..stream.len() {
-        let (front, behind) = stream.split_at(place);
+        let (front, following) = stream.split_at(place);
         let mut scanner = ScannerOf::<N>::new();
         let count = scanned(&mut scanner, front, (0, 0, None));
-        assert!(rt; scanned(&mut scanner, behind, count) == want);
+        assert!(rt; scanned(&mut scanner, following, count) == want);
     }
 }
 
@@ -71,11 +71,11 @@ fn frame_of_241() -> [u8; 248] {
 }
 
 #[test]
-fn scanning_pieces_tells_what_the_stream_tells(rt: HostRuntime) {
+fn scanning_pieces_reports_what_the_stream_reports(rt: HostRuntime) {
     let session = b"\x05noise\x02torn\x02\n\x021H|\\^&\r\x03e5\r\n";
-    let told = (3, 6, Some(FrameFault::Shape));
-    assert_cut::<240>(&rt, session, told);
-    assert_cut::<63_993>(&rt, session, told);
+    let reported = (3, 6, Some(FrameFault::Shape));
+    assert_cut::<240>(&rt, session, reported);
+    assert_cut::<63_993>(&rt, session, reported);
     let long = frame_of_241();
     assert_cut::<240>(&rt, &long, (1, 0, Some(FrameFault::TooLong)));
     assert_cut::<63_993>(&rt, &long, (1, 241, None));

@@ -11,7 +11,7 @@ use std::process::Abort;
 /// The second frame of 241 letters A.
 const SECOND: &[u8] = b"\x022A\x0376\r\n";
 
-/// Fails where a sink isn't told to have taken so much of the frame, or has taken another part.
+/// Fails where a sink isn't reported to have taken so much of the frame, or has taken another part.
 fn assert_put(rt: &impl Abort, frame: &Frame, sink: Slow, put: Result<(), usize>)
     requires { sink.failed ≡ false }
 {
@@ -74,7 +74,7 @@ fn the_longest_frame_is_made_and_taken_at_once(rt: HostRuntime) {
     assert_taken(&rt, &mut receiver, first, (64_000, b"\x1781\r\n", 1));
     assert_taken(&rt, &mut receiver, second, (8, SECOND, 2));
     drop(frames);
-    let told = (receiver.accepted(), receiver.held());
+    let reported = (receiver.accepted(), receiver.held());
     drop(receiver);
-    assert!(rt; told == (2, 0));
+    assert!(rt; reported == (2, 0));
 }

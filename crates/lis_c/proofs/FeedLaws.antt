@@ -12,15 +12,15 @@ use Rattle.lis_frame.specs.Scanner.{Held, StandsFor}
 use Rattle.lis_frame.specs.Stream.{signal_after, signals_after, stream_with, with_signal}
 use Rattle.lis_frame.proofs.StreamLaws.{signals_after-append}
 use Rattle.lis_link.proofs.HearingLaws.{frame_ends, stream_with-append}
-use Rattle.lis_c.specs.Feeding.{TellsLast}
+use Rattle.lis_c.specs.Feeding.{SignalsLast}
 
 -- one byte
 pub one_byte : (limit : ℕ) (past bytes : List ℕ) → 0 < length bytes →
-    TellsLast limit past bytes 1 (signal_after limit past (get_or bytes 0 0))
+    SignalsLast limit past bytes 1 (signal_after limit past (get_or bytes 0 0))
 one_byte limit past [] some = absurd (omega (some, arith))
 one_byte limit past (b ∷ bytes) some = record {
   within = omega arith;
-  tells = by (signal_after limit past b);
+  reports = by (signal_after limit past b);
   before = refl;
 }
   where
@@ -44,7 +44,7 @@ signals-front limit past (x ∷ xs) ys none =
 
 -- a run that gives no signal
 pub silent_run : (limit : ℕ) (past bytes : List ℕ) (count : ℕ) → count ≤ length bytes →
-    signals_after limit past (take count bytes) ≡ [] → TellsLast limit past bytes count None
+    signals_after limit past (take count bytes) ≡ [] → SignalsLast limit past bytes count None
 silent_run limit past bytes count within silent =
     let run = take count bytes in
     let split : signals_after limit past (take (count - 1) run ++ drop (count - 1) run) ≡ [] =
@@ -52,14 +52,14 @@ silent_run limit past bytes count within silent =
     let shorter = take-take (count - 1) count bytes (omega arith) in
     record {
       within = within;
-      tells = silent;
+      reports = silent;
       before = rw shorter at (signals-front limit past (take (count - 1) run) (drop (count - 1) run) split);
     }
 
 -- a whole frame
 pub whole_frame : (limit : ℕ) (past bytes : List ℕ) (count : ℕ) (frame : FrameContent) → count ≤ length bytes →
     IsFrame limit (take count bytes) frame → signals_after limit past (take count bytes) ≡ Good frame ∷ [] →
-    TellsLast limit past bytes count (Some (Good frame))
+    SignalsLast limit past bytes count (Some (Good frame))
 whole_frame limit past bytes count frame within is_frame signals =
     let ends = frame_ends limit past (take count bytes) frame is_frame signals in
     let long : length ends.before + 1 ≡ count =
@@ -69,16 +69,16 @@ whole_frame limit past bytes count frame within is_frame signals =
     let shorter = take-take (count - 1) count bytes (omega arith) in
     record {
       within = within;
-      tells = signals;
+      reports = signals;
       before = ap (signals_after limit past) (sym shorter ∙ front) ∙ ends.silent;
     }
 
--- the signal behind bytes that give none
-pub behind_silent : (limit : ℕ) (past bytes : List ℕ) (count more : ℕ) (signal : Option (SignalOf limit)) →
+-- the signal after bytes that give none
+pub following_silent : (limit : ℕ) (past bytes : List ℕ) (count more : ℕ) (signal : Option (SignalOf limit)) →
     count ≤ length bytes → 0 < more → signals_after limit past (take count bytes) ≡ [] →
-    TellsLast limit (stream_with past (take count bytes)) (drop count bytes) more signal →
-    TellsLast limit past bytes (count + more) signal
-behind_silent limit past bytes count more signal within some silent told =
+    SignalsLast limit (stream_with past (take count bytes)) (drop count bytes) more signal →
+    SignalsLast limit past bytes (count + more) signal
+following_silent limit past bytes count more signal within some silent reported =
     let front = take count bytes in
     let joined : (n : ℕ) → signals_after limit past (take (count + n) bytes)
     ≡ signals_after limit (stream_with past front) (take n (drop count bytes)) =
@@ -87,17 +87,17 @@ behind_silent limit past bytes count more signal within some silent told =
     ∙ ap (λ xs. xs ++ signals_after limit (stream_with past front) (take n (drop count bytes))) silent in
     let less : count + more - 1 ≡ count + (more - 1) = omega (some, arith) in
     record {
-      within = omega (told.within, length-drop count bytes, within, arith);
-      tells = joined more ∙ told.tells;
-      before = ap (λ n. signals_after limit past (take n bytes)) less ∙ joined (more - 1) ∙ told.before;
+      within = omega (reported.within, length-drop count bytes, within, arith);
+      reports = joined more ∙ reported.reports;
+      before = ap (λ n. signals_after limit past (take n bytes)) less ∙ joined (more - 1) ∙ reported.before;
     }
 
--- the scanner stands for all that was read
-pub stands_behind : (limit : ℕ) (past bytes : List ℕ) (count more : ℕ) (held : Held) →
+-- the scanner represents all that was read
+pub represents_following : (limit : ℕ) (past bytes : List ℕ) (count more : ℕ) (held : Held) →
     StandsFor limit held (stream_with (stream_with past (take count bytes)) (take more (drop count bytes))) →
     StandsFor limit held (stream_with past (take (count + more) bytes))
-stands_behind limit past bytes count more held stands =
+represents_following limit past bytes count more held represents =
     subst (λ xs. StandsFor limit held xs)
     (sym (stream_with-append (take count bytes) (take more (drop count bytes)) past)
     ∙ ap (stream_with past) (sym (take-add count more bytes)))
-    stands
+    represents

@@ -1,5 +1,5 @@
--- What stands in a block of the caller's, whatever it is, is begun there, lent, and let go: a walk for `_init`, one
--- for `lend` and one for `_end`.
+-- What is in a block of the caller's, whatever it is, is begun there, borrowed, and released: a walk for `_init`, one
+-- for `borrow` and one for `_end`.
 -- Each begins with the function's code and contract over a handle, which those of the five handles are by
 -- computation. So a change of one of these functions is a change of all five.
 use Rattle.lis_c.specs.New.{IsNew}
@@ -56,7 +56,7 @@ use types.Part.{whole, sub, look_in}
 use types.Run.{enter, of_opd, unit_lit, addr, load, look, stop, fld, init, assigns, first, blocks, exec, no_more}
 use types.Run.{and_then, returns}
 
--- a handle: a pointer, and what lies behind it
+-- a handle: a pointer, and what it points to
 pub record Handle : Type 2 where
   pub type : Owning
   pub row : RattleType
@@ -66,7 +66,7 @@ pub record Handle : Type 2 where
   pub make : Ptr → row.Denot → type.D
   pub made : (p : Ptr) (w : row.Denot) → ◌≡◌ {A = Ptr × row.Denot} (at (make p w), state (make p w)) (p, w)
 
--- a handle by its type, the laws of what lies behind it, and how it is taken apart and made
+-- a handle by its type, the laws of what it points to, and how it is taken apart and made
 abbrev pub handle : (type : Owning) {row : RattleType} → Laws row → (parts : type.D → Ptr × row.Denot)
     (make : Ptr → row.Denot → type.D) → ((p : Ptr) (w : row.Denot) → parts (make p w) ≡ (p, w)) → Handle
 handle type {row = row} laws parts make made =
@@ -81,7 +81,7 @@ handle type {row = row} laws parts make made =
     }
 
 module _ (E : Handle) where
-  -- its type: a pointer for a field, and what lies at it is owned beside it
+  -- its type: a pointer for a field, and what lies at it is owned next to it
   abbrev owned : Owning
   owned = record {
     name = E.type.name;
@@ -110,7 +110,7 @@ module _ (E : Handle) where
 abbrev word : Ptr → Val
 word p = vstruct (vcons (ptr_val p) vnil)
 
--- what lies behind a pointer is of its type's one layout
+-- what a pointer points to is of its type's one layout
 typed : (T : RattleType) → Laws T → {M : Type 1} {𝓤 : Ura M} (𝓛 : Logic 𝓤) (x : T.Denot) (v : Val) → Is T x (v ∷ [])
     → Holds (has_ty (lone T.mir) v) × WT v
 typed T laws 𝓛 x v is = (subst (λ (τs : List Ty). Typed τs (v ∷ [])) laws.one ((laws.lawful 𝓛).typed x (v ∷ []) is)).0
@@ -136,18 +136,18 @@ written n k τs e = record {
   body = e;
 }
 
--- ---- it is lent
+-- ---- it is borrowed
 module _ (E : Handle) where
-  abbrev lend_fn : Fn
-  lend_fn = written 1 1 (ty_ref (named 0) mut (T E).written.ty ∷ ty_ref (named 0) mut (R E).written.ty
+  abbrev borrow_fn : Fn
+  borrow_fn = written 1 1 (ty_ref (named 0) mut (T E).written.ty ∷ ty_ref (named 0) mut (R E).written.ty
       ∷ ty_ref erased mut (T E).written.ty ∷ ty_ptr ∷ ty_ptr ∷ [])
       (seq (block (seq (assign (place 3 []) (rv_opd (copy (place 1 (deref (lone (R E).mir) ∷ field 0 ∷ [])))))
       (seq (assign (place 4 []) (rv_opd (copy (place 3 []))))
       (assign (place 2 []) (addr_of (place 4 (deref (lone (T E).mir) ∷ [])))))))
       (seq (assign (place 0 []) (rv_opd (copy (place 2 [])))) return))
 
-  abbrev lend_ended : Ended
-  lend_ended =
+  abbrev borrow_ended : Ended
+  borrow_ended =
       record {
         signature =
             record {
@@ -160,16 +160,16 @@ module _ (E : Handle) where
         kept = (no, tt);
       }
 
-  abbrev lend_clauses : {M : Type 1} {𝓤 : Ura M} (𝓛 : Logic 𝓤) → Clauses 𝓤 lend_ended
-  lend_clauses {𝓤 = 𝓤} 𝓛 κs a = record {
+  abbrev borrow_clauses : {M : Type 1} {𝓤 : Ura M} (𝓛 : Logic 𝓤) → Clauses 𝓤 borrow_ended
+  borrow_clauses {𝓤 = 𝓤} 𝓛 κs a = record {
     ghost = Unit {0};
     requires = λ _. emp 𝓤;
     ensures = λ _ r _. sep 𝓤 (sem 𝓛 (follows (R E) (T E) a.0.ghost_name r.ghost_name (with E a.0.now)))
         (fact 𝓤 (r.now ≡ E.state a.0.now));
   }
 
-  abbrev lend_stays : Stays lend_ended.signature.params lend_ended.kept
-  lend_stays = (stay_dropped (mut_ref_to (0 ∷ []) tt (plain (λ _. R E))) no, tt)
+  abbrev borrow_stays : Stays borrow_ended.signature.params borrow_ended.kept
+  borrow_stays = (stay_dropped (mut_ref_to (0 ∷ []) tt (plain (λ _. R E))) no, tt)
 
 module _ (E : Handle) {M : Type 1} {𝓤 : Ura M} (𝓛 : Logic 𝓤) (h : E.type.D) (b o b' o' : ℕ) (us : List Val) where
   -- what the handle's fields own, and the handle's own memory
@@ -191,12 +191,13 @@ module _ (E : Handle) {M : Type 1} {𝓤 : Ura M} (𝓛 : Logic 𝓤) (h : E.typ
       move ! (0 ∷ 2 ∷ []) $ fjoin ! $ move ! (1 ∷ 0 ∷ []) $ fjoin ! $
       fpack ! (List Val) (λ vs. fsep (cell_at full_share (R E).mir vs b o) ((R E).own_val (with E h w) vs)) us $ done !
 
-pub lends : (E : Handle) {M : Type 1} (𝓤 : Ura M) (𝓛 : Logic 𝓤) (𝓜 : Model 𝓤 𝓛.H) (𝓡 : Running 𝓤 𝓛.H 𝓜) (k : Callee)
-    → IsCode 𝓤 𝓛 𝓜 𝓡 k (lend_fn E) → Keeps 𝓤 𝓛 𝓜 𝓡 k (lend_ended E) (lend_clauses E 𝓛)
-lends E 𝓤 𝓛 𝓜 𝓡 k closed =
-    let En = lend_ended E in let stayed = lend_stays E in let c = lend_clauses E 𝓛 in let W = walk_of 𝓛 En stayed c in
+pub borrows : (E : Handle) {M : Type 1} (𝓤 : Ura M) (𝓛 : Logic 𝓤) (𝓜 : Model 𝓤 𝓛.H) (𝓡 : Running 𝓤 𝓛.H 𝓜) (k : Callee)
+    → IsCode 𝓤 𝓛 𝓜 𝓡 k (borrow_fn E) → Keeps 𝓤 𝓛 𝓜 𝓡 k (borrow_ended E) (borrow_clauses E 𝓛)
+borrows E 𝓤 𝓛 𝓜 𝓡 k closed =
+    let En = borrow_ended E in let stayed = borrow_stays E in let c = borrow_clauses E 𝓛 in let W = walk_of 𝓛 En stayed
+    c in
     let 𝓣 = tables 𝓤 𝓛.H 𝓜 𝓡 𝓡.env in
-    proved 𝓛 En stayed c 𝓜 𝓡 (Goes-spent_ref 𝓛 1 (0 ∷ []) tt (plain (λ _. R E)), tt) k (lend_fn E) closed
+    proved 𝓛 En stayed c 𝓜 𝓡 (Goes-spent_ref 𝓛 1 (0 ∷ []) tt (plain (λ _. R E)), tt) k (borrow_fn E) closed
     (λ κs. (mut_vals, tt)) (λ κs. (mut_Tells (named 0) κs.0 (R E), tt)) (λ κs qs bounds a _ are.
     let κ = κs.0 in let q = qs.0 in let b = a.0.ref_ptr.0 in let o = a.0.ref_ptr.1 in let γ = a.0.ghost_name in
     let h = a.0.now in let vs = mut_vals a.0 in
@@ -211,13 +212,13 @@ lends E 𝓤 𝓛 𝓜 𝓡 k closed =
     let said = Tells-lowered (owned E) (RawPtr-laws, tt) h us is ∙ ap (λ (p : Ptr). word p ∷ []) e in
     rewrite ! 2 (λ (vs' : List Val). ‵ (cell_at full_share (R E).mir vs' b o)) said refl $
     rewrite ! 1 (λ (vs' : List Val). ‵ (Fields E 𝓛 h b o b' o' ws (E.at h) vs')) said refl $
-    -- [what is lent; what the fields own; the handle's cell; the open borrow; obs; auth]
+    -- [what is borrowed; what the fields own; the handle's cell; the open borrow; obs; auth]
     first ! $ blocks ! $
     sets ! (of_opd ! (load ! (through ! refl (fld ! refl (stop !))) (look_in ! 2 (sub ! 0 refl (whole !))))) refl
     (tt, tt) $
     sets ! (of_opd ! (get ! refl)) refl (tt, tt) $
     sets_last ! (addr ! (through ! refl (stop !))) refl (tt, tt) $
-    exec ! 𝓣.C 𝓣.Λ (env (lend_fn E).locals l) (after 1 (lend_fn E).body) (at_ret _ (W.post y)) $
+    exec ! 𝓣.C 𝓣.Λ (env (borrow_fn E).locals l) (after 1 (borrow_fn E).body) (at_ret _ (W.post y)) $
     sets ! (of_opd ! (get ! refl)) refl (tt, tt) $
     move ! (1 ∷ 2 ∷ []) $ fjoin ! $ move ! (2 ∷ 3 ∷ 4 ∷ 1 ∷ 0 ∷ []) $ group ! 5 $
     use1 𝓛 (later
@@ -355,7 +356,7 @@ module _ (E : Handle) where
   abbrev end_stays : Stays end_ended.signature.params end_ended.kept
   end_stays = (stay_dropped (plain (λ _. R E)) yes, tt)
 
-  -- what lets go of all that is kept
+  -- what releases all that is kept
   abbrev go_ended : Ended
   go_ended = spends (T E)
 

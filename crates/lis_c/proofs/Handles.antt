@@ -1,14 +1,14 @@
 -- The handles that C holds.
 use Rattle.lis_c.proofs.HandleLaws.{Handle, handle}
-use Rattle.lis_c.proofs.desk.ScannerDesk.TheLaws.{the_row_laws as scanner_laws}
+use Rattle.lis_c.proofs.handle_state.ScannerHandleState.TheLaws.{the_row_laws as scanner_laws}
 use Rattle.lis_c.specs.contracts.scanner.LisScanner.{the_type as scanner_type}
-use Rattle.lis_c.proofs.desk.SenderDesk.TheLaws.{the_row_laws as sender_laws}
+use Rattle.lis_c.proofs.handle_state.SenderHandleState.TheLaws.{the_row_laws as sender_laws}
 use Rattle.lis_c.specs.contracts.sender.LisSender.{the_type as sender_type}
-use Rattle.lis_c.proofs.desk.ReceiverDesk.TheLaws.{the_row_laws as receiver_laws}
+use Rattle.lis_c.proofs.handle_state.ReceiverHandleState.TheLaws.{the_row_laws as receiver_laws}
 use Rattle.lis_c.specs.contracts.receiver.LisReceiver.{the_type as receiver_type}
-use Rattle.lis_c.proofs.desk.ReaderDesk.TheLaws.{the_row_laws as reader_laws}
+use Rattle.lis_c.proofs.handle_state.ReaderHandleState.TheLaws.{the_row_laws as reader_laws}
 use Rattle.lis_c.specs.contracts.reader.LisReader.{the_type as reader_type}
-use Rattle.lis_c.proofs.draft.WriterDesk.TheLaws.{the_row_laws as writer_laws}
+use Rattle.lis_c.proofs.record_builder.WriterHandleState.TheLaws.{the_row_laws as writer_laws}
 use Rattle.lis_c.specs.contracts.writer.LisWriter.{the_type as writer_type}
 use Rattle.std.specs.Prelude.{refl}
 

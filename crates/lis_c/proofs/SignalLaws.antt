@@ -6,7 +6,7 @@ use Rattle.lis_frame.specs.declared.scanner.SignalOf.{SignalOf}
 use Rattle.lis_frame.specs.declared.scanner.SignalOf.TheVariants.{Enq, Eot, Good, Bad}
 use Rattle.lis_c.specs.inside.Feeding.{FedAndReported}
 use Rattle.lis_c.specs.inside.Reports.{IsReport, Reports}
-use Rattle.lis_c.specs.Signals.{FedAndTold, HasParts, TellsFrame, TellsSignal}
+use Rattle.lis_c.specs.Signals.{FedAndAnswered, HasParts, ReportsFrame, ReportsSignal}
 use Rattle.lis_c.specs.inside.Signals.{Puts, PutsLong}
 use Rattle.lis_c.specs.declared.feed.Report.{Report}
 use Rattle.lis_c.specs.declared.out.LisSignal.{LisSignal}
@@ -41,7 +41,7 @@ parts report out kind number last fault place bytes is puts = record {
 
 -- with the usual limit each text is in the signal
 pub usual : (signal : Option (SignalOf 240)) (report : Report) (out : LisSignal) →
-    Reports signal report out.text → Puts report out → TellsSignal signal out []
+    Reports signal report out.text → Puts report out → ReportsSignal signal out []
 usual None report out is puts = (parts _ _ _ _ _ _ _ _ is puts, refl)
 usual (Some Enq) report out is puts = (parts _ _ _ _ _ _ _ _ is puts, refl)
 usual (Some Eot) report out is puts = (parts _ _ _ _ _ _ _ _ is puts, refl)
@@ -90,14 +90,14 @@ long_parts report text out beside kind number last fault place bytes is puts man
     )
 
 pub long : (signal : Option (SignalOf 63993)) (report : Report) (text : List ℕ) (out : LisSignal) (beside : ℕ) →
-    Reports signal report text → PutsLong report text out beside → TellsSignal signal out (take beside text)
+    Reports signal report text → PutsLong report text out beside → ReportsSignal signal out (take beside text)
 long None report text out beside is puts = short_parts _ _ _ _ _ _ _ _ _ _ is puts (omega arith)
 long (Some Enq) report text out beside is puts = short_parts _ _ _ _ _ _ _ _ _ _ is puts (omega arith)
 long (Some Eot) report text out beside is puts = short_parts _ _ _ _ _ _ _ _ _ _ is puts (omega arith)
 long (Some (Good frame)) report text out beside is puts = by (nat_lt 240 (length frame.text)) refl
   where
     by : (more : Bool) → nat_lt 240 (length frame.text) ≡ more →
-        TellsFrame more frame.number frame.last frame.text out (take beside text)
+        ReportsFrame more frame.number frame.last frame.text out (take beside text)
     by true e =
         let all = long_parts _ _ _ _ _ _ _ _ _ _ is puts (grind (arith, nat_tests, e)) in
         record { parts_are = all.0; beside_is = all.1 }
@@ -108,12 +108,12 @@ long (Some (Bad fault)) report text out beside is puts = short_parts _ _ _ _ _ _
 
 -- and so it is with the first signal of bytes
 pub usual_fed : (past bytes : List ℕ) (count : ℕ) (report : Report) (out : LisSignal) →
-    FedAndReported 240 past bytes count report out.text → Puts report out → FedAndTold 240 past bytes count out []
+    FedAndReported 240 past bytes count report out.text → Puts report out → FedAndAnswered 240 past bytes count out []
 usual_fed past bytes count report out is puts =
-    record { signal = is.signal; fed = is.fed; told = usual is.signal report out is.reported puts }
+    record { signal = is.signal; fed = is.fed; answered = usual is.signal report out is.reported puts }
 
 pub long_fed : (past bytes : List ℕ) (count : ℕ) (report : Report) (text : List ℕ) (out : LisSignal) (beside : ℕ) →
     FedAndReported 63993 past bytes count report text → PutsLong report text out beside →
-    FedAndTold 63993 past bytes count out (take beside text)
+    FedAndAnswered 63993 past bytes count out (take beside text)
 long_fed past bytes count report text out beside is puts =
-    record { signal = is.signal; fed = is.fed; told = long is.signal report text out beside is.reported puts }
+    record { signal = is.signal; fed = is.fed; answered = long is.signal report text out beside is.reported puts }

@@ -1,4 +1,4 @@
--- The numbers that stand for what enums tell.
+-- The numbers that represent what enums report.
 use Rattle.std.specs.Prelude.{ℕ, Option, None, Some}
 use Rattle.lis_frame.specs.declared.frame.FrameFault.{FrameFault}
 use Rattle.lis_frame.specs.declared.frame.FrameFault.TheVariants as FrameFaults
@@ -26,7 +26,7 @@ fault_place FrameFaults.Number = 0
 fault_place (FrameFaults.Text place) = place
 fault_place FrameFaults.Sum = 0
 
--- where a sender stands
+-- where a sender is
 abbrev pub phase_code : Phase → ℕ
 phase_code Phases.Neutral = 0
 phase_code Phases.AwaitLine = 1

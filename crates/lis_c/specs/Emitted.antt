@@ -20,7 +20,7 @@ emitted_bytes (Emits.Frame frame) = frame_bytes frame
 abbrev pub fits_in : ℕ → List ℕ → List ℕ
 fits_in limit bytes = if nat_lt 240 limit && nat_lt 247 (length bytes) then [] else bytes
 
--- the caller's struct holds these bytes: its length is theirs, so that no byte behind them is read
+-- the caller's struct holds these bytes: its length is theirs, so that no byte after them is read
 pub record HoldsBytes (out : LisBytes) (bytes : List ℕ) : Type 0 where
   pub length_is : out.len ≡ length bytes
   pub bytes_are : take out.len out.bytes ≡ bytes

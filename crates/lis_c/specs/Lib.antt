@@ -1,8 +1,8 @@
--- What C is told: the numbers that stand for what enums tell, and what a block holds.
+-- What C gets: the numbers that represent what enums report, and what a block holds.
 pub mod Codes
 pub mod Emitted
 pub mod Feeding
-pub mod Lent
+pub mod Borrowed
 pub mod Limits
 pub mod Long
 pub mod New

@@ -3,7 +3,7 @@ use Rattle.std.specs.Prelude.{◌≡◌, ◌≢◌, ℕ, ◌⊎◌, List, [], if
 use Rattle.lis_frame.specs.Scanner.{Held, StandsFor}
 use Rattle.lis_link.specs.Receiver.{ReceiverState, new_receiver}
 use Rattle.lis_link.specs.Kept.{Kept}
-use Rattle.lis_link.specs.Stands.{IsIn}
+use Rattle.lis_link.specs.Representation.{IsIn}
 use Rattle.lis_c.specs.Status.{BAD_NUMBER, IN_SESSION, OK, OUT_OF_MEMORY}
 use Rattle.lis_c.specs.declared.receiving.AnyReceiver.{AnyReceiver}
 use Rattle.lis_c.specs.declared.receiving.AnyReceiver.TheVariants as receivers
@@ -15,7 +15,7 @@ use Rattle.lis_c.specs.declared.sending.AnySender.TheVariants as senders
 use Rattle.lis_c.specs.declared.scanning.AnyScanner.{AnyScanner}
 use Rattle.lis_c.specs.declared.scanning.AnyScanner.TheVariants as scanners
 
--- a limit was set: it is one of the two, and memory may be refused for the long one
+-- a limit was set: it is one of the two, and memory may run out for the long one
 abbrev pub LimitStatus : ℕ → ℕ → Type 0
 LimitStatus status limit =
     ((status ≡ BAD_NUMBER) × (limit ≢ 240) × (limit ≢ 63993))
@@ -35,7 +35,7 @@ abbrev pub scanner_text : AnyScanner → List ℕ
 scanner_text (scanners.Usual held) = []
 scanner_text (scanners.Long long) = long.value.text
 
--- it stands for a stream, newest byte first
+-- it represents a stream, newest byte first
 abbrev pub ScansFor : AnyScanner → List ℕ → Type 0
 ScansFor scanner past = StandsFor (scanner_limit scanner) (scanner_held scanner) past
 

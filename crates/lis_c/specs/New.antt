@@ -7,39 +7,40 @@ use prog.Memory.{align}
 use denote.Memory.{lone}
 use denote.RattleType.{RattleType}
 use Rattle.lis_link.specs.Sender.{new_sender}
-use Rattle.lis_field.specs.Delimiters.{usual}
+use Rattle.lis_record_values.specs.Delimiters.{usual}
 use Rattle.lis_c.specs.Limits.{NewReceiver, NewScanner, sender_limit, sender_state}
 use Rattle.lis_c.specs.Reading.{new_reader}
-use Rattle.lis_c.specs.contracts.draft.WriterDesk as writer_desk
-use Rattle.lis_c.specs.contracts.desk.ReaderDesk as reader_desk
-use Rattle.lis_c.specs.contracts.desk.ScannerDesk as scanner_desk
-use Rattle.lis_c.specs.contracts.desk.SenderDesk as sender_desk
-use Rattle.lis_c.specs.contracts.desk.ReceiverDesk as receiver_desk
+use Rattle.lis_c.specs.contracts.record_builder.WriterHandleState as writer_handle_state
+use Rattle.lis_c.specs.contracts.handle_state.ReaderHandleState as reader_handle_state
+use Rattle.lis_c.specs.contracts.handle_state.ScannerHandleState as scanner_handle_state
+use Rattle.lis_c.specs.contracts.handle_state.SenderHandleState as sender_handle_state
+use Rattle.lis_c.specs.contracts.handle_state.ReceiverHandleState as receiver_handle_state
 
 -- a value in a block, of which this holds
 abbrev pub IsNew : (T : RattleType) → (T.Denot → Type 0) → Ptr → Fml
 IsNew T P p = fex ((d : T.Denot) × P d) (λ d. lies_at T full_share p d.0)
 
--- a desk with a scanner of the usual limit that has read no byte
+-- a handle's state with a scanner of the usual limit that has read no byte
 abbrev pub IsNewScanner : Ptr → Fml
-IsNewScanner = IsNew scanner_desk.the_row (λ d. NewScanner 240 d.scanner)
+IsNewScanner = IsNew scanner_handle_state.the_row (λ d. NewScanner 240 d.scanner)
 
--- a desk with a sender of the usual limit that was never started, and no text
+-- a handle's state with a sender of the usual limit that was never started, and no text
 abbrev pub IsNewSender : Ptr → Fml
-IsNewSender = IsNew sender_desk.the_row (λ d. (sender_limit d.sender ≡ 240)
+IsNewSender = IsNew sender_handle_state.the_row (λ d. (sender_limit d.sender ≡ 240)
     × (sender_state d.sender ≡ new_sender) × (d.texts ≡ []))
 
--- a desk with a new receiver of the usual limit, which has reserved nothing, and no text
+-- a handle's state with a new receiver of the usual limit, which has reserved nothing, and no text
 abbrev pub IsNewReceiver : Ptr → Fml
-IsNewReceiver = IsNew receiver_desk.the_row (λ d. NewReceiver 240 d.receiver × (d.text ≡ []))
+IsNewReceiver = IsNew receiver_handle_state.the_row (λ d. NewReceiver 240 d.receiver × (d.text ≡ []))
 
--- a desk with a reader at the start of a stream
+-- a handle's state with a reader at the start of a stream
 abbrev pub IsNewReader : Ptr → Fml
-IsNewReader = IsNew reader_desk.the_row (λ d. d.reader ≡ new_reader)
+IsNewReader = IsNew reader_handle_state.the_row (λ d. d.reader ≡ new_reader)
 
--- a desk outside a message with the usual delimiters, and no text
+-- a handle's state outside a message with the usual delimiters, and no text
 abbrev pub IsNewWriter : Ptr → Fml
-IsNewWriter = IsNew writer_desk.the_row (λ d. (d.delimiters ≡ usual) × (d.standing ≡ None) × (d.draft ≡ None)
+IsNewWriter = IsNew writer_handle_state.the_row (λ d. (d.delimiters ≡ usual) × (d.position ≡ None)
+    × (d.record_builder ≡ None)
     × (d.texts ≡ []))
 
 abbrev pub type_align : RattleType → ℕ

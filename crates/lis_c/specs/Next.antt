@@ -1,16 +1,16 @@
--- What C is told of the next record of a stream, which is whole in the bytes, and of all its parts.
+-- What C gets of the next record of a stream, which is whole in the bytes, and of all its parts.
 use Rattle.std.specs.Prelude.{◌≡◌, ℕ, ◌++◌, ◌-◌, List, Option, drop, length, take}
-use Rattle.lis_field.specs.declared.kinds.Kind.{Kind}
-use Rattle.lis_field.specs.Delimiters.{DelimiterBytes}
-use Rattle.lis_field.specs.Shape.{RecordContent}
-use Rattle.lis_record.specs.Lent.{Lent}
+use Rattle.lis_record_values.specs.declared.kinds.Kind.{Kind}
+use Rattle.lis_record_values.specs.Delimiters.{DelimiterBytes}
+use Rattle.lis_record_values.specs.Shape.{RecordContent}
+use Rattle.lis_record.specs.Borrowed.{Borrowed}
 use Rattle.lis_tree.specs.Begun.{Begun}
-use Rattle.lis_message.specs.declared.records.Found.TheVariants as founds
+use Rattle.lis_message.specs.declared.records.RecordFound.TheVariants as founds
 use Rattle.lis_message.specs.Kept.{RecordsState}
 use Rattle.lis_message.specs.Records.{Reads}
 use Rattle.lis_table.specs.declared.table.LisPart.{LisPart}
 use Rattle.lis_table.specs.Table.{table_of}
-use Rattle.lis_c.specs.Reading.{told_record}
+use Rattle.lis_c.specs.Reading.{reported_record}
 use Rattle.lis_c.specs.Records.{delimiters_in}
 use Rattle.lis_c.specs.declared.next.LisTable.{LisTable}
 use Rattle.lis_c.specs.declared.reader.LisFound.{LisFound}
@@ -19,19 +19,19 @@ abbrev pub no_table : LisTable
 no_table = record { count = 0; len = 0; delimiters = record { field = 0; repeat = 0; component = 0; escape = 0 } }
 
 -- the table of a record's text is put to the front of an array, as far as that has room
-pub record TellsTable (d : DelimiterBytes) (kind : Kind) (text : List ℕ) (before after : List LisPart)
+pub record ReportsTable (d : DelimiterBytes) (kind : Kind) (text : List ℕ) (before after : List LisPart)
     (table : LisTable) : Type 0 where
   pub count_is : table.count ≡ length (table_of d kind text)
   pub len_is : table.len ≡ length text
   pub delimiters_are : delimiters_in table.delimiters ≡ d
   pub put : after ≡ take (length before) (table_of d kind text) ++ drop (length (table_of d kind text)) before
 
--- a record was read, so many bytes with its CR, and it is told with its parts
+-- a record was read, so many bytes with its CR, and it is reported with its parts
 pub record ReadsNext (before after : RecordsState) (left : Option Begun) (bytes : List ℕ) (count : ℕ) (out : LisFound)
     (parts_before parts : List LisPart) (table : LisTable) : Type 0 where
-  pub behind : List ℕ
-  pub entry : Lent RecordContent
-  pub reads : Reads before after left bytes behind (founds.Record entry)
-  pub count_is : count ≡ length bytes - length behind
-  pub told : out ≡ told_record entry.content
-  pub parts_are : TellsTable entry.delimiters entry.content.kind (take (count - 1) bytes) parts_before parts table
+  pub following : List ℕ
+  pub entry : Borrowed RecordContent
+  pub reads : Reads before after left bytes following (founds.Record entry)
+  pub count_is : count ≡ length bytes - length following
+  pub reported : out ≡ reported_record entry.content
+  pub parts_are : ReportsTable entry.delimiters entry.content.kind (take (count - 1) bytes) parts_before parts table

@@ -1,23 +1,23 @@
--- What C is told of the records of a stream.
+-- What C gets of the records of a stream.
 use Rattle.std.specs.Prelude.{◌≡◌, ℕ, ◌-◌, ◌==◌, List, [], Option, None, Some, Result, Ok, Err, if◌then◌else◌, length}
 use Rattle.std.specs.Prelude.{position, take}
 use Rattle.lis_text.specs.Control.{CR}
-use Rattle.lis_field.specs.Kinds.{letter_of}
-use Rattle.lis_field.specs.Shape.{RecordContent}
-use Rattle.lis_record.specs.Lent.{Lent}
+use Rattle.lis_record_values.specs.Kinds.{letter_of}
+use Rattle.lis_record_values.specs.Shape.{RecordContent}
+use Rattle.lis_record.specs.Borrowed.{Borrowed}
 use Rattle.lis_tree.specs.Begun.{Begun}
-use Rattle.lis_field.specs.declared.faults.MessageFault.{MessageFault}
-use Rattle.lis_field.specs.declared.faults.Reason.{Reason}
-use Rattle.lis_field.specs.declared.faults.Reason.TheVariants as Reasons
-use Rattle.lis_message.specs.declared.records.Found.{Found}
-use Rattle.lis_message.specs.declared.records.Found.TheVariants as founds
+use Rattle.lis_record_values.specs.declared.faults.MessageFault.{MessageFault}
+use Rattle.lis_record_values.specs.declared.faults.Reason.{Reason}
+use Rattle.lis_record_values.specs.declared.faults.Reason.TheVariants as Reasons
+use Rattle.lis_message.specs.declared.records.RecordFound.{RecordFound}
+use Rattle.lis_message.specs.declared.records.RecordFound.TheVariants as founds
 use Rattle.lis_message.specs.Kept.{RecordsState}
 use Rattle.lis_message.specs.Records.{Reads}
 use Rattle.lis_c.specs.Records.{IsPart, part_at, record_place, record_status}
 use Rattle.lis_c.specs.Status.{OK, UNFINISHED, ABSENT}
 use Rattle.lis_c.specs.declared.reader.LisFound.{LisFound}
 
--- the bytes before the first CR, or a CR that stands first: by the place of the first CR, and how many bytes there are
+-- the bytes before the first CR, or a CR that is first: by the place of the first CR, and how many bytes there are
 abbrev pub piece_by : Option ℕ → ℕ → ℕ
 piece_by None count = count
 piece_by (Some place) count = if place == 0 then 1 else place
@@ -47,11 +47,11 @@ place_of reason = 0
 abbrev pub nothing : LisFound
 nothing = record { kind = 0; letter = 0; reason = 0; detail = 0; fields = 0; place = 0; number = 0 }
 
-abbrev pub told_record : RecordContent → LisFound
-told_record content = record nothing { kind = 1; letter = letter_of content.kind; fields = length content.fields }
+abbrev pub reported_record : RecordContent → LisFound
+reported_record content = record nothing { kind = 1; letter = letter_of content.kind; fields = length content.fields }
 
-abbrev pub told_fault : MessageFault → LisFound
-told_fault fault =
+abbrev pub reported_fault : MessageFault → LisFound
+reported_fault fault =
     record nothing {
       kind = 2;
       reason = reason_code fault.reason;
@@ -60,38 +60,39 @@ told_fault fault =
       number = fault.place;
     }
 
--- what is told of what was found; a record whose bytes were held is the one that the reader keeps
-abbrev pub TellsFound : Found → Option (Lent RecordContent) → LisFound → Type 0
-TellsFound founds.Nothing cut out = out ≡ nothing
-TellsFound (founds.Record entry) cut out = out ≡ told_record entry.content
-TellsFound founds.Held cut out = (entry : Lent RecordContent) → cut ≡ Some entry → out ≡ told_record entry.content
-TellsFound (founds.Refused fault) cut out = out ≡ told_fault fault
+-- what is said about what was found; a record whose bytes were held is the one that the reader keeps
+abbrev pub ReportsFound : RecordFound → Option (Borrowed RecordContent) → LisFound → Type 0
+ReportsFound founds.Nothing split out = out ≡ nothing
+ReportsFound (founds.Record entry) split out = out ≡ reported_record entry.content
+ReportsFound founds.Held split out = (entry : Borrowed RecordContent) → split ≡ Some entry → out
+    ≡ reported_record entry.content
+ReportsFound (founds.Refused fault) split out = out ≡ reported_fault fault
 
--- this piece was read, so many bytes of it, and what was found is told
-pub record ReadsAndTells (before after : RecordsState) (left : Option Begun) (piece : List ℕ) (count : ℕ)
+-- this piece was read, so many bytes of it, and what was found is reported
+pub record ReadsAndReports (before after : RecordsState) (left : Option Begun) (piece : List ℕ) (count : ℕ)
     (out : LisFound) : Type 0 where
-  pub behind : List ℕ
-  pub found : Found
-  pub reads : Reads before after left piece behind found
-  pub count_is : count ≡ length piece - length behind
-  pub told : TellsFound found after.cut out
+  pub following : List ℕ
+  pub found : RecordFound
+  pub reads : Reads before after left piece following found
+  pub count_is : count ≡ length piece - length following
+  pub reported : ReportsFound found after.split out
 
 abbrev pub ReadsPiece : RecordsState → RecordsState → Option Begun → List ℕ → ℕ → LisFound → Type 0
 ReadsPiece before after left bytes count out =
-    ReadsAndTells before after left (take (piece_length bytes) bytes) count out
+    ReadsAndReports before after left (take (piece_length bytes) bytes) count out
 
--- at the start of a stream: no message is open, nothing is held, no record was cut, and no fault was met
+-- at the start of a stream: no message is open, nothing is held, no record was split, and no fault was met
 abbrev pub new_reader : RecordsState
-new_reader = record { opened = None; held = []; cut = None; fault = None }
+new_reader = record { opened = None; held = []; split = None; fault = None }
 
 -- a part of the record that was read last
-abbrev pub IsCutPart : Option (Lent RecordContent) → (field repeat component : ℕ) → (status : ℕ)
+abbrev pub IsSplitPart : Option (Borrowed RecordContent) → (field repeat component : ℕ) → (status : ℕ)
     (before after : List ℕ) (size : ℕ) → Type 0
-IsCutPart None field repeat component status before after size = (status ≡ ABSENT) × (after ≡ before) × (size ≡ 0)
-IsCutPart (Some entry) field repeat component status before after size =
+IsSplitPart None field repeat component status before after size = (status ≡ ABSENT) × (after ≡ before) × (size ≡ 0)
+IsSplitPart (Some entry) field repeat component status before after size =
     IsPart (part_at entry.content field repeat component) status before after size
 
 -- the end of the stream
 abbrev pub AtEnd : Result (Unit {0}) MessageFault → ℕ → LisFound → Type 0
 AtEnd (Ok done) status out = (status ≡ OK) × (out ≡ nothing)
-AtEnd (Err fault) status out = (status ≡ UNFINISHED) × (out ≡ told_fault fault)
+AtEnd (Err fault) status out = (status ≡ UNFINISHED) × (out ≡ reported_fault fault)

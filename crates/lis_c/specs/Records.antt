@@ -1,13 +1,13 @@
--- What C is told of a record's parts.
+-- What C gets of a record's parts.
 use Rattle.std.specs.Prelude.{◌≡◌, ℕ, ◌<◌, ◌≤◌, ◌⊎◌, List, [], ◌∷◌, ◌++◌, Option, None, Some, drop, length, slice_get}
 use Rattle.std.specs.List.{flat_map}
-use Rattle.lis_field.specs.declared.symbols.Sym.{Sym}
-use Rattle.lis_field.specs.declared.symbols.Sym.TheVariants.{Char, Raw, On, Off}
-use Rattle.lis_field.specs.Delimiters.{DelimiterBytes}
-use Rattle.lis_field.specs.Kinds.{letter_of}
-use Rattle.lis_field.specs.Shape.{Components, RecordContent, Repeats, Symbols, field_at}
-use Rattle.lis_field.specs.declared.faults.RecordFault.{RecordFault}
-use Rattle.lis_field.specs.declared.faults.RecordFault.TheVariants as RecordFaults
+use Rattle.lis_record_values.specs.declared.symbols.Sym.{Sym}
+use Rattle.lis_record_values.specs.declared.symbols.Sym.TheVariants.{Char, Raw, On, Off}
+use Rattle.lis_record_values.specs.Delimiters.{DelimiterBytes}
+use Rattle.lis_record_values.specs.Kinds.{letter_of}
+use Rattle.lis_record_values.specs.Shape.{Components, RecordContent, Repeats, Symbols, field_at}
+use Rattle.lis_record_values.specs.declared.faults.RecordFault.{RecordFault}
+use Rattle.lis_record_values.specs.declared.faults.RecordFault.TheVariants as RecordFaults
 use Rattle.lis_c.specs.Status.{ABSENT, BAD_DELIMITERS, BAD_LETTER, FORBIDDEN, NO_RECORD, OK, OUT_OF_MEMORY, TOO_LONG}
 use Rattle.lis_c.specs.Status.{TOO_SHORT}
 use Rattle.lis_c.specs.declared.records.LisDelimiters.{LisDelimiters}
@@ -34,18 +34,18 @@ record_place (RecordFaults.Byte place) = place
 record_place RecordFaults.TooLong = 0
 record_place RecordFaults.OutOfMemory = 0
 
--- a record is told by its letter in upper case and the number of its fields
-pub record TellsRecord (content : RecordContent) (status : ℕ) (out : LisRecord) : Type 0 where
+-- a record is reported by its letter in upper case and the number of its fields
+pub record ReportsRecord (content : RecordContent) (status : ℕ) (out : LisRecord) : Type 0 where
   pub well : status ≡ OK
   pub letter_is : out.letter ≡ letter_of content.kind
   pub fields_are : out.fields ≡ length content.fields
   pub place_is : out.place ≡ 0
 
--- nothing is told of a text where the delimiters are none
+-- nothing is said about a text where the delimiters are invalid
 abbrev pub no_record : LisRecord
 no_record = record { letter = 0; fields = 0; place = 0 }
 
-pub record TellsRecordFault (fault : RecordFault) (status : ℕ) (out : LisRecord) : Type 0 where
+pub record ReportsRecordFault (fault : RecordFault) (status : ℕ) (out : LisRecord) : Type 0 where
   pub why : status ≡ record_status fault
   pub letter_is : out.letter ≡ 0
   pub fields_are : out.fields ≡ 0

@@ -1,4 +1,4 @@
--- What C is told of a signal.
+-- What C gets of a signal.
 use Rattle.std.specs.Prelude.{◌≡◌, ℕ, Bool, false, List, [], Option, None, Some, length, take, if◌then◌else◌, nat_lt}
 use Rattle.std.specs.Prelude.{◌&&◌}
 use Rattle.lis_frame.specs.declared.scanner.SignalOf.{SignalOf}
@@ -21,23 +21,24 @@ abbrev pub is_long : ℕ → List ℕ → Bool
 is_long limit text = nat_lt 240 limit && nat_lt 240 (length text)
 
 -- a frame's text is in the signal, or, if it is long, next to it
-pub record TellsFrame (long : Bool) (number : ℕ) (last : Bool) (text : List ℕ) (out : LisSignal) (beside : List ℕ) :
+pub record ReportsFrame (long : Bool) (number : ℕ) (last : Bool) (text : List ℕ) (out : LisSignal) (beside : List ℕ) :
     Type 0 where
   pub parts_are : HasParts out (if long then 5 else 3) number last 0 0 (if long then [] else text)
   pub beside_is : beside ≡ (if long then text else [])
 
--- the signal is told, and these bytes are next to it
-abbrev pub TellsSignal : {limit : ℕ} → Option (SignalOf limit) → LisSignal → List ℕ → Type 0
-TellsSignal None out beside = HasParts out 0 0 false 0 0 [] × (beside ≡ [])
-TellsSignal (Some Enq) out beside = HasParts out 1 0 false 0 0 [] × (beside ≡ [])
-TellsSignal (Some Eot) out beside = HasParts out 2 0 false 0 0 [] × (beside ≡ [])
-TellsSignal {limit = limit} (Some (Good frame)) out beside =
-    TellsFrame (is_long limit frame.text) frame.number frame.last frame.text out beside
-TellsSignal (Some (Bad fault)) out beside =
+-- the signal is reported, and these bytes are next to it
+abbrev pub ReportsSignal : {limit : ℕ} → Option (SignalOf limit) → LisSignal → List ℕ → Type 0
+ReportsSignal None out beside = HasParts out 0 0 false 0 0 [] × (beside ≡ [])
+ReportsSignal (Some Enq) out beside = HasParts out 1 0 false 0 0 [] × (beside ≡ [])
+ReportsSignal (Some Eot) out beside = HasParts out 2 0 false 0 0 [] × (beside ≡ [])
+ReportsSignal {limit = limit} (Some (Good frame)) out beside =
+    ReportsFrame (is_long limit frame.text) frame.number frame.last frame.text out beside
+ReportsSignal (Some (Bad fault)) out beside =
     HasParts out 4 0 false (fault_code fault) (fault_place fault) [] × (beside ≡ [])
 
--- bytes were read, and their signal told
-pub record FedAndTold (limit : ℕ) (past bytes : List ℕ) (count : ℕ) (out : LisSignal) (beside : List ℕ) : Type 0 where
-  pub signal : Option (SignalOf limit)
-  pub fed : IsFed limit past bytes count signal
-  pub told : TellsSignal signal out beside
+-- bytes were read, and their signal reported
+pub record FedAndAnswered (limit : ℕ) (past bytes : List ℕ) (count : ℕ) (out : LisSignal) (beside : List ℕ) : Type 0
+  where
+    pub signal : Option (SignalOf limit)
+    pub fed : IsFed limit past bytes count signal
+    pub answered : ReportsSignal signal out beside

@@ -1,4 +1,4 @@
--- The status that a call answers which may fail, and where the fault stands.
+-- The status that a call answers which may fail, and where the fault is.
 use Rattle.std.specs.Prelude.{◌≡◌, ℕ, ◌<◌, ◌≤◌, ◌⊎◌, Option, None, Some, if◌then◌else◌, nat_lt}
 use Rattle.lis_text.specs.LinkText.{longest_text, most_texts}
 use Rattle.lis_text.specs.declared.text.TextFault.{TextFault}
@@ -22,7 +22,7 @@ TOO_LONG = 3
 abbrev pub FORBIDDEN : ℕ
 FORBIDDEN = 4
 
--- as many texts as a session has; memory was refused; a number that is none; a buffer that is too short
+-- as many texts as a session has; memory ran out; a number that is invalid; a buffer that is too short
 abbrev pub FULL : ℕ
 FULL = 5
 
@@ -77,7 +77,7 @@ text_place (Some (Forbidden place)) = place
 abbrev pub copy_status : ℕ → ℕ → ℕ
 copy_status room length = if nat_lt room length then TOO_SHORT else OK
 
--- a frame can be written: its text is told before its number
+-- a frame can be written: its text is reported before its number
 abbrev pub frame_status : ℕ → Option TextFault → ℕ
 frame_status number None = if nat_lt 7 number then BAD_NUMBER else OK
 frame_status number (Some fault) = text_status (Some fault)
@@ -106,13 +106,13 @@ start_place (Some InSession) = 0
 start_place (Some NoText) = 0
 start_place (Some (BadText index fault)) = text_place (Some fault)
 
--- a text behind so many: there are as many as a session has, or it was put there, or memory was refused
+-- a text after so many: there are as many as a session has, or it was put there, or memory ran out
 abbrev pub AddStatus : ℕ → ℕ → Type 0
 AddStatus status texts =
     ((status ≡ FULL) × (most_texts ≤ texts))
     ⊎ ((texts < most_texts) × ((status ≡ OK) ⊎ (status ≡ OUT_OF_MEMORY)))
 
--- room for so many bytes: it is more than a text has, or it was made, or memory was refused
+-- room for so many bytes: it is more than a text has, or it was made, or memory ran out
 abbrev pub ReserveStatus : ℕ → ℕ → Type 0
 ReserveStatus status bytes =
     ((status ≡ TOO_LONG) × (longest_text < bytes))

@@ -1,28 +1,28 @@
--- What C is told of the message that it writes.
+-- What C gets of the message that it writes.
 use Rattle.std.specs.Prelude.{◌≡◌, ℕ, ◌⊎◌, Bool, true, false, List, [], ◌∷◌, ◌++◌, Option, None, Some}
-use Rattle.lis_field.specs.Delimiters.{DelimiterBytes}
-use Rattle.lis_field.specs.declared.kinds.Kind.{Kind}
-use Rattle.lis_field.specs.Shape.{Components, plain_component}
-use Rattle.lis_spelling.specs.declared.faults.WriteFault.{WriteFault}
-use Rattle.lis_spelling.specs.declared.faults.WriteFault.TheVariants as WriteFaults
-use Rattle.lis_spelling.specs.WriteFaults.{check_fault}
-use Rattle.lis_spelling.specs.Spelling.{written}
-use Rattle.lis_field.specs.declared.faults.Reason.{Reason}
-use Rattle.lis_field.specs.declared.faults.Reason.TheVariants as Reasons
-use Rattle.lis_tree.specs.declared.standing.Standing.{Standing}
-use Rattle.lis_tree.specs.Standing.{standing_level}
+use Rattle.lis_record_values.specs.Delimiters.{DelimiterBytes}
+use Rattle.lis_record_values.specs.declared.kinds.Kind.{Kind}
+use Rattle.lis_record_values.specs.Shape.{Components, plain_component}
+use Rattle.lis_record_write.specs.declared.faults.WriteFault.{WriteFault}
+use Rattle.lis_record_write.specs.declared.faults.WriteFault.TheVariants as WriteFaults
+use Rattle.lis_record_write.specs.WriteFaults.{check_fault}
+use Rattle.lis_record_write.specs.Encoding.{written}
+use Rattle.lis_record_values.specs.declared.faults.Reason.{Reason}
+use Rattle.lis_record_values.specs.declared.faults.Reason.TheVariants as Reasons
+use Rattle.lis_tree.specs.declared.position.Position.{Position}
+use Rattle.lis_tree.specs.Position.{position_level}
 use Rattle.lis_tree.specs.Level.{Level, outside, closed, misplaced, next_level}
 use Rattle.lis_c.specs.Records.{IsCopied}
 use Rattle.lis_c.specs.Status.{ABSENT, AddStatus, BAD_LETTER, FORBIDDEN, NO_RECORD, OK, OUT_OF_MEMORY, PUT_NOT_HEADER}
 use Rattle.lis_c.specs.Status.{PUT_NO_PARENT, PUT_SECOND_HEADER, TOO_LONG, UNFINISHED}
-use Rattle.lis_c.specs.declared.draft.Draft.{Draft}
-use Rattle.lis_c.specs.declared.draft.PutFault.{PutFault}
-use Rattle.lis_c.specs.declared.draft.WriterDesk.{WriterDesk}
+use Rattle.lis_c.specs.declared.record_builder.RecordBuilder.{RecordBuilder}
+use Rattle.lis_c.specs.declared.record_builder.PutFault.{PutFault}
+use Rattle.lis_c.specs.declared.record_builder.WriterHandleState.{WriterHandleState}
 
--- where the next record will stand: none is outside a message, as it is behind the closing record
-abbrev pub level_at : Option Standing → Level
+-- where the next record will be: none is outside a message, as it is after the closing record
+abbrev pub level_at : Option Position → Level
 level_at None = outside
-level_at (Some standing) = standing_level standing
+level_at (Some position) = position_level position
 
 abbrev pub reopened : Level → Level
 reopened closed = outside
@@ -36,36 +36,42 @@ abbrev pub parts_so_far : Option Components → Components
 parts_so_far None = []
 parts_so_far (Some parts) = parts
 
-abbrev pub with_parts : Draft → List ℕ → Draft
-with_parts draft bytes = record draft { parts = Some (parts_so_far draft.parts ++ plain_component bytes ∷ []) }
+abbrev pub with_parts : RecordBuilder → List ℕ → RecordBuilder
+with_parts record_builder bytes = record record_builder {
+  parts = Some
+      (parts_so_far record_builder.parts ++ plain_component bytes ∷ []);
+}
 
-abbrev pub with_field : Draft → List ℕ → Draft
-with_field draft bytes =
+abbrev pub with_field : RecordBuilder → List ℕ → RecordBuilder
+with_field record_builder bytes =
     record {
       entry = record {
-        kind = draft.entry.kind;
-        fields = draft.entry.fields ++ ((parts_so_far draft.parts ++ plain_component bytes ∷ []) ∷ []) ∷ [];
+        kind = record_builder.entry.kind;
+        fields = record_builder.entry.fields ++ ((parts_so_far record_builder.parts ++ plain_component bytes ∷ []) ∷ [])
+            ∷ [];
       };
       parts = None;
     }
 
-abbrev pub with_component : Draft → Bool → List ℕ → Draft
-with_component draft true bytes = with_field draft bytes
-with_component draft false bytes = with_parts draft bytes
+abbrev pub with_component : RecordBuilder → Bool → List ℕ → RecordBuilder
+with_component record_builder true bytes = with_field record_builder bytes
+with_component record_builder false bytes = with_parts record_builder bytes
 
--- a record is begun, or the letter is none
-abbrev pub BeginStatus : Option Kind → WriterDesk → ℕ → WriterDesk → Type 0
+-- a record is begun, or the letter is invalid
+abbrev pub BeginStatus : Option Kind → WriterHandleState → ℕ → WriterHandleState → Type 0
 BeginStatus None old status new = (status ≡ BAD_LETTER) × (new ≡ old)
 BeginStatus (Some kind) old status new =
     (status ≡ OK)
-    × (new ≡ record old { draft = Some (record { entry = record { kind = kind; fields = [] }; parts = None }) })
+    × (new ≡ record old {
+      record_builder = Some (record { entry = record { kind = kind; fields = [] }; parts = None });
+    })
 
--- a component is put to a record: there is none, or it was put, or memory was refused and the record is let go
-abbrev pub PartStatus : Option Draft → Bool → List ℕ → WriterDesk → ℕ → WriterDesk → Type 0
+-- a component is put to a record: there is none, or it was put, or memory ran out and the record is released
+abbrev pub PartStatus : Option RecordBuilder → Bool → List ℕ → WriterHandleState → ℕ → WriterHandleState → Type 0
 PartStatus None last bytes old status new = (status ≡ NO_RECORD) × (new ≡ old)
-PartStatus (Some draft) last bytes old status new =
-    ((status ≡ OK) × (new ≡ record old { draft = Some (with_component draft last bytes) }))
-    ⊎ ((status ≡ OUT_OF_MEMORY) × (new ≡ record old { draft = None }))
+PartStatus (Some record_builder) last bytes old status new =
+    ((status ≡ OK) × (new ≡ record old { record_builder = Some (with_component record_builder last bytes) }))
+    ⊎ ((status ≡ OUT_OF_MEMORY) × (new ≡ record old { record_builder = None }))
 
 -- ---- why a record can't be put, the first of these
 
@@ -94,24 +100,25 @@ refused_with (Some parts) fault = Some (record { status = UNFINISHED; field = 0 
 refused_with None fault = fault
 
 -- there is none
-abbrev pub put_fault : DelimiterBytes → Option Standing → Option Draft → Option PutFault
-put_fault d standing None = Some (record { status = NO_RECORD; field = 0 })
-put_fault d standing (Some draft) =
-    refused_with draft.parts (refused_at (misplaced (level_at standing) draft.entry.kind) (check_fault d draft.entry))
+abbrev pub put_fault : DelimiterBytes → Option Position → Option RecordBuilder → Option PutFault
+put_fault d position None = Some (record { status = NO_RECORD; field = 0 })
+put_fault d position (Some record_builder) =
+    refused_with record_builder.parts (refused_at (misplaced (level_at position) record_builder.entry.kind)
+    (check_fault d record_builder.entry))
 
--- a record that can be put behind so many texts: they are as many as a session has, or it was, or memory was refused
+-- a record that can be put after so many texts: they are as many as a session has, or it was, or memory ran out
 abbrev pub PutStatus : Option PutFault → ℕ → ℕ → ℕ → Type 0
 PutStatus None texts status field = AddStatus status texts × (field ≡ 0)
 PutStatus (Some fault) texts status field = (status ≡ fault.status) × (field ≡ fault.field)
 
--- its text stands behind the others, and the next record will stand behind it
-pub record IsPut (old new : WriterDesk) : Type 0 where
-  pub draft : Draft
-  pub had : old.draft ≡ Some draft
+-- its text is after the others, and the next record will be after it
+pub record IsPut (old new : WriterHandleState) : Type 0 where
+  pub record_builder : RecordBuilder
+  pub had : old.record_builder ≡ Some record_builder
   pub delimiters_stay : new.delimiters ≡ old.delimiters
-  pub stands : level_at new.standing ≡ after_kind (level_at old.standing) draft.entry.kind
-  pub none_left : new.draft ≡ None
-  pub text : new.texts ≡ old.texts ++ written old.delimiters draft.entry ∷ []
+  pub represents : level_at new.position ≡ after_kind (level_at old.position) record_builder.entry.kind
+  pub none_left : new.record_builder ≡ None
+  pub text : new.texts ≡ old.texts ++ written old.delimiters record_builder.entry ∷ []
 
 -- a text by its place
 abbrev pub IsTextAt : Option (List ℕ) → (status : ℕ) (before after : List ℕ) (size : ℕ) → Type 0

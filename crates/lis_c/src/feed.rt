@@ -82,7 +82,7 @@ pub(crate) fn push<const N: usize>(scanner: &mut ScannerOf<N>, byte: u8, text: &
     ensures within { result.len ≤ length text.new }
     ensures room { length text.new ≡ length text.old }
 {
-    let report = report_heard::<N>(scanner.told(byte), text);
+    let report = report_heard::<N>(scanner.peek(byte), text);
     scanner.take(byte);
     report
 }

@@ -10,7 +10,7 @@ use crate::out::{LisBytes, copy_text, put};
 use crate::status::{self, text_place, text_status};
 use lis_frame::{Frame, FrameOf, Text, TextOf, frame_bytes, frame_bytes_of};
 
-/// Writes a frame (LIS01-A2, 6.3). `OK`; `TOO_LONG` or `FORBIDDEN`, with the byte's place, where the text is none;
+/// Writes a frame (LIS01-A2, 6.3). `OK`; `TOO_LONG` or `FORBIDDEN`, with the byte's place, where the text is invalid;
 /// `BAD_NUMBER` where the number is over 7. Where it isn't `OK` nothing is written. It takes no memory.
 #[unsafe(no_mangle)]
 pub extern "C" fn lis_frame_write(

@@ -1,17 +1,17 @@
 //! The next record of a stream with all its parts, for programs in C (LIS02-A2, Delimiters). It takes no memory.
 
 ghost use Rattle.std.specs.Prelude.{◌≡◌, ◌<◌, ◌≤◌, ◌∷◌, ◌++◌, [], ℕ, List, None, Option, length};
-ghost use Rattle.lis_c.specs.Next.{ReadsNext, TellsTable, no_table};
+ghost use Rattle.lis_c.specs.Next.{ReadsNext, ReportsTable, no_table};
 ghost use Rattle.lis_c.specs.Reading.{nothing};
-ghost use Rattle.lis_field.specs.Text.{record_limit};
+ghost use Rattle.lis_record_values.specs.Text.{record_limit};
 ghost use Rattle.lis_message.specs.Records.{HasLeft, IsRecordRefused};
 ghost use Rattle.lis_message.specs.Stream.{LacksReturn};
 ghost use Rattle.lis_tree.specs.Begun.{Begun};
 
-use crate::desk::ReaderDesk;
-use crate::reader::{LisFound, LisReader, clear, tell};
-use crate::records::{LisDelimiters, tell_delimiters};
-use lis_record::{LentRecord, RECORD_LIMIT};
+use crate::handle_state::ReaderHandleState;
+use crate::reader::{LisFound, LisReader, clear, report};
+use crate::records::{LisDelimiters, report_delimiters};
+use lis_record::{BorrowedRecord, RECORD_LIMIT};
 use lis_table::{LisPart, put_places};
 
 /// The parts of a record that was read: how many they are, how many bytes its text has, and the delimiters that it is
@@ -24,13 +24,13 @@ pub struct LisTable {
     pub delimiters: LisDelimiters,
 }
 
-/// Reads the next record if it is whole in the bytes, with its CR, and answers how many bytes it read; `out` has it as from
-/// `lis_reader_read`. All its parts are put to the front of `parts`, as by `lis_record_parts`; their offsets are
+/// Reads the next record if it is whole in the bytes, with its CR, and answers how many bytes it read; `out` has it as
+/// from `lis_reader_read`. All its parts are put to the front of `parts`, as by `lis_record_parts`; their offsets are
 /// in the bytes. Its text is the bytes that were read without the last one, the CR: nothing is copied, held or
 /// allocated.
 ///
-/// It answers 0, and the reader is as it was, `out` and `table` are 0 and no part is put, if no CR is among the bytes, if
-/// the record can't come next, after a fault, or if `lis_reader_read` holds bytes or found a record last: then
+/// It answers 0, and the reader is as it was, `out` and `table` are 0 and no part is put, if no CR is among the bytes,
+/// if the record can't come next, after a fault, or if `lis_reader_read` holds bytes or found a record last: then
 /// `lis_reader_read` says what there is.
 #[unsafe(no_mangle)]
 pub extern "C" fn lis_reader_next(
@@ -45,13 +45,13 @@ pub extern "C" fn lis_reader_next(
     ensures none { result ≡ 0 → (s.new.state ≡ s.old.state) × (out.new ≡ nothing) × (parts.new ≡ parts.old)
         × (table.new ≡ no_table) }
     ensures refused { result ≡ 0 → (left : Option Begun) → HasLeft s.old.state.reader left
-        → s.old.state.reader.held ≡ [] → s.old.state.reader.cut ≡ None → (text behind : List ℕ) → LacksReturn text
-        → bytes.now ≡ text ++ 13 ∷ behind → IsRecordRefused left text }
+        → s.old.state.reader.held ≡ [] → s.old.state.reader.split ≡ None → (text following : List ℕ) → LacksReturn text
+        → bytes.now ≡ text ++ 13 ∷ following → IsRecordRefused left text }
 {
-    s.lend().next(bytes, out, parts, table)
+    s.borrow().next(bytes, out, parts, table)
 }
 
-impl ReaderDesk {
+impl ReaderHandleState {
     fn next(
         &mut self,
         bytes: &[u8],
@@ -64,18 +64,18 @@ impl ReaderDesk {
         ensures none { result ≡ 0 → (self.new ≡ self.old) × (out.new ≡ nothing) × (parts.new ≡ parts.old)
             × (table.new ≡ no_table) }
         ensures refused { result ≡ 0 → (left : Option Begun) → HasLeft self.old.reader left
-            → self.old.reader.held ≡ [] → self.old.reader.cut ≡ None → (text behind : List ℕ) → LacksReturn text
-            → bytes.now ≡ text ++ 13 ∷ behind → IsRecordRefused left text }
+            → self.old.reader.held ≡ [] → self.old.reader.split ≡ None → (text following : List ℕ) → LacksReturn text
+            → bytes.now ≡ text ++ 13 ∷ following → IsRecordRefused left text }
     {
         clear(out);
         clear_table(table);
         match self.reader.read_whole(bytes) {
             None => 0,
-            Some((entry, behind)) => {
-                let count = bytes.len().saturating_sub(behind.len());
-                tell(&entry, out);
+            Some((entry, following)) => {
+                let count = bytes.len().saturating_sub(following.len());
+                report(&entry, out);
                 let (text, _) = bytes.split_at(count.saturating_sub(1));
-                tell_table(&entry, text, parts, table);
+                report_table(&entry, text, parts, table);
                 count
             }
         }
@@ -95,14 +95,19 @@ fn clear_table(table: &mut LisTable)
 }
 
 /// Puts the table of a record's text. No record has a longer one.
-fn tell_table(entry: &LentRecord<'_>, text: &[u8], parts: &mut [LisPart], table: &mut LisTable)
+fn report_table(
+    entry: &BorrowedRecord<'_>,
+    text: &[u8],
+    parts: &mut [LisPart],
+    table: &mut LisTable,
+)
     ensures { length text.now ≤ record_limit →
-        TellsTable entry.now.delimiters entry.now.content.kind text.now parts.old parts.new table.new }
+        ReportsTable entry.now.delimiters entry.now.content.kind text.now parts.old parts.new table.new }
 {
     if text.len() > RECORD_LIMIT {
         return;
     }
-    tell_delimiters(entry.delimiters(), &mut table.delimiters);
+    report_delimiters(entry.delimiters(), &mut table.delimiters);
     table.count = put_places(entry.delimiters(), entry.kind(), text, parts);
     table.len = text.len();
 }

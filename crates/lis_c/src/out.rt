@@ -51,8 +51,8 @@ pub struct LisPlace {
 
 /// A signal: 0 none, 1 ENQ, 2 EOT, 3 a frame, 4 bytes that are no frame, 5 a frame whose text has over 240 bytes. A
 /// frame has its number, whether it is the last of its message, and, with 3, the first `len` bytes of `text`; with 5
-/// `lis_scanner_text` copies the text. Bytes that are none have a fault (1 too long, 2 shape, 3 number, 4 text, 5 sum)
-/// and, where a byte of the text is at fault, its place. All else is 0.
+/// `lis_scanner_text` copies the text. Bytes that are invalid have a fault (1 too long, 2 shape, 3 number, 4 text, 5
+/// sum) and, where a byte of the text is at fault, its place. All else is 0.
 #[repr(C)]
 #[derive(Drop)]
 pub struct LisSignal {
@@ -65,7 +65,7 @@ pub struct LisSignal {
     pub text: [u8; 240],
 }
 
-/// What a receiver answers: the reply byte, 0 for none; whether a text was handed out, which `lis_receiver_text`
+/// What a receiver answers: the reply byte, 0 for none; whether a text was delivered, which `lis_receiver_text`
 /// copies; what it meant; the number or the fault that this goes with, and the fault's place.
 #[repr(C)]
 #[derive(Drop)]
@@ -100,7 +100,7 @@ pub(crate) fn fault_place(fault: FrameFault) -> usize
     }
 }
 
-/// Copies a text to the front of a buffer, and tells how many bytes it has: `OK`, or `TOO_SHORT`, and nothing is
+/// Copies a text to the front of a buffer, and says how many bytes it has: `OK`, or `TOO_SHORT`, and nothing is
 /// copied, where it is longer than the buffer.
 pub(crate) fn copy_text(text: &[u8], out: &mut [u8], size: &mut usize) -> u8
     ensures status { result ≡ copy_status (length out.old) (length text.now) }

@@ -5,21 +5,21 @@ ghost use Rattle.std.specs.Prelude.{◌≡◌, ◌≢◌, ◌≤◌, Some, lengt
 ghost use Rattle.lis_c.specs.Parts.{IsDelivered};
 ghost use Rattle.lis_c.specs.Records.{IsCopied, delimiters_in, plain, record_status};
 ghost use Rattle.lis_c.specs.Status.{BAD_DELIMITERS};
-ghost use Rattle.lis_field.specs.declared.kinds.Kind.TheVariants as kinds;
-ghost use Rattle.lis_field.specs.Delimiters.{DelimiterBytes, IsDelimiters};
-ghost use Rattle.lis_field.specs.Escapes.{IsComponent};
-ghost use Rattle.lis_field.specs.Shape.{RecordContent, Symbols};
-ghost use Rattle.lis_field.specs.Text.{record_limit};
-ghost use Rattle.lis_field.specs.declared.faults.RecordFault.{RecordFault};
+ghost use Rattle.lis_record_values.specs.declared.kinds.Kind.TheVariants as kinds;
+ghost use Rattle.lis_record_values.specs.Delimiters.{DelimiterBytes, IsDelimiters};
+ghost use Rattle.lis_record_values.specs.Escapes.{IsComponent};
+ghost use Rattle.lis_record_values.specs.Shape.{RecordContent, Symbols};
+ghost use Rattle.lis_record_values.specs.Text.{record_limit};
+ghost use Rattle.lis_record_values.specs.declared.faults.RecordFault.{RecordFault};
 ghost use Rattle.lis_record.specs.Faults.{header_fault, record_fault};
-ghost use Rattle.lis_field.specs.Relation.{IsRecord};
+ghost use Rattle.lis_record_values.specs.Relation.{IsRecord};
 ghost use Rattle.lis_table.specs.Table.{table_of};
 
-use crate::records::{LisDelimiters, known, record_status, record_under, tell_symbols};
+use crate::records::{LisDelimiters, known, record_status, record_under, report_symbols};
 use crate::status;
-use lis_field::{Delimiters, Kind};
-use lis_part::LentSymbols;
-use lis_record::lend_header;
+use lis_record::borrow_header;
+use lis_record_read::BorrowedSymbols;
+use lis_record_values::{Delimiters, Kind};
 use lis_table::{LisPart, put_places};
 
 /// Puts the places of all components of a header to the front of a table, in the text's order, and says how many they
@@ -35,14 +35,14 @@ pub extern "C" fn lis_header_parts(text: &[u8], out: &mut [LisPart], count: &mut
         → (result ≡ record_status fault) × (count.new ≡ 0) × (out.new ≡ out.old) }
 {
     *count = 0;
-    match lend_header(text) {
-        Ok(header) => tell_parts(header.delimiters(), header.kind(), text, out, count),
+    match borrow_header(text) {
+        Ok(header) => report_parts(header.delimiters(), header.kind(), text, out, count),
         Err(fault) => record_status(fault),
     }
 }
 
 /// The same of any other record under the delimiters of its message; its first field after the letter has number 2.
-/// `BAD_DELIMITERS` if these are none.
+/// `BAD_DELIMITERS` if these are invalid.
 #[unsafe(no_mangle)]
 pub extern "C" fn lis_record_parts(
     delimiters: &LisDelimiters,
@@ -62,7 +62,7 @@ pub extern "C" fn lis_record_parts(
 {
     *count = 0;
     match record_under(delimiters, text) {
-        Ok(entry) => tell_parts(entry.delimiters(), entry.kind(), text, out, count),
+        Ok(entry) => report_parts(entry.delimiters(), entry.kind(), text, out, count),
         Err(fault) => record_status(fault),
     }
 }
@@ -85,13 +85,13 @@ pub extern "C" fn lis_part_decode(
 {
     *size = 0;
     match known(delimiters) {
-        Ok(known) => tell_symbols(LentSymbols::of_text(known, part), out, size),
+        Ok(known) => report_symbols(BorrowedSymbols::of_text(known, part), out, size),
         Err(_) => status::BAD_DELIMITERS,
     }
 }
 
 /// Puts a record's table.
-pub(crate) fn tell_parts(
+pub(crate) fn report_parts(
     delimiters: Delimiters,
     kind: Kind,
     text: &[u8],

@@ -2,11 +2,12 @@
 
 ghost use Rattle.std.specs.Prelude.{◌≡◌, ◌==◌, ◌≤◌, ◌<◌, Option, IfSome, length, position};
 ghost use Rattle.lis_c.specs.Status.{UNFINISHED};
-ghost use Rattle.lis_c.specs.declared.desk.ReaderDesk.{ReaderDesk};
+ghost use Rattle.lis_c.specs.declared.handle_state.ReaderHandleState.{ReaderHandleState};
 ghost use Rattle.lis_c.specs.New.{IsNewReader, type_align};
-ghost use Rattle.lis_c.specs.Reading.{AtEnd, IsCutPart, ReadsAndTells, ReadsPiece};
-ghost use Rattle.lis_c.specs.Reading.{detail_of, nothing, piece_length, place_of, reason_code, told_fault, told_record};
-ghost use Rattle.lis_c.specs.contracts.desk.ReaderDesk.{the_row as desk_row};
+ghost use Rattle.lis_c.specs.Reading.{AtEnd, IsSplitPart, ReadsAndReports, ReadsPiece};
+ghost use Rattle.lis_c.specs.Reading.{detail_of, nothing, piece_length, place_of, reason_code, reported_fault};
+ghost use Rattle.lis_c.specs.Reading.{reported_record};
+ghost use Rattle.lis_c.specs.contracts.handle_state.ReaderHandleState.{the_row as handle_state_row};
 ghost use Rattle.lis_message.specs.Feeding.{answer_at_end};
 ghost use Rattle.lis_message.specs.Records.{HasLeft};
 ghost use Rattle.lis_tree.specs.Begun.{Begun};
@@ -15,10 +16,10 @@ ghost use Rattle.std.specs.Borrow.{sem};
 ghost use Rattle.std.specs.Mem.{type_size};
 ghost use Rattle.std.specs.Ptr.{room_at};
 
-use crate::desk::{ReaderDesk, let_go_reader};
+use crate::handle_state::{ReaderHandleState, release_reader};
 use crate::records::{copy_part, record_place, record_status};
 use crate::status;
-use lis_message::{Found, LentRecord, MessageFault, Reason};
+use lis_message::{BorrowedRecord, MessageFault, Reason, RecordFound};
 use lis_text::CR;
 use std::alloc::Global;
 use std::marker::Model;
@@ -40,74 +41,75 @@ pub struct LisFound {
     pub number: u64,
 }
 
-/// A reader, kept behind a pointer that C hands back as it got it.
+/// A reader, held by a pointer that C hands back as it got it.
 #[repr(C)]
 pub struct LisReader {
     at: *mut u8,
-    ghost state: { ReaderDesk },
+    ghost state: { ReaderHandleState },
 }
 
 impl Model for LisReader {
     ghost use Rattle.std.specs.Borrow.{full_share};
     ghost use Rattle.std.specs.Ptr.{lies_at};
-    ghost use Rattle.lis_c.specs.contracts.desk.ReaderDesk.{the_row};
+    ghost use Rattle.lis_c.specs.contracts.handle_state.ReaderHandleState.{the_row};
 
     ghost also_owns = { λ h. lies_at the_row full_share h.at h.state };
 }
 
 impl LisReader {
-    ghost use Rattle.lis_c.specs.Reading.{detail_of, nothing, piece_length, place_of, reason_code, told_fault};
-    ghost use Rattle.lis_c.specs.Reading.{told_record};
-    ghost use Rattle.lis_c.specs.contracts.desk.ReaderDesk.{the_row as desk_row};
+    ghost use Rattle.lis_c.specs.Reading.{detail_of, nothing, piece_length, place_of, reason_code, reported_fault};
+    ghost use Rattle.lis_c.specs.Reading.{reported_record};
+    ghost use Rattle.lis_c.specs.contracts.handle_state.ReaderHandleState.{the_row as handle_state_row};
     ghost use Rattle.lis_c.specs.contracts.reader.LisReader.{the_row};
     ghost use Rattle.std.specs.Borrow.{Lends, sem};
 
-    /// What lies behind the pointer.
-    pub(crate) fn lend(&mut self) -> &mut ReaderDesk
-        ensures* writes_back { sem 𝓛 (Lends the_row desk_row self.entry result (λ w. record self.old { state = w })) }
+    /// What the pointer points to.
+    pub(crate) fn borrow(&mut self) -> &mut ReaderHandleState
+        ensures* writes_back { sem 𝓛 (Lends the_row handle_state_row self.entry result
+            (λ w. record self.old { state = w })) }
         ensures value { result.now ≡ self.old.state }
     {
-        unsafe { &mut *(self.at as *mut ReaderDesk) }
+        unsafe { &mut *(self.at as *mut ReaderHandleState) }
     }
 }
 
 /// The number of bytes of a reader's block.
 #[unsafe(no_mangle)]
 pub extern "C" fn lis_reader_size() -> usize
-    ensures { result ≡ type_size desk_row }
+    ensures { result ≡ type_size handle_state_row }
 {
-    size_of::<ReaderDesk>()
+    size_of::<ReaderHandleState>()
 }
 
 /// What the address of a reader's block is a multiple of.
 #[unsafe(no_mangle)]
 pub extern "C" fn lis_reader_align() -> usize
-    ensures { result ≡ type_align desk_row }
+    ensures { result ≡ type_align handle_state_row }
 {
-    align_of::<ReaderDesk>()
+    align_of::<ReaderHandleState>()
 }
 
 /// Makes a reader at the start of a stream in a block of the caller's.
 #[unsafe(no_mangle)]
 pub unsafe extern "C" fn lis_reader_init(alloc: Global, at: *mut u8)
-    requires* { sem 𝓛 (room_at desk_row at) }
+    requires* { sem 𝓛 (room_at handle_state_row at) }
     ensures* { sem 𝓛 (IsNewReader at) }
 {
-    (at as *mut ReaderDesk).write(ReaderDesk::new(alloc));
+    (at as *mut ReaderHandleState).write(ReaderHandleState::new(alloc));
 }
 
-/// Reads on: the bytes before the first CR, or a CR that stands first, which ends a record; answers how many it read.
-/// Of bytes in which a record is refused none count as read, and the reader then gives that fault for good. Memory
-/// may be refused for bytes that are held, which is told as a fault too.
+/// Reads on: the bytes before the first CR, or a CR that is first, which ends a record; answers how many it read. Of
+/// bytes in which a record is rejected none count as read, and the reader then gives that fault for good. Memory may
+/// run out for bytes that are held, which is reported as a fault too.
 #[unsafe(no_mangle)]
 pub extern "C" fn lis_reader_read(s: &mut LisReader, bytes: &[u8], out: &mut LisFound) -> usize
     ensures read { (left : Option Begun) → HasLeft s.old.state.reader left →
         ReadsPiece s.old.state.reader s.new.state.reader left bytes.now result out.new }
-    ensures failed { IfSome s.old.state.reader.fault (λ fault. (result ≡ 0) × (out.new ≡ told_fault fault)
+    ensures failed { IfSome s.old.state.reader.fault (λ fault. (result ≡ 0) × (out.new ≡ reported_fault fault)
         × (s.new.state ≡ s.old.state)) }
 {
     let piece = &bytes[..piece_length(bytes)];
-    s.lend().read(piece, out)
+    s.borrow().read(piece, out)
 }
 
 /// Copies the bytes of a component of the record that was read last, as `lis_record_part` does.
@@ -120,27 +122,28 @@ pub extern "C" fn lis_reader_part(
     out: &mut [u8],
     size: &mut usize,
 ) -> u8
-    ensures part { IsCutPart s.old.state.reader.cut field repeat component result out.old out.new size.new }
+    ensures part { IsSplitPart s.old.state.reader.split field repeat component result out.old out.new size.new }
     ensures same { s.new.state ≡ s.old.state }
 {
     *size = 0;
-    match s.lend().reader.cut() {
+    match s.borrow().reader.split() {
         None => status::ABSENT,
         Some(entry) => copy_part(&entry, field, repeat, component, out, size),
     }
 }
 
 /// The end of the stream: `OK`, or `UNFINISHED` where a message isn't closed or a record isn't ended, or the fault that
-/// was met; `out` has it as `lis_reader_read` tells it.
+/// was met; `out` has it as `lis_reader_read` says it.
 #[unsafe(no_mangle)]
 pub extern "C" fn lis_reader_finish(s: &mut LisReader, out: &mut LisFound) -> u8
     ensures read { (left : Option Begun) → HasLeft s.old.state.reader left →
         AtEnd (answer_at_end left s.old.state.reader.held) result out.new }
-    ensures failed { IfSome s.old.state.reader.fault (λ fault. (result ≡ UNFINISHED) × (out.new ≡ told_fault fault)) }
+    ensures failed { IfSome s.old.state.reader.fault (λ fault. (result ≡ UNFINISHED)
+        × (out.new ≡ reported_fault fault)) }
     ensures same { s.new.state ≡ s.old.state }
 {
     clear(out);
-    match s.lend().reader.finish() {
+    match s.borrow().reader.finish() {
         Ok(()) => status::OK,
         Err(fault) => {
             refuse(fault, out);
@@ -152,36 +155,36 @@ pub extern "C" fn lis_reader_finish(s: &mut LisReader, out: &mut LisFound) -> u8
 /// Ends a reader; its block is the caller's again.
 #[unsafe(no_mangle)]
 pub extern "C" fn lis_reader_end(s: LisReader)
-    ensures* { sem 𝓛 (room_at desk_row s.at) }
+    ensures* { sem 𝓛 (room_at handle_state_row s.at) }
 {
     let LisReader { at } = s;
-    let_go_reader(unsafe { (at as *mut ReaderDesk).read() });
+    release_reader(unsafe { (at as *mut ReaderHandleState).read() });
 }
 
-impl ReaderDesk {
+impl ReaderHandleState {
     fn read(&mut self, piece: &[u8], out: &mut LisFound) -> usize
         ensures read { (left : Option Begun) → HasLeft self.old.reader left →
-            ReadsAndTells self.old.reader self.new.reader left piece.now result out.new }
-        ensures failed { IfSome self.old.reader.fault (λ fault. (result ≡ 0) × (out.new ≡ told_fault fault)
+            ReadsAndReports self.old.reader self.new.reader left piece.now result out.new }
+        ensures failed { IfSome self.old.reader.fault (λ fault. (result ≡ 0) × (out.new ≡ reported_fault fault)
             × (self.new ≡ self.old)) }
     {
         clear(out);
-        let (behind, found) = self.reader.read(piece);
+        let (following, found) = self.reader.read(piece);
         match found {
-            Found::Nothing => {}
-            Found::Record(entry) => tell(&entry, out),
-            Found::Held => {
-                if let Some(entry) = self.reader.cut() {
-                    tell(&entry, out);
+            RecordFound::Nothing => {}
+            RecordFound::Record(entry) => report(&entry, out),
+            RecordFound::Held => {
+                if let Some(entry) = self.reader.split() {
+                    report(&entry, out);
                 }
             }
-            Found::Refused(fault) => refuse(fault, out),
+            RecordFound::Refused(fault) => refuse(fault, out),
         }
-        piece.len().saturating_sub(behind.len())
+        piece.len().saturating_sub(following.len())
     }
 }
 
-/// How many bytes stand before the first CR; 1 where it stands first.
+/// How many bytes are before the first CR; 1 where it is first.
 fn piece_length(bytes: &[u8]) -> usize
     ensures count { result ≡ piece_length bytes.now }
     ensures bound { result ≤ length bytes.now }
@@ -200,7 +203,7 @@ fn first_return(bytes: &[u8]) -> Option<usize>
     bytes.iter().position(|byte| *byte == CR)
 }
 
-/// Tells nothing.
+/// Reports nothing.
 pub(crate) fn clear(out: &mut LisFound)
     ensures { out.new ≡ nothing }
 {
@@ -213,20 +216,20 @@ pub(crate) fn clear(out: &mut LisFound)
     out.number = 0;
 }
 
-/// Tells a record.
-pub(crate) fn tell(entry: &LentRecord<'_>, out: &mut LisFound)
+/// Reports a record.
+pub(crate) fn report(entry: &BorrowedRecord<'_>, out: &mut LisFound)
     requires { out.old ≡ nothing }
-    ensures { out.new ≡ told_record entry.now.content }
+    ensures { out.new ≡ reported_record entry.now.content }
 {
     out.kind = 1;
     out.letter = entry.kind().letter();
     out.fields = entry.len();
 }
 
-/// Tells why a record can't be read.
+/// Reports why a record can't be read.
 fn refuse(fault: MessageFault, out: &mut LisFound)
     requires { out.old ≡ nothing }
-    ensures { out.new ≡ told_fault fault }
+    ensures { out.new ≡ reported_fault fault }
 {
     out.kind = 2;
     out.number = fault.place;

@@ -1,22 +1,22 @@
 //! The receiver for programs in C.
 
 ghost use Rattle.std.specs.Prelude.{◌≡◌, ◌≢◌, ◌≤◌, ◌<◌, ◌∷◌, ◌++◌, [], drop, length, take};
-ghost use Rattle.lis_c.specs.declared.desk.ReceiverDesk.{ReceiverDesk};
+ghost use Rattle.lis_c.specs.declared.handle_state.ReceiverHandleState.{ReceiverHandleState};
 ghost use Rattle.lis_c.specs.Codes.{readiness_code};
 ghost use Rattle.lis_c.specs.Limits.{LimitStatus, NewReceiver, Receives, receiver_limit, spare_of};
 ghost use Rattle.lis_c.specs.New.{IsNewReceiver, type_align};
 ghost use Rattle.lis_c.specs.Status.{BAD_NUMBER, OK, OUT_OF_MEMORY, ReserveStatus, copy_status};
-ghost use Rattle.lis_c.specs.Steps.{IsNotOutOfMemory, IsOutOfMemory, TellsRefusedFrame, MakesStep};
-ghost use Rattle.lis_c.specs.contracts.desk.ReceiverDesk.{the_row as desk_row};
+ghost use Rattle.lis_c.specs.Steps.{IsNotOutOfMemory, IsOutOfMemory, ReportsRefusedFrame, MakesStep};
+ghost use Rattle.lis_c.specs.contracts.handle_state.ReceiverHandleState.{the_row as handle_state_row};
 ghost use Rattle.lis_link.specs.declared.receiver.Readiness.{Readiness};
 ghost use Rattle.lis_link.specs.Receiver.{ReceiverState, on_byte, on_bytes, on_receiver_timer, receiver_restarted};
 ghost use Rattle.lis_link.specs.Receiver.{held_length, with_heard, with_readiness, with_room};
-ghost use Rattle.lis_link.specs.Stands.{SpareAfter};
+ghost use Rattle.lis_link.specs.Representation.{SpareAfter};
 ghost use Rattle.std.specs.Borrow.{sem};
 ghost use Rattle.std.specs.Mem.{type_size};
 ghost use Rattle.std.specs.Ptr.{room_at};
 
-use crate::desk::{ReceiverDesk, let_go_receiver};
+use crate::handle_state::{ReceiverHandleState, release_receiver};
 use crate::out::{LisStep, copy_text};
 use crate::receiving::AnyReceiver;
 use crate::status;
@@ -26,58 +26,59 @@ use std::alloc::Global;
 use std::marker::Model;
 use std::mem::{align_of, size_of};
 
-/// A receiver, kept behind a pointer that C hands back as it got it.
+/// A receiver, held by a pointer that C hands back as it got it.
 #[repr(C)]
 pub struct LisReceiver {
     at: *mut u8,
-    ghost state: { ReceiverDesk },
+    ghost state: { ReceiverHandleState },
 }
 
 impl Model for LisReceiver {
     ghost use Rattle.std.specs.Borrow.{full_share};
     ghost use Rattle.std.specs.Ptr.{lies_at};
-    ghost use Rattle.lis_c.specs.contracts.desk.ReceiverDesk.{the_row};
+    ghost use Rattle.lis_c.specs.contracts.handle_state.ReceiverHandleState.{the_row};
 
     ghost also_owns = { λ h. lies_at the_row full_share h.at h.state };
 }
 
 impl LisReceiver {
-    ghost use Rattle.lis_c.specs.contracts.desk.ReceiverDesk.{the_row as desk_row};
+    ghost use Rattle.lis_c.specs.contracts.handle_state.ReceiverHandleState.{the_row as handle_state_row};
     ghost use Rattle.lis_c.specs.contracts.receiver.LisReceiver.{the_row};
     ghost use Rattle.std.specs.Borrow.{Lends, sem};
 
-    /// What lies behind the pointer.
-    fn lend(&mut self) -> &mut ReceiverDesk
-        ensures* writes_back { sem 𝓛 (Lends the_row desk_row self.entry result (λ w. record self.old { state = w })) }
+    /// What the pointer points to.
+    fn borrow(&mut self) -> &mut ReceiverHandleState
+        ensures* writes_back { sem 𝓛 (Lends the_row handle_state_row self.entry result
+            (λ w. record self.old { state = w })) }
         ensures value { result.now ≡ self.old.state }
     {
-        unsafe { &mut *(self.at as *mut ReceiverDesk) }
+        unsafe { &mut *(self.at as *mut ReceiverHandleState) }
     }
 }
 
 /// The number of bytes of a receiver's block.
 #[unsafe(no_mangle)]
 pub extern "C" fn lis_receiver_size() -> usize
-    ensures { result ≡ type_size desk_row }
+    ensures { result ≡ type_size handle_state_row }
 {
-    size_of::<ReceiverDesk>()
+    size_of::<ReceiverHandleState>()
 }
 
 /// What the address of a receiver's block is a multiple of.
 #[unsafe(no_mangle)]
 pub extern "C" fn lis_receiver_align() -> usize
-    ensures { result ≡ type_align desk_row }
+    ensures { result ≡ type_align handle_state_row }
 {
-    align_of::<ReceiverDesk>()
+    align_of::<ReceiverHandleState>()
 }
 
 /// Makes a receiver, neutral and ready, in a block of the caller's.
 #[unsafe(no_mangle)]
 pub unsafe extern "C" fn lis_receiver_init(alloc: Global, at: *mut u8)
-    requires* { sem 𝓛 (room_at desk_row at) }
+    requires* { sem 𝓛 (room_at handle_state_row at) }
     ensures* { sem 𝓛 (IsNewReceiver at) }
 {
-    (at as *mut ReceiverDesk).write(ReceiverDesk::new(alloc));
+    (at as *mut ReceiverHandleState).write(ReceiverHandleState::new(alloc));
 }
 
 /// Sets how long the text of a frame may be, 240 bytes or 63,993, and makes the receiver new: neutral and ready,
@@ -97,27 +98,27 @@ pub extern "C" fn lis_receiver_set_limit(alloc: Global, s: &mut LisReceiver, lim
         },
         _ => return status::BAD_NUMBER,
     };
-    let desk = s.lend();
-    desk.receiver = receiver;
-    desk.text = List::new(alloc);
+    let handle_state = s.borrow();
+    handle_state.receiver = receiver;
+    handle_state.text = List::new(alloc);
     status::OK
 }
 
-/// Hears one byte. Only where a frame would be accepted whose text is longer than the spare room may memory be
-/// refused, note 11; the frame is then answered NAK and not taken.
+/// Hears one byte. Only where a frame would be accepted whose text is longer than the spare room may memory
+/// run out, note 11; the frame is then answered NAK and not taken.
 #[unsafe(no_mangle)]
 pub extern "C" fn lis_receiver_byte(s: &mut LisReceiver, byte: u8, out: &mut LisStep)
     ensures step { (r : ReceiverState) → Receives s.old.state.receiver r → IsNotOutOfMemory out.new
         → MakesStep (on_byte (receiver_limit s.old.state.receiver) byte r) s.old.state out.new s.new.state }
     ensures refused { (r : ReceiverState) → Receives s.old.state.receiver r → IsOutOfMemory out.new
-        → TellsRefusedFrame (on_byte (receiver_limit s.old.state.receiver) byte r)
+        → ReportsRefusedFrame (on_byte (receiver_limit s.old.state.receiver) byte r)
         (record r { past = byte ∷ r.past }) s.old.state out.new s.new.state }
     ensures spare { (r : ReceiverState) → Receives s.old.state.receiver r
         → SpareAfter (spare_of s.old.state.receiver) (spare_of s.new.state.receiver)
         (on_byte (receiver_limit s.old.state.receiver) byte r).taken }
     ensures limit { receiver_limit s.new.state.receiver ≡ receiver_limit s.old.state.receiver }
 {
-    s.lend().byte(byte, out);
+    s.borrow().byte(byte, out);
 }
 
 /// Hears bytes up to the first that means something, or all of them where none does, and answers how many it heard;
@@ -129,14 +130,14 @@ pub extern "C" fn lis_receiver_hear(s: &mut LisReceiver, bytes: &[u8], out: &mut
     ensures step { (r : ReceiverState) → Receives s.old.state.receiver r → IsNotOutOfMemory out.new
         → MakesStep (on_bytes (receiver_limit s.old.state.receiver) bytes.now r).step s.old.state out.new s.new.state }
     ensures refused { (r : ReceiverState) → Receives s.old.state.receiver r → IsOutOfMemory out.new
-        → TellsRefusedFrame (on_bytes (receiver_limit s.old.state.receiver) bytes.now r).step
+        → ReportsRefusedFrame (on_bytes (receiver_limit s.old.state.receiver) bytes.now r).step
         (with_heard (take result bytes.now) r) s.old.state out.new s.new.state }
     ensures spare { (r : ReceiverState) → Receives s.old.state.receiver r
         → SpareAfter (spare_of s.old.state.receiver) (spare_of s.new.state.receiver)
         (on_bytes (receiver_limit s.old.state.receiver) bytes.now r).step.taken }
     ensures limit { receiver_limit s.new.state.receiver ≡ receiver_limit s.old.state.receiver }
 {
-    s.lend().hear(bytes, out)
+    s.borrow().hear(bytes, out)
 }
 
 /// The receiver's timer runs out.
@@ -147,10 +148,10 @@ pub extern "C" fn lis_receiver_timer(s: &mut LisReceiver, out: &mut LisStep)
     ensures spare { spare_of s.old.state.receiver ≤ spare_of s.new.state.receiver }
     ensures limit { receiver_limit s.new.state.receiver ≡ receiver_limit s.old.state.receiver }
 {
-    s.lend().timer(out);
+    s.borrow().timer(out);
 }
 
-/// The receiver is neutral, ready and has room again; the text that it handed out last stays.
+/// The receiver is neutral, ready and has room again; the text that it delivered last stays.
 #[unsafe(no_mangle)]
 pub extern "C" fn lis_receiver_restart(s: &mut LisReceiver)
     ensures state { (r : ReceiverState) → Receives s.old.state.receiver r →
@@ -159,7 +160,7 @@ pub extern "C" fn lis_receiver_restart(s: &mut LisReceiver)
     ensures spare { spare_of s.old.state.receiver ≤ spare_of s.new.state.receiver }
     ensures limit { receiver_limit s.new.state.receiver ≡ receiver_limit s.old.state.receiver }
 {
-    s.lend().receiver.restart();
+    s.borrow().receiver.restart();
 }
 
 /// Whether there is room for another frame from now on.
@@ -171,7 +172,7 @@ pub extern "C" fn lis_receiver_set_room(s: &mut LisReceiver, room: bool)
     ensures spare { spare_of s.new.state.receiver ≡ spare_of s.old.state.receiver }
     ensures limit { receiver_limit s.new.state.receiver ≡ receiver_limit s.old.state.receiver }
 {
-    s.lend().receiver.set_room(room);
+    s.borrow().receiver.set_room(room);
 }
 
 /// How ENQ is answered from now on: 0 ready, 1 busy, 2 contending. `BAD_NUMBER`, and nothing has changed, for any
@@ -192,7 +193,7 @@ pub extern "C" fn lis_receiver_set_ready(s: &mut LisReceiver, readiness: u8) -> 
         2 => Readiness::Contending,
         _ => return status::BAD_NUMBER,
     };
-    s.lend().receiver.set_ready(readiness);
+    s.borrow().receiver.set_ready(readiness);
     status::OK
 }
 
@@ -211,7 +212,7 @@ pub extern "C" fn lis_receiver_reserve(s: &mut LisReceiver, bytes: u64) -> u8
     if bytes > LONGEST_TEXT as u64 {
         return status::TOO_LONG;
     }
-    match s.lend().receiver.reserve(bytes) {
+    match s.borrow().receiver.reserve(bytes) {
         Ok(()) => status::OK,
         Err(_) => status::OUT_OF_MEMORY,
     }
@@ -223,7 +224,7 @@ pub extern "C" fn lis_receiver_is_open(s: &mut LisReceiver) -> bool
     ensures value { (r : ReceiverState) → Receives s.old.state.receiver r → result ≡ r.is_open }
     ensures same { s.new.state ≡ s.old.state }
 {
-    s.lend().receiver.is_open()
+    s.borrow().receiver.is_open()
 }
 
 /// How many frames were accepted since the line was last opened.
@@ -232,7 +233,7 @@ pub extern "C" fn lis_receiver_accepted(s: &mut LisReceiver) -> u64
     ensures value { (r : ReceiverState) → Receives s.old.state.receiver r → result ≡ length r.accepted }
     ensures same { s.new.state ≡ s.old.state }
 {
-    s.lend().receiver.accepted()
+    s.borrow().receiver.accepted()
 }
 
 /// How many bytes are held of the text that isn't complete.
@@ -241,19 +242,19 @@ pub extern "C" fn lis_receiver_held(s: &mut LisReceiver) -> u64
     ensures value { (r : ReceiverState) → Receives s.old.state.receiver r → result ≡ held_length r }
     ensures same { s.new.state ≡ s.old.state }
 {
-    s.lend().receiver.held()
+    s.borrow().receiver.held()
 }
 
-/// The length of the text that was handed out last; 0 before the first.
+/// The length of the text that was delivered last; 0 before the first.
 #[unsafe(no_mangle)]
 pub extern "C" fn lis_receiver_text_len(s: &mut LisReceiver) -> usize
     ensures value { result ≡ length s.old.state.text }
     ensures same { s.new.state ≡ s.old.state }
 {
-    s.lend().text.len()
+    s.borrow().text.len()
 }
 
-/// Copies the text that was handed out last to the front of a buffer. `TOO_SHORT`, and nothing is copied, where it is
+/// Copies the text that was delivered last to the front of a buffer. `TOO_SHORT`, and nothing is copied, where it is
 /// longer than the buffer.
 #[unsafe(no_mangle)]
 pub extern "C" fn lis_receiver_text(s: &mut LisReceiver, out: &mut [u8]) -> u8
@@ -263,14 +264,14 @@ pub extern "C" fn lis_receiver_text(s: &mut LisReceiver, out: &mut [u8]) -> u8
     ensures same { s.new.state ≡ s.old.state }
 {
     let mut size = 0;
-    copy_text(s.lend().text.as_slice(), out, &mut size)
+    copy_text(s.borrow().text.as_slice(), out, &mut size)
 }
 
 /// Ends a receiver; its block is the caller's again.
 #[unsafe(no_mangle)]
 pub extern "C" fn lis_receiver_end(s: LisReceiver)
-    ensures* { sem 𝓛 (room_at desk_row s.at) }
+    ensures* { sem 𝓛 (room_at handle_state_row s.at) }
 {
     let LisReceiver { at } = s;
-    let_go_receiver(unsafe { (at as *mut ReceiverDesk).read() });
+    release_receiver(unsafe { (at as *mut ReceiverHandleState).read() });
 }

@@ -5,7 +5,7 @@ ghost use Rattle.lis_c.specs.Limits.{NewReceiver, Receives, kept_by, receiver_li
 ghost use Rattle.lis_link.specs.declared.receiver.Note.TheVariants as Notes;
 ghost use Rattle.lis_link.specs.Receiver.{ReceiverState, held_length, on_byte, on_bytes, on_receiver_timer};
 ghost use Rattle.lis_link.specs.Receiver.{receiver_restarted, with_heard, with_readiness, with_room};
-ghost use Rattle.lis_link.specs.Stands.{IsIn, Makes, RefusesFrame, SpareAfter};
+ghost use Rattle.lis_link.specs.Representation.{IsIn, IsStepMade, RefusesFrame, SpareAfter};
 ghost use Rattle.lis_text.specs.LinkText.{longest_text};
 
 use lis_link::{Hearing, Readiness, Receiver, ReceiverOf, Step};
@@ -74,7 +74,7 @@ impl AnyReceiver {
     /// The receiver's timer runs out.
     pub(crate) fn timer(&mut self) -> Step
         ensures step { (r : ReceiverState) → Receives self.old r →
-            Makes (receiver_limit self.new) (on_receiver_timer r) result (kept_by self.new) }
+            IsStepMade (receiver_limit self.new) (on_receiver_timer r) result (kept_by self.new) }
         ensures spare { spare_of self.old ≤ spare_of self.new }
         ensures limit { receiver_limit self.new ≡ receiver_limit self.old }
     {
@@ -114,7 +114,7 @@ impl AnyReceiver {
     /// Hears one byte and answers it.
     pub(crate) fn byte(&mut self, byte: u8) -> Step
         ensures step { (r : ReceiverState) → Receives self.old r → result.note ≢ Notes.OutOfMemory →
-            Makes (receiver_limit self.new) (on_byte (receiver_limit self.old) byte r) result (kept_by self.new) }
+            IsStepMade (receiver_limit self.new) (on_byte (receiver_limit self.old) byte r) result (kept_by self.new) }
         ensures refused { (r : ReceiverState) → Receives self.old r → result.note ≡ Notes.OutOfMemory →
             RefusesFrame (receiver_limit self.new) (spare_of self.old) (on_byte (receiver_limit self.old) byte r)
             (record r { past = byte ∷ r.past }) result (kept_by self.new) }
@@ -133,7 +133,7 @@ impl AnyReceiver {
         ensures count { (r : ReceiverState) → Receives self.old r →
             result.count ≡ (on_bytes (receiver_limit self.old) bytes.now r).count }
         ensures step { (r : ReceiverState) → Receives self.old r → result.step.note ≢ Notes.OutOfMemory →
-            Makes (receiver_limit self.new) (on_bytes (receiver_limit self.old) bytes.now r).step result.step
+            IsStepMade (receiver_limit self.new) (on_bytes (receiver_limit self.old) bytes.now r).step result.step
             (kept_by self.new) }
         ensures refused { (r : ReceiverState) → Receives self.old r → result.step.note ≡ Notes.OutOfMemory →
             RefusesFrame (receiver_limit self.new) (spare_of self.old)

@@ -1,26 +1,27 @@
-//! Records for programs in C, read where they stand (LIS02-A2, Delimiters). No call takes memory.
+//! Records for programs in C, read where they are (LIS02-A2, Delimiters). No call takes memory.
 
 ghost use Rattle.std.specs.Prelude.{◌≡◌, ◌++◌, ◌≢◌, ◌<◌, ◌≤◌, length, drop, None, Some, Ok, Err};
 ghost use Rattle.std.specs.Prelude.{IfOk, IfErr, IfSome, IfNone, MatchOption, MatchResult};
 ghost use Rattle.std.specs.Option.{option_to_list};
-ghost use Rattle.lis_c.specs.Records.{IsCopied, IsPart, TellsRecordFault, TellsRecord, delimiters_in, part_at, plain};
+ghost use Rattle.lis_c.specs.Records.{IsCopied, IsPart, ReportsRecordFault, ReportsRecord, delimiters_in, part_at};
+ghost use Rattle.lis_c.specs.Records.{plain};
 ghost use Rattle.lis_c.specs.Records.{no_record, record_place, record_status, symbol_bytes};
 ghost use Rattle.lis_c.specs.Status.{BAD_DELIMITERS};
-ghost use Rattle.lis_field.specs.declared.kinds.Kind.TheVariants as kinds;
-ghost use Rattle.lis_field.specs.Delimiters.{DelimiterBytes, IsDelimiters};
-ghost use Rattle.lis_field.specs.Shape.{RecordContent};
-ghost use Rattle.lis_field.specs.Text.{record_limit};
-ghost use Rattle.lis_field.specs.declared.faults.RecordFault.{RecordFault};
+ghost use Rattle.lis_record_values.specs.declared.kinds.Kind.TheVariants as kinds;
+ghost use Rattle.lis_record_values.specs.Delimiters.{DelimiterBytes, IsDelimiters};
+ghost use Rattle.lis_record_values.specs.Shape.{RecordContent};
+ghost use Rattle.lis_record_values.specs.Text.{record_limit};
+ghost use Rattle.lis_record_values.specs.declared.faults.RecordFault.{RecordFault};
 ghost use Rattle.lis_record.specs.Faults.{header_fault, record_fault};
-ghost use Rattle.lis_record.specs.Lent.{lent};
-ghost use Rattle.lis_field.specs.Relation.{IsRecord};
+ghost use Rattle.lis_record.specs.Borrowed.{borrowed};
+ghost use Rattle.lis_record_values.specs.Relation.{IsRecord};
 
 use crate::status;
-use lis_field::{DelimiterFault, Delimiters, Sym};
 use lis_record::{
-    DelimiterPartFault, LentComponent, LentRecord, LentSymbols, RecordFault, lend_header,
-    lend_record,
+    BorrowedComponent, BorrowedRecord, BorrowedSymbols, DelimiterPartFault, RecordFault,
+    borrow_header, borrow_record,
 };
+use lis_record_values::{DelimiterFault, Delimiters, Sym};
 
 /// The delimiters of a message, in the order of its header.
 #[repr(C)]
@@ -33,7 +34,7 @@ pub struct LisDelimiters {
 }
 
 /// A record: its letter in upper case, and the number of its fields after the letter, or after a header's delimiters.
-/// Where the text is none they are 0, and the place is that of the byte that no text may hold.
+/// Where the text is invalid they are 0, and the place is that of the byte that no text may hold.
 #[repr(C)]
 #[derive(Drop)]
 pub struct LisRecord {
@@ -51,21 +52,21 @@ pub extern "C" fn lis_header_read(
     out: &mut LisRecord,
 ) -> u8
     ensures found { (d : DelimiterBytes) (content : RecordContent) → IsDelimiters d → IsRecord d text.now content
-        → content.kind ≡ kinds.H → TellsRecord content result out.new × (delimiters_in delimiters.new ≡ d) }
+        → content.kind ≡ kinds.H → ReportsRecord content result out.new × (delimiters_in delimiters.new ≡ d) }
     ensures fault { (fault : RecordFault) → header_fault text.now ≡ Some fault
-        → TellsRecordFault fault result out.new × (delimiters.new ≡ delimiters.old) }
+        → ReportsRecordFault fault result out.new × (delimiters.new ≡ delimiters.old) }
 {
-    match lend_header(text) {
+    match borrow_header(text) {
         Ok(entry) => {
             let declared = entry.delimiters();
-            tell_delimiters(declared, delimiters);
-            tell(&entry, out)
+            report_delimiters(declared, delimiters);
+            report(&entry, out)
         }
         Err(fault) => refuse(fault, out),
     }
 }
 
-/// Reads any other record under the delimiters of its message: `OK`, `BAD_DELIMITERS` where these are none, or the
+/// Reads any other record under the delimiters of its message: `OK`, `BAD_DELIMITERS` where these are invalid, or the
 /// first of `NO_RECORD`, `BAD_LETTER`, `FORBIDDEN` (with the byte's place) and `TOO_LONG`.
 #[unsafe(no_mangle)]
 pub extern "C" fn lis_record_read(
@@ -75,19 +76,19 @@ pub extern "C" fn lis_record_read(
 ) -> u8
     ensures found { (content : RecordContent) → IsDelimiters (delimiters_in delimiters.now)
         → IsRecord (delimiters_in delimiters.now) text.now content → content.kind ≢ kinds.H
-        → TellsRecord content result out.new }
+        → ReportsRecord content result out.new }
     ensures fault { (fault : RecordFault) → IsDelimiters (delimiters_in delimiters.now)
-        → record_fault (delimiters_in delimiters.now) text.now ≡ Some fault → TellsRecordFault fault result out.new }
+        → record_fault (delimiters_in delimiters.now) text.now ≡ Some fault → ReportsRecordFault fault result out.new }
     ensures delimiters { (IsDelimiters (delimiters_in delimiters.now) → ⊥)
         → (result ≡ BAD_DELIMITERS) × (out.new ≡ no_record) }
 {
     match record_under(delimiters, text) {
-        Ok(entry) => tell(&entry, out),
+        Ok(entry) => report(&entry, out),
         Err(fault) => refuse(fault, out),
     }
 }
 
-/// Copies the bytes of a header's component, without its escapes, to the front of a buffer, and tells how many they
+/// Copies the bytes of a header's component, without its escapes, to the front of a buffer, and says how many they
 /// are. Fields are counted as the standard does, from 3 in a header; repeats and components from 0. `OK`, `ABSENT`
 /// where there is none, `TOO_SHORT` where the buffer is (one as long as the text never is), else as `lis_header_read`.
 #[unsafe(no_mangle)]
@@ -105,7 +106,7 @@ pub extern "C" fn lis_header_part(
         → (result ≡ record_status fault) × (size.new ≡ 0) × (out.new ≡ out.old) }
 {
     *size = 0;
-    match lend_header(text) {
+    match borrow_header(text) {
         Ok(header) => copy_part(&header, field, repeat, component, out, size),
         Err(fault) => record_status(fault),
     }
@@ -155,10 +156,10 @@ pub(crate) fn known(delimiters: &LisDelimiters) -> Result<Delimiters, DelimiterF
 pub(crate) fn record_under<'a>(
     delimiters: &LisDelimiters,
     text: &'a [u8],
-) -> Result<LentRecord<'a>, RecordFault>
+) -> Result<BorrowedRecord<'a>, RecordFault>
     ensures only { (content : RecordContent) → IsDelimiters (delimiters_in delimiters.now)
         → IsRecord (delimiters_in delimiters.now) text.now content → content.kind ≢ kinds.H
-        → result ≡ Ok (lent (delimiters_in delimiters.now) content) }
+        → result ≡ Ok (borrowed (delimiters_in delimiters.now) content) }
     ensures fault { (fault : RecordFault) → IsDelimiters (delimiters_in delimiters.now)
         → record_fault (delimiters_in delimiters.now) text.now ≡ Some fault → result ≡ Err fault }
     ensures delimiters { (IsDelimiters (delimiters_in delimiters.now) → ⊥)
@@ -167,13 +168,13 @@ pub(crate) fn record_under<'a>(
     ensures short { IfOk result (λ _. length text.now ≤ record_limit) }
 {
     match known(delimiters) {
-        Ok(known) => lend_record(&known, text),
+        Ok(known) => borrow_record(&known, text),
         Err(fault) => Err(RecordFault::DelimiterPart(DelimiterPartFault::Fault(fault))),
     }
 }
 
-/// Tells the delimiters of a message.
-pub(crate) fn tell_delimiters(known: Delimiters, out: &mut LisDelimiters)
+/// Reports the delimiters of a message.
+pub(crate) fn report_delimiters(known: Delimiters, out: &mut LisDelimiters)
     ensures { delimiters_in out.new ≡ known }
 {
     out.field = known.field();
@@ -182,9 +183,9 @@ pub(crate) fn tell_delimiters(known: Delimiters, out: &mut LisDelimiters)
     out.escape = known.escape();
 }
 
-/// Tells a record.
-fn tell(entry: &LentRecord<'_>, out: &mut LisRecord) -> u8
-    ensures { TellsRecord entry.now.content result out.new }
+/// Reports a record.
+fn report(entry: &BorrowedRecord<'_>, out: &mut LisRecord) -> u8
+    ensures { ReportsRecord entry.now.content result out.new }
 {
     out.letter = entry.kind().letter();
     out.fields = entry.len();
@@ -192,9 +193,9 @@ fn tell(entry: &LentRecord<'_>, out: &mut LisRecord) -> u8
     status::OK
 }
 
-/// Tells why a text is none.
+/// Reports why a text is invalid.
 fn refuse(fault: RecordFault, out: &mut LisRecord) -> u8
-    ensures { TellsRecordFault fault result out.new }
+    ensures { ReportsRecordFault fault result out.new }
 {
     out.letter = 0;
     out.fields = 0;
@@ -228,7 +229,7 @@ pub(crate) fn record_place(fault: RecordFault) -> usize
 
 /// Copies the bytes of a component.
 pub(crate) fn copy_part(
-    entry: &LentRecord<'_>,
+    entry: &BorrowedRecord<'_>,
     field: usize,
     repeat: usize,
     component: usize,
@@ -241,11 +242,11 @@ pub(crate) fn copy_part(
     let Some(part) = part(entry, field, repeat, component) else {
         return status::ABSENT;
     };
-    tell_symbols(part.symbols(), out, size)
+    report_symbols(part.symbols(), out, size)
 }
 
 /// Copies the bytes that symbols mean, and says how many they are.
-pub(crate) fn tell_symbols(symbols: LentSymbols<'_>, out: &mut [u8], size: &mut usize) -> u8
+pub(crate) fn report_symbols(symbols: BorrowedSymbols<'_>, out: &mut [u8], size: &mut usize) -> u8
     requires { size.old ≡ 0 }
     ensures copied { IsCopied (plain symbols.entry) result out.old out.new size.new }
     ensures length { length out.new ≡ length out.old }
@@ -261,11 +262,11 @@ pub(crate) fn tell_symbols(symbols: LentSymbols<'_>, out: &mut [u8], size: &mut 
 
 /// The component at these places.
 fn part<'a>(
-    entry: &LentRecord<'a>,
+    entry: &BorrowedRecord<'a>,
     field: usize,
     repeat: usize,
     component: usize,
-) -> Option<LentComponent<'a>>
+) -> Option<BorrowedComponent<'a>>
     ensures { MatchOption result (part_at entry.now.content field repeat component ≡ None)
         (λ part. part_at entry.now.content field repeat component ≡ Some part.content) }
 {
@@ -279,7 +280,7 @@ fn part<'a>(
 }
 
 /// Copies the bytes of symbols to the front of a buffer, and answers how many they are; none where it is too short.
-fn copy_symbols(symbols: LentSymbols<'_>, out: &mut [u8]) -> Option<usize>
+fn copy_symbols(symbols: BorrowedSymbols<'_>, out: &mut [u8]) -> Option<usize>
     ensures length { length out.new ≡ length out.old }
     ensures some { IfSome result (λ count. (out.new ≡ plain symbols.entry ++ drop count out.old)
         × (count ≡ length (plain symbols.entry)) × (count ≤ length out.old)) }

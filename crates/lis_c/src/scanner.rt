@@ -1,18 +1,18 @@
 //! The scanner for programs in C.
 
 ghost use Rattle.std.specs.Prelude.{◌≡◌, ◌≢◌, ◌∷◌, ℕ, List, ◌++◌, drop, length, take};
-ghost use Rattle.lis_c.specs.declared.desk.ScannerDesk.{ScannerDesk};
+ghost use Rattle.lis_c.specs.declared.handle_state.ScannerHandleState.{ScannerHandleState};
 ghost use Rattle.lis_c.specs.Limits.{LimitStatus, NewScanner, ScansFor, scanner_limit, scanner_text};
-ghost use Rattle.lis_c.specs.Signals.{FedAndTold, TellsSignal};
+ghost use Rattle.lis_c.specs.Signals.{FedAndAnswered, ReportsSignal};
 ghost use Rattle.lis_c.specs.Status.{OK, copy_status};
 ghost use Rattle.lis_frame.specs.Stream.{signal_after, stream_with};
 ghost use Rattle.lis_c.specs.New.{IsNewScanner, type_align};
-ghost use Rattle.lis_c.specs.contracts.desk.ScannerDesk.{the_row as desk_row};
+ghost use Rattle.lis_c.specs.contracts.handle_state.ScannerHandleState.{the_row as handle_state_row};
 ghost use Rattle.std.specs.Borrow.{sem};
 ghost use Rattle.std.specs.Mem.{type_size};
 ghost use Rattle.std.specs.Ptr.{room_at};
 
-use crate::desk::{ScannerDesk, let_go_scanner};
+use crate::handle_state::{ScannerHandleState, release_scanner};
 use crate::out::{LisSignal, copy_text};
 use crate::scanning::AnyScanner;
 use crate::status;
@@ -20,58 +20,59 @@ use std::alloc::Global;
 use std::marker::Model;
 use std::mem::{align_of, size_of};
 
-/// A scanner, kept behind a pointer that C hands back as it got it.
+/// A scanner, held by a pointer that C hands back as it got it.
 #[repr(C)]
 pub struct LisScanner {
     at: *mut u8,
-    ghost state: { ScannerDesk },
+    ghost state: { ScannerHandleState },
 }
 
 impl Model for LisScanner {
     ghost use Rattle.std.specs.Borrow.{full_share};
     ghost use Rattle.std.specs.Ptr.{lies_at};
-    ghost use Rattle.lis_c.specs.contracts.desk.ScannerDesk.{the_row};
+    ghost use Rattle.lis_c.specs.contracts.handle_state.ScannerHandleState.{the_row};
 
     ghost also_owns = { λ h. lies_at the_row full_share h.at h.state };
 }
 
 impl LisScanner {
-    ghost use Rattle.lis_c.specs.contracts.desk.ScannerDesk.{the_row as desk_row};
+    ghost use Rattle.lis_c.specs.contracts.handle_state.ScannerHandleState.{the_row as handle_state_row};
     ghost use Rattle.lis_c.specs.contracts.scanner.LisScanner.{the_row};
     ghost use Rattle.std.specs.Borrow.{Lends, sem};
 
-    /// What lies behind the pointer.
-    fn lend(&mut self) -> &mut ScannerDesk
-        ensures* writes_back { sem 𝓛 (Lends the_row desk_row self.entry result (λ w. record self.old { state = w })) }
+    /// What the pointer points to.
+    fn borrow(&mut self) -> &mut ScannerHandleState
+        ensures* writes_back { sem 𝓛 (Lends the_row handle_state_row self.entry result
+            (λ w. record self.old { state = w })) }
         ensures value { result.now ≡ self.old.state }
     {
-        unsafe { &mut *(self.at as *mut ScannerDesk) }
+        unsafe { &mut *(self.at as *mut ScannerHandleState) }
     }
 }
 
 /// The number of bytes of a scanner's block.
 #[unsafe(no_mangle)]
 pub extern "C" fn lis_scanner_size() -> usize
-    ensures { result ≡ type_size desk_row }
+    ensures { result ≡ type_size handle_state_row }
 {
-    size_of::<ScannerDesk>()
+    size_of::<ScannerHandleState>()
 }
 
 /// What the address of a scanner's block is a multiple of.
 #[unsafe(no_mangle)]
 pub extern "C" fn lis_scanner_align() -> usize
-    ensures { result ≡ type_align desk_row }
+    ensures { result ≡ type_align handle_state_row }
 {
-    align_of::<ScannerDesk>()
+    align_of::<ScannerHandleState>()
 }
 
 /// Makes a scanner that has read no byte in a block of the caller's.
 #[unsafe(no_mangle)]
 pub unsafe extern "C" fn lis_scanner_init(alloc: Global, at: *mut u8)
-    requires* { sem 𝓛 (room_at desk_row at) }
+    requires* { sem 𝓛 (room_at handle_state_row at) }
     ensures* { sem 𝓛 (IsNewScanner at) }
 {
-    (at as *mut ScannerDesk).write(ScannerDesk::new(alloc));
+    (at as *mut ScannerHandleState).write(ScannerHandleState::new(alloc));
 }
 
 /// Sets how long the text of a frame may be, 240 bytes or 63,993, and begins anew: `OK`; `BAD_NUMBER` if it is another
@@ -90,35 +91,35 @@ pub extern "C" fn lis_scanner_set_limit(alloc: Global, s: &mut LisScanner, limit
         },
         _ => return status::BAD_NUMBER,
     };
-    s.lend().scanner = scanner;
+    s.borrow().scanner = scanner;
     status::OK
 }
 
-/// Reads one byte, and tells the signal that it gives.
+/// Reads one byte, and reports the signal that it gives.
 #[unsafe(no_mangle)]
 pub extern "C" fn lis_scanner_push(s: &mut LisScanner, byte: u8, out: &mut LisSignal)
     ensures signal { (past : List ℕ) → ScansFor s.old.state.scanner past →
-        TellsSignal (signal_after (scanner_limit s.old.state.scanner) past byte) out.new
+        ReportsSignal (signal_after (scanner_limit s.old.state.scanner) past byte) out.new
         (scanner_text s.new.state.scanner) }
     ensures after { (past : List ℕ) → ScansFor s.old.state.scanner past →
         ScansFor s.new.state.scanner (byte ∷ past) }
     ensures limit { scanner_limit s.new.state.scanner ≡ scanner_limit s.old.state.scanner }
 {
-    s.lend().scanner.push(byte, out);
+    s.borrow().scanner.push(byte, out);
 }
 
-/// Reads bytes up to the first that gives a signal, or all of them where none does, tells the signal, and answers how
+/// Reads bytes up to the first that gives a signal, or all of them where none does, reports the signal, and answers how
 /// many it read.
 #[unsafe(no_mangle)]
 pub extern "C" fn lis_scanner_feed(s: &mut LisScanner, bytes: &[u8], out: &mut LisSignal) -> usize
     ensures signal { (past : List ℕ) → ScansFor s.old.state.scanner past →
-        FedAndTold (scanner_limit s.old.state.scanner) past bytes.now result out.new
+        FedAndAnswered (scanner_limit s.old.state.scanner) past bytes.now result out.new
         (scanner_text s.new.state.scanner) }
     ensures after { (past : List ℕ) → ScansFor s.old.state.scanner past →
         ScansFor s.new.state.scanner (stream_with past (take result bytes.now)) }
     ensures limit { scanner_limit s.new.state.scanner ≡ scanner_limit s.old.state.scanner }
 {
-    s.lend().scanner.feed(bytes, out)
+    s.borrow().scanner.feed(bytes, out)
 }
 
 /// The length of the text of the frame that was read last, if a signal has no room for it; else 0.
@@ -127,7 +128,7 @@ pub extern "C" fn lis_scanner_text_len(s: &mut LisScanner) -> usize
     ensures value { result ≡ length (scanner_text s.old.state.scanner) }
     ensures same { s.new.state ≡ s.old.state }
 {
-    s.lend().scanner.text().len()
+    s.borrow().scanner.text().len()
 }
 
 /// Copies that text to the front of a buffer. `TOO_SHORT`, and nothing is copied, if it is longer than the buffer.
@@ -140,14 +141,14 @@ pub extern "C" fn lis_scanner_text(s: &mut LisScanner, out: &mut [u8]) -> u8
     ensures same { s.new.state ≡ s.old.state }
 {
     let mut size = 0;
-    copy_text(s.lend().scanner.text(), out, &mut size)
+    copy_text(s.borrow().scanner.text(), out, &mut size)
 }
 
 /// Ends a scanner; its block is the caller's again.
 #[unsafe(no_mangle)]
 pub extern "C" fn lis_scanner_end(s: LisScanner)
-    ensures* { sem 𝓛 (room_at desk_row s.at) }
+    ensures* { sem 𝓛 (room_at handle_state_row s.at) }
 {
     let LisScanner { at } = s;
-    let_go_scanner(unsafe { (at as *mut ScannerDesk).read() });
+    release_scanner(unsafe { (at as *mut ScannerHandleState).read() });
 }

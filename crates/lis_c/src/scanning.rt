@@ -2,7 +2,7 @@
 
 ghost use Rattle.std.specs.Prelude.{◌≡◌, ◌≤◌, ◌∷◌, ℕ, [], List, length, take, IfOk};
 ghost use Rattle.lis_c.specs.Limits.{NewScanner, ScansFor, scanner_limit, scanner_text};
-ghost use Rattle.lis_c.specs.Signals.{FedAndTold, TellsSignal};
+ghost use Rattle.lis_c.specs.Signals.{FedAndAnswered, ReportsSignal};
 ghost use Rattle.lis_c.specs.inside.Signals.{Puts, PutsLong};
 ghost use Rattle.lis_frame.specs.Scanner.{StandsFor};
 ghost use Rattle.lis_frame.specs.Stream.{signal_after, stream_with};
@@ -54,11 +54,11 @@ impl LongScanner {
     }
 
     #[tactic(auto, using(crate::proofs::SignalLaws::long))]
-    /// Reads one byte, and tells the signal that it gives.
+    /// Reads one byte, and reports the signal that it gives.
     #[inline(never)]
     fn push(&mut self, byte: u8, out: &mut LisSignal)
         ensures signal { (past : List ℕ) → StandsFor 63993 self.old.scanner past →
-            TellsSignal (signal_after 63993 past byte) out.new self.new.text }
+            ReportsSignal (signal_after 63993 past byte) out.new self.new.text }
         ensures after { (past : List ℕ) → StandsFor 63993 self.old.scanner past →
             StandsFor 63993 self.new.scanner (byte ∷ past) }
     {
@@ -67,12 +67,12 @@ impl LongScanner {
     }
 
     #[tactic(auto, using(crate::proofs::SignalLaws::long_fed))]
-    /// Reads bytes up to the first that gives a signal, or all of them if none does, tells the signal, and answers
+    /// Reads bytes up to the first that gives a signal, or all of them if none does, reports the signal, and answers
     /// how many it read.
     #[inline(never)]
     fn feed(&mut self, bytes: &[u8], out: &mut LisSignal) -> usize
         ensures signal { (past : List ℕ) → StandsFor 63993 self.old.scanner past →
-            FedAndTold 63993 past bytes.now result out.new self.new.text }
+            FedAndAnswered 63993 past bytes.now result out.new self.new.text }
         ensures after { (past : List ℕ) → StandsFor 63993 self.old.scanner past →
             StandsFor 63993 self.new.scanner (stream_with past (take result bytes.now)) }
     {
@@ -89,7 +89,7 @@ impl LongScanner {
     }
 }
 
-/// Puts a report into a signal, next to the text that stands there.
+/// Puts a report into a signal, next to the text that is there.
 fn put(report: Report, out: &mut LisSignal)
     ensures put { Puts report out.new }
     ensures text { out.new.text ≡ out.old.text }
@@ -135,10 +135,10 @@ impl AnyScanner {
     }
 
     #[tactic(auto, using(crate::proofs::SignalLaws::usual))]
-    /// Reads one byte, and tells the signal that it gives.
+    /// Reads one byte, and reports the signal that it gives.
     pub(crate) fn push(&mut self, byte: u8, out: &mut LisSignal)
         ensures signal { (past : List ℕ) → ScansFor self.old past →
-            TellsSignal (signal_after (scanner_limit self.old) past byte) out.new (scanner_text self.new) }
+            ReportsSignal (signal_after (scanner_limit self.old) past byte) out.new (scanner_text self.new) }
         ensures after { (past : List ℕ) → ScansFor self.old past → ScansFor self.new (byte ∷ past) }
         ensures limit { scanner_limit self.new ≡ scanner_limit self.old }
     {
@@ -152,11 +152,11 @@ impl AnyScanner {
     }
 
     #[tactic(auto, using(crate::proofs::SignalLaws::usual_fed))]
-    /// Reads bytes up to the first that gives a signal, or all of them if none does, tells the signal, and answers
+    /// Reads bytes up to the first that gives a signal, or all of them if none does, reports the signal, and answers
     /// how many it read.
     pub(crate) fn feed(&mut self, bytes: &[u8], out: &mut LisSignal) -> usize
         ensures signal { (past : List ℕ) → ScansFor self.old past →
-            FedAndTold (scanner_limit self.old) past bytes.now result out.new (scanner_text self.new) }
+            FedAndAnswered (scanner_limit self.old) past bytes.now result out.new (scanner_text self.new) }
         ensures after { (past : List ℕ) → ScansFor self.old past →
             ScansFor self.new (stream_with past (take result bytes.now)) }
         ensures limit { scanner_limit self.new ≡ scanner_limit self.old }

@@ -1,14 +1,14 @@
 //! The sender for programs in C.
 
 ghost use Rattle.std.specs.Prelude.{◌≡◌, ◌≢◌, ◌++◌, ◌∷◌, [], MatchResult, Some, length};
-ghost use Rattle.lis_c.specs.declared.desk.SenderDesk.{SenderDesk};
+ghost use Rattle.lis_c.specs.declared.handle_state.SenderHandleState.{SenderHandleState};
 ghost use Rattle.lis_c.specs.Codes.{outcome_code, phase_code};
 ghost use Rattle.lis_c.specs.Emitted.{FrameCopied, HoldsBytes, HoldsEmitted, emitted_bytes};
 ghost use Rattle.lis_c.specs.Limits.{sender_limit, sender_limit_status, sender_state, with_state};
-ghost use Rattle.lis_c.specs.Lent.{lent_bytes, lent_status};
+ghost use Rattle.lis_c.specs.Borrowed.{borrowed_bytes, borrowed_status};
 ghost use Rattle.lis_c.specs.New.{IsNewSender, type_align};
 ghost use Rattle.lis_c.specs.Status.{AddStatus, FULL, OK, start_index, start_place, start_status};
-ghost use Rattle.lis_c.specs.contracts.desk.SenderDesk.{the_row as desk_row};
+ghost use Rattle.lis_c.specs.contracts.handle_state.SenderHandleState.{the_row as handle_state_row};
 ghost use Rattle.lis_link.specs.Sender.{awaited, new_sender, on_reply, on_sender_timer, sender_restarted, start_fault};
 ghost use Rattle.lis_link.specs.Sender.{started};
 ghost use Rattle.lis_text.specs.Control.{ENQ};
@@ -16,8 +16,8 @@ ghost use Rattle.std.specs.Borrow.{sem};
 ghost use Rattle.std.specs.Mem.{type_size};
 ghost use Rattle.std.specs.Ptr.{room_at};
 
-use crate::desk::{SenderDesk, let_go_sender};
-use crate::lent::{LentTexts, LisText};
+use crate::borrowed::{CallerTexts, LisText};
+use crate::handle_state::{SenderHandleState, release_sender};
 use crate::out::{LisBytes, LisPlace, put};
 use crate::sending::AnySender;
 use crate::status::{self, start_index, start_place, start_status};
@@ -27,62 +27,64 @@ use std::alloc::Global;
 use std::marker::Model;
 use std::mem::{align_of, size_of};
 
-/// A sender, kept behind a pointer that C hands back as it got it.
+/// A sender, held by a pointer that C hands back as it got it.
 #[repr(C)]
 pub struct LisSender {
     at: *mut u8,
-    ghost state: { SenderDesk },
+    ghost state: { SenderHandleState },
 }
 
 impl Model for LisSender {
     ghost use Rattle.std.specs.Borrow.{full_share};
     ghost use Rattle.std.specs.Ptr.{lies_at};
-    ghost use Rattle.lis_c.specs.contracts.desk.SenderDesk.{the_row};
+    ghost use Rattle.lis_c.specs.contracts.handle_state.SenderHandleState.{the_row};
 
     ghost also_owns = { λ h. lies_at the_row full_share h.at h.state };
 }
 
 impl LisSender {
-    ghost use Rattle.lis_c.specs.contracts.desk.SenderDesk.{the_row as desk_row};
+    ghost use Rattle.lis_c.specs.contracts.handle_state.SenderHandleState.{the_row as handle_state_row};
     ghost use Rattle.lis_c.specs.contracts.sender.LisSender.{the_row};
     ghost use Rattle.std.specs.Borrow.{Lends, sem};
 
-    /// What lies behind the pointer.
-    fn lend(&mut self) -> &mut SenderDesk
-        ensures* writes_back { sem 𝓛 (Lends the_row desk_row self.entry result (λ w. record self.old { state = w })) }
+    /// What the pointer points to.
+    fn borrow(&mut self) -> &mut SenderHandleState
+        ensures* writes_back { sem 𝓛 (Lends the_row handle_state_row self.entry result
+            (λ w. record self.old { state = w })) }
         ensures value { result.now ≡ self.old.state }
     {
-        unsafe { &mut *(self.at as *mut SenderDesk) }
+        unsafe { &mut *(self.at as *mut SenderHandleState) }
     }
 }
 
 /// The number of bytes of a sender's block.
 #[unsafe(no_mangle)]
 pub extern "C" fn lis_sender_size() -> usize
-    ensures { result ≡ type_size desk_row }
+    ensures { result ≡ type_size handle_state_row }
 {
-    size_of::<SenderDesk>()
+    size_of::<SenderHandleState>()
 }
 
 /// What the address of a sender's block is a multiple of.
 #[unsafe(no_mangle)]
 pub extern "C" fn lis_sender_align() -> usize
-    ensures { result ≡ type_align desk_row }
+    ensures { result ≡ type_align handle_state_row }
 {
-    align_of::<SenderDesk>()
+    align_of::<SenderHandleState>()
 }
 
 /// Makes a sender that was never started in a block of the caller's.
 #[unsafe(no_mangle)]
 pub unsafe extern "C" fn lis_sender_init(alloc: Global, at: *mut u8)
-    requires* { sem 𝓛 (room_at desk_row at) }
+    requires* { sem 𝓛 (room_at handle_state_row at) }
     ensures* { sem 𝓛 (IsNewSender at) }
 {
-    (at as *mut SenderDesk).write(SenderDesk::new(alloc));
+    (at as *mut SenderHandleState).write(SenderHandleState::new(alloc));
 }
 
 /// Puts a copy of a text to the next session: `OK`, `FULL` where there are as many as a session has, or
-/// `OUT_OF_MEMORY`. Where it isn't `OK` nothing has changed. Whether it is a link text is told by `lis_sender_start`.
+/// `OUT_OF_MEMORY`. Where it isn't `OK` nothing has changed. Whether it is a link text is reported by
+/// `lis_sender_start`.
 #[unsafe(no_mangle)]
 pub extern "C" fn lis_sender_add_text(s: &mut LisSender, text: &[u8]) -> u8
     ensures added { result ≡ OK →
@@ -90,15 +92,15 @@ pub extern "C" fn lis_sender_add_text(s: &mut LisSender, text: &[u8]) -> u8
     ensures refused { result ≢ OK → s.new.state ≡ s.old.state }
     ensures status { AddStatus result (length s.old.state.texts) }
 {
-    s.lend().add(text)
+    s.borrow().add(text)
 }
 
-/// Lets go of the texts that were put to the next session; one that goes on is not touched.
+/// Releases the texts that were put to the next session; one that goes on is not touched.
 #[unsafe(no_mangle)]
 pub extern "C" fn lis_sender_clear(s: &mut LisSender)
     ensures { s.new.state ≡ record s.old.state { texts = [] } }
 {
-    s.lend().clear();
+    s.borrow().clear();
 }
 
 /// Starts a session with the texts that were put (LIS01-A2, 6.3): `OK`, and ENQ goes on the link; else `IN_SESSION`,
@@ -121,7 +123,7 @@ pub extern "C" fn lis_sender_start(
         } }
     ensures refused { result ≢ OK → (out.new ≡ out.old) × (s.new.state ≡ s.old.state) }
 {
-    tell_start(s.lend().start(), out, fault)
+    report_start(s.borrow().start(), out, fault)
 }
 
 /// Starts a session with texts that stay with the caller (LIS01-A2, 6.3), and takes no memory: `OK`, and ENQ goes on
@@ -129,7 +131,7 @@ pub extern "C" fn lis_sender_start(
 /// changed, and nothing is put to `out`. The texts that were put to the next session stay.
 ///
 /// The array and the texts stay as they are: the contract asks for good, and no call reads them once the session is
-/// over.
+/// finished.
 #[unsafe(no_mangle)]
 pub extern "C" fn lis_sender_start_lent(
     s: &mut LisSender,
@@ -137,17 +139,17 @@ pub extern "C" fn lis_sender_start_lent(
     out: &mut LisBytes,
     fault: &mut LisPlace,
 ) -> u8
-    ensures status { result ≡ lent_status texts.now
-        (start_fault (sender_state s.old.state.sender) (lent_bytes texts.now)) }
+    ensures status { result ≡ borrowed_status texts.now
+        (start_fault (sender_state s.old.state.sender) (borrowed_bytes texts.now)) }
     ensures index { result ≢ FULL →
-        fault.new.index ≡ start_index (start_fault (sender_state s.old.state.sender) (lent_bytes texts.now)) }
+        fault.new.index ≡ start_index (start_fault (sender_state s.old.state.sender) (borrowed_bytes texts.now)) }
     ensures place { result ≢ FULL →
-        fault.new.place ≡ start_place (start_fault (sender_state s.old.state.sender) (lent_bytes texts.now)) }
+        fault.new.place ≡ start_place (start_fault (sender_state s.old.state.sender) (borrowed_bytes texts.now)) }
     ensures full { result ≡ FULL → (fault.new.index ≡ 0) × (fault.new.place ≡ 0) }
     ensures emit { result ≡ OK → HoldsBytes out.new (ENQ ∷ []) }
     ensures started { result ≡ OK →
         s.new.state ≡ record s.old.state {
-          sender = with_state s.old.state.sender (started (sender_limit s.old.state.sender) (lent_bytes texts.now));
+          sender = with_state s.old.state.sender (started (sender_limit s.old.state.sender) (borrowed_bytes texts.now));
         } }
     ensures refused { result ≢ OK → (out.new ≡ out.old) × (s.new.state ≡ s.old.state) }
 {
@@ -156,11 +158,15 @@ pub extern "C" fn lis_sender_start_lent(
         fault.place = 0;
         return status::FULL;
     }
-    tell_start(s.lend().start_lent(LentTexts::new(texts)), out, fault)
+    report_start(
+        s.borrow().start_borrowed(CallerTexts::new(texts)),
+        out,
+        fault,
+    )
 }
 
-/// Tells how a start went, and puts what goes on the link.
-fn tell_start(start: Result<(), StartFault>, out: &mut LisBytes, place: &mut LisPlace) -> u8
+/// Says how a start went, and puts what goes on the link.
+fn report_start(start: Result<(), StartFault>, out: &mut LisBytes, place: &mut LisPlace) -> u8
     ensures { MatchResult start
         (λ unit. (result ≡ OK) × HoldsBytes out.new (ENQ ∷ []) × (place.new.index ≡ 0) × (place.new.place ≡ 0))
         (λ fault. (result ≡ start_status (Some fault)) × (out.new ≡ out.old)
@@ -193,7 +199,7 @@ pub extern "C" fn lis_sender_reply(s: &mut LisSender, byte: u8, out: &mut LisByt
           (on_reply {limit = sender_limit s.old.state.sender} byte (sender_state s.old.state.sender)).after;
     } }
 {
-    s.lend().sender.reply(byte, out);
+    s.borrow().sender.reply(byte, out);
 }
 
 /// The timer runs out: what goes on the link.
@@ -207,7 +213,7 @@ pub extern "C" fn lis_sender_timer(s: &mut LisSender, out: &mut LisBytes)
           (on_sender_timer {limit = sender_limit s.old.state.sender} (sender_state s.old.state.sender)).after;
     } }
 {
-    s.lend().sender.timer(out);
+    s.borrow().sender.timer(out);
 }
 
 /// Copies the frame that was sent and awaits its reply to the front of a buffer: `OK`; `ABSENT` if none does;
@@ -217,7 +223,7 @@ pub extern "C" fn lis_sender_frame(s: &mut LisSender, out: &mut [u8], size: &mut
     ensures copied { FrameCopied (awaited (sender_state s.old.state.sender)) result out.old out.new size.new }
     ensures same { s.new.state ≡ s.old.state }
 {
-    s.lend().sender.copy_frame(out, size)
+    s.borrow().sender.copy_frame(out, size)
 }
 
 /// Sets how long the text of a frame may be, 240 bytes or 63,993, and makes the sender new; the texts of its next
@@ -229,12 +235,12 @@ pub extern "C" fn lis_sender_set_limit(s: &mut LisSender, limit: usize) -> u8
         × (sender_state s.new.state.sender ≡ new_sender) × (s.new.state.texts ≡ s.old.state.texts) }
     ensures refused { result ≢ OK → s.new.state ≡ s.old.state }
 {
-    let desk = s.lend();
-    match desk.sender.phase() {
+    let handle_state = s.borrow();
+    match handle_state.sender.phase() {
         Phase::Neutral => {}
         _ => return status::IN_SESSION,
     }
-    desk.sender = match limit {
+    handle_state.sender = match limit {
         240 => AnySender::usual(),
         63_993 => AnySender::long(),
         _ => return status::BAD_NUMBER,
@@ -249,17 +255,17 @@ pub extern "C" fn lis_sender_restart(s: &mut LisSender)
       sender = with_state s.old.state.sender (sender_restarted (sender_state s.old.state.sender));
     } }
 {
-    s.lend().sender.restart();
+    s.borrow().sender.restart();
 }
 
-/// Where the sender stands: 0 neutral, 1 awaits the reply to ENQ, 2 busy, 3 contention, 4 awaits the
+/// Where the sender is: 0 neutral, 1 awaits the reply to ENQ, 2 busy, 3 contention, 4 awaits the
 /// reply to a frame.
 #[unsafe(no_mangle)]
 pub extern "C" fn lis_sender_phase(s: &mut LisSender) -> u8
     ensures value { result ≡ phase_code (sender_state s.old.state.sender).phase }
     ensures same { s.new.state ≡ s.old.state }
 {
-    match s.lend().sender.phase() {
+    match s.borrow().sender.phase() {
         Phase::Neutral => 0,
         Phase::AwaitLine => 1,
         Phase::Busy => 2,
@@ -274,7 +280,7 @@ pub extern "C" fn lis_sender_outcome(s: &mut LisSender) -> u8
     ensures value { result ≡ outcome_code (sender_state s.old.state.sender).outcome }
     ensures same { s.new.state ≡ s.old.state }
 {
-    match s.lend().sender.outcome() {
+    match s.borrow().sender.outcome() {
         None => 0,
         Some(Outcome::Done) => 1,
         Some(Outcome::TimedOut) => 2,
@@ -289,14 +295,14 @@ pub extern "C" fn lis_sender_acknowledged(s: &mut LisSender) -> u64
     ensures value { result ≡ (sender_state s.old.state.sender).acknowledged }
     ensures same { s.new.state ≡ s.old.state }
 {
-    s.lend().sender.acknowledged()
+    s.borrow().sender.acknowledged()
 }
 
 /// Ends a sender; its block is the caller's again.
 #[unsafe(no_mangle)]
 pub extern "C" fn lis_sender_end(s: LisSender)
-    ensures* { sem 𝓛 (room_at desk_row s.at) }
+    ensures* { sem 𝓛 (room_at handle_state_row s.at) }
 {
     let LisSender { at } = s;
-    let_go_sender(unsafe { (at as *mut SenderDesk).read() });
+    release_sender(unsafe { (at as *mut SenderHandleState).read() });
 }

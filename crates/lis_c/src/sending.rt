@@ -3,11 +3,11 @@
 ghost use Rattle.std.specs.Prelude.{◌≡◌, ◌≤◌, ◌+◌, None, Some, MatchResult};
 ghost use Rattle.lis_c.specs.Emitted.{FrameCopied, HoldsEmitted, emitted_bytes};
 ghost use Rattle.lis_c.specs.Limits.{sender_limit, sender_state, with_state};
-ghost use Rattle.lis_c.specs.inside.Lent.{session_texts};
+ghost use Rattle.lis_c.specs.inside.Borrowed.{session_texts};
 ghost use Rattle.lis_link.specs.Sender.{awaited, new_sender, on_reply, on_sender_timer, sender_restarted};
 ghost use Rattle.lis_link.specs.Sender.{start_fault, started};
 
-use crate::lent::DeskTexts;
+use crate::borrowed::OwnOrCallerTexts;
 use crate::out::{LisBytes, copy_text, put, put_emit};
 use crate::status;
 use lis_frame::frame_bytes_of;
@@ -17,8 +17,8 @@ use lis_text::{ENQ, EOT, NAK};
 /// A sender of either limit.
 #[derive(Drop)]
 pub enum AnySender {
-    Usual(SenderOver<240, DeskTexts>),
-    Long(SenderOver<63_993, DeskTexts>),
+    Usual(SenderOver<240, OwnOrCallerTexts>),
+    Long(SenderOver<63_993, OwnOrCallerTexts>),
 }
 
 impl AnySender {
@@ -36,9 +36,12 @@ impl AnySender {
         AnySender::Long(SenderOver::new())
     }
 
-    /// Starts a session with these texts: ENQ goes on the link. A refused start gives the texts back, and the sender
+    /// Starts a session with these texts: ENQ goes on the link. A rejected start gives the texts back, and the sender
     /// is as before.
-    pub(crate) fn start(&mut self, texts: DeskTexts) -> Result<(), StartRefusedOf<DeskTexts>>
+    pub(crate) fn start(
+        &mut self,
+        texts: OwnOrCallerTexts,
+    ) -> Result<(), StartRefusedOf<OwnOrCallerTexts>>
         ensures { MatchResult result
             (λ unit. (start_fault (sender_state self.old) (session_texts texts) ≡ None)
             × (self.new ≡ with_state self.old (started (sender_limit self.old) (session_texts texts))))
@@ -134,9 +137,9 @@ impl AnySender {
     }
 }
 
-/// The reply for the long limit. It stands apart, since a frame takes 64 kB of the stack.
+/// The reply for the long limit. It is apart, since a frame takes 64 kB of the stack.
 #[inline(never)]
-fn reply_long(sender: &mut SenderOver<63_993, DeskTexts>, byte: u8, out: &mut LisBytes)
+fn reply_long(sender: &mut SenderOver<63_993, OwnOrCallerTexts>, byte: u8, out: &mut LisBytes)
     ensures emit { HoldsEmitted 63993 out.new (emitted_bytes (on_reply {limit = 63993} byte sender.old).emit) }
     ensures after { sender.new ≡ (on_reply {limit = 63993} byte sender.old).after }
 {
@@ -145,7 +148,7 @@ fn reply_long(sender: &mut SenderOver<63_993, DeskTexts>, byte: u8, out: &mut Li
 
 /// The timer for the long limit.
 #[inline(never)]
-fn timer_long(sender: &mut SenderOver<63_993, DeskTexts>, out: &mut LisBytes)
+fn timer_long(sender: &mut SenderOver<63_993, OwnOrCallerTexts>, out: &mut LisBytes)
     ensures emit { HoldsEmitted 63993 out.new (emitted_bytes (on_sender_timer {limit = 63993} sender.old).emit) }
     ensures after { sender.new ≡ (on_sender_timer {limit = 63993} sender.old).after }
 {
@@ -175,7 +178,7 @@ fn put_long_emit(out: &mut LisBytes, emit: &EmitOf<63_993>)
 /// Copies the frame that awaits its reply to the front of a buffer.
 #[inline(never)]
 fn copy_awaited<const N: usize, const B: usize>(
-    sender: &SenderOver<N, DeskTexts>,
+    sender: &SenderOver<N, OwnOrCallerTexts>,
     out: &mut [u8],
     size: &mut usize,
 ) -> u8

@@ -14,13 +14,13 @@ pub(crate) const IN_SESSION: u8 = 1;
 pub(crate) const NO_TEXT: u8 = 2;
 /// There are more bytes than the limit allows.
 pub(crate) const TOO_LONG: u8 = 3;
-/// A byte stands in a text that none may hold.
+/// A byte is in a text that none may hold.
 pub(crate) const FORBIDDEN: u8 = 4;
 /// There are as many texts as a session has.
 pub(crate) const FULL: u8 = 5;
-/// Memory was refused.
+/// Memory ran out.
 pub(crate) const OUT_OF_MEMORY: u8 = 6;
-/// The number is none that is known here.
+/// The number is unknown here.
 pub(crate) const BAD_NUMBER: u8 = 7;
 /// The buffer is too short.
 pub(crate) const TOO_SHORT: u8 = 8;
@@ -36,7 +36,7 @@ pub(crate) const ABSENT: u8 = 12;
 pub(crate) const UNFINISHED: u8 = 13;
 /// Outside a message a header comes first.
 pub(crate) const PUT_NOT_HEADER: u8 = 14;
-/// The record has no parent: an order stands under a patient, a result under an order.
+/// The record has no parent: an order is under a patient, a result under an order.
 pub(crate) const PUT_NO_PARENT: u8 = 15;
 /// The message has its header.
 pub(crate) const PUT_SECOND_HEADER: u8 = 16;
@@ -61,7 +61,7 @@ pub(crate) fn text_place(fault: TextFault) -> usize
     }
 }
 
-/// The status of a start that was refused.
+/// The status of a start that was rejected.
 pub(crate) fn start_status(fault: StartFault) -> u8
     ensures { result ≡ start_status (Some fault) }
 {

@@ -1,5 +1,5 @@
 -- Lanes below a limit: whether all are, and the greater of two vectors, whose lanes are below it where those of both
--- are; and what is told of a vector byte by byte.
+-- are; and what is said about a vector byte by byte.
 use Rattle.std.proofs.Common.{◌≡◌, ℕ, zero, suc, ◌+◌, ◌-◌, ◌*◌, ◌%◌, ◌^◌, ◌≤◌, ◌<◌, ◌&&◌, Bool, true, false, cond}
 use Rattle.std.proofs.Common.{eqb, ltb, leb, List, [], ◌∷◌, length, map, replicate, refl, sym, ap, ◌∙◌, arith}
 use Rattle.std.specs.Prelude.{nat_lt}
@@ -35,19 +35,19 @@ one_below : (limit x bits : ℕ) (a rest : Bool) → nat_lt x limit ≡ a → re
 one_below limit x bits true rest is_below is =
     let low : leb limit x ≡ false = grind (arith, nat_tests, is_below) in
     rw low (is ∙ sym (bit_clear bits))
-one_below limit x bits false rest is_over is =
-    let high : leb limit x ≡ true = grind (arith, nat_tests, is_over) in
+one_below limit x bits false rest is_finished is =
+    let high : leb limit x ≡ true = grind (arith, nat_tests, is_finished) in
     rw high (sym (bit_set bits))
 
 -- all are below it where no bit is set
 pub all_below : (p : ℕ → Bool) (limit : ℕ) → ((x : ℕ) → nat_lt x limit ≡ p x) → (n : ℕ) (xs : List ℕ)
     → length xs ≡ n → list_all p xs ≡ eqb (bits_over limit n xs) 0
-all_below p limit tells zero [] long = refl
-all_below p limit tells zero (x ∷ xs) long = absurd (omega arith)
-all_below p limit tells (suc n) [] long = absurd (omega arith)
-all_below p limit tells (suc n) (x ∷ xs) long =
-    one_below limit x (bits_over limit n xs) (p x) (list_all p xs) (tells x)
-    (all_below p limit tells n xs (omega arith))
+all_below p limit reports zero [] long = refl
+all_below p limit reports zero (x ∷ xs) long = absurd (omega arith)
+all_below p limit reports (suc n) [] long = absurd (omega arith)
+all_below p limit reports (suc n) (x ∷ xs) long =
+    one_below limit x (bits_over limit n xs) (p x) (list_all p xs) (reports x)
+    (all_below p limit reports n xs (omega arith))
 
 zip2_short : {X Y Z : Type 0} (f : X → Y → Z) (xs : List X) (ys : List Y) → length (zip2 f xs ys) ≤ length xs
 zip2_short f [] ys = omega arith
@@ -97,31 +97,32 @@ both_and false b c d = refl
 
 pub all-greater : (p : ℕ → Bool) (limit : ℕ) → ((x : ℕ) → nat_lt x limit ≡ p x) → (n : ℕ) (xs ys : List ℕ)
     → length xs ≡ n → length ys ≡ n → list_all p (greater xs ys) ≡ (list_all p xs && list_all p ys)
-all-greater p limit tells n [] [] one two = refl
-all-greater p limit tells n [] (y ∷ ys) one two = absurd (omega arith)
-all-greater p limit tells n (x ∷ xs) [] one two = absurd (omega arith)
-all-greater p limit tells zero (x ∷ xs) (y ∷ ys) one two = absurd (omega arith)
-all-greater p limit tells (suc n) (x ∷ xs) (y ∷ ys) one two =
-    (λ i. greater_is x y i && all-greater p limit tells n xs ys (omega arith) (omega arith) i)
+all-greater p limit reports n [] [] one two = refl
+all-greater p limit reports n [] (y ∷ ys) one two = absurd (omega arith)
+all-greater p limit reports n (x ∷ xs) [] one two = absurd (omega arith)
+all-greater p limit reports zero (x ∷ xs) (y ∷ ys) one two = absurd (omega arith)
+all-greater p limit reports (suc n) (x ∷ xs) (y ∷ ys) one two =
+    (λ i. greater_is x y i && all-greater p limit reports n xs ys (omega arith) (omega arith) i)
     ∙ both_and (p x) (p y) (list_all p xs) (list_all p ys)
   where
     greater_is : (x y : ℕ) → p (cond (top 7 (below x y)) y x) ≡ (p x && p y)
     greater_is x y =
-        sym (tells (cond (top 7 (below x y)) y x))
-        ∙ greater_below limit x y (p x) (p y) (ltb x y) (tells x) (tells y) refl
+        sym (reports (cond (top 7 (below x y)) y x))
+        ∙ greater_below limit x y (p x) (p y) (ltb x y) (reports x) (reports y) refl
 
 -- ---- lane by lane
 
--- what is told of each byte is told of the lanes of a vector that are made of bytes one by one
-pub lanes_told :
-    {A : Type 0} (lanes : ℕ → List ℕ → List ℕ) (lane : ℕ → ℕ) (tells says : ℕ → A)
+-- what is said about each byte is said about the lanes of a vector that are made of bytes one by one
+pub lanes_reported :
+    {A : Type 0} (lanes : ℕ → List ℕ → List ℕ) (lane : ℕ → ℕ) (reports says : ℕ → A)
     → ((n : ℕ) → lanes n [] ≡ [])
     → ((n b : ℕ) (bytes : List ℕ) → lanes (suc n) (b ∷ bytes) ≡ lane b ∷ lanes n bytes)
-    → ((b : ℕ) → b < 256 → tells (lane b) ≡ says b)
+    → ((b : ℕ) → b < 256 → reports (lane b) ≡ says b)
     → (n : ℕ) (bytes : List ℕ) → length bytes ≡ n → Each1 (Fits w8) bytes
-    → map tells (lanes n bytes) ≡ map says bytes
-lanes_told lanes lane tells says none more told n [] long fits = ap (map tells) (none n)
-lanes_told lanes lane tells says none more told zero (b ∷ bytes) long fits = absurd (omega arith)
-lanes_told lanes lane tells says none more told (suc n) (b ∷ bytes) long fits =
-    ap (map tells) (more n b bytes)
-    ∙ (λ i. told b fits.0.fits i ∷ lanes_told lanes lane tells says none more told n bytes (omega arith) fits.1 i)
+    → map reports (lanes n bytes) ≡ map says bytes
+lanes_reported lanes lane reports says none more reported n [] long fits = ap (map reports) (none n)
+lanes_reported lanes lane reports says none more reported zero (b ∷ bytes) long fits = absurd (omega arith)
+lanes_reported lanes lane reports says none more reported (suc n) (b ∷ bytes) long fits =
+    ap (map reports) (more n b bytes)
+    ∙ (λ i. reported b fits.0.fits i ∷ lanes_reported lanes lane reports says none more reported n bytes (omega arith)
+    fits.1 i)

@@ -10,7 +10,8 @@ use Rattle.lis_text.specs.Control.{LF}
 use Rattle.lis_frame.specs.Stream.{stream_with}
 use Rattle.lis_capture.specs.declared.line.Line.{Line}
 use Rattle.lis_capture.specs.Line.{longest_line, line_of, said, without_return}
-use Rattle.lis_capture.specs.Capture.{Lines, begun, ended_lines, with_said, next_by, read_lines, capture, version_of}
+use Rattle.lis_capture.specs.Capture.{Lines, begun, ended_lines, with_said, lines_with_next, read_lines, capture}
+use Rattle.lis_capture.specs.Capture.{version_of}
 use Rattle.lis_capture.specs.inside.Reader.{is_long}
 use Rattle.lis_link.proofs.HearingLaws.{stream_with-append}
 
@@ -43,11 +44,11 @@ ended_lines-within past (b ∷ text) none =
     ended_lines-within (b ∷ past) text parts.1
     ∙ ap (λ (t : Bool). if t then begun past ∷ ended_lines past else ended_lines past) parts.0
 
--- ---- where no line is refused
+-- ---- where no line is rejected
 
--- a text that is too long is refused, whatever it is
+-- a text that is too long is rejected, whatever it is
 refused_long : (refused : Bool) (lines : List Line) (text : List ℕ) → is_long text ≡ true
-    → next_by refused lines text ≡ record { lines = lines; refused = true }
+    → lines_with_next refused lines text ≡ record { lines = lines; refused = true }
 refused_long true lines text long = refl
 refused_long false lines text long =
     ap (λ (l : Bool). with_said lines (if l then None else said (version_of lines) (without_return text))) long
@@ -78,10 +79,10 @@ abbrev pub with_text : Lines → List ℕ → Lines
 with_text read text = with_said read.lines (line_of (version_of read.lines) text)
 
 next_here : (read : Lines) (text : List ℕ) → read.refused ≡ false
-    → next_by read.refused read.lines text ≡ with_text read text
+    → lines_with_next read.refused read.lines text ≡ with_text read text
 next_here read text fine = rw fine refl
 
--- the lines and the text behind them
+-- the lines and the text after them
 read_more : (past text : List ℕ) → (capture past false).refused ≡ false
     → read_lines (text ∷ ended_lines past) ≡ with_text (capture past false) text
 read_more past text fine =
@@ -146,7 +147,7 @@ capture-long past text fine none long =
     ∙ read_more past (begun past ++ text) fine
     ∙ ap (with_said (capture past false).lines) (line_of-long (capture past false) (begun past ++ text) long)
 
--- ---- where the first LF stands
+-- ---- where the first LF is
 
 test_false : (t rest : Bool) → (t ≡ true → ⊥) → rest ≡ false → (if t then true else rest) ≡ false
 test_false true rest never later = absurd (never refl)
@@ -168,12 +169,13 @@ has_end-before bytes place fits none =
     let below : k < place = omega (arith, length-take place bytes) in
     none k (omega arith) below (rw (get_or-take place bytes k 0 below) at is))
 
--- ---- where a line is refused
+-- ---- where a line is rejected
 
--- a text behind a refused one is passed over
-refused_stays : (read : Lines) (text : List ℕ) → read.refused ≡ true → next_by read.refused read.lines text ≡ read
+-- a text after a rejected one is passed over
+refused_stays : (read : Lines) (text : List ℕ) → read.refused ≡ true → lines_with_next read.refused read.lines text
+    ≡ read
 refused_stays read text refused =
-    ap (λ (r : Bool). next_by r read.lines text) refused
+    ap (λ (r : Bool). lines_with_next r read.lines text) refused
     ∙ ap (λ (r : Bool). let all : Lines = record { lines = read.lines; refused = r } in all) (sym refused)
 
 refused_begun :
@@ -188,15 +190,15 @@ long_more text b long =
     (omega (arith, ltb-true longest_line (length text) long, length-append text (b ∷ [])))
 
 -- a byte more, whether it ends the line or not
-abbrev behind : Bool → ℕ → List ℕ → List (List ℕ) → Lines
-behind ends b text texts =
+abbrev following : Bool → ℕ → List ℕ → List (List ℕ) → Lines
+following ends b text texts =
     let begun_then : List ℕ = if ends then [] else text ++ b ∷ [] in
     with_begun (is_long begun_then) begun_then (if ends then text ∷ texts else texts)
 
 refused_byte :
     (long ends : Bool) (b : ℕ) (text : List ℕ) (texts : List (List ℕ)) → is_long text ≡ long
     → (with_begun long text texts).refused ≡ true
-    → behind ends b text texts ≡ with_begun long text texts
+    → following ends b text texts ≡ with_begun long text texts
 refused_byte true true b text texts is refused = refl
 refused_byte true false b text texts is refused =
     let longer = long_more text b is in
@@ -233,7 +235,7 @@ refused_end : (past : List ℕ) (ended : Bool) → (capture past false).refused 
 refused_end past true refused = refused_at_end (is_long (begun past)) (begun past) (ended_lines past) refl refused
 refused_end past false refused = refl
 
--- whatever follows a refused line, nothing more is carried out
+-- whatever follows a rejected line, nothing more is carried out
 pub capture-refused :
     (past bytes : List ℕ) (ended : Bool) → (capture past false).refused ≡ true
     → capture (stream_with past bytes) ended ≡ capture past false

@@ -19,7 +19,7 @@ use Rattle.std.proofs.Math.Seq.{take-add}
 use Rattle.hex.specs.Hex.{decode_pairs, hex_digit_value, is_hex_digit}
 use Rattle.hex.proofs.HexLemmas.{decode_of-even}
 use Rattle.lis_capture.specs.Digits.{bytes_of}
-use Rattle.lis_capture.specs.inside.Digits.{is_digit_value, told_digit}
+use Rattle.lis_capture.specs.inside.Digits.{is_digit_value, digit_meant}
 use Rattle.lis_capture.proofs.BelowLemmas.{all-greater, all_below, bit_clear, bit_set, bits_fit, bits_over, greater}
 use Rattle.lis_capture.proofs.BelowLemmas.{greater_below, length-greater}
 use Rattle.lis_capture.proofs.DigitsLemmas.{by_value, bytes_of-decoded, bytes_of-other, pair_of_digits, pairs_from_some}
@@ -83,9 +83,9 @@ flag v w a b m first second more =
     over z true is = grind (arith, nat_tests, is)
     over z false is = grind (arith, nat_tests, is)
 
-is_told : (v : ℕ) (a : Bool) → nat_lt v 16 ≡ a → is_some (told_digit v) ≡ a
-is_told v true less = rw less refl
-is_told v false less = rw less refl
+is_reported : (v : ℕ) (a : Bool) → nat_lt v 16 ≡ a → is_some (digit_meant v) ≡ a
+is_reported v true less = rw less refl
+is_reported v false less = rw less refl
 
 both : (a b : Bool) (bits : ℕ) (rest : Bool) → rest ≡ eqb bits 0
     → (a && (b && rest)) ≡ eqb (cond (top 7 (cond (not (a && b)) 255 0)) 1 0 + 2 * bits) 0
@@ -94,12 +94,12 @@ both true false bits rest is = sym (bit_set bits)
 both false b bits rest is = sym (bit_set bits)
 
 one_more : (v w bits : ℕ) (rest : Bool) → rest ≡ eqb bits 0
-    → (is_some (told_digit v) && (is_some (told_digit w) && rest))
+    → (is_some (digit_meant v) && (is_some (digit_meant w) && rest))
     ≡ eqb (cond (top 7 (cond (leb 16 (cond (top 7 (cond (ltb v w) 255 0)) w v)) 255 0)) 1 0 + 2 * bits) 0
 one_more v w bits rest is =
     rw (
-      is_told v (nat_lt v 16) refl,
-      is_told w (nat_lt w 16) refl,
+      is_reported v (nat_lt v 16) refl,
+      is_reported w (nat_lt w 16) refl,
       flag v w (nat_lt v 16) (nat_lt w 16) (ltb v w)
           refl refl refl,
     )
@@ -108,7 +108,7 @@ one_more v w bits rest is =
 -- sixteen pairs are digits where no lane has such a value
 read_all :
     (n : ℕ) (highs lows vs ws : List ℕ) → length highs ≡ n → length lows ≡ n
-    → map told_digit vs ≡ map hex_digit_value highs → map told_digit ws ≡ map hex_digit_value lows
+    → map digit_meant vs ≡ map hex_digit_value highs → map digit_meant ws ≡ map hex_digit_value lows
     → list_all is_hex_digit (woven highs lows) ≡ eqb (others n vs ws) 0
 read_all zero [] lows vs ws long_high long_low first second = refl
 read_all zero (h ∷ highs) lows vs ws long_high long_low first second = absurd (omega arith)
@@ -117,32 +117,32 @@ read_all (suc n) (h ∷ highs) [] vs ws long_high long_low first second = absurd
 read_all (suc n) (h ∷ highs) (l ∷ lows) [] ws long_high long_low first second = cc
 read_all (suc n) (h ∷ highs) (l ∷ lows) (v ∷ vs) [] long_high long_low first second = cc
 read_all (suc n) (h ∷ highs) (l ∷ lows) (v ∷ vs) (w ∷ ws) long_high long_low first second =
-    let high : hex_digit_value h ≡ told_digit v = cc in
-    let low : hex_digit_value l ≡ told_digit w = cc in
-    let highs_are : map told_digit vs ≡ map hex_digit_value highs = cc in
-    let lows_are : map told_digit ws ≡ map hex_digit_value lows = cc in
+    let high : hex_digit_value h ≡ digit_meant v = cc in
+    let low : hex_digit_value l ≡ digit_meant w = cc in
+    let highs_are : map digit_meant vs ≡ map hex_digit_value highs = cc in
+    let lows_are : map digit_meant ws ≡ map hex_digit_value lows = cc in
     (λ i. is_some (high i) && (is_some (low i) && list_all is_hex_digit (woven highs lows)))
     ∙ one_more v w (others n vs ws) (list_all is_hex_digit (woven highs lows))
     (read_all n highs lows vs ws (omega arith) (omega arith) highs_are lows_are)
 
-told_value : (v : ℕ) (a : Option ℕ) → told_digit v ≡ a → is_some a ≡ true → (v < 16) × (unwrap_or a 0 ≡ v)
-told_value v a told some = by (nat_lt v 16) refl told
+reported_value : (v : ℕ) (a : Option ℕ) → digit_meant v ≡ a → is_some a ≡ true → (v < 16) × (unwrap_or a 0 ≡ v)
+reported_value v a reported some = by (nat_lt v 16) refl reported
   where
     by : (t : Bool) → nat_lt v 16 ≡ t → (if t then Some v else None) ≡ a → (v < 16) × (unwrap_or a 0 ≡ v)
     by true less is = (grind (arith, nat_tests, less), ap (λ (o : Option ℕ). unwrap_or o 0) (sym is))
     by false less is = cc
 
 one_byte :
-    (v w : ℕ) (a b : Option ℕ) → told_digit v ≡ a → told_digit w ≡ b → is_some a ≡ true → is_some b ≡ true
+    (v w : ℕ) (a b : Option ℕ) → digit_meant v ≡ a → digit_meant w ≡ b → is_some a ≡ true → is_some b ≡ true
     → 16 * unwrap_or a 0 + unwrap_or b 0 ≡ (v * 2 ^ 4 % 256 + w) % 256
 one_byte v w a b first second high low =
-    let p = told_value v a first high in
-    let q = told_value w b second low in
+    let p = reported_value v a first high in
+    let q = reported_value w b second low in
     rw (p.1, q.1) (omega (arith, p.0, q.0))
 
 read_values :
     (n : ℕ) (highs lows vs ws : List ℕ) → length highs ≡ n → length lows ≡ n
-    → map told_digit vs ≡ map hex_digit_value highs → map told_digit ws ≡ map hex_digit_value lows
+    → map digit_meant vs ≡ map hex_digit_value highs → map digit_meant ws ≡ map hex_digit_value lows
     → list_all is_hex_digit (woven highs lows) ≡ true → paired (woven highs lows) ≡ joined n vs ws
 read_values zero [] lows [] ws long_high long_low first second all = refl
 read_values zero [] lows (v ∷ vs) ws long_high long_low first second all = cc
@@ -154,10 +154,10 @@ read_values (suc n) (h ∷ highs) (l ∷ lows) (v ∷ vs) [] long_high long_low 
 read_values (suc n) (h ∷ highs) (l ∷ lows) (v ∷ vs) (w ∷ ws) long_high long_low first second all =
     let one = and_parts (is_hex_digit h) (is_hex_digit l && list_all is_hex_digit (woven highs lows)) all in
     let two = and_parts (is_hex_digit l) (list_all is_hex_digit (woven highs lows)) one.1 in
-    let high : told_digit v ≡ hex_digit_value h = cc in
-    let low : told_digit w ≡ hex_digit_value l = cc in
-    let highs_are : map told_digit vs ≡ map hex_digit_value highs = cc in
-    let lows_are : map told_digit ws ≡ map hex_digit_value lows = cc in
+    let high : digit_meant v ≡ hex_digit_value h = cc in
+    let low : digit_meant w ≡ hex_digit_value l = cc in
+    let highs_are : map digit_meant vs ≡ map hex_digit_value highs = cc in
+    let lows_are : map digit_meant ws ≡ map hex_digit_value lows = cc in
     λ i. one_byte v w (hex_digit_value h) (hex_digit_value l) high low one.0 two.0 i
     ∷ read_values n highs lows vs ws (omega arith) (omega arith) highs_are lows_are two.1 i
 
@@ -170,8 +170,8 @@ length-paired (suc n) (high ∷ low ∷ digits) long = ap suc (length-paired n d
 -- sixteen bytes are read, or something that is no digit is seen
 read_sixteen :
     (digits bytes vs ws : List ℕ) → length digits ≡ 32 → length bytes ≡ 16
-    → map told_digit vs ≡ map hex_digit_value (pick_l 0 digits first_places)
-    → map told_digit ws ≡ map hex_digit_value (pick_l 0 digits second_places)
+    → map digit_meant vs ≡ map hex_digit_value (pick_l 0 digits first_places)
+    → map digit_meant ws ≡ map hex_digit_value (pick_l 0 digits second_places)
     → bytes_of digits ≡ (if eqb (others 16 vs ws % 2 ^ 64) 0 then Some (put_chunk 0 bytes (joined 16 vs ws)) else None)
 read_sixteen digits bytes vs ws long room first second =
     let is : list_all is_hex_digit digits ≡ eqb (others 16 vs ws) 0 =
@@ -201,8 +201,8 @@ read_sixteen digits bytes vs ws long room first second =
 
 sixteen_read :
     (digits bytes vs ws : List ℕ) → 32 ≤ length digits → length bytes ≡ 16
-    → map told_digit vs ≡ map hex_digit_value (pick_l 0 (take 16 digits ++ take 16 (drop 16 digits)) first_places)
-    → map told_digit ws ≡ map hex_digit_value (pick_l 0 (take 16 digits ++ take 16 (drop 16 digits)) second_places)
+    → map digit_meant vs ≡ map hex_digit_value (pick_l 0 (take 16 digits ++ take 16 (drop 16 digits)) first_places)
+    → map digit_meant ws ≡ map hex_digit_value (pick_l 0 (take 16 digits ++ take 16 (drop 16 digits)) second_places)
     → bytes_of (take 32 digits)
     ≡ (if eqb (others 16 vs ws % 2 ^ 64) 0 then Some (put_chunk 0 bytes (joined 16 vs ws)) else None)
 sixteen_read digits bytes vs ws many room first second =
@@ -224,33 +224,33 @@ values-greater = all-greater is_digit_value 16 (λ x. refl)
 -- sixteen bytes are read where each of the greater values is one
 pub sixteen_values :
     (digits bytes vs ws : List ℕ) → 32 ≤ length digits → length bytes ≡ 16
-    → map told_digit vs ≡ map hex_digit_value (pick_l 0 (take 16 digits ++ take 16 (drop 16 digits)) first_places)
-    → map told_digit ws ≡ map hex_digit_value (pick_l 0 (take 16 digits ++ take 16 (drop 16 digits)) second_places)
+    → map digit_meant vs ≡ map hex_digit_value (pick_l 0 (take 16 digits ++ take 16 (drop 16 digits)) first_places)
+    → map digit_meant ws ≡ map hex_digit_value (pick_l 0 (take 16 digits ++ take 16 (drop 16 digits)) second_places)
     → (length (greater vs ws) ≡ 16)
     × (bytes_of (take 32 digits) ≡ (if list_all is_digit_value (greater vs ws) then Some
     (put_chunk 0 bytes (joined 16 vs ws)) else None))
 sixteen_values digits bytes vs ws many room first second =
-    let v_long : length vs ≡ 16 = sym (length-map vs told_digit) ∙ ap length first in
-    let w_long : length ws ≡ 16 = sym (length-map ws told_digit) ∙ ap length second in
+    let v_long : length vs ≡ 16 = sym (length-map vs digit_meant) ∙ ap length first in
+    let w_long : length ws ≡ 16 = sym (length-map ws digit_meant) ∙ ap length second in
     let long = length-greater 16 vs ws v_long w_long in
     (long, rw (all_values_seen (greater vs ws) long) (sixteen_read digits bytes vs ws many room first second))
 
 -- ---- sixteen after sixteen
 
--- what a part of the digits tells
+-- what a part of the digits reports
 part_read :
     (part chunk : List ℕ) (b : Bool) → length part ≡ 32 → bytes_of part ≡ (if b then Some chunk else None)
     → (list_all is_hex_digit part ≡ b) × (b ≡ true → chunk ≡ paired part)
-part_read part chunk true long told =
-    let all : list_all is_hex_digit part ≡ true = (pairs_from_some part (rw told refl)).2 in
-    let some : Some (paired part) ≡ Some chunk = sym (bytes_of-paired 16 part long (omega arith) all) ∙ told in
+part_read part chunk true long reported =
+    let all : list_all is_hex_digit part ≡ true = (pairs_from_some part (rw reported refl)).2 in
+    let some : Some (paired part) ≡ Some chunk = sym (bytes_of-paired 16 part long (omega arith) all) ∙ reported in
     (all, λ _. cc)
-part_read part chunk false long told = (by (list_all is_hex_digit part) refl, λ e. cc)
+part_read part chunk false long reported = (by (list_all is_hex_digit part) refl, λ e. cc)
   where
     by : (t : Bool) → list_all is_hex_digit part ≡ t → list_all is_hex_digit part ≡ false
     by false other = other
     by true all =
-        let some : Some (paired part) ≡ None = sym (bytes_of-paired 16 part long (omega arith) all) ∙ told in
+        let some : Some (paired part) ≡ None = sym (bytes_of-paired 16 part long (omega arith) all) ∙ reported in
         cc
 
 paired-append : (n : ℕ) (xs ys : List ℕ) → length xs ≡ 2 * n → paired (xs ++ ys) ≡ paired xs ++ paired ys
@@ -293,17 +293,17 @@ fewer_read digits out few place less is = record {
       ∙ ap paired (take-take (2 * few) (2 * place) digits (omega arith));
 }
 
--- the digits behind a place, as a slice of them has them
-abbrev pub behind : List ℕ → ℕ → List ℕ
-behind digits place = take (length digits - 2 * place) (drop (2 * place) digits)
+-- the digits after a place, as a slice of them has them
+abbrev pub following : List ℕ → ℕ → List ℕ
+following digits place = take (length digits - 2 * place) (drop (2 * place) digits)
 
 part_of : (digits : List ℕ) (place : ℕ) → 2 * place + 32 ≤ length digits
-    → take 32 (behind digits place) ≡ take 32 (drop (2 * place) digits)
+    → take 32 (following digits place) ≡ take 32 (drop (2 * place) digits)
 part_of digits place fits =
     ap (take 32) (take_all (length digits - 2 * place) (drop (2 * place) digits)
     (omega (arith, length-drop (2 * place) digits)))
 
--- the sixteen pairs at a place, and what they tell
+-- the sixteen pairs at a place, and what they report
 part_long :
     (digits : List ℕ) (n place : ℕ) → length digits ≡ 2 * n → place + 16 ≤ n
     → length (take 32 (drop (2 * place) digits)) ≡ 32
@@ -312,22 +312,22 @@ part_long digits n place pairs fits =
 
 part_there :
     (digits chunk : List ℕ) (b : Bool) (n place : ℕ) → length digits ≡ 2 * n → place + 16 ≤ n
-    → bytes_of (take 32 (behind digits place)) ≡ (if b then Some chunk else None)
+    → bytes_of (take 32 (following digits place)) ≡ (if b then Some chunk else None)
     → (list_all is_hex_digit (take 32 (drop (2 * place) digits)) ≡ b)
     × (b ≡ true → chunk ≡ paired (take 32 (drop (2 * place) digits)))
-part_there digits chunk b n place pairs fits told =
+part_there digits chunk b n place pairs fits reported =
     part_read (take 32 (drop (2 * place) digits)) chunk b (part_long digits n place pairs fits)
-    (ap bytes_of (sym (part_of digits place (omega arith))) ∙ told)
+    (ap bytes_of (sym (part_of digits place (omega arith))) ∙ reported)
 
 -- sixteen more are read
 pub more_read :
     (digits out chunk : List ℕ) (n place k : ℕ) → length digits ≡ 2 * n → length out ≡ n → place + 16 ≤ n
-    → IsRead digits out place → bytes_of (take 32 (behind digits place)) ≡ Some chunk
+    → IsRead digits out place → bytes_of (take 32 (following digits place)) ≡ Some chunk
     → IsRead digits (put_mid place k out chunk) (place + 16)
-more_read digits out chunk n place k pairs room fits is told =
+more_read digits out chunk n place k pairs room fits is reported =
     let part : List ℕ = take 32 (drop (2 * place) digits) in
     let long = part_long digits n place pairs (omega arith) in
-    let read = part_there digits chunk true n place pairs (omega arith) told in
+    let read = part_there digits chunk true n place pairs (omega arith) reported in
     let twice : 2 * (place + 16) ≡ 2 * place + 32 = omega arith in
     let whole : take (2 * (place + 16)) digits ≡ take (2 * place) digits ++ part =
     rw twice (take-add (2 * place) 32 digits) in
@@ -344,12 +344,12 @@ more_read digits out chunk n place k pairs room fits is told =
     }
 
 -- where they aren't digits, the whole text isn't
-pub none_behind :
+pub none_after :
     (digits chunk : List ℕ) (n place : ℕ) → length digits ≡ 2 * n → place + 16 ≤ n
-    → bytes_of (take 32 (behind digits place)) ≡ None → bytes_of digits ≡ None
-none_behind digits chunk n place pairs fits told =
+    → bytes_of (take 32 (following digits place)) ≡ None → bytes_of digits ≡ None
+none_after digits chunk n place pairs fits reported =
     let part : List ℕ = take 32 (drop (2 * place) digits) in
-    let read = part_there digits chunk false n place pairs (omega arith) told in
+    let read = part_there digits chunk false n place pairs (omega arith) reported in
     let rest : List ℕ = drop 32 (drop (2 * place) digits) in
     let whole : take (2 * place) digits ++ (part ++ rest) ≡ digits =
     ap (λ (l : List ℕ). take (2 * place) digits ++ l) (take-append-drop 32 (drop (2 * place) digits))
@@ -364,16 +364,16 @@ none_behind digits chunk n place pairs fits told =
 pub last_read :
     (digits out chunk : List ℕ) (b : Bool) (n place last k : ℕ) → length digits ≡ 2 * n → length out ≡ n
     → last + 16 ≡ n → last ≤ place
-    → k ≡ 16 → IsRead digits out place → bytes_of (take 32 (behind digits last)) ≡ (if b then Some chunk else None)
+    → k ≡ 16 → IsRead digits out place → bytes_of (take 32 (following digits last)) ≡ (if b then Some chunk else None)
     → bytes_of digits ≡ (if b then Some (put_mid last k out chunk) else None)
-last_read digits out chunk false n place last k pairs room ends less width is told =
-    none_behind digits chunk n last pairs (omega arith) told
-last_read digits out chunk true n place last k pairs room ends less width is told =
+last_read digits out chunk false n place last k pairs room ends less width is reported =
+    none_after digits chunk n last pairs (omega arith) reported
+last_read digits out chunk true n place last k pairs room ends less width is reported =
     let read = more_read digits out chunk n last k pairs room (omega arith)
-    (fewer_read digits out last place less is) told in
+    (fewer_read digits out last place less is) reported in
     let all : take (2 * (last + 16)) digits ≡ digits = take_all (2 * (last + 16)) digits (omega arith) in
     let sixteen : length chunk ≡ 16 =
-    ap length ((part_there digits chunk true n last pairs (omega arith) told).1 refl)
+    ap length ((part_there digits chunk true n last pairs (omega arith) reported).1 refl)
     ∙ length-paired 16 (take 32 (drop (2 * last) digits)) (part_long digits n last pairs (omega arith)) in
     let none : drop (last + 16) (put_mid last k out chunk) ≡ [] =
     drop-put_mid last k out chunk (last + 16) (omega arith) (omega arith) (omega (arith, sixteen))
@@ -397,29 +397,29 @@ pub record IsReadBy (digits out most : List ℕ) (place : ℕ) : Type 0 where
 pub none_read_by : (digits out : List ℕ) → IsReadBy digits out (replicate 16 0) 0
 none_read_by digits out = record { lanes = refl; read = λ e. none_read digits out; none = λ e. cc }
 
--- what sixteen more come to, by whether the values before are values and theirs are
+-- what sixteen more give, by whether the values before are values and theirs are
 more_by :
     (digits out chunk : List ℕ) (a b : Bool) (n place k : ℕ) → length digits ≡ 2 * n → length out ≡ n → place + 16 ≤ n
     → (a ≡ true → IsRead digits out place) → (a ≡ false → bytes_of digits ≡ None)
-    → bytes_of (take 32 (behind digits place)) ≡ (if b then Some chunk else None)
+    → bytes_of (take 32 (following digits place)) ≡ (if b then Some chunk else None)
     → ((a && b) ≡ true → IsRead digits (put_mid place k out chunk) (place + 16))
     × ((a && b) ≡ false → bytes_of digits ≡ None)
-more_by digits out chunk true true n place k pairs room fits read none told =
-    (λ e. more_read digits out chunk n place k pairs room fits (read refl) told, λ e. cc)
-more_by digits out chunk true false n place k pairs room fits read none told =
-    (λ e. cc, λ e. none_behind digits chunk n place pairs fits told)
-more_by digits out chunk false b n place k pairs room fits read none told = (λ e. cc, λ e. none refl)
+more_by digits out chunk true true n place k pairs room fits read none reported =
+    (λ e. more_read digits out chunk n place k pairs room fits (read refl) reported, λ e. cc)
+more_by digits out chunk true false n place k pairs room fits read none reported =
+    (λ e. cc, λ e. none_after digits chunk n place pairs fits reported)
+more_by digits out chunk false b n place k pairs room fits read none reported = (λ e. cc, λ e. none refl)
 
 pub more_read_by :
     (digits out chunk most values : List ℕ) (n place k : ℕ) → length digits ≡ 2 * n → length out ≡ n → place + 16 ≤ n
     → IsReadBy digits out most place → length values ≡ 16
-    → bytes_of (take 32 (behind digits place)) ≡ (if list_all is_digit_value values then Some chunk else None)
+    → bytes_of (take 32 (following digits place)) ≡ (if list_all is_digit_value values then Some chunk else None)
     → IsReadBy digits (put_mid place k out chunk) (greater most values) (place + 16)
-more_read_by digits out chunk most values n place k pairs room fits so_far lanes told =
+more_read_by digits out chunk most values n place k pairs room fits so_far lanes reported =
     let both = values-greater 16 most values so_far.lanes lanes in
     let more =
     more_by digits out chunk (list_all is_digit_value most) (list_all is_digit_value values) n place k pairs room fits
-    so_far.read so_far.none told in
+    so_far.read so_far.none reported in
     record {
       lanes = length-greater 16 most values so_far.lanes lanes;
       read = λ e. more.0 (sym both ∙ e);
@@ -430,25 +430,25 @@ last_by :
     (digits out chunk : List ℕ) (a b : Bool) (n place last k : ℕ) → length digits ≡ 2 * n → length out ≡ n
     → last + 16 ≡ n → last ≤ place
     → k ≡ 16 → (a ≡ true → IsRead digits out place) → (a ≡ false → bytes_of digits ≡ None)
-    → bytes_of (take 32 (behind digits last)) ≡ (if b then Some chunk else None)
+    → bytes_of (take 32 (following digits last)) ≡ (if b then Some chunk else None)
     → bytes_of digits ≡ (if a && b then Some (put_mid last k out chunk) else None)
-last_by digits out chunk true b n place last k pairs room ends less width read none told =
-    last_read digits out chunk b n place last k pairs room ends less width (read refl) told
-last_by digits out chunk false b n place last k pairs room ends less width read none told = none refl
+last_by digits out chunk true b n place last k pairs room ends less width read none reported =
+    last_read digits out chunk b n place last k pairs room ends less width (read refl) reported
+last_by digits out chunk false b n place last k pairs room ends less width read none reported = none refl
 
 pub last_read_by :
     (digits out chunk most values : List ℕ) (n place last k : ℕ) → length digits ≡ 2 * n → length out ≡ n
     → last + 16 ≡ n → last ≤ place
     → k ≡ 16 → IsReadBy digits out most place → length values ≡ 16
-    → bytes_of (take 32 (behind digits last)) ≡ (if list_all is_digit_value values then Some chunk else None)
+    → bytes_of (take 32 (following digits last)) ≡ (if list_all is_digit_value values then Some chunk else None)
     → bytes_of digits ≡ (if eqb (value_bits 16 (greater most values) % 2 ^ 64) 0 then Some
     (put_mid last k out chunk) else None)
-last_read_by digits out chunk most values n place last k pairs room ends less width so_far lanes told =
+last_read_by digits out chunk most values n place last k pairs room ends less width so_far lanes reported =
     let seen = all_values_seen (greater most values) (length-greater 16 most values so_far.lanes lanes) in
     let both = values-greater 16 most values so_far.lanes lanes in
     rw (← seen, both)
     (last_by digits out chunk (list_all is_digit_value most) (list_all is_digit_value values) n place last k pairs room
-    ends less width so_far.read so_far.none told)
+    ends less width so_far.read so_far.none reported)
 
 -- ---- one pair
 

@@ -9,7 +9,7 @@ use Rattle.lis_capture.specs.declared.line.Line.TheVariants.{Empty, FromAnalyzer
 use Rattle.lis_capture.specs.declared.line.Line.TheVariants.{SetReady, Version}
 use Rattle.lis_capture.specs.Line.{line_of}
 use Rattle.lis_capture.specs.Capture.{capture}
-use Rattle.lis_capture.specs.Spelling.{upgraded}
+use Rattle.lis_capture.specs.Encoding.{upgraded}
 
 -- lines are newest first
 version_one :
@@ -41,14 +41,14 @@ last_line_of_a_return : capture (stream_with [] (codes "T\n\r")) true
     ≡ record { lines = Empty ∷ Timer ∷ []; refused = false }
 last_line_of_a_return = refl
 
-nothing_behind_the_last_end : capture (stream_with [] (codes "T\n")) true
+nothing_after_the_last_end : capture (stream_with [] (codes "T\n")) true
     ≡ record { lines = Timer ∷ []; refused = false }
-nothing_behind_the_last_end = refl
+nothing_after_the_last_end = refl
 
 no_line : capture [] true ≡ record { lines = []; refused = false }
 no_line = refl
 
--- lines that are refused, and what stands before them
+-- lines that are rejected, and what is before them
 half_a_byte : capture (stream_with [] (codes "> 0")) true ≡ record { lines = []; refused = true }
 unfolding decode_pairs
 half_a_byte = refl

@@ -1,4 +1,4 @@
--- Pairs of digits: when a text is such pairs, and what it then spells.
+-- Pairs of digits: when a text is such pairs, and what it then encodes.
 use Rattle.std.proofs.Common.{◌≡◌, ℕ, zero, suc, ◌+◌, ◌*◌, ◌%◌, ◌<◌, Bool, true, false, ◌&&◌, List, [], ◌∷◌, length}
 use Rattle.std.proofs.Common.{get_or, Option, None, Some, unwrap_or, is_some, Result, Ok, Err, refl, sym, ap, ◌∙◌}
 use Rattle.std.proofs.Common.{arith, inl, inr, ◌⊎◌, ◌==◌, ◌-◌, ◌/◌, ◌≤◌, bit_and, bit_or}
@@ -112,7 +112,7 @@ pair_of_digits high low i h l =
 
 -- ---- when a text is such pairs
 
--- a text of odd length spells nothing
+-- a text of odd length encodes nothing
 pub bytes_of-odd : (digits : List ℕ) → length digits % 2 ≡ 1 → bytes_of digits ≡ None
 bytes_of-odd [] odd = refl
 bytes_of-odd (d ∷ digits) odd = ap result_ok (decode_of-odd (d ∷ digits) odd)
@@ -145,7 +145,7 @@ read_by : (r : Result (List ℕ) FromHexError) → is_some (result_ok r) ≡ tru
 read_by (Ok bytes) some = (bytes, refl)
 read_by (Err e) some = cc
 
--- only such a text spells bytes
+-- only such a text encodes bytes
 pub pairs_from_some :
     (digits : List ℕ) → is_some (bytes_of digits) ≡ true
     → (length digits ≡ 0 → ⊥) × (length digits % 2 ≡ 0) × (list_all is_hex_digit digits ≡ true)

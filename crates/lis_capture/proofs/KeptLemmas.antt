@@ -12,7 +12,7 @@ use Rattle.lis_capture.specs.Digits.{bytes_of}
 use Rattle.lis_capture.specs.Kept.{KeptAs, kept_bytes}
 use Rattle.lis_engine.proofs.EncodeLemmas.{length-encode_lower}
 use Rattle.lis_capture.proofs.LowerLemmas.{encoded_nothing}
-use Rattle.lis_capture.proofs.SpellingLemmas.{IsSent-bytes_of, bytes_of-digits}
+use Rattle.lis_capture.proofs.EncodingLemmas.{IsSent-bytes_of, bytes_of-digits}
 use Rattle.std.proofs.lemmas.List.{nil_from_length}
 
 pub nothing_kept : (keeping : Keeping) → KeptAs keeping []
@@ -40,10 +40,10 @@ pub read_kept :
     (keeping : Keeping) (kept bytes : List ℕ) (t : Bool) → keeping ≡ Digits → KeptAs keeping kept
     → length kept ≡ 2 * length bytes → bytes_of kept ≡ (if t then Some bytes else None)
     → bytes ≡ kept_bytes keeping kept
-read_kept Bytes kept bytes t is all room told = cc
-read_kept Digits kept bytes true is all room told = ap (λ (o : Option (List ℕ)). unwrap_or o []) (sym told)
-read_kept Digits kept bytes false is all room told =
-    let nothing : unwrap_or (bytes_of kept) [] ≡ [] = ap (λ (o : Option (List ℕ)). unwrap_or o []) told in
+read_kept Bytes kept bytes t is all room reported = cc
+read_kept Digits kept bytes true is all room reported = ap (λ (o : Option (List ℕ)). unwrap_or o []) (sym reported)
+read_kept Digits kept bytes false is all room reported =
+    let nothing : unwrap_or (bytes_of kept) [] ≡ [] = ap (λ (o : Option (List ℕ)). unwrap_or o []) reported in
     let empty : kept ≡ [] = sym all.1 ∙ ap encode_lower nothing ∙ encoded_nothing in
     nil_from_length bytes (omega (arith, room, ap length empty)) ∙ sym nothing
 
@@ -53,10 +53,10 @@ lowered_by :
     → option_map encode_lower o ≡ (if t then Some lowered else None)
     → (o ≡ (if t then Some (unwrap_or (bytes_of lowered) []) else None))
     × (t ≡ true → encode_lower (unwrap_or (bytes_of lowered) []) ≡ lowered)
-lowered_by digits lowered true None short is told = cc
-lowered_by digits lowered false None short is told = (refl, λ e. cc)
-lowered_by digits lowered false (Some bytes) short is told = cc
-lowered_by digits lowered true (Some bytes) short is told =
+lowered_by digits lowered true None short is reported = cc
+lowered_by digits lowered false None short is reported = (refl, λ e. cc)
+lowered_by digits lowered false (Some bytes) short is reported = cc
+lowered_by digits lowered true (Some bytes) short is reported =
     let lowered_is : encode_lower bytes ≡ lowered = cc in
     let read : bytes_of lowered ≡ Some bytes =
     ap bytes_of (sym lowered_is) ∙ bytes_of-digits bytes (IsSent-bytes_of digits bytes short is) in
@@ -67,18 +67,19 @@ pub lowered_bytes :
     (keeping : Keeping) (digits lowered : List ℕ) (t : Bool) → keeping ≡ Digits → length digits ≤ 4094
     → option_map encode_lower (bytes_of digits) ≡ (if t then Some lowered else None)
     → bytes_of digits ≡ (if t then Some (kept_bytes keeping lowered) else None)
-lowered_bytes Bytes digits lowered t is short told = cc
-lowered_bytes Digits digits lowered t is short told = (lowered_by digits lowered t (bytes_of digits) short refl told).0
+lowered_bytes Bytes digits lowered t is short reported = cc
+lowered_bytes Digits digits lowered t is short reported = (lowered_by digits lowered t (bytes_of digits) short refl
+    reported).0
 
 pub lowered_kept :
     (keeping : Keeping) (digits lowered : List ℕ) (t : Bool) → keeping ≡ Digits → length digits ≤ 4094
     → length lowered ≤ 4094 → option_map encode_lower (bytes_of digits) ≡ (if t then Some lowered else None) → t ≡ true
     → KeptAs keeping lowered
-lowered_kept Bytes digits lowered t is short room told all = cc
-lowered_kept Digits digits lowered t is short room told all =
-    (room, (lowered_by digits lowered t (bytes_of digits) short refl told).1 all)
+lowered_kept Bytes digits lowered t is short room reported all = cc
+lowered_kept Digits digits lowered t is short room reported all =
+    (room, (lowered_by digits lowered t (bytes_of digits) short refl reported).1 all)
 
--- where it stands in front of a buffer
+-- where it is in front of a buffer
 pub kept_front : (keeping : Keeping) (kept rest : List ℕ) (len : ℕ) → length kept ≡ len → KeptAs keeping kept
     → KeptAs keeping (take len (kept ++ rest))
 kept_front keeping kept rest len long is =

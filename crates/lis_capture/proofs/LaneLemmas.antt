@@ -7,8 +7,8 @@ use Rattle.std.proofs.lemmas.Bool.{eqb-true}
 use mir.Syntax.{w8}
 use mir.Val.{Fits}
 use Rattle.hex.specs.Hex.{hex_digit_value}
-use Rattle.lis_capture.specs.inside.Digits.{told_digit}
-use Rattle.lis_capture.proofs.BelowLemmas.{below, lanes_told, less}
+use Rattle.lis_capture.specs.inside.Digits.{digit_meant}
+use Rattle.lis_capture.proofs.BelowLemmas.{below, lanes_reported, less}
 use Rattle.lis_capture.proofs.DigitsLemmas.{passes, passes_at}
 
 -- ---- the value of a digit, tried at every byte
@@ -28,25 +28,26 @@ letters b =
 abbrev value : ℕ → ℕ
 value b = cond (top 7 (below (decimals b) (letters b))) (decimals b) (letters b)
 
-abbrev same_told : Option ℕ → Option ℕ → Bool
-same_told None None = true
-same_told None (Some b) = false
-same_told (Some a) None = false
-same_told (Some a) (Some b) = a == b
+abbrev same_reported : Option ℕ → Option ℕ → Bool
+same_reported None None = true
+same_reported None (Some b) = false
+same_reported (Some a) None = false
+same_reported (Some a) (Some b) = a == b
 
-same_told-true : (a b : Option ℕ) → same_told a b ≡ true → a ≡ b
-same_told-true None None same = refl
-same_told-true None (Some b) same = cc
-same_told-true (Some a) None same = cc
-same_told-true (Some a) (Some b) same = ap (λ (n : ℕ). Some n) (eqb-true a b same)
+same_reported-true : (a b : Option ℕ) → same_reported a b ≡ true → a ≡ b
+same_reported-true None None same = refl
+same_reported-true None (Some b) same = cc
+same_reported-true (Some a) None same = cc
+same_reported-true (Some a) (Some b) same = ap (λ (n : ℕ). Some n) (eqb-true a b same)
 
-all_told : passes (λ b. same_told (told_digit (value b)) (hex_digit_value b)) 0 256 ≡ true
-all_told = refl
+all_reported : passes (λ b. same_reported (digit_meant (value b)) (hex_digit_value b)) 0 256 ≡ true
+all_reported = refl
 
-value_told : (b : ℕ) → b < 256 → told_digit (value b) ≡ hex_digit_value b
-value_told b fits =
-    same_told-true (told_digit (value b)) (hex_digit_value b)
-    (passes_at (λ b. same_told (told_digit (value b)) (hex_digit_value b)) 0 256 b all_told (omega arith) (omega arith))
+value_reported : (b : ℕ) → b < 256 → digit_meant (value b) ≡ hex_digit_value b
+value_reported b fits =
+    same_reported-true (digit_meant (value b)) (hex_digit_value b)
+    (passes_at (λ b. same_reported (digit_meant (value b)) (hex_digit_value b)) 0 256 b all_reported (omega arith)
+    (omega arith))
 
 -- and of the lanes of a vector
 abbrev decimals_of : ℕ → List ℕ → List ℕ
@@ -67,7 +68,8 @@ values_of n bytes =
     sel_l (map (top 7) (zip2 below (decimals_of n bytes) (letters_of n bytes))) (decimals_of n bytes)
     (letters_of n bytes)
 
-pub values_told :
+pub values_reported :
     (n : ℕ) (bytes : List ℕ) → length bytes ≡ n → Each1 (Fits w8) bytes →
-    map told_digit (values_of n bytes) ≡ map hex_digit_value bytes
-values_told = lanes_told values_of value told_digit hex_digit_value (λ n. refl) (λ n b bytes. refl) value_told
+    map digit_meant (values_of n bytes) ≡ map hex_digit_value bytes
+values_reported = lanes_reported values_of value digit_meant hex_digit_value (λ n. refl) (λ n b bytes. refl)
+    value_reported

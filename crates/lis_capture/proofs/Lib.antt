@@ -4,7 +4,7 @@ pub mod LineLemmas
 pub mod CaptureLemmas
 pub mod SizeLemmas
 pub mod ReaderLemmas
-pub mod SpellingLemmas
+pub mod EncodingLemmas
 pub mod VersionLemmas
 mod DefinitionRows
 mod BelowLemmas

@@ -22,7 +22,7 @@ use Rattle.lis_capture.specs.Digits.{bytes_of}
 use Rattle.lis_capture.specs.inside.Digits.{is_none_far, lower_case}
 use Rattle.lis_capture.proofs.DigitsLemmas.{by_value, bytes_of-other, digit_passes, passes, passes_at}
 use Rattle.lis_capture.proofs.BelowLemmas.{all-greater, all_below, below, bits_fit, bits_over, greater, length-greater}
-use Rattle.lis_capture.proofs.BelowLemmas.{lanes_told, less}
+use Rattle.lis_capture.proofs.BelowLemmas.{lanes_reported, less}
 use Rattle.lis_capture.proofs.DecodeLemmas.{bytes_of-paired, paired}
 
 -- ---- how far a byte is from a digit, tried at every byte
@@ -50,8 +50,8 @@ same-true false false is = refl
 all_far : passes (λ b. same (is_none_far (far b)) (is_hex_digit b)) 0 256 ≡ true
 all_far = refl
 
-far_told : (b : ℕ) → b < 256 → is_none_far (far b) ≡ is_hex_digit b
-far_told b fits =
+far_reported : (b : ℕ) → b < 256 → is_none_far (far b) ≡ is_hex_digit b
+far_reported b fits =
     same-true (is_none_far (far b)) (is_hex_digit b)
     (passes_at (λ b. same (is_none_far (far b)) (is_hex_digit b)) 0 256 b all_far (omega arith) (omega arith))
 
@@ -68,10 +68,10 @@ far_of n bytes =
     lesser_of (over_of n 9 (zip2 less bytes (replicate n 48)))
     (over_of n 5 (zip2 less (zip2 bit_or bytes (replicate n 32)) (replicate n 97)))
 
-pub all_far_told :
+pub all_far_reported :
     (n : ℕ) (bytes : List ℕ) → length bytes ≡ n → Each1 (Fits w8) bytes →
     map is_none_far (far_of n bytes) ≡ map is_hex_digit bytes
-all_far_told = lanes_told far_of far is_none_far is_hex_digit (λ n. refl) (λ n b bytes. refl) far_told
+all_far_reported = lanes_reported far_of far is_none_far is_hex_digit (λ n. refl) (λ n b bytes. refl) far_reported
 
 -- no step is a number below one
 no_step : (x : ℕ) → nat_lt x 1 ≡ is_none_far x
@@ -112,19 +112,19 @@ map-drop zero xs = refl
 map-drop (suc n) [] = refl
 map-drop (suc n) (x ∷ xs) = map-drop n xs
 
--- the digits behind a place, as a slice of them has them
-abbrev pub behind : List ℕ → ℕ → List ℕ
-behind digits place = take (length digits - place) (drop place digits)
+-- the digits after a place, as a slice of them has them
+abbrev pub following : List ℕ → ℕ → List ℕ
+following digits place = take (length digits - place) (drop place digits)
 
 part_of : (digits : List ℕ) (place : ℕ) → place + 16 ≤ length digits
-    → take 16 (behind digits place) ≡ take 16 (drop place digits)
+    → take 16 (following digits place) ≡ take 16 (drop place digits)
 part_of digits place fits =
     ap (take 16) (take_all (length digits - place) (drop place digits) (omega (arith, length-drop place digits)))
 
 -- sixteen more are written
 written_more :
     (digits out chunk : List ℕ) (place k : ℕ) → length out ≡ length digits → place + 16 ≤ length digits
-    → take place out ≡ take place (map lower_case digits) → chunk ≡ map lower_case (take 16 (behind digits place))
+    → take place out ≡ take place (map lower_case digits) → chunk ≡ map lower_case (take 16 (following digits place))
     → take (place + 16) (put_mid place k out chunk) ≡ take (place + 16) (map lower_case digits)
 written_more digits out chunk place k room fits written is =
     let chunk_is : chunk ≡ take 16 (drop place (map lower_case digits)) =
@@ -144,32 +144,32 @@ written_more digits out chunk place k room fits written is =
 
 pub more_lowered :
     (digits out chunk seen steps : List ℕ) (place k : ℕ) → length out ≡ length digits → place + 16 ≤ length digits
-    → IsLowered digits out seen place → map is_none_far steps ≡ map is_hex_digit (take 16 (behind digits place))
-    → chunk ≡ map lower_case (take 16 (behind digits place))
+    → IsLowered digits out seen place → map is_none_far steps ≡ map is_hex_digit (take 16 (following digits place))
+    → chunk ≡ map lower_case (take 16 (following digits place))
     → IsLowered digits (put_mid place k out chunk) (greater seen steps) (place + 16)
-more_lowered digits out chunk seen steps place k room fits so_far told is =
+more_lowered digits out chunk seen steps place k room fits so_far reported is =
     let part : List ℕ = take 16 (drop place digits) in
     let sixteen : length steps ≡ 16 =
-    sym (length-map steps is_none_far) ∙ ap length told ∙ length-map (take 16 (behind digits place)) is_hex_digit
+    sym (length-map steps is_none_far) ∙ ap length reported ∙ length-map (take 16 (following digits place)) is_hex_digit
     ∙ ap length (part_of digits place fits) ∙ omega
     (arith, length-take 16 (drop place digits), length-drop place digits) in
     record {
       lanes = length-greater 16 seen steps so_far.lanes sixteen;
       all =
           none_far-greater 16 seen steps so_far.lanes sixteen
-          ∙ (λ i. so_far.all i && (all_by_map is_none_far is_hex_digit steps (take 16 (behind digits place)) told
+          ∙ (λ i. so_far.all i && (all_by_map is_none_far is_hex_digit steps (take 16 (following digits place)) reported
           ∙ ap (list_all is_hex_digit) (part_of digits place fits)) i)
           ∙ sym (list_all-append is_hex_digit (take place digits) part)
           ∙ ap (list_all is_hex_digit) (sym (take-add place 16 digits));
       written = written_more digits out chunk place k room fits so_far.written is;
     }
 
--- ---- what is written spells the bytes
+-- ---- what is written encodes the bytes
 
-spelled_digit : (b : ℕ) → is_hex_digit b ≡ true
+encoded_digit : (b : ℕ) → is_hex_digit b ≡ true
     → (slice_index lower_digits (unwrap_or (hex_digit_value b) 0) ≡ lower_case b)
     × (unwrap_or (hex_digit_value b) 0 < 16)
-spelled_digit b is = (
+encoded_digit b is = (
   eqb-true (slice_index lower_digits (unwrap_or (hex_digit_value b) 0)) (lower_case b)
       (digit_passes (λ b. slice_index lower_digits (unwrap_or (hex_digit_value b) 0) == lower_case b) b refl is),
   small,
@@ -185,8 +185,8 @@ encoded_pair : (high low : ℕ) (digits : List ℕ) → is_hex_digit high ≡ tr
     → encode_lower (by_value high low ∷ digits) ≡ lower_case high ∷ lower_case low ∷ encode_lower digits
 unfolding encode_with
 encoded_pair high low digits h l =
-    let first = spelled_digit high h in
-    let second = spelled_digit low l in
+    let first = encoded_digit high h in
+    let second = encoded_digit low l in
     let quotient : by_value high low / 16 ≡ unwrap_or (hex_digit_value high) 0 = omega (arith, first.1, second.1) in
     let remainder : by_value high low % 16 ≡ unwrap_or (hex_digit_value low) 0 = omega (arith, first.1, second.1) in
     λ i. (ap (slice_index lower_digits) quotient ∙ first.0) i
@@ -208,16 +208,16 @@ encoded-paired (suc n) (high ∷ low ∷ digits) long all =
     ∙ ap (λ (l : List ℕ). lower_case high ∷ lower_case low ∷ l) (encoded-paired n digits (omega arith) two.1)
 
 -- pairs of digits, or none, by whether each is a digit
-pub spelled :
+pub lowered_encoding :
     (digits out : List ℕ) (t : Bool) → length digits % 2 ≡ 0 → 0 < length digits → t ≡ list_all is_hex_digit digits
     → out ≡ map lower_case digits
     → option_map encode_lower (bytes_of digits) ≡ (if t then Some out else None)
-spelled digits out true even some all is =
+lowered_encoding digits out true even some all is =
     let n : ℕ = length digits / 2 in
     let long : length digits ≡ 2 * n = omega arith in
     ap (option_map encode_lower) (bytes_of-paired n digits long (omega arith) (sym all))
     ∙ ap (λ (l : List ℕ). Some l) (encoded-paired n digits long (sym all) ∙ sym is)
-spelled digits out false even some all is = ap (option_map encode_lower) (bytes_of-other digits (sym all))
+lowered_encoding digits out false even some all is = ap (option_map encode_lower) (bytes_of-other digits (sym all))
 
 once : (front middle rest : Bool) → ((front && middle) && (middle && rest)) ≡ (front && (middle && rest))
 once true true rest = refl
@@ -249,46 +249,48 @@ all_from digits place last less =
 last_written :
     (digits out chunk : List ℕ) (place last k : ℕ) → length out ≡ length digits → last + 16 ≡ length digits
     → last ≤ place → k ≡ 16
-    → take place out ≡ take place (map lower_case digits) → chunk ≡ map lower_case (take 16 (behind digits last))
+    → take place out ≡ take place (map lower_case digits) → chunk ≡ map lower_case (take 16 (following digits last))
     → put_mid last k out chunk ≡ map lower_case digits
 last_written digits out chunk place last k room ends less width written is =
-    let spelled : List ℕ = map lower_case digits in
-    let front : take last out ≡ take last spelled =
-    sym (take-take last place out less) ∙ ap (take last) written ∙ take-take last place spelled less in
+    let lowered_encoding : List ℕ = map lower_case digits in
+    let front : take last out ≡ take last lowered_encoding =
+    sym (take-take last place out less) ∙ ap (take last) written ∙ take-take last place lowered_encoding less in
     let long : length chunk ≡ k =
-    ap length is ∙ length-map (take 16 (behind digits last)) lower_case ∙ ap length (part_of digits last (omega arith))
+    ap length is ∙ length-map (take 16 (following digits last)) lower_case
+    ∙ ap length (part_of digits last (omega arith))
     ∙ omega (arith, length-take 16 (drop last digits), length-drop last digits) in
     let all = written_more digits out chunk last k room (omega arith) front is in
     let none : drop (last + 16) (put_mid last k out chunk) ≡ [] =
     drop-put_mid last k out chunk (last + 16) (omega arith) (omega arith) long
     ∙ drop_all (last + 16) out (omega arith) in
     sym (take-append-drop (last + 16) (put_mid last k out chunk))
-    ∙ rw (none, all, append-nil (take (last + 16) spelled))
-    (take_all (last + 16) spelled (omega (arith, length-map digits lower_case)))
+    ∙ rw (none, all, append-nil (take (last + 16) lowered_encoding))
+    (take_all (last + 16) lowered_encoding (omega (arith, length-map digits lower_case)))
 
 -- what is answered in the end
 pub last_lowered :
     (digits out chunk seen steps : List ℕ) (place last k : ℕ) → length out ≡ length digits
     → last + 16 ≡ length digits → last ≤ place → k ≡ 16
     → length digits % 2 ≡ 0
-    → IsLowered digits out seen place → map is_none_far steps ≡ map is_hex_digit (take 16 (behind digits last))
-    → chunk ≡ map lower_case (take 16 (behind digits last))
+    → IsLowered digits out seen place → map is_none_far steps ≡ map is_hex_digit (take 16 (following digits last))
+    → chunk ≡ map lower_case (take 16 (following digits last))
     → option_map encode_lower (bytes_of digits)
     ≡ (if eqb (bits_over 1 16 (greater seen steps) % 2 ^ 64) 0 then Some (put_mid last k out chunk) else None)
-last_lowered digits out chunk seen steps place last k room ends less width even so_far told is =
-    let part : take 16 (behind digits last) ≡ drop last digits =
+last_lowered digits out chunk seen steps place last k room ends less width even so_far reported is =
+    let part : take 16 (following digits last) ≡ drop last digits =
     part_of digits last (omega arith) ∙ take_all 16 (drop last digits) (omega (arith, length-drop last digits)) in
     let sixteen : length steps ≡ 16 =
-    sym (length-map steps is_none_far) ∙ ap length told ∙ length-map (take 16 (behind digits last)) is_hex_digit
+    sym (length-map steps is_none_far) ∙ ap length reported ∙ length-map (take 16 (following digits last)) is_hex_digit
     ∙ ap length part ∙ omega (arith, length-drop last digits) in
     let all : eqb (bits_over 1 16 (greater seen steps)) 0 ≡ list_all is_hex_digit digits =
     sym (all_below is_none_far 1 no_step 16 (greater seen steps) (length-greater 16 seen steps so_far.lanes sixteen))
     ∙ none_far-greater 16 seen steps so_far.lanes sixteen
-    ∙ (λ i. so_far.all i && (all_by_map is_none_far is_hex_digit steps (take 16 (behind digits last)) told
+    ∙ (λ i. so_far.all i && (all_by_map is_none_far is_hex_digit steps (take 16 (following digits last)) reported
     ∙ ap (list_all is_hex_digit) part) i)
     ∙ all_from digits place last less in
     rw (bits_fit 1 (greater seen steps))
-    (spelled digits (put_mid last k out chunk) (eqb (bits_over 1 16 (greater seen steps)) 0) even (omega arith) all
+    (lowered_encoding digits (put_mid last k out chunk) (eqb (bits_over 1 16 (greater seen steps)) 0) even (omega arith)
+    all
     (last_written digits out chunk place last k room ends less width so_far.written is))
 
 -- ---- one pair
@@ -301,5 +303,5 @@ pair_lowered high low [] t room is = absurd (omega arith)
 pair_lowered high low (x ∷ []) t room is = absurd (omega arith)
 pair_lowered high low (x ∷ y ∷ z ∷ out) t room is = absurd (omega arith)
 pair_lowered high low (x ∷ y ∷ []) t room is =
-    spelled (high ∷ low ∷ []) (lower_case high ∷ lower_case low ∷ []) t refl (omega arith)
+    lowered_encoding (high ∷ low ∷ []) (lower_case high ∷ lower_case low ∷ []) t refl (omega arith)
     (is ∙ ap (λ b. is_hex_digit high && b) (sym (and-true (is_hex_digit low)))) refl

@@ -9,8 +9,8 @@ use Rattle.lis_frame.specs.Stream.{stream_with}
 use Rattle.memchr.specs.Find.{IsFirstByte, is_byte}
 use Rattle.lis_capture.specs.declared.line.CaptureVersion.{CaptureVersion}
 use Rattle.lis_capture.specs.declared.line.Line.{Line}
-use Rattle.lis_capture.specs.declared.reader.Found.{Found}
-use Rattle.lis_capture.specs.declared.reader.Found.TheVariants as found
+use Rattle.lis_capture.specs.declared.reader.LineFound.{LineFound}
+use Rattle.lis_capture.specs.declared.reader.LineFound.TheVariants as found
 use Rattle.lis_capture.specs.Line.{line_of, longest_line, version_after}
 use Rattle.lis_capture.specs.Capture.{Lines, begun, capture, number_of, version_of, with_said}
 use Rattle.lis_text.specs.Capped.{capped}
@@ -23,12 +23,13 @@ use Rattle.lis_capture.proofs.CaptureLemmas.{has_end, has_end-before}
 -- ---- a line more
 
 pub known_taken :
-    (known : Known) (said : Option Line) (told : Line) (version : CaptureVersion) (number : ℕ) → is_some said ≡ true
-    → told ≡ unwrap_or said known.line → version ≡ version_after known.version told → number ≡ capped (known.number + 1)
-    → record { version = version; refused = known.refused; number = number; line = told } ≡ known_with known said
-known_taken known None told version number some told_is version_is number_is = cc
-known_taken known (Some line) told version number some told_is version_is number_is =
-    rw (version_is, number_is, told_is) refl
+    (known : Known) (said : Option Line) (reported : Line) (version : CaptureVersion) (number : ℕ) → is_some said ≡ true
+    → reported ≡ unwrap_or said known.line → version ≡ version_after known.version reported → number
+    ≡ capped (known.number + 1)
+    → record { version = version; refused = known.refused; number = number; line = reported } ≡ known_with known said
+known_taken known None reported version number some reported_is version_is number_is = cc
+known_taken known (Some line) reported version number some reported_is version_is number_is =
+    rw (version_is, number_is, reported_is) refl
 
 pub found_taken : (said : Option Line) → is_some said ≡ true → found.Line ≡ found_of said
 found_taken None some = cc
@@ -38,7 +39,7 @@ pub found_refused : (said : Option Line) → false ≡ is_some said → found_of
 found_refused None none = refl
 found_refused (Some line) none = cc
 
--- behind a refused line nothing is carried out
+-- after a rejected line nothing is carried out
 pub refused_again : (reader : Reading) (past : List ℕ) → HasRead reader past → reader.known.refused ≡ true
     → capture past false ≡ record { lines = (capture past false).lines; refused = true }
 refused_again reader past has is =
@@ -75,7 +76,7 @@ number-known_of read few = number_fits read.refused (length read.lines) few
 -- ---- bytes that end a line, and bytes that don't
 
 -- what is found of further bytes, and that they are then read
-pub record ReadsOn (before after : Reading) (past bytes : List ℕ) (result : Found) : Type 0 where
+pub record ReadsOn (before after : Reading) (past bytes : List ℕ) (result : LineFound) : Type 0 where
   pub found_is : capture (stream_with past bytes) false ≡ found_lines (capture past false) result after.known.line
   pub has_read : HasRead after (stream_with past bytes)
 
@@ -93,23 +94,23 @@ module _ (before : Reading) (past : List ℕ) (has : HasRead before past) (fine 
   long_here : (text : List ℕ) → is_long (before.held ++ text) ≡ is_long (begun past ++ text)
   long_here text = ap (λ (h : List ℕ). is_long (h ++ text)) (has.held_is fine_here)
 
-  -- a line is told or refused
+  -- a line is reported or rejected
   known_here : (said : Option Line)
       → known_with before.known said ≡ known_of (with_said (capture past false).lines said)
   known_here said =
       ap (λ (k : Known). known_with k said) has.known_is ∙ known_with-known_of (capture past false) said fine_here
 
   found_here :
-      (said : Option Line) (lines : Lines) (after : Known) (result : Found)
+      (said : Option Line) (lines : Lines) (after : Known) (result : LineFound)
       → lines ≡ with_said (capture past false).lines said → after ≡ known_with before.known said
       → result ≡ found_of said → lines ≡ found_lines (capture past false) result after.line
   found_here said lines after result lines_are known_is result_is =
       lines_are ∙ found_lines-found_of (capture past false) before.known said
-      ∙ ap (λ (f : Found). found_lines (capture past false) f (known_with before.known said).line) (sym result_is)
+      ∙ ap (λ (f : LineFound). found_lines (capture past false) f (known_with before.known said).line) (sym result_is)
       ∙ ap (λ (k : Known). found_lines (capture past false) result k.line) (sym known_is)
 
   pub reads_end :
-      (after : Reading) (text : List ℕ) (result : Found) → has_end text ≡ false
+      (after : Reading) (text : List ℕ) (result : LineFound) → has_end text ≡ false
       → after.known ≡ known_with before.known (line_of before.known.version (before.held ++ text)) → after.held ≡ []
       → result ≡ found_of (line_of before.known.version (before.held ++ text))
       → ReadsOn before after past (text ++ LF ∷ []) result
@@ -129,7 +130,7 @@ module _ (before : Reading) (past : List ℕ) (has : HasRead before past) (fine 
 
   -- the end ends a line that has a byte
   pub ends_last :
-      (after : Known) (result : Found) → (length before.held == 0) ≡ false
+      (after : Known) (result : LineFound) → (length before.held == 0) ≡ false
       → after ≡ known_with before.known (line_of before.known.version (before.held ++ []))
       → result ≡ found_of (line_of before.known.version (before.held ++ []))
       → (capture past true ≡ found_lines (capture past false) result after.line)
@@ -146,7 +147,7 @@ module _ (before : Reading) (past : List ℕ) (has : HasRead before past) (fine 
       )
 
   reads_by :
-      (long : Bool) (after : Reading) (text : List ℕ) (result : Found) → has_end text ≡ false
+      (long : Bool) (after : Reading) (text : List ℕ) (result : LineFound) → has_end text ≡ false
       → is_long (before.held ++ text) ≡ long
       → after ≡ (if long then record before { known = known_with before.known None }
       else record before { held = before.held ++ text })
@@ -155,7 +156,7 @@ module _ (before : Reading) (past : List ℕ) (has : HasRead before past) (fine 
       let line_is : is_long (begun past ++ text) ≡ true = sym (long_here text) ∙ is in
       let lines = capture-long past text fine_here none line_is in
       record {
-        found_is = lines ∙ ap (λ (f : Found). found_lines (capture past false) f after.known.line) (sym result_is);
+        found_is = lines ∙ ap (λ (f : LineFound). found_lines (capture past false) f after.known.line) (sym result_is);
         has_read = record {
           known_is = ap (λ (r : Reading). r.known) after_is ∙ known_here None ∙ ap known_of (sym lines);
           held_is = λ fine_then. absurd (refused_now (ap (λ (r : Lines). r.refused) lines) fine_then);
@@ -168,7 +169,7 @@ module _ (before : Reading) (past : List ℕ) (has : HasRead before past) (fine 
       let line_is : is_long (begun past ++ text) ≡ false = sym (long_here text) ∙ is in
       let lines = capture-within past text fine_here none line_is in
       record {
-        found_is = lines ∙ ap (λ (f : Found). found_lines (capture past false) f after.known.line) (sym result_is);
+        found_is = lines ∙ ap (λ (f : LineFound). found_lines (capture past false) f after.known.line) (sym result_is);
         has_read = record {
           known_is = ap (λ (r : Reading). r.known) after_is ∙ has.known_is ∙ ap known_of (sym lines);
           held_is = λ _.
@@ -178,7 +179,7 @@ module _ (before : Reading) (past : List ℕ) (has : HasRead before past) (fine 
       }
 
   pub reads_within :
-      (after : Reading) (text : List ℕ) (result : Found) → has_end text ≡ false → after ≡ holding_more before text
+      (after : Reading) (text : List ℕ) (result : LineFound) → has_end text ≡ false → after ≡ holding_more before text
       → result ≡ found_holding (before.held ++ text) → ReadsOn before after past text result
   reads_within after text result none after_is result_is =
       reads_by (is_long (before.held ++ text)) after text result none refl after_is result_is

@@ -1,4 +1,4 @@
--- A capture tells no more than it has bytes.
+-- A capture says no more than it has bytes.
 use Rattle.std.proofs.Common.{◌≡◌, ℕ, ◌+◌, ◌≤◌, ◌==◌, nat_lt, Bool, true, false, List, [], ◌∷◌, ◌++◌, Option, None}
 use Rattle.std.proofs.Common.{Some, Ok, Err, length, length-append, refl, arith, if◌then◌else◌}
 use Rattle.std.specs.Prelude.{codes, max}
@@ -14,19 +14,19 @@ use Rattle.hex.proofs.HexLemmas.{decode_of-ok}
 use Rattle.lis_text.specs.Control.{LF}
 use Rattle.lis_link.specs.declared.receiver.Readiness.TheVariants.{Ready, Busy, Contending}
 use Rattle.lis_capture.specs.declared.line.CaptureVersion.{CaptureVersion}
-use Rattle.lis_capture.specs.declared.line.CaptureVersion.TheVariants.{Untold, First, Second}
+use Rattle.lis_capture.specs.declared.line.CaptureVersion.TheVariants.{Unsaid, First, Second}
 use Rattle.lis_capture.specs.declared.line.Line.{Line}
 use Rattle.lis_capture.specs.declared.line.Line.TheVariants.{Empty, FromAnalyzer, FromComputer, Timer, Restart}
 use Rattle.lis_capture.specs.declared.line.Line.TheVariants.{SetReady, Version}
 use Rattle.lis_capture.specs.Digits.{bytes_of}
 use Rattle.lis_capture.specs.Line.{added_line, line_of, longest_line, plain_line, said, sent_by, without_return}
-use Rattle.lis_capture.specs.Capture.{begun, capture, counts, ended_lines, line_size, next_by, read_lines, size}
+use Rattle.lis_capture.specs.Capture.{begun, capture, counts, ended_lines, line_size, lines_with_next, read_lines, size}
 use Rattle.lis_capture.specs.Capture.{version_of, with_said}
 use Rattle.lis_capture.proofs.LineLemmas.{without_return-length}
 
--- ---- a line that has a byte tells no more than it is long
+-- ---- a line that has a byte says no more than it is long
 
--- what a line of so many bytes may tell
+-- what a line of so many bytes may report
 abbrev most : List ℕ → ℕ
 most text = max 1 (length text)
 
@@ -76,7 +76,7 @@ or_size None b n here there = there
 or_size (Some line) b n here there = here
 
 said_fits : (version : CaptureVersion) (text : List ℕ) → said_size (said version text) ≤ most text
-said_fits Untold text = test_size (bytes_eq text (codes "capture 2")) Version _ _ (omega arith) (plain_size text)
+said_fits Unsaid text = test_size (bytes_eq text (codes "capture 2")) Version _ _ (omega arith) (plain_size text)
 said_fits First text = plain_size text
 said_fits Second text = or_size (plain_line text) (added_line text) _ (plain_size text) (omega (arith, added_size text))
 
@@ -96,17 +96,17 @@ with_fits lines None = omega arith
 with_fits lines (Some line) = omega arith
 
 next_fits : (refused : Bool) (lines : List Line) (text : List ℕ)
-    → size (next_by refused lines text).lines ≤ size lines + most text
+    → size (lines_with_next refused lines text).lines ≤ size lines + most text
 next_fits true lines text = omega arith
 next_fits false lines text =
     omega (arith, with_fits lines (line_of (version_of lines) text), line_fits (version_of lines) text)
 
-abbrev behind : Bool → ℕ → List ℕ → List (List ℕ) → ℕ
-behind ends b text texts =
+abbrev following : Bool → ℕ → List ℕ → List (List ℕ) → ℕ
+following ends b text texts =
     size (read_lines (if ends then text ∷ texts else texts)).lines + length (if ends then [] else text ++ b ∷ [])
 
 byte_fits : (ends : Bool) (b : ℕ) (text : List ℕ) (texts : List (List ℕ))
-    → behind ends b text texts ≤ size (read_lines texts).lines + length text + 1
+    → following ends b text texts ≤ size (read_lines texts).lines + length text + 1
 byte_fits true b text texts = omega (arith, next_fits (read_lines texts).refused (read_lines texts).lines text)
 byte_fits false b text texts = omega (arith, length-append text (b ∷ []))
 

@@ -6,16 +6,16 @@ use Rattle.std.specs.Option.{option_or}
 use Rattle.std.specs.Str.{bytes_eq}
 use Rattle.lis_link.specs.declared.receiver.Readiness.TheVariants.{Ready, Busy, Contending}
 use Rattle.lis_capture.specs.declared.line.CaptureVersion.{CaptureVersion}
-use Rattle.lis_capture.specs.declared.line.CaptureVersion.TheVariants.{Untold, First, Second}
+use Rattle.lis_capture.specs.declared.line.CaptureVersion.TheVariants.{Unsaid, First, Second}
 use Rattle.lis_capture.specs.declared.line.Line.{Line}
 use Rattle.lis_capture.specs.declared.line.Line.TheVariants.{Empty, FromAnalyzer, FromComputer, Timer, Restart}
 use Rattle.lis_capture.specs.declared.line.Line.TheVariants.{SetReady, Version}
 use Rattle.lis_capture.specs.Digits.{bytes_of}
 use Rattle.lis_capture.specs.Line.{added_line, line_of, longest_line, plain_line, said, sent_by, version_after}
 use Rattle.lis_capture.specs.Line.{without_return}
-use Rattle.lis_capture.specs.Capture.{capture, lines_of, next_by, read_lines, version_of, with_said}
-use Rattle.lis_capture.specs.Spelling.{upgraded_lines}
-use Rattle.lis_capture.proofs.SpellingLemmas.{is_version, upgraded_other}
+use Rattle.lis_capture.specs.Capture.{capture, lines_of, lines_with_next, read_lines, version_of, with_said}
+use Rattle.lis_capture.specs.Encoding.{upgraded_lines}
+use Rattle.lis_capture.proofs.EncodingLemmas.{is_version, upgraded_other}
 
 -- ---- no line but the first is the version's
 
@@ -53,7 +53,7 @@ other_or (Some line) b from_a from_b = from_a
 -- ---- what upgrading adds, by the version
 
 abbrev pub Gains : CaptureVersion → List Line → Type 0
-Gains Untold lines = lines ≡ []
+Gains Unsaid lines = lines ≡ []
 Gains First lines = upgraded_lines lines ≡ lines ++ Version ∷ []
 Gains Second lines = upgraded_lines lines ≡ lines
 
@@ -61,7 +61,7 @@ abbrev GainsWith : CaptureVersion → List Line → Option Line → Type 0
 GainsWith version lines None = Unit {0}
 GainsWith version lines (Some line) = Gains (version_after version line) (line ∷ lines)
 
-gains_first : (line : Line) → Gains (version_after Untold line) (line ∷ [])
+gains_first : (line : Line) → Gains (version_after Unsaid line) (line ∷ [])
 gains_first Empty = refl
 gains_first (FromAnalyzer bytes) = refl
 gains_first (FromComputer bytes) = refl
@@ -70,10 +70,10 @@ gains_first Restart = refl
 gains_first (SetReady readiness) = refl
 gains_first Version = refl
 
-gains_untold : (lines : List Line) (o : Option Line) → lines ≡ [] → GainsWith Untold lines o
-gains_untold lines None none = tt
-gains_untold [] (Some line) none = gains_first line
-gains_untold (first ∷ lines) (Some line) none = cc
+gains_unsaid : (lines : List Line) (o : Option Line) → lines ≡ [] → GainsWith Unsaid lines o
+gains_unsaid lines None none = tt
+gains_unsaid [] (Some line) none = gains_first line
+gains_unsaid (first ∷ lines) (Some line) none = cc
 
 gains_one : (lines : List Line) (o : Option Line) → Other o → Gains First lines → GainsWith First lines o
 gains_one lines None other before = tt
@@ -85,7 +85,7 @@ gains_two lines (Some line) other before = upgraded_other line lines other ∙ a
 
 gains_said : (version : CaptureVersion) (lines : List Line) (text : List ℕ) → Gains version lines
     → GainsWith version lines (said version text)
-gains_said Untold lines text before = gains_untold lines (said Untold text) before
+gains_said Unsaid lines text before = gains_unsaid lines (said Unsaid text) before
 gains_said First lines text before = gains_one lines (said First text) (other_plain text) before
 gains_said Second lines text before =
     gains_two lines (said Second text)
@@ -103,7 +103,7 @@ gains_with lines None before said = before
 gains_with lines (Some line) before said = said
 
 gains_next : (refused : Bool) (lines : List Line) (text : List ℕ) → Gains (version_of lines) lines
-    → Gains (version_of (next_by refused lines text).lines) (next_by refused lines text).lines
+    → Gains (version_of (lines_with_next refused lines text).lines) (lines_with_next refused lines text).lines
 gains_next true lines text before = before
 gains_next false lines text before =
     gains_with lines (line_of (version_of lines) text) before

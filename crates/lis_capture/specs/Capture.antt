@@ -3,7 +3,7 @@ use Rattle.std.specs.Prelude.{ℕ, ◌+◌, ◌==◌, nat_lt, not, Bool, true, f
 use Rattle.std.specs.Prelude.{Some, if◌then◌else◌}
 use Rattle.lis_text.specs.Control.{LF}
 use Rattle.lis_capture.specs.declared.line.CaptureVersion.{CaptureVersion}
-use Rattle.lis_capture.specs.declared.line.CaptureVersion.TheVariants.{Untold}
+use Rattle.lis_capture.specs.declared.line.CaptureVersion.TheVariants.{Unsaid}
 use Rattle.lis_capture.specs.declared.line.Line.{Line}
 use Rattle.lis_capture.specs.declared.line.Line.TheVariants.{FromAnalyzer, FromComputer}
 use Rattle.lis_capture.specs.Line.{longest_line, line_of, version_after}
@@ -31,9 +31,9 @@ lines_of past ended = if counts ended (begun past) then begun past ∷ ended_lin
 
 -- ---- the lines that are carried out
 
--- the version that lines tell
+-- the version that lines report
 abbrev pub version_of : List Line → CaptureVersion
-version_of [] = Untold
+version_of [] = Unsaid
 version_of (line ∷ lines) = version_after (version_of lines) line
 
 -- the lines before the first that says nothing, and whether there is such a line
@@ -45,24 +45,24 @@ abbrev pub with_said : List Line → Option Line → Lines
 with_said lines None = record { lines = lines; refused = true }
 with_said lines (Some line) = record { lines = line ∷ lines; refused = false }
 
--- nothing is carried out behind a refused line
-abbrev pub next_by : Bool → List Line → List ℕ → Lines
-next_by true lines text = record { lines = lines; refused = true }
-next_by false lines text = with_said lines (line_of (version_of lines) text)
+-- nothing is carried out after a rejected line
+abbrev pub lines_with_next : Bool → List Line → List ℕ → Lines
+lines_with_next true lines text = record { lines = lines; refused = true }
+lines_with_next false lines text = with_said lines (line_of (version_of lines) text)
 
 abbrev pub read_lines : List (List ℕ) → Lines
 read_lines [] = record { lines = []; refused = false }
-read_lines (text ∷ texts) = next_by (read_lines texts).refused (read_lines texts).lines text
+read_lines (text ∷ texts) = lines_with_next (read_lines texts).refused (read_lines texts).lines text
 
 -- what a capture says, of which these bytes were read, with or without its end
 abbrev pub capture : List ℕ → Bool → Lines
 capture past ended = read_lines (lines_of past ended)
 
--- the number of the last line, from 1, of a refused one too
+-- the number of the last line, from 1, of a rejected one too
 abbrev pub number_of : Lines → ℕ
 number_of read = if read.refused then length read.lines + 1 else length read.lines
 
--- ---- how much lines tell
+-- ---- how much lines report
 
 -- the bytes of a line, and one more for the line
 abbrev pub line_size : Line → ℕ

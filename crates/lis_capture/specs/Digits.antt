@@ -3,7 +3,7 @@ use Rattle.std.specs.Prelude.{ℕ, List, [], ◌∷◌, Option, None}
 use Rattle.std.specs.Result.{result_ok}
 use Rattle.hex.specs.Hex.{decode_of}
 
--- the bytes that one or more pairs of digits spell; none where a text isn't that
+-- the bytes that one or more pairs of digits encode; none where a text isn't that
 abbrev pub bytes_of : List ℕ → Option (List ℕ)
 bytes_of [] = None
 bytes_of (digit ∷ digits) = result_ok (decode_of (digit ∷ digits))

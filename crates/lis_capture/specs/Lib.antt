@@ -3,8 +3,8 @@ pub mod Digits
 pub mod Line
 pub mod Capture
 pub mod Reader
-pub mod Spelling
+pub mod Encoding
 pub mod Laws
 pub mod Kept
-pub mod Told
+pub mod LastLine
 pub mod inside

@@ -5,7 +5,7 @@ use Rattle.std.specs.Str.{bytes_eq}
 use Rattle.lis_text.specs.Control.{CR}
 use Rattle.lis_link.specs.declared.receiver.Readiness.TheVariants.{Ready, Busy, Contending}
 use Rattle.lis_capture.specs.declared.line.CaptureVersion.{CaptureVersion}
-use Rattle.lis_capture.specs.declared.line.CaptureVersion.TheVariants.{Untold, First, Second}
+use Rattle.lis_capture.specs.declared.line.CaptureVersion.TheVariants.{Unsaid, First, Second}
 use Rattle.lis_capture.specs.declared.line.Line.{Line}
 use Rattle.lis_capture.specs.declared.line.Line.TheVariants.{Empty, FromAnalyzer, FromComputer, Timer, Restart}
 use Rattle.lis_capture.specs.declared.line.Line.TheVariants.{SetReady, Version}
@@ -21,7 +21,7 @@ without_return [] = []
 without_return (b ∷ []) = if b == CR then [] else b ∷ []
 without_return (b ∷ c ∷ text) = b ∷ without_return (c ∷ text)
 
--- a mark, and the bytes behind it: those of the analyzer behind `> `, those of the computer behind `< `
+-- a mark, and the bytes after it: those of the analyzer after `> `, those of the computer after `< `
 abbrev pub sent_by : List ℕ → Option (List ℕ) → Option Line
 sent_by mark None = None
 sent_by mark (Some bytes) =
@@ -44,9 +44,9 @@ added_line text =
     else if bytes_eq text (codes "S contending") then Some (SetReady Contending)
     else None
 
--- what a text says, by the version that the lines before it tell; `capture 2` is the first line or none
+-- what a text says, by the version that the lines before it report; `capture 2` is the first line or none
 abbrev pub said : CaptureVersion → List ℕ → Option Line
-said Untold text = if bytes_eq text (codes "capture 2") then Some Version else plain_line text
+said Unsaid text = if bytes_eq text (codes "capture 2") then Some Version else plain_line text
 said First text = plain_line text
 said Second text = option_or (plain_line text) (added_line text)
 
@@ -54,9 +54,9 @@ said Second text = option_or (plain_line text) (added_line text)
 abbrev pub line_of : CaptureVersion → List ℕ → Option Line
 line_of version text = if nat_lt longest_line (length text) then None else said version (without_return text)
 
--- the version behind a line: the first line tells it
+-- the version after a line: the first line says it
 abbrev pub version_after : CaptureVersion → Line → CaptureVersion
-version_after Untold Version = Second
-version_after Untold line = First
+version_after Unsaid Version = Second
+version_after Unsaid line = First
 version_after First line = First
 version_after Second line = Second

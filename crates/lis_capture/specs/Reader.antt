@@ -4,19 +4,19 @@ use Rattle.lis_text.specs.Capped.{capped}
 use Rattle.lis_capture.specs.declared.line.CaptureVersion.{CaptureVersion}
 use Rattle.lis_capture.specs.declared.line.Line.{Line}
 use Rattle.lis_capture.specs.declared.line.Line.TheVariants.{Empty}
-use Rattle.lis_capture.specs.declared.reader.Found.{Found}
-use Rattle.lis_capture.specs.declared.reader.Found.TheVariants as found
+use Rattle.lis_capture.specs.declared.reader.LineFound.{LineFound}
+use Rattle.lis_capture.specs.declared.reader.LineFound.TheVariants as found
 use Rattle.lis_capture.specs.Capture.{Lines, begun, capture, number_of, version_of}
 
--- what is to be known of the lines so far: their version, whether one is refused, the number of the last one, and what
--- the last one says that isn't refused
+-- what is to be known of the lines so far: their version, whether one is rejected, the number of the last one, and what
+-- the last one says that isn't rejected
 pub record Known : Type 0 where
   pub version : CaptureVersion
   pub refused : Bool
   pub number : ℕ
   pub line : Line
 
--- beside it, the bytes of the line that is begun
+-- next to it, the bytes of the line that is begun
 pub record Reading : Type 0 where
   pub known : Known
   pub held : List ℕ
@@ -38,8 +38,8 @@ pub record HasRead (reader : Reading) (past : List ℕ) : Type 0 where
   pub known_is : reader.known ≡ known_of (capture past false)
   pub held_is : (capture past false).refused ≡ false → reader.held ≡ begun past
 
--- the lines with what was found behind them
-abbrev pub found_lines : Lines → Found → Line → Lines
+-- the lines with what was found after them
+abbrev pub found_lines : Lines → LineFound → Line → Lines
 found_lines read found.Nothing line = read
 found_lines read found.Line line = record { lines = line ∷ read.lines; refused = false }
 found_lines read found.Refused line = record { lines = read.lines; refused = true }

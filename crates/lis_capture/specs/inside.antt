@@ -2,4 +2,4 @@
 pub mod Digits
 pub mod Kept
 pub mod Reader
-pub mod Spelling
+pub mod Encoding

@@ -6,7 +6,7 @@ ghost use Rattle.std.specs.List.{list_all};
 ghost use Rattle.hex.specs.Hex.{encode_lower, hex_digit_value, is_hex_digit};
 ghost use Rattle.std.specs.Option.{option_map};
 ghost use Rattle.lis_capture.specs.Digits.{bytes_of};
-ghost use Rattle.lis_capture.specs.inside.Digits.{is_none_far, is_digit_value, lower_case, told_digit};
+ghost use Rattle.lis_capture.specs.inside.Digits.{is_none_far, is_digit_value, lower_case, digit_meant};
 
 use std::simd::prelude::*;
 
@@ -50,7 +50,7 @@ fn are_digits(bytes: &[u8]) -> bool
     all
 }
 
-/// Writes the bytes of pairs of digits. Answers whether the text is one or more such pairs; what stands in the place of
+/// Writes the bytes of pairs of digits. Answers whether the text is one or more such pairs; what is in the place of
 /// the bytes is nothing where it isn't.
 #[inline(always)]
 pub(crate) fn decode(digits: &[u8], bytes: &mut [u8]) -> bool
@@ -64,7 +64,7 @@ pub(crate) fn decode(digits: &[u8], bytes: &mut [u8]) -> bool
     decode_many(digits, bytes)
 }
 
-/// The same, sixteen bytes at a time; the last sixteen may be written over some that stand there.
+/// The same, sixteen bytes at a time; the last sixteen may be written over some that are there.
 #[inline(never)]
 fn decode_many(digits: &[u8], bytes: &mut [u8]) -> bool
     requires { length digits.now ≡ 2 * length bytes.old }
@@ -110,8 +110,8 @@ fn decode_sixteen(digits: &[u8], bytes: &mut [u8]) -> u8x16
         × (bytes_of (take 32 digits.now) ≡ (if list_all is_digit_value result then Some bytes.new else None)) }
 {
     let front = u8x16::from_slice(digits);
-    let (_, behind) = digits.split_at(16);
-    let back = u8x16::from_slice(behind);
+    let (_, following) = digits.split_at(16);
+    let back = u8x16::from_slice(following);
     let (first, second) = front.deinterleave(back);
     let high = values_of(first);
     let low = values_of(second);
@@ -120,11 +120,11 @@ fn decode_sixteen(digits: &[u8], bytes: &mut [u8]) -> u8x16
     high.simd_max(low)
 }
 
-/// The values of sixteen digits; 16 or more in the place of a byte that is none.
+/// The values of sixteen digits; 16 or more in the place of a byte that is no digit.
 #[inline(always)]
 fn values_of(digits: u8x16) -> u8x16
     requires { length digits ≡ 16 }
-    ensures { map told_digit result ≡ map hex_digit_value digits }
+    ensures { map digit_meant result ≡ map hex_digit_value digits }
 {
     let decimals = (digits + u8x16::splat(198)).saturating_sub(u8x16::splat(6)) - u8x16::splat(240);
     let from_a = (digits & u8x16::splat(223)) - u8x16::splat(b'A');
@@ -143,7 +143,7 @@ fn decode_few(digits: &[u8], bytes: &mut [u8])
     }
 }
 
-/// Writes digits in lower case. Answers whether the text is one or more pairs of digits; what stands in their place is
+/// Writes digits in lower case. Answers whether the text is one or more pairs of digits; what is in their place is
 /// nothing where it isn't.
 #[inline(always)]
 pub(crate) fn lower(digits: &[u8], lowered: &mut [u8]) -> bool
@@ -167,7 +167,7 @@ fn lower_pair(high: u8, low: u8, lowered: &mut [u8]) -> bool
     is_digit(high) & is_digit(low)
 }
 
-/// The same of any number of digits, sixteen at a time; the last sixteen may be written over some that stand there.
+/// The same of any number of digits, sixteen at a time; the last sixteen may be written over some that are there.
 #[inline(never)]
 fn lower_many(digits: &[u8], lowered: &mut [u8]) -> bool
     requires { length digits.now ≡ length lowered.old }

@@ -2,12 +2,12 @@
 #![tactic(auto)]
 
 mod digits;
+pub mod encoding;
 pub mod laws;
 pub mod line;
 pub mod reader;
-pub mod spelling;
 
+pub use encoding::LONGEST_ENCODING;
 pub use line::{CaptureVersion, LONGEST_LINE, Line, LineBytes, MOST_BYTES};
 pub use lis_link::Readiness;
-pub use reader::{Found, LineReader};
-pub use spelling::LONGEST_SPELLING;
+pub use reader::{LineFound, LineReader};

@@ -9,10 +9,10 @@ ghost use Rattle.lis_capture.specs.Line.{added_line, line_of, plain_line, said, 
 ghost use Rattle.hex.specs.Hex.{encode_lower};
 ghost use Rattle.lis_capture.specs.Kept.{KeptAs, kept_bytes};
 ghost use Rattle.lis_capture.specs.inside.Kept.{kept_room};
-ghost use Rattle.lis_capture.specs.Told.{line_with};
+ghost use Rattle.lis_capture.specs.LastLine.{line_with};
 
 use crate::digits::{decode, lower};
-use lis_engine::{PAGE_ROOM, Page};
+use lis_engine::{OUTPUT_ROOM, OutputBuffer};
 use lis_link::Readiness;
 use lis_text::CR;
 use std::marker::Model;
@@ -20,17 +20,17 @@ use std::marker::Model;
 /// The most bytes of a line before its LF.
 pub const LONGEST_LINE: usize = 4096;
 
-/// The most bytes that a line tells: a mark and a space stand before their digits.
+/// The most bytes that a line reports: a mark and a space are before their digits.
 pub const MOST_BYTES: usize = 2047;
 
 /// The most digits of a line: two for each byte.
 const MOST_DIGITS: usize = 4094;
 
-/// The version of a capture, as far as its lines tell it: the first line does.
+/// The version of a capture, as far as its lines say it: the first line does.
 #[derive(Debug, Clone, Copy, PartialEq, Eq)]
 pub enum CaptureVersion {
     /// No line was read.
-    Untold,
+    Unsaid,
     /// Version 1.
     First,
     /// Version 2: the first line is `capture 2`.
@@ -65,7 +65,7 @@ pub(crate) enum Keeping {
     Digits,
 }
 
-/// The bytes of a line, lent from where they are kept: as themselves, or as their digits.
+/// The bytes of a line, borrowed from where they are kept: as themselves, or as their digits.
 #[derive(Drop)]
 pub struct LineBytes<'a> {
     keeping: Keeping,
@@ -84,7 +84,7 @@ impl<'a> Model for LineBytes<'a> {
 }
 
 impl<'a> LineBytes<'a> {
-    /// The bytes; no line tells more than [`MOST_BYTES`]. Where their digits are kept, they are read into the room.
+    /// The bytes; no line reports more than [`MOST_BYTES`]. Where their digits are kept, they are read into the room.
     pub fn read(&self, room: &'a mut [u8; MOST_BYTES]) -> &'a [u8]
         ensures value { result.now ≡ self.now }
         ensures short { length result.now ≤ MOST_BYTES }
@@ -99,16 +99,17 @@ impl<'a> LineBytes<'a> {
         }
     }
 
-    /// Puts the digits of the bytes in lower case behind a page. There must be room for those of [`MOST_BYTES`].
+    /// Puts the digits of the bytes in lower case after an output buffer. There must be room for those of
+    /// [`MOST_BYTES`].
     #[inline(always)]
-    pub(crate) fn append_to(&self, page: &mut Page)
-        requires { length page.old + MOST_DIGITS ≤ PAGE_ROOM }
-        ensures value { page.new ≡ page.old ++ encode_lower self.now }
-        ensures short { length page.new ≤ length page.old + MOST_DIGITS }
+    pub(crate) fn append_to(&self, outgoing: &mut OutputBuffer)
+        requires { length outgoing.old + MOST_DIGITS ≤ OUTPUT_ROOM }
+        ensures value { outgoing.new ≡ outgoing.old ++ encode_lower self.now }
+        ensures short { length outgoing.new ≤ length outgoing.old + MOST_DIGITS }
     {
         match self.keeping {
-            Keeping::Bytes => page.append_digits(self.kept),
-            Keeping::Digits => page.append(self.kept),
+            Keeping::Bytes => outgoing.append_digits(self.kept),
+            Keeping::Digits => outgoing.append(self.kept),
         }
     }
 }
@@ -125,10 +126,10 @@ enum LineKind {
     Version,
 }
 
-/// The line that was read last. Its bytes, or their digits, stand in one of two fixed buffers; those of the next line
-/// go to the other, so that a line that is refused half way leaves the line before it as it was.
+/// The line that was read last. Its bytes, or their digits, are in one of two fixed buffers; those of the next line
+/// go to the other, so that a line that is rejected half way leaves the line before it as it was.
 #[derive(Drop)]
-pub(crate) struct Told {
+pub(crate) struct LastLine {
     keeping: Keeping,
     kind: LineKind,
     front: [u8; MOST_DIGITS],
@@ -137,11 +138,11 @@ pub(crate) struct Told {
     len: usize,
 }
 
-impl Model for Told {
+impl Model for LastLine {
     ghost use Rattle.std.specs.Prelude.{◌≡◌, ◌≤◌, if◌then◌else◌, length, take};
     ghost use Rattle.lis_capture.specs.declared.line.Line.{Line};
     ghost use Rattle.lis_capture.specs.Kept.{KeptAs, kept_bytes};
-    ghost use Rattle.lis_capture.specs.Told.{line_with};
+    ghost use Rattle.lis_capture.specs.LastLine.{line_with};
 
     ghost Value = { Line };
 
@@ -151,12 +152,12 @@ impl Model for Told {
         × KeptAs t.keeping (take t.len (if t.in_back then t.back else t.front)) };
 }
 
-impl Told {
+impl LastLine {
     /// An empty line.
     pub(crate) fn new(keeping: Keeping) -> Self
         ensures { result ≡ Empty }
     {
-        Told {
+        LastLine {
             keeping,
             kind: LineKind::Empty,
             front: [0; MOST_DIGITS],
@@ -188,8 +189,8 @@ impl Told {
         }
     }
 
-    /// Whether a text is a line, by the version that the lines before it tell. The line that it says is
-    /// told from then on; where it says none, the line before it is.
+    /// Whether a text is a line, by the version that the lines before it report. The line that it says is
+    /// reported from then on; where it says none, the line before it is.
     #[inline(always)]
     pub(crate) fn read(&mut self, version: CaptureVersion, text: &[u8]) -> bool
         ensures said { result ≡ is_some (line_of version text.now) }
@@ -209,9 +210,9 @@ impl Told {
         ensures line { self.new ≡ unwrap_or (said version text.now) self.old }
     {
         match version {
-            CaptureVersion::Untold => {
+            CaptureVersion::Unsaid => {
                 if text == b"capture 2".as_slice() {
-                    return self.tell(LineKind::Version);
+                    return self.keep_kind(LineKind::Version);
                 }
                 self.read_plain(text)
             }
@@ -233,8 +234,8 @@ impl Told {
         ensures line { self.new ≡ unwrap_or (plain_line text.now) self.old }
     {
         match text {
-            [] => self.tell(LineKind::Empty),
-            [b'T'] => self.tell(LineKind::Timer),
+            [] => self.keep_kind(LineKind::Empty),
+            [b'T'] => self.keep_kind(LineKind::Timer),
             [b'>', b' ', digits @ ..] => self.read_digits(LineKind::FromAnalyzer, digits),
             [b'<', b' ', digits @ ..] => self.read_digits(LineKind::FromComputer, digits),
             _ => false,
@@ -247,16 +248,16 @@ impl Told {
         ensures line { self.new ≡ unwrap_or (added_line text.now) self.old }
     {
         if text == b"R".as_slice() {
-            return self.tell(LineKind::Restart);
+            return self.keep_kind(LineKind::Restart);
         }
         if text == b"S ready".as_slice() {
-            return self.tell(LineKind::SetReady(Readiness::Ready));
+            return self.keep_kind(LineKind::SetReady(Readiness::Ready));
         }
         if text == b"S busy".as_slice() {
-            return self.tell(LineKind::SetReady(Readiness::Busy));
+            return self.keep_kind(LineKind::SetReady(Readiness::Busy));
         }
         if text == b"S contending".as_slice() {
-            return self.tell(LineKind::SetReady(Readiness::Contending));
+            return self.keep_kind(LineKind::SetReady(Readiness::Contending));
         }
         false
     }
@@ -275,22 +276,22 @@ impl Told {
             Keeping::Bytes => digits.len() / 2,
             Keeping::Digits => digits.len(),
         };
-        let told = if self.in_back {
+        let reported = if self.in_back {
             keep(self.keeping, digits, &mut self.front[..len])
         } else {
             keep(self.keeping, digits, &mut self.back[..len])
         };
-        if told {
+        if reported {
             self.in_back = !self.in_back;
             self.len = len;
             self.kind = kind;
         }
-        told
+        reported
     }
 
-    /// Tells a line that has no bytes.
+    /// Reports a line that has no bytes.
     #[inline(always)]
-    fn tell(&mut self, kind: LineKind) -> bool
+    fn keep_kind(&mut self, kind: LineKind) -> bool
         ensures said { result ≡ true }
         ensures line { self.new ≡ line_with kind [] }
     {
@@ -301,7 +302,7 @@ impl Told {
 }
 
 /// Writes what is kept of pairs of digits, into the room that it takes. Answers whether the text is one or more such
-/// pairs; what stands in the room is nothing where it isn't.
+/// pairs; what is in the room is nothing where it isn't.
 #[inline(always)]
 fn keep(keeping: Keeping, digits: &[u8], room: &mut [u8]) -> bool
     requires short { length digits.now ≤ MOST_DIGITS }
@@ -326,13 +327,13 @@ fn without_return(text: &[u8]) -> &[u8]
     }
 }
 
-/// The version behind a line.
+/// The version after a line.
 #[inline(always)]
 pub(crate) fn version_after(version: CaptureVersion, line: &Line) -> CaptureVersion
     ensures { result ≡ version_after version line.now }
 {
     match version {
-        CaptureVersion::Untold => match line {
+        CaptureVersion::Unsaid => match line {
             Line::Version => CaptureVersion::Second,
             _ => CaptureVersion::First,
         },

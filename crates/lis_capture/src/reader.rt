@@ -8,7 +8,7 @@ ghost use Rattle.lis_capture.specs.Line.{line_of};
 ghost use Rattle.lis_capture.specs.Reader.{HasRead, found_lines, known_of};
 ghost use Rattle.lis_capture.specs.inside.Reader.{found_holding, found_of, holding_more, known_with};
 
-use crate::line::{CaptureVersion, Keeping, LONGEST_LINE, Line, Told, version_after};
+use crate::line::{CaptureVersion, Keeping, LONGEST_LINE, LastLine, Line, version_after};
 use arrayvec::ArrayVec;
 use lis_text::LF;
 use memchr::memchr;
@@ -17,7 +17,7 @@ use std::simd::prelude::*;
 
 /// What reading on found.
 #[derive(Debug, Clone, Copy, PartialEq, Eq)]
-pub enum Found {
+pub enum LineFound {
     /// No line.
     Nothing,
     /// A line that says something.
@@ -32,7 +32,7 @@ struct Progress {
     version: CaptureVersion,
     refused: bool,
     number: u64,
-    told: Told,
+    last_line: LastLine,
 }
 
 impl Model for Progress {
@@ -40,7 +40,7 @@ impl Model for Progress {
 
     ghost Value = { Known };
 
-    ghost view = { λ p. record { version = p.version; refused = p.refused; number = p.number; line = p.told } };
+    ghost view = { λ p. record { version = p.version; refused = p.refused; number = p.number; line = p.last_line } };
 }
 
 /// Reads a capture. It keeps the bytes of a line that isn't ended yet, of at most [`LONGEST_LINE`], and
@@ -80,27 +80,27 @@ impl LineReader {
     {
         LineReader {
             progress: Progress {
-                version: CaptureVersion::Untold,
+                version: CaptureVersion::Unsaid,
                 refused: false,
                 number: 0,
-                told: Told::new(keeping),
+                last_line: LastLine::new(keeping),
             },
             held: ArrayVec::new(),
         }
     }
 
     /// Reads on to the end of a line, or to the end of the bytes where no line ends in them, and answers
-    /// how many bytes it read. A line of more than [`LONGEST_LINE`] bytes is refused at the first byte
-    /// that is too many. Behind a refused line it reads nothing and refuses again.
+    /// how many bytes it read. A line of more than [`LONGEST_LINE`] bytes is rejected at the first byte
+    /// that is too many. After a rejected line it reads nothing and rejects again.
     ///
     /// Whatever bytes it had read, newest first, the capture's lines are now those before and what was
-    /// found: so no cut of the bytes into slices changes them.
+    /// found: so no split of the bytes into slices changes them.
     #[inline(always)]
-    pub fn read(&mut self, bytes: &[u8]) -> (usize, Found)
+    pub fn read(&mut self, bytes: &[u8]) -> (usize, LineFound)
         ensures within { result.0 ≤ length bytes.now }
-        ensures all { result.1 ≡ Found.Nothing → result.0 ≡ length bytes.now }
-        ensures some { result.1 ≡ Found.Line → 0 < result.0 }
-        ensures refused { IsTrue self.old.known.refused → (result.0 ≡ 0) × (result.1 ≡ Found.Refused) }
+        ensures all { result.1 ≡ LineFound.Nothing → result.0 ≡ length bytes.now }
+        ensures some { result.1 ≡ LineFound.Line → 0 < result.0 }
+        ensures refused { IsTrue self.old.known.refused → (result.0 ≡ 0) × (result.1 ≡ LineFound.Refused) }
         ensures found { (past : List ℕ) → HasRead self.old past →
             capture (stream_with past (take result.0 bytes.now)) false
             ≡ found_lines (capture past false) result.1 self.new.known.line }
@@ -108,7 +108,7 @@ impl LineReader {
             HasRead self.new (stream_with past (take result.0 bytes.now)) }
     {
         if self.progress.refused {
-            return (0, Found::Refused);
+            return (0, LineFound::Refused);
         }
         match first_line_feed(bytes) {
             Some(place) => {
@@ -119,31 +119,31 @@ impl LineReader {
         }
     }
 
-    /// Reads the end of the input, which ends a line that has a byte. Behind a refused line it refuses
+    /// Reads the end of the input, which ends a line that has a byte. After a rejected line it rejects
     /// again.
-    pub fn finish(&mut self) -> Found
-        ensures refused { IsTrue self.old.known.refused → result ≡ Found.Refused }
+    pub fn finish(&mut self) -> LineFound
+        ensures refused { IsTrue self.old.known.refused → result ≡ LineFound.Refused }
         ensures found { (past : List ℕ) → HasRead self.old past →
             capture past true ≡ found_lines (capture past false) result self.new.known.line }
         ensures known { (past : List ℕ) → HasRead self.old past → self.new.known ≡ known_of (capture past true) }
     {
         if self.progress.refused {
-            return Found::Refused;
+            return LineFound::Refused;
         }
         if self.held.is_empty() {
-            return Found::Nothing;
+            return LineFound::Nothing;
         }
         self.end_line(&[])
     }
 
-    /// What the last line says that wasn't refused; before the first such line, nothing.
+    /// What the last line says that wasn't rejected; before the first such line, nothing.
     pub fn line(&self) -> Line<'_>
         ensures { result ≡ self.now.known.line }
     {
-        self.progress.told.line()
+        self.progress.last_line.line()
     }
 
-    /// The number of the last line, from 1, also of a refused one; 0 before the first. At its greatest
+    /// The number of the last line, from 1, also of a rejected one; 0 before the first. At its greatest
     /// value it stays there.
     pub fn number(&self) -> u64
         ensures { result ≡ self.now.known.number }
@@ -151,7 +151,7 @@ impl LineReader {
         self.progress.number
     }
 
-    /// The version, as far as it is told.
+    /// The version, as far as it is reported.
     pub fn version(&self) -> CaptureVersion
         ensures { result ≡ self.now.known.version }
     {
@@ -160,7 +160,7 @@ impl LineReader {
 
     /// Takes the last bytes of a line.
     #[inline(always)]
-    fn end_line(&mut self, text: &[u8]) -> Found
+    fn end_line(&mut self, text: &[u8]) -> LineFound
         ensures known { self.new.known
             ≡ known_with self.old.known (line_of self.old.known.version (self.old.held ++ text.now)) }
         ensures held { self.new.held ≡ [] }
@@ -178,12 +178,12 @@ impl LineReader {
     }
 
     /// Keeps bytes of a line that doesn't end in them.
-    fn hold(&mut self, text: &[u8]) -> Found
+    fn hold(&mut self, text: &[u8]) -> LineFound
         ensures after { self.new ≡ holding_more self.old text.now }
         ensures found { result ≡ found_holding (self.old.held ++ text.now) }
     {
         match self.held.try_extend_from_slice(text) {
-            Ok(()) => Found::Nothing,
+            Ok(()) => LineFound::Nothing,
             Err(_) => self.progress.refuse(),
         }
     }
@@ -208,26 +208,26 @@ fn first_line_feed(bytes: &[u8]) -> Option<usize>
 impl Progress {
     /// Takes a line.
     #[inline(always)]
-    fn take(&mut self, text: &[u8]) -> Found
+    fn take(&mut self, text: &[u8]) -> LineFound
         ensures after { self.new ≡ known_with self.old (line_of self.old.version text.now) }
         ensures found { result ≡ found_of (line_of self.old.version text.now) }
     {
-        if !self.told.read(self.version, text) {
+        if !self.last_line.read(self.version, text) {
             return self.refuse();
         }
-        self.version = version_after(self.version, &self.told.line());
+        self.version = version_after(self.version, &self.last_line.line());
         self.number = self.number.saturating_add(1);
-        Found::Line
+        LineFound::Line
     }
 
-    /// Refuses a line.
+    /// Rejects a line.
     #[inline(always)]
-    fn refuse(&mut self) -> Found
+    fn refuse(&mut self) -> LineFound
         ensures after { self.new ≡ known_with self.old None }
         ensures found { result ≡ found_of None }
     {
         self.refused = true;
         self.number = self.number.saturating_add(1);
-        Found::Refused
+        LineFound::Refused
     }
 }

@@ -5,7 +5,7 @@ use Rattle.lis_engine.specs.declared.fault.ToolFault.{ToolFault}
 use Rattle.lis_report.specs.Answers.{Report}
 use Rattle.lis_run.specs.CaptureRuns.{CaptureRan}
 use Rattle.lis_run.specs.Replay.{replay_writes, texts_writes}
-use Rattle.lis_engine.specs.Runs.{Seen, Shown}
+use Rattle.lis_engine.specs.Runs.{KnownPorts, Shown}
 use Rattle.lis_run.specs.Show.{show}
 use Rattle.lis_run.specs.Upgrade.{upgrade_writes}
 use Rattle.lis_commands.specs.declared.commands.Command.{Command}
@@ -15,8 +15,8 @@ use Rattle.lis_record_commands.specs.MessageRuns.{MessagesRan}
 use Rattle.lis_record_commands.specs.Results.{results_writes}
 use Rattle.lis_commands.specs.Words.{limit_by}
 
--- how it ran, by what is known of its ports before and behind it
-abbrev pub CommandRan : Command → (old new : Seen) → Result Report ToolFault → Type 0
+-- how it ran, by what is known of its ports before and after it
+abbrev pub CommandRan : Command → (old new : KnownPorts) → Result Report ToolFault → Type 0
 CommandRan (Show long) old new result = Shown (show (limit_by long)) old new result
 CommandRan Check old new result = MessagesRan check_writes old new result
 CommandRan Results old new result = MessagesRan results_writes old new result
@@ -33,7 +33,7 @@ closes (Replay long) = true
 closes (Texts long) = true
 closes Upgrade = true
 
--- whether it takes records, and may refuse one before the end of the input
+-- whether it takes records, and may reject one before the end of the input
 abbrev pub refuses : Command → Bool
 refuses (Show long) = false
 refuses Check = true

@@ -12,7 +12,7 @@ alone word =
     else if bytes_eq word (codes "upgrade") then Some Upgrade
     else None
 
--- the command of a word, with `--long` behind it or without; only a command that hears frames takes it
+-- the command of a word, with `--long` after it or without; only a command that hears frames takes it
 abbrev pub named : List ℕ → Bool → Option Command
 named word long =
     if bytes_eq word (codes "show") then Some (Show long)

@@ -25,9 +25,10 @@ pub fn run_command<R: SourceFor<W>, W: Sink>(
     sink: &mut W,
     reads: u32,
 ) -> Ended
-    requires { AreFresh (R.seen source.old sink.old) }
-    ensures ran { CommandRan command (R.seen source.old sink.old) (R.seen source.new sink.new) result }
-    ensures stops { Stops (refuses command) (closes command) (R.seen source.old sink.old) (R.seen source.new sink.new)
+    requires { AreFresh (R.known_ports source.old sink.old) }
+    ensures ran { CommandRan command (R.known_ports source.old sink.old) (R.known_ports source.new sink.new) result }
+    ensures stops { Stops (refuses command) (closes command) (R.known_ports source.old sink.old)
+        (R.known_ports source.new sink.new)
         reads result }
     ensures status { IfOk result (λ report. report.status ≤ 1) }
 {

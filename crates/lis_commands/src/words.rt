@@ -32,7 +32,7 @@ fn alone(word: &str) -> Option<Command>
     None
 }
 
-/// The command of one word, with `--long` behind it or without.
+/// The command of one word, with `--long` after it or without.
 fn plain(word: &str, long: bool) -> Option<Command>
     ensures { result ≡ named word.now long }
 {

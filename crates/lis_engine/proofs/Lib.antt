@@ -1,4 +1,4 @@
 pub mod EncodeLemmas
-pub mod GatherLaws
+pub mod BufferLaws
 pub mod PutLaws
 pub mod RunLaws

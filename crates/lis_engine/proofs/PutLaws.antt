@@ -1,4 +1,4 @@
--- Texts that go out one behind the other.
+-- Texts that go out one after the other.
 use Rattle.std.proofs.Common.{◌≡◌, ℕ, ◌+◌, ◌≤◌, ◌<◌, List, [], ◌∷◌, ◌++◌, Option, None, Some, Ok, Err, length, take}
 use Rattle.std.proofs.Common.{min, sym, ◌∙◌, ap, arith, append-nil, append_assoc, length-append, take_all}
 use Rattle.std.proofs.lemmas.List.{take-append-le}

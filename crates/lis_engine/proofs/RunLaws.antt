@@ -12,12 +12,12 @@ use Rattle.lis_engine.specs.declared.fault.ToolFault.TheVariants.{CaptureLine, R
 use Rattle.lis_engine.specs.declared.report.Report.{Report}
 use Rattle.lis_engine.specs.declared.machine.Halt.{Halt}
 use Rattle.lis_engine.specs.Outcome.{Outcome, whole, going}
-use Rattle.lis_engine.specs.Output.{Gathered, Out, Put, WentOut, out}
+use Rattle.lis_engine.specs.Output.{IsBuffered, Out, Put, WentOut, out}
 use Rattle.lis_engine.specs.inside.Output.{PartWentOut}
-use Rattle.lis_engine.specs.Runs.{EachGave, IsOver, WroteOutcome, Ran, StopsBy}
+use Rattle.lis_engine.specs.Runs.{EachGave, IsFinished, WroteOutcome, Ran, StopsBy}
 use Rattle.lis_engine.specs.Steps.{Halts, Fails, Puts, IsEarly}
-use Rattle.lis_engine.specs.inside.Steps.{IsTold}
-use Rattle.lis_engine.proofs.GatherLaws.{gathered_sent, gathered_settled, gathered_then}
+use Rattle.lis_engine.specs.inside.Steps.{IsAnswered}
+use Rattle.lis_engine.proofs.BufferLaws.{buffered_sent, buffered_settled, buffered_then}
 use Rattle.lis_engine.proofs.PutLaws.{part_then, put_stops}
 
 pub consumes_none : (a : Option (List ℕ)) → Consumes a a []
@@ -44,19 +44,19 @@ appends_kept (Some xs) None c text taken kept = absurd taken
 appends_kept (Some xs) (Some ys) None text taken kept = kept
 appends_kept (Some xs) (Some ys) (Some zs) text taken kept = kept ∙ taken
 
--- what was read so far, and the text for it: it went out, with its count, but for what waits on the page
-pub record IsSoFar (stands : List ℕ → List ℕ → Type 0) (left_old left taken_old taken : Option (List ℕ))
+-- what was read so far, and the text for it: it went out, with its count, but for what waits in the output buffer
+pub record IsSoFar (represents : List ℕ → List ℕ → Type 0) (left_old left taken_old taken : Option (List ℕ))
     (waits : List ℕ) (written turn : ℕ) : Type 0 where
   pub bytes : List ℕ
   pub text : List ℕ
-  pub stood : stands bytes text
+  pub represented : represents bytes text
   pub read : Consumes left_old left bytes
-  pub wrote : Gathered (out taken_old []) (out taken waits) 0 (Ok written) text
+  pub wrote : IsBuffered (out taken_old []) (out taken waits) 0 (Ok written) text
   pub short : length bytes ≤ 4096 * turn
   pub each_gave : turn ≤ length bytes
 
 -- what a run with this answer may have put out
-pub record Told {F : Type 0} (memory : Bool) (means : List ℕ → Bool → Outcome F → Type 0) (given : List ℕ)
+pub record HasAnswered {F : Type 0} (memory : Bool) (means : List ℕ → Bool → Outcome F → Type 0) (given : List ℕ)
     (ended : Bool)
     (a b : Option (List ℕ)) (result : Result (Report F) ToolFault) : Type 0 where
   pub outcome : Outcome F
@@ -69,7 +69,7 @@ module _ {F : Type 0} (memory : Bool) (means : List ℕ → Bool → Outcome F �
   part_of_whole :
       (b : Option (List ℕ)) (fault : ToolFault) (text rest : List ℕ) (o : Outcome F) → means given ended o
       → whole o ≡ text ++ rest
-      → Put a b 0 (Err fault) text → Told memory means given ended a b (Err fault)
+      → Put a b 0 (Err fault) text → HasAnswered memory means given ended a b (Err fault)
   part_of_whole b (Write written) text rest o begun joined put =
       let p : Put a b 0 (Err (Write written)) (whole o) =
       subst (λ (t : List ℕ). Put a b 0 (Err (Write written)) t) (sym joined)
@@ -81,21 +81,21 @@ module _ {F : Type 0} (memory : Bool) (means : List ℕ → Bool → Outcome F �
   part_of_whole b TooManyReads text rest o begun joined put = absurd put
 
   -- the sink failed in a step
-  pub fails_told :
+  pub fails_reported :
       (b : Option (List ℕ)) (waits : List ℕ) (c : Out) (before : ℕ) (text : List ℕ) (fault : ToolFault)
-      → Gathered (out a []) (out b waits) 0 (Ok before) text
+      → IsBuffered (out a []) (out b waits) 0 (Ok before) text
       → Fails (means given ended) (out b waits) c before text fault
-      → Told memory means given ended a c.taken (Err fault)
-  fails_told b waits c before text fault wrote fails =
+      → HasAnswered memory means given ended a c.taken (Err fault)
+  fails_reported b waits c before text fault wrote fails =
       part_of_whole c.taken fault (text ++ fails.more) fails.rest fails.outcome fails.meant fails.joined
-      (gathered_then (out a []) (out b waits) c 0 before (Err fault) text fails.more wrote fails.put)
+      (buffered_then (out a []) (out b waits) c 0 before (Err fault) text fails.more wrote fails.put)
 
   -- all of a text went out, and then it could not be sent on
-  pub unsent_told :
+  pub unsent_reported :
       (b c : Option (List ℕ)) (written : ℕ) (text rest : List ℕ) (o : Outcome F) → means given ended o
       → whole o ≡ text ++ rest
-      → Put a b 0 (Ok written) text → Keeps b c → Told memory means given ended a c (Err (Write written))
-  unsent_told b c written text rest o begun joined put kept =
+      → Put a b 0 (Ok written) text → Keeps b c → HasAnswered memory means given ended a c (Err (Write written))
+  unsent_reported b c written text rest o begun joined put kept =
       let taken : Appends a c (take (length text) text) = appends_kept a b c _ put.taken kept in
       let within : length text ≤ length (whole o) = rw joined (omega (arith, length-append text rest)) in
       record {
@@ -112,15 +112,15 @@ module _ {F : Type 0} (memory : Bool) (means : List ℕ → Bool → Outcome F �
       }
 
   -- the run halted, all of its text is out
-  sent_told :
+  sent_reported :
       (c : Option (List ℕ)) (text : List ℕ) (result : Result (Report F) ToolFault)
       → Halts memory (means given ended) text result
-      → Appends a c text → Told memory means given ended a c result
-  sent_told c text (Ok report) (o, meant, halt, joined) taken =
+      → Appends a c text → HasAnswered memory means given ended a c result
+  sent_reported c text (Ok report) (o, meant, halt, joined) taken =
       record { outcome = o; meant = meant; wrote = (halt, subst (λ (t : List ℕ). Appends a c t) (sym joined) taken) }
-  sent_told c text (Err (CaptureLine line)) (o, meant, halt, joined) taken =
+  sent_reported c text (Err (CaptureLine line)) (o, meant, halt, joined) taken =
       record { outcome = o; meant = meant; wrote = (halt, subst (λ (t : List ℕ). Appends a c t) (sym joined) taken) }
-  sent_told c text (Err OutOfMemory) (o, begun, rest, joined, wants) taken =
+  sent_reported c text (Err OutOfMemory) (o, begun, rest, joined, wants) taken =
       record {
         outcome = o;
         meant = begun;
@@ -132,9 +132,9 @@ module _ {F : Type 0} (memory : Bool) (means : List ℕ → Bool → Outcome F �
               (rw (take_all (length text) text (omega arith)) taken)),
         );
       }
-  sent_told c text (Err Read) halts taken = absurd halts
-  sent_told c text (Err (Write written)) halts taken = absurd halts
-  sent_told c text (Err TooManyReads) halts taken = absurd halts
+  sent_reported c text (Err Read) halts taken = absurd halts
+  sent_reported c text (Err (Write written)) halts taken = absurd halts
+  sent_reported c text (Err TooManyReads) halts taken = absurd halts
 
   -- the outcome that a halted run's text begins
   pub record Part (text : List ℕ) : Type 0 where
@@ -162,40 +162,40 @@ module _ {F : Type 0} (memory : Bool) (means : List ℕ → Bool → Outcome F �
   halts_part text (Err TooManyReads) halts = absurd halts
 
   -- the run halted, and its text was sent on, or could not be
-  halted_told :
+  halted_reported :
       (failed : Bool) (b c : Option (List ℕ)) (text : List ℕ) (halt : Halt F) (result : Result (Report F) ToolFault)
       → Halts memory (means given ended) text halt.result → Put a b 0 (Ok halt.written) text → Keeps b c
-      → IsTold halt result failed
-      → Told memory means given ended a c result
-  halted_told false b c text halt result halts put kept told =
-      subst (λ (r : Result (Report F) ToolFault). Told memory means given ended a c r) (sym told)
-      (sent_told c text halt.result halts (appends_kept a b c text
+      → IsAnswered halt result failed
+      → HasAnswered memory means given ended a c result
+  halted_reported false b c text halt result halts put kept reported =
+      subst (λ (r : Result (Report F) ToolFault). HasAnswered memory means given ended a c r) (sym reported)
+      (sent_reported c text halt.result halts (appends_kept a b c text
       (rw (take_all (length text) text (omega arith)) at put.taken) kept))
-  halted_told true b c text halt result halts put kept told =
+  halted_reported true b c text halt result halts put kept reported =
       let part = halts_part text halt.result halts in
-      subst (λ (r : Result (Report F) ToolFault). Told memory means given ended a c r) (sym told)
-      (unsent_told b c halt.written text part.rest part.outcome part.begun part.joined put kept)
+      subst (λ (r : Result (Report F) ToolFault). HasAnswered memory means given ended a c r) (sym reported)
+      (unsent_reported b c halt.written text part.rest part.outcome part.begun part.joined put kept)
 
   -- a step halted the run
   pub step_halts :
       (failed : Bool) (b : Option (List ℕ)) (waits : List ℕ) (c d : Option (List ℕ)) (before : ℕ) (text : List ℕ)
       (halt : Halt F)
-      (result : Result (Report F) ToolFault) → Gathered (out a []) (out b waits) 0 (Ok before) text
+      (result : Result (Report F) ToolFault) → IsBuffered (out a []) (out b waits) 0 (Ok before) text
       → (holds : List ℕ → Type 0) → (puts : Puts holds (out b waits) (out c []) before halt.written text)
       → Halts memory (means given ended) (text ++ puts.more) halt.result
-      → Keeps c d → IsTold halt result failed → Told memory means given ended a d result
-  step_halts failed b waits c d before text halt result wrote holds puts halts kept told =
-      halted_told failed c d (text ++ puts.more) halt result halts
-      (gathered_settled a c 0 halt.written (text ++ puts.more)
-      (gathered_then (out a []) (out b waits) (out c []) 0 before (Ok halt.written) text puts.more wrote puts.put))
-      kept told
+      → Keeps c d → IsAnswered halt result failed → HasAnswered memory means given ended a d result
+  step_halts failed b waits c d before text halt result wrote holds puts halts kept reported =
+      halted_reported failed c d (text ++ puts.more) halt result halts
+      (buffered_settled a c 0 halt.written (text ++ puts.more)
+      (buffered_then (out a []) (out b waits) (out c []) 0 before (Ok halt.written) text puts.more wrote puts.put))
+      kept reported
 
   -- of the text so far a part went out, or all of it, which could not be sent on
   pub so_far_unsent :
       (b : Option (List ℕ)) (waits : List ℕ) (c : Option (List ℕ)) (before : ℕ) (fault : ToolFault) (text : List ℕ)
       → means given ended (going text)
-      → Gathered (out a []) (out b waits) 0 (Ok before) text → PartWentOut b c before fault waits
-      → Told memory means given ended a c (Err fault)
+      → IsBuffered (out a []) (out b waits) 0 (Ok before) text → PartWentOut b c before fault waits
+      → HasAnswered memory means given ended a c (Err fault)
   so_far_unsent b waits c before (Write written) text meant (more, is, put) (count, part) =
       record {
         outcome = going text;
@@ -213,31 +213,31 @@ module _ {F : Type 0} (memory : Bool) (means : List ℕ → Bool → Outcome F �
 
 -- what waited went out, or none of it
 pub so_far_settled :
-    (a : Option (List ℕ)) (b c : Out) (before after : ℕ) (text : List ℕ) → Gathered (out a []) b 0 (Ok before) text
-    → Gathered b c before (Ok after) [] → Gathered (out a []) c 0 (Ok after) text
+    (a : Option (List ℕ)) (b c : Out) (before after : ℕ) (text : List ℕ) → IsBuffered (out a []) b 0 (Ok before) text
+    → IsBuffered b c before (Ok after) [] → IsBuffered (out a []) c 0 (Ok after) text
 so_far_settled a b c before after text wrote settled =
-    subst (λ (t : List ℕ). Gathered (out a []) c 0 (Ok after) t) (append-nil text)
-    (gathered_then (out a []) b c 0 before (Ok after) text [] wrote settled)
+    subst (λ (t : List ℕ). IsBuffered (out a []) c 0 (Ok after) t) (append-nil text)
+    (buffered_then (out a []) b c 0 before (Ok after) text [] wrote settled)
 
 -- all of the text so far went out
 pub so_far_out :
     (a b : Option (List ℕ)) (waits : List ℕ) (written : ℕ) (text : List ℕ)
-    → Gathered (out a []) (out b waits) 0 (Ok written) text → waits ≡ []
+    → IsBuffered (out a []) (out b waits) 0 (Ok written) text → waits ≡ []
     → Appends a b text
 so_far_out a b waits written text wrote none =
-    let put : Put a b 0 (Ok written) text = gathered_settled a b 0 written text (rw none at wrote) in
+    let put : Put a b 0 (Ok written) text = buffered_settled a b 0 written text (rw none at wrote) in
     rw (take_all (length text) text (omega arith)) at put.taken
 
--- what a run told, with what it read
-pub told_ran :
+-- what a run reported, with what it read
+pub reported_ran :
     {F : Type 0} → (memory : Bool) (means : List ℕ → Bool → Outcome F → Type 0) (given : List ℕ) (ended : Bool)
     (left_old left_new a b : Option (List ℕ)) (result : Result (Report F) ToolFault)
-    → Consumes left_old left_new given → Told memory means given ended a b result
+    → Consumes left_old left_new given → HasAnswered memory means given ended a b result
     → Ran memory means left_old left_new a b ended result
-told_ran memory means given ended left_old left_new a b result read told =
-    record { given = given; read = read; outcome = told.outcome; meant = told.meant; wrote = told.wrote }
+reported_ran memory means given ended left_old left_new a b result read reported =
+    record { given = given; read = read; outcome = reported.outcome; meant = reported.meant; wrote = reported.wrote }
 
--- a read that gave bytes told no end
+-- a read that gave bytes reported no end
 pub no_end : (ended : Bool) (count : ℕ) → (count ≡ 0 → ⊥)
     → IsTrue ended ↔ (◌≡◌ {A = Result ℕ Failed} (Ok count) (Ok 0)) → ended ≡ false
 no_end false count some end = refl
@@ -246,7 +246,7 @@ no_end true count some end = absurd (some (count_of (end.0 refl)))
     count_of : {a b : ℕ} → ◌≡◌ {A = Result ℕ Failed} (Ok a) (Ok b) → a ≡ b
     count_of e = cc
 
--- a read that gave none told the end
+-- a read that gave none reported the end
 pub is_end : (ended : Bool) (count : ℕ) → count ≡ 0 → IsTrue ended ↔ (◌≡◌ {A = Result ℕ Failed} (Ok count) (Ok 0))
     → ended ≡ true
 is_end true count none end = refl
@@ -262,7 +262,7 @@ consumes_end a b c xs ys count first second none =
     let last : Consumes b c [] = subst (λ (n : ℕ). Consumes b c (take n ys)) none second in
     subst (λ (l : List ℕ). Consumes a c l) (append-nil xs) (consumes_then a b c xs [] first last)
 
--- a read that failed told no end
+-- a read that failed reported no end
 pub failed_not_ended : {f : Failed} (ended : Bool) → IsTrue ended ↔ (◌≡◌ {A = Result ℕ Failed} (Err f) (Ok 0))
     → ended ≡ false
 failed_not_ended false end = refl
@@ -271,31 +271,32 @@ failed_not_ended true end = absurd (not_ok (end.0 refl))
     not_ok : {f : Failed} → ◌≡◌ {A = Result ℕ Failed} (Err f) (Ok 0) → ⊥
     not_ok e = cc
 
--- a run that ends in a report is over
+-- a run that ends in a report is finished
 abbrev pub EndsWell : {F : Type 0} → (refuses : Bool) → Result (Report F) ToolFault → Bool → Type 0
-EndsWell refuses (Ok report) ended = IsOver refuses report.refused ended
+EndsWell refuses (Ok report) ended = IsFinished refuses report.refused ended
 EndsWell refuses (Err fault) ended = ⊤
 
-over_at_end : {F : Type 0} → (refuses : Bool) (refused : Option F) (ended : Bool) → ended ≡ true
-    → IsOver refuses refused ended
-over_at_end false refused ended is = is
-over_at_end true None ended is = is
-over_at_end true (Some refused) ended is = tt
+finished_at_end : {F : Type 0} → (refuses : Bool) (refused : Option F) (ended : Bool) → ended ≡ true
+    → IsFinished refuses refused ended
+finished_at_end false refused ended is = is
+finished_at_end true None ended is = is
+finished_at_end true (Some refused) ended is = tt
 
 pub well_at_end : {F : Type 0} → (refuses : Bool) (result : Result (Report F) ToolFault) (ended : Bool) → ended ≡ true
     → EndsWell refuses result ended
-well_at_end refuses (Ok report) ended is = over_at_end refuses report.refused ended is
+well_at_end refuses (Ok report) ended is = finished_at_end refuses report.refused ended is
 well_at_end refuses (Err fault) ended is = tt
 
-over_early : {F : Type 0} → (refused : Option F) (ended : Bool) → is_some refused ≡ true → IsOver true refused ended
-over_early (Some refused) ended is = tt
-over_early None ended is = cc
+finished_early : {F : Type 0} → (refused : Option F) (ended : Bool) → is_some refused ≡ true → IsFinished true refused
+    ended
+finished_early (Some refused) ended is = tt
+finished_early None ended is = cc
 
 pub well_early : {F : Type 0} → (refuses : Bool) (result : Result (Report F) ToolFault) (ended : Bool)
     → IsEarly refuses result
     → EndsWell refuses result ended
 well_early false (Ok report) ended early = cc
-well_early true (Ok report) ended early = over_early report.refused ended early
+well_early true (Ok report) ended early = finished_early report.refused ended early
 well_early false (Err fault) ended early = tt
 well_early true (Err fault) ended early = tt
 
@@ -328,22 +329,23 @@ pub halted_stops :
     (result : Result (Report F) ToolFault) (left : Option (List ℕ))
     (ended source_failed : Bool) (made reads : ℕ) (taken sent : Option (List ℕ)) (failed : Bool)
     → Halts memory means text halt.result
-    → IsTold halt result failed → EndsWell refuses halt.result ended → (closes ≡ false → failed ≡ true → ended ≡ false)
+    → IsAnswered halt result failed → EndsWell refuses halt.result ended → (closes ≡ false → failed ≡ true → ended
+    ≡ false)
     → source_failed ≡ false → (failed ≡ false → sent ≡ taken) → (ended ≡ true → IsAtEnd left) → made ≤ reads
     → StopsBy refuses closes result left ended source_failed made taken sent failed reads
 halted_stops {F} refuses closes memory means text halt result left ended source_failed made reads taken sent false halts
-    told ok early fine all_sent all_read bound =
+    reported ok early fine all_sent all_read bound =
     subst (λ (r : Result (Report F) ToolFault). StopsBy refuses closes r left ended source_failed made taken sent false
-    reads) (sym told)
+    reads) (sym reported)
     (fine_stops refuses closes memory means text halt.result left ended source_failed made reads taken sent halts ok
     fine (all_sent refl) all_read bound)
 halted_stops {F} refuses closes memory means text halt result left ended source_failed made reads taken sent true halts
-    told ok early fine all_sent all_read bound =
+    reported ok early fine all_sent all_read bound =
     subst (λ (r : Result (Report F) ToolFault). StopsBy refuses closes r left ended source_failed made taken sent true
-    reads) (sym told)
+    reads) (sym reported)
     (record { stopped = ((λ c. early c refl), fine, refl); sent_on = tt; all_read = all_read; bounded = bound })
 
--- the source told no end, so nothing need be shown of it
+-- the source reported no end, so nothing need be shown of it
 pub unended : {P : Type 0} {ended : Bool} → ended ≡ false → ended ≡ true → P
 unended none is = absurd (no (sym none ∙ is))
   where
@@ -393,7 +395,7 @@ write_stops {fault = Read} is early fine failed all_read bound = absurd is
 write_stops {fault = OutOfMemory} is early fine failed all_read bound = absurd is
 write_stops {fault = TooManyReads} is early fine failed all_read bound = absurd is
 
--- a read that told the end waited
+-- a read that reported the end waited
 pub waited : (may_wait : Bool) (count : ℕ) → count ≡ 0 → (may_wait ≡ false → 0 < count) → may_wait ≡ true
 waited true count none ready = refl
 waited false count none ready = absurd (nothing (ready refl))
@@ -406,11 +408,11 @@ pub failed_waited : (may_wait : Bool) → (may_wait ≡ false → ⊥) → may_w
 failed_waited true ready = refl
 failed_waited false ready = absurd (ready refl)
 
--- ---- how a run ends, behind what was read so far
+-- ---- how a run ends, after what was read so far
 
 module _
-    {stands : List ℕ → List ℕ → Type 0} {left_old left a b : Option (List ℕ)} {waits : List ℕ} {written turn : ℕ}
-    (s : IsSoFar stands left_old left a b waits written turn) where
+    {represents : List ℕ → List ℕ → Type 0} {left_old left a b : Option (List ℕ)} {waits : List ℕ} {written turn : ℕ}
+    (s : IsSoFar represents left_old left a b waits written turn) where
   -- each read gave a byte
   pub gave_so_far : {made : ℕ} → made ≤ turn → EachGave left_old left made
   gave_so_far bound = (s.bytes, s.read, omega (arith, s.each_gave, bound))
@@ -424,26 +426,27 @@ module _
     omega (arith, s.each_gave, bound, length-append s.bytes more),
   )
 
-  -- these are all the bytes that were read, and what came of those before the last read is gathered
-  pub record IsRead (given : List ℕ) (told_end ended : Bool) (left_new c : Option (List ℕ)) (there : List ℕ) (after : ℕ)
+  -- these are all the bytes that were read, and what came of those before the last read is buffered
+  pub record IsRead (given : List ℕ) (reported_end ended : Bool) (left_new c : Option (List ℕ)) (there : List ℕ)
+      (after : ℕ)
       : Type 0 where
     pub read : Consumes left_old left_new given
-    pub ended_is : ended ≡ told_end
-    pub wrote : Gathered (out a []) (out c there) 0 (Ok after) s.text
+    pub ended_is : ended ≡ reported_end
+    pub wrote : IsBuffered (out a []) (out c there) 0 (Ok after) s.text
 
   module _
       {count : ℕ} {ended : Bool} {left_new : Option (List ℕ)} (ys : List ℕ) {c : Option (List ℕ)} {there : List ℕ}
       {after : ℕ} (gives : Consumes left left_new (take count ys))
-      (tells : IsTrue ended ↔ (◌≡◌ {A = Result ℕ Failed} (Ok count) (Ok 0)))
-      (settled : Gathered (out b waits) (out c there) written (Ok after) []) where
-    -- the last read told the end, so that nothing waits
+      (reports : IsTrue ended ↔ (◌≡◌ {A = Result ℕ Failed} (Ok count) (Ok 0)))
+      (settled : IsBuffered (out b waits) (out c there) written (Ok after) []) where
+    -- the last read reported the end, so that nothing waits
     pub read_end :
         {may_wait : Bool} → count ≡ 0 → (may_wait ≡ true → there ≡ []) → (may_wait ≡ false → 0 < count)
         → IsRead s.bytes true ended left_new c [] after
     read_end {may_wait} none empty ready =
         record {
           read = consumes_end left_old left left_new s.bytes ys count s.read gives none;
-          ended_is = is_end ended count none tells;
+          ended_is = is_end ended count none reports;
           wrote =
               rw (empty (waited may_wait count none ready)) at
               (so_far_settled a (out b waits) (out c there) written after s.text s.wrote settled);
@@ -456,7 +459,7 @@ module _
         record {
           read = consumes_then left_old left left_new s.bytes more s.read
               (subst (λ (l : List ℕ). Consumes left left_new l) (sym is) gives);
-          ended_is = no_end ended count some tells;
+          ended_is = no_end ended count some reports;
           wrote = so_far_settled a (out b waits) (out c there) written after s.text s.wrote settled;
         }
 
@@ -466,53 +469,53 @@ module _
         {ended : Bool} {c : Option (List ℕ)} (fault : ToolFault) → ended ≡ false → means s.bytes false (going s.text)
         → PartWentOut b c written fault waits → Ran memory means left_old left a c ended (Err fault)
     unsent_ran {ended} {c} fault goes_on meant part =
-        told_ran memory means s.bytes ended left_old left a c (Err fault) s.read
-        (subst (λ (e : Bool). Told memory means s.bytes e a c (Err fault)) (sym goes_on)
+        reported_ran memory means s.bytes ended left_old left a c (Err fault) s.read
+        (subst (λ (e : Bool). HasAnswered memory means s.bytes e a c (Err fault)) (sym goes_on)
         (so_far_unsent memory means s.bytes false a b waits c written fault s.text meant s.wrote part))
 
     module _
-        {given : List ℕ} {told_end ended : Bool} {left_new c : Option (List ℕ)} {there : List ℕ} {after : ℕ}
-        (is : IsRead given told_end ended left_new c there after) where
+        {given : List ℕ} {reported_end ended : Bool} {left_new c : Option (List ℕ)} {there : List ℕ} {after : ℕ}
+        (is : IsRead given reported_end ended left_new c there after) where
       -- the last step halted the run
       pub halts_ran :
           {holds : List ℕ → Type 0} {d e : Option (List ℕ)} (failed : Bool) (halt : Halt F)
           (result : Result (Report F) ToolFault)
           (puts : Puts holds (out c there) (out d []) after halt.written s.text)
-          → Halts memory (means given told_end) (s.text ++ puts.more) halt.result → Keeps d e
-          → IsTold halt result failed
+          → Halts memory (means given reported_end) (s.text ++ puts.more) halt.result → Keeps d e
+          → IsAnswered halt result failed
           → Ran memory means left_old left_new a e ended result
-      halts_ran {holds} {d} {e} failed halt result puts halts kept told =
-          told_ran memory means given ended left_old left_new a e result is.read
-          (subst (λ (t : Bool). Told memory means given t a e result) (sym is.ended_is)
-          (step_halts memory means given told_end a failed c there d e after s.text halt result is.wrote holds puts
-          halts kept told))
+      halts_ran {holds} {d} {e} failed halt result puts halts kept reported =
+          reported_ran memory means given ended left_old left_new a e result is.read
+          (subst (λ (t : Bool). HasAnswered memory means given t a e result) (sym is.ended_is)
+          (step_halts memory means given reported_end a failed c there d e after s.text halt result is.wrote holds puts
+          halts kept reported))
 
       -- the sink failed in it
       pub fails_ran :
-          {d : Out} (fault : ToolFault) → Fails (means given told_end) (out c there) d after s.text fault
+          {d : Out} (fault : ToolFault) → Fails (means given reported_end) (out c there) d after s.text fault
           → Ran memory means left_old left_new a d.taken ended (Err fault)
       fails_ran {d} fault fails =
-          told_ran memory means given ended left_old left_new a d.taken (Err fault) is.read
-          (subst (λ (t : Bool). Told memory means given t a d.taken (Err fault)) (sym is.ended_is)
-          (fails_told memory means given told_end a c there d after s.text fault is.wrote fails))
+          reported_ran memory means given ended left_old left_new a d.taken (Err fault) is.read
+          (subst (λ (t : Bool). HasAnswered memory means given t a d.taken (Err fault)) (sym is.ended_is)
+          (fails_reported memory means given reported_end a c there d after s.text fault is.wrote fails))
 
--- ---- a page
+-- ---- an output buffer
 
--- what was gathered went out
-pub page_puts :
+-- what was buffered went out
+pub buffer_puts :
     (holds : List ℕ → Type 0) (a : Out) (b c : Option (List ℕ)) (waits : List ℕ) (before middle after : ℕ)
     (text : List ℕ)
     → Puts holds a (out b waits) before middle text → Put b c middle (Ok after) waits
     → Puts holds a (out c []) before after text
-page_puts holds a b c waits before middle after text puts sent =
+buffer_puts holds a b c waits before middle after text puts sent =
     record {
       more = puts.more;
-      put = gathered_sent a b c waits before middle (Ok after) puts.more puts.put sent;
-      behind = puts.behind;
+      put = buffered_sent a b c waits before middle (Ok after) puts.more puts.put sent;
+      following = puts.following;
     }
 
 -- the sink failed in it where a step had halted the run
-pub page_halt_fails :
+pub buffer_halt_fails :
     {F : Type 0} → (memory : Bool) (means : List ℕ → Bool → Outcome F → Type 0) (given : List ℕ) (ended : Bool)
     (holds : List ℕ → Type 0)
     (a : Out) (b c : Option (List ℕ)) (waits : List ℕ) (before middle : ℕ) (fault : ToolFault) (text : List ℕ)
@@ -520,7 +523,7 @@ pub page_halt_fails :
     (puts : Puts holds a (out b waits) before middle text)
     → Halts memory (means given ended) (text ++ puts.more) result → Put b c middle (Err fault) waits
     → Fails (means given ended) a (out c []) before text fault
-page_halt_fails memory means given ended holds a b c waits before middle fault text result puts halts sent =
+buffer_halt_fails memory means given ended holds a b c waits before middle fault text result puts halts sent =
     let part = halts_part memory means given ended a.taken (text ++ puts.more) result halts in
     record {
       outcome = part.outcome;
@@ -528,5 +531,5 @@ page_halt_fails memory means given ended holds a b c waits before middle fault t
       more = puts.more;
       rest = part.rest;
       joined = part.joined;
-      put = gathered_sent a b c waits before middle (Err fault) puts.more puts.put sent;
+      put = buffered_sent a b c waits before middle (Err fault) puts.more puts.put sent;
     }

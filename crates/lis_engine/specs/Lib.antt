@@ -1,4 +1,4 @@
--- What a run comes to, and what its parts write.
+-- What a run gives, and what its parts write.
 pub mod Output
 pub mod Outcome
 pub mod Runs

@@ -1,10 +1,10 @@
--- What the bytes that a command has read come to.
+-- What the bytes that a command has read give.
 use Rattle.std.specs.Prelude.{ℕ, Bool, true, false, List, [], ◌++◌, Option, None, Some, Ok}
 use Rattle.std.specs.declared.result.Result.{Result}
 use Rattle.lis_engine.specs.declared.fault.ToolFault.{ToolFault}
 use Rattle.lis_engine.specs.declared.report.Report.{Report}
 
--- the text for what is ended in them; the closing lines, which stand behind it where the run ends in them; and how the
+-- the text for what is ended in them; the closing lines, which are after it where the run ends in them; and how the
 -- run ends in them, if it does
 pub record Outcome (F : Type 0) : Type 0 where
   pub text : List ℕ

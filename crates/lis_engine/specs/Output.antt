@@ -15,7 +15,7 @@ pub record WentOut (old new : Option (List ℕ)) (before : ℕ) (after : ℕ) (t
   pub taken : Appends old new (take count text)
   pub counted : after ≡ min (before + count) most_counted
 
--- the count of all bytes that went out is told: with Ok all of the text did, and where the sink failed a part of it
+-- the count of all bytes that went out is reported: with Ok all of the text did, and where the sink failed a part of it
 abbrev pub Put : Option (List ℕ) → Option (List ℕ) → ℕ → Result ℕ ToolFault → List ℕ → Type 0
 Put old new before (Ok after) text = WentOut old new before after text (length text)
 Put old new before (Err (Write written)) text =
@@ -25,7 +25,7 @@ Put old new before (Err Read) text = ⊥
 Put old new before (Err OutOfMemory) text = ⊥
 Put old new before (Err TooManyReads) text = ⊥
 
--- what a sink took, and the bytes that are gathered to go out behind it
+-- what a sink took, and the bytes that are buffered to go out after it
 pub record Out : Type 0 where
   pub taken : Option (List ℕ)
   pub waits : List ℕ
@@ -33,9 +33,9 @@ pub record Out : Type 0 where
 abbrev pub out : Option (List ℕ) → List ℕ → Out
 out taken waits = record { taken = taken; waits = waits }
 
--- The same of a text that is put behind bytes that wait: of all of them a front went out, and the others wait; where
+-- The same of a text that is put after bytes that wait: of all of them a front went out, and the others wait; where
 -- the sink failed a part of them went out.
-abbrev pub Gathered : Out → Out → ℕ → Result ℕ ToolFault → List ℕ → Type 0
-Gathered old new before (Ok after) text =
+abbrev pub IsBuffered : Out → Out → ℕ → Result ℕ ToolFault → List ℕ → Type 0
+IsBuffered old new before (Ok after) text =
     (more : List ℕ) × (old.waits ++ text ≡ more ++ new.waits) × Put old.taken new.taken before (Ok after) more
-Gathered old new before (Err fault) text = Put old.taken new.taken before (Err fault) (old.waits ++ text)
+IsBuffered old new before (Err fault) text = Put old.taken new.taken before (Err fault) (old.waits ++ text)

@@ -15,9 +15,9 @@ pub record IsFresh (made : ℕ) (ended source_failed sink_failed : Bool) : Type 
   pub not_failed : source_failed ≡ false
   pub working : sink_failed ≡ false
 
--- What is known of a source and a sink: what the source has left, the reads made, and whether it told the end or
+-- What is known of a source and a sink: what the source has left, the reads made, and whether it reported the end or
 -- failed; what the sink took and sent on, and whether it failed.
-pub record Seen : Type 0 where
+pub record KnownPorts : Type 0 where
   pub left : Option (List ℕ)
   pub made : ℕ
   pub ended : Bool
@@ -26,11 +26,11 @@ pub record Seen : Type 0 where
   pub sent : Option (List ℕ)
   pub sink_failed : Bool
 
-abbrev pub AreFresh : Seen → Type 0
-AreFresh seen = IsFresh seen.made seen.ended seen.source_failed seen.sink_failed
+abbrev pub AreFresh : KnownPorts → Type 0
+AreFresh known_ports = IsFresh known_ports.made known_ports.ended known_ports.source_failed known_ports.sink_failed
 
--- what went out of an outcome's text: with a report all of it; where a line is refused, or the source failed or was
--- read too often, all but the closing lines; where the sink failed as much as is told; and where memory was refused a
+-- what went out of an outcome's text: with a report all of it; where a line is rejected, or the source failed or was
+-- read too often, all but the closing lines; where the sink failed as much as is reported; and if memory runs out a
 -- part without the closing lines
 abbrev pub WroteOutcome : {F : Type 0} → (takes_memory : Bool) → Result (Report F) ToolFault → Outcome F
     → Option (List ℕ) → Option (List ℕ)
@@ -44,7 +44,7 @@ WroteOutcome takes_memory (Err (Write written)) o old new = (count : ℕ) × Wen
 WroteOutcome takes_memory (Err OutOfMemory) o old new =
     (takes_memory ≡ true) × (count : ℕ) × (count ≤ length o.text) × Appends old new (take count o.text)
 
--- all the bytes that were read, what they come to, and what went out
+-- all the bytes that were read, what they give, and what went out
 pub record Ran {F : Type 0}
     (takes_memory : Bool) (means : List ℕ → Bool → Outcome F → Type 0)
     (left_old left_new taken_old taken_new : Option (List ℕ))
@@ -55,25 +55,26 @@ pub record Ran {F : Type 0}
   pub meant : means given ended outcome
   pub wrote : WroteOutcome takes_memory result outcome taken_old taken_new
 
-abbrev pub RanOver : {F : Type 0} → (takes_memory : Bool) (means : List ℕ → Bool → Outcome F → Type 0) (old new : Seen)
+abbrev pub HasRun : {F : Type 0} → (takes_memory : Bool) (means : List ℕ → Bool → Outcome F → Type 0)
+    (old new : KnownPorts)
     → Result (Report F) ToolFault → Type 0
-RanOver takes_memory means old new result =
+HasRun takes_memory means old new result =
     Ran takes_memory means old.left new.left old.taken new.taken new.ended result
 
--- A report is answered where the source told the end. A command that may refuse input answers before that too, but
+-- A report is answered where the source reported the end. A command that may reject input answers before that too, but
 -- only where it did.
-abbrev pub IsOver : {F : Type 0} → (refuses : Bool) → Option F → (ended : Bool) → Type 0
-IsOver false refused ended = ended ≡ true
-IsOver true None ended = ended ≡ true
-IsOver true (Some refused) ended = ⊤
+abbrev pub IsFinished : {F : Type 0} → (refuses : Bool) → Option F → (ended : Bool) → Type 0
+IsFinished false refused ended = ended ≡ true
+IsFinished true None ended = ended ≡ true
+IsFinished true (Some refused) ended = ⊤
 
--- each ending stands where the last read or write says so: a report where the source told the end or input is
--- refused, a fault of the source or the sink where that failed, and too many reads where as many were made and none
--- of these stands. A command that writes nothing at the end has no fault of the sink there.
+-- each ending is where the last read or write says so: a report where the source reported the end or input is
+-- rejected, a fault of the source or the sink where that failed, and too many reads where as many were made and none
+-- of these is. A command that writes nothing at the end has no fault of the sink there.
 abbrev pub Stopped : {F : Type 0} → (refuses closes : Bool) → Result (Report F) ToolFault → Bool → Bool → Bool → ℕ
     → ℕ → Type 0
 Stopped refuses closes (Ok report) ended source_failed sink_failed made reads =
-    IsOver refuses report.refused ended × (source_failed ≡ false) × (sink_failed ≡ false)
+    IsFinished refuses report.refused ended × (source_failed ≡ false) × (sink_failed ≡ false)
 Stopped refuses closes (Err Read) ended source_failed sink_failed made reads =
     (ended ≡ false) × (source_failed ≡ true) × (sink_failed ≡ false)
 Stopped refuses closes (Err (Write written)) ended source_failed sink_failed made reads =
@@ -94,8 +95,8 @@ Sent (Err (Write written)) sent taken = ⊤
 Sent (Err (CaptureLine line)) sent taken = sent ≡ taken
 Sent (Err OutOfMemory) sent taken = sent ≡ taken
 
--- how a run stops, by what is known of the source and the sink: what the source has left, whether it told the end or
--- failed, and the reads made; what the sink took and sent on, and whether it failed; and the most reads
+-- how a run stops, by what is known of the source and the sink: what the source has left, whether it reported the end
+-- or failed, and the reads made; what the sink took and sent on, and whether it failed; and the most reads
 pub record StopsBy {F : Type 0}
     (refuses closes : Bool) (result : Result (Report F) ToolFault) (left : Option (List ℕ)) (ended source_failed : Bool)
     (made : ℕ)
@@ -109,16 +110,16 @@ pub record StopsBy {F : Type 0}
 abbrev pub EachGave : Option (List ℕ) → Option (List ℕ) → (made : ℕ) → Type 0
 EachGave left_old left_new made = (given : List ℕ) × Consumes left_old left_new given × (made ≤ length given + 1)
 
--- how a run stops by what was known of the source and the sink before it and is known behind it
-pub record Stops {F : Type 0} (refuses closes : Bool) (old new : Seen) (reads : ℕ)
+-- how a run stops by what was known of the source and the sink before it and is known after it
+pub record Stops {F : Type 0} (refuses closes : Bool) (old new : KnownPorts) (reads : ℕ)
     (result : Result (Report F) ToolFault) : Type 0 where
   pub stops :
       StopsBy refuses closes result new.left new.ended new.source_failed new.made new.taken new.sent new.sink_failed
       reads
   pub each_gave : EachGave old.left new.left new.made
 
--- what went out for the bytes that were read, by a command that never refuses a line nor wants memory: all of their
--- text, or as much as is told where the sink failed
+-- what went out for the bytes that were read, by a command that never rejects a line nor wants memory: all of their
+-- text, or as much as is reported where the sink failed
 abbrev pub WroteText : {F : Type 0} → Option (List ℕ) → Option (List ℕ) → Result (Report F) ToolFault → List ℕ → Type 0
 WroteText old new (Ok report) text = Appends old new text
 WroteText old new (Err Read) text = Appends old new text
@@ -128,7 +129,7 @@ WroteText old new (Err (CaptureLine line)) text = ⊥
 WroteText old new (Err OutOfMemory) text = ⊥
 
 -- the bytes that were read, and what went out for them
-pub record Shown {F : Type 0} (text_of : List ℕ → List ℕ) (old new : Seen)
+pub record Shown {F : Type 0} (text_of : List ℕ → List ℕ) (old new : KnownPorts)
     (result : Result (Report F) ToolFault) : Type 0 where
   pub given : List ℕ
   pub read : Consumes old.left new.left given

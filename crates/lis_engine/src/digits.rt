@@ -7,7 +7,7 @@ ghost use Rattle.hex.specs.Hex.{encode_lower, lower_digits};
 use std::simd::prelude::*;
 
 /// Writes pairs of digits in lower case, those of sixteen bytes at a time; the last sixteen may be written over
-/// some that stand there.
+/// some that are there.
 pub(crate) fn encode(bytes: &[u8], digits: &mut [u8])
     requires { length digits.old ≡ 2 * length bytes.now }
     ensures { digits.new ≡ encode_lower bytes.now }

@@ -2,20 +2,20 @@
 //! of an output buffer.
 #![tactic(auto)]
 
+mod buffering;
 mod digits;
 mod fault;
-mod gather;
 mod machine;
 mod output;
-mod page;
+mod output_buffer;
 mod ports;
+mod print;
 mod report;
-mod tell;
 
+pub use buffering::make_room;
 pub use fault::{ToolFault, Written};
-pub use gather::make_room;
 pub use machine::{Fate, Halt, Machine, Turn, run};
-pub use page::{NUMBER_ROOM, PAGE_ROOM, Page};
+pub use output_buffer::{NUMBER_ROOM, OUTPUT_ROOM, OutputBuffer};
 pub use ports::SourceFor;
+pub use print::{CountsLine, Part, Print};
 pub use report::{Ended, Report, status_of};
-pub use tell::{Counts, Part, Tell};

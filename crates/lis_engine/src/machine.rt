@@ -7,14 +7,14 @@ ghost use Rattle.lis_engine.specs.Outcome.{Outcome, going};
 ghost use Rattle.lis_engine.specs.Output.{out};
 ghost use Rattle.lis_engine.specs.Runs.{EachGave, IsFresh, Ran, StopsBy};
 ghost use Rattle.lis_engine.specs.Steps.{Ends, Steps};
-ghost use Rattle.lis_engine.specs.inside.Steps.{IsTold};
+ghost use Rattle.lis_engine.specs.inside.Steps.{IsAnswered};
 ghost use Rattle.lis_engine.specs.declared.machine.Halt.{Halt};
 ghost use Rattle.lis_engine.specs.declared.machine.Turn.TheVariants.{Off};
 
+use crate::buffering::{put_buffer, read_settled, send_buffer, send_buffer_before_a_wait};
 use crate::fault::ToolFault;
-use crate::gather::{put_page, read_settled, send_page, send_page_before_a_wait};
 use crate::output::send;
-use crate::page::Page;
+use crate::output_buffer::OutputBuffer;
 use crate::report::Ended;
 use lis_port::{Failed, Sink, Source};
 
@@ -28,7 +28,7 @@ pub struct Halt<F> {
     pub result: Ended<F>,
 }
 
-/// What becomes of a run after a step: it goes on, behind so many bytes, or halts.
+/// What becomes of a run after a step: it goes on, after so many bytes, or halts.
 #[derive(Clone, Copy)]
 pub enum Turn<F> {
     On(u64),
@@ -38,14 +38,14 @@ pub enum Turn<F> {
 /// What becomes of a run after a step, or why it stopped there.
 pub type Fate<F> = Result<Turn<F>, ToolFault>;
 
-/// A command. It is fed with the bytes that are read, and writes what they come to. `F` says why it refuses
+/// A command. It is fed with the bytes that are read, and writes what they give. `F` says why it rejects
 /// input.
 pub trait Machine<F>: Drop {
-    // What bytes come to, from the first on, where the end of the input was told or wasn't.
+    // What bytes give, from the first on, where the end of the input was reported or wasn't.
     ghost means: { List ℕ → Bool → Outcome F → Type 0 };
 
-    // It stands for these bytes, for which this text went out.
-    ghost stands: { Self → List ℕ → List ℕ → Type 0 };
+    // It represents these bytes, for which this text went out.
+    ghost represents: { Self → List ℕ → List ℕ → Type 0 };
 
     // Whether it may want memory.
     ghost takes_memory: { Bool };
@@ -53,40 +53,47 @@ pub trait Machine<F>: Drop {
     // Whether it may write at the end of the input.
     ghost closes: { Bool };
 
-    // Whether it may refuse input, and end the run there.
+    // Whether it may reject input, and end the run there.
     ghost refuses: { Bool };
 
-    /// Takes bytes that were read, behind `written` bytes of the run, and gathers what they come to on the page.
-    /// Where the sink fails, or memory is refused, it is a part of the text of all these bytes.
+    /// Takes bytes that were read, after `written` bytes of the run, and buffers what they give in the output buffer.
+    /// Where the sink fails, or memory runs out, it is a part of the text of all these bytes.
     fn feed<W: Sink>(
         &mut self,
         sink: &mut W,
-        page: &mut Page,
+        outgoing: &mut OutputBuffer,
         written: u64,
         bytes: &[u8],
     ) -> Fate<F>
         requires { W.failed sink.old ≡ false }
-        ensures steps { (past text : List ℕ) → stands self.old past text → length past + length bytes.now < 2 ^ 44 →
-            Steps refuses takes_memory (stands self.new (past ++ bytes.now)) (means (past ++ bytes.now) false)
-            (out (W.taken sink.old) page.old) (out (W.taken sink.new) page.new) written text result }
+        ensures steps { (past text : List ℕ) → represents self.old past text → length past + length bytes.now < 2 ^ 44 →
+            Steps refuses takes_memory (represents self.new (past ++ bytes.now)) (means (past ++ bytes.now) false)
+            (out (W.taken sink.old) outgoing.old) (out (W.taken sink.new) outgoing.new) written text result }
         ensures failed { W.failed sink.new ≡ is_err result };
 
     /// Takes the end of the input.
-    fn end<W: Sink>(self, sink: &mut W, page: &mut Page, written: u64) -> Result<Halt<F>, ToolFault>
+    fn end<W: Sink>(
+        self,
+        sink: &mut W,
+        outgoing: &mut OutputBuffer,
+        written: u64,
+    ) -> Result<Halt<F>, ToolFault>
         requires { W.failed sink.old ≡ false }
-        ensures ends { (past text : List ℕ) → stands self past text → length past < 2 ^ 44 →
-            Ends takes_memory (means past true) (out (W.taken sink.old) page.old) (out (W.taken sink.new) page.new)
+        ensures ends { (past text : List ℕ) → represents self past text → length past < 2 ^ 44 →
+            Ends takes_memory (means past true) (out (W.taken sink.old) outgoing.old)
+            (out (W.taken sink.new) outgoing.new)
             written text result }
         ensures failed { W.failed sink.new ≡ is_err result }
         ensures silent { closes ≡ false → (is_err result ≡ false) × (W.sent sink.new ≡ W.sent sink.old)
-            × (W.taken sink.new ≡ W.taken sink.old) × (page.new ≡ page.old) };
+            × (W.taken sink.new ≡ W.taken sink.old) × (outgoing.new ≡ outgoing.old) };
 
     /// Whether it may write at the end of the input.
     fn closes(&self) -> bool
         ensures { result ≡ closes };
 
-    // What it stands for goes on.
-    ghost goes_on: { (machine : Self) (past text : List ℕ) → stands machine past text → means past false (going text) };
+    // What it represents goes on.
+    ghost goes_on: { (machine : Self) (past text : List ℕ) → represents machine past text →
+        means past false (going text) };
 }
 
 // Each command has a frame of its own on the stack: that of the longest link frames has 200 KB, which others need not
@@ -101,7 +108,7 @@ pub fn run<F: Copy, M: Machine<F>, R: Source, W: Sink>(
     sink: &mut W,
     reads: u32,
 ) -> Ended<F>
-    requires new { M.stands machine [] [] }
+    requires new { M.represents machine [] [] }
     requires fresh { IsFresh (R.made source.old) (R.ended source.old) (R.failed source.old) (W.failed sink.old) }
     ensures ran { Ran M.takes_memory M.means (R.left source.old) (R.left source.new) (W.taken sink.old)
         (W.taken sink.new) (R.ended source.new) result }
@@ -111,55 +118,57 @@ pub fn run<F: Copy, M: Machine<F>, R: Source, W: Sink>(
 {
     let mut machine = machine;
     let mut buffer = [0; ROOM];
-    let mut page = Page::new();
+    let mut outgoing = OutputBuffer::new();
     let mut written = 0;
     for _turn in 0..reads {
-        match send_page_before_a_wait(source, sink, &mut page, written) {
+        match send_buffer_before_a_wait(source, sink, &mut outgoing, written) {
             Ok(after) => written = after,
             Err(fault) => return Err(fault),
         }
-        let count = match read_settled(source, sink, &page, &mut buffer) {
+        let count = match read_settled(source, sink, &outgoing, &mut buffer) {
             Ok(count) => count,
             Err(Failed) => return Err(ToolFault::Read),
         };
         if count == 0 {
             let closes = machine.closes();
-            return match end_page(machine, sink, &mut page, written) {
+            return match end_machine(machine, sink, &mut outgoing, written) {
                 Ok(halt) => halted(sink, halt, closes),
                 Err(fault) => Err(fault),
             };
         }
         let (given, _) = buffer.split_at(count);
-        match feed_page(&mut machine, sink, &mut page, written, given) {
+        match feed_machine(&mut machine, sink, &mut outgoing, written, given) {
             Ok(Turn::On(after)) => written = after,
             Ok(Turn::Off(halt)) => return halted(sink, halt, true),
             Err(fault) => return Err(fault),
         }
     }
-    match send_page(sink, &mut page, written) {
+    match send_buffer(sink, &mut outgoing, written) {
         Ok(_) => Err(ToolFault::TooManyReads),
         Err(fault) => Err(fault),
     }
 }
 
-/// Feeds a machine with bytes, and puts out what they come to where that halts the run.
-fn feed_page<F: Copy, M: Machine<F>, W: Sink>(
+/// Feeds a machine with bytes, and puts out what they give where that halts the run.
+fn feed_machine<F: Copy, M: Machine<F>, W: Sink>(
     machine: &mut M,
     sink: &mut W,
-    page: &mut Page,
+    outgoing: &mut OutputBuffer,
     written: u64,
     bytes: &[u8],
 ) -> Fate<F>
     requires { W.failed sink.old ≡ false }
-    ensures steps { (past text : List ℕ) → M.stands machine.old past text → length past + length bytes.now < 2 ^ 44 →
-        Steps M.refuses M.takes_memory (M.stands machine.new (past ++ bytes.now)) (M.means (past ++ bytes.now) false)
-        (out (W.taken sink.old) page.old) (out (W.taken sink.new) page.new) written text result }
-    ensures empty { IfOk result (λ turn. (halt : Halt F) → turn ≡ Off halt → page.new ≡ []) }
+    ensures steps { (past text : List ℕ) → M.represents machine.old past text → length past + length bytes.now < 2 ^ 44
+        →
+        Steps M.refuses M.takes_memory (M.represents machine.new (past ++ bytes.now))
+        (M.means (past ++ bytes.now) false)
+        (out (W.taken sink.old) outgoing.old) (out (W.taken sink.new) outgoing.new) written text result }
+    ensures empty { IfOk result (λ turn. (halt : Halt F) → turn ≡ Off halt → outgoing.new ≡ []) }
     ensures failed { W.failed sink.new ≡ is_err result }
 {
-    match machine.feed(sink, page, written, bytes) {
+    match machine.feed(sink, outgoing, written, bytes) {
         Ok(Turn::On(after)) => Ok(Turn::On(after)),
-        Ok(Turn::Off(halt)) => match put_page(sink, page, halt.written) {
+        Ok(Turn::Off(halt)) => match put_buffer(sink, outgoing, halt.written) {
             Ok(written) => Ok(Turn::Off(Halt {
                 written,
                 result: halt.result,
@@ -170,16 +179,16 @@ fn feed_page<F: Copy, M: Machine<F>, W: Sink>(
     }
 }
 
-/// Tells a machine the end of the input, and puts out what it writes there.
-fn end_page<F: Copy, M: Machine<F>, W: Sink>(
+/// Gives a machine the end of the input, and puts out what it writes there.
+fn end_machine<F: Copy, M: Machine<F>, W: Sink>(
     machine: M,
     sink: &mut W,
-    page: &mut Page,
+    outgoing: &mut OutputBuffer,
     written: u64,
 ) -> Result<Halt<F>, ToolFault>
     requires working { W.failed sink.old ≡ false }
-    requires empty { page.old ≡ [] }
-    ensures ends { (past text : List ℕ) → M.stands machine past text → length past < 2 ^ 44 →
+    requires empty { outgoing.old ≡ [] }
+    ensures ends { (past text : List ℕ) → M.represents machine past text → length past < 2 ^ 44 →
         Ends M.takes_memory (M.means past true) (out (W.taken sink.old) []) (out (W.taken sink.new) []) written text
         result }
     ensures failed { W.failed sink.new ≡ is_err result }
@@ -187,8 +196,8 @@ fn end_page<F: Copy, M: Machine<F>, W: Sink>(
         × (W.taken sink.new ≡ W.taken sink.old) }
 {
     let closes = machine.closes();
-    match machine.end(sink, page, written) {
-        Ok(halt) if closes => match put_page(sink, page, halt.written) {
+    match machine.end(sink, outgoing, written) {
+        Ok(halt) if closes => match put_buffer(sink, outgoing, halt.written) {
             Ok(written) => Ok(Halt {
                 written,
                 result: halt.result,
@@ -204,7 +213,7 @@ fn end_page<F: Copy, M: Machine<F>, W: Sink>(
 fn halted<F: Copy, W: Sink>(sink: &mut W, halt: Halt<F>, wrote: bool) -> Ended<F>
     requires { W.failed sink.old ≡ false }
     ensures taken { Keeps (W.taken sink.old) (W.taken sink.new) }
-    ensures told { IsTold halt result (W.failed sink.new) }
+    ensures reported { IsAnswered halt result (W.failed sink.new) }
     ensures sent { wrote ≡ true → W.failed sink.new ≡ false → W.sent sink.new ≡ W.taken sink.new }
     ensures silent { wrote ≡ false → (W.failed sink.new ≡ false) × (W.sent sink.new ≡ W.sent sink.old)
         × (W.taken sink.new ≡ W.taken sink.old) }

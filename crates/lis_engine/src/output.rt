@@ -7,7 +7,7 @@ ghost use Rattle.lis_engine.specs.Output.{Put};
 use crate::fault::ToolFault;
 use lis_port::{Failed, Sink};
 
-/// Puts bytes out, behind `written` bytes of this run, and answers the count with them.
+/// Puts bytes out, after `written` bytes of this run, and answers the count with them.
 #[inline(always)]
 pub(crate) fn put<W: Sink>(sink: &mut W, written: u64, bytes: &[u8]) -> Result<u64, ToolFault>
     requires { W.failed sink.old ≡ false }
@@ -29,7 +29,7 @@ pub(crate) fn put<W: Sink>(sink: &mut W, written: u64, bytes: &[u8]) -> Result<u
     Ok(after)
 }
 
-/// Sends on what the sink holds back, behind `written` bytes of this run.
+/// Sends on what the sink holds back, after `written` bytes of this run.
 pub(crate) fn send<W: Sink>(sink: &mut W, written: u64) -> Result<(), ToolFault>
     requires { W.failed sink.old ≡ false }
     ensures taken { Keeps (W.taken sink.old) (W.taken sink.new) }

@@ -1,29 +1,31 @@
 //! What a run reads from and writes to.
 
 ghost use Rattle.std.specs.Prelude.{◌≡◌, []};
-ghost use Rattle.lis_engine.specs.Runs.{AreFresh, RanOver, Seen, Stops};
+ghost use Rattle.lis_engine.specs.Runs.{AreFresh, HasRun, KnownPorts, Stops};
 
 use crate::machine::{Machine, run};
 use crate::report::Ended;
 use lis_port::{Sink, Source};
 
 /// A source for runs that write to a sink: each source is one, for every sink. A run's contract says what was known of
-/// both before it and what is known behind it.
+/// both before it and what is known after it.
 pub trait SourceFor<W: Sink>: Source {
     // What is known of the source and of the sink.
-    ghost seen: { Self → W → Seen };
+    ghost known_ports: { Self → W → KnownPorts };
 
     /// Feeds a machine with what the source gives, to its end, by at most `reads` calls of read. All text goes out
     /// before each that may wait for bytes, so that no line waits with it, and where the run ends.
     fn run<F: Copy, M: Machine<F>>(&mut self, sink: &mut W, machine: M, reads: u32) -> Ended<F>
-        requires new { M.stands machine [] [] }
-        requires fresh { AreFresh (seen self.old sink.old) }
-        ensures ran { RanOver M.takes_memory M.means (seen self.old sink.old) (seen self.new sink.new) result }
-        ensures stops { Stops M.refuses M.closes (seen self.old sink.old) (seen self.new sink.new) reads result };
+        requires new { M.represents machine [] [] }
+        requires fresh { AreFresh (known_ports self.old sink.old) }
+        ensures ran { HasRun M.takes_memory M.means (known_ports self.old sink.old) (known_ports self.new sink.new)
+            result }
+        ensures stops { Stops M.refuses M.closes (known_ports self.old sink.old) (known_ports self.new sink.new) reads
+            result };
 }
 
 impl<R: Source, W: Sink> SourceFor<W> for R {
-    ghost seen = { λ source sink. record {
+    ghost known_ports = { λ source sink. record {
       left = R.left source;
       made = R.made source;
       ended = R.ended source;

@@ -4,12 +4,12 @@ ghost use Rattle.std.specs.Prelude.{◌≡◌, None, IfOk, OnErr, if◌then◌el
 
 use crate::fault::ToolFault;
 
-/// How a run ended that read its input to the end, or to what its command refused.
+/// How a run ended that read its input to the end, or to what its command rejected.
 #[derive(Debug, Clone, Copy, PartialEq, Eq)]
 pub struct Report<F> {
     /// 0, or 1 where there is something to look at.
     pub status: u8,
-    /// What was refused; none if the input was read to its end.
+    /// What was rejected; none if the input was read to its end.
     pub refused: Option<F>,
 }
 

@@ -1,4 +1,4 @@
--- A stretch has no fault exactly where STX, the stretch and LF are a frame.
+-- A frame body has no fault exactly where STX, the frame body and LF are a frame.
 use Rattle.std.proofs.Common.{◌≡◌, ℕ, ◌+◌, ◌-◌, ◌/◌, ◌%◌, ◌≤◌, ◌<◌, Bool, true, false, List, [], ◌∷◌, ◌++◌, Option}
 use Rattle.std.proofs.Common.{None, Some, Ok, Err, IfOk, MatchResult, length, drop, get_or, refl, ap, sym, ◌∙◌, subst}
 use Rattle.std.proofs.Common.{arith, append_assoc, length-take}
@@ -12,11 +12,11 @@ use Rattle.lis_frame.specs.declared.frame.FrameFault.{FrameFault}
 use Rattle.lis_text.specs.Text.{first_forbidden}
 use Rattle.lis_frame.specs.Frame.{FrameContent, IsContent, IsDigits, IsFrame, number_byte, end_byte, checksum}
 use Rattle.lis_frame.specs.Frame.{digit_value, upper_digit, frame_bytes}
-use Rattle.lis_frame.specs.Stretch.{text_of, end_of, content_of, has_shape, digits_value, is_number_byte, pair_value}
-use Rattle.lis_frame.specs.Stretch.{is_value, first_fault, stretch_fault}
-use Rattle.lis_frame.specs.inside.Stretch.{stretch_of}
-use Rattle.lis_frame.proofs.StretchLemmas.{stretch_fault-stretch_of, content_of-stretch_of, stretch_parts}
-use Rattle.lis_frame.proofs.StretchLemmas.{number_byte-back, end_byte-back}
+use Rattle.lis_frame.specs.FrameBody.{text_of, end_of, content_of, has_shape, digits_value, is_number_byte, pair_value}
+use Rattle.lis_frame.specs.FrameBody.{is_value, first_fault, body_fault}
+use Rattle.lis_frame.specs.inside.FrameBody.{body_of}
+use Rattle.lis_frame.proofs.FrameBodyLemmas.{body_fault-body_of, content_of-body_of, body_parts}
+use Rattle.lis_frame.proofs.FrameBodyLemmas.{number_byte-back, end_byte-back}
 
 -- what the tests answered where there is no fault
 record AllPassed (long shaped numbered : Bool) (forbidden : Option ℕ) (sums : Bool) : Type 0 where
@@ -56,18 +56,18 @@ pub value_by : (high low value : ℕ) → IsDigits high low value
     → is_value (pair_value (digit_value high) (digit_value low)) value ≡ true
 value_by high low value d = rw (d.is_high, d.is_low) (grind (arith, nat_tests, d.value_is))
 
-shape_behind : (five closed ended : Bool) → (five && closed && ended) ≡ true → (closed && ended) ≡ true
-shape_behind true closed ended h = h
-shape_behind false closed ended h = cc
+shape_after : (five closed ended : Bool) → (five && closed && ended) ≡ true → (closed && ended) ≡ true
+shape_after true closed ended h = h
+shape_after false closed ended h = cc
 
--- the parts of a stretch that passed are a frame
+-- the parts of a frame body that passed are a frame
 module _ (limit number : ℕ) (text : List ℕ) (end high low close : ℕ) where
   found_parts :
       length text ≤ limit →
       AllPassed false (close == CR && (end == ETX || end == ETB)) (is_number_byte number) (first_forbidden text)
       (is_value (pair_value (digit_value high) (digit_value low))
       ((number_byte (number - 48) + sum text + end_byte (end == ETX)) % 256)) →
-      IsFrame limit (STX ∷ (stretch_of number text end high low close ++ LF ∷ []))
+      IsFrame limit (STX ∷ (body_of number text end high low close ++ LF ∷ []))
       (record { number = number - 48; last = end == ETX; text = text })
   found_parts short passed =
       let closed : close ≡ CR = grind (arith, nat_tests, passed.in_shape) in
@@ -81,7 +81,7 @@ module _ (limit number : ℕ) (text : List ℕ) (end high low close : ℕ) where
         high = high;
         low = low;
         digits = digits_by high low _ _ _ refl refl passed.in_sum;
-        spelling =
+        encoding =
             rw (number_is, end_is, closed)
             (ap (λ (xs : List ℕ). STX ∷ number ∷ xs) (append_assoc text (end ∷ high ∷ low ∷ CR ∷ []) (LF ∷ [])));
       }
@@ -89,9 +89,9 @@ module _ (limit number : ℕ) (text : List ℕ) (end high low close : ℕ) where
 -- and so are those of a frame
 only_parts :
     (limit high low : ℕ) (frame : FrameContent) → IsContent limit frame → IsDigits high low (checksum frame) →
-    stretch_fault limit (stretch_of (number_byte frame.number) frame.text (end_byte frame.last) high low CR) ≡ None
+    body_fault limit (body_of (number_byte frame.number) frame.text (end_byte frame.last) high low CR) ≡ None
 only_parts limit high low frame content digits =
-    stretch_fault-stretch_of (number_byte frame.number) frame.text (end_byte frame.last) high low CR limit
+    body_fault-body_of (number_byte frame.number) frame.text (end_byte frame.last) high low CR limit
     content.is_text.short
     ∙ rw (
       ended frame.last,
@@ -117,10 +117,10 @@ only_parts limit high low frame content digits =
     number_is : number_byte (number_byte frame.number - 48) ≡ number_byte frame.number
     number_is = omega arith
 
--- a stretch without a fault is a frame between STX and LF, the one at its places
-pub found : (limit : ℕ) (s : List ℕ) → stretch_fault limit s ≡ None
+-- a frame body without a fault is a frame between STX and LF, the one at its places
+pub found : (limit : ℕ) (s : List ℕ) → body_fault limit s ≡ None
     → IsFrame limit (STX ∷ (s ++ LF ∷ [])) (content_of s)
-unfolding stretch_fault
+unfolding body_fault
 found limit s e = found_passed limit s (all_passed _ _ _ _ _ e)
   where
     found_passed :
@@ -133,9 +133,9 @@ found limit s e = found_passed limit s (all_passed _ _ _ _ _ e)
         let five : 5 ≤ length s = grind (arith, nat_tests, passed.in_shape) in
         let short : length s ≤ limit + 5 = grind (arith, nat_tests, passed.in_length) in
         let shaped : (get_or s (length s - 1) 0 == CR && (end_of s == ETX || end_of s == ETB)) ≡ true =
-        shape_behind (nat_le 5 (length s)) (get_or s (length s - 1) 0 == CR) (end_of s == ETX || end_of s == ETB)
+        shape_after (nat_le 5 (length s)) (get_or s (length s - 1) 0 == CR) (end_of s == ETX || end_of s == ETB)
         passed.in_shape in
-        let parts = stretch_parts s (length s - 5) (length s - 4) (length s - 3) (length s - 2) (length s - 1)
+        let parts = body_parts s (length s - 5) (length s - 4) (length s - 3) (length s - 2) (length s - 1)
         (omega arith) (omega arith) (omega arith) (omega arith) (omega arith) in
         let frame_of_parts =
         found_parts limit (get_or s 0 0) (text_of s) (end_of s) (get_or s (length s - 3) 0)
@@ -152,16 +152,16 @@ found limit s e = found_passed limit s (all_passed _ _ _ _ _ e)
 
 -- and its content is within the limit
 pub found-content : (limit : ℕ) (s : List ℕ) (frame : FrameContent) → frame ≡ content_of s
-    → stretch_fault limit s ≡ None → IsContent limit frame
+    → body_fault limit s ≡ None → IsContent limit frame
 found-content limit s frame is e = rw is (found limit s e).content
 
 -- the bytes of a frame between its STX and its LF are its parts
 between :
     (limit : ℕ) (s : List ℕ) (frame : FrameContent) (is_frame : IsFrame limit (STX ∷ (s ++ LF ∷ [])) frame) →
-    s ≡ stretch_of (number_byte frame.number) frame.text (end_byte frame.last) is_frame.high is_frame.low CR
+    s ≡ body_of (number_byte frame.number) frame.text (end_byte frame.last) is_frame.high is_frame.low CR
 between limit s frame is_frame =
     append_cancel_right s _ (LF ∷ [])
-    (tail_of is_frame.spelling
+    (tail_of is_frame.encoding
     ∙ ap (λ (xs : List ℕ). number_byte frame.number ∷ xs)
     (sym (append_assoc frame.text (end_byte frame.last ∷ is_frame.high ∷ is_frame.low ∷ CR ∷ []) (LF ∷ []))))
   where
@@ -181,15 +181,15 @@ same_content frame =
     ended true = refl
     ended false = refl
 
--- and only such a stretch is
+-- and only such a frame body is
 pub only :
     (limit : ℕ) (s : List ℕ) (frame : FrameContent) → IsFrame limit (STX ∷ (s ++ LF ∷ [])) frame →
-    (stretch_fault limit s ≡ None) × (frame ≡ content_of s)
+    (body_fault limit s ≡ None) × (frame ≡ content_of s)
 only limit s frame is_frame =
-    subst (λ (z : List ℕ). (stretch_fault limit z ≡ None) × (frame ≡ content_of z))
+    subst (λ (z : List ℕ). (body_fault limit z ≡ None) × (frame ≡ content_of z))
     (sym (between limit s frame is_frame)) (
       only_parts limit is_frame.high is_frame.low frame is_frame.content is_frame.digits,
-      same_content frame ∙ sym (content_of-stretch_of (number_byte frame.number) frame.text (end_byte frame.last)
+      same_content frame ∙ sym (content_of-body_of (number_byte frame.number) frame.text (end_byte frame.last)
           is_frame.high is_frame.low CR),
     )
 
@@ -211,14 +211,14 @@ IsFrame-frame_bytes limit frame content = record {
     is_low = value-upper_digit (checksum frame % 16) (omega arith);
     value_is = omega arith;
   };
-  spelling = refl;
+  encoding = refl;
 }
 
 -- what reading by places answers, in the terms of the frame between STX and LF
 abbrev ReadsByPlaces : ℕ → List ℕ → Result FrameContent FrameFault → Type 0
 ReadsByPlaces limit s r =
-    MatchResult r (λ frame. (frame ≡ content_of s) × (stretch_fault limit s ≡ None))
-    (λ fault. stretch_fault limit s ≡ Some fault)
+    MatchResult r (λ frame. (frame ≡ content_of s) × (body_fault limit s ≡ None))
+    (λ fault. body_fault limit s ≡ Some fault)
 
 pub by_places-found :
     (limit : ℕ) (s : List ℕ) (r : Result FrameContent FrameFault) → ReadsByPlaces limit s r →

@@ -7,5 +7,5 @@ pub mod MarkLemmas
 pub mod PieceLaws
 pub mod ScannerLemmas
 pub mod StreamLaws
-pub mod StretchLemmas
+pub mod FrameBodyLemmas
 mod PutLaws

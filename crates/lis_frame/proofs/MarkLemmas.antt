@@ -1,4 +1,4 @@
--- The bytes that are read wherever they stand: sixteen tested at once.
+-- The bytes that are read wherever they are: sixteen tested at once.
 use Rattle.std.proofs.Common.{◌≡◌, ℕ, ◌%◌, ◌^◌, Bool, true, false, cond, eqb, List, length, map, replicate, bit_or}
 use Rattle.std.proofs.Common.{refl, ap, ◌∙◌, arith}
 use Rattle.std.specs.Prelude.{◌||◌}

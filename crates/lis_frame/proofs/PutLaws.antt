@@ -14,10 +14,10 @@ pub part_first : (old new : Option (List ℕ)) (xs ys : List ℕ) (count : ℕ) 
 part_first old new xs ys count (short, taken) =
     (omega (arith, short, length-append xs ys), rw (take-append-le count xs ys (omega (arith, short))) taken)
 
--- the first part is out, and the sink failed behind it
-pub part_behind : (old mid new : Option (List ℕ)) (xs ys : List ℕ) (count : ℕ) → Appends old mid xs
+-- the first part is out, and the sink failed after it
+pub part_following : (old mid new : Option (List ℕ)) (xs ys : List ℕ) (count : ℕ) → Appends old mid xs
     → Part mid new ys count → Part old new (xs ++ ys) (length xs + count)
-part_behind old mid new xs ys count out (short, taken) =
+part_following old mid new xs ys count out (short, taken) =
     let front : take (length xs + count) (xs ++ ys) ≡ xs ++ take count ys =
     take-split (length xs) count (xs ++ ys) ∙ rw (take_at xs ys (length xs) refl, drop_at xs ys (length xs) refl)
     refl in

@@ -7,12 +7,12 @@ use Rattle.std.proofs.lemmas.Bool.Decides.{nat_tests}
 use Rattle.lis_text.specs.Control.{STX, EOT, ENQ, LF}
 use Rattle.lis_frame.specs.declared.scanner.SignalOf.{SignalOf}
 use Rattle.lis_frame.specs.declared.scanner.SignalOf.TheVariants.{Enq, Eot}
-use Rattle.lis_frame.specs.Stream.{look_back, open_stretch, signal_after, ended_stretch, read_stretch}
+use Rattle.lis_frame.specs.Stream.{look_back, open_body, signal_after, ended_body, read_body}
 use Rattle.lis_frame.specs.Scanner.{Held, outside, within, beyond, HoldsAtMost, kept, held_of, StandsFor}
 use Rattle.lis_frame.specs.inside.Scanner.{with_byte, with_bytes, ended_held, held_signal, held_after}
-use Rattle.lis_frame.proofs.StretchLemmas.{stretch_fault-long}
+use Rattle.lis_frame.proofs.FrameBodyLemmas.{body_fault-long}
 
--- the byte behind what was found goes on behind it
+-- the byte after what was found goes on after it
 pub look_back-push :
     (past since : List ℕ) (b : ℕ) → look_back past (since ++ b ∷ [])
     ≡ option_map (λ s. s ++ b ∷ []) (look_back past since)
@@ -73,15 +73,15 @@ held_of-push :
 held_of-push limit None b = refl
 held_of-push limit (Some s) b = kept-push limit s b
 
-ended-held_of : (limit : ℕ) (o : Option (List ℕ)) → ended_held limit (held_of limit o) ≡ ended_stretch limit o
+ended-held_of : (limit : ℕ) (o : Option (List ℕ)) → ended_held limit (held_of limit o) ≡ ended_body limit o
 ended-held_of limit None = refl
 ended-held_of limit (Some s) = by (nat_lt (limit + 5) (length s)) refl
   where
     by : (test : Bool) → nat_lt (limit + 5) (length s) ≡ test
-        → ended_held limit (kept limit s) ≡ Some (read_stretch limit s)
+        → ended_held limit (kept limit s) ≡ Some (read_body limit s)
     by true e =
         let long : limit + 5 < length s = grind (arith, nat_tests) in
-        rw (e, stretch_fault-long limit s long) refl
+        rw (e, body_fault-long limit s long) refl
     by false e = rw e refl
 
 kept_nothing : (limit : ℕ) → within [] ≡ kept limit []
@@ -89,24 +89,24 @@ kept_nothing limit =
     let room : nat_lt (limit + 5) 0 ≡ false = grind (arith, nat_tests) in
     rw room refl
 
-pub stands_new : (limit : ℕ) → StandsFor limit outside []
-unfolding StandsFor open_stretch
-stands_new limit = refl
+pub represents_new : (limit : ℕ) → StandsFor limit outside []
+unfolding StandsFor open_body
+represents_new limit = refl
 
-pub stands_signal :
+pub represents_signal :
     (limit : ℕ) (held : Held) (past : List ℕ) (b : ℕ) → StandsFor limit held past
     → held_signal limit held b ≡ signal_after limit past b
 unfolding StandsFor signal_after
-stands_signal limit held past b h =
+represents_signal limit held past b h =
     ap (λ (t : Option (SignalOf limit)). if b == ENQ then Some Enq else if b == EOT then Some Eot else if b == LF
     then t else None)
-    (ap (ended_held limit) h ∙ ended-held_of limit (open_stretch past))
+    (ap (ended_held limit) h ∙ ended-held_of limit (open_body past))
 
-pub stands_after :
+pub represents_after :
     (limit : ℕ) (held : Held) (past : List ℕ) (b : ℕ) → StandsFor limit held past
     → StandsFor limit (held_after limit held b) (b ∷ past)
-unfolding StandsFor open_stretch
-stands_after limit held past b h = by (b == STX) (b == EOT || b == ENQ || b == LF)
+unfolding StandsFor open_body
+represents_after limit held past b h = by (b == STX) (b == EOT || b == ENQ || b == LF)
   where
     by :
         (starts stops : Bool) →

@@ -1,4 +1,4 @@
--- The signals of a stream: they don't depend on its cut, and the bytes of a frame are heard as that frame.
+-- The signals of a stream: they don't depend on its split, and the bytes of a frame are heard as that frame.
 use Rattle.std.proofs.Common.{suc, take, ◌≡◌, ℕ, ◌+◌, ◌/◌, ◌%◌, ◌<◌, Bool, true, false, List, [], ◌∷◌, ◌++◌, Option}
 use Rattle.std.proofs.Common.{None, Some, refl, ap, sym, ◌∙◌, subst, arith, cond, append-nil, append_assoc}
 use Rattle.std.specs.Prelude.{not, nat_le, ◌==◌, ◌||◌}
@@ -12,11 +12,11 @@ use Rattle.lis_frame.specs.Scanner.{Held, outside, quiet_length, unmarked_length
 use Rattle.lis_frame.specs.inside.Scanner.{held_after, with_byte, with_bytes}
 use Rattle.lis_frame.specs.Frame.{FrameContent, IsContent, IsFrame, number_byte, end_byte, checksum, digit_value}
 use Rattle.lis_frame.specs.Frame.{upper_digit, frame_bytes}
-use Rattle.lis_frame.specs.inside.Stretch.{stretch_of}
-use Rattle.lis_frame.specs.Stream.{is_mark, look_back, open_stretch, read_stretch, signal_after, with_signal}
+use Rattle.lis_frame.specs.inside.FrameBody.{body_of}
+use Rattle.lis_frame.specs.Stream.{is_mark, look_back, open_body, read_body, signal_after, with_signal}
 use Rattle.lis_frame.specs.Stream.{signals_after, stream_with}
 use Rattle.lis_frame.proofs.FrameLaws.{only, IsFrame-frame_bytes}
-use Rattle.lis_frame.proofs.ScannerLemmas.{look_back-push, stands_after}
+use Rattle.lis_frame.proofs.ScannerLemmas.{look_back-push, represents_after}
 
 -- a stream read in two parts gives the signals of the first part and then those of the second
 pub signals_after-append :
@@ -54,7 +54,7 @@ signals-plain limit [] past plain = refl
 signals-plain limit (b ∷ bytes) past plain =
     rw (plain.0.no_enquiry, plain.0.no_ending, plain.0.no_line_feed) (signals-plain limit bytes (b ∷ past) plain.1)
 
--- and go on with an open stretch
+-- and go on with an open frame body
 open-plain : (bytes past s : List ℕ) → AllPlain bytes → look_back past [] ≡ Some s
     → look_back (stream_with past bytes) [] ≡ Some (s ++ bytes)
 unfolding AllPlain
@@ -64,12 +64,12 @@ open-plain (b ∷ bytes) past s plain e =
     rw (plain.0.no_start, plain.0.no_stop, look_back-push past [] b, e) refl in
     rw (append_assoc s (b ∷ []) bytes) at (open-plain bytes (b ∷ past) (s ++ b ∷ []) plain.1 one)
 
--- plain bytes between STX and LF are heard as the stretch that they are
-signals-stretch :
+-- plain bytes between STX and LF are heard as the frame body that they are
+signals-body :
     (limit : ℕ) (past s : List ℕ) → AllPlain s → signals_after limit past (STX ∷ (s ++ LF ∷ []))
-    ≡ read_stretch limit s ∷ []
-unfolding signal_after open_stretch
-signals-stretch limit past s plain =
+    ≡ read_body limit s ∷ []
+unfolding signal_after open_body
+signals-body limit past s plain =
     let opened : look_back (stream_with (STX ∷ past) s) [] ≡ Some s = open-plain s (STX ∷ past) [] plain refl in
     signals_after-append limit s (LF ∷ []) (STX ∷ past)
     ∙ rw (signals-plain limit s (STX ∷ past) plain, opened) refl
@@ -107,7 +107,7 @@ plain_end false = record { no_start = refl; no_stop = refl; no_enquiry = refl; n
 -- the bytes of a frame between its STX and its LF
 inside_of : FrameContent → List ℕ
 inside_of frame =
-    stretch_of (number_byte frame.number) frame.text (end_byte frame.last) (upper_digit (checksum frame / 16))
+    body_of (number_byte frame.number) frame.text (end_byte frame.last) (upper_digit (checksum frame / 16))
     (upper_digit (checksum frame % 16)) CR
 
 frame_bytes-inside : (frame : FrameContent) → frame_bytes frame ≡ STX ∷ (inside_of frame ++ LF ∷ [])
@@ -141,7 +141,7 @@ signals-frame_bytes limit past frame content =
     let read = only limit (inside_of frame) frame is_frame in
     rw (
       frame_bytes-inside frame,
-      signals-stretch limit past (inside_of frame)
+      signals-body limit past (inside_of frame)
           (AllPlain-inside_of limit frame content),
       read.0,
     ) (ap (λ f. Good f ∷ []) (sym read.1))
@@ -172,50 +172,54 @@ AllPlain-unmarked (b ∷ bytes) = by (is_mark b) refl (AllPlain-unmarked bytes)
         let longer : 1 + unmarked_length bytes ≡ suc (unmarked_length bytes) = omega arith in
         rw longer (plain_unless_mark b e, later)
 
-stands-plain :
+represents-plain :
     (limit : ℕ) (held : Held) (run past : List ℕ) → AllPlain run → StandsFor limit held past →
     StandsFor limit (with_bytes limit held run) (stream_with past run)
 unfolding AllPlain
-stands-plain limit held [] past plain stands = stands
-stands-plain limit held (b ∷ run) past plain stands =
+represents-plain limit held [] past plain represents = represents
+represents-plain limit held (b ∷ run) past plain represents =
     let one : StandsFor limit (with_byte limit held b) (b ∷ past) =
-    rw (plain.0.no_start, plain.0.no_stop) at (stands_after limit held past b stands) in
-    stands-plain limit (with_byte limit held b) run (b ∷ past) plain.1 one
+    rw (plain.0.no_start, plain.0.no_stop) at (represents_after limit held past b represents) in
+    represents-plain limit (with_byte limit held b) run (b ∷ past) plain.1 one
 
 -- bytes up to the next mark give no signal, and are held as they are
 pub unmarked_run :
     (limit : ℕ) (held : Held) (bytes past : List ℕ) → StandsFor limit held past →
     (signals_after limit past (unmarked bytes) ≡ [])
     × StandsFor limit (with_bytes limit held (unmarked bytes)) (stream_with past (unmarked bytes))
-unmarked_run limit held bytes past stands =
-    let plain = AllPlain-unmarked bytes in
-    (signals-plain limit (unmarked bytes) past plain, stands-plain limit held (unmarked bytes) past plain stands)
+unmarked_run limit held bytes past represents =
+    let plain = AllPlain-unmarked bytes in (
+      signals-plain limit (unmarked bytes) past plain,
+      represents-plain limit held (unmarked bytes) past plain
+          represents,
+    )
 
 -- the same of bytes that a text may hold
 pub clean_run :
     (limit : ℕ) (held : Held) (run past : List ℕ) → StandsFor limit held past → first_forbidden run ≡ None →
     (signals_after limit past run ≡ []) × StandsFor limit (with_bytes limit held run) (stream_with past run)
 unfolding AllPlain
-clean_run limit held run past stands clean =
+clean_run limit held run past represents clean =
     let plain : AllPlain run = rw (append-nil run) at (AllPlain-text 0 run [] clean tt) in
-    (signals-plain limit run past plain, stands-plain limit held run past plain stands)
+    (signals-plain limit run past plain, represents-plain limit held run past plain represents)
 
--- bytes behind an STX, which begins a stretch
+-- bytes after an STX, which begins a frame body
 pub started_run :
-    (limit : ℕ) (held : Held) (behind past : List ℕ) → StandsFor limit held past →
-    (signals_after limit past (STX ∷ unmarked behind) ≡ [])
-    × StandsFor limit (with_bytes limit (held_after limit held STX) (unmarked behind))
-    (stream_with past (STX ∷ unmarked behind))
+    (limit : ℕ) (held : Held) (following past : List ℕ) → StandsFor limit held past →
+    (signals_after limit past (STX ∷ unmarked following) ≡ [])
+    × StandsFor limit (with_bytes limit (held_after limit held STX) (unmarked following))
+    (stream_with past (STX ∷ unmarked following))
 unfolding signal_after
-started_run limit held behind past stands = unmarked_run limit (held_after limit held STX) behind (STX ∷ past)
-    (stands_after limit held past STX stands)
+started_run limit held following past represents = unmarked_run limit (held_after limit held STX) following (STX ∷ past)
+    (represents_after limit held past STX represents)
 
-pub quiet_length-start : (behind : List ℕ) (n : ℕ) → n ≡ unmarked_length behind → n + 1 ≡ quiet_length (STX ∷ behind)
-quiet_length-start behind n e = rw e refl
+pub quiet_length-start : (following : List ℕ) (n : ℕ) → n ≡ unmarked_length following → n + 1
+    ≡ quiet_length (STX ∷ following)
+quiet_length-start following n e = rw e refl
 
-pub quiet_length-other : (b : ℕ) (behind : List ℕ) → (b == STX) ≡ false
-    → unmarked_length (b ∷ behind) ≡ quiet_length (b ∷ behind)
-quiet_length-other b behind other = rw other refl
+pub quiet_length-other : (b : ℕ) (following : List ℕ) → (b == STX) ≡ false
+    → unmarked_length (b ∷ following) ≡ quiet_length (b ∷ following)
+quiet_length-other b following other = rw other refl
 
 allowed_hex : (b value : ℕ) → digit_value b ≡ Some value → is_forbidden b ≡ false
 allowed_hex b value h = by (nat_le 48 b) refl
@@ -232,15 +236,15 @@ pub stream_with-last : (past xs : List ℕ) (b : ℕ) → stream_with past (xs +
 stream_with-last past [] b = refl
 stream_with-last past (x ∷ xs) b = stream_with-last (x ∷ past) xs b
 
--- the bytes of a frame, with digits in either case, are heard as it, and leave no stretch open
+-- the bytes of a frame, with digits in either case, are heard as it, and leave no frame body open
 pub heard_frame :
     (limit : ℕ) (past bytes : List ℕ) (frame : FrameContent) → IsFrame limit bytes frame →
     (signals_after limit past bytes ≡ Good frame ∷ []) × StandsFor limit outside (stream_with past bytes)
-unfolding AllPlain StandsFor open_stretch
+unfolding AllPlain StandsFor open_body
 heard_frame limit past bytes frame is_frame =
-    let s = stretch_of (number_byte frame.number) frame.text (end_byte frame.last) is_frame.high is_frame.low CR in
+    let s = body_of (number_byte frame.number) frame.text (end_byte frame.last) is_frame.high is_frame.low CR in
     let bytes_are : bytes ≡ STX ∷ (s ++ LF ∷ []) =
-    is_frame.spelling
+    is_frame.encoding
     ∙ ap (λ (xs : List ℕ). STX ∷ number_byte frame.number ∷ xs)
     (sym (append_assoc frame.text (end_byte frame.last ∷ is_frame.high ∷ is_frame.low ∷ CR ∷ []) (LF ∷ []))) in
     let same : IsFrame limit (STX ∷ (s ++ LF ∷ [])) frame =
@@ -259,6 +263,6 @@ heard_frame limit past bytes frame is_frame =
         ),
       ),
     ) in (
-      rw (bytes_are, signals-stretch limit past s plain, read.0) (ap (λ f. Good f ∷ []) (sym read.1)),
+      rw (bytes_are, signals-body limit past s plain, read.0) (ap (λ f. Good f ∷ []) (sym read.1)),
       rw (bytes_are, stream_with-last (STX ∷ past) s LF) refl,
     )

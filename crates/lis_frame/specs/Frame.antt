@@ -1,4 +1,4 @@
--- A frame: its parts, its checksum and its spelling (LIS01-A2, 6.3).
+-- A frame: its parts, its checksum and its encoding (LIS01-A2, 6.3).
 use Rattle.std.specs.Prelude.{◌≡◌, ℕ, ◌+◌, ◌*◌, ◌-◌, ◌/◌, ◌%◌, ◌≤◌, Bool, List, [], ◌∷◌, ◌++◌, Option, None, Some}
 use Rattle.std.specs.Prelude.{if◌then◌else◌, nat_lt, nat_le, ◌&&◌, sum}
 use Rattle.lis_text.specs.Control.{STX, ETX, ETB, CR, LF}
@@ -14,7 +14,7 @@ pub record FrameContent : Type 0 where
 abbrev pub number_byte : ℕ → ℕ
 number_byte number = 48 + number
 
--- the byte behind the text: ETX in the last frame of a message, ETB in the others
+-- the byte after the text: ETX in the last frame of a message, ETB in the others
 abbrev pub end_byte : Bool → ℕ
 end_byte last = if last then ETX else ETB
 
@@ -44,8 +44,8 @@ pub record IsContent (limit : ℕ) (frame : FrameContent) : Type 0 where
   pub is_text : IsText limit frame.text
 
 -- the bytes of a frame, by the digits of its checksum
-abbrev pub frame_spelling : FrameContent → ℕ → ℕ → List ℕ
-frame_spelling frame high low =
+abbrev pub frame_encoding : FrameContent → ℕ → ℕ → List ℕ
+frame_encoding frame high low =
     STX ∷ number_byte frame.number ∷ (frame.text ++ (end_byte frame.last ∷ high ∷ low ∷ CR ∷ LF ∷ []))
 
 -- the bytes are the frame's: STX, number, text, end byte, the checksum in two digits of either case, CR, LF
@@ -54,18 +54,18 @@ pub record IsFrame (limit : ℕ) (bytes : List ℕ) (frame : FrameContent) : Typ
   pub high : ℕ
   pub low : ℕ
   pub digits : IsDigits high low (checksum frame)
-  pub spelling : bytes ≡ frame_spelling frame high low
+  pub encoding : bytes ≡ frame_encoding frame high low
 
--- the bytes begin with the frame's, whatever stands behind them
+-- the bytes begin with the frame's, whatever is after them
 pub record BeginsWith (limit : ℕ) (bytes : List ℕ) (frame : FrameContent) : Type 0 where
   pub front : List ℕ
-  pub behind : List ℕ
+  pub following : List ℕ
   pub is_frame : IsFrame limit front frame
-  pub bytes_are : bytes ≡ front ++ behind
+  pub bytes_are : bytes ≡ front ++ following
 
 -- the bytes of a frame as they are written: its digits in upper case
 abbrev pub upper_digit : ℕ → ℕ
 upper_digit n = if nat_lt n 10 then 48 + n else 55 + n
 
 unfoldable pub frame_bytes : FrameContent → List ℕ
-frame_bytes frame = frame_spelling frame (upper_digit (checksum frame / 16)) (upper_digit (checksum frame % 16))
+frame_bytes frame = frame_encoding frame (upper_digit (checksum frame / 16)) (upper_digit (checksum frame % 16))

@@ -5,8 +5,8 @@ use Rattle.lis_frame.specs.Frame.{FrameContent, IsContent, IsFrame, frame_bytes}
 use Rattle.lis_frame.specs.Stream.{signal_after, signals_after, stream_with}
 
 -- a stream read in two parts gives the signals of the first part and then those of the second
-abbrev pub NoCutMatters : Type 0
-NoCutMatters =
+abbrev pub NoSplitMatters : Type 0
+NoSplitMatters =
     (limit : ℕ) (past xs ys : List ℕ) →
     signals_after limit past (xs ++ ys) ≡ signals_after limit past xs ++ signals_after limit (stream_with past xs) ys
 

@@ -18,7 +18,7 @@ pieces_from limit (suc full) text = record { bytes = take limit text; last = fal
 unfoldable pub pieces : ℕ → List ℕ → List Piece
 pieces limit text = pieces_from limit ((length text - 1) / limit) text
 
--- the number behind a number: 7 is followed by 0
+-- the number after a number: 7 is followed by 0
 abbrev pub next_number : ℕ → ℕ
 next_number number = (number + 1) % 8
 

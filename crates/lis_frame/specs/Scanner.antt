@@ -8,9 +8,9 @@ use Rattle.lis_frame.specs.declared.scanner.SignalOf.TheVariants.{Enq, Eot, Good
 use Rattle.lis_frame.specs.declared.scanner.Heard.{Heard}
 use Rattle.lis_frame.specs.declared.scanner.Heard.TheVariants as heards
 use Rattle.lis_frame.specs.Frame.{FrameContent, IsContent}
-use Rattle.lis_frame.specs.Stream.{is_mark, open_stretch}
+use Rattle.lis_frame.specs.Stream.{is_mark, open_body}
 
--- it stands outside a frame, in one within these bytes since STX, or in one beyond what any frame has
+-- it is outside a frame, in one within these bytes since STX, or in one beyond what any frame has
 pub data Held : Type 0 where
   outside : Held
   within : List ℕ → Held
@@ -19,22 +19,22 @@ pub data Held : Type 0 where
 -- no more bytes than so many are held
 abbrev pub HoldsAtMost : ℕ → Held → Type 0
 HoldsAtMost most outside = ⊤
-HoldsAtMost most (within stretch) = length stretch ≤ most
+HoldsAtMost most (within body) = length body ≤ most
 HoldsAtMost most beyond = ⊤
 
--- a stretch is held while a frame may have as many bytes
+-- a frame body is held while a frame may have as many bytes
 abbrev pub kept : ℕ → List ℕ → Held
-kept limit stretch = if nat_lt (limit + 5) (length stretch) then beyond else within stretch
+kept limit body = if nat_lt (limit + 5) (length body) then beyond else within body
 
 abbrev pub held_of : ℕ → Option (List ℕ) → Held
 held_of limit None = outside
-held_of limit (Some stretch) = kept limit stretch
+held_of limit (Some body) = kept limit body
 
 -- what is held is all that is to be known of the stream, newest byte first
 unfoldable pub StandsFor : ℕ → Held → List ℕ → Type 0
-StandsFor limit held past = held ≡ held_of limit (open_stretch past)
+StandsFor limit held past = held ≡ held_of limit (open_body past)
 
--- how many bytes stand before the next mark; and how many give no signal, where an STX that stands first is read too
+-- how many bytes are before the next mark; and how many give no signal, where an STX that is first is read too
 abbrev pub unmarked_length : List ℕ → ℕ
 unmarked_length bytes = prefix_len (λ b. not (is_mark b)) bytes
 
@@ -42,7 +42,7 @@ abbrev pub quiet_length : List ℕ → ℕ
 quiet_length [] = 0
 quiet_length (b ∷ bytes) = if b == STX then unmarked_length bytes + 1 else unmarked_length (b ∷ bytes)
 
--- the signal that is heard with a lent frame
+-- the signal that is heard with a borrowed frame
 abbrev pub heard_signal : {limit : ℕ} → Option Heard → Option (SignalOf limit)
 heard_signal None = None
 heard_signal (Some heards.Enq) = Some Enq
@@ -57,7 +57,7 @@ IsHeardWithin limit heards.Eot = ⊤
 IsHeardWithin limit (heards.Good frame) = IsContent limit frame
 IsHeardWithin limit (heards.Bad fault) = ⊤
 
--- the signals that a lent frame is
-abbrev pub lent_signals : {limit : ℕ} → Option FrameContent → List (SignalOf limit)
-lent_signals None = []
-lent_signals (Some frame) = Good frame ∷ []
+-- the signals that a borrowed frame is
+abbrev pub borrowed_signals : {limit : ℕ} → Option FrameContent → List (SignalOf limit)
+borrowed_signals None = []
+borrowed_signals (Some frame) = Good frame ∷ []

@@ -4,25 +4,25 @@ ghost use Rattle.std.specs.Prelude.{◌≡◌, ◌≤◌, ◌<◌, MatchOption};
 ghost use Rattle.lis_frame.specs.Frame.{IsContent};
 ghost use Rattle.lis_frame.specs.Limit.{IsLimit};
 
-use crate::lent::LentFrame;
+use crate::borrowed::BorrowedFrame;
 use crate::text::TextOf;
 use std::marker::Model;
 use thiserror::Error;
 
-/// Why the bytes between STX and LF are no frame; the first that stands, in this order, is told.
+/// Why the bytes between STX and LF are no frame; the first that is, in this order, is reported.
 #[derive(Debug, Clone, Copy, PartialEq, Eq, Error)]
 pub enum FrameFault {
     /// There are more bytes than a frame of the limit has.
     #[error("the frame is longer than its limit [F1]")]
     TooLong,
-    /// There are fewer than five bytes, the last isn't CR, or no ETB or ETX stands three before it.
+    /// There are fewer than five bytes, the last isn't CR, or no ETB or ETX is three before it.
     #[error("the frame has not the shape of one [F2]")]
     Shape,
     /// The first byte isn't a digit from 0 to 7.
     #[error("the frame's number is no digit from 0 to 7 [F3]")]
     Number,
     /// The byte of the text at this place, from 0, is the first that a text may not hold.
-    #[error("the byte at place {0} of the frame's text may not stand in a text [F4]")]
+    #[error("the byte at place {0} of the frame's text may not be in a text [F4]")]
     Text(usize),
     /// The two bytes before CR aren't hexadecimal digits of the checksum.
     #[error("the checksum is not that of the frame [F5]")]
@@ -76,9 +76,9 @@ impl<const N: usize> FrameOf<N> {
         FrameOf { number, last, text }
     }
 
-    /// The frame that is lent, with a text of its own. The frame is within the limit `N`, as each is that a
-    /// scanner of this limit tells.
-    pub fn from_lent(frame: &LentFrame<'_>) -> Self
+    /// The frame that is borrowed, with a text of its own. The frame is within the limit `N`, as each is that a
+    /// scanner of this limit reports.
+    pub fn from_borrowed(frame: &BorrowedFrame<'_>) -> Self
         requires limit { IsLimit N }
         requires content { IsContent N frame.now }
         ensures { result ≡ frame.now }

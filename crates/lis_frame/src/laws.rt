@@ -1,10 +1,10 @@
 //! Laws of frames and streams, each the contract of a function that does nothing.
 
-ghost use Rattle.lis_frame.specs.Laws.{NoCutMatters, FramesAreHeard, HeardAreFrames, WrittenAreFrames};
+ghost use Rattle.lis_frame.specs.Laws.{NoSplitMatters, FramesAreHeard, HeardAreFrames, WrittenAreFrames};
 
-/// However a stream is cut, its signals are those of its parts in turn.
-pub fn any_cut()
-    ensures { NoCutMatters }
+/// However a stream is split, its signals are those of its parts in turn.
+pub fn any_split()
+    ensures { NoSplitMatters }
 {}
 
 /// The bytes of a frame, its digits in either case, are heard as that frame alone, whatever came before them; those
@@ -14,7 +14,7 @@ pub fn frame_is_heard()
     ensures written { WrittenAreFrames }
 {}
 
-/// What is heard as a good frame was spelled: its bytes are the last that came.
+/// What is heard as a good frame was encoded: its bytes are the last that came.
 pub fn heard_is_a_frame()
     ensures { HeardAreFrames }
 {}

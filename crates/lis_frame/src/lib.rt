@@ -1,19 +1,19 @@
 //! Frames of the data link of LIS01-A2: what one is, how it is read from a stream and written.
 #![tactic(auto)]
 
+mod borrowed;
 mod frame;
+mod frame_body;
 pub mod laws;
-mod lent;
 mod read;
 mod scanner;
 mod split;
-mod stretch;
 mod text;
 mod write;
 
 pub use arrayvec::ArrayVec;
+pub use borrowed::BorrowedFrame;
 pub use frame::{Frame, FrameFault, FrameOf};
-pub use lent::LentFrame;
 pub use lis_text::{
     LONGEST_TEXT, LinkText, List, MOST_TEXTS, TextFault, TextRefused, Texts, check_text,
 };

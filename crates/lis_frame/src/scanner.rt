@@ -4,19 +4,19 @@ ghost use Rattle.std.specs.Prelude.{◌≡◌, ◌+◌, ◌≤◌, ℕ, List, []
 ghost use Rattle.lis_frame.specs.Frame.{BeginsWith, FrameContent, IsFrame};
 ghost use Rattle.lis_frame.specs.Limit.{IsLimit};
 ghost use Rattle.lis_frame.specs.Stream.{is_mark, signal_after, signals_after, stream_with};
-ghost use Rattle.lis_frame.specs.Scanner.{HoldsAtMost, IsHeardWithin, StandsFor, heard_signal, lent_signals};
+ghost use Rattle.lis_frame.specs.Scanner.{HoldsAtMost, IsHeardWithin, StandsFor, heard_signal, borrowed_signals};
 ghost use Rattle.lis_frame.specs.Scanner.{quiet_length, unmarked_length};
 ghost use Rattle.lis_frame.specs.inside.Scanner.{held_signal, held_after, with_bytes};
 
+use crate::borrowed::BorrowedFrame;
 use crate::frame::{FrameFault, FrameOf};
-use crate::lent::LentFrame;
+use crate::frame_body::FrameBodyOf;
 use crate::read::front_frame;
-use crate::stretch::StretchOf;
 use lis_text::{ByteSet, ENQ, EOT, LF, STX, first_in};
 use std::marker::Model;
 use std::simd::prelude::*;
 
-/// What a stream of link bytes tells: enquiry, end of transmission, a good frame, or a bad one.
+/// What a stream of link bytes reports: enquiry, end of transmission, a good frame, or a bad one.
 #[derive(Debug, PartialEq, Eq, Drop)]
 pub enum SignalOf<const N: usize> {
     /// ENQ.
@@ -33,8 +33,8 @@ pub enum SignalOf<const N: usize> {
 pub type Signal = SignalOf<240>;
 
 impl<const N: usize> SignalOf<N> {
-    /// The signal that is heard; a frame that is lent gets a text of its own. It is within the limit `N`, as
-    /// each is that a scanner of this limit tells.
+    /// The signal that is heard; a frame that is borrowed gets a text of its own. It is within the limit `N`, as
+    /// each is that a scanner of this limit reports.
     pub fn from_heard(heard: &Heard<'_>) -> Self
         requires limit { IsLimit N }
         requires content { IsHeardWithin N heard.now }
@@ -43,13 +43,13 @@ impl<const N: usize> SignalOf<N> {
         match heard {
             Heard::Enq => SignalOf::Enq,
             Heard::Eot => SignalOf::Eot,
-            Heard::Good(frame) => SignalOf::Good(FrameOf::from_lent(frame)),
+            Heard::Good(frame) => SignalOf::Good(FrameOf::from_borrowed(frame)),
             Heard::Bad(fault) => SignalOf::Bad(*fault),
         }
     }
 }
 
-/// The same, with a frame's text lent from the bytes that were read, or from what the scanner holds.
+/// The same, with a frame's text borrowed from the bytes that were read, or from what the scanner holds.
 #[derive(Debug, Drop)]
 pub enum Heard<'a> {
     /// ENQ.
@@ -57,12 +57,12 @@ pub enum Heard<'a> {
     /// EOT.
     Eot,
     /// A frame.
-    Good(LentFrame<'a>),
+    Good(BorrowedFrame<'a>),
     /// Bytes between STX and LF that are no frame, and why.
     Bad(FrameFault),
 }
 
-/// The bytes that a scanner looks at wherever they stand.
+/// The bytes that a scanner looks at wherever they are.
 struct Marks;
 
 impl ByteSet for Marks {
@@ -81,7 +81,7 @@ impl ByteSet for Marks {
     }
 }
 
-/// How many bytes stand before the next mark.
+/// How many bytes are before the next mark.
 fn until_mark(bytes: &[u8]) -> usize
     ensures length { result ≡ unmarked_length bytes.now }
     ensures bound { result ≤ length bytes.now }
@@ -92,12 +92,12 @@ fn until_mark(bytes: &[u8]) -> usize
     }
 }
 
-/// Reads a stream of link bytes, one byte or a run of them at a time. It holds at most `N + 5` bytes of a stretch, as
-/// many as a frame has between STX and LF, and never looks back; it refuses nothing.
+/// Reads a stream of link bytes, one byte or a run of them at a time. It holds at most `N + 5` bytes of a frame body,
+/// as many as a frame has between STX and LF, and never looks back; it rejects nothing.
 #[derive(Drop)]
 pub struct ScannerOf<const N: usize> {
     is_open: bool,
-    stretch: StretchOf<N>,
+    body: FrameBodyOf<N>,
 }
 
 impl<const N: usize> Model for ScannerOf<N> {
@@ -107,9 +107,9 @@ impl<const N: usize> Model for ScannerOf<N> {
 
     ghost Value = { Held };
 
-    ghost view = { λ s. if s.is_open then s.stretch else outside };
+    ghost view = { λ s. if s.is_open then s.body else outside };
 
-    ghost invariant = { λ s. IsLimit N × HoldsAtMost (N + 5) s.stretch };
+    ghost invariant = { λ s. IsLimit N × HoldsAtMost (N + 5) s.body };
 }
 
 /// A scanner with the usual limit.
@@ -123,31 +123,31 @@ impl<const N: usize> ScannerOf<N> {
     {
         ScannerOf {
             is_open: false,
-            stretch: StretchOf::new(),
+            body: FrameBodyOf::new(),
         }
     }
 
-    /// A scanner that stands for the same streams.
+    /// A scanner that represents the same streams.
     pub fn copy(&self) -> Self
         ensures { result ≡ self.now }
     {
         ScannerOf {
             is_open: self.is_open,
-            stretch: self.stretch.copy(),
+            body: self.body.copy(),
         }
     }
 
     /// Reads one byte and answers the signal that it gives, if it gives one: ENQ and EOT wherever
-    /// they stand, and LF by the stretch that it ends. STX begins a frame anew.
+    /// they are, and LF by the frame body that it ends. STX begins a frame anew.
     ///
-    /// Whatever stream the scanner stands for, newest byte first, the signal is that of the
-    /// definition, and afterwards the scanner stands for the longer stream.
+    /// Whatever stream the scanner represents, newest byte first, the signal is that of the
+    /// definition, and afterwards the scanner represents the longer stream.
     pub fn push(&mut self, byte: u8) -> Option<SignalOf<N>>
         ensures signal { (past : List ℕ) → StandsFor N self.old past → result ≡ signal_after N past byte }
         ensures after { (past : List ℕ) → StandsFor N self.old past → StandsFor N self.new (byte ∷ past) }
         ensures kept { HoldsAtMost (N + 5) self.new }
     {
-        let signal = match self.told(byte) {
+        let signal = match self.peek(byte) {
             None => None,
             Some(heard) => Some(SignalOf::from_heard(&heard)),
         };
@@ -155,15 +155,15 @@ impl<const N: usize> ScannerOf<N> {
         signal
     }
 
-    /// The signal that this byte gives where it comes next, if it gives one; a frame is lent from what the
-    /// scanner holds. With `take` behind it this is `push`, and no text is copied.
+    /// The signal that this byte gives where it comes next, if it gives one; a frame is borrowed from what the
+    /// scanner holds. With `take` after it this is `push`, and no text is copied.
     #[inline(always)]
-    pub fn told(&self, byte: u8) -> Option<Heard<'_>>
+    pub fn peek(&self, byte: u8) -> Option<Heard<'_>>
         ensures signal { (past : List ℕ) → StandsFor N self.now past → heard_signal result ≡ signal_after N past byte }
         ensures limit { IsLimit N }
         ensures content { IfSome result (IsHeardWithin N) }
     {
-        self.told_by_held(byte)
+        self.peek_held(byte)
     }
 
     /// Reads one byte, and leaves its signal untold.
@@ -175,27 +175,27 @@ impl<const N: usize> ScannerOf<N> {
         self.hold(byte);
     }
 
-    /// Reads bytes from the front: a whole good frame, which is lent, or else all bytes up to the next STX, EOT,
-    /// ENQ or LF, with an STX that stands first. Answers how many were read; where none was, the first byte is
-    /// to be read by itself, by `told` and `take`.
+    /// Reads bytes from the front: a whole good frame, which is borrowed, or else all bytes up to the next STX, EOT,
+    /// ENQ or LF, with an STX that is first. Answers how many were read; where none was, the first byte is
+    /// to be read by itself, by `reported` and `take`.
     ///
-    /// Whatever stream the scanner stands for, newest byte first, the bytes that were read give the
-    /// frame that is lent and no other signal, and afterwards the scanner stands for the stream with them.
+    /// Whatever stream the scanner represents, newest byte first, the bytes that were read give the
+    /// frame that is borrowed and no other signal, and afterwards the scanner represents the stream with them.
     #[inline(always)]
-    pub fn scan<'a>(&mut self, bytes: &'a [u8]) -> (usize, Option<LentFrame<'a>>)
+    pub fn scan<'a>(&mut self, bytes: &'a [u8]) -> (usize, Option<BorrowedFrame<'a>>)
         ensures bound { result.0 ≤ length bytes.now }
         ensures frame { IfSome result.1 (λ frame. IsFrame N (take result.0 bytes.now) frame) }
         ensures whole { (frame : FrameContent) → BeginsWith N bytes.now frame → result.1 ≡ Some frame }
         ensures run { IfNone result.1 (result.0 ≡ quiet_length bytes.now) }
         ensures signal { (past : List ℕ) → StandsFor N self.old past →
-            signals_after N past (take result.0 bytes.now) ≡ lent_signals result.1 }
+            signals_after N past (take result.0 bytes.now) ≡ borrowed_signals result.1 }
         ensures after { (past : List ℕ) → StandsFor N self.old past →
             StandsFor N self.new (stream_with past (take result.0 bytes.now)) }
         ensures kept { HoldsAtMost (N + 5) self.new }
     {
         // proof: what is held stays bounded where no byte is read too.
         let _is_open = self.is_open;
-        let Some((byte, behind)) = bytes.split_first() else {
+        let Some((byte, following)) = bytes.split_first() else {
             return (0, None);
         };
         if *byte != STX {
@@ -205,12 +205,12 @@ impl<const N: usize> ScannerOf<N> {
             }
             return (self.run_on(bytes), None);
         }
-        if let Some((frame, count)) = front_frame::<N>(behind) {
+        if let Some((frame, count)) = front_frame::<N>(following) {
             self.is_open = false;
             return (count + 1, Some(frame));
         }
         self.hold(STX);
-        (self.run_on(behind) + 1, None)
+        (self.run_on(following) + 1, None)
     }
 
     /// Reads bytes up to the next mark, and answers how many they are.
@@ -223,13 +223,13 @@ impl<const N: usize> ScannerOf<N> {
     {
         let count = until_mark(bytes);
         if self.is_open {
-            self.stretch.extend(bytes, count);
+            self.body.extend(bytes, count);
         }
         count
     }
 
     /// The signal of a byte, by what is held.
-    fn told_by_held(&self, byte: u8) -> Option<Heard<'_>>
+    fn peek_held(&self, byte: u8) -> Option<Heard<'_>>
         ensures signal { heard_signal result ≡ held_signal N self.now byte }
         ensures limit { IsLimit N }
         ensures content { IfSome result (IsHeardWithin N) }
@@ -237,7 +237,7 @@ impl<const N: usize> ScannerOf<N> {
         match byte {
             ENQ => Some(Heard::Enq),
             EOT => Some(Heard::Eot),
-            LF if self.is_open => match self.stretch.lent() {
+            LF if self.is_open => match self.body.borrowed() {
                 Ok(frame) => Some(Heard::Good(frame)),
                 Err(fault) => Some(Heard::Bad(fault)),
             },
@@ -251,7 +251,7 @@ impl<const N: usize> ScannerOf<N> {
     {
         match byte {
             STX => {
-                self.stretch.begin();
+                self.body.begin();
                 self.is_open = true;
             }
             ENQ | EOT | LF => self.is_open = false,

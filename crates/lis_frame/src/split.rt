@@ -18,7 +18,7 @@ pub type FramesOf<const N: usize> = List<FrameOf<N>>;
 /// Frames with the usual limit.
 pub type Frames = FramesOf<240>;
 
-/// The number behind a frame's number, which is 7 at most: 7 is followed by 0 (LIS01-A2, 6.3).
+/// The number after a frame's number, which is 7 at most: 7 is followed by 0 (LIS01-A2, 6.3).
 pub fn next_number(number: u8) -> u8
     requires { number ≤ 7 }
     ensures value { result ≡ (number + 1) % 8 }
@@ -71,7 +71,7 @@ pub fn split_at(text: &[u8], offset: usize, number: u8) -> Frame
     split_at_of(text, offset, number)
 }
 
-/// All frames of a text, the first of this number (LIS01-A2, 6.3). The error is want of memory.
+/// All frames of a text, the first of this number (LIS01-A2, 6.3). The error is a lack of memory.
 ///
 /// The text is a link text (`lis_text::check_text`), and the number 7 at most. `N` is a limit, from 240 to 63,993.
 pub fn split_all_of<const N: usize>(

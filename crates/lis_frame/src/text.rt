@@ -87,7 +87,7 @@ impl<const N: usize> Eq for TextOf<N> {
     ghost laws = { nat_list_eq_equiv };
 }
 
-/// Puts bytes behind those of a buffer that has room.
+/// Puts bytes after those of a buffer that has room.
 pub(crate) fn append<const B: usize>(buffer: &mut ArrayVec<u8, B>, bytes: &[u8])
     requires { array_vec_len buffer.old + length bytes.now ≤ B }
     ensures { buffer.new.items ≡ buffer.old.items ++ bytes.now }

@@ -56,7 +56,7 @@ pub fn put_frame<W: Sink, const N: usize>(sink: &mut W, frame: &FrameOf<N>) -> R
     Ok(())
 }
 
-/// What stands behind a frame's text: the end byte, the checksum in two upper-case digits, CR and LF.
+/// What is after a frame's text: the end byte, the checksum in two upper-case digits, CR and LF.
 fn tail<const N: usize>(frame: &FrameOf<N>) -> [u8; 5]
     ensures { result ≡ end_byte frame.now.last ∷ upper_digit (checksum frame.now / 16)
         ∷ upper_digit (checksum frame.now % 16) ∷ CR ∷ LF ∷ [] }
@@ -77,7 +77,7 @@ fn checksum<const N: usize>(frame: &FrameOf<N>) -> u8
         .wrapping_add(end)
 }
 
-/// The byte behind a frame's text.
+/// The byte after a frame's text.
 fn end_byte(last: bool) -> u8
     ensures { result ≡ end_byte last }
 {

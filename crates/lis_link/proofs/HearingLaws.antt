@@ -10,7 +10,7 @@ use Rattle.lis_frame.specs.declared.scanner.SignalOf.{SignalOf}
 use Rattle.lis_frame.specs.declared.scanner.SignalOf.TheVariants.{Enq, Eot, Good, Bad}
 use Rattle.lis_frame.specs.Frame.{FrameContent, IsFrame, number_byte, end_byte, digit_value}
 use Rattle.lis_frame.specs.Scanner.{Held, StandsFor, held_of}
-use Rattle.lis_frame.specs.Stream.{open_stretch, signal_after, signals_after, with_signal, stream_with}
+use Rattle.lis_frame.specs.Stream.{open_body, signal_after, signals_after, with_signal, stream_with}
 use Rattle.lis_text.specs.LinkText.{longest_text}
 use Rattle.lis_frame.proofs.StreamLaws.{signals_after-append, clean_run}
 use Rattle.lis_link.specs.declared.receiver.Hearing.{Hearing}
@@ -21,16 +21,17 @@ use Rattle.lis_link.specs.declared.receiver.Readiness.{Readiness}
 use Rattle.lis_link.specs.declared.receiver.Readiness.TheVariants.{Ready, Busy, Contending}
 use Rattle.lis_link.specs.declared.receiver.Step.{Step}
 use Rattle.lis_link.specs.Kept.{Kept, KeptLine, kept_of}
-use Rattle.lis_link.specs.Stands.{IsIn, Makes, RefusesFrame, SpareAfter}
-use Rattle.lis_link.specs.inside.Stands.{HearsFront}
-use Rattle.lis_link.specs.Receiver.{ReceiverState, ReceiverStep, ReceiverHearing, answers, bid_with, judged_by, judged}
-use Rattle.lis_link.specs.Receiver.{on_judged, held_text, most_frames, heard_by, heard, on_byte, on_bytes, heard_on}
+use Rattle.lis_link.specs.Representation.{IsIn, IsStepMade, RefusesFrame, SpareAfter}
+use Rattle.lis_link.specs.inside.Representation.{HearsFront}
+use Rattle.lis_link.specs.Receiver.{ReceiverState, ReceiverStep, ReceiverHearing, answers, answered_request}
+use Rattle.lis_link.specs.Receiver.{classified_by, classified}
+use Rattle.lis_link.specs.Receiver.{on_classified, held_text, most_frames, heard_by, heard, on_byte, on_bytes, heard_on}
 use Rattle.lis_link.specs.Receiver.{with_heard}
 
 -- what is found of a frame is never nothing
-judged_by-loud : (accepted held : ℕ) (room : Bool) (number bytes : ℕ)
-    → judged_by accepted held room number bytes ≢ Quiet
-judged_by-loud accepted held room number bytes =
+classified_by-loud : (accepted held : ℕ) (room : Bool) (number bytes : ℕ)
+    → classified_by accepted held room number bytes ≢ Quiet
+classified_by-loud accepted held room number bytes =
     by (nat_lt 0 accepted && number == accepted % 8) (not (number == (accepted + 1) % 8)) (not room)
     (accepted == most_frames) (nat_lt longest_text (held + bytes))
   where
@@ -49,29 +50,29 @@ judged_by-loud accepted held room number bytes =
     by false false false false true e = cc
     by false false false false false e = cc
 
-on_judged-note : (r : ReceiverState) (frame : FrameContent) (note : Note) → (on_judged r frame note).note ≡ note
-on_judged-note r frame (Accepted number) = refl
-on_judged-note r frame (Duplicate number) = refl
-on_judged-note r frame _ = refl
+on_classified-note : (r : ReceiverState) (frame : FrameContent) (note : Note) → (on_classified r frame note).note ≡ note
+on_classified-note r frame (Accepted number) = refl
+on_classified-note r frame (Duplicate number) = refl
+on_classified-note r frame _ = refl
 
-bid_with-quiet : (readiness : Readiness) (r : ReceiverState) → (bid_with readiness r).note ≡ Quiet
-    → bid_with readiness r ≡ answers None Quiet r
-bid_with-quiet Ready r e = cc
-bid_with-quiet Busy r e = cc
-bid_with-quiet Contending r e = cc
+answered_request-quiet : (readiness : Readiness) (r : ReceiverState) → (answered_request readiness r).note ≡ Quiet
+    → answered_request readiness r ≡ answers None Quiet r
+answered_request-quiet Ready r e = cc
+answered_request-quiet Busy r e = cc
+answered_request-quiet Contending r e = cc
 
 heard_by-quiet :
     {limit : ℕ} (is_open : Bool) (signal : SignalOf limit) (r : ReceiverState)
     → (heard_by is_open signal r).note ≡ Quiet →
     heard_by is_open signal r ≡ answers None Quiet r
-heard_by-quiet true Enq r e = bid_with-quiet r.readiness r e
+heard_by-quiet true Enq r e = answered_request-quiet r.readiness r e
 heard_by-quiet true Eot r e = cc
 heard_by-quiet true (Good frame) r e =
     absurd
-    (judged_by-loud (length r.accepted) (length (held_text r)) r.room frame.number (length frame.text)
-    (sym (on_judged-note r frame (judged r frame)) ∙ e))
+    (classified_by-loud (length r.accepted) (length (held_text r)) r.room frame.number (length frame.text)
+    (sym (on_classified-note r frame (classified r frame)) ∙ e))
 heard_by-quiet true (Bad fault) r e = cc
-heard_by-quiet false Enq r e = bid_with-quiet r.readiness r e
+heard_by-quiet false Enq r e = answered_request-quiet r.readiness r e
 heard_by-quiet false Eot r e = refl
 heard_by-quiet false (Good frame) r e = refl
 heard_by-quiet false (Bad fault) r e = refl
@@ -89,33 +90,33 @@ pub on_byte-quiet :
     → on_byte limit b r ≡ answers None Quiet (with_heard (b ∷ []) r)
 on_byte-quiet limit b r e = heard-quiet (signal_after limit r.past b) (with_heard (b ∷ []) r) e
 
--- so many quiet bytes, and those behind them
+-- so many quiet bytes, and those after them
 abbrev pub passed : ℕ → ReceiverHearing → ReceiverHearing
-passed count behind = record { count = count + behind.count; step = behind.step }
+passed count following = record { count = count + following.count; step = following.step }
 
-passed-none : (behind : ReceiverHearing) → behind ≡ passed 0 behind
-passed-none behind =
-    let none : behind.count ≡ 0 + behind.count = omega arith in
-    ap (λ (n : ℕ). record behind { count = n }) none
+passed-none : (following : ReceiverHearing) → following ≡ passed 0 following
+passed-none following =
+    let none : following.count ≡ 0 + following.count = omega arith in
+    ap (λ (n : ℕ). record following { count = n }) none
 
-passed-passed : (m n : ℕ) (behind : ReceiverHearing) → passed m (passed n behind) ≡ passed (m + n) behind
-passed-passed m n behind =
-    let sum : m + (n + behind.count) ≡ m + n + behind.count = omega arith in
-    ap (λ (k : ℕ). record behind { count = k }) sum
+passed-passed : (m n : ℕ) (following : ReceiverHearing) → passed m (passed n following) ≡ passed (m + n) following
+passed-passed m n following =
+    let sum : m + (n + following.count) ≡ m + n + following.count = omega arith in
+    ap (λ (k : ℕ). record following { count = k }) sum
 
 passed-heard_on :
-    (m n : ℕ) (note : Note) (step : ReceiverStep) (behind : ReceiverHearing) →
-    passed m (heard_on n note step behind) ≡ heard_on (m + n) note step behind
-passed-heard_on m n Quiet step behind = passed-passed m n behind
-passed-heard_on m n _ step behind = refl
+    (m n : ℕ) (note : Note) (step : ReceiverStep) (following : ReceiverHearing) →
+    passed m (heard_on n note step following) ≡ heard_on (m + n) note step following
+passed-heard_on m n Quiet step following = passed-passed m n following
+passed-heard_on m n _ step following = refl
 
 -- bytes that give no signal are quiet
 on_bytes-silent :
-    (limit : ℕ) (run behind : List ℕ) (r : ReceiverState) → signals_after limit r.past run ≡ [] →
-    on_bytes limit (run ++ behind) r ≡ passed (length run) (on_bytes limit behind (with_heard run r))
-on_bytes-silent limit [] behind r silent = passed-none (on_bytes limit behind r)
-on_bytes-silent limit (b ∷ run) behind r silent = by (signal_after limit r.past b) silent
-    (on_bytes-silent limit run behind (with_heard (b ∷ []) r))
+    (limit : ℕ) (run following : List ℕ) (r : ReceiverState) → signals_after limit r.past run ≡ [] →
+    on_bytes limit (run ++ following) r ≡ passed (length run) (on_bytes limit following (with_heard run r))
+on_bytes-silent limit [] following r silent = passed-none (on_bytes limit following r)
+on_bytes-silent limit (b ∷ run) following r silent = by (signal_after limit r.past b) silent
+    (on_bytes-silent limit run following (with_heard (b ∷ []) r))
   where
     next : ReceiverState
     next = with_heard (b ∷ []) r
@@ -124,26 +125,26 @@ on_bytes-silent limit (b ∷ run) behind r silent = by (signal_after limit r.pas
         (signal : Option (SignalOf limit)) →
         with_signal signal (signals_after limit (b ∷ r.past) run) ≡ [] →
         (signals_after limit (b ∷ r.past) run ≡ [] →
-        on_bytes limit (run ++ behind) (with_heard (b ∷ []) r)
-        ≡ passed (length run) (on_bytes limit behind (with_heard (b ∷ run) r))) →
+        on_bytes limit (run ++ following) (with_heard (b ∷ []) r)
+        ≡ passed (length run) (on_bytes limit following (with_heard (b ∷ run) r))) →
         heard_on 1 (heard signal (with_heard (b ∷ []) r)).note (heard signal (with_heard (b ∷ []) r))
-        (on_bytes limit (run ++ behind) (with_heard (b ∷ []) r))
-        ≡ passed (suc (length run)) (on_bytes limit behind (with_heard (b ∷ run) r))
+        (on_bytes limit (run ++ following) (with_heard (b ∷ []) r))
+        ≡ passed (suc (length run)) (on_bytes limit following (with_heard (b ∷ run) r))
     by None none later = ap (passed 1) (later none)
-        ∙ passed-passed 1 (length run) (on_bytes limit behind (with_heard (b ∷ run) r))
-        ∙ ap (λ n. passed n (on_bytes limit behind (with_heard (b ∷ run) r))) (omega arith)
+        ∙ passed-passed 1 (length run) (on_bytes limit following (with_heard (b ∷ run) r))
+        ∙ ap (λ n. passed n (on_bytes limit following (with_heard (b ∷ run) r))) (omega arith)
     by (Some signal) none later = absurd cc
 
--- and a byte behind them is answered as it is by itself
+-- and a byte after them is answered as it is by itself
 on_bytes-last :
-    (limit b : ℕ) (run behind : List ℕ) (r : ReceiverState) → signals_after limit r.past run ≡ [] →
-    on_bytes limit (run ++ b ∷ behind) r
+    (limit b : ℕ) (run following : List ℕ) (r : ReceiverState) → signals_after limit r.past run ≡ [] →
+    on_bytes limit (run ++ b ∷ following) r
     ≡ heard_on (length run + 1) (on_byte limit b (with_heard run r)).note (on_byte limit b (with_heard run r))
-    (on_bytes limit behind (with_heard (b ∷ []) (with_heard run r)))
-on_bytes-last limit b run behind r silent =
-    on_bytes-silent limit run (b ∷ behind) r silent
+    (on_bytes limit following (with_heard (b ∷ []) (with_heard run r)))
+on_bytes-last limit b run following r silent =
+    on_bytes-silent limit run (b ∷ following) r silent
     ∙ passed-heard_on (length run) 1 (on_byte limit b (with_heard run r)).note (on_byte limit b (with_heard run r))
-    (on_bytes limit behind (with_heard (b ∷ []) (with_heard run r)))
+    (on_bytes limit following (with_heard (b ∷ []) (with_heard run r)))
 
 pub stream_with-append : (xs ys past : List ℕ) → stream_with past (xs ++ ys) ≡ stream_with (stream_with past xs) ys
 stream_with-append [] ys past = refl
@@ -200,7 +201,7 @@ signals-before_feed limit past bytes frame is_frame =
       no_line_feed = grind (arith, nat_tests);
     }) in
     let text : signals_after limit start frame.text ≡ [] =
-    (clean_run limit (held_of limit (open_stretch start)) frame.text start refl is_frame.content.is_text.clean).0 in
+    (clean_run limit (held_of limit (open_body start)) frame.text start refl is_frame.content.is_text.clean).0 in
     let end : signal_after limit inside (end_byte frame.last) ≡ None =
     signal-silent limit (end_byte frame.last) inside (silent_end frame.last) in
     let high : signal_after limit (end_byte frame.last ∷ inside) is_frame.high ≡ None =
@@ -212,11 +213,11 @@ signals-before_feed limit past bytes frame is_frame =
     let close : signal_after limit (is_frame.low ∷ is_frame.high ∷ end_byte frame.last ∷ inside) CR ≡ None =
     signal-silent limit CR (is_frame.low ∷ is_frame.high ∷ end_byte frame.last ∷ inside)
     (record { no_enquiry = refl; no_ending = refl; no_line_feed = refl }) in
-    let behind : signals_after limit inside ending ≡ [] = rw (end, high, low, close) refl in
-    rw (stx, number) (signals_after-append limit frame.text ending start ∙ rw (text, behind) refl)
+    let following : signals_after limit inside ending ≡ [] = rw (end, high, low, close) refl in
+    rw (stx, number) (signals_after-append limit frame.text ending start ∙ rw (text, following) refl)
 
-one_signal : {limit : ℕ} (told : Option (SignalOf limit)) (signal : SignalOf limit)
-    → with_signal told [] ≡ signal ∷ [] → told ≡ Some signal
+one_signal : {limit : ℕ} (reported : Option (SignalOf limit)) (signal : SignalOf limit)
+    → with_signal reported [] ≡ signal ∷ [] → reported ≡ Some signal
 one_signal None signal e = absurd cc
 one_signal (Some other) signal e = cc
 
@@ -235,7 +236,7 @@ frame_ends limit past bytes frame is_frame signals =
     let before : List ℕ = before_feed frame is_frame.high is_frame.low in
     let ending : List ℕ = end_byte frame.last ∷ is_frame.high ∷ is_frame.low ∷ CR ∷ [] in
     let bytes_are : bytes ≡ before ++ LF ∷ [] =
-    is_frame.spelling
+    is_frame.encoding
     ∙ ap (λ (xs : List ℕ). STX ∷ number_byte frame.number ∷ xs) (sym (append_assoc frame.text ending (LF ∷ []))) in
     let silent : signals_after limit past before ≡ [] = signals-before_feed limit past bytes frame is_frame in
     let last : signals_after limit (stream_with past before) (LF ∷ []) ≡ Good frame ∷ [] =
@@ -250,13 +251,13 @@ frame_ends limit past bytes frame is_frame signals =
       heard_last = one_signal (signal_after limit (stream_with past before) LF) (Good frame) last;
     }
 
--- the line is the same beside a scanner that has read more
+-- the line is the same next to a scanner that has read more
 pub beside :
     (limit : ℕ) (line : KeptLine) (before scanner : Held) (kept : Kept) (r : ReceiverState) (bytes : List ℕ)
     → kept_of line before ≡ kept →
     IsIn limit kept r → StandsFor limit scanner (stream_with r.past bytes)
     → IsIn limit (kept_of line scanner) (with_heard bytes r)
-beside limit line before scanner kept r bytes same is_in stands =
+beside limit line before scanner kept r bytes same is_in represents =
     let here : IsIn limit (kept_of line before) r = subst (λ k. IsIn limit k r) (sym same) is_in in
     record {
       open_is = here.open_is;
@@ -264,19 +265,19 @@ beside limit line before scanner kept r bytes same is_in stands =
       readiness_is = here.readiness_is;
       room_is = here.room_is;
       held_is = here.held_is;
-      stream_is = stands;
+      stream_is = represents;
     }
 
 -- the front of bytes is one byte
 pub front_byte :
     (limit : ℕ) (bytes : List ℕ) (r : ReceiverState) (spare : ℕ) (result : Step) (new : Kept) → 0 < length bytes →
-    (result.note ≢ OutOfMemory → Makes limit (on_byte limit (get_or bytes 0 0) r) result new) →
+    (result.note ≢ OutOfMemory → IsStepMade limit (on_byte limit (get_or bytes 0 0) r) result new) →
     (result.note ≡ OutOfMemory → RefusesFrame limit spare (on_byte limit (get_or bytes 0 0) r)
     (with_heard (get_or bytes 0 0 ∷ []) r) result new) →
     SpareAfter spare new.spare (on_byte limit (get_or bytes 0 0) r).taken
     → HearsFront limit bytes r spare (record { count = 1; step = result }) new
 front_byte limit [] r spare result new some makes refused spare_after = absurd (omega arith)
-front_byte limit (b ∷ behind) r spare result new some makes refused spare_after = record {
+front_byte limit (b ∷ following) r spare result new some makes refused spare_after = record {
   meant = on_byte limit b r;
   goes_on = refl;
   quiet = on_byte-quiet limit b r;
@@ -321,7 +322,7 @@ pub front_frame :
     (new : Kept) →
     count ≤ length bytes → IsFrame limit (take count bytes) frame
     → signals_after limit r.past (take count bytes) ≡ Good frame ∷ [] →
-    (result.note ≢ OutOfMemory → Makes limit (heard_by {limit = limit} r.is_open (Good frame)
+    (result.note ≢ OutOfMemory → IsStepMade limit (heard_by {limit = limit} r.is_open (Good frame)
     (with_heard (take count bytes) r)) result new) →
     (result.note ≡ OutOfMemory →
     RefusesFrame limit spare (heard_by {limit = limit} r.is_open (Good frame) (with_heard (take count bytes) r))
@@ -331,7 +332,7 @@ pub front_frame :
     HearsFront limit bytes r spare (record { count = count; step = result }) new
 front_frame limit count bytes frame r spare result new bound is_frame signals makes refused spare_after =
     let ends = frame_ends limit r.past (take count bytes) frame is_frame signals in
-    let behind : List ℕ = drop count bytes in
+    let following : List ℕ = drop count bytes in
     let last : ReceiverState = with_heard (LF ∷ []) (with_heard ends.before r) in
     let next : ReceiverState = with_heard (take count bytes) r in
     let past_is : stream_with r.past (take count bytes) ≡ LF ∷ stream_with r.past ends.before =
@@ -346,15 +347,15 @@ front_frame limit count bytes frame r spare result new bound is_frame signals ma
       meant = heard_by {limit = limit} r.is_open (Good frame) next;
       goes_on =
           ap (λ xs. on_bytes limit xs r)
-          (sym (take-append-drop count bytes) ∙ ap (λ xs. xs ++ behind) ends.bytes_are
-          ∙ append_assoc ends.before (LF ∷ []) behind)
-          ∙ on_bytes-last limit LF ends.before behind r ends.silent
+          (sym (take-append-drop count bytes) ∙ ap (λ xs. xs ++ following) ends.bytes_are
+          ∙ append_assoc ends.before (LF ∷ []) following)
+          ∙ on_bytes-last limit LF ends.before following r ends.silent
           ∙ ap (λ n. heard_on n (on_byte limit LF (with_heard ends.before r)).note
-          (on_byte limit LF (with_heard ends.before r)) (on_bytes limit behind last)) count_is
-          ∙ ap (λ (s : ReceiverStep). heard_on count s.note s (on_bytes limit behind last)) step_is
+          (on_byte limit LF (with_heard ends.before r)) (on_bytes limit following last)) count_is
+          ∙ ap (λ (s : ReceiverStep). heard_on count s.note s (on_bytes limit following last)) step_is
           ∙ ap
           (λ (s : ReceiverState). heard_on count (heard_by {limit = limit} r.is_open (Good frame) next).note
-          (heard_by {limit = limit} r.is_open (Good frame) next) (on_bytes limit behind s))
+          (heard_by {limit = limit} r.is_open (Good frame) next) (on_bytes limit following s))
           state_is;
       quiet = heard_by-quiet r.is_open (Good frame) next;
       makes = makes;
@@ -425,16 +426,16 @@ module _ (limit : ℕ) (bytes : List ℕ) (r : ReceiverState) (spare count : ℕ
       }
 
 heard_on-loud :
-    (count : ℕ) (note : Note) (step : ReceiverStep) (behind : ReceiverHearing) → note ≢ Quiet →
-    heard_on count note step behind ≡ record { count = count; step = step }
-heard_on-loud count Quiet step behind loud = absurd (loud refl)
-heard_on-loud count _ step behind loud = refl
+    (count : ℕ) (note : Note) (step : ReceiverStep) (following : ReceiverHearing) → note ≢ Quiet →
+    heard_on count note step following ≡ record { count = count; step = step }
+heard_on-loud count Quiet step following loud = absurd (loud refl)
+heard_on-loud count _ step following loud = refl
 
 -- the answer to bytes is that of the definition
 pub record IsHeard (limit : ℕ) (bytes : List ℕ) (r : ReceiverState) (spare : ℕ) (hearing : Hearing) (new : Kept) :
     Type 0 where
   pub count_is : hearing.count ≡ (on_bytes limit bytes r).count
-  pub makes : hearing.step.note ≢ OutOfMemory → Makes limit (on_bytes limit bytes r).step hearing.step new
+  pub makes : hearing.step.note ≢ OutOfMemory → IsStepMade limit (on_bytes limit bytes r).step hearing.step new
   pub refused :
       hearing.step.note ≡ OutOfMemory → RefusesFrame limit spare (on_bytes limit bytes r).step
       (with_heard (take hearing.count bytes) r) hearing.step new
@@ -477,7 +478,8 @@ hears_last limit bytes r spare count kept more new hearing front loud =
     ∙ heard_on-loud (count + more.count) front.meant.note front.meant _ meant_loud in
     record {
       count_is = sym (ap (λ (h : ReceiverHearing). h.count) all);
-      makes = λ fine. subst (λ (h : ReceiverHearing). Makes limit h.step more.step new) (sym all) (front.makes fine);
+      makes = λ fine. subst (λ (h : ReceiverHearing). IsStepMade limit h.step more.step new) (sym all)
+          (front.makes fine);
       refused = λ oom.
           subst (λ (h : ReceiverHearing). RefusesFrame limit spare h.step
           (with_heard (take (count + more.count) bytes) r) more.step new) (sym all)

@@ -1,4 +1,4 @@
--- Joining, a list of frames at a time, and joining the frames that a session's texts were cut into.
+-- Joining, a list of frames at a time, and joining the frames that a session's texts were split into.
 use Rattle.std.proofs.Common.{◌≡◌, ℕ, zero, suc, ◌-◌, ◌/◌, List, [], ◌∷◌, ◌++◌, take, drop, length, refl, sym, ap, ◌∙◌}
 use Rattle.std.proofs.Common.{append_assoc}
 use Rattle.std.specs.Option.{option_to_list}

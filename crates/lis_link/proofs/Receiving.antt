@@ -8,9 +8,10 @@ use Rattle.lis_link.specs.declared.receiver.Step.{Step}
 use Rattle.lis_link.specs.Joining.{held_with, completed}
 use Rattle.lis_frame.specs.Scanner.{Held}
 use Rattle.lis_link.specs.Kept.{KeptLine, kept_of}
-use Rattle.lis_link.specs.Receiver.{ReceiverState, judged_by, judged, on_judged, heard_by, held_text, held_while}
-use Rattle.lis_link.specs.Stands.{IsIn, Makes}
-use Rattle.lis_link.specs.inside.Stands.{IsTaken}
+use Rattle.lis_link.specs.Receiver.{ReceiverState, classified_by, classified, on_classified, heard_by, held_text}
+use Rattle.lis_link.specs.Receiver.{held_while}
+use Rattle.lis_link.specs.Representation.{IsIn, IsStepMade}
+use Rattle.lis_link.specs.inside.Representation.{IsTaken}
 use Rattle.lis_link.proofs.JoiningLaws.{rest-append}
 
 taken_step :
@@ -18,7 +19,7 @@ taken_step :
     → IsIn limit (kept_of old scanner) r
     → r.is_open ≡ true
     → IsTaken old f n result new
-    → Makes limit (on_judged r f (Accepted n)) result (kept_of new scanner)
+    → IsStepMade limit (on_classified r f (Accepted n)) result (kept_of new scanner)
 taken_step limit scanner old new r f n result is_in open_is taken =
     let held : old.held ≡ held_text r = is_in.held_is ∙ ap (λ o. held_while o (held_text r)) open_is in
     record {
@@ -45,18 +46,18 @@ pub accepted_step :
     (limit : ℕ) (scanner : Held) (old new : KeptLine) (r : ReceiverState) (f : FrameContent) (n : ℕ) (result : Step)
     → IsIn limit (kept_of old scanner) r
     → old.is_open ≡ true
-    → Accepted n ≡ judged_by old.accepted (length old.held) old.room f.number (length f.text)
+    → Accepted n ≡ classified_by old.accepted (length old.held) old.room f.number (length f.text)
     → IsTaken old f n result new
-    → Makes limit (heard_by {limit = limit} r.is_open (Good f) r) result (kept_of new scanner)
+    → IsStepMade limit (heard_by {limit = limit} r.is_open (Good f) r) result (kept_of new scanner)
 accepted_step limit scanner old new r f n result is_in is_open found taken =
     let open_is : r.is_open ≡ true = sym is_in.open_is ∙ is_open in
     let held : length old.held ≡ length (held_text r) =
     ap length (is_in.held_is ∙ ap (λ o. held_while o (held_text r)) open_is) in
-    let found_is : Accepted n ≡ judged r f =
+    let found_is : Accepted n ≡ classified r f =
     found
-    ∙ ap (λ a. judged_by a (length old.held) old.room f.number (length f.text)) is_in.accepted_is
-    ∙ ap (λ h. judged_by (length r.accepted) h old.room f.number (length f.text)) held
-    ∙ ap (λ m. judged_by (length r.accepted) (length (held_text r)) m f.number (length f.text)) is_in.room_is in
+    ∙ ap (λ a. classified_by a (length old.held) old.room f.number (length f.text)) is_in.accepted_is
+    ∙ ap (λ h. classified_by (length r.accepted) h old.room f.number (length f.text)) held
+    ∙ ap (λ m. classified_by (length r.accepted) (length (held_text r)) m f.number (length f.text)) is_in.room_is in
     let step = taken_step limit scanner old new r f n result is_in open_is taken in
-    subst (λ o. Makes limit (heard_by {limit = limit} o (Good f) r) result (kept_of new scanner)) (sym open_is)
-    (subst (λ note. Makes limit (on_judged r f note) result (kept_of new scanner)) found_is step)
+    subst (λ o. IsStepMade limit (heard_by {limit = limit} o (Good f) r) result (kept_of new scanner)) (sym open_is)
+    (subst (λ note. IsStepMade limit (on_classified r f note) result (kept_of new scanner)) found_is step)

@@ -23,7 +23,7 @@ pub started_sender :
     → IsSender limit (Some queue) 0 AwaitLine 0
 started_sender limit queue texts is_limit faultless few texts_are left_is = record {
   is_limit = is_limit;
-  stands = left_is ∙ ap (session_frames limit) (sym texts_are);
+  represents = left_is ∙ ap (session_frames limit) (sym texts_are);
   few = subst (λ ts. length (session_frames limit ts) < 4294967295) (sym texts_are)
       (few-session_frames limit texts is_limit (texts-faultless texts faultless) few);
   fits = refl;
@@ -44,8 +44,8 @@ advanced_sender limit queue next acknowledged phase tries h below texts_are left
     let few = h.few in
     record {
       is_limit = h.is_limit;
-      stands =
-          left_is ∙ ap (drop 1) h.stands ∙ drop-drop 1 acknowledged frames
+      represents =
+          left_is ∙ ap (drop 1) h.represents ∙ drop-drop 1 acknowledged frames
           ∙ ap (λ ts. drop (acknowledged + 1) (session_frames limit ts)) (sym texts_are);
       few = omega arith;
       fits = tt;

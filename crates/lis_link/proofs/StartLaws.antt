@@ -1,4 +1,4 @@
--- What a start that is not refused tells of the texts.
+-- What a start that is not rejected says about the texts.
 use Rattle.std.proofs.Common.{◌≡◌, ℕ, ◌+◌, List, [], ◌∷◌, Option, None, Some, refl, drop, add-one}
 use Rattle.std.specs.Prelude.{All, slice_get}
 use Rattle.std.proofs.lemmas.List.Elements.{All-nil, All-cons, All-weaker}
@@ -32,7 +32,7 @@ faultless-bad_text index (text ∷ texts) e = go (text_fault longest_text text) 
     go None is none later = All-cons Faultless text texts is (later none)
     go (Some fault) is none later = absurd (cc)
 
--- the text at a place is the first bad one from there on, or the search goes on behind it
+-- the text at a place is the first bad one from there on, or the search goes on after it
 pub bad_text_here :
     (texts : List (List ℕ)) (index : ℕ) (text : List ℕ) (fault : TextFault)
     → slice_get texts index ≡ Some text
@@ -40,12 +40,12 @@ pub bad_text_here :
     → bad_text index (drop index texts) ≡ Some (BadText index fault)
 bad_text_here texts index text fault at is = rw (drop-at texts index text at, is) refl
 
-pub bad_text_behind :
+pub bad_text_after :
     (texts : List (List ℕ)) (index : ℕ) (text : List ℕ)
     → slice_get texts index ≡ Some text
     → text_fault longest_text text ≡ None
     → bad_text (index + 1) (drop (index + 1) texts) ≡ bad_text index (drop index texts)
-bad_text_behind texts index text at none = rw (drop-at texts index text at, none, add-one index) refl
+bad_text_after texts index text at none = rw (drop-at texts index text at, none, add-one index) refl
 
 pub faultless-start : (p : Phase) (texts : List (List ℕ)) → start_fault_in p texts ≡ None → All Faultless texts
 faultless-start Neutral [] none = absurd (cc)

@@ -4,7 +4,7 @@ use Rattle.std.specs.Prelude.{ℕ, Bool, true, false, List, [], ◌∷◌, ◌++
 use Rattle.std.specs.Option.{option_to_list}
 use Rattle.lis_frame.specs.Frame.{FrameContent}
 
--- a frame's text behind the held text: it is held on, or a whole text
+-- a frame's text after the held text: it is held on, or a whole text
 abbrev pub held_by_end : Bool → List ℕ → List ℕ
 held_by_end true joined = []
 held_by_end false joined = joined

@@ -6,5 +6,5 @@ pub mod Receiver
 pub mod Laws
 pub mod Kept
 pub mod Queue
-pub mod Stands
+pub mod Representation
 pub mod inside

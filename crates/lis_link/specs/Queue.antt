@@ -15,10 +15,10 @@ abbrev pub frames_of : ℕ → Option Queue → List FrameContent
 frames_of limit None = []
 frames_of limit (Some queue) = session_frames limit queue.texts
 
--- the queue stands behind the acknowledged frames
-abbrev pub StandsBehind : ℕ → Option Queue → ℕ → Type 0
-StandsBehind limit None acknowledged = Unit {0}
-StandsBehind limit (Some queue) acknowledged = queue.left ≡ drop acknowledged (session_frames limit queue.texts)
+-- the queue is after the acknowledged frames
+abbrev pub IsQueueAfter : ℕ → Option Queue → ℕ → Type 0
+IsQueueAfter limit None acknowledged = Unit {0}
+IsQueueAfter limit (Some queue) acknowledged = queue.left ≡ drop acknowledged (session_frames limit queue.texts)
 
 -- how many frames may be acknowledged, by phases
 abbrev pub PhaseFits : Phase → ℕ → ℕ → Type 0
@@ -31,7 +31,7 @@ PhaseFits AwaitReply acknowledged frames = acknowledged < frames
 -- what holds of each sender
 pub record IsSender (limit : ℕ) (queue : Option Queue) (acknowledged : ℕ) (phase : Phase) (tries : ℕ) : Type 0 where
   pub is_limit : IsLimit limit
-  pub stands : StandsBehind limit queue acknowledged
+  pub represents : IsQueueAfter limit queue acknowledged
   pub few : length (frames_of limit queue) < 4294967295
   pub fits : PhaseFits phase acknowledged (length (frames_of limit queue))
   pub few_tries : tries ≤ 6

@@ -23,7 +23,7 @@ pub record ReceiverState : Type 0 where
   pub room : Bool
   pub past : List ℕ
 
--- a step: the reply, the text handed out, the note, the frame taken, and the state after it
+-- a step: the reply, the text delivered, the note, the frame taken, and the state after it
 pub record ReceiverStep : Type 0 where
   pub reply : Option ℕ
   pub message : Option (List ℕ)
@@ -53,15 +53,15 @@ abbrev pub most_frames : ℕ
 most_frames = 4294967295
 
 -- an ENQ is answered by the readiness, in whatever state
-abbrev pub bid_with : Readiness → ReceiverState → ReceiverStep
-bid_with Ready r = answers (Some ACK) Opened (record r { is_open = true; accepted = [] })
-bid_with Busy r = answers (Some NAK) NotReady (record r { is_open = false })
-bid_with Contending r = answers (Some ENQ) NotReady (record r { is_open = false; readiness = Ready })
+abbrev pub answered_request : Readiness → ReceiverState → ReceiverStep
+answered_request Ready r = answers (Some ACK) Opened (record r { is_open = true; accepted = [] })
+answered_request Busy r = answers (Some NAK) NotReady (record r { is_open = false })
+answered_request Contending r = answers (Some ENQ) NotReady (record r { is_open = false; readiness = Ready })
 
 -- what is found of a good frame while the line is open, by the numbers of accepted frames and held bytes,
 -- the room, and the frame's number and length: the first line of the table that fits
-abbrev pub judged_by : ℕ → ℕ → Bool → ℕ → ℕ → Note
-judged_by accepted held room number bytes =
+abbrev pub classified_by : ℕ → ℕ → Bool → ℕ → ℕ → Note
+classified_by accepted held room number bytes =
     if nat_lt 0 accepted && number == accepted % 8 then Duplicate number
     else if not (number == (accepted + 1) % 8) then OutOfTurn number
     else if not room then NoRoom
@@ -69,12 +69,12 @@ judged_by accepted held room number bytes =
     else if nat_lt longest_text (held + bytes) then TooLong
     else Accepted number
 
-abbrev pub judged : ReceiverState → FrameContent → Note
-judged r frame = judged_by (length r.accepted) (length (held_text r)) r.room frame.number (length frame.text)
+abbrev pub classified : ReceiverState → FrameContent → Note
+classified r frame = classified_by (length r.accepted) (length (held_text r)) r.room frame.number (length frame.text)
 
--- the step by what was found: an accepted frame is taken, a repeated one acknowledged, any other refused
-abbrev pub on_judged : ReceiverState → FrameContent → Note → ReceiverStep
-on_judged r frame (Accepted number) =
+-- the step by what was found: an accepted frame is taken, a repeated one acknowledged, any other rejected
+abbrev pub on_classified : ReceiverState → FrameContent → Note → ReceiverStep
+on_classified r frame (Accepted number) =
     record {
       reply = Some ACK;
       message = completed (held_text r) frame;
@@ -82,19 +82,19 @@ on_judged r frame (Accepted number) =
       taken = Some frame;
       after = record r { accepted = r.accepted ++ frame ∷ [] };
     }
-on_judged r frame (Duplicate number) = answers (Some ACK) (Duplicate number) r
-on_judged r frame note = answers (Some NAK) note r
+on_classified r frame (Duplicate number) = answers (Some ACK) (Duplicate number) r
+on_classified r frame note = answers (Some NAK) note r
 
 -- a signal that is no ENQ, while the line is open
 abbrev pub heard_open : {limit : ℕ} → SignalOf limit → ReceiverState → ReceiverStep
-heard_open Enq r = bid_with r.readiness r
+heard_open Enq r = answered_request r.readiness r
 heard_open Eot r = answers None Ended (record r { is_open = false })
-heard_open (Good frame) r = on_judged r frame (judged r frame)
+heard_open (Good frame) r = on_classified r frame (classified r frame)
 heard_open (Bad fault) r = answers (Some NAK) (Refused fault) r
 
 -- while it isn't
 abbrev pub heard_neutral : {limit : ℕ} → SignalOf limit → ReceiverState → ReceiverStep
-heard_neutral Enq r = bid_with r.readiness r
+heard_neutral Enq r = answered_request r.readiness r
 heard_neutral Eot r = answers None Quiet r
 heard_neutral (Good frame) r = answers None Quiet r
 heard_neutral (Bad fault) r = answers None Quiet r
@@ -120,10 +120,10 @@ pub record ReceiverHearing : Type 0 where
   pub count : ℕ
   pub step : ReceiverStep
 
--- so many bytes were heard, the last of them with this step: where it is quiet it goes on with those behind them
+-- so many bytes were heard, the last of them with this step: where it is quiet it goes on with those after them
 abbrev pub heard_on : ℕ → Note → ReceiverStep → ReceiverHearing → ReceiverHearing
-heard_on count Quiet step behind = record { count = count + behind.count; step = behind.step }
-heard_on count note step behind = record { count = count; step = step }
+heard_on count Quiet step following = record { count = count + following.count; step = following.step }
+heard_on count note step following = record { count = count; step = step }
 
 -- bytes are heard up to the first that is not quiet, and all of them where each is quiet
 abbrev pub on_bytes : ℕ → List ℕ → ReceiverState → ReceiverHearing

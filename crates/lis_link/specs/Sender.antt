@@ -15,8 +15,8 @@ use Rattle.lis_link.specs.declared.sender.StartFault.TheVariants.{InSession, NoT
 use Rattle.lis_link.specs.declared.sender.EmitOf.{EmitOf}
 use Rattle.lis_link.specs.declared.sender.EmitOf.TheVariants.{Nothing, Enq, Eot, Nak, Frame}
 
--- a sender: the frames of its session, none once it is over; how many of them are, or were, acknowledged; the phase;
--- how often the present frame was sent, and how the last session ended
+-- a sender: the frames of its session, none once it is finished; how many of them are, or were, acknowledged; the
+-- phase; how often the present frame was sent, and how the last session ended
 pub record SenderState : Type 0 where
   pub frames : List FrameContent
   pub acknowledged : ℕ
@@ -56,13 +56,13 @@ awaited_in AwaitReply s = first_frame (drop s.acknowledged s.frames)
 abbrev pub awaited : SenderState → Option FrameContent
 awaited s = awaited_in s.phase s
 
--- the session is over: nothing of its texts is kept
-abbrev pub over : Outcome → SenderState → SenderState
-over outcome s = record s { frames = []; phase = Neutral; outcome = Some outcome }
+-- the session is finished: nothing of its texts is kept
+abbrev pub finished_with : Outcome → SenderState → SenderState
+finished_with outcome s = record s { frames = []; phase = Neutral; outcome = Some outcome }
 
 -- it ends with EOT
 abbrev pub ends : {limit : ℕ} → Outcome → SenderState → SenderStep limit
-ends outcome s = gives Eot (over outcome s)
+ends outcome s = gives Eot (finished_with outcome s)
 
 -- the first of the frames that are left is sent for the first time; where none is left, the session is done
 abbrev pub sends_first : {limit : ℕ} → List FrameContent → SenderState → SenderStep limit
@@ -108,10 +108,10 @@ on_sender_timer s = timer_in s.phase s
 -- the sender is restarted, by phases
 abbrev pub restart_in : Phase → SenderState → SenderState
 restart_in Neutral s = s
-restart_in AwaitLine s = over Restarted s
-restart_in Busy s = over Restarted s
-restart_in Contention s = over Restarted s
-restart_in AwaitReply s = over Restarted s
+restart_in AwaitLine s = finished_with Restarted s
+restart_in Busy s = finished_with Restarted s
+restart_in Contention s = finished_with Restarted s
+restart_in AwaitReply s = finished_with Restarted s
 
 abbrev pub sender_restarted : SenderState → SenderState
 sender_restarted s = restart_in s.phase s
@@ -136,11 +136,11 @@ start_fault_in Busy texts = Some InSession
 start_fault_in Contention texts = Some InSession
 start_fault_in AwaitReply texts = Some InSession
 
--- why a start is refused, if it is
+-- why a start is rejected, if it is
 abbrev pub start_fault : SenderState → List (List ℕ) → Option StartFault
 start_fault s texts = start_fault_in s.phase texts
 
--- the sender after a start that is not refused; ENQ goes on the link
+-- the sender after a start that is not rejected; ENQ goes on the link
 abbrev pub started : ℕ → List (List ℕ) → SenderState
 started limit texts =
     record { frames = session_frames limit texts; acknowledged = 0; phase = AwaitLine; tries = 0; outcome = None }

@@ -2,4 +2,4 @@
 pub mod Kept
 pub mod Queue
 pub mod Receiver
-pub mod Stands
+pub mod Representation

@@ -5,7 +5,7 @@ pub mod laws;
 mod queue;
 mod receiver;
 mod sender;
-mod texts;
+mod session_texts;
 
 pub use lis_frame::{FrameFault, FrameOf, ScannerOf};
 pub use lis_text::{LinkText, TextFault, Texts};
@@ -16,4 +16,4 @@ pub use sender::{
     BUSY_SECONDS, BorrowingSender, BorrowingSenderOf, CONTENTION_SECONDS, Emit, EmitOf, Outcome,
     Phase, REPLY_SECONDS, Sender, SenderOf, SenderOver, StartFault, StartRefused, StartRefusedOf,
 };
-pub use texts::{BorrowedTexts, SessionTexts};
+pub use session_texts::{BorrowedTexts, SessionTexts};

@@ -6,11 +6,11 @@ ghost use Rattle.lis_text.specs.LinkText.{longest_text};
 ghost use Rattle.lis_text.specs.Text.{text_fault};
 ghost use Rattle.lis_frame.specs.Pieces.{session_frames};
 
-use crate::texts::SessionTexts;
+use crate::session_texts::SessionTexts;
 use lis_frame::{FrameOf, next_number, split_at_of};
 use std::marker::Model;
 
-/// The texts of a session, and where its present frame stands: the text, the offset in it, and the
+/// The texts of a session, and where its present frame is: the text, the offset in it, and the
 /// number that is due.
 #[derive(Drop)]
 pub(crate) struct QueueOf<const N: usize, T: SessionTexts> {

@@ -7,10 +7,10 @@ ghost use Rattle.lis_frame.specs.Scanner.{StandsFor};
 ghost use Rattle.lis_link.specs.Receiver.{ReceiverState, new_receiver, on_byte, on_bytes, on_receiver_timer};
 ghost use Rattle.lis_link.specs.Receiver.{receiver_restarted, with_heard, with_readiness, with_room};
 ghost use Rattle.lis_link.specs.declared.receiver.Note.TheVariants as Notes;
-ghost use Rattle.lis_link.specs.Stands.{IsIn, Makes, RefusesFrame, SpareAfter, KeepsRoom, room_of};
-ghost use Rattle.lis_link.specs.inside.Stands.{HearsFront};
+ghost use Rattle.lis_link.specs.Representation.{IsIn, IsStepMade, RefusesFrame, SpareAfter, KeepsRoom, room_of};
+ghost use Rattle.lis_link.specs.inside.Representation.{HearsFront};
 
-use crate::receiver::line::Line;
+use crate::receiver::line::LineState;
 use lis_frame::{FrameFault, ScannerOf};
 use lis_text::LinkText;
 use std::alloc::{AllocError, Global};
@@ -37,7 +37,7 @@ pub enum Note {
     Quiet,
     /// ENQ opened the line.
     Opened,
-    /// ENQ was refused.
+    /// ENQ was rejected.
     NotReady,
     /// EOT ended the session.
     Ended,
@@ -61,7 +61,7 @@ pub enum Note {
     TimedOut,
 }
 
-/// The answer to a byte or an event: the reply to send, the text that is handed out, and what it
+/// The answer to a byte or an event: the reply to send, the text that is delivered, and what it
 /// meant.
 #[derive(Debug, PartialEq, Eq, Drop)]
 pub struct Step {
@@ -87,7 +87,7 @@ pub const RECEIVER_SECONDS: u32 = 30;
 /// frame.
 #[derive(Drop)]
 pub struct ReceiverOf<const N: usize> {
-    line: Line,
+    line: LineState,
     scanner: ScannerOf<N>,
 }
 
@@ -127,12 +127,12 @@ impl<const N: usize> ReceiverOf<N> {
         ensures spare { result.spare ≡ 0 }
     {
         ReceiverOf {
-            line: Line::new(alloc),
+            line: LineState::new(alloc),
             scanner: ScannerOf::new(),
         }
     }
 
-    /// The scanner, which stands for the bytes since the receiver was made or restarted.
+    /// The scanner, which represents the bytes since the receiver was made or restarted.
     pub fn scanner(&self) -> &ScannerOf<N>
         ensures { (r : ReceiverState) → IsIn N self.now r → StandsFor N result.now r.past }
     {
@@ -168,7 +168,7 @@ impl<const N: usize> ReceiverOf<N> {
 
     /// The receiver's timer runs out.
     pub fn timer(&mut self) -> Step
-        ensures step { (r : ReceiverState) → IsIn N self.old r → Makes N (on_receiver_timer r) result self.new }
+        ensures step { (r : ReceiverState) → IsIn N self.old r → IsStepMade N (on_receiver_timer r) result self.new }
         ensures spare { self.old.spare ≤ self.new.spare }
         ensures room { room_of self.new ≡ room_of self.old }
     {
@@ -176,7 +176,7 @@ impl<const N: usize> ReceiverOf<N> {
     }
 
     /// Makes room for `bytes` more bytes of held text, at most 1,048,576, so that taking them takes no memory. It takes
-    /// memory only if there is less room, and then just what is asked. If memory is refused the receiver is as before.
+    /// memory only if there is less room, and then just what is asked. If memory runs out the receiver is as before.
     pub fn reserve(&mut self, bytes: u64) -> Result<(), AllocError>
         requires { bytes ≤ longest_text }
         ensures ok { OnOk result (bytes ≤ self.new.spare) }
@@ -189,7 +189,7 @@ impl<const N: usize> ReceiverOf<N> {
         self.line.reserve(bytes)
     }
 
-    /// Takes back a text that was handed out and is needed no more: its room is kept for the texts that follow, where
+    /// Takes back a text that was delivered and is needed no more: its room is kept for the texts that follow, where
     /// it is more than the receiver has, so that those take no memory. Nothing else changes.
     pub fn reuse(&mut self, text: LinkText)
         ensures state { (r : ReceiverState) → IsIn N self.old r → IsIn N self.new r }
@@ -201,34 +201,34 @@ impl<const N: usize> ReceiverOf<N> {
     /// Hears one byte and answers it. A byte that gives no signal is quiet; ENQ, EOT and frames are
     /// answered by the table of the receiver's steps.
     ///
-    /// Whatever state the receiver stands for, the answer is that of the definition, and afterwards the
-    /// receiver stands for the state after the step. Only where a frame would be accepted whose text is
-    /// longer than the spare room may memory be refused instead; that is answered NAK, and but for the
+    /// Whatever state the receiver represents, the answer is that of the definition, and afterwards the
+    /// receiver represents the state after the step. Only where a frame would be accepted whose text is
+    /// longer than the spare room may memory run out instead; that is answered NAK, and but for the
     /// byte heard the state is as before.
     pub fn byte(&mut self, byte: u8) -> Step
         ensures step { (r : ReceiverState) → IsIn N self.old r → result.note ≢ Notes.OutOfMemory →
-            Makes N (on_byte N byte r) result self.new }
+            IsStepMade N (on_byte N byte r) result self.new }
         ensures refused { (r : ReceiverState) → IsIn N self.old r → result.note ≡ Notes.OutOfMemory →
             RefusesFrame N self.old.spare (on_byte N byte r) (record r { past = byte ∷ r.past }) result self.new }
         ensures spare { (r : ReceiverState) → IsIn N self.old r
             → SpareAfter self.old.spare self.new.spare (on_byte N byte r).taken }
         ensures room { KeepsRoom result.note result.message (room_of self.old) (room_of self.new) }
     {
-        let step = self.line.hear(self.scanner.told(byte));
+        let step = self.line.hear(self.scanner.peek(byte));
         self.scanner.take(byte);
         step
     }
 
     /// Hears bytes up to the first that is not quiet, or all of them where each is quiet, and answers how many they
-    /// are and the step of the last one. `byte` is the case of one byte. A frame's text is copied once, behind the
+    /// are and the step of the last one. `byte` is the case of one byte. A frame's text is copied once, after the
     /// held text.
     ///
-    /// Whatever state the receiver stands for, this is what the definition says, and memory may be refused as for
+    /// Whatever state the receiver represents, this is what the definition says, and memory may run out as for
     /// `byte`; but for the bytes heard the state is then as before.
     pub fn bytes(&mut self, bytes: &[u8]) -> Hearing
         ensures count { (r : ReceiverState) → IsIn N self.old r → result.count ≡ (on_bytes N bytes.now r).count }
         ensures step { (r : ReceiverState) → IsIn N self.old r → result.step.note ≢ Notes.OutOfMemory →
-            Makes N (on_bytes N bytes.now r).step result.step self.new }
+            IsStepMade N (on_bytes N bytes.now r).step result.step self.new }
         ensures refused { (r : ReceiverState) → IsIn N self.old r → result.step.note ≡ Notes.OutOfMemory →
             RefusesFrame N self.old.spare (on_bytes N bytes.now r).step (with_heard (take result.count bytes.now) r)
             result.step self.new }
@@ -236,7 +236,7 @@ impl<const N: usize> ReceiverOf<N> {
             SpareAfter self.old.spare self.new.spare (on_bytes N bytes.now r).step.taken }
         ensures room { KeepsRoom result.step.note result.step.message (room_of self.old) (room_of self.new) }
 
-        // What is told without a state: some bytes are heard, and all of them where the step is quiet.
+        // What is reported without a state: some bytes are heard, and all of them where the step is quiet.
         ensures bound { result.count ≤ length bytes.now }
         ensures some { 0 < length bytes.now → 0 < result.count }
         ensures all { result.step.note ≡ Notes.Quiet → result.count ≡ length bytes.now }

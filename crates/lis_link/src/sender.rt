@@ -4,12 +4,13 @@ ghost use Rattle.std.specs.Prelude.{◌≡◌, ◌<◌, ◌+◌, length, drop, N
 ghost use Rattle.lis_frame.specs.Limit.{IsLimit};
 ghost use Rattle.lis_link.specs.declared.sender.EmitOf.TheVariants as Emits;
 ghost use Rattle.lis_link.specs.declared.sender.Phase.TheVariants as Phases;
-ghost use Rattle.lis_link.specs.Sender.{SenderState, reply_in, new_sender, over, bad_text, start_fault, started};
+ghost use Rattle.lis_link.specs.Sender.{SenderState, reply_in, new_sender, finished_with, bad_text, start_fault};
+ghost use Rattle.lis_link.specs.Sender.{started};
 ghost use Rattle.lis_link.specs.Sender.{awaited, first_frame, sends_first};
 ghost use Rattle.lis_link.specs.Sender.{on_accepted, sends_again, on_reply, on_sender_timer, sender_restarted};
 
 use crate::queue::QueueOf;
-use crate::texts::{BorrowedTexts, SessionTexts};
+use crate::session_texts::{BorrowedTexts, SessionTexts};
 use lis_frame::FrameOf;
 use lis_text::{ACK, ENQ, EOT, TextFault, Texts, check_text};
 use std::marker::Model;
@@ -20,7 +21,7 @@ mod state;
 
 pub use duties::{BUSY_SECONDS, CONTENTION_SECONDS, REPLY_SECONDS};
 
-/// Where the sender stands between two events.
+/// Where the sender is between two events.
 #[derive(Debug, Clone, Copy, PartialEq, Eq)]
 pub enum Phase {
     /// No session is going on.
@@ -48,7 +49,7 @@ pub enum Outcome {
     Restarted,
 }
 
-/// Why no session was started; the first that stands, in this order, is told.
+/// Why no session was started; the first that is, in this order, is reported.
 #[derive(Debug, Clone, Copy, PartialEq, Eq, Error)]
 pub enum StartFault {
     /// A session is going on.
@@ -71,7 +72,7 @@ pub enum EmitOf<const N: usize> {
     Enq,
     /// EOT, which ends the session.
     Eot,
-    /// NAK, which refuses a bid of the receiver's side.
+    /// NAK, which rejects a line request of the receiver's side.
     Nak,
     /// A frame.
     Frame(FrameOf<N>),
@@ -80,7 +81,7 @@ pub enum EmitOf<const N: usize> {
 /// What the sender emits, with the usual limit on a frame's text.
 pub type Emit = EmitOf<240>;
 
-/// A start that was refused: why, and the texts.
+/// A start that was rejected: why, and the texts.
 #[derive(Debug, PartialEq, Eq, Drop, Error)]
 #[error("{fault}")]
 pub struct StartRefusedOf<T: SessionTexts> {
@@ -88,13 +89,13 @@ pub struct StartRefusedOf<T: SessionTexts> {
     pub fault: StartFault,
 }
 
-/// A refused start of a sender that owns its texts.
+/// A rejected start of a sender that owns its texts.
 pub type StartRefused = StartRefusedOf<Texts>;
 
 /// How often a frame is sent before its session is given up.
 const MOST_TRIES: u8 = 6;
 
-/// The sending end over what holds the texts of its session. It keeps that until the session is over and makes each
+/// The sending end over what holds the texts of its session. It keeps that until the session is finished and makes each
 /// frame when it is due; it takes no memory.
 #[derive(Drop)]
 pub struct SenderOver<const N: usize, T: SessionTexts> {
@@ -149,7 +150,7 @@ impl<const N: usize, T: SessionTexts> SenderOver<N, T> {
         }
     }
 
-    /// Starts a session with these texts: ENQ is emitted. A refused start gives the texts back, and the
+    /// Starts a session with these texts: ENQ is emitted. A rejected start gives the texts back, and the
     /// sender is as before.
     pub fn start(&mut self, texts: T) -> Result<EmitOf<N>, StartRefusedOf<T>>
         ensures { MatchResult result
@@ -169,7 +170,7 @@ impl<const N: usize, T: SessionTexts> SenderOver<N, T> {
         Ok(EmitOf::Enq)
     }
 
-    /// Why a start with these texts would be refused, if it would: a session goes on, there is no text, or one of them
+    /// Why a start with these texts would be rejected, if it would: a session goes on, there is no text, or one of them
     /// is no link text (LIS01-A2, 6.3).
     pub fn start_fault(&self, texts: &T) -> Option<StartFault>
         ensures { result ≡ start_fault self.now (T.texts texts.now) }
@@ -244,9 +245,9 @@ impl<const N: usize, T: SessionTexts> SenderOver<N, T> {
         }
     }
 
-    /// The session is over: its texts are let go of.
+    /// The session is finished: its texts are released.
     fn close(&mut self, outcome: Outcome)
-        ensures { self.new ≡ over outcome self.old }
+        ensures { self.new ≡ finished_with outcome self.old }
     {
         self.queue = None;
         self.phase = Phase::Neutral;
@@ -256,7 +257,7 @@ impl<const N: usize, T: SessionTexts> SenderOver<N, T> {
     /// The session ends with EOT.
     fn end(&mut self, outcome: Outcome) -> EmitOf<N>
         ensures emit { result ≡ Emits.Eot }
-        ensures after { self.new ≡ over outcome self.old }
+        ensures after { self.new ≡ finished_with outcome self.old }
     {
         self.close(outcome);
         EmitOf::Eot
@@ -289,7 +290,7 @@ impl<const N: usize, T: SessionTexts> SenderOver<N, T> {
         EmitOf::Nothing
     }
 
-    /// The frame behind the acknowledged ones.
+    /// The frame after the acknowledged ones.
     fn present(&self) -> Option<FrameOf<N>>
         ensures { result ≡ first_frame (drop self.now.acknowledged self.now.frames) }
     {
@@ -304,7 +305,7 @@ impl<const N: usize, T: SessionTexts> SenderOver<N, T> {
         }
     }
 
-    /// The frame behind the acknowledged ones is sent for the first time; where none is left, the
+    /// The frame after the acknowledged ones is sent for the first time; where none is left, the
     /// session is done.
     fn send(&mut self) -> EmitOf<N>
         ensures emit { result ≡ (sends_first {limit = N} (drop self.old.acknowledged self.old.frames) self.old).emit }
@@ -363,7 +364,7 @@ impl<const N: usize, T: SessionTexts> SenderOver<N, T> {
 }
 
 /// The first text that is no link text.
-#[tactic(auto, using(crate::proofs::StartLaws::bad_text_here, crate::proofs::StartLaws::bad_text_behind))]
+#[tactic(auto, using(crate::proofs::StartLaws::bad_text_here, crate::proofs::StartLaws::bad_text_after))]
 fn bad_text<T: SessionTexts>(texts: &T) -> Option<StartFault>
     ensures { result ≡ bad_text 0 (T.texts texts.now) }
 {

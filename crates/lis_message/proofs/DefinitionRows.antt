@@ -1,19 +1,19 @@
--- The definitions at record texts that are refused, and at a stream, by computation.
+-- The definitions at record texts that are rejected, and at a stream, by computation.
 use Rattle.std.proofs.Common.{◌≡◌, ◌≤◌, ℕ, [], ◌∷◌, None, Some, true, refl, sym, arith, length, append-nil}
 use Rattle.std.proofs.lemmas.List.Elements.{All-from_recursion}
 use Rattle.std.specs.List.{AllByRecursion}
-use Rattle.lis_field.specs.declared.kinds.Kind.{Kind}
-use Rattle.lis_field.specs.Relation.{IsRecord, declared_part}
+use Rattle.lis_record_values.specs.declared.kinds.Kind.{Kind}
+use Rattle.lis_record_values.specs.Relation.{IsRecord, declared_part}
 use Rattle.lis_tree.specs.Tree.{MessageTree}
-use Rattle.lis_field.specs.declared.kinds.Kind.TheVariants as kinds
-use Rattle.lis_field.specs.declared.faults.RecordFault.TheVariants as record_faults
-use Rattle.lis_field.specs.Delimiters.{DelimiterBytes, delimiters_of, usual as known}
+use Rattle.lis_record_values.specs.declared.kinds.Kind.TheVariants as kinds
+use Rattle.lis_record_values.specs.declared.faults.RecordFault.TheVariants as record_faults
+use Rattle.lis_record_values.specs.Delimiters.{DelimiterBytes, delimiters_of, usual as known}
 use Rattle.lis_record.specs.Faults.{record_text_fault, record_fault}
-use Rattle.lis_field.specs.Kinds.{kind_of}
-use Rattle.lis_field.specs.Text.{is_text_byte}
-use Rattle.lis_field.specs.declared.faults.Reason.TheVariants as reasons
+use Rattle.lis_record_values.specs.Kinds.{kind_of}
+use Rattle.lis_record_values.specs.Text.{is_text_byte}
+use Rattle.lis_record_values.specs.declared.faults.Reason.TheVariants as reasons
 use Rattle.lis_tree.proofs.DefinitionRows.{header, no_fields, patient, usual_good, with_number}
-use Rattle.lis_message.specs.Stream.{IsCut, refusal, kind_refusal}
+use Rattle.lis_message.specs.Stream.{IsSplit, refusal, kind_refusal}
 
 -- | \ ^ &
 usual : DelimiterBytes
@@ -46,9 +46,10 @@ empty_record = refl
 
 -- ---- a stream
 
--- the text of a record without fields is its letter, and a header's the delimiters behind it
+-- the text of a record without fields is its letter, and a header's the delimiters after it
 bare_record : (kind : Kind) (letter : ℕ) → kind_of letter ≡ Some kind → AllByRecursion
-    (λ b. is_text_byte b ≡ true) (letter ∷ declared_part known kind) → length (letter ∷ declared_part known kind) ≤ 65536
+    (λ b. is_text_byte b ≡ true) (letter ∷ declared_part known kind) → length (letter ∷ declared_part known kind) ≤
+    65536
     → IsRecord known (letter ∷ declared_part known kind) (record { kind = kind; fields = [] })
 bare_record kind letter is text short = record {
   letter = letter;
@@ -79,11 +80,11 @@ shortest = record {
 }
 
 -- H|\^& L H|\^& and P, a CR after each but the last, are a message, one that is open, and a byte that is held
-cut_in_three :
-    IsCut (0x48 ∷ 0x7c ∷ 0x5c ∷ 0x5e ∷ 0x26 ∷ 13 ∷ 0x4c ∷ 13 ∷ 0x48 ∷ 0x7c ∷ 0x5c ∷ 0x5e ∷ 0x26 ∷ 13 ∷ 0x50 ∷ [])
+split_in_three :
+    IsSplit (0x48 ∷ 0x7c ∷ 0x5c ∷ 0x5e ∷ 0x26 ∷ 13 ∷ 0x4c ∷ 13 ∷ 0x48 ∷ 0x7c ∷ 0x5c ∷ 0x5e ∷ 0x26 ∷ 13 ∷ 0x50 ∷ [])
     (shortest ∷ []) (Some (record { delimiters = known; records = header ∷ [] })) (0x50 ∷ [])
 unfolding shortest header
-cut_in_three = record {
+split_in_three = record {
   groups = ((0x48 ∷ 0x7c ∷ 0x5c ∷ 0x5e ∷ 0x26 ∷ []) ∷ (0x4c ∷ []) ∷ []) ∷ [];
   texts = (0x48 ∷ 0x7c ∷ 0x5c ∷ 0x5e ∷ 0x26 ∷ []) ∷ [];
   whole = refl;
@@ -113,5 +114,5 @@ cut_in_three = record {
 }
 
 -- a CR is not held
-return_is_not_held : IsCut (13 ∷ []) [] None (13 ∷ []) → ⊥
-return_is_not_held cut = cut.lacks.0 refl
+return_is_not_held : IsSplit (13 ∷ []) [] None (13 ∷ []) → ⊥
+return_is_not_held split = split.lacks.0 refl

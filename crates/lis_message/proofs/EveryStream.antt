@@ -1,4 +1,4 @@
--- Every stream is cut or refused, and what follows a stream only adds messages.
+-- Every stream is split or rejected, and what follows a stream only adds messages.
 use Rattle.std.proofs.Common.{◌≡◌, ◌≢◌, ℕ, ◌≤◌, ◌⊎◌, inl, inr, List, [], ◌∷◌, ◌++◌, length, Option, Some, None}
 use Rattle.std.proofs.Common.{option_map, refl, sym, ◌∙◌, ap, subst, append_assoc, arith, length-append}
 use Rattle.std.proofs.lemmas.Bool.Decides.{eqb_tells}
@@ -7,41 +7,41 @@ use Rattle.std.proofs.lemmas.Bool.{cases_lt}
 use Rattle.std.specs.List.{AllByRecursion, AllZip}
 use Rattle.std.specs.Prelude.{if◌then◌else◌}
 use Rattle.std.specs.Option.{option_or, option_to_list}
-use Rattle.lis_field.proofs.DelimiterFaults.{IsDelimiters-delimiters_of}
-use Rattle.lis_field.proofs.FirstFaults.{option_map-none, option_or-none}
-use Rattle.lis_field.specs.declared.kinds.Kind.{Kind}
-use Rattle.lis_field.specs.declared.kinds.Kind.TheVariants as kinds
-use Rattle.lis_field.specs.Delimiters.{DelimiterBytes, IsDelimiters, delimiter_fault, delimiters_of}
-use Rattle.lis_field.specs.Kinds.{kind_of}
-use Rattle.lis_field.specs.Shape.{IsRecordShape, RecordContent}
+use Rattle.lis_record_values.proofs.DelimiterFaults.{IsDelimiters-delimiters_of}
+use Rattle.lis_record_values.proofs.FirstFaults.{option_map-none, option_or-none}
+use Rattle.lis_record_values.specs.declared.kinds.Kind.{Kind}
+use Rattle.lis_record_values.specs.declared.kinds.Kind.TheVariants as kinds
+use Rattle.lis_record_values.specs.Delimiters.{DelimiterBytes, IsDelimiters, delimiter_fault, delimiters_of}
+use Rattle.lis_record_values.specs.Kinds.{kind_of}
+use Rattle.lis_record_values.specs.Shape.{IsRecordShape, RecordContent}
 use Rattle.lis_record.proofs.FaultLaws.{IsRecord-fields_of, IsRecord-header}
 use Rattle.lis_record.proofs.Shapes.{IsRecord-shape}
-use Rattle.lis_field.specs.declared.faults.DelimiterPartFault.TheVariants.{Fault, Trailing}
-use Rattle.lis_field.specs.declared.faults.RecordFault.TheVariants as record_faults
-use Rattle.lis_spelling.specs.declared.writing.TheConstants.{RECORD_LIMIT}
+use Rattle.lis_record_values.specs.declared.faults.DelimiterPartFault.TheVariants.{Fault, Trailing}
+use Rattle.lis_record_values.specs.declared.faults.RecordFault.TheVariants as record_faults
+use Rattle.lis_record_write.specs.declared.writing.TheConstants.{RECORD_LIMIT}
 use Rattle.lis_record.specs.Faults.{delimiter_part_fault, header_fault, is_header_kind, is_other_kind, record_fault}
 use Rattle.lis_record.specs.Faults.{record_text_fault}
-use Rattle.lis_field.specs.Text.{trailing_byte}
-use Rattle.lis_part.specs.FrontReading.{fields_of}
-use Rattle.lis_field.specs.Relation.{IsRecord}
+use Rattle.lis_record_values.specs.Text.{trailing_byte}
+use Rattle.lis_record_read.specs.FrontReading.{fields_of}
+use Rattle.lis_record_values.specs.Relation.{IsRecord}
 use Rattle.lis_tree.proofs.Trees.{tree_of}
-use Rattle.lis_field.specs.declared.faults.MessageFault.{MessageFault}
-use Rattle.lis_field.specs.declared.faults.Reason.TheVariants as reasons
+use Rattle.lis_record_values.specs.declared.faults.MessageFault.{MessageFault}
+use Rattle.lis_record_values.specs.declared.faults.Reason.TheVariants as reasons
 use Rattle.lis_tree.specs.Begun.{Begun, level_of}
 use Rattle.lis_tree.specs.Level.{misplaced}
 use Rattle.lis_tree.specs.Tree.{MessageTree}
 use Rattle.lis_message.specs.Feeding.{next_place}
-use Rattle.lis_message.specs.Stream.{AreBegun, AreLeft, IsCut, IsReadFrom, IsRefused, kind_refusal, letter_refusal}
+use Rattle.lis_message.specs.Stream.{AreBegun, AreLeft, IsSplit, IsReadFrom, IsRefused, kind_refusal, letter_refusal}
 use Rattle.lis_message.specs.Stream.{refusal}
 use Rattle.lis_message.specs.Taking.{ComesNext, Completes, header, inner, left_after, records_of}
-use Rattle.lis_record.specs.Lent.{Lent, lent}
-use Rattle.lis_message.proofs.Cuts.{cut_hold, cut_start, cut_taken}
+use Rattle.lis_record.specs.Borrowed.{Borrowed, borrowed}
+use Rattle.lis_message.proofs.Splits.{split_hold, split_start, split_taken}
 use Rattle.lis_message.proofs.Stopping.{refused_line, refused_long}
 
--- ---- a text that nothing refuses can be taken
+-- ---- a text that nothing rejects can be taken
 
 record CanTake (left : Option Begun) (text : List ℕ) : Type 0 where
-  entry : Lent RecordContent
+  entry : Borrowed RecordContent
   comes : ComesNext left text entry
 
 pub header_open : (letter : ℕ) (part : List ℕ) → header_fault (letter ∷ part) ≡ None
@@ -74,7 +74,7 @@ header_taken letter (f ∷ r ∷ c ∷ e ∷ bytes) is none texts =
     let d = delimiters_of f r c e in
     let content : RecordContent = record { kind = kinds.H; fields = fields_of d bytes } in
     record {
-      entry = lent d content;
+      entry = borrowed d content;
       comes = header refl (IsDelimiters-delimiters_of f r c e marks)
           (IsRecord-header letter f r c e bytes is marks trailing texts) refl;
     }
@@ -157,7 +157,7 @@ is_closing k = inr (λ e. cc)
 
 -- what a record completes
 pub completing : (left : Option Begun) (texts : List (List ℕ)) → AreLeft texts left
-    → (text : List ℕ) (entry : Lent RecordContent) → ComesNext left text entry
+    → (text : List ℕ) (entry : Borrowed RecordContent) → ComesNext left text entry
     → (message : Option MessageTree) × Completes left entry message
 completing left texts are text entry (header l good is kind) =
     (None, λ e. let clash : kinds.H ≡ kinds.L = sym kind ∙ e in cc)
@@ -195,7 +195,7 @@ can_take (Some b) texts are [] none = cc
 can_take (Some b) texts are (letter ∷ bytes) none =
     let found = inside_kind b letter (kind_of letter) (letter ∷ bytes) none in
     record {
-      entry = lent b.delimiters (record { kind = found.kind; fields = fields_of b.delimiters bytes });
+      entry = borrowed b.delimiters (record { kind = found.kind; fields = fields_of b.delimiters bytes });
       comes = inner b refl refl (record_found b.delimiters are.delimiters letter bytes found.kind found.is found.other
           found.fine) found.placed;
     }
@@ -208,13 +208,13 @@ cases (Some x) = inr (x, refl)
 
 fewer_read : (stream : List ℕ) (messages xs : List MessageTree) → IsReadFrom stream (messages ++ xs)
     → IsReadFrom stream messages
-fewer_read stream messages xs (more, inl cut) = (
+fewer_read stream messages xs (more, inl split) = (
   xs ++ more,
   inl (
-    cut.0,
-    cut.1,
-    subst (λ (ms : List MessageTree). IsCut stream ms cut.0 cut.1) (append_assoc messages xs more)
-        cut.2,
+    split.0,
+    split.1,
+    subst (λ (ms : List MessageTree). IsSplit stream ms split.0 split.1) (append_assoc messages xs more)
+        split.2,
   ),
 )
 fewer_read stream messages xs (more, inr stop) = (
@@ -234,16 +234,16 @@ moved front b more messages = subst (λ (s : List ℕ). IsReadFrom s messages) (
 short_with : (held : List ℕ) → length held ≤ RECORD_LIMIT → length (held ++ []) ≤ RECORD_LIMIT
 short_with held short = omega (arith, short, length-append held [])
 
--- what follows a stream adds messages, until a record is refused
+-- what follows a stream adds messages, until a record is rejected
 pub goes_on : (more front : List ℕ) (messages : List MessageTree) (left : Option Begun) (held : List ℕ)
-    → IsCut front messages left held → IsReadFrom (front ++ more) messages
+    → IsSplit front messages left held → IsReadFrom (front ++ more) messages
 goes_on [] front messages left held c = (
   [],
   inl (
     left,
     held,
-    subst (λ (s : List ℕ). IsCut s (messages ++ []) left held) (sym (append-nil front))
-        (subst (λ (ms : List MessageTree). IsCut front ms left held) (sym (append-nil messages)) c),
+    subst (λ (s : List ℕ). IsSplit s (messages ++ []) left held) (sym (append-nil front))
+        (subst (λ (ms : List MessageTree). IsSplit front ms left held) (sym (append-nil messages)) c),
   ),
 )
 goes_on (b ∷ more) front messages left held c =
@@ -252,7 +252,7 @@ goes_on (b ∷ more) front messages left held c =
         | inl none ↦
             let can = can_take left c.texts c.begun held none in
             let whole = completing left c.texts c.begun held can.entry can.comes in
-            let next = cut_taken front messages left held can.entry whole.0 c can.comes whole.1 in
+            let next = split_taken front messages left held can.entry whole.0 c can.comes whole.1 in
             subst (λ (x : ℕ). IsReadFrom (front ++ x ∷ more) messages) (sym same.1)
             (moved front 13 more messages
             (fewer_read ((front ++ 13 ∷ []) ++ more) messages (option_to_list whole.0)
@@ -268,7 +268,7 @@ goes_on (b ∷ more) front messages left held c =
       | inr other ↦ elim (cases_lt RECORD_LIMIT (length (held ++ b ∷ []))) [
         | inr short ↦
             moved front b more messages (goes_on more (front ++ b ∷ []) messages left (held ++ b ∷ [])
-            (cut_hold front messages left held (b ∷ []) c (other.1, tt) short))
+            (split_hold front messages left held (b ∷ []) c (other.1, tt) short))
         | inl long ↦
             let fault : MessageFault = record { place = next_place left; reason = reasons.RecordTooLong } in
             stopped (front ++ b ∷ more) messages fault (refused_long front messages left held (b ∷ []) more fault c
@@ -276,6 +276,6 @@ goes_on (b ∷ more) front messages left held c =
       ]
     ]
 
--- every stream is cut or refused
+-- every stream is split or rejected
 pub every_stream : (stream : List ℕ) → IsReadFrom stream []
-every_stream stream = goes_on stream [] [] None [] cut_start
+every_stream stream = goes_on stream [] [] None [] split_start

@@ -1,5 +1,5 @@
 mod DefinitionRows
-pub mod Cuts
+pub mod Splits
 pub mod EveryStream
 pub mod Lines
 pub mod NextRecord

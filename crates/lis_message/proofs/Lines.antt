@@ -1,10 +1,10 @@
--- Texts that a CR ends can be told apart.
+-- Texts that a CR ends can be reported apart.
 use Rattle.std.proofs.Common.{◌≡◌, ◌≢◌, ℕ, ◌≤◌, List, [], ◌∷◌, ◌++◌, length, true, refl, sym, ◌∙◌, ap, append_assoc}
 use Rattle.std.proofs.Common.{arith}
 use Rattle.std.specs.List.{AllByRecursion}
 use Rattle.std.proofs.lemmas.List.Elements.{recursion_from_All}
 use Rattle.std.proofs.lemmas.Grind.{flat_map-append}
-use Rattle.lis_field.specs.Text.{is_text_byte, IsRecordText}
+use Rattle.lis_record_values.specs.Text.{is_text_byte, IsRecordText}
 use Rattle.lis_message.specs.Stream.{line, ended, LacksReturn}
 
 -- each text lacks CR
@@ -31,7 +31,7 @@ lacks_each (x ∷ xs) a = (text_byte_no_return x a.0, lacks_each xs a.1)
 pub text_lacks : (xs : List ℕ) → IsRecordText xs → LacksReturn xs
 text_lacks xs t = lacks_each xs (recursion_from_All (λ b. is_text_byte b ≡ true) xs t)
 
--- what stands before the first CR is determined, and so is what follows it
+-- what is before the first CR is determined, and so is what follows it
 pub line_one : (a b r s : List ℕ) → LacksReturn a → LacksReturn b → a ++ 13 ∷ r ≡ b ++ 13 ∷ s → (a ≡ b) × (r ≡ s)
 line_one [] [] r s la lb e = (refl, cc)
 line_one [] (y ∷ b) r s la lb e = let h : y ≡ 13 = cc in absurd (lb.0 h)
@@ -56,7 +56,7 @@ ended_cons t ts r = simp append_assoc
 pub ended_append : (xs ys : List (List ℕ)) → ended (xs ++ ys) ≡ ended xs ++ ended ys
 ended_append xs ys = flat_map-append line xs ys
 
--- one line behind the others
+-- one line after the others
 pub ended_snoc : (ts : List (List ℕ)) (t r : List ℕ) → ended (ts ++ t ∷ []) ++ r ≡ ended ts ++ t ++ 13 ∷ r
 ended_snoc ts t r = simp (ended_append, append_assoc)
 

@@ -4,34 +4,34 @@ use Rattle.std.proofs.Common.{◌⊎◌, inl, inr, IfOk, Ok, Err, refl, sym, ◌
 use Rattle.std.proofs.Common.{is_some}
 use Rattle.std.specs.declared.result.Result.{Result}
 use Rattle.std.proofs.lemmas.Bool.{eqb-true}
-use Rattle.lis_field.specs.declared.kinds.Kind.{Kind}
-use Rattle.lis_field.specs.declared.kinds.Kind.TheVariants as kinds
-use Rattle.lis_field.specs.Delimiters.{DelimiterBytes}
-use Rattle.lis_field.specs.Shape.{RecordContent}
+use Rattle.lis_record_values.specs.declared.kinds.Kind.{Kind}
+use Rattle.lis_record_values.specs.declared.kinds.Kind.TheVariants as kinds
+use Rattle.lis_record_values.specs.Delimiters.{DelimiterBytes}
+use Rattle.lis_record_values.specs.Shape.{RecordContent}
 use Rattle.lis_message.specs.Feeding.{answer_at_end}
 use Rattle.lis_message.specs.Kept.{Opened, RecordsState, opened_of, opened_with}
 use Rattle.lis_message.specs.inside.Kept.{Holding}
-use Rattle.lis_message.specs.declared.records.Found.{Found}
-use Rattle.lis_message.specs.declared.records.Found.TheVariants as found
+use Rattle.lis_message.specs.declared.records.RecordFound.{RecordFound}
+use Rattle.lis_message.specs.declared.records.RecordFound.TheVariants as found
 use Rattle.lis_message.specs.Records.{IsRecordRefusedFor, IsStopped, Reads, ReadsRecord}
 use Rattle.lis_message.specs.Stream.{LacksReturn, refusal}
 use Rattle.lis_message.specs.Taking.{ComesNext, header, inner, left_after}
 use Rattle.lis_message.specs.inside.Taking.{front_refusal}
-use Rattle.lis_message.proofs.Cuts.{left_after-more}
+use Rattle.lis_message.proofs.Splits.{left_after-more}
 use Rattle.lis_message.proofs.TakingLaws.{inner_refused, place_refused}
-use Rattle.lis_field.specs.declared.faults.RecordFault.{RecordFault}
+use Rattle.lis_record_values.specs.declared.faults.RecordFault.{RecordFault}
 use Rattle.lis_record.specs.Faults.{record_fault}
-use Rattle.lis_record.specs.Lent.{Lent, record_in}
-use Rattle.lis_field.specs.Relation.{IsRecord}
+use Rattle.lis_record.specs.Borrowed.{Borrowed, record_in}
+use Rattle.lis_record_values.specs.Relation.{IsRecord}
 use Rattle.lis_tree.proofs.Levels.{level_more}
-use Rattle.lis_field.specs.declared.faults.Reason.{Reason}
-use Rattle.lis_field.specs.declared.faults.Reason.TheVariants as reasons
-use Rattle.lis_tree.specs.declared.standing.Standing.{Standing}
-use Rattle.lis_tree.specs.declared.standing.Standing.TheVariants as standings
+use Rattle.lis_record_values.specs.declared.faults.Reason.{Reason}
+use Rattle.lis_record_values.specs.declared.faults.Reason.TheVariants as reasons
+use Rattle.lis_tree.specs.declared.position.Position.{Position}
+use Rattle.lis_tree.specs.declared.position.Position.TheVariants as standings
 use Rattle.lis_tree.specs.Begun.{Begun, level_of}
 use Rattle.lis_tree.specs.Level.{Level, closed, misplaced, next_level}
 use Rattle.lis_text.specs.Capped.{capped}
-use Rattle.lis_tree.specs.Standing.{standing_level}
+use Rattle.lis_tree.specs.Position.{position_level}
 use Rattle.std.proofs.lemmas.List.{nil_from_length}
 
 -- ---- in an open message
@@ -42,12 +42,12 @@ module _ (o : Opened) (begun : Begun) (is : o ≡ opened_with begun) (text : Lis
   inner_fault e front fault =
       inner_refused begun text e front (subst (λ (x : Opened). record_fault x.delimiters text ≡ Some e) is fault)
 
-  place_here : (kind : Kind) (entry : Lent RecordContent) (why : Option Reason) → kind ≡ entry.content.kind
+  place_here : (kind : Kind) (entry : Borrowed RecordContent) (why : Option Reason) → kind ≡ entry.content.kind
       → why ≡ misplaced o.level kind → misplaced (level_of (Some begun)) entry.content.kind ≡ why
   place_here kind entry why k placed =
       ap (misplaced (level_of (Some begun))) (sym k) ∙ ap (λ (x : Opened). misplaced x.level kind) (sym is) ∙ sym placed
 
-  pub inner_comes : (entry : Lent RecordContent) (kind : Kind) → entry.delimiters ≡ o.delimiters
+  pub inner_comes : (entry : Borrowed RecordContent) (kind : Kind) → entry.delimiters ≡ o.delimiters
       → IsRecord o.delimiters text entry.content → kind ≡ entry.content.kind → None ≡ misplaced o.level kind
       → ComesNext (Some begun) text entry
   inner_comes entry kind marks rec k placed =
@@ -55,7 +55,7 @@ module _ (o : Opened) (begun : Begun) (is : o ≡ opened_with begun) (text : Lis
       (subst (λ (x : DelimiterBytes). IsRecord x text entry.content) (sym marks) rec)
       (place_here kind entry None k placed)
 
-  pub inner_misplaced : (entry : Lent RecordContent) (kind : Kind) (reason : Reason)
+  pub inner_misplaced : (entry : Borrowed RecordContent) (kind : Kind) (reason : Reason)
       → IsRecord o.delimiters text entry.content → entry.content.kind ≢ kinds.H → kind ≡ entry.content.kind
       → Some reason ≡ misplaced o.level kind → refusal (Some begun) text ≡ Some reason
   inner_misplaced entry kind reason rec other k placed =
@@ -78,7 +78,7 @@ opened_some : (left : Option Begun) (o : Opened) → Some o ≡ opened_of left �
 opened_some None o e = absurd cc
 opened_some (Some begun) o e = (begun, refl, cc)
 
-pub open_comes : (found : Result (Lent RecordContent) Reason) (now : Option Opened) (o : Opened) (text : List ℕ)
+pub open_comes : (found : Result (Borrowed RecordContent) Reason) (now : Option Opened) (o : Opened) (text : List ℕ)
     → now ≡ Some o
     → IfOk found (λ entry. (begun : Begun) → o ≡ opened_with begun → ComesNext (Some begun) text entry)
     → IfOk found (λ entry. (left : Option Begun) → now ≡ opened_of left → ComesNext left text entry)
@@ -87,17 +87,17 @@ open_comes (Ok entry) now o text is comes = λ left e.
     subst (λ (x : Option Begun). ComesNext x text entry) (sym found.1) (comes found.0 found.2)
 open_comes (Err reason) now o text is comes = tt
 
--- ---- behind a record
+-- ---- after a record
 
-standing_open : (s : Standing) → standing_level s ≢ closed
-standing_open standings.InHeader e = cc
-standing_open standing e = cc
+position_open : (s : Position) → position_level s ≢ closed
+position_open standings.InHeader e = cc
+position_open position e = cc
 
 capped_more : (n : ℕ) → min (capped n + 1) 18446744073709551615 ≡ capped (n + 1)
 capped_more n = omega arith
 
 -- what comes next in it has its delimiters
-pub marks_kept : (left : Option Begun) (text : List ℕ) (entry : Lent RecordContent) (o : Opened)
+pub marks_kept : (left : Option Begun) (text : List ℕ) (entry : Borrowed RecordContent) (o : Opened)
     → Some o ≡ opened_of left → ComesNext left text entry → entry.delimiters ≡ o.delimiters
 marks_kept left text entry o e (header none good read kind) =
     let no : Some o ≡ None = e ∙ ap opened_of none in
@@ -108,23 +108,23 @@ marks_kept left text entry o e (inner begun is marks read fits) =
     marks ∙ ap (λ (x : Opened). x.delimiters) (sym at)
 
 -- another record leaves the message open, one longer
-pub inner_after : (left : Option Begun) (entry : Lent RecordContent) (d : DelimiterBytes) (o : Opened)
-    (s : Standing) (kind : Kind) (count : ℕ) → Some o ≡ opened_of left → entry.delimiters ≡ d
-    → entry.content.kind ≡ kind → standing_level s ≡ next_level o.level kind
+pub inner_after : (left : Option Begun) (entry : Borrowed RecordContent) (d : DelimiterBytes) (o : Opened)
+    (s : Position) (kind : Kind) (count : ℕ) → Some o ≡ opened_of left → entry.delimiters ≡ d
+    → entry.content.kind ≡ kind → position_level s ≡ next_level o.level kind
     → count ≡ min (o.count + 1) 18446744073709551615
-    → Some (record { delimiters = d; level = standing_level s; count = count }) ≡ opened_of (left_after left entry kind)
+    → Some (record { delimiters = d; level = position_level s; count = count }) ≡ opened_of (left_after left entry kind)
 inner_after left entry d o s kind count e marks k goes counted =
     let found = opened_some left o e in
     let begun = found.0 in
-    let other : kind ≢ kinds.L = λ l. standing_open s (goes ∙ ap (next_level o.level) l) in
+    let other : kind ≢ kinds.L = λ l. position_open s (goes ∙ ap (next_level o.level) l) in
     let longer : List RecordContent = begun.records ++ entry.content ∷ [] in
-    let level : standing_level s ≡ level_of (Some (record { delimiters = entry.delimiters; records = longer })) =
+    let level : position_level s ≡ level_of (Some (record { delimiters = entry.delimiters; records = longer })) =
     goes ∙ ap (λ (x : Opened). next_level x.level kind) found.2 ∙ ap (next_level (level_of (Some begun))) (sym k)
     ∙ sym (level_more begun.records entry.content) in
     let counts : count ≡ capped (length longer) =
     counted ∙ ap (λ (x : Opened). min (x.count + 1) 18446744073709551615) found.2
     ∙ capped_more (length begun.records) ∙ ap capped (sym (length-append begun.records (entry.content ∷ []))) in
-    ap (λ (x : DelimiterBytes). Some (record { delimiters = x; level = standing_level s; count = count })) (sym marks)
+    ap (λ (x : DelimiterBytes). Some (record { delimiters = x; level = position_level s; count = count })) (sym marks)
     ∙ ap (λ (x : Level). Some (record { delimiters = entry.delimiters; level = x; count = count })) level
     ∙ ap (λ (x : ℕ). Some
     (record {
@@ -136,28 +136,28 @@ inner_after left entry d o s kind count e marks k goes counted =
     ∙ ap opened_of (sym (left_after-more (Some begun) entry kind other))
     ∙ ap (λ (x : Option Begun). opened_of (left_after x entry kind)) (sym found.1)
 
--- ---- a line that is refused
+-- ---- a line that is rejected
 
-pub line_stopped : (left : Option Begun) (held text behind bytes : List ℕ) (reason : Reason) → LacksReturn text
-    → bytes ≡ text ++ 13 ∷ behind → IsRecordRefusedFor left (held ++ text) reason → IsStopped left held bytes reason
-line_stopped left held text behind bytes reason lacks whole (inl long) =
-    inr (record { text = text; more = 13 ∷ behind; whole = whole; lacks = lacks; refused = inr long })
-line_stopped left held text behind bytes reason lacks whole (inr why) =
+pub line_stopped : (left : Option Begun) (held text following bytes : List ℕ) (reason : Reason) → LacksReturn text
+    → bytes ≡ text ++ 13 ∷ following → IsRecordRefusedFor left (held ++ text) reason → IsStopped left held bytes reason
+line_stopped left held text following bytes reason lacks whole (inl long) =
+    inr (record { text = text; more = 13 ∷ following; whole = whole; lacks = lacks; refused = inr long })
+line_stopped left held text following bytes reason lacks whole (inr why) =
     inr (record {
       text = text;
-      more = 13 ∷ behind;
+      more = 13 ∷ following;
       whole = whole;
       lacks = lacks;
       refused = inl
-          (record { rest = behind; ended_by = refl; short = why.1; why = why.0 });
+          (record { rest = following; ended_by = refl; short = why.1; why = why.0 });
     })
 
 pub nothing_held : (held : List ℕ) → true ≡ (length held == 0) → held ≡ []
 nothing_held held empty = nil_from_length held (eqb-true (length held) 0 (sym empty))
 
-pub nothing_kept : (h : Holding) → h.held ≡ [] → h.cut ≡ None → h ≡ record { held = []; cut = None }
-nothing_kept h held cut =
-    ap (λ l. record { held = l; cut = h.cut }) held ∙ ap (λ k. record { held = []; cut = k }) cut
+pub nothing_kept : (h : Holding) → h.held ≡ [] → h.split ≡ None → h ≡ record { held = []; split = None }
+nothing_kept h held split =
+    ap (λ l. record { held = l; split = h.split }) held ∙ ap (λ k. record { held = []; split = k }) split
 
 -- the stream may end here
 pub ends_fine : (left : Option Begun) (held : List ℕ) → is_some (opened_of left) ≡ false → held ≡ []
@@ -166,42 +166,43 @@ ends_fine None held no_message none = ap (answer_at_end None) (sym none)
 ends_fine (Some begun) held no_message none = cc
 
 -- where nothing was held
-pub whole_stopped : (left : Option Begun) (held text behind bytes : List ℕ) (reason : Reason) → held ≡ []
-    → LacksReturn text → bytes ≡ text ++ 13 ∷ behind → IsRecordRefusedFor left text reason
+pub whole_stopped : (left : Option Begun) (held text following bytes : List ℕ) (reason : Reason) → held ≡ []
+    → LacksReturn text → bytes ≡ text ++ 13 ∷ following → IsRecordRefusedFor left text reason
     → IsStopped left held bytes reason
-whole_stopped left held text behind bytes reason none lacks whole why =
-    line_stopped left held text behind bytes reason lacks whole
+whole_stopped left held text following bytes reason none lacks whole why =
+    line_stopped left held text following bytes reason lacks whole
     (subst (λ (h : List ℕ). IsRecordRefusedFor left (h ++ text) reason) (sym none) why)
 
 -- where bytes were held
-pub held_stopped : (left : Option Begun) (held text behind bytes : List ℕ) (reason : Reason)
-    → false ≡ (length held == 0) → LacksReturn text → bytes ≡ text ++ 13 ∷ behind
+pub held_stopped : (left : Option Begun) (held text following bytes : List ℕ) (reason : Reason)
+    → false ≡ (length held == 0) → LacksReturn text → bytes ≡ text ++ 13 ∷ following
     → (reason ≡ reasons.OutOfMemory) ⊎ IsRecordRefusedFor left (held ++ text) reason
     → IsStopped left held bytes reason
-held_stopped left held text behind bytes reason some lacks whole (inl memory) =
+held_stopped left held text following bytes reason some lacks whole (inl memory) =
     inl (memory, λ none. absurd (cc (rw none at some)))
-held_stopped left held text behind bytes reason some lacks whole (inr why) =
-    line_stopped left held text behind bytes reason lacks whole why
+held_stopped left held text following bytes reason some lacks whole (inr why) =
+    line_stopped left held text following bytes reason lacks whole why
 
-pub behind_shorter : (bytes text behind : List ℕ) → bytes ≡ text ++ 13 ∷ behind → length behind < length bytes
-behind_shorter bytes text behind whole = rw whole (simp length-append (omega arith))
+pub following_shorter : (bytes text following : List ℕ) → bytes ≡ text ++ 13 ∷ following → length following < length
+    bytes
+following_shorter bytes text following whole = rw whole (simp length-append (omega arith))
 
 -- a record that was found in a text is the one that is known to be it
-pub known_told : (entry : Lent RecordContent) (d : DelimiterBytes) (k : Kind) (text held : List ℕ)
+pub known_reported : (entry : Borrowed RecordContent) (d : DelimiterBytes) (k : Kind) (text held : List ℕ)
     → entry ≡ record_in entry.delimiters entry.content.kind text → d ≡ entry.delimiters → k ≡ entry.content.kind
     → text ≡ held
     → Some (record_in d k held) ≡ Some entry
-known_told entry d k text held is marks kind same =
+known_reported entry d k text held is marks kind same =
     ap (λ (x : DelimiterBytes). Some (record_in x k held)) marks
     ∙ ap (λ (x : Kind). Some (record_in entry.delimiters x held)) kind
     ∙ ap (λ (x : List ℕ). Some (record_in entry.delimiters entry.content.kind x)) (sym same) ∙ ap Some (sym is)
 
--- ---- where the last record was let go of
+-- ---- where the last record was released
 
-record_same : (before other after : RecordsState) (left : Option Begun) (bytes behind : List ℕ)
-    (entry : Lent RecordContent) → before.held ≡ other.held → ReadsRecord before after left bytes behind entry
-    → ReadsRecord other after left bytes behind entry
-record_same before other after left bytes behind entry same r = record {
+record_same : (before other after : RecordsState) (left : Option Begun) (bytes following : List ℕ)
+    (entry : Borrowed RecordContent) → before.held ≡ other.held → ReadsRecord before after left bytes following entry
+    → ReadsRecord other after left bytes following entry
+record_same before other after left bytes following entry same r = record {
   text = r.text;
   whole = r.whole;
   lacks = r.lacks;
@@ -211,10 +212,10 @@ record_same before other after left bytes behind entry same r = record {
 }
 
 -- of what the reader keeps before only the bytes that it holds count
-pub reads_same : (before other after : RecordsState) (left : Option Begun) (bytes behind : List ℕ) (f : Found)
-    → before.held ≡ other.held → before.opened ≡ other.opened → Reads before after left bytes behind f
-    → Reads other after left bytes behind f
-reads_same before other after left bytes behind found.Nothing same open' r = record {
+pub reads_same : (before other after : RecordsState) (left : Option Begun) (bytes following : List ℕ) (f : RecordFound)
+    → before.held ≡ other.held → before.opened ≡ other.opened → Reads before after left bytes following f
+    → Reads other after left bytes following f
+reads_same before other after left bytes following found.Nothing same open' r = record {
   all = r.all;
   lacks = r.lacks;
   held = r.held ∙ ap (λ h. h ++ bytes) same;
@@ -222,11 +223,11 @@ reads_same before other after left bytes behind found.Nothing same open' r = rec
   left_then = r.left_then;
   uncut = r.uncut;
 }
-reads_same before other after left bytes behind (found.Record entry) same open' r =
-    (r.0, record_same before other after left bytes behind entry same r.1)
-reads_same before other after left bytes behind found.Held same open' r =
-    (r.0, r.1, record_same before other after left bytes behind r.0 same r.2)
-reads_same before other after left bytes behind (found.Refused fault) same open' r = record {
+reads_same before other after left bytes following (found.Record entry) same open' r =
+    (r.0, record_same before other after left bytes following entry same r.1)
+reads_same before other after left bytes following found.Held same open' r =
+    (r.0, r.1, record_same before other after left bytes following r.0 same r.2)
+reads_same before other after left bytes following (found.Refused fault) same open' r = record {
   none_read = r.none_read;
   place = r.place;
   why = subst (λ (h : List ℕ). IsStopped left h bytes fault.reason) same r.why;

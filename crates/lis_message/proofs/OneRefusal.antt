@@ -1,15 +1,15 @@
--- A stream is refused in one way at most.
+-- A stream is rejected in one way at most.
 use Rattle.std.proofs.Common.{◌≡◌, ℕ, ◌⊎◌, inl, inr, ⊎_elim, List, [], ◌∷◌, ◌++◌, Option, Some, None, refl, sym, ◌∙◌}
 use Rattle.std.proofs.Common.{ap, subst, append_assoc, arith}
 use Rattle.std.proofs.lemmas.List.{append-nil}
-use Rattle.lis_field.specs.declared.faults.MessageFault.{MessageFault}
-use Rattle.lis_field.specs.declared.faults.Reason.{Reason}
+use Rattle.lis_record_values.specs.declared.faults.MessageFault.{MessageFault}
+use Rattle.lis_record_values.specs.declared.faults.Reason.{Reason}
 use Rattle.lis_tree.specs.Begun.{Begun}
 use Rattle.lis_message.specs.Feeding.{next_place}
 use Rattle.lis_message.specs.Stream.{ended, refusal, IsRefused, IsRefusedText, IsLongText, LacksReturn}
 use Rattle.lis_tree.specs.Tree.{MessageTree}
 use Rattle.lis_message.proofs.Lines.{AllLack, line_one, longer_front, ended_cons}
-use Rattle.lis_message.proofs.Reading.{State, Run, Step, start, all_texts, cut_runs, cut_lines, run_lacks, run_one}
+use Rattle.lis_message.proofs.Reading.{State, Run, Step, start, all_texts, split_runs, split_lines, run_lacks, run_one}
 use Rattle.lis_message.proofs.Reading.{run_split, step_lacks}
 use Rattle.lis_message.proofs.Refusals.{read_short, read_unrefused}
 
@@ -41,7 +41,7 @@ compared (x ∷ xs) (y ∷ ys) r s lx ly e =
 abbrev IsStop : Option Begun → List ℕ → List ℕ → Reason → Type 0
 IsStop left text more reason = IsRefusedText left text more reason ⊎ IsLongText text reason
 
--- a text that is refused isn't read
+-- a text that is rejected isn't read
 unread : (here n : State) (text more z rest : List ℕ) (reason : Reason) → LacksReturn text → LacksReturn z
     → IsStop here.left text more reason → text ++ more ≡ z ++ 13 ∷ rest → Step here z n → ⊥
 unread here n text more z rest reason l lz stop e step =
@@ -54,7 +54,7 @@ unread here n text more z rest reason l lz stop e step =
     let short = read_short here.messages here.left z n step in
     let long = is.long in omega arith) stop
 
--- two refusals behind the same records
+-- two rejections after the same records
 stop_one : (left : Option Begun) (t u a b : List ℕ) (p q : Reason) → LacksReturn t → LacksReturn u → IsStop left t a p
     → IsStop left u b q → t ++ a ≡ u ++ b → p ≡ q
 stop_one left t u a b p q lt lu (inl s) (inl r) e =
@@ -73,7 +73,7 @@ same_fault f g p r =
     let make : ℕ → Reason → MessageFault = λ n x. record { place = n; reason = x } in
     ap (λ n. make n f.reason) p ∙ ap (make g.place) r
 
--- the records of the other go on with none, since the first of them would be the refused one
+-- the records of the other go on with none, since the first of them would be the rejected one
 settle : (m n : List MessageTree) (f g : MessageFault) (l k : Option Begun) (t a u b : List ℕ) (more : List (List ℕ))
     → LacksReturn t → LacksReturn u → IsStop l t a f.reason → IsStop k u b g.reason
     → f.place ≡ next_place l → g.place ≡ next_place k → t ++ a ≡ ended more ++ (u ++ b)
@@ -86,38 +86,39 @@ settle m n f g l k t a u b (z ∷ zs) lt lu s r p q e run =
     absurd (unread (record { messages = m; left = l }) run.0 t a z (ended zs ++ (u ++ b)) f.reason lt
     (step_lacks (record { messages = m; left = l }) z run.0 run.1) s (e ∙ ended_cons z zs (u ++ b)) run.1)
 
--- where one refusal's records go on with those of the other
+-- where one rejection's records go on with those of the other
 ahead : (stream : List ℕ) (m n : List MessageTree) (f g : MessageFault) (a : IsRefused stream m f)
     (b : IsRefused stream n g)
-    → LinesGoOn (all_texts a.cut.groups ++ a.cut.texts) (all_texts b.cut.groups ++ b.cut.texts) (a.text ++ a.more)
+    → LinesGoOn (all_texts a.split.groups ++ a.split.texts) (all_texts b.split.groups ++ b.split.texts)
+    (a.text ++ a.more)
     (b.text ++ b.more) → (m ≡ n) × (f ≡ g)
 ahead stream m n f g a b goes =
-    let xs = all_texts a.cut.groups ++ a.cut.texts in
-    let ys = all_texts b.cut.groups ++ b.cut.texts in
+    let xs = all_texts a.split.groups ++ a.split.texts in
+    let ys = all_texts b.split.groups ++ b.split.texts in
     let here : State = record { messages = m; left = a.left } in
     let end : State = record { messages = n; left = b.left } in
-    let run_x = cut_runs a.front m a.left [] a.cut in
-    let run_y = cut_runs b.front n b.left [] b.cut in
+    let run_x = split_runs a.front m a.left [] a.split in
+    let run_y = split_runs b.front n b.left [] b.split in
     let halves = run_split start xs goes.more end (subst (λ ts. Run start ts end) goes.lines run_y) in
     let same : halves.0 ≡ here = run_one start xs halves.0 here halves.1 run_x in
     settle m n f g a.left b.left a.text a.more b.text b.more goes.more a.lacks b.lacks a.refused b.refused a.place
     b.place goes.rest
     (subst (λ s. Run s goes.more end) same halves.2)
 
--- A stream is refused in one way at most.
+-- A stream is rejected in one way at most.
 pub refused_one : (stream : List ℕ) (m n : List MessageTree) (f g : MessageFault) → IsRefused stream m f
     → IsRefused stream n g → (m ≡ n) × (f ≡ g)
 refused_one stream m n f g a b =
-    let xs = all_texts a.cut.groups ++ a.cut.texts in
-    let ys = all_texts b.cut.groups ++ b.cut.texts in
+    let xs = all_texts a.split.groups ++ a.split.texts in
+    let ys = all_texts b.split.groups ++ b.split.texts in
     let lines_a : stream ≡ ended xs ++ (a.text ++ a.more) =
     a.whole ∙ append_assoc a.front a.text a.more ∙ ap (λ l. l ++ (a.text ++ a.more))
-    (cut_lines a.front m a.left [] a.cut ∙ append-nil (ended xs)) in
+    (split_lines a.front m a.left [] a.split ∙ append-nil (ended xs)) in
     let lines_b : stream ≡ ended ys ++ (b.text ++ b.more) =
     b.whole ∙ append_assoc b.front b.text b.more ∙ ap (λ l. l ++ (b.text ++ b.more))
-    (cut_lines b.front n b.left [] b.cut ∙ append-nil (ended ys)) in
-    let lack_a = run_lacks start xs (record { messages = m; left = a.left }) (cut_runs a.front m a.left [] a.cut) in
-    let lack_b = run_lacks start ys (record { messages = n; left = b.left }) (cut_runs b.front n b.left [] b.cut) in
+    (split_lines b.front n b.left [] b.split ∙ append-nil (ended ys)) in
+    let lack_a = run_lacks start xs (record { messages = m; left = a.left }) (split_runs a.front m a.left [] a.split) in
+    let lack_b = run_lacks start ys (record { messages = n; left = b.left }) (split_runs b.front n b.left [] b.split) in
     ⊎_elim (λ (g' : LinesGoOn xs ys (a.text ++ a.more) (b.text ++ b.more)). ahead stream m n f g a b g')
     (λ (g' : LinesGoOn ys xs (b.text ++ b.more) (a.text ++ a.more)). let back = ahead stream n m g f b a g' in
     (sym back.0, sym back.1))

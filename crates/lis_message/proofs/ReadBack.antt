@@ -4,24 +4,24 @@ use Rattle.std.proofs.Common.{sym, ◌∙◌, ap, arith}
 use Rattle.std.specs.List.{AllByRecursion, AllZip, flat_map}
 use Rattle.std.specs.Prelude.{MatchOption, OnOk}
 use Rattle.std.proofs.lemmas.List.{append-nil}
-use Rattle.lis_field.specs.Delimiters.{DelimiterBytes, IsDelimiters}
-use Rattle.lis_field.specs.Relation.{IsRecord}
-use Rattle.lis_field.specs.Shape.{RecordContent, IsRecordShape}
-use Rattle.lis_spelling.specs.Spelling.{spelled, written}
-use Rattle.lis_spelling.proofs.ReadBack.{IsRecord-spelled}
-use Rattle.lis_field.specs.declared.faults.MessageFault.{MessageFault}
-use Rattle.lis_field.specs.declared.faults.Reason.TheVariants as reasons
+use Rattle.lis_record_values.specs.Delimiters.{DelimiterBytes, IsDelimiters}
+use Rattle.lis_record_values.specs.Relation.{IsRecord}
+use Rattle.lis_record_values.specs.Shape.{RecordContent, IsRecordShape}
+use Rattle.lis_record_write.specs.Encoding.{encoded, written}
+use Rattle.lis_record_write.proofs.ReadBack.{IsRecord-encoded}
+use Rattle.lis_record_values.specs.declared.faults.MessageFault.{MessageFault}
+use Rattle.lis_record_values.specs.declared.faults.Reason.TheVariants as reasons
 use Rattle.lis_tree.specs.Begun.{Begun}
-use Rattle.lis_message.specs.Feeding.{ReadsWhole, StopsReading, IsWantOfMemory, IsCutShort, answer_at_end}
-use Rattle.lis_message.specs.Stream.{ended, AreMessage, IsMessage, IsCut, IsRefused}
+use Rattle.lis_message.specs.Feeding.{ReadsWhole, StopsReading, IsOutOfMemory, EndsEarly, answer_at_end}
+use Rattle.lis_message.specs.Stream.{ended, AreMessage, IsMessage, IsSplit, IsRefused}
 use Rattle.lis_tree.specs.Tree.{MessageTree, IsTree, flatten}
 use Rattle.lis_message.specs.Writing.{message_bytes, records_bytes, AreWritable, IsWritable}
-use Rattle.lis_message.proofs.Reading.{cut_one}
+use Rattle.lis_message.proofs.Reading.{split_one}
 use Rattle.lis_message.proofs.Refusals.{refused_uncut}
 
 -- the texts of records as they are written
 abbrev texts_of : DelimiterBytes → List RecordContent → List (List ℕ)
-texts_of d rs = map (spelled d) rs
+texts_of d rs = map (encoded d) rs
 
 lines_written : (d : DelimiterBytes) (rs : List RecordContent) → records_bytes d rs ≡ ended (texts_of d rs)
 lines_written d [] = refl
@@ -31,7 +31,7 @@ texts_read : (d : DelimiterBytes) → IsDelimiters d → (rs : List RecordConten
     → AreWritable d rs → AllZip (IsRecord d) (texts_of d rs) rs
 texts_read d good [] shapes writable = tt
 texts_read d good (r ∷ rs) shapes writable =
-    (IsRecord-spelled d good r shapes.0 writable.0, texts_read d good rs shapes.1 writable.1)
+    (IsRecord-encoded d good r shapes.0 writable.0, texts_read d good rs shapes.1 writable.1)
 
 written_message : (m : MessageTree) → IsTree m → IsWritable m → AreMessage (texts_of m.delimiters (flatten m)) m
 written_message m is writable = record {
@@ -58,10 +58,10 @@ groups_read : (ms : List MessageTree) → AllByRecursion IsTree ms → AllByRecu
 groups_read [] are writable = tt
 groups_read (m ∷ ms) are writable = (written_message m are.0 writable.0, groups_read ms are.1 writable.1)
 
--- messages in a row are the cut of their bytes
-pub messages_cut : (ms : List MessageTree) → AllByRecursion IsTree ms → AllByRecursion IsWritable ms
-    → IsCut (flat_map message_bytes ms) ms None []
-messages_cut ms are writable = record {
+-- messages in a row are the split of their bytes
+pub messages_split : (ms : List MessageTree) → AllByRecursion IsTree ms → AllByRecursion IsWritable ms
+    → IsSplit (flat_map message_bytes ms) ms None []
+messages_split ms are writable = record {
   groups = groups_of ms;
   texts = [];
   whole = groups_written ms ∙ sym (append-nil (flat_map ended (groups_of ms)))
@@ -75,10 +75,10 @@ messages_cut ms are writable = record {
 -- and no other
 pub messages_one : (ms : List MessageTree) → AllByRecursion IsTree ms → AllByRecursion IsWritable ms
     → (others : List MessageTree) (left : Option Begun) (held : List ℕ)
-    → IsCut (flat_map message_bytes ms) others left held
+    → IsSplit (flat_map message_bytes ms) others left held
     → (others ≡ ms) × (left ≡ None) × (held ≡ [])
 messages_one ms are writable others left held c =
-    cut_one (flat_map message_bytes ms) others ms left None held [] c (messages_cut ms are writable)
+    split_one (flat_map message_bytes ms) others ms left None held [] c (messages_split ms are writable)
 
 -- so they are what is read
 pub reads_back : (ms : List MessageTree) → AllByRecursion IsTree ms → AllByRecursion IsWritable ms
@@ -88,11 +88,11 @@ pub reads_back : (ms : List MessageTree) → AllByRecursion IsTree ms → AllByR
 reads_back ms are writable messages None r = (messages_one ms are writable messages None [] r).0
 reads_back ms are writable messages (Some f) r =
     ⊎_elim (λ (s : StopsReading (flat_map message_bytes ms) messages f).
-    ⊎_elim (λ (oom : IsWantOfMemory (flat_map message_bytes ms) messages f). oom.why)
+    ⊎_elim (λ (oom : IsOutOfMemory (flat_map message_bytes ms) messages f). oom.why)
     (λ (refused : IsRefused (flat_map message_bytes ms) messages f). absurd
-    (refused_uncut (flat_map message_bytes ms) messages ms f None [] refused (messages_cut ms are writable))) s)
-    (λ (short : IsCutShort (flat_map message_bytes ms) messages f).
-    let one = messages_one ms are writable messages short.left short.held short.cut in
+    (refused_uncut (flat_map message_bytes ms) messages ms f None [] refused (messages_split ms are writable))) s)
+    (λ (short : EndsEarly (flat_map message_bytes ms) messages f).
+    let one = messages_one ms are writable messages short.left short.held short.split in
     let done : answer_at_end short.left short.held ≡ Ok tt =
     ap (λ l. answer_at_end l short.held) one.1 ∙ ap (answer_at_end None) one.2 in
     let clash : Ok tt ≡ Err f = sym done ∙ short.why in absurd cc) r

@@ -1,18 +1,18 @@
--- The records of a stream read one by one: a machine over the texts. What it reads is the stream's one cut.
+-- The records of a stream read one by one: a machine over the texts. What it reads is the stream's one split.
 use Rattle.std.proofs.Common.{◌≡◌, ◌≢◌, ℕ, List, [], ◌∷◌, ◌++◌, Option, Some, None, refl, sym, ◌∙◌, ap, subst}
 use Rattle.std.proofs.Common.{append_assoc}
 use Rattle.std.specs.List.{AllZip, flat_map}
 use Rattle.std.proofs.lemmas.List.{append-nil}
-use Rattle.lis_field.specs.declared.kinds.Kind.TheVariants as kinds
-use Rattle.lis_field.specs.Delimiters.{DelimiterBytes, IsDelimiters, delimiter_list}
-use Rattle.lis_field.specs.Relation.{IsRecord, declared_part}
-use Rattle.lis_field.specs.Shape.{RecordContent}
+use Rattle.lis_record_values.specs.declared.kinds.Kind.TheVariants as kinds
+use Rattle.lis_record_values.specs.Delimiters.{DelimiterBytes, IsDelimiters, delimiter_list}
+use Rattle.lis_record_values.specs.Relation.{IsRecord, declared_part}
+use Rattle.lis_record_values.specs.Shape.{RecordContent}
 use Rattle.lis_record.proofs.RecordTexts.{IsRecord-one}
 use Rattle.lis_tree.specs.Begun.{Begun, level_of}
 use Rattle.lis_tree.specs.Level.{Level, outside, closed, next_level}
-use Rattle.lis_tree.specs.Level.{level_after, misplaced, StandsFrom, kinds_of}
+use Rattle.lis_tree.specs.Level.{level_after, misplaced, AllowedFrom, kinds_of}
 use Rattle.lis_message.specs.Taking.{begun_with}
-use Rattle.lis_message.specs.Stream.{ended, AreMessage, AreLeft, IsCut, LacksReturn}
+use Rattle.lis_message.specs.Stream.{ended, AreMessage, AreLeft, IsSplit, LacksReturn}
 use Rattle.lis_tree.specs.Tree.{MessageTree, IsTree, flatten, group_records}
 use Rattle.lis_tree.proofs.Flatten.{flatten_one}
 use Rattle.lis_tree.proofs.Levels.{IsInside, header_first, level_append, map_append, next_begun, other_kind}
@@ -134,7 +134,7 @@ pub run_split : (s : State) (xs ys : List (List ℕ)) (e : State) → Run s (xs 
 run_split s [] ys e h = (s, refl, h)
 run_split s (x ∷ xs) ys e h = let below = run_split h.0 xs ys e h.2 in (below.0, (h.0, h.1, below.1), below.2)
 
--- ---- a cut is a run
+-- ---- a split is a run
 
 -- one record more
 abbrev with_one : Begun → RecordContent → Begun
@@ -145,10 +145,10 @@ level_with_one : (b : Begun) (r : RecordContent)
 level_with_one b r =
     ap (level_after outside) (map_append b.records (r ∷ [])) ∙ level_append outside (kinds_of b.records) (r.kind ∷ [])
 
--- records behind a begun message are read one by one
+-- records after a begun message are read one by one
 rest_runs : (ms : List MessageTree) (b : Begun) → IsDelimiters b.delimiters → level_of (Some b) ≢ outside
     → (ts : List (List ℕ)) (rs : List RecordContent) → AllZip (IsRecord b.delimiters) ts rs
-    → StandsFrom (level_of (Some b)) (kinds_of rs) → level_after (level_of (Some b)) (kinds_of rs) ≢ closed
+    → AllowedFrom (level_of (Some b)) (kinds_of rs) → level_after (level_of (Some b)) (kinds_of rs) ≢ closed
     → Run (record { messages = ms; left = Some b }) ts
     (record { messages = ms; left = begun_with b.delimiters (b.records ++ rs) })
 rest_runs ms b good o [] [] z p u = ap (λ l. record { messages = ms; left = begun_with b.delimiters l })
@@ -160,7 +160,7 @@ rest_runs ms b good o (t ∷ ts) (r ∷ rs) z p u =
     let begun : level_of (Some (with_one b r)) ≢ outside =
     subst (λ l. l ≢ outside) (sym goes) (next_begun (level_of (Some b)) r.kind o) in
     let below = rest_runs ms (with_one b r) good begun ts rs z.1
-    (subst (λ l. StandsFrom l (kinds_of rs)) (sym goes) p.1)
+    (subst (λ l. AllowedFrom l (kinds_of rs)) (sym goes) p.1)
     (subst (λ l. level_after l (kinds_of rs) ≢ closed) (sym goes) u) in (
       record { messages = ms; left = Some (with_one b r) },
       record {
@@ -180,7 +180,7 @@ rest_runs ms b good o (t ∷ ts) (r ∷ rs) z p u =
 -- so is a message that begins
 begun_runs : (ms : List MessageTree) (d : DelimiterBytes) → IsDelimiters d
     → (ts : List (List ℕ)) (r : RecordContent) (rs : List RecordContent) → AllZip (IsRecord d) ts (r ∷ rs)
-    → StandsFrom outside (kinds_of (r ∷ rs)) → level_after outside (kinds_of (r ∷ rs)) ≢ closed
+    → AllowedFrom outside (kinds_of (r ∷ rs)) → level_after outside (kinds_of (r ∷ rs)) ≢ closed
     → Run (record { messages = ms; left = None }) ts (record { messages = ms; left = begun_with d (r ∷ rs) })
 begun_runs ms d good [] r rs z p u = absurd z
 begun_runs ms d good (t ∷ ts) r rs z p u =
@@ -194,7 +194,7 @@ begun_runs ms d good (t ∷ ts) r rs z p u =
 
 open_runs : (ms : List MessageTree) (texts : List (List ℕ)) (d : DelimiterBytes) (rs : List RecordContent)
     → IsDelimiters d → rs ≢ [] → AllZip (IsRecord d) texts rs
-    → StandsFrom outside (kinds_of rs) → level_after outside (kinds_of rs) ≢ closed
+    → AllowedFrom outside (kinds_of rs) → level_after outside (kinds_of rs) ≢ closed
     → Run (record { messages = ms; left = None }) texts (record { messages = ms; left = begun_with d rs })
 open_runs ms texts d [] good some z p u = absurd (some refl)
 open_runs ms texts d (r ∷ rs) good some z p u = begun_runs ms d good texts r rs z p u
@@ -249,7 +249,7 @@ message_runs ms texts m are =
     let leads = tree_leads m are.tree in
     let unclosed : level_after outside (kinds_of (m.header ∷ rs)) ≢ closed =
     subst (λ l. l ≢ closed) (sym leads.2.arrives) (inside_open leads.0 leads.1) in
-    let front = begun_runs ms m.delimiters are.tree.delimiters ends.front m.header rs ends.each leads.2.stands
+    let front = begun_runs ms m.delimiters are.tree.delimiters ends.front m.header rs ends.each leads.2.allowed
     unclosed in
     let placed : misplaced (level_after outside (kinds_of (m.header ∷ rs))) m.closing.kind ≡ None =
     ap (misplaced (level_after outside (kinds_of (m.header ∷ rs)))) are.tree.closing
@@ -295,26 +295,26 @@ groups_run ms (g ∷ groups) (m ∷ messages) z =
 abbrev pub start : State
 start = record { messages = []; left = None }
 
--- the texts of a cut are read one by one
-pub cut_runs : (stream : List ℕ) (messages : List MessageTree) (left : Option Begun) (held : List ℕ)
-    (c : IsCut stream messages left held)
+-- the texts of a split are read one by one
+pub split_runs : (stream : List ℕ) (messages : List MessageTree) (left : Option Begun) (held : List ℕ)
+    (c : IsSplit stream messages left held)
     → Run start (all_texts c.groups ++ c.texts) (record { messages = messages; left = left })
-cut_runs stream messages left held c =
+split_runs stream messages left held c =
     run_append start (all_texts c.groups) c.texts (record { messages = messages; left = None })
     (record { messages = messages; left = left })
     (groups_run [] c.groups messages c.read) (left_runs messages c.texts left c.begun)
 
--- ---- the lines of a cut
+-- ---- the lines of a split
 
 ended_groups : (groups : List (List (List ℕ))) → flat_map ended groups ≡ ended (all_texts groups)
 ended_groups [] = refl
 ended_groups (g ∷ groups) = ap (λ l. ended g ++ l) (ended_groups groups) ∙ sym (ended_append g (all_texts groups))
 
--- a stream that is cut is its lines and what is held
-pub cut_lines : (stream : List ℕ) (messages : List MessageTree) (left : Option Begun) (held : List ℕ)
-    (c : IsCut stream messages left held)
+-- a stream that is split is its lines and what is held
+pub split_lines : (stream : List ℕ) (messages : List MessageTree) (left : Option Begun) (held : List ℕ)
+    (c : IsSplit stream messages left held)
     → stream ≡ ended (all_texts c.groups ++ c.texts) ++ held
-cut_lines stream messages left held c =
+split_lines stream messages left held c =
     c.whole ∙ ap (λ l. l ++ ended c.texts ++ held) (ended_groups c.groups)
     ∙ ap (λ l. l ++ held) (sym (ended_append (all_texts c.groups) c.texts))
 
@@ -331,17 +331,17 @@ pub run_lacks : (s : State) (ts : List (List ℕ)) (e : State) → Run s ts e �
 run_lacks s [] e h = tt
 run_lacks s (t ∷ ts) e h = (step_lacks s t h.0 h.1, run_lacks h.0 ts e h.2)
 
--- A stream is cut in one way at most.
-pub cut_one : (stream : List ℕ) (m n : List MessageTree) (l k : Option Begun) (h g : List ℕ) → IsCut stream m l h
-    → IsCut stream n k g → (m ≡ n) × (l ≡ k) × (h ≡ g)
-cut_one stream m n l k h g a b =
-    let ra = cut_runs stream m l h a in
-    let rb = cut_runs stream n k g b in
+-- A stream is split in one way at most.
+pub split_one : (stream : List ℕ) (m n : List MessageTree) (l k : Option Begun) (h g : List ℕ) → IsSplit stream m l h
+    → IsSplit stream n k g → (m ≡ n) × (l ≡ k) × (h ≡ g)
+split_one stream m n l k h g a b =
+    let ra = split_runs stream m l h a in
+    let rb = split_runs stream n k g b in
     let ta = all_texts a.groups ++ a.texts in
     let tb = all_texts b.groups ++ b.texts in
     let ea : State = record { messages = m; left = l } in
     let eb : State = record { messages = n; left = k } in
     let lines = lines_one ta tb h g (run_lacks start ta ea ra) (run_lacks start tb eb rb) a.lacks b.lacks
-    (sym (cut_lines stream m l h a) ∙ cut_lines stream n k g b) in
+    (sym (split_lines stream m l h a) ∙ split_lines stream n k g b) in
     let same : ea ≡ eb = run_one start tb ea eb (subst (λ ts. Run start ts ea) lines.0 ra) rb in
     (ap (λ (s : State). s.messages) same, ap (λ (s : State). s.left) same, lines.1)

@@ -3,21 +3,21 @@ use Rattle.std.proofs.Common.{◌≡◌, ℕ, ◌+◌, ◌<◌, ◌≤◌, inl, 
 use Rattle.std.proofs.Common.{refl, zero, suc, sym, ◌∙◌, ap, subst, append_assoc, arith, length-take}
 use Rattle.std.specs.List.{flat_map}
 use Rattle.std.proofs.lemmas.List.{append-nil, take-append-drop}
-use Rattle.lis_spelling.specs.declared.writing.TheConstants.{RECORD_LIMIT}
-use Rattle.lis_field.specs.declared.faults.MessageFault.{MessageFault}
-use Rattle.lis_field.specs.declared.faults.Reason.TheVariants as reasons
+use Rattle.lis_record_write.specs.declared.writing.TheConstants.{RECORD_LIMIT}
+use Rattle.lis_record_values.specs.declared.faults.MessageFault.{MessageFault}
+use Rattle.lis_record_values.specs.declared.faults.Reason.TheVariants as reasons
 use Rattle.lis_tree.specs.Begun.{Begun}
-use Rattle.lis_message.specs.Feeding.{IsWantOfMemory, StopsReading, next_place}
-use Rattle.lis_message.specs.inside.Feeding.{Unended, Goes, StopsIn}
-use Rattle.lis_message.specs.Stream.{ended, refusal, IsCut, IsRefused, LacksReturn}
+use Rattle.lis_message.specs.Feeding.{IsOutOfMemory, StopsReading, next_place}
+use Rattle.lis_message.specs.inside.Feeding.{Unended, LeadsTo, StopsIn}
+use Rattle.lis_message.specs.Stream.{ended, refusal, IsSplit, IsRefused, LacksReturn}
 use Rattle.lis_tree.specs.Tree.{MessageTree}
 use Rattle.lis_message.proofs.Lines.{lacks_append}
 
 -- the stream without what is held
-front_cut : (stream : List ℕ) (messages : List MessageTree) (left : Option Begun) (held : List ℕ)
-    (c : IsCut stream messages left held)
-    → IsCut (flat_map ended c.groups ++ ended c.texts) messages left []
-front_cut stream messages left held c = record {
+front_split : (stream : List ℕ) (messages : List MessageTree) (left : Option Begun) (held : List ℕ)
+    (c : IsSplit stream messages left held)
+    → IsSplit (flat_map ended c.groups ++ ended c.texts) messages left []
+front_split stream messages left held c = record {
   groups = c.groups;
   texts = c.texts;
   whole = sym (append-nil (flat_map ended c.groups ++ ended c.texts));
@@ -32,9 +32,9 @@ lacks_take zero xs l = tt
 lacks_take (suc n) [] l = tt
 lacks_take (suc n) (x ∷ xs) l = (l.0, lacks_take n xs l.1)
 
--- a record is refused at its CR
+-- a record is rejected at its CR
 pub refused_line : (stream : List ℕ) (messages : List MessageTree) (left : Option Begun) (held text rest : List ℕ)
-    (fault : MessageFault) → IsCut stream messages left held → LacksReturn text → length (held ++ text) ≤ RECORD_LIMIT
+    (fault : MessageFault) → IsSplit stream messages left held → LacksReturn text → length (held ++ text) ≤ RECORD_LIMIT
     → refusal left (held ++ text) ≡ Some fault.reason → fault.place ≡ next_place left
     → IsRefused (stream ++ (text ++ 13 ∷ rest)) messages fault
 refused_line stream messages left held text rest fault c lacks short why place = record {
@@ -43,7 +43,7 @@ refused_line stream messages left held text rest fault c lacks short why place =
   text = held ++ text;
   more = 13 ∷ rest;
   whole = ap (λ l. l ++ (text ++ 13 ∷ rest)) c.whole ∙ simp append_assoc;
-  cut = front_cut stream messages left held c;
+  split = front_split stream messages left held c;
   lacks = lacks_append held text c.lacks lacks;
   place = place;
   refused = inl (record { rest = rest; ended_by = refl; short = short; why = why });
@@ -57,7 +57,7 @@ spread front a b rest = simp append_assoc
 
 -- a record is too long, before its CR
 pub refused_long : (stream : List ℕ) (messages : List MessageTree) (left : Option Begun) (held text rest : List ℕ)
-    (fault : MessageFault) → IsCut stream messages left held → LacksReturn text → RECORD_LIMIT < length (held ++ text)
+    (fault : MessageFault) → IsSplit stream messages left held → LacksReturn text → RECORD_LIMIT < length (held ++ text)
     → fault.reason ≡ reasons.RecordTooLong → fault.place ≡ next_place left
     → IsRefused (stream ++ (text ++ rest)) messages fault
 refused_long stream messages left held text rest fault c lacks long why place =
@@ -72,36 +72,37 @@ refused_long stream messages left held text rest fault c lacks long why place =
       more = drop n all ++ rest;
       whole = ap (λ l. l ++ (text ++ rest)) c.whole ∙ regroup front held text rest
           ∙ ap (λ l. front ++ (l ++ rest)) (sym parts) ∙ spread front (take n all) (drop n all) rest;
-      cut = front_cut stream messages left held c;
+      split = front_split stream messages left held c;
       lacks = lacks_take n all (lacks_append held text c.lacks lacks);
       place = place;
       refused = inr (record { long = length-take n all ∙ omega arith; why = why });
     }
 
--- memory is refused
+-- memory runs out
 pub starved : (stream : List ℕ) (messages : List MessageTree) (left : Option Begun) (held bytes : List ℕ)
-    (fault : MessageFault) → IsCut stream messages left held
+    (fault : MessageFault) → IsSplit stream messages left held
     → fault.place ≡ next_place left → fault.reason ≡ reasons.OutOfMemory
-    → IsWantOfMemory (stream ++ bytes) messages fault
+    → IsOutOfMemory (stream ++ bytes) messages fault
 starved stream messages left held bytes fault c place why = record {
   front = flat_map ended c.groups ++ ended c.texts;
   left = left;
   more = held ++ bytes;
   whole = ap (λ l. l ++ bytes) c.whole ∙ simp append_assoc;
-  cut = front_cut stream messages left held c;
+  split = front_split stream messages left held c;
   place = place;
   why = why;
 }
 
 -- ---- the reader's steps
 
--- one stretch after another
-pub goes_then : (a b c : Unended) (ms ns os : List MessageTree) (xs ys : List ℕ) → Goes a ms xs b ns
-    → Goes b ns ys c os → Goes a ms (xs ++ ys) c os
-goes_then a b c ms ns os xs ys g h past base cut =
-    subst (λ s. IsCut s (base ++ os) c.left c.held) (append_assoc past xs ys) (h (past ++ xs) base (g past base cut))
+-- one frame body after another
+pub goes_then : (a b c : Unended) (ms ns os : List MessageTree) (xs ys : List ℕ) → LeadsTo a ms xs b ns
+    → LeadsTo b ns ys c os → LeadsTo a ms (xs ++ ys) c os
+goes_then a b c ms ns os xs ys g h past base split =
+    subst (λ s. IsSplit s (base ++ os) c.left c.held) (append_assoc past xs ys)
+    (h (past ++ xs) base (g past base split))
 
 pub goes_stops : (a b : Unended) (ms ns os : List MessageTree) (xs ys : List ℕ) (fault : MessageFault)
-    → Goes a ms xs b ns → StopsIn b ns ys os fault → StopsIn a ms (xs ++ ys) os fault
-goes_stops a b ms ns os xs ys fault g h past base cut =
-    subst (λ s. StopsReading s (base ++ os) fault) (append_assoc past xs ys) (h (past ++ xs) base (g past base cut))
+    → LeadsTo a ms xs b ns → StopsIn b ns ys os fault → StopsIn a ms (xs ++ ys) os fault
+goes_stops a b ms ns os xs ys fault g h past base split =
+    subst (λ s. StopsReading s (base ++ os) fault) (append_assoc past xs ys) (h (past ++ xs) base (g past base split))

@@ -8,11 +8,11 @@ use Rattle.std.proofs.lemmas.List.Elements.{recursion_from_All}
 use Rattle.lis_text.specs.LinkText.{longest_text}
 use Rattle.lis_text.specs.Text.{is_forbidden, text_fault}
 use Rattle.lis_text.specs.declared.text.TextFault.TheVariants.{TooLong, Forbidden}
-use Rattle.lis_field.specs.Delimiters.{DelimiterBytes, IsDelimiters}
-use Rattle.lis_field.specs.Shape.{RecordContent, IsRecordShape}
-use Rattle.lis_spelling.specs.Spelling.{spelled, written}
-use Rattle.lis_field.specs.Text.{is_text_byte}
-use Rattle.lis_spelling.proofs.ReadBack.{IsRecord-spelled}
+use Rattle.lis_record_values.specs.Delimiters.{DelimiterBytes, IsDelimiters}
+use Rattle.lis_record_values.specs.Shape.{RecordContent, IsRecordShape}
+use Rattle.lis_record_write.specs.Encoding.{encoded, written}
+use Rattle.lis_record_values.specs.Text.{is_text_byte}
+use Rattle.lis_record_write.proofs.ReadBack.{IsRecord-encoded}
 use Rattle.lis_message.specs.Writing.{records_bytes, AreWritable}
 
 -- joined, they are the message's bytes
@@ -21,7 +21,7 @@ pub texts_joined : (d : DelimiterBytes) (rs : List RecordContent)
 texts_joined d [] = refl
 texts_joined d (r ∷ rs) = ap (λ l. written d r ++ l) (texts_joined d rs)
 
--- a byte of a record is none that a link text may not hold
+-- a byte of a record is one that a link text may hold
 allowed : (b : ℕ) → is_text_byte b ≡ true → is_forbidden b ≡ false
 unfolding is_text_byte
 allowed b t = grind (arith, nat_tests)
@@ -40,8 +40,8 @@ pub text_sent : (d : DelimiterBytes) → IsDelimiters d → (rs : List RecordCon
     → AreWritable d rs → AllByRecursion (λ t. text_fault longest_text t ≡ None) (map (written d) rs)
 text_sent d good [] shapes writable = tt
 text_sent d good (r ∷ rs) shapes writable =
-    let is = IsRecord-spelled d good r shapes.0 writable.0 in
-    let bytes = spelled d r in
+    let is = IsRecord-encoded d good r shapes.0 writable.0 in
+    let bytes = encoded d r in
     let short : length (written d r) ≤ longest_text = omega (arith, length-append bytes (13 ∷ []), is.short) in
     let clean = allowed_all bytes (recursion_from_All (λ b. is_text_byte b ≡ true) bytes is.is_text) 0 in (
       ap (λ t. if t then Some TooLong else option_map Forbidden (position_from is_forbidden 0 (written d r)))

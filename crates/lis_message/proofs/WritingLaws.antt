@@ -7,20 +7,20 @@ use Rattle.std.specs.Option.{option_or}
 use Rattle.lis_tree.specs.Tree.{MessageTree, flatten}
 use Rattle.std.specs.Prelude.{IfErr, option_map, nat_lt, if◌then◌else◌}
 use Rattle.std.proofs.lemmas.List.{append-nil, drop-drop}
-use Rattle.lis_spelling.specs.declared.faults.WriteFault.{WriteFault}
-use Rattle.lis_spelling.specs.declared.faults.WriteFault.TheVariants as write_faults
-use Rattle.lis_field.specs.Delimiters.{DelimiterBytes}
-use Rattle.lis_spelling.specs.WriteFaults.{bad_field_number, check_fault}
-use Rattle.lis_spelling.specs.declared.writing.TheConstants.{RECORD_LIMIT}
-use Rattle.lis_field.specs.Shape.{RecordContent}
-use Rattle.lis_spelling.specs.Spelling.{spelled, written}
-use Rattle.lis_spelling.specs.Writing.{Wrote, is_io}
+use Rattle.lis_record_write.specs.declared.faults.WriteFault.{WriteFault}
+use Rattle.lis_record_write.specs.declared.faults.WriteFault.TheVariants as write_faults
+use Rattle.lis_record_values.specs.Delimiters.{DelimiterBytes}
+use Rattle.lis_record_write.specs.WriteFaults.{bad_field_number, check_fault}
+use Rattle.lis_record_write.specs.declared.writing.TheConstants.{RECORD_LIMIT}
+use Rattle.lis_record_values.specs.Shape.{RecordContent}
+use Rattle.lis_record_write.specs.Encoding.{encoded, written}
+use Rattle.lis_record_write.specs.Writing.{Wrote, is_io}
 use Rattle.lis_message.specs.declared.fault.MessageWriteFault.{MessageWriteFault}
 use Rattle.lis_text.specs.Capped.{capped}
 use Rattle.lis_message.specs.Writing.{records_bytes, AreWritable, CanResume, refusal_from, first_bytes, first_length}
 use Rattle.lis_message.specs.Writing.{front_of, StoppedIn, WroteMessage, WroteRecords, write_refusal}
 
--- ---- refusals
+-- ---- rejections
 
 pub refusal_here : (d : DelimiterBytes) (n : ℕ) (r : RecordContent) (rs : List RecordContent) (fault : WriteFault)
     → check_fault d r ≡ Some fault → refusal_from d n (r ∷ rs) ≡ Some (record { place = capped n; fault = fault })
@@ -69,8 +69,8 @@ drop_front zero xs ys h = refl
 drop_front (suc n) [] ys h = absurd (omega arith)
 drop_front (suc n) (x ∷ xs) ys h = drop_front n xs ys (omega arith)
 
-place_behind : (place whole : ℕ) → capped (capped (place + 1) + whole) ≡ capped (place + suc whole)
-place_behind place whole = omega arith
+place_after : (place whole : ℕ) → capped (capped (place + 1) + whole) ≡ capped (place + suc whole)
+place_after place whole = omega arith
 
 -- ---- one record after another
 
@@ -84,7 +84,7 @@ stopped_step d r rs place skip old mid new fits first found (write_faults.Io cou
     let all : front_of d (r ∷ rs) (suc s.0) count ≡ written d r ++ front =
     append_assoc (written d r) (records_bytes d (take s.0 rs)) (first_bytes d count (drop s.0 rs)) in (
       suc s.0,
-      s.1 ∙ place_behind place s.0,
+      s.1 ∙ place_after place s.0,
       omega arith,
       s.3,
       omega (arith, ap length all, length-append (written d r) front),
@@ -126,7 +126,7 @@ pub record IsUnderWay (d : DelimiterBytes) (failed : Bool) (rest : List RecordCo
   pub goes : (new : Option (List ℕ)) (result : Result (Unit {0}) MessageWriteFault)
       → WroteRecords d rest at' passed now new result → WroteRecords d records place skip old new result
 
--- no record is refused for the sink's sake
+-- no record is rejected for the sink's sake
 kind_of_fault : (o : Option ℕ) (long : Bool) (f : WriteFault)
     → option_or (option_map write_faults.CharNotText o) (if long then Some write_faults.TooLong else None) ≡ Some f
     → is_io (Err f) ≡ false
@@ -137,7 +137,7 @@ kind_of_fault None false f e = absurd cc
 check_no_io : (d : DelimiterBytes) (r : RecordContent) (f : WriteFault) → check_fault d r ≡ Some f
     → is_io (Err f) ≡ false
 unfolding check_fault
-check_no_io d r f e = kind_of_fault (bad_field_number r) (nat_lt RECORD_LIMIT (length (spelled d r))) f e
+check_no_io d r f e = kind_of_fault (bad_field_number r) (nat_lt RECORD_LIMIT (length (encoded d r))) f e
 
 refusal_kind : (d : DelimiterBytes) (n : ℕ) (r : RecordContent) (rs : List RecordContent) (f : Option WriteFault)
     (fault : MessageWriteFault) → check_fault d r ≡ f → refusal_from d n (r ∷ rs) ≡ Some fault
@@ -164,7 +164,7 @@ pub written_as : (d e : DelimiterBytes) (rs ss : List RecordContent) (texts : Li
     → texts ≡ map (written d) rs → texts ≡ map (written e) ss
 written_as d e rs ss texts same_d same_rs w = w ∙ ap (map (written d)) same_rs ∙ ap (λ x. map (written x) ss) same_d
 
--- ---- going on behind a failure
+-- ---- going on after a failure
 
 pub stopped_resumes : (m : MessageTree) (place skip : ℕ) (old new : Option (List ℕ)) (found : ℕ) (fault : WriteFault)
     → 1 ≤ place → place ≤ length (flatten m)
@@ -200,15 +200,15 @@ wrote_as d e rs ss place skip old new result same_d same_rs w =
     subst (λ x. WroteRecords x ss place skip old new result) same_d
     (subst (λ x. WroteRecords d x place skip old new result) same_rs w)
 
--- ---- by what is refused of the message
+-- ---- by what is rejected of the message
 
 keeps : (bytes : Option (List ℕ)) → Keeps bytes bytes
 keeps None = tt
 keeps (Some xs) = refl
 
-abbrev told_by : MessageTree → ℕ → ℕ → Option (List ℕ) → Option (List ℕ) → Result (Unit {0}) MessageWriteFault
+abbrev reported_by : MessageTree → ℕ → ℕ → Option (List ℕ) → Option (List ℕ) → Result (Unit {0}) MessageWriteFault
     → Option MessageWriteFault → Type 0
-told_by m place skip old new result refusal =
+reported_by m place skip old new result refusal =
     elim refusal [
       | None ↦ WroteRecords m.delimiters (drop (place - 1) (flatten m)) place skip old new result
       | Some fault ↦ (result ≡ Err fault) × Keeps old new
@@ -217,13 +217,13 @@ told_by m place skip old new result refusal =
 pub wrote_refused : (m : MessageTree) (place skip : ℕ) (bytes : Option (List ℕ)) (fault : MessageWriteFault)
     → write_refusal m ≡ Some fault → WroteMessage m place skip bytes bytes (Err fault)
 wrote_refused m place skip bytes fault is =
-    subst (told_by m place skip bytes bytes (Err fault)) (sym is) (refl, keeps bytes)
+    subst (reported_by m place skip bytes bytes (Err fault)) (sym is) (refl, keeps bytes)
 
 pub wrote_rest : (m : MessageTree) (place skip : ℕ) (old new : Option (List ℕ))
     (result : Result (Unit {0}) MessageWriteFault) → write_refusal m ≡ None
     → WroteRecords m.delimiters (drop (place - 1) (flatten m)) place skip old new result
     → WroteMessage m place skip old new result
-wrote_rest m place skip old new result is wrote = subst (told_by m place skip old new result) (sym is) wrote
+wrote_rest m place skip old new result is wrote = subst (reported_by m place skip old new result) (sym is) wrote
 
 -- by other names
 pub refusal_as : (d e : DelimiterBytes) (rs ss : List RecordContent) (refusal : Option MessageWriteFault) → d ≡ e

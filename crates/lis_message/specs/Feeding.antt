@@ -1,10 +1,10 @@
 -- What a message reader keeps of a stream, and what it answers to a piece of it.
 use Rattle.std.specs.Prelude.{◌≡◌, ℕ, List, [], ◌++◌, Option, Some, None, Result, Ok, Err, ◌⊎◌, ◌+◌}
-use Rattle.lis_field.specs.declared.faults.MessageFault.{MessageFault}
-use Rattle.lis_field.specs.declared.faults.Reason.TheVariants as reasons
+use Rattle.lis_record_values.specs.declared.faults.MessageFault.{MessageFault}
+use Rattle.lis_record_values.specs.declared.faults.Reason.TheVariants as reasons
 use Rattle.lis_tree.specs.Begun.{Begun}
 use Rattle.lis_text.specs.Capped.{capped}
-use Rattle.lis_message.specs.Stream.{IsCut, IsRefused, count_of}
+use Rattle.lis_message.specs.Stream.{IsSplit, IsRefused, count_of}
 use Rattle.lis_tree.specs.Tree.{MessageTree}
 
 -- what a reader keeps: a message that isn't closed, bytes of a record that isn't ended, and the fault that it met
@@ -17,23 +17,23 @@ pub record ReaderState : Type 0 where
 abbrev pub next_place : Option Begun → ℕ
 next_place left = capped (count_of left + 1)
 
--- Memory is refused while a record is read: the messages are those before that record, and the fault has its place.
-pub record IsWantOfMemory (stream : List ℕ) (messages : List MessageTree) (fault : MessageFault) : Type 0 where
+-- Memory runs out while a record is read: the messages are those before that record, and the fault has its place.
+pub record IsOutOfMemory (stream : List ℕ) (messages : List MessageTree) (fault : MessageFault) : Type 0 where
   pub front : List ℕ
   pub left : Option Begun
   pub more : List ℕ
   pub whole : stream ≡ front ++ more
-  pub cut : IsCut front messages left []
+  pub split : IsSplit front messages left []
   pub place : fault.place ≡ next_place left
   pub why : fault.reason ≡ reasons.OutOfMemory
 
--- Memory is refused, or a record is.
+-- Memory runs out, or a record is.
 abbrev pub StopsReading : List ℕ → List MessageTree → MessageFault → Type 0
-StopsReading stream messages fault = IsWantOfMemory stream messages fault ⊎ IsRefused stream messages fault
+StopsReading stream messages fault = IsOutOfMemory stream messages fault ⊎ IsRefused stream messages fault
 
--- what a reader tells and keeps of a stream
+-- what a reader reports and keeps of a stream
 abbrev pub ReadsStream : List ℕ → List MessageTree → ReaderState → Option MessageFault → Type 0
-ReadsStream stream messages reader None = (reader.fault ≡ None) × IsCut stream messages reader.left reader.held
+ReadsStream stream messages reader None = (reader.fault ≡ None) × IsSplit stream messages reader.left reader.held
 ReadsStream stream messages reader (Some fault) = (reader.fault ≡ Some fault) × StopsReading stream messages fault
 
 -- the answer at the end of the stream
@@ -45,13 +45,13 @@ abbrev pub finished : ReaderState → Result (Unit {0}) MessageFault
 finished reader = elim reader.fault [ None ↦ answer_at_end reader.left reader.held | Some fault ↦ Err fault ]
 
 -- These messages are read of the stream, and its end comes too early.
-pub record IsCutShort (stream : List ℕ) (messages : List MessageTree) (fault : MessageFault) : Type 0 where
+pub record EndsEarly (stream : List ℕ) (messages : List MessageTree) (fault : MessageFault) : Type 0 where
   pub left : Option Begun
   pub held : List ℕ
-  pub cut : IsCut stream messages left held
+  pub split : IsSplit stream messages left held
   pub why : answer_at_end left held ≡ Err fault
 
 -- what is read of a stream that ends here
 abbrev pub ReadsWhole : List ℕ → List MessageTree → Option MessageFault → Type 0
-ReadsWhole stream messages None = IsCut stream messages None []
-ReadsWhole stream messages (Some fault) = StopsReading stream messages fault ⊎ IsCutShort stream messages fault
+ReadsWhole stream messages None = IsSplit stream messages None []
+ReadsWhole stream messages (Some fault) = StopsReading stream messages fault ⊎ EndsEarly stream messages fault

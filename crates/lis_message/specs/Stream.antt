@@ -2,21 +2,21 @@
 use Rattle.std.specs.Prelude.{◌≡◌, ◌≢◌, ℕ, ◌+◌, ◌≤◌, List, [], ◌∷◌, ◌++◌, length, Option, Some, None, option_map, ◌⊎◌}
 use Rattle.std.specs.List.{AllZip, AllByRecursion, flat_map}
 use Rattle.std.specs.Option.{option_or}
-use Rattle.lis_field.specs.declared.kinds.Kind.{Kind}
-use Rattle.lis_field.specs.declared.kinds.Kind.TheVariants as kinds
-use Rattle.lis_field.specs.declared.faults.RecordFault.TheVariants as record_faults
-use Rattle.lis_field.specs.Delimiters.{IsDelimiters}
+use Rattle.lis_record_values.specs.declared.kinds.Kind.{Kind}
+use Rattle.lis_record_values.specs.declared.kinds.Kind.TheVariants as kinds
+use Rattle.lis_record_values.specs.declared.faults.RecordFault.TheVariants as record_faults
+use Rattle.lis_record_values.specs.Delimiters.{IsDelimiters}
 use Rattle.lis_record.specs.Faults.{header_fault, record_fault}
-use Rattle.lis_field.specs.Kinds.{kind_of}
-use Rattle.lis_field.specs.Relation.{IsRecord}
-use Rattle.lis_field.specs.declared.faults.MessageFault.{MessageFault}
-use Rattle.lis_field.specs.declared.faults.Reason.{Reason}
-use Rattle.lis_field.specs.declared.faults.Reason.TheVariants as reasons
+use Rattle.lis_record_values.specs.Kinds.{kind_of}
+use Rattle.lis_record_values.specs.Relation.{IsRecord}
+use Rattle.lis_record_values.specs.declared.faults.MessageFault.{MessageFault}
+use Rattle.lis_record_values.specs.declared.faults.Reason.{Reason}
+use Rattle.lis_record_values.specs.declared.faults.Reason.TheVariants as reasons
 use Rattle.lis_tree.specs.Begun.{Begun, level_of}
-use Rattle.lis_tree.specs.Level.{outside, closed, kinds_of, level_after, misplaced, StandsFrom}
+use Rattle.lis_tree.specs.Level.{outside, closed, kinds_of, level_after, misplaced, AllowedFrom}
 use Rattle.lis_text.specs.Capped.{capped}
 use Rattle.lis_tree.specs.Tree.{MessageTree, IsTree, flatten}
-use Rattle.lis_field.specs.Text.{record_limit}
+use Rattle.lis_record_values.specs.Text.{record_limit}
 
 -- a text and its CR
 abbrev pub line : List ℕ → List ℕ
@@ -26,7 +26,7 @@ line text = text ++ 13 ∷ []
 abbrev pub ended : List (List ℕ) → List ℕ
 ended texts = flat_map line texts
 
--- no CR stands there
+-- no CR is there
 abbrev pub LacksReturn : List ℕ → Type 0
 LacksReturn bytes = AllByRecursion (λ b. b ≢ 13) bytes
 
@@ -44,7 +44,7 @@ pub record AreBegun (texts : List (List ℕ)) (begun : Begun) : Type 0 where
   pub delimiters : IsDelimiters begun.delimiters
   pub some : begun.records ≢ []
   pub each : AllZip (IsRecord begun.delimiters) texts begun.records
-  pub placed : StandsFrom outside (kinds_of begun.records)
+  pub placed : AllowedFrom outside (kinds_of begun.records)
   pub unclosed : level_after outside (kinds_of begun.records) ≢ closed
 
 -- what follows the last whole message: nothing, or a message that isn't closed yet
@@ -53,7 +53,7 @@ AreLeft texts None = texts ≡ []
 AreLeft texts (Some begun) = AreBegun texts begun
 
 -- The stream is whole messages, then records of one that isn't closed yet, then bytes of a record that isn't ended.
-pub record IsCut (stream : List ℕ) (messages : List MessageTree) (left : Option Begun) (held : List ℕ) : Type 0 where
+pub record IsSplit (stream : List ℕ) (messages : List MessageTree) (left : Option Begun) (held : List ℕ) : Type 0 where
   pub groups : List (List (List ℕ))
   pub texts : List (List ℕ)
   pub whole : stream ≡ flat_map ended groups ++ ended texts ++ held
@@ -78,7 +78,7 @@ kind_refusal (Some begun) kind text =
     option_or (option_map reasons.BadRecord (record_fault begun.delimiters text))
     (misplaced (level_of (Some begun)) kind)
 
--- the same with the letter's kind, which is none for a byte that is no letter
+-- the same with the letter's kind, which is absent for a byte that is no letter
 abbrev pub letter_refusal : Option Begun → ℕ → Option Kind → List ℕ → Option Reason
 letter_refusal left letter None text = Some (reasons.BadRecord (record_faults.UnknownKind letter))
 letter_refusal left letter (Some kind) text = kind_refusal left kind text
@@ -88,7 +88,7 @@ unfoldable pub refusal : Option Begun → List ℕ → Option Reason
 refusal left [] = Some (reasons.BadRecord record_faults.Empty)
 refusal left (letter ∷ bytes) = letter_refusal left letter (kind_of letter) (letter ∷ bytes)
 
--- a text that is ended and refused
+-- a text that is ended and rejected
 pub record IsRefusedText (left : Option Begun) (text more : List ℕ) (reason : Reason) : Type 0 where
   pub rest : List ℕ
   pub ended_by : more ≡ 13 ∷ rest
@@ -100,21 +100,21 @@ pub record IsLongText (text : List ℕ) (reason : Reason) : Type 0 where
   pub long : length text ≡ record_limit + 1
   pub why : reason ≡ reasons.RecordTooLong
 
--- These messages are read of the stream, and then a record is refused.
+-- These messages are read of the stream, and then a record is rejected.
 pub record IsRefused (stream : List ℕ) (messages : List MessageTree) (fault : MessageFault) : Type 0 where
   pub front : List ℕ
   pub left : Option Begun
   pub text : List ℕ
   pub more : List ℕ
   pub whole : stream ≡ front ++ text ++ more
-  pub cut : IsCut front messages left []
+  pub split : IsSplit front messages left []
   pub lacks : LacksReturn text
   pub place : fault.place ≡ capped (count_of left + 1)
   pub refused : IsRefusedText left text more fault.reason ⊎ IsLongText text fault.reason
 
--- The stream is read, with these messages first: it is cut, or a record of it is refused.
+-- The stream is read, with these messages first: it is split, or a record of it is rejected.
 abbrev pub IsReadFrom : List ℕ → List MessageTree → Type 0
 IsReadFrom stream messages =
     (more : List MessageTree)
-    × (((left : Option Begun) × (held : List ℕ) × IsCut stream (messages ++ more) left held) ⊎
+    × (((left : Option Begun) × (held : List ℕ) × IsSplit stream (messages ++ more) left held) ⊎
     ((fault : MessageFault) × IsRefused stream (messages ++ more) fault))

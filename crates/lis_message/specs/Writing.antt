@@ -3,32 +3,32 @@ use Rattle.std.specs.Prelude.{◌≡◌, ℕ, ◌+◌, ◌-◌, ◌<◌, ◌≤�
 use Rattle.std.specs.Prelude.{Option, None, Some, Result, Ok, Err}
 use Rattle.std.specs.Io.KnownBytes.{Appends, Keeps}
 use Rattle.std.specs.List.{AllByRecursion, flat_map}
-use Rattle.lis_spelling.specs.declared.faults.WriteFault.{WriteFault}
-use Rattle.lis_spelling.specs.declared.faults.WriteFault.TheVariants as write_faults
-use Rattle.lis_field.specs.Delimiters.{DelimiterBytes}
-use Rattle.lis_spelling.specs.WriteFaults.{check_fault}
-use Rattle.lis_field.specs.Shape.{RecordContent}
-use Rattle.lis_spelling.specs.Spelling.{written}
-use Rattle.lis_spelling.specs.Writing.{is_io}
+use Rattle.lis_record_write.specs.declared.faults.WriteFault.{WriteFault}
+use Rattle.lis_record_write.specs.declared.faults.WriteFault.TheVariants as write_faults
+use Rattle.lis_record_values.specs.Delimiters.{DelimiterBytes}
+use Rattle.lis_record_write.specs.WriteFaults.{check_fault}
+use Rattle.lis_record_values.specs.Shape.{RecordContent}
+use Rattle.lis_record_write.specs.Encoding.{written}
+use Rattle.lis_record_write.specs.Writing.{is_io}
 use Rattle.lis_message.specs.declared.fault.MessageWriteFault.{MessageWriteFault}
 use Rattle.lis_text.specs.Capped.{capped}
 use Rattle.lis_tree.specs.Tree.{MessageTree, flatten}
 
--- the records' spellings in order, CR after each
+-- the records' encodings in order, CR after each
 abbrev pub records_bytes : DelimiterBytes → List RecordContent → List ℕ
 records_bytes d records = flat_map (written d) records
 
 abbrev pub message_bytes : MessageTree → List ℕ
 message_bytes message = records_bytes message.delimiters (flatten message)
 
--- each record can be written: its characters are text bytes, and its spelling is not too long
+-- each record can be written: its characters are text bytes, and its encoding is not too long
 abbrev pub AreWritable : DelimiterBytes → List RecordContent → Type 0
 AreWritable d records = AllByRecursion (λ r. check_fault d r ≡ None) records
 
 abbrev pub IsWritable : MessageTree → Type 0
 IsWritable message = AreWritable message.delimiters (flatten message)
 
--- ---- what is refused
+-- ---- what is rejected
 
 -- the first record that can't be written, by its place, counted from this one
 abbrev pub refusal_from : DelimiterBytes → ℕ → List RecordContent → Option MessageWriteFault
@@ -80,7 +80,7 @@ abbrev pub is_sink_fault : Result (Unit {0}) MessageWriteFault → Bool
 is_sink_fault (Ok done) = false
 is_sink_fault (Err fault) = is_io (Err fault.fault)
 
--- The records of a message from this place on are written without the first `skip` bytes, or refused before any byte.
+-- The records of a message from this place on are written without the first `skip` bytes, or rejected before any byte.
 abbrev pub WroteMessage : MessageTree → ℕ → ℕ → Option (List ℕ) → Option (List ℕ)
     → Result (Unit {0}) MessageWriteFault → Type 0
 WroteMessage message place skip old new result =

@@ -1,5 +1,5 @@
 ghost use Rattle.std.specs.Prelude.{◌≡◌, ◌≢◌, ◌<◌, ℕ, MatchOption};
-ghost use Rattle.lis_spelling.specs.declared.faults.WriteFault.TheVariants as write_faults;
+ghost use Rattle.lis_record_write.specs.declared.faults.WriteFault.TheVariants as write_faults;
 
 use lis_record::WriteFault;
 use thiserror::Error;
@@ -14,7 +14,7 @@ pub struct MessageWriteFault {
 }
 
 impl MessageWriteFault {
-    /// Where `write_message_from` writes on behind a sink that failed: the place of the record, and how many bytes of
+    /// Where `write_message_from` writes on after a sink that failed: the place of the record, and how many bytes of
     /// it are out. None where no sink failed, or the place is the greatest number.
     pub fn resume(&self) -> Option<(u64, u64)>
         ensures { MatchOption result

@@ -4,19 +4,19 @@
 
 mod fault;
 pub mod laws;
+mod link_texts;
 mod reader;
 mod records;
-mod texts;
 mod writer;
 
 pub use fault::MessageWriteFault;
-pub use lis_record::{Delimiters, Kind, LentRecord, Record, RecordFault, WriteFault};
+pub use link_texts::{TextsFault, message_texts, record_text};
+pub use lis_record::{BorrowedRecord, Delimiters, Kind, Record, RecordFault, WriteFault};
 pub use lis_text::{LinkText, List, Texts};
 pub use lis_tree::{
-    Branch, Group, Message, MessageFault, Noted, Order, Patient, PlacedResult, Query, Reason,
+    Annotated, Branch, Group, Message, MessageFault, Order, Patient, PlacedResult, Query, Reason,
     Records, ResultEntry, Results,
 };
 pub use reader::{Fed, MessageReader, Messages, read_messages};
-pub use records::{Found, RecordReader};
-pub use texts::{TextsFault, message_texts, record_text};
+pub use records::{RecordFound, RecordReader};
 pub use writer::{write_message, write_message_from};

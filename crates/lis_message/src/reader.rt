@@ -3,18 +3,18 @@ ghost use Rattle.std.specs.Prelude.{◌≡◌, ℕ, ◌++◌, ◌∷◌, ◌≤�
 ghost use Rattle.std.specs.Prelude.{OnOk, OnSome, IfSome, IfNone, MatchOption, None, Some, Option, length};
 ghost use Rattle.std.specs.List.{AllByRecursion, flat_map};
 ghost use Rattle.lis_message.specs.Feeding.{ReadsWhole, ReadsStream, finished};
-ghost use Rattle.lis_message.specs.inside.Feeding.{Goes, GoesBefore, StopsIn};
+ghost use Rattle.lis_message.specs.inside.Feeding.{LeadsTo, LeadsBefore, StopsIn};
 ghost use Rattle.lis_message.specs.Records.{HasLeft};
 ghost use Rattle.lis_message.specs.inside.Records.{Adds, unended};
-ghost use Rattle.lis_message.specs.Stream.{IsCut};
+ghost use Rattle.lis_message.specs.Stream.{IsSplit};
 ghost use Rattle.lis_message.specs.Taking.{ComesNext, begun_with, left_after};
 ghost use Rattle.lis_message.specs.Writing.{IsWritable, message_bytes};
-ghost use Rattle.lis_field.specs.declared.kinds.Kind.TheVariants as kinds;
-ghost use Rattle.lis_field.specs.declared.faults.Reason.TheVariants as reasons;
+ghost use Rattle.lis_record_values.specs.declared.kinds.Kind.TheVariants as kinds;
+ghost use Rattle.lis_record_values.specs.declared.faults.Reason.TheVariants as reasons;
 ghost use Rattle.lis_tree.specs.Tree.{IsTree, MessageTree};
 
-use crate::records::{Found, RecordReader};
-use lis_record::{Delimiters, Kind, LentRecord, Record};
+use crate::records::{RecordFound, RecordReader};
+use lis_record::{BorrowedRecord, Delimiters, Kind, Record};
 use lis_tree::{Message, MessageFault, OpenMessage, Reason};
 use std::alloc::{AllocError, Global};
 use std::marker::Model;
@@ -30,7 +30,7 @@ fn take_last(
     alloc: Global,
     begun: &mut Option<OpenMessage>,
     messages: &mut Messages,
-    entry: &LentRecord<'_>,
+    entry: &BorrowedRecord<'_>,
 ) -> Result<(), AllocError>
     requires next { (text : List ℕ) × ComesNext begun.old text entry.now }
     requires last { entry.now.content.kind ≡ kinds.L }
@@ -65,7 +65,7 @@ fn take_record(
     alloc: Global,
     begun: &mut Option<OpenMessage>,
     messages: &mut Messages,
-    entry: &LentRecord<'_>,
+    entry: &BorrowedRecord<'_>,
 ) -> Result<(), AllocError>
     requires { (text : List ℕ) × ComesNext begun.old text entry.now }
     ensures ok { OnOk result (Adds begun.old entry.now messages.old messages.new) }
@@ -91,7 +91,7 @@ fn take_entry(
     begun: &mut Option<OpenMessage>,
     messages: &mut Messages,
     place: u64,
-    entry: &LentRecord<'_>,
+    entry: &BorrowedRecord<'_>,
 ) -> Result<(), MessageFault>
     requires { (text : List ℕ) × ComesNext begun.old text entry.now }
     ensures ok { OnOk result (Adds begun.old entry.now messages.old messages.new) }
@@ -108,7 +108,7 @@ fn take_entry(
     }
 }
 
-/// Reads on to the end of a record, and answers the bytes behind it; none where no record ends in the bytes.
+/// Reads on to the end of a record, and answers the bytes after it; none where no record ends in the bytes.
 fn read_next<'a>(
     alloc: Global,
     records: &mut RecordReader,
@@ -117,30 +117,30 @@ fn read_next<'a>(
     bytes: &'a [u8],
 ) -> Result<Option<&'a [u8]>, MessageFault>
     requires { HasLeft records.old begun.old }
-    ensures on { IfOk result (λ next. IfSome next (λ behind.
-        GoesBefore (unended begun.old records.old) messages.old bytes.now behind.now
+    ensures on { IfOk result (λ next. IfSome next (λ following.
+        LeadsBefore (unended begun.old records.old) messages.old bytes.now following.now
         (unended begun.new records.new) messages.new)) }
     ensures done { IfOk result (λ next. IfNone next
-        (Goes (unended begun.old records.old) messages.old bytes.now (unended begun.new records.new) messages.new)) }
+        (LeadsTo (unended begun.old records.old) messages.old bytes.now (unended begun.new records.new) messages.new)) }
     ensures left { OnOk result (HasLeft records.new begun.new) }
     ensures err { IfErr result
         (λ fault. StopsIn (unended begun.old records.old) messages.old bytes.now messages.new fault) }
 {
     let place = records.next_place();
-    let (behind, found) = records.read(bytes);
+    let (following, found) = records.read(bytes);
     match found {
-        Found::Nothing => Ok(None),
-        Found::Refused(fault) => Err(fault),
-        Found::Record(entry) => match take_entry(alloc, begun, messages, place, &entry) {
-            Ok(()) => Ok(Some(behind)),
+        RecordFound::Nothing => Ok(None),
+        RecordFound::Refused(fault) => Err(fault),
+        RecordFound::Record(entry) => match take_entry(alloc, begun, messages, place, &entry) {
+            Ok(()) => Ok(Some(following)),
             Err(fault) => Err(fault),
         },
-        Found::Held => {
-            let Some(entry) = records.cut() else {
+        RecordFound::Held => {
+            let Some(entry) = records.split() else {
                 unreachable!()
             };
             match take_entry(alloc, begun, messages, place, &entry) {
-                Ok(()) => Ok(Some(behind)),
+                Ok(()) => Ok(Some(following)),
                 Err(fault) => Err(fault),
             }
         }
@@ -157,7 +157,7 @@ fn read_piece(
 ) -> Result<(), MessageFault>
     requires { HasLeft records.old begun.old }
     ensures ok { OnOk result
-        (Goes (unended begun.old records.old) messages.old piece.now (unended begun.new records.new) messages.new) }
+        (LeadsTo (unended begun.old records.old) messages.old piece.now (unended begun.new records.new) messages.new) }
     ensures left { OnOk result (HasLeft records.new begun.new) }
     ensures err { IfErr result
         (λ fault. StopsIn (unended begun.old records.old) messages.old piece.now messages.new fault) }
@@ -165,14 +165,14 @@ fn read_piece(
     let mut rest = piece;
     loop {
         match read_next(alloc, records, begun, messages, rest) {
-            Ok(Some(behind)) => rest = behind,
+            Ok(Some(following)) => rest = following,
             Ok(None) => return Ok(()),
             Err(fault) => return Err(fault),
         }
     }
 }
 
-/// What a piece of a stream completes, and the fault that stands in it.
+/// What a piece of a stream completes, and the fault that is in it.
 #[derive(Drop)]
 pub struct Fed {
     /// The messages that the piece completes, those before a fault too.
@@ -215,10 +215,10 @@ impl MessageReader {
     }
 
     /// Reads the next piece of the stream: the messages that it completes, and the fault of the first record that
-    /// can't be read. Want of memory may stand in place of that, after the messages of a front of the stream.
+    /// can't be read. A lack of memory may be in place of that, after the messages of a prefix of the stream.
     pub fn feed(&mut self, piece: &[u8]) -> Fed
         ensures read { self.old.fault ≡ None → (past : List ℕ) (messages : List MessageTree)
-            → IsCut past messages self.old.left self.old.held
+            → IsSplit past messages self.old.left self.old.held
             → ReadsStream (past ++ piece.now) (messages ++ result.messages) self.new result.fault }
         ensures failed { IfSome self.old.fault (λ fault.
             (result.messages ≡ []) × (result.fault ≡ Some fault) × (self.new ≡ self.old)) }
@@ -263,7 +263,7 @@ impl MessageReader {
             Some(fault) => Err(fault),
             None => self.records.finish(),
         };
-        // By a call: what ends in place is let go of part by part, and the proof goes over each of them.
+        // By a call: what ends in place is released part by part, and the proof goes over each of them.
         drop(self);
         ended
     }

@@ -1,10 +1,10 @@
-//! Reading records where they stand, from a stream that comes in pieces (LIS02-A2, Delimiters). What is kept is the
+//! Reading records where they are, from a stream that comes in pieces (LIS02-A2, Delimiters). What is kept is the
 //! bytes of one record, and of the open message how its next record is read.
 
 ghost use Rattle.std.specs.Prelude.{◌≡◌, ◌≢◌, ℕ, true, false, ◌+◌, ◌<◌, ◌≤◌, ◌∷◌, [], ◌++◌, ◌⊎◌, ◌↔◌};
 ghost use Rattle.std.specs.Prelude.{List, Option, IfOk, IfErr, OnErr, OnOk, OnSome};
 ghost use Rattle.std.specs.Prelude.{IfSome, IfNone, IsTrue, None, Some, Ok, Err, is_some, length};
-ghost use Rattle.lis_message.specs.declared.records.Found.TheVariants.{Record as IsFound, Refused as IsRefusal};
+ghost use Rattle.lis_message.specs.declared.records.RecordFound.TheVariants.{Record as IsFound, Refused as IsRefusal};
 ghost use Rattle.lis_message.specs.Feeding.{answer_at_end, next_place};
 ghost use Rattle.lis_message.specs.Kept.{opened_of, opened_with};
 ghost use Rattle.lis_message.specs.Records.{HasLeft, IsStopped, IsRecordRefused, IsRecordRefusedFor, Reads, ReadsSome};
@@ -12,18 +12,18 @@ ghost use Rattle.lis_message.specs.inside.Records.{EndsHeld};
 ghost use Rattle.lis_message.specs.Stream.{LacksReturn, refusal};
 ghost use Rattle.lis_message.specs.Taking.{ComesNext, left_after};
 ghost use Rattle.lis_message.specs.inside.Taking.{front_refusal};
-ghost use Rattle.lis_spelling.specs.declared.writing.TheConstants.{RECORD_LIMIT};
-ghost use Rattle.lis_record.specs.Lent.{Lent, record_in};
-ghost use Rattle.lis_field.specs.Text.{bad_byte_place};
-ghost use Rattle.lis_field.specs.Shape.{RecordContent};
+ghost use Rattle.lis_record_write.specs.declared.writing.TheConstants.{RECORD_LIMIT};
+ghost use Rattle.lis_record.specs.Borrowed.{Borrowed, record_in};
+ghost use Rattle.lis_record_values.specs.Text.{bad_byte_place};
+ghost use Rattle.lis_record_values.specs.Shape.{RecordContent};
 ghost use Rattle.lis_tree.specs.Begun.{Begun};
-ghost use Rattle.lis_field.specs.declared.faults.Reason.TheVariants as reasons;
+ghost use Rattle.lis_record_values.specs.declared.faults.Reason.TheVariants as reasons;
 
 use lis_record::{
-    Delimiters, Kind, LentRecord, RECORD_LIMIT, RecordFault, first_bad_byte, lend_searched_header,
-    lend_searched_record,
+    BorrowedRecord, Delimiters, Kind, RECORD_LIMIT, RecordFault, borrow_searched_header,
+    borrow_searched_record, first_bad_byte,
 };
-use lis_tree::{MessageFault, Reason, Standing};
+use lis_tree::{MessageFault, Position, Reason};
 use memchr::memchr;
 use std::alloc::Global;
 use std::marker::Model;
@@ -34,21 +34,21 @@ const CR: u8 = 0x0d;
 #[derive(Drop)]
 struct Opened {
     delimiters: Delimiters,
-    standing: Standing,
+    position: Position,
     /// How many records there are; it stays at the greatest number.
     count: u64,
 }
 
 impl Model for Opened {
     ghost use Rattle.lis_message.specs.Kept.{Opened};
-    ghost use Rattle.lis_tree.specs.Standing.{standing_level};
+    ghost use Rattle.lis_tree.specs.Position.{position_level};
 
     ghost Value = { Opened };
 
-    ghost view = { λ o. record { delimiters = o.delimiters; level = standing_level o.standing; count = o.count } };
+    ghost view = { λ o. record { delimiters = o.delimiters; level = position_level o.position; count = o.count } };
 }
 
-/// Why a text can't come next, as far as its letter tells.
+/// Why a text can't come next, as far as its letter reports.
 #[inline(always)]
 fn front_fault(is_begun: bool, text: &[u8]) -> Option<Reason>
     ensures { result ≡ front_refusal is_begun text.now }
@@ -66,14 +66,14 @@ fn front_fault(is_begun: bool, text: &[u8]) -> Option<Reason>
 #[tactic(auto, using(crate::proofs::TakingLaws::header_refused))]
 #[inline(always)]
 /// The header that a text is, which comes where no message is open.
-fn lend_first(text: &[u8], bad: Option<usize>) -> Result<LentRecord<'_>, Reason>
+fn borrow_first(text: &[u8], bad: Option<usize>) -> Result<BorrowedRecord<'_>, Reason>
     requires front { front_refusal false text.now ≡ None }
     requires bad { bad ≡ bad_byte_place text.now }
     ensures ok { IfOk result (λ entry. ComesNext None text.now entry) }
     ensures err { IfErr result (λ reason. refusal None text.now ≡ Some reason) }
     ensures place { IfOk result (λ entry. entry ≡ record_in entry.delimiters entry.content.kind text.now) }
 {
-    match lend_searched_header(text, bad) {
+    match borrow_searched_header(text, bad) {
         Ok(entry) => Ok(entry),
         Err(fault) => Err(Reason::BadRecord(fault)),
     }
@@ -81,11 +81,11 @@ fn lend_first(text: &[u8], bad: Option<usize>) -> Result<LentRecord<'_>, Reason>
 
 /// The record that a text is, which comes in the open message.
 #[inline(always)]
-fn lend_inner<'a>(
+fn borrow_inner<'a>(
     opened: &Opened,
     text: &'a [u8],
     bad: Option<usize>,
-) -> Result<LentRecord<'a>, Reason>
+) -> Result<BorrowedRecord<'a>, Reason>
     requires front { front_refusal true text.now ≡ None }
     requires bad { bad ≡ bad_byte_place text.now }
     ensures ok { IfOk result (λ entry. (begun : Begun) → opened.now ≡ opened_with begun
@@ -94,24 +94,24 @@ fn lend_inner<'a>(
         → refusal (Some begun) text.now ≡ Some reason) }
     ensures place { IfOk result (λ entry. entry ≡ record_in entry.delimiters entry.content.kind text.now) }
 {
-    let entry = match lend_searched_record(&opened.delimiters, text, bad) {
+    let entry = match borrow_searched_record(&opened.delimiters, text, bad) {
         Ok(entry) => entry,
         Err(fault) => return Err(Reason::BadRecord(fault)),
     };
-    match opened.standing.place_fault(entry.kind()) {
+    match opened.position.place_fault(entry.kind()) {
         None => Ok(entry),
         Some(reason) => Err(reason),
     }
 }
 
 /// The record that a text is which comes next, else the first reason that it can't. The first byte of the text that no
-/// record may hold stands at `bad`.
+/// record may hold is at `bad`.
 #[inline(always)]
-fn lend_next<'a>(
+fn borrow_next<'a>(
     opened: &Option<Opened>,
     text: &'a [u8],
     bad: Option<usize>,
-) -> Result<LentRecord<'a>, Reason>
+) -> Result<BorrowedRecord<'a>, Reason>
     requires { bad ≡ bad_byte_place text.now }
     ensures ok { IfOk result (λ entry. (left : Option Begun) → opened.now ≡ opened_of left
         → ComesNext left text.now entry) }
@@ -123,37 +123,37 @@ fn lend_next<'a>(
         return Err(reason);
     }
     match opened {
-        None => lend_first(text, bad),
-        Some(opened) => lend_inner(opened, text, bad),
+        None => borrow_first(text, bad),
+        Some(opened) => borrow_inner(opened, text, bad),
     }
 }
 
-/// Keeps what is open behind a record of this kind, which came next under these delimiters. All but what changes stays
+/// Keeps what is open after a record of this kind, which came next under these delimiters. All but what changes stays
 /// where it is, since this is done for each record.
 #[inline(always)]
 fn open_after(opened: &mut Option<Opened>, delimiters: Delimiters, kind: Kind)
-    ensures { (left : Option Begun) (text : List ℕ) (entry : Lent RecordContent) → opened.old ≡ opened_of left →
+    ensures { (left : Option Begun) (text : List ℕ) (entry : Borrowed RecordContent) → opened.old ≡ opened_of left →
         ComesNext left text entry → entry.delimiters ≡ delimiters → entry.content.kind ≡ kind →
         opened.new ≡ opened_of (left_after left entry kind) }
 {
     let Some(inner) = opened else {
         *opened = Some(Opened {
             delimiters,
-            standing: Standing::InHeader,
+            position: Position::InHeader,
             count: 1,
         });
         return;
     };
-    match inner.standing.after(kind) {
-        Some(standing) => {
-            inner.standing = standing;
+    match inner.position.after(kind) {
+        Some(position) => {
+            inner.position = position;
             inner.count = inner.count.saturating_add(1);
         }
         None => *opened = None,
     }
 }
 
-/// The bytes before the first CR, those behind it, and the place of the first of those before it that no record may
+/// The bytes before the first CR, those after it, and the place of the first of those before it that no record may
 /// hold.
 /// One search finds both, where there is none before it: a CR is such a byte.
 #[inline(always)]
@@ -166,8 +166,8 @@ fn next_line(bytes: &[u8]) -> Option<(&[u8], &[u8], Option<usize>)>
     let Some(end) = first_bad_byte(bytes) else {
         return None;
     };
-    let (text, behind) = bytes.split_at(end);
-    let Some((byte, rest)) = behind.split_first() else {
+    let (text, following) = bytes.split_at(end);
+    let Some((byte, rest)) = following.split_first() else {
         return None;
     };
     if *byte != CR {
@@ -187,8 +187,8 @@ fn next_bad_line(bytes: &[u8]) -> Option<(&[u8], &[u8], Option<usize>)>
     let Some(end) = memchr(CR, bytes) else {
         return None;
     };
-    let (text, behind) = bytes.split_at(end);
-    let Some((_, rest)) = behind.split_first() else {
+    let (text, following) = bytes.split_at(end);
+    let Some((_, rest)) = following.split_first() else {
         return None;
     };
     Some((text, rest, first_bad_byte(text)))
@@ -201,7 +201,7 @@ struct Known {
     kind: Kind,
 }
 
-/// The bytes of a record that isn't ended, or of the last record, which was cut, until the next bytes come.
+/// The bytes of a record that isn't ended, or of the last record, which was split, until the next bytes come.
 #[derive(Drop)]
 struct HeldBytes {
     bytes: Vec<u8>,
@@ -212,7 +212,7 @@ struct HeldBytes {
 impl Model for HeldBytes {
     ghost use Rattle.std.specs.Prelude.{◌≤◌, length};
     ghost use Rattle.lis_message.specs.inside.Kept.{Holding, holding};
-    ghost use Rattle.lis_spelling.specs.declared.writing.TheConstants.{RECORD_LIMIT};
+    ghost use Rattle.lis_record_write.specs.declared.writing.TheConstants.{RECORD_LIMIT};
 
     ghost Value = { Holding };
 
@@ -223,7 +223,7 @@ impl Model for HeldBytes {
 
 impl HeldBytes {
     fn new(alloc: Global) -> Self
-        ensures { result ≡ record { held = []; cut = None } }
+        ensures { result ≡ record { held = []; split = None } }
     {
         HeldBytes {
             bytes: Vec::new(alloc),
@@ -246,15 +246,15 @@ impl HeldBytes {
     /// Whether nothing is held, no last record either.
     #[inline(always)]
     fn is_clear(&self) -> bool
-        ensures { IsTrue result ↔ (self.now ≡ record { held = []; cut = None }) }
+        ensures { IsTrue result ↔ (self.now ≡ record { held = []; split = None }) }
     {
         self.known.is_none() && self.bytes.is_empty()
     }
 
-    /// Lets go of the last record.
+    /// Releases the last record.
     #[inline(always)]
-    fn forget_cut(&mut self)
-        ensures { self.new ≡ record { held = self.old.held; cut = None } }
+    fn forget_split(&mut self)
+        ensures { self.new ≡ record { held = self.old.held; split = None } }
     {
         if self.known.is_some() {
             self.bytes.clear();
@@ -263,7 +263,7 @@ impl HeldBytes {
     }
 
     fn clear(&mut self)
-        ensures { self.new ≡ record { held = []; cut = None } }
+        ensures { self.new ≡ record { held = []; split = None } }
     {
         self.bytes.clear();
         self.known = None;
@@ -272,8 +272,8 @@ impl HeldBytes {
     /// Holds more bytes of a record.
     #[inline(never)]
     fn hold(&mut self, bytes: &[u8]) -> Result<(), Reason>
-        requires { self.old.cut ≡ None }
-        ensures ok { OnOk result (self.new ≡ record { held = self.old.held ++ bytes.now; cut = None }) }
+        requires { self.old.split ≡ None }
+        ensures ok { OnOk result (self.new ≡ record { held = self.old.held ++ bytes.now; split = None }) }
         ensures short { OnOk result (length (self.old.held ++ bytes.now) ≤ RECORD_LIMIT) }
         ensures err { IfErr result (λ e. (e ≡ reasons.OutOfMemory)
             ⊎ ((e ≡ reasons.RecordTooLong) × (RECORD_LIMIT < length (self.old.held ++ bytes.now)))) }
@@ -289,37 +289,37 @@ impl HeldBytes {
 
     /// What is held is a record of this kind under these delimiters.
     fn end(&mut self, delimiters: Delimiters, kind: Kind)
-        requires { self.old.cut ≡ None }
-        ensures { self.new ≡ record { held = []; cut = Some (record_in delimiters kind self.old.held) } }
+        requires { self.old.split ≡ None }
+        ensures { self.new ≡ record { held = []; split = Some (record_in delimiters kind self.old.held) } }
     {
         self.known = Some(Known { delimiters, kind });
     }
 
-    /// The last record, where it was cut.
-    fn cut(&self) -> Option<LentRecord<'_>>
-        ensures { result ≡ self.now.cut }
+    /// The last record, where it was split.
+    fn split(&self) -> Option<BorrowedRecord<'_>>
+        ensures { result ≡ self.now.split }
     {
         let Some(known) = self.known else {
             return None;
         };
-        Some(LentRecord::in_text(known.delimiters, known.kind, self.bytes.as_slice()))
+        Some(BorrowedRecord::in_text(known.delimiters, known.kind, self.bytes.as_slice()))
     }
 }
 
 /// What reading on found.
 #[derive(Drop)]
-pub enum Found<'a> {
+pub enum RecordFound<'a> {
     /// No record ends in the bytes; all of them are held.
     Nothing,
-    /// A record that stands whole in the bytes.
-    Record(LentRecord<'a>),
-    /// A record that was cut, of which bytes were held: `RecordReader::cut` lends it.
+    /// A record that is whole in the bytes.
+    Record(BorrowedRecord<'a>),
+    /// A record that was split, of which bytes were held: `RecordReader::split` borrows it.
     Held,
-    /// A record that can't be read, or want of memory for bytes that are to be held.
+    /// A record that can't be read, or a lack of memory for bytes that are to be held.
     Refused(MessageFault),
 }
 
-/// Reads records from a stream that comes in pieces, each where it stands. It keeps the bytes of a record that isn't
+/// Reads records from a stream that comes in pieces, each where it is. It keeps the bytes of a record that isn't
 /// ended, and of the open message how its next record is read; no record and no tree. After a fault it gives that
 /// fault for good.
 #[derive(Drop)]
@@ -334,13 +334,13 @@ impl Model for RecordReader {
 
     ghost Value = { RecordsState };
 
-    ghost view = { λ r. record { opened = r.opened; held = r.kept.held; cut = r.kept.cut; fault = r.fault } };
+    ghost view = { λ r. record { opened = r.opened; held = r.kept.held; split = r.kept.split; fault = r.fault } };
 }
 
 impl RecordReader {
     /// A reader at the start of a stream. It takes no memory yet.
     pub fn new(alloc: Global) -> Self
-        ensures state { result ≡ record { opened = None; held = []; cut = None; fault = None } }
+        ensures state { result ≡ record { opened = None; held = []; split = None; fault = None } }
         ensures left { HasLeft result None }
     {
         RecordReader {
@@ -351,16 +351,16 @@ impl RecordReader {
     }
 
     /// Reads on to the end of a record, or to the end of the bytes where none ends in them, and answers the bytes
-    /// behind and what it found: a record by what was held of it and these bytes, under the delimiters of its
-    /// message, or the fault of the first record that can't come next, with its place in the message. Of bytes in
-    /// which a record is refused none count as read, and the reader then gives that fault for good. Want of memory may
-    /// stand in its place, but only where bytes are to be held: a record that stands whole in the bytes takes none.
-    /// A record has at most 65,536 bytes without its CR.
+    /// after and what it found: a record by what was held of it and these bytes, under the delimiters of its message,
+    /// or the fault of the first record that can't come next, with its place in the message. Of bytes in which a
+    /// record is rejected none count as read, and the reader then gives that fault for good. A lack of memory may be
+    /// in its place, but only where bytes are to be held: a record that is whole in the bytes takes none. A record has
+    /// at most 65,536 bytes without its CR.
     ///
-    /// Whatever message was open, left is then that message with the record, or nothing behind its closing record
+    /// Whatever message was open, left is then that message with the record, or nothing after its closing record
     /// (`laws::records_of_a_stream` says the same of the stream).
     #[inline]
-    pub fn read<'a>(&mut self, bytes: &'a [u8]) -> (&'a [u8], Found<'a>)
+    pub fn read<'a>(&mut self, bytes: &'a [u8]) -> (&'a [u8], RecordFound<'a>)
         ensures read { (left : Option Begun) → HasLeft self.old left
             → Reads self.old self.new left bytes.now result.0.now result.1 }
         ensures failed { IfSome self.old.fault (λ fault. (result.0.now ≡ bytes.now) × (result.1 ≡ IsRefusal fault)
@@ -368,32 +368,32 @@ impl RecordReader {
         ensures some { ReadsSome self.new bytes.now result.0.now result.1 }
     {
         if let Some(fault) = self.fault {
-            return (bytes, Found::Refused(fault));
+            return (bytes, RecordFound::Refused(fault));
         }
         let place = self.next_place();
-        self.kept.forget_cut();
+        self.kept.forget_split();
         match self.read_open(bytes) {
             Ok(answer) => answer,
             Err(reason) => {
                 let fault = MessageFault { place, reason };
                 self.kept.clear();
                 self.fault = Some(fault);
-                (bytes, Found::Refused(fault))
+                (bytes, RecordFound::Refused(fault))
             }
         }
     }
 
-    /// Reads the next record where it stands whole in the bytes, nothing is held and no record was cut, and answers it
-    /// and the bytes behind; none where that isn't so, or it is refused, and then the reader is as it was: `read` tells
+    /// Reads the next record where it is whole in the bytes, nothing is held and no record was split, and answers it
+    /// and the bytes after; none where that isn't so, or it is rejected, and then the reader is as it was: `read` says
     /// what there is. What it reads is what `read` does, in less time.
     #[inline(always)]
-    pub fn read_whole<'a>(&mut self, bytes: &'a [u8]) -> Option<(LentRecord<'a>, &'a [u8])>
+    pub fn read_whole<'a>(&mut self, bytes: &'a [u8]) -> Option<(BorrowedRecord<'a>, &'a [u8])>
         ensures read { IfSome result (λ found. (left : Option Begun) → HasLeft self.old left
             → Reads self.old self.new left bytes.now found.1.now (IsFound found.0)) }
         ensures some { IfSome result (λ found. length found.1.now < length bytes.now) }
         ensures none { IfNone result (self.new ≡ self.old) }
         ensures refused { IfNone result ((left : Option Begun) → HasLeft self.old left → self.old.held ≡ []
-            → self.old.cut ≡ None → (text behind : List ℕ) → LacksReturn text → bytes.now ≡ text ++ 13 ∷ behind
+            → self.old.split ≡ None → (text following : List ℕ) → LacksReturn text → bytes.now ≡ text ++ 13 ∷ following
             → IsRecordRefused left text) }
     {
         if self.fault.is_some() || !self.kept.is_clear() {
@@ -402,8 +402,8 @@ impl RecordReader {
         let Some(end) = first_bad_byte(bytes) else {
             return None;
         };
-        let (text, behind) = bytes.split_at(end);
-        let Some((byte, rest)) = behind.split_first() else {
+        let (text, following) = bytes.split_at(end);
+        let Some((byte, rest)) = following.split_first() else {
             return None;
         };
         if *byte != CR {
@@ -415,11 +415,11 @@ impl RecordReader {
         }
     }
 
-    /// The record that was read last, where it was cut; none where it stood whole in the bytes, or none was read.
-    pub fn cut(&self) -> Option<LentRecord<'_>>
-        ensures { result ≡ self.now.cut }
+    /// The record that was read last, where it was split; none where it was whole in the bytes, or none was read.
+    pub fn split(&self) -> Option<BorrowedRecord<'_>>
+        ensures { result ≡ self.now.split }
     {
-        self.kept.cut()
+        self.kept.split()
     }
 
     /// The place of the next record in its message, from 1 for a header.
@@ -457,10 +457,10 @@ impl RecordReader {
         })
     }
 
-    /// Reads on, where no fault was met and the last record is let go of.
+    /// Reads on, where no fault was met and the last record is released.
     #[inline(always)]
-    fn read_open<'a>(&mut self, bytes: &'a [u8]) -> Result<(&'a [u8], Found<'a>), Reason>
-        requires { self.old.cut ≡ None }
+    fn read_open<'a>(&mut self, bytes: &'a [u8]) -> Result<(&'a [u8], RecordFound<'a>), Reason>
+        requires { self.old.split ≡ None }
         ensures ok { IfOk result (λ answer. (left : Option Begun) → HasLeft self.old left
             → Reads self.old self.new left bytes.now answer.0.now answer.1) }
         ensures err { IfErr result (λ reason. (left : Option Begun) → HasLeft self.old left
@@ -469,20 +469,20 @@ impl RecordReader {
         ensures some { IfOk result (λ answer. ReadsSome self.new bytes.now answer.0.now answer.1) }
         ensures fault { self.new.fault ≡ self.old.fault }
     {
-        let Some((text, behind, bad)) = next_line(bytes) else {
+        let Some((text, following, bad)) = next_line(bytes) else {
             return match self.kept.hold(bytes) {
-                Ok(()) => Ok((&[], Found::Nothing)),
+                Ok(()) => Ok((&[], RecordFound::Nothing)),
                 Err(reason) => Err(reason),
             };
         };
         if self.kept.text().is_empty() {
             return match self.end_whole(text, bad) {
-                Ok(entry) => Ok((behind, Found::Record(entry))),
+                Ok(entry) => Ok((following, RecordFound::Record(entry))),
                 Err(reason) => Err(reason),
             };
         }
         match self.end_held(text) {
-            Ok(()) => Ok((behind, Found::Held)),
+            Ok(()) => Ok((following, RecordFound::Held)),
             Err(reason) => Err(reason),
         }
     }
@@ -493,7 +493,7 @@ impl RecordReader {
         &mut self,
         text: &'a [u8],
         bad: Option<usize>,
-    ) -> Result<LentRecord<'a>, Reason>
+    ) -> Result<BorrowedRecord<'a>, Reason>
         requires { bad ≡ bad_byte_place text.now }
         ensures ok { IfOk result (λ entry. (left : Option Begun) → self.old.opened ≡ opened_of left
             → ComesNext left text.now entry × (self.new.opened ≡ opened_of
@@ -501,14 +501,14 @@ impl RecordReader {
         ensures err { IfErr result (λ reason. (left : Option Begun) → self.old.opened ≡ opened_of left
             → IsRecordRefusedFor left text.now reason) }
         ensures held { self.new.held ≡ self.old.held }
-        ensures cut { self.new.cut ≡ self.old.cut }
+        ensures split { self.new.split ≡ self.old.split }
         ensures fault { self.new.fault ≡ self.old.fault }
         ensures same { IfErr result (λ _. self.new ≡ self.old) }
     {
         if text.len() > RECORD_LIMIT {
             return Err(Reason::RecordTooLong);
         }
-        let entry = match lend_next(&self.opened, text, bad) {
+        let entry = match borrow_next(&self.opened, text, bad) {
             Ok(entry) => entry,
             Err(reason) => return Err(reason),
         };
@@ -519,12 +519,12 @@ impl RecordReader {
     /// Reads a record that what is held and this text are, at its CR.
     #[inline(never)]
     fn end_held(&mut self, text: &[u8]) -> Result<(), Reason>
-        requires { self.old.cut ≡ None }
+        requires { self.old.split ≡ None }
         ensures ok { OnOk result ((left : Option Begun) → self.old.opened ≡ opened_of left
             → EndsHeld self.old self.new left text.now) }
         ensures err { IfErr result (λ reason. (left : Option Begun) → self.old.opened ≡ opened_of left
             → (reason ≡ reasons.OutOfMemory) ⊎ IsRecordRefusedFor left (self.old.held ++ text.now) reason) }
-        ensures told { OnOk result (is_some self.new.cut ≡ true) }
+        ensures reported { OnOk result (is_some self.new.split ≡ true) }
         ensures opened { OnErr result (self.new.opened ≡ self.old.opened) }
         ensures fault { self.new.fault ≡ self.old.fault }
     {
@@ -532,7 +532,7 @@ impl RecordReader {
             return Err(reason);
         }
         let text = self.kept.text();
-        let (delimiters, kind) = match lend_next(&self.opened, text, first_bad_byte(text)) {
+        let (delimiters, kind) = match borrow_next(&self.opened, text, first_bad_byte(text)) {
             Ok(entry) => (entry.delimiters(), entry.kind()),
             Err(reason) => return Err(reason),
         };

@@ -1,7 +1,7 @@
 //! Writing a message, record by record.
 ghost use Rattle.std.specs.Prelude.{◌≡◌, ◌-◌, ◌≤◌, ◌<◌, false, None, Some, Result, OnOk, IfErr, MatchResult, length};
 ghost use Rattle.std.specs.Prelude.{drop};
-ghost use Rattle.lis_spelling.specs.Spelling.{written};
+ghost use Rattle.lis_record_write.specs.Encoding.{written};
 ghost use Rattle.lis_message.specs.Stream.{IsMessage};
 ghost use Rattle.lis_tree.specs.Tree.{flatten};
 ghost use Rattle.lis_message.specs.Writing.{AreWritable, CanResume, WroteMessage, WroteRecords, first_length};
@@ -101,7 +101,7 @@ pub fn write_message_from<W: Sink>(
     write_records(sink, message.delimiters(), walk, place, skip)
 }
 
-/// Writes a message to a sink that has not failed: its records' spellings, CR after each. All records are tested before
+/// Writes a message to a sink that has not failed: its records' encodings, CR after each. All records are tested before
 /// any byte is written.
 pub fn write_message<W: Sink>(sink: &mut W, message: &Message) -> Result<(), MessageWriteFault>
     requires { W.failed sink.old ≡ false }

@@ -5,11 +5,11 @@ use Rattle.lis_port.specs.declared.testing.cut.Then.{Then}
 use Rattle.lis_port.specs.declared.testing.cut.Then.TheVariants.{End, Fail, Again}
 use Rattle.lis_port.specs.declared.port.Failed.{Failed}
 
--- a cut source: the bytes left, the most that a read gives, what comes behind them, and its last answers
+-- a cut source: the bytes left, the most that a read gives, what comes after them, and its last answers
 pub record CutState : Type 0 where
   pub rest : List ℕ
   pub step : ℕ
-  pub behind : Then
+  pub following : Then
   pub made : ℕ
   pub failed : Bool
   pub ended : Bool
@@ -22,35 +22,35 @@ known_left (Again byte) rest = None
 
 -- a source that was never read
 abbrev pub new_cut : List ℕ → ℕ → Then → CutState
-new_cut bytes step behind = record {
+new_cut bytes step following = record {
   rest = bytes;
   step = step;
-  behind = behind;
+  following = following;
   made = 0;
   failed = false;
   ended = false;
 }
 
--- a read behind the last byte
-abbrev pub answer_behind : Then → Result ℕ Failed
-answer_behind End = Ok 0
-answer_behind Fail = Err (record {})
-answer_behind (Again byte) = Ok 1
+-- a read after the last byte
+abbrev pub answer_after : Then → Result ℕ Failed
+answer_after End = Ok 0
+answer_after Fail = Err (record {})
+answer_after (Again byte) = Ok 1
 
 -- what a read with so much room answers
 abbrev pub cut_answer : Then → List ℕ → ℕ → ℕ → Result ℕ Failed
-cut_answer behind [] step room = answer_behind behind
-cut_answer behind (b ∷ rest) step room = Ok (min (min step (length (b ∷ rest))) room)
+cut_answer following [] step room = answer_after following
+cut_answer following (b ∷ rest) step room = Ok (min (min step (length (b ∷ rest))) room)
 
 -- the bytes that a read with so much room gives
-abbrev pub given_behind : Then → List ℕ
-given_behind End = []
-given_behind Fail = []
-given_behind (Again byte) = byte ∷ []
+abbrev pub given_after : Then → List ℕ
+given_after End = []
+given_after Fail = []
+given_after (Again byte) = byte ∷ []
 
 abbrev pub cut_given : Then → List ℕ → ℕ → ℕ → List ℕ
-cut_given behind [] step room = given_behind behind
-cut_given behind (b ∷ rest) step room = take (min step room) (b ∷ rest)
+cut_given following [] step room = given_after following
+cut_given following (b ∷ rest) step room = take (min step room) (b ∷ rest)
 
 -- a slow sink: what it took, the most that it takes in all and at a write, and whether the last write failed
 pub record SlowState : Type 0 where
@@ -59,6 +59,6 @@ pub record SlowState : Type 0 where
   pub step : ℕ
   pub failed : Bool
 
--- the count that a write of so many bytes takes; it fails where that is none
+-- the count that a write of so many bytes takes; it fails where there is no count
 abbrev pub slow_count : SlowState → ℕ → ℕ
 slow_count sink offered = min (min sink.step (sink.room - length sink.taken)) offered

@@ -15,7 +15,7 @@ pub struct Buffered<W: Write + Drop> {
 }
 
 impl<W: Write + Drop> Buffered<W> {
-    /// A sink that has not failed, behind what `writer` holds; what is in its buffer is not sent on.
+    /// A sink that has not failed, after what `writer` holds; what is in its buffer is not sent on.
     pub fn new(writer: BufWriter<W>) -> Self
         ensures taken { ⟦<Buffered<W> as Sink>⟧.taken result ≡ writer_contents W.contents writer }
         ensures sent { ⟦<Buffered<W> as Sink>⟧.sent result ≡ W.contents (writer_inner writer) }

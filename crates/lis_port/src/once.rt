@@ -7,7 +7,7 @@ ghost use Rattle.std.specs.IoError.{error_kind};
 
 use std::io::{self, ErrorKind, Write};
 
-/// A writer over another one. An interrupted write or flush is told as any other error, so that a
+/// A writer over another one. An interrupted write or flush is reported as any other error, so that a
 /// buffer over this writer doesn't make it again.
 #[derive(Drop)]
 pub struct Once<W: Write + Drop> {

@@ -16,7 +16,7 @@ pub trait Source {
     // The calls of `read` so far.
     ghost made: { Self → ℕ };
 
-    // Whether the last call of `read` failed, and whether it told the end; both false before the first.
+    // Whether the last call of `read` failed, and whether it reported the end; both false before the first.
     ghost failed: { Self → Bool };
 
     ghost ended: { Self → Bool };
@@ -47,7 +47,7 @@ pub trait Source {
     fn failed(&self) -> bool
         ensures { result ≡ failed self.now };
 
-    /// Whether the last call of `read` told the end.
+    /// Whether the last call of `read` reported the end.
     fn ended(&self) -> bool
         ensures { result ≡ ended self.now };
 

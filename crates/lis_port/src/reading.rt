@@ -78,7 +78,7 @@ impl<R: Read> Source for Reading<R> {
         self.ended
     }
 
-    // A reader can't tell, so that it may always wait.
+    // A reader can't know, so that it may always wait.
     fn may_wait(&self) -> bool {
         true
     }

@@ -14,7 +14,7 @@ pub struct Writing<W> {
 }
 
 impl<W: Write> Writing<W> {
-    /// A sink that has not failed, behind what `writer` holds.
+    /// A sink that has not failed, after what `writer` holds.
     pub fn new(writer: W) -> Self
         ensures taken { ⟦<Writing<W> as Sink>⟧.taken result ≡ W.contents writer }
         ensures sent { ⟦<Writing<W> as Sink>⟧.sent result ≡ W.contents writer }

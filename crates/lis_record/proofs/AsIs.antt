@@ -1,4 +1,4 @@
--- What is spelled as it stands: bytes before an escape byte, and escapes of one letter.
+-- What is encoded as it is: bytes before an escape byte, and escapes of one letter.
 use Rattle.std.proofs.Common.{◌≡◌, ◌≤◌, ℕ, ◌+◌, ◌==◌, List, [], ◌∷◌, ◌++◌, length, take, drop, Option, Some}
 use Rattle.std.proofs.Common.{None, option_map, unwrap_or, refl, sym, ap, ◌∙◌, append_assoc, append-nil, arith}
 use Rattle.std.proofs.Common.{eq-eqb, inl, inr, take-append-drop, get_or, true, suc}
@@ -8,92 +8,92 @@ use Rattle.std.proofs.lemmas.List.{drop-drop, drop_all, length-drop, take_all}
 use Rattle.std.proofs.Math.Seq.{take-add}
 use Rattle.std.specs.List.{position}
 use Rattle.std.specs.Option.{is_some}
-use Rattle.lis_field.specs.declared.symbols.Sym.{Sym}
-use Rattle.lis_field.specs.declared.symbols.Sym.TheVariants.{Char, On, Off}
-use Rattle.lis_field.specs.Delimiters.{DelimiterBytes, IsDelimiters}
-use Rattle.lis_field.specs.Shape.{Symbols}
-use Rattle.lis_field.proofs.FirstFaults.{test_false}
-use Rattle.lis_field.specs.Escapes.{escape_of, letter_symbol}
-use Rattle.lis_field.specs.Text.{trailing_byte}
-use Rattle.lis_field.specs.Relation.{Lacks}
-use Rattle.lis_spelling.specs.Spelling.{letter_spelling, spelled_symbol}
-use Rattle.lis_part.specs.FrontReading.{escape_at}
-use Rattle.lis_record.specs.inside.Respelling.{respelled, respelled_after}
-use Rattle.lis_part.proofs.Components.{Lacks-letter}
-use Rattle.lis_part.proofs.FieldTexts.{Lacks-first, part_behind-mark, trailing-none}
-use Rattle.lis_part.proofs.Places.{Lacks-position}
-use Rattle.lis_part.proofs.Places.{escape_at-found, parts_of-first}
-use Rattle.lis_record.proofs.Respelled.{respelled-escape, respelled-plain, respelled_as_is}
+use Rattle.lis_record_values.specs.declared.symbols.Sym.{Sym}
+use Rattle.lis_record_values.specs.declared.symbols.Sym.TheVariants.{Char, On, Off}
+use Rattle.lis_record_values.specs.Delimiters.{DelimiterBytes, IsDelimiters}
+use Rattle.lis_record_values.specs.Shape.{Symbols}
+use Rattle.lis_record_values.proofs.FirstFaults.{test_false}
+use Rattle.lis_record_values.specs.Escapes.{escape_of, letter_symbol}
+use Rattle.lis_record_values.specs.Text.{trailing_byte}
+use Rattle.lis_record_values.specs.Relation.{Lacks}
+use Rattle.lis_record_write.specs.Encoding.{letter_encoding, encoded_symbol}
+use Rattle.lis_record_read.specs.FrontReading.{escape_at}
+use Rattle.lis_record.specs.inside.Reencoding.{reencoded, reencoded_after}
+use Rattle.lis_record_read.proofs.Components.{Lacks-letter}
+use Rattle.lis_record_read.proofs.FieldTexts.{Lacks-first, part_following-mark, trailing-none}
+use Rattle.lis_record_read.proofs.Places.{Lacks-position}
+use Rattle.lis_record_read.proofs.Places.{escape_at-found, parts_of-first}
+use Rattle.lis_record.proofs.Reencoded.{reencoded-escape, reencoded-plain, reencoded_as_is}
 
 -- ---- an escape of one letter
 
 module _ (d : DelimiterBytes) (good : IsDelimiters d) where
-  field_spelled : spelled_symbol d (Char d.field) ≡ letter_spelling d 70
-  unfolding spelled_symbol
-  field_spelled = rw (eq-eqb d.field d.field refl) refl
+  field_encoded : encoded_symbol d (Char d.field) ≡ letter_encoding d 70
+  unfolding encoded_symbol
+  field_encoded = rw (eq-eqb d.field d.field refl) refl
 
-  component_spelled : spelled_symbol d (Char d.component) ≡ letter_spelling d 83
-  unfolding spelled_symbol
-  component_spelled = rw (
+  component_encoded : encoded_symbol d (Char d.component) ≡ letter_encoding d 83
+  unfolding encoded_symbol
+  component_encoded = rw (
     test_false d.component d.field (λ e. good.field_component (sym e)),
     eq-eqb d.component d.component refl,
   ) refl
 
-  repeat_spelled : spelled_symbol d (Char d.repeat) ≡ letter_spelling d 82
-  unfolding spelled_symbol
-  repeat_spelled = rw (
+  repeat_encoded : encoded_symbol d (Char d.repeat) ≡ letter_encoding d 82
+  unfolding encoded_symbol
+  repeat_encoded = rw (
     test_false d.repeat d.field (λ e. good.field_repeat (sym e)),
     test_false d.repeat d.component good.repeat_component,
     eq-eqb d.repeat d.repeat refl,
   ) refl
 
-  pub escape_spelled : spelled_symbol d (Char d.escape) ≡ letter_spelling d 69
-  unfolding spelled_symbol
-  escape_spelled = rw (
+  pub escape_encoded : encoded_symbol d (Char d.escape) ≡ letter_encoding d 69
+  unfolding encoded_symbol
+  escape_encoded = rw (
     test_false d.escape d.field (λ e. good.field_escape (sym e)),
     test_false d.escape d.component (λ e. good.component_escape (sym e)),
     test_false d.escape d.repeat (λ e. good.repeat_escape (sym e)),
     eq-eqb d.escape d.escape refl,
   ) refl
 
-  on_spelled : spelled_symbol d On ≡ letter_spelling d 72
-  unfolding spelled_symbol
-  on_spelled = refl
+  on_encoded : encoded_symbol d On ≡ letter_encoding d 72
+  unfolding encoded_symbol
+  on_encoded = refl
 
-  off_spelled : spelled_symbol d Off ≡ letter_spelling d 78
-  unfolding spelled_symbol
-  off_spelled = refl
+  off_encoded : encoded_symbol d Off ≡ letter_encoding d 78
+  unfolding encoded_symbol
+  off_encoded = refl
 
-  told : (letter n : ℕ) (s symbol : Sym) → spelled_symbol d s ≡ letter_spelling d n → letter ≡ n
-      → Some s ≡ Some symbol → spelled_symbol d symbol ≡ letter_spelling d letter
-  told letter n s symbol is same e = let t : s ≡ symbol = cc in rw (← t, same) is
+  reported : (letter n : ℕ) (s symbol : Sym) → encoded_symbol d s ≡ letter_encoding d n → letter ≡ n
+      → Some s ≡ Some symbol → encoded_symbol d symbol ≡ letter_encoding d letter
+  reported letter n s symbol is same e = let t : s ≡ symbol = cc in rw (← t, same) is
 
   letter_as_is : (letter : ℕ) (symbol : Sym) → letter_symbol d letter ≡ Some symbol
-      → spelled_symbol d symbol ≡ letter_spelling d letter
+      → encoded_symbol d symbol ≡ letter_encoding d letter
   letter_as_is letter symbol h =
       elim (eqb_tells letter 72) [
-        | inl is ↦ told letter 72 On symbol on_spelled is.1 (rw is.0 at h)
+        | inl is ↦ reported letter 72 On symbol on_encoded is.1 (rw is.0 at h)
         | inr on ↦
             elim (eqb_tells letter 78) [
-              | inl is ↦ told letter 78 Off symbol off_spelled is.1 (rw (on.0, is.0) at h)
+              | inl is ↦ reported letter 78 Off symbol off_encoded is.1 (rw (on.0, is.0) at h)
               | inr off ↦
                   elim (eqb_tells letter 70) [
                     | inl is ↦
-                        told letter 70 (Char d.field) symbol field_spelled is.1 (rw (on.0, off.0, is.0) at h)
+                        reported letter 70 (Char d.field) symbol field_encoded is.1 (rw (on.0, off.0, is.0) at h)
                     | inr field ↦
                         elim (eqb_tells letter 83) [
                           | inl is ↦
-                              told letter 83 (Char d.component) symbol component_spelled is.1
+                              reported letter 83 (Char d.component) symbol component_encoded is.1
                               (rw (on.0, off.0, field.0, is.0) at h)
                           | inr component ↦
                               elim (eqb_tells letter 82) [
                                 | inl is ↦
-                                    told letter 82 (Char d.repeat) symbol repeat_spelled is.1
+                                    reported letter 82 (Char d.repeat) symbol repeat_encoded is.1
                                     (rw (on.0, off.0, field.0, component.0, is.0) at h)
                                 | inr repeat ↦
                                     elim (eqb_tells letter 69) [
                                       | inl is ↦
-                                          told letter 69 (Char d.escape) symbol escape_spelled is.1
+                                          reported letter 69 (Char d.escape) symbol escape_encoded is.1
                                           (rw (on.0, off.0, field.0, component.0, repeat.0, is.0) at h)
                                       | inr escape ↦
                                           let none : None ≡ Some symbol =
@@ -107,7 +107,7 @@ module _ (d : DelimiterBytes) (good : IsDelimiters d) where
       ]
 
   pub letter_begins : (letter end : ℕ) (rest : List ℕ) (symbol : Sym) → letter_symbol d letter ≡ Some symbol
-      → end ≡ d.escape → respelled d (d.escape ∷ letter ∷ end ∷ rest) ≡ d.escape ∷ letter ∷ end ∷ respelled d rest
+      → end ≡ d.escape → reencoded d (d.escape ∷ letter ∷ end ∷ rest) ≡ d.escape ∷ letter ∷ end ∷ reencoded d rest
   unfolding escape_of
   letter_begins letter end rest symbol h is =
       let text = letter ∷ end ∷ rest in
@@ -120,49 +120,49 @@ module _ (d : DelimiterBytes) (good : IsDelimiters d) where
       ap (option_map (λ (s : Sym). s ∷ [])) h in
       let found : escape_at d text ≡ Some (symbol ∷ [], 2) =
       escape_at-found d text 1 place ∙ ap (option_map pair) meant in
-      respelled-escape d text (symbol ∷ [], 2) found
-      ∙ ap (λ (l : List ℕ). (l ++ []) ++ respelled d rest) (letter_as_is letter symbol h)
-      ∙ ap (λ (b : ℕ). d.escape ∷ letter ∷ b ∷ respelled d rest) (sym is)
+      reencoded-escape d text (symbol ∷ [], 2) found
+      ∙ ap (λ (l : List ℕ). (l ++ []) ++ reencoded d rest) (letter_as_is letter symbol h)
+      ∙ ap (λ (b : ℕ). d.escape ∷ letter ∷ b ∷ reencoded d rest) (sym is)
 
-  pub letter_stands : (text : List ℕ) → 2 ≤ length text → get_or text 1 0 ≡ d.escape
+  pub letter_is_there : (text : List ℕ) → 2 ≤ length text → get_or text 1 0 ≡ d.escape
       → is_some (letter_symbol d (get_or text 0 0)) ≡ true
-      → respelled d (d.escape ∷ text) ≡ d.escape ∷ take 2 text ++ respelled d (drop 2 text)
-  letter_stands [] long is some = absurd (omega arith)
-  letter_stands (letter ∷ []) long is some = absurd (omega arith)
-  letter_stands (letter ∷ end ∷ rest) long is some = go (letter_symbol d letter) refl some
+      → reencoded d (d.escape ∷ text) ≡ d.escape ∷ take 2 text ++ reencoded d (drop 2 text)
+  letter_is_there [] long is some = absurd (omega arith)
+  letter_is_there (letter ∷ []) long is some = absurd (omega arith)
+  letter_is_there (letter ∷ end ∷ rest) long is some = go (letter_symbol d letter) refl some
     where
       go : (o : Option Sym) → letter_symbol d letter ≡ o → is_some o ≡ true
-          → respelled d (d.escape ∷ letter ∷ end ∷ rest) ≡ d.escape ∷ letter ∷ end ∷ respelled d rest
+          → reencoded d (d.escape ∷ letter ∷ end ∷ rest) ≡ d.escape ∷ letter ∷ end ∷ reencoded d rest
       go None e some = cc
       go (Some symbol) e some = letter_begins letter end rest symbol e is
 
--- ---- a front of a text
+-- ---- a prefix of a text
 
--- so many bytes are spelled as they stand, and these stand behind them
+-- so many bytes are encoded as they are, and these are after them
 pub record Fronted (d : DelimiterBytes) (text rest : List ℕ) (passed : ℕ) : Type 0 where
   pub fits : passed + length rest ≡ length text
-  pub behind : rest ≡ drop passed text
-  pub same : respelled d text ≡ take passed text ++ respelled d rest
+  pub following : rest ≡ drop passed text
+  pub same : reencoded d text ≡ take passed text ++ reencoded d rest
 
 module _ (d : DelimiterBytes) (text : List ℕ) where
   pub fronted_none : Fronted d text text 0
-  fronted_none = record { fits = omega arith; behind = refl; same = refl }
+  fronted_none = record { fits = omega arith; following = refl; same = refl }
 
   module _ (rest : List ℕ) (passed : ℕ) (f : Fronted d text rest passed) where
     -- no escape byte follows
     pub fronted_whole : position (λ b. b == d.escape) rest ≡ None
-        → respelled d text ≡ take (length text) text ++ respelled d (drop (length text) text)
-    unfolding respelled_after
+        → reencoded d text ≡ take (length text) text ++ reencoded d (drop (length text) text)
+    unfolding reencoded_after
     fronted_whole none =
         let last : rest ≡ take (length rest) (drop passed text) =
-        f.behind ∙ sym (take_all (length rest) (drop passed text) (omega (arith, ap length f.behind))) in
+        f.following ∙ sym (take_all (length rest) (drop passed text) (omega (arith, ap length f.following))) in
         let all : take (length text) text ≡ take passed text ++ rest =
         ap (λ (n : ℕ). take n text) (sym f.fits) ∙ take-add passed (length rest) text
         ∙ ap (λ (l : List ℕ). take passed text ++ l) (sym last) in
         let left : drop (length text) text ≡ [] = drop_all (length text) text (omega arith) in
         rw (all, left)
         (f.same
-        ∙ ap (λ (l : List ℕ). take passed text ++ l) (respelled_as_is d rest (Lacks-position d.escape rest none))
+        ∙ ap (λ (l : List ℕ). take passed text ++ l) (reencoded_as_is d rest (Lacks-position d.escape rest none))
         ∙ sym (append-nil (take passed text ++ rest)))
 
     module _ (place : ℕ) (found : position (λ b. b == d.escape) rest ≡ Some place) where
@@ -170,52 +170,52 @@ module _ (d : DelimiterBytes) (text : List ℕ) where
       free = Lacks-first d.escape rest (take place rest) (drop place rest) (parts_of-first d.escape rest place
           (sym (ap (λ (o : Option ℕ). unwrap_or o (length rest)) found)))
 
-      up_to : respelled d rest ≡ take place rest ++ respelled d (drop place rest)
-      up_to = ap (respelled d) (sym (take-append-drop place rest))
-          ∙ respelled-plain d (take place rest) (drop place rest) free
+      up_to : reencoded d rest ≡ take place rest ++ reencoded d (drop place rest)
+      up_to = ap (reencoded d) (sym (take-append-drop place rest))
+          ∙ reencoded-plain d (take place rest) (drop place rest) free
 
       more : (n : ℕ) → take (passed + n) text ≡ take passed text ++ take n rest
-      more n = take-add passed n text ∙ ap (λ (l : List ℕ). take passed text ++ take n l) (sym f.behind)
+      more n = take-add passed n text ∙ ap (λ (l : List ℕ). take passed text ++ take n l) (sym f.following)
 
       further : (n : ℕ) → drop (passed + n) text ≡ drop n rest
-      further n = sym (drop-drop n passed text) ∙ ap (drop n) (sym f.behind)
+      further n = sym (drop-drop n passed text) ∙ ap (drop n) (sym f.following)
 
       pub fronted_next : trailing_byte d.escape (drop (passed + place) text) ≡ None
-      fronted_next = rw (further place) (part_behind-mark d.escape rest place
+      fronted_next = rw (further place) (part_following-mark d.escape rest place
           (sym (ap (λ (o : Option ℕ). unwrap_or o (length rest)) found)))
 
-      pub fronted_part : respelled d text ≡ take (passed + place) text ++ respelled d (drop (passed + place) text)
+      pub fronted_part : reencoded d text ≡ take (passed + place) text ++ reencoded d (drop (passed + place) text)
       fronted_part = rw (more place, further place)
           (f.same ∙ ap (λ (l : List ℕ). take passed text ++ l) up_to
-          ∙ sym (append_assoc (take passed text) (take place rest) (respelled d (drop place rest))))
+          ∙ sym (append_assoc (take passed text) (take place rest) (reencoded d (drop place rest))))
 
-      -- an escape of one letter stands there
+      -- an escape of one letter is there
       pub fronted_more : (byte : ℕ) (inside others : List ℕ) → drop place rest ≡ byte ∷ inside
           → 2 ≤ length inside → others ≡ drop 2 inside
-          → respelled d (d.escape ∷ inside) ≡ d.escape ∷ take 2 inside ++ respelled d (drop 2 inside)
+          → reencoded d (d.escape ∷ inside) ≡ d.escape ∷ take 2 inside ++ reencoded d (drop 2 inside)
           → Fronted d text others (passed + (place + 3))
-      fronted_more byte inside others stands long is same =
+      fronted_more byte inside others represents long is same =
           let marked : byte ≡ d.escape =
-          trailing-none d.escape byte inside (drop place rest) stands (part_behind-mark d.escape rest place
+          trailing-none d.escape byte inside (drop place rest) represents (part_following-mark d.escape rest place
           (sym (ap (λ (o : Option ℕ). unwrap_or o (length rest)) found))) in
-          let at : drop place rest ≡ d.escape ∷ inside = stands ∙ ap (λ (b : ℕ). b ∷ inside) marked in
-          let told : take (place + 3) rest ≡ take place rest ++ d.escape ∷ take 2 inside =
+          let at : drop place rest ≡ d.escape ∷ inside = represents ∙ ap (λ (b : ℕ). b ∷ inside) marked in
+          let reported : take (place + 3) rest ≡ take place rest ++ d.escape ∷ take 2 inside =
           take-add place 3 rest ∙ ap (λ (l : List ℕ). take place rest ++ take 3 l) at in
           let left : drop (place + 3) rest ≡ others =
           sym (drop-drop 3 place rest) ∙ ap (drop 3) at ∙ sym is in
-          let here : respelled d rest ≡ take (place + 3) rest ++ respelled d others =
-          up_to ∙ ap (λ (l : List ℕ). take place rest ++ respelled d l) at
+          let here : reencoded d rest ≡ take (place + 3) rest ++ reencoded d others =
+          up_to ∙ ap (λ (l : List ℕ). take place rest ++ reencoded d l) at
           ∙ ap (λ (l : List ℕ). take place rest ++ l) same
-          ∙ ap (λ (l : List ℕ). take place rest ++ (d.escape ∷ take 2 inside ++ respelled d l)) (sym is)
-          ∙ sym (append_assoc (take place rest) (d.escape ∷ take 2 inside) (respelled d others))
-          ∙ ap (λ (l : List ℕ). l ++ respelled d others) (sym told) in
+          ∙ ap (λ (l : List ℕ). take place rest ++ (d.escape ∷ take 2 inside ++ reencoded d l)) (sym is)
+          ∙ sym (append_assoc (take place rest) (d.escape ∷ take 2 inside) (reencoded d others))
+          ∙ ap (λ (l : List ℕ). l ++ reencoded d others) (sym reported) in
           let size : length (drop place rest) ≡ suc (length inside) = ap length at in
           record {
             fits =
                 omega (arith, f.fits, length-drop place rest, size, long, length-drop 2 inside, ap length is);
-            behind = sym left ∙ sym (further (place + 3));
+            following = sym left ∙ sym (further (place + 3));
             same =
                 rw (more (place + 3))
                 (f.same ∙ ap (λ (l : List ℕ). take passed text ++ l) here
-                ∙ sym (append_assoc (take passed text) (take (place + 3) rest) (respelled d others)));
+                ∙ sym (append_assoc (take passed text) (take (place + 3) rest) (reencoded d others)));
           }

@@ -1,23 +1,24 @@
 -- The definitions at texts and records whose reading is known from outside, by computation.
 use Rattle.std.proofs.Common.{◌≡◌, ℕ, List, [], ◌∷◌, None, Some, ap, arith, length, refl}
 use Rattle.hex.specs.Hex.{encode_with, decode_pairs}
-use Rattle.lis_field.specs.declared.delimiting.DelimiterFault.TheVariants.{Repeated}
-use Rattle.lis_field.specs.declared.faults.DelimiterPartFault.TheVariants.{Short, Fault, Trailing}
-use Rattle.lis_field.specs.declared.faults.RecordFault.TheVariants.{Empty, UnknownKind, DelimiterPart, Byte}
-use Rattle.lis_spelling.specs.declared.faults.WriteFault.TheVariants.{CharNotText}
-use Rattle.lis_field.specs.declared.kinds.Kind.TheVariants as kinds
-use Rattle.lis_field.specs.declared.symbols.Sym.TheVariants.{Char, Raw}
-use Rattle.lis_field.specs.Delimiters.{DelimiterBytes, IsDelimiters, delimiters_of, delimiter_fault, is_punctuation}
-use Rattle.lis_field.specs.Escapes.{IsComponent, escape, escape_of, nothing, plain}
-use Rattle.lis_field.specs.Relation.{IsRecord}
-use Rattle.lis_field.specs.Shape.{Fields, RecordContent}
+use Rattle.lis_record_values.specs.declared.delimiting.DelimiterFault.TheVariants.{Repeated}
+use Rattle.lis_record_values.specs.declared.faults.DelimiterPartFault.TheVariants.{Short, Fault, Trailing}
+use Rattle.lis_record_values.specs.declared.faults.RecordFault.TheVariants.{Empty, UnknownKind, DelimiterPart, Byte}
+use Rattle.lis_record_write.specs.declared.faults.WriteFault.TheVariants.{CharNotText}
+use Rattle.lis_record_values.specs.declared.kinds.Kind.TheVariants as kinds
+use Rattle.lis_record_values.specs.declared.symbols.Sym.TheVariants.{Char, Raw}
+use Rattle.lis_record_values.specs.Delimiters.{DelimiterBytes, IsDelimiters, delimiters_of, delimiter_fault}
+use Rattle.lis_record_values.specs.Delimiters.{is_punctuation}
+use Rattle.lis_record_values.specs.Escapes.{IsComponent, escape, escape_of, nothing, plain}
+use Rattle.lis_record_values.specs.Relation.{IsRecord}
+use Rattle.lis_record_values.specs.Shape.{Fields, RecordContent}
 use Rattle.lis_record.specs.Faults.{record_text_fault, record_fault, delimiter_part_fault, header_fault}
-use Rattle.lis_spelling.specs.WriteFaults.{check_fault}
-use Rattle.lis_part.specs.FrontReading.{escape_at, symbols_after, symbols_of}
-use Rattle.lis_field.specs.Kinds.{kind_of}
-use Rattle.lis_spelling.specs.Spelling.{spelled_symbol, spelled}
-use Rattle.lis_field.specs.Text.{is_text_byte}
-use Rattle.lis_part.proofs.Components.{IsComponent-symbols_of, symbols_of-IsComponent}
+use Rattle.lis_record_write.specs.WriteFaults.{check_fault}
+use Rattle.lis_record_read.specs.FrontReading.{escape_at, symbols_after, symbols_of}
+use Rattle.lis_record_values.specs.Kinds.{kind_of}
+use Rattle.lis_record_write.specs.Encoding.{encoded_symbol, encoded}
+use Rattle.lis_record_values.specs.Text.{is_text_byte}
+use Rattle.lis_record_read.proofs.Components.{IsComponent-symbols_of, symbols_of-IsComponent}
 use Rattle.lis_record.proofs.FaultLaws.{record_text_fault-none}
 use Rattle.lis_record.proofs.RecordTexts.{AreFieldTexts-fields_of, AreFieldTexts-none, IsRecord-one}
 
@@ -38,10 +39,10 @@ short_delimiters : header_fault (0x48 ∷ 0x7c ∷ 0x5c ∷ 0x5e ∷ []) ≡ Som
 unfolding header_fault delimiter_part_fault record_text_fault delimiter_fault is_punctuation is_text_byte kind_of
 short_delimiters = refl
 
-byte_behind_the_delimiters : header_fault (0x48 ∷ 0x7c ∷ 0x5c ∷ 0x5e ∷ 0x26 ∷ 0x41 ∷ [])
+byte_after_the_delimiters : header_fault (0x48 ∷ 0x7c ∷ 0x5c ∷ 0x5e ∷ 0x26 ∷ 0x41 ∷ [])
     ≡ Some (DelimiterPart (Trailing 0x41))
 unfolding header_fault delimiter_part_fault record_text_fault delimiter_fault is_punctuation is_text_byte kind_of
-byte_behind_the_delimiters = refl
+byte_after_the_delimiters = refl
 
 patient_is_no_header : header_fault (0x50 ∷ 0x7c ∷ 0x31 ∷ []) ≡ Some (UnknownKind 0x50)
 unfolding header_fault kind_of
@@ -76,23 +77,23 @@ lone_escape_byte = refl
 
 -- written, they are C|&X0d&&X0a& and S&E&S
 hexadecimal_escapes_written :
-    spelled usual (record { kind = kinds.C; fields = (((Raw 0x0d ∷ Raw 0x0a ∷ []) ∷ []) ∷ []) ∷ [] })
+    encoded usual (record { kind = kinds.C; fields = (((Raw 0x0d ∷ Raw 0x0a ∷ []) ∷ []) ∷ []) ∷ [] })
     ≡ 0x43 ∷ 0x7c ∷ 0x26 ∷ 0x58 ∷ 0x30 ∷ 0x64 ∷ 0x26 ∷ 0x26 ∷ 0x58 ∷ 0x30 ∷ 0x61 ∷ 0x26 ∷ []
-unfolding spelled_symbol encode_with usual
+unfolding encoded_symbol encode_with usual
 hexadecimal_escapes_written = refl
 
 escape_byte_written :
-    spelled usual (record { kind = kinds.C; fields = (((Char 0x53 ∷ Char 0x26 ∷ Char 0x53 ∷ []) ∷ []) ∷ []) ∷ [] })
+    encoded usual (record { kind = kinds.C; fields = (((Char 0x53 ∷ Char 0x26 ∷ Char 0x53 ∷ []) ∷ []) ∷ []) ∷ [] })
     ≡ 0x43 ∷ 0x7c ∷ 0x53 ∷ 0x26 ∷ 0x45 ∷ 0x26 ∷ 0x53 ∷ []
-unfolding spelled_symbol usual
+unfolding encoded_symbol usual
 escape_byte_written = refl
 
 -- a record without a field, and one with an empty field
-no_field_written : spelled usual (record { kind = kinds.L; fields = [] }) ≡ 0x4c ∷ []
+no_field_written : encoded usual (record { kind = kinds.L; fields = [] }) ≡ 0x4c ∷ []
 unfolding usual
 no_field_written = refl
 
-empty_field_written : spelled usual (record { kind = kinds.L; fields = (([] ∷ []) ∷ []) ∷ [] }) ≡ 0x4c ∷ 0x7c ∷ []
+empty_field_written : encoded usual (record { kind = kinds.L; fields = (([] ∷ []) ∷ []) ∷ [] }) ≡ 0x4c ∷ 0x7c ∷ []
 unfolding usual
 empty_field_written = refl
 
@@ -105,7 +106,7 @@ bad_character :
           ∷ (((Char 0x0d ∷ []) ∷ []) ∷ []) ∷ [];
     })
     ≡ Some (CharNotText 4)
-unfolding check_fault spelled_symbol usual is_text_byte
+unfolding check_fault encoded_symbol usual is_text_byte
 bad_character = refl
 
 -- |, \, ^ and & are delimiters

@@ -1,27 +1,28 @@
--- A text is a record exactly where none of the faults stands.
-use Rattle.lis_field.specs.declared.faults.RecordFault.{RecordFault}
-use Rattle.lis_field.specs.declared.faults.DelimiterPartFault.{DelimiterPartFault}
-use Rattle.lis_field.specs.declared.delimiting.DelimiterFault.{DelimiterFault}
+-- A text is a record exactly where none of the faults is.
+use Rattle.lis_record_values.specs.declared.faults.RecordFault.{RecordFault}
+use Rattle.lis_record_values.specs.declared.faults.DelimiterPartFault.{DelimiterPartFault}
+use Rattle.lis_record_values.specs.declared.delimiting.DelimiterFault.{DelimiterFault}
 use Rattle.std.proofs.Common.{◌≡◌, ◌≢◌, ℕ, ◌≤◌, Bool, true, false, cond, ltb, List, [], ◌∷◌, ◌++◌, length, Option}
 use Rattle.std.proofs.Common.{Some, None, option_map, refl, sym, ap, ◌∙◌, eq-eqb, arith, get_or, inl, inr, drop, ◌<◌}
 use Rattle.std.specs.List.{flat_map}
 use Rattle.std.proofs.lemmas.Bool.Decides.{eqb_tells}
-use Rattle.lis_field.specs.declared.kinds.Kind.{Kind}
-use Rattle.lis_field.specs.declared.kinds.Kind.TheVariants as kinds
-use Rattle.lis_field.specs.declared.faults.DelimiterPartFault.TheVariants.{Trailing, Short, Fault}
-use Rattle.lis_field.specs.declared.faults.RecordFault.TheVariants as record_faults
-use Rattle.lis_field.specs.Delimiters.{DelimiterBytes, IsDelimiters, delimiter_fault, delimiters_of}
+use Rattle.lis_record_values.specs.declared.kinds.Kind.{Kind}
+use Rattle.lis_record_values.specs.declared.kinds.Kind.TheVariants as kinds
+use Rattle.lis_record_values.specs.declared.faults.DelimiterPartFault.TheVariants.{Trailing, Short, Fault}
+use Rattle.lis_record_values.specs.declared.faults.RecordFault.TheVariants as record_faults
+use Rattle.lis_record_values.specs.Delimiters.{DelimiterBytes, IsDelimiters, delimiter_fault, delimiters_of}
 use Rattle.lis_record.specs.Faults.{delimiter_part_fault, header_fault, is_other_kind, record_fault}
 use Rattle.lis_record.specs.Faults.{record_text_fault, is_header_kind}
-use Rattle.lis_field.specs.Text.{trailing_byte, IsRecordText, is_text_byte, bad_byte_place, record_limit}
-use Rattle.lis_part.specs.FrontReading.{fields_of}
-use Rattle.lis_field.specs.Kinds.{kind_of}
-use Rattle.lis_field.specs.Relation.{AreFieldTexts, IsRecord, declared_part}
-use Rattle.lis_field.specs.Shape.{RecordContent}
-use Rattle.lis_field.proofs.FirstFaults.{AllPass-position, ltb-past, ltb_tells, option_map-none, option_or-none}
-use Rattle.lis_field.proofs.FirstFaults.{none_cond, position-AllPass}
-use Rattle.lis_field.proofs.DelimiterFaults.{IsDelimiters-delimiters_of, delimiter_fault-IsDelimiters}
-use Rattle.lis_field.proofs.KindCases.{other_kind}
+use Rattle.lis_record_values.specs.Text.{trailing_byte, IsRecordText, is_text_byte, bad_byte_place, record_limit}
+use Rattle.lis_record_read.specs.FrontReading.{fields_of}
+use Rattle.lis_record_values.specs.Kinds.{kind_of}
+use Rattle.lis_record_values.specs.Relation.{AreFieldTexts, IsRecord, declared_part}
+use Rattle.lis_record_values.specs.Shape.{RecordContent}
+use Rattle.lis_record_values.proofs.FirstFaults.{AllPass-position, ltb-past, ltb_decides, option_map-none}
+use Rattle.lis_record_values.proofs.FirstFaults.{option_or-none}
+use Rattle.lis_record_values.proofs.FirstFaults.{none_cond, position-AllPass}
+use Rattle.lis_record_values.proofs.DelimiterFaults.{IsDelimiters-delimiters_of, delimiter_fault-IsDelimiters}
+use Rattle.lis_record_values.proofs.KindCases.{other_kind}
 use Rattle.lis_record.proofs.RecordTexts.{AreFieldTexts-fields_of, AreFieldTexts-none}
 
 cond_none : {X : Type 0} (b : Bool) (x : X) → cond b None (Some x) ≡ None → b ≡ true
@@ -38,7 +39,7 @@ record_text_fault-none text h =
     (cond (ltb record_limit (length text)) (Some record_faults.TooLong) None) h in
     let not_long = none_cond (ltb record_limit (length text)) record_faults.TooLong both.1 in (
       AllPass-position is_text_byte text (option_map-none record_faults.Byte (bad_byte_place text) both.0),
-      elim (ltb_tells record_limit (length text)) [ inl past ↦ cc (not_long, past.0) | inr within ↦ within.1 ],
+      elim (ltb_decides record_limit (length text)) [ inl past ↦ cc (not_long, past.0) | inr within ↦ within.1 ],
     )
 
 pub none-record_text_fault : (text : List ℕ) → IsRecordText text → length text ≤ record_limit
@@ -67,11 +68,11 @@ pub is_other_kind-other : (kind : Kind) → kind ≢ kinds.H → is_other_kind (
 is_other_kind-other =
     other_kind (λ kind. is_other_kind (Some kind) ≡ true) refl refl refl refl refl refl refl refl
 
--- where nothing but a field delimiter follows, what is behind it are fields
-AreFieldTexts-behind : (d : DelimiterBytes) → IsDelimiters d → (bytes : List ℕ)
+-- where nothing but a field delimiter follows, what is after it are fields
+AreFieldTexts-following : (d : DelimiterBytes) → IsDelimiters d → (bytes : List ℕ)
     → ((byte : ℕ) (rest : List ℕ) → bytes ≡ byte ∷ rest → byte ≡ d.field) → AreFieldTexts d bytes (fields_of d bytes)
-AreFieldTexts-behind d good [] h = AreFieldTexts-none d good
-AreFieldTexts-behind d good (byte ∷ rest) h = rw (h byte rest refl) (AreFieldTexts-fields_of d good rest)
+AreFieldTexts-following d good [] h = AreFieldTexts-none d good
+AreFieldTexts-following d good (byte ∷ rest) h = rw (h byte rest refl) (AreFieldTexts-fields_of d good rest)
 
 trailing_byte-field : (field : ℕ) (bytes : List ℕ) → trailing_byte field bytes ≡ None → (byte : ℕ) (rest : List ℕ)
     → bytes ≡ byte ∷ rest → byte ≡ field
@@ -83,7 +84,7 @@ trailing_byte-field field (first ∷ others) h byte rest e =
       | inr other ↦ let g : Some first ≡ None = rw other.0 at h in cc
     ]
 
--- a text in which no fault stands is a record
+-- a text without a fault is a record
 pub IsRecord-fields_of : (d : DelimiterBytes) → IsDelimiters d → (letter : ℕ) (bytes : List ℕ) (kind : Kind)
     → kind_of letter ≡ Some kind → kind ≢ kinds.H
     → trailing_byte d.field bytes ≡ None → record_text_fault (letter ∷ bytes) ≡ None
@@ -95,7 +96,7 @@ IsRecord-fields_of d good letter bytes kind letter_is other second texts =
       fields_text = bytes;
       whole = ap (λ (l : List ℕ). letter ∷ l ++ bytes) (sym (declared_part-other d kind other));
       kind_is = letter_is;
-      fields_are = AreFieldTexts-behind d good bytes (trailing_byte-field d.field bytes second);
+      fields_are = AreFieldTexts-following d good bytes (trailing_byte-field d.field bytes second);
       is_text = fine.0;
       short = fine.1;
     }
@@ -106,7 +107,7 @@ fields_text-first : (d : DelimiterBytes) (parts : List (List ℕ))
 fields_text-first d [] = refl
 fields_text-first d (part ∷ parts) = rw (eq-eqb d.field d.field refl) refl
 
--- in a record no fault stands
+-- a record has no fault
 pub record_fault-IsRecord : (d : DelimiterBytes) (text : List ℕ) (content : RecordContent) → content.kind ≢ kinds.H
     → IsRecord d text content → record_fault d text ≡ None
 unfolding record_fault
@@ -121,7 +122,7 @@ record_fault-IsRecord d text content other h =
 
 -- ---- headers
 
--- a text in which no fault stands is a header, under the delimiters that it declares
+-- a text without a fault is a header, under the delimiters that it declares
 pub IsRecord-header : (letter f r c e : ℕ) (bytes : List ℕ) → kind_of letter ≡ Some kinds.H
     → delimiter_fault (f ∷ r ∷ c ∷ e ∷ []) ≡ None → trailing_byte f bytes ≡ None
     → record_text_fault (letter ∷ f ∷ r ∷ c ∷ e ∷ bytes) ≡ None
@@ -135,7 +136,7 @@ IsRecord-header letter f r c e bytes letter_is marks trailing texts =
       fields_text = bytes;
       whole = refl;
       kind_is = letter_is;
-      fields_are = AreFieldTexts-behind d (IsDelimiters-delimiters_of f r c e marks) bytes
+      fields_are = AreFieldTexts-following d (IsDelimiters-delimiters_of f r c e marks) bytes
           (trailing_byte-field f bytes trailing);
       is_text = fine.0;
       short = fine.1;
@@ -148,7 +149,7 @@ pub header_text : (d : DelimiterBytes) (text : List ℕ) (content : RecordConten
 header_text d text content is_header h = h.whole
     ∙ ap (λ (k : Kind). h.letter ∷ declared_part d k ++ h.fields_text) is_header
 
--- in a header no fault stands
+-- a header has no fault
 pub header_fault-IsRecord : (d : DelimiterBytes) → IsDelimiters d → (text : List ℕ) (content : RecordContent)
     → content.kind ≡ kinds.H → IsRecord d text content → header_fault text ≡ None
 unfolding header_fault delimiter_part_fault

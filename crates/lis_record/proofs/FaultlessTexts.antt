@@ -2,19 +2,19 @@
 use Rattle.std.proofs.Common.{◌≡◌, ◌≢◌, ℕ, List, [], ◌∷◌, Option, Some, None, option_map, refl}
 use Rattle.std.specs.Prelude.{if◌then◌else◌}
 use Rattle.std.specs.Option.{option_or}
-use Rattle.lis_field.proofs.DelimiterFaults.{IsDelimiters-delimiters_of}
-use Rattle.lis_field.proofs.FirstFaults.{option_map-none, option_or-none}
-use Rattle.lis_field.specs.declared.kinds.Kind.{Kind}
-use Rattle.lis_field.specs.declared.kinds.Kind.TheVariants as kinds
-use Rattle.lis_field.specs.Delimiters.{DelimiterBytes, IsDelimiters, delimiter_fault, delimiters_of}
-use Rattle.lis_field.specs.Kinds.{kind_of}
-use Rattle.lis_field.specs.declared.faults.DelimiterPartFault.TheVariants.{Fault, Trailing}
-use Rattle.lis_field.specs.declared.faults.RecordFault.TheVariants as record_faults
+use Rattle.lis_record_values.proofs.DelimiterFaults.{IsDelimiters-delimiters_of}
+use Rattle.lis_record_values.proofs.FirstFaults.{option_map-none, option_or-none}
+use Rattle.lis_record_values.specs.declared.kinds.Kind.{Kind}
+use Rattle.lis_record_values.specs.declared.kinds.Kind.TheVariants as kinds
+use Rattle.lis_record_values.specs.Delimiters.{DelimiterBytes, IsDelimiters, delimiter_fault, delimiters_of}
+use Rattle.lis_record_values.specs.Kinds.{kind_of}
+use Rattle.lis_record_values.specs.declared.faults.DelimiterPartFault.TheVariants.{Fault, Trailing}
+use Rattle.lis_record_values.specs.declared.faults.RecordFault.TheVariants as record_faults
 use Rattle.lis_record.specs.Faults.{delimiter_part_fault, header_fault, is_header_kind, is_other_kind, record_fault}
 use Rattle.lis_record.specs.Faults.{record_text_fault}
-use Rattle.lis_field.specs.Text.{trailing_byte}
+use Rattle.lis_record_values.specs.Text.{trailing_byte}
 use Rattle.lis_record.specs.Faultless.{IsSomeHeader, IsSomeRecord}
-use Rattle.lis_part.specs.FrontReading.{fields_of}
+use Rattle.lis_record_read.specs.FrontReading.{fields_of}
 use Rattle.lis_record.proofs.FaultLaws.{IsRecord-fields_of, IsRecord-header, header_fault-IsRecord}
 use Rattle.lis_record.proofs.FaultLaws.{record_fault-IsRecord}
 

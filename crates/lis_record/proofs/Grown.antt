@@ -21,7 +21,7 @@ starts_through text old start begins first =
     sym (take-take (length start) (length old) text (start_within old start first))
     ∙ ap (take (length start)) begins ∙ first
 
--- a text with more behind it, or one that is unchanged
+-- a text with more after it, or one that is unchanged
 pub starts_added : (text old added : List ℕ) → text ≡ old ++ added → StartsWith text old
 starts_added text old added is = rw is (starts_more old added old (starts_same old old refl))
 
@@ -36,7 +36,7 @@ pub starts_further : (text mid old start added : List ℕ) → StartsWith text m
 starts_further text mid old start added begins is first =
     starts_through text mid start begins (starts_through mid old start (starts_added mid old added is) first)
 
--- what holds in any case holds where memory is refused
+-- what holds in any case holds if memory runs out
 pub on_refusal : {X E : Type 0} (r : Result X E) (P : Type 0) → P → OnErr r P
 on_refusal (Ok x) P p = tt
 on_refusal (Err e) P p = p

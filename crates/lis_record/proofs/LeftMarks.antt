@@ -1,4 +1,4 @@
--- The places of a byte that are left behind some of them, as bits of the whole text.
+-- The places of a byte that are left after some of them, as bits of the whole text.
 use Rattle.std.proofs.Common.{◌≡◌, ◌≤◌, ◌<◌, ℕ, zero, suc, ◌+◌, ◌*◌, ◌-◌, ◌/◌, ◌%◌, ◌^◌, ◌==◌, Bool, true, false, cond}
 use Rattle.std.proofs.Common.{not, List, [], ◌∷◌, ◌++◌, length, map, take, drop, replicate, Option, Some, None, ap, sym}
 use Rattle.std.proofs.Common.{◌∙◌, refl, arith, eq-eqb, eqb, get_or, length-append, length-take, take-append-drop}
@@ -14,13 +14,13 @@ use Rattle.std.proofs.lemmas.Simd.{trailing_mask_l}
 use Rattle.std.proofs.lemmas.Bool.Decides.{nat_tests}
 use Rattle.lis_text.proofs.SearchLemmas.{found-chunk, found-within}
 use Rattle.lis_record.specs.Marks.{AreMarks}
-use Rattle.lis_field.specs.Text.{trailing_byte}
-use Rattle.lis_part.specs.FrontReading.{parts_behind}
+use Rattle.lis_record_values.specs.Text.{trailing_byte}
+use Rattle.lis_record_read.specs.FrontReading.{parts_following}
 use Rattle.lis_record.proofs.TakenFields.{Passed, passed_more, taken_parts}
-use Rattle.lis_part.proofs.FieldTexts.{part_behind-mark, trailing-none}
-use Rattle.lis_part.proofs.LastBits.{mask_l-drop}
-use Rattle.lis_record.proofs.Marks.{front-behind}
-use Rattle.lis_part.proofs.Places.{parts_of-first}
+use Rattle.lis_record_read.proofs.FieldTexts.{part_following-mark, trailing-none}
+use Rattle.lis_record_read.proofs.LastBits.{mask_l-drop}
+use Rattle.lis_record.proofs.Marks.{front-following}
+use Rattle.lis_record_read.proofs.Places.{parts_of-first}
 
 eqb-other : (n : ℕ) → eqb (suc n) n ≡ false
 eqb-other n = grind (arith, nat_tests)
@@ -48,7 +48,7 @@ module _ (f : ℕ → Bool) where
           rw (pow-succ' 2 t, mul_assoc 2 (2 ^ t) (1 + 2 * mask_l (map f (drop (suc t) ys))))
           (omega (arith, more t (omega (arith, is)) (omega (arith, some))))
 
-  -- behind so many bytes that aren't marked
+  -- after so many bytes that aren't marked
   module _ (off : ℕ) (is : f off ≡ false) where
     blank : (k : ℕ) (ys : List ℕ) → mask_l (map f (replicate k off ++ ys)) ≡ 2 ^ k * mask_l (map f ys)
     blank zero ys = omega arith
@@ -59,9 +59,9 @@ module _ (f : ℕ → Bool) where
     blank-length zero ys = omega arith
     blank-length (suc k) ys = rw is (omega (arith, blank-length k ys))
 
-    lowest-behind : (k : ℕ) (ys : List ℕ) → k + length ys ≤ 64 → (2 ^ k * mask_l (map f ys) ≡ 0 → ⊥)
+    lowest-following : (k : ℕ) (ys : List ℕ) → k + length ys ≤ 64 → (2 ^ k * mask_l (map f ys) ≡ 0 → ⊥)
         → count_trailing_zeros 64 (2 ^ k * mask_l (map f ys)) ≡ k + prefix_len (λ b. not (f b)) ys
-    lowest-behind k ys room some =
+    lowest-following k ys room some =
         let all = replicate k off ++ ys in
         let long : length all ≤ 64 =
         omega (arith, length-append (replicate k off) ys, length-replicate k off, room) in
@@ -75,7 +75,7 @@ pub record Left (mark : ℕ) (text : List ℕ) (left place : ℕ) : Type 0 where
   pub within : count ≤ length (drop place text)
   pub are : left ≡ 2 ^ place * mask_l (map (λ b. b == mark) (take count (drop place text)))
 
--- those behind the first byte
+-- those after the first byte
 pub left-first : (mark bits : ℕ) (text : List ℕ) → AreMarks mark text bits → Left mark text (bits - bits % 2) 1
 left-first mark bits [] m =
     record { count = 0; room = omega arith; within = omega arith; are = omega (arith, m.are, none m.count) }
@@ -100,7 +100,7 @@ left-first mark bits (byte ∷ rest) m = by m.count m.few m.within m.are
         of true more is = omega (arith, is)
         of false more is = omega (arith, is)
 
--- the first of them, and those behind it
+-- the first of them, and those after it
 pub record Next (mark : ℕ) (text : List ℕ) (left place end : ℕ) : Type 0 where
   pub from : place ≤ end
   pub inside : end < length text
@@ -153,7 +153,7 @@ module _ (mark : ℕ) (text : List ℕ) (left place : ℕ) (l : Left mark text l
   lead_within = omega (arith, lead_is, found-within (λ b. b == mark) l.count (drop place text) few fits marked)
 
   pub end_is : count_trailing_zeros 64 left ≡ place + lead
-  end_is = rw l.are (lowest-behind (λ b. b == mark) (suc mark) (eqb-other mark) place known
+  end_is = rw l.are (lowest-following (λ b. b == mark) (suc mark) (eqb-other mark) place known
       (omega (arith, long, l.room)) (rw l.are at some))
 
   first_place : position (λ b. b == mark) (drop place text) ≡ Some lead
@@ -170,8 +170,8 @@ module _ (mark : ℕ) (text : List ℕ) (left place : ℕ) (l : Left mark text l
       ∙ sym (mul_assoc (2 ^ place) (2 ^ lead) (1 + 2 * others))
       ∙ ap (λ (n : ℕ). n * (1 + 2 * others)) (sym (pow-add 2 place lead))
 
-  bits_behind : left / 2 ^ (place + lead) ≡ mask_l (map (λ b. b == mark) (drop lead known))
-  bits_behind =
+  bits_after : left / 2 ^ (place + lead) ≡ mask_l (map (λ b. b == mark) (drop lead known))
+  bits_after =
       ap (λ (n : ℕ). left / n) (pow-add 2 place lead)
       ∙ sym (div-div-eq-div-mul left (2 ^ place) (2 ^ lead))
       ∙ ap (λ (n : ℕ). n / 2 ^ place / 2 ^ lead) l.are
@@ -179,8 +179,8 @@ module _ (mark : ℕ) (text : List ℕ) (left place : ℕ) (l : Left mark text l
       ∙ mask_l-drop (λ b. b == mark) lead known
 
   -- the known bytes from a place on
-  known_behind : (n : ℕ) → drop n known ≡ take (l.count - n) (drop (place + n) text)
-  known_behind n = front-behind n l.count (drop place text)
+  known_after : (n : ℕ) → drop n known ≡ take (l.count - n) (drop (place + n) text)
+  known_after n = front-following n l.count (drop place text)
       ∙ ap (λ (xs : List ℕ). take (l.count - n) xs) (drop-drop n place text)
 
   pub left-next : (end : ℕ) → end ≡ place + lead → Next mark text left place end
@@ -196,7 +196,7 @@ module _ (mark : ℕ) (text : List ℕ) (left place : ℕ) (l : Left mark text l
           count = l.count - lead;
           few = omega (arith, few);
           within = omega (arith, is, l.within, lead_within, length-drop end text, length-drop place text);
-          are = rw is (bits_behind ∙ ap (λ (xs : List ℕ). mask_l (map (λ b. b == mark) xs)) (known_behind lead));
+          are = rw is (bits_after ∙ ap (λ (xs : List ℕ). mask_l (map (λ b. b == mark) xs)) (known_after lead));
         };
         bit = bit-in (2 ^ end) others left whole;
         others = record {
@@ -204,17 +204,17 @@ module _ (mark : ℕ) (text : List ℕ) (left place : ℕ) (l : Left mark text l
           room = omega (arith, is, l.room, lead_within);
           within =
               omega (arith, is, l.within, lead_within, length-drop (end + 1) text, length-drop place text);
-          are = behind end is whole;
+          are = following end is whole;
         };
       }
     where
-      behind : (end : ℕ) → end ≡ place + lead → left ≡ 2 ^ end * (1 + 2 * others)
+      following : (end : ℕ) → end ≡ place + lead → left ≡ 2 ^ end * (1 + 2 * others)
           → left - 2 ^ end
           ≡ 2 ^ (end + 1) * mask_l (map (λ b. b == mark) (take (l.count - suc lead) (drop (end + 1) text)))
-      behind end is whole =
+      following end is whole =
           let at : place + suc lead ≡ end + 1 = omega (arith, is) in
           let more : others ≡ mask_l (map (λ b. b == mark) (take (l.count - suc lead) (drop (end + 1) text))) =
-          ap (λ (xs : List ℕ). mask_l (map (λ b. b == mark) xs)) (known_behind (suc lead)
+          ap (λ (xs : List ℕ). mask_l (map (λ b. b == mark) xs)) (known_after (suc lead)
           ∙ ap (λ (n : ℕ). take (l.count - suc lead) (drop n text)) at) in
           ap (λ (n : ℕ). n - 2 ^ end) whole ∙ bit-off (2 ^ end) others
           ∙ ap (λ (n : ℕ). n * others) (sym (pow-add 2 end 1))
@@ -227,7 +227,7 @@ nothing_passed mark text = record {
   parts = [];
   count = refl;
   joined = refl;
-  behind = refl;
+  following = refl;
   next = lone (eqb mark mark) (eq-eqb mark mark refl);
 }
   where
@@ -239,22 +239,22 @@ module _ (mark : ℕ) (text : List ℕ) (left place end : ℕ) (n : Next mark te
   found : position (λ b. b == mark) (drop place text) ≡ Some (end - place)
   found = n.first
 
-  behind_is : drop (end - place) (drop place text) ≡ drop end text
-  behind_is = drop-drop (end - place) place text ∙ ap (λ (k : ℕ). drop k text) (omega (arith, n.from))
+  following_is : drop (end - place) (drop place text) ≡ drop end text
+  following_is = drop-drop (end - place) place text ∙ ap (λ (k : ℕ). drop k text) (omega (arith, n.from))
 
   ends : end - place ≡ unwrap_or (position (λ b. b == mark) (drop place text)) (length (drop place text))
   ends = sym (ap (λ (o : Option ℕ). unwrap_or o (length (drop place text))) n.first)
 
   marked_next : trailing_byte mark (drop end text) ≡ None
-  marked_next = rw behind_is at (part_behind-mark mark (drop place text) (end - place) ends)
+  marked_next = rw following_is at (part_following-mark mark (drop place text) (end - place) ends)
 
   pub part_passed : (passed : ℕ) → Passed mark (drop 1 text) (mark ∷ drop place text) passed
       → Passed mark (drop 1 text) (drop end text) (passed + 1)
   part_passed passed p =
       passed_more mark (drop 1 text) (mark ∷ drop place text) passed mark (drop place text)
       (take (end - place) (drop place text)) (drop end text) p refl
-      (rw behind_is at (parts_of-first mark (drop place text) (end - place) ends))
-      (rw behind_is at (sym (take-append-drop (end - place) (drop place text)))) marked_next
+      (rw following_is at (parts_of-first mark (drop place text) (end - place) ends))
+      (rw following_is at (sym (take-append-drop (end - place) (drop place text)))) marked_next
 
   pub part_begun : (passed : ℕ) → Passed mark (drop 1 text) (drop end text) passed
       → Passed mark (drop 1 text) (mark ∷ drop (end + 1) text) passed
@@ -266,9 +266,9 @@ module _ (mark : ℕ) (text : List ℕ) (left place end : ℕ) (n : Next mark te
 
   pub parts_split : (passed count : ℕ) (front back : List ℕ) → Passed mark (drop 1 text) (mark ∷ drop place text) passed
       → passed + 1 ≡ count → 0 < place → front ≡ take end text → back ≡ drop end text
-      → (count ≤ length (parts_behind mark text))
-      × (mark ∷ drop 1 front ≡ flat_map (λ part. mark ∷ part) (take count (parts_behind mark text)))
-      × (parts_behind mark back ≡ drop count (parts_behind mark text))
+      → (count ≤ length (parts_following mark text))
+      × (mark ∷ drop 1 front ≡ flat_map (λ part. mark ∷ part) (take count (parts_following mark text)))
+      × (parts_following mark back ≡ drop count (parts_following mark text))
   parts_split passed count front back p sum some front_is back_is =
       let whole = drop_more text 0 0 (omega (arith, n.inside)) in
       let at : end ≡ length (drop 1 text) - length (drop end text) + 1 =

@@ -4,12 +4,12 @@ pub mod FaultLaws
 pub mod FaultlessTexts
 pub mod Grown
 pub mod LeftMarks
-pub mod LentTexts
+pub mod BorrowedTexts
 pub mod Marks
 pub mod Opening
 pub mod PlainFields
 pub mod RecordTexts
-pub mod Respelled
+pub mod Reencoded
 pub mod Runs
 pub mod Shapes
 pub mod TakenFields

@@ -11,7 +11,7 @@ use Rattle.std.proofs.lemmas.List.{drop-drop, drop-take, length-drop, length-map
 use Rattle.std.proofs.lemmas.Simd.{mask_l-lt}
 use Rattle.lis_text.proofs.SearchLemmas.{found-chunk, found-within}
 use Rattle.lis_record.specs.Marks.{AreMarks}
-use Rattle.lis_part.proofs.LastBits.{mask_l-drop}
+use Rattle.lis_record_read.proofs.LastBits.{mask_l-drop}
 
 module _ (f : ℕ → Bool) where
   -- the bits of the first bytes, and those of the others above them
@@ -23,7 +23,7 @@ module _ (f : ℕ → Bool) where
       rw (pow-succ' 2 n, mul_assoc 2 (2 ^ n) (mask_l (map f (drop n xs))))
       (omega (arith, mask_l-split n xs (omega arith)))
 
-  -- of the bytes behind so many, by those that stand among the same number of bytes at their end
+  -- of the bytes after so many, by those that are among the same number of bytes at their end
   pub window-bits : (lanes count : ℕ) (text : List ℕ) → count ≤ lanes
       → mask_l (map f (take lanes (drop count text))) / 2 ^ (lanes - count)
       ≡ mask_l (map f (take count (drop lanes text)))
@@ -59,27 +59,28 @@ none-taken : (n : ℕ) → [] ≡ take {A = ℕ} n []
 none-taken zero = refl
 none-taken (suc n) = refl
 
--- behind so many bytes
-pub front-behind : (m n : ℕ) (xs : List ℕ) → drop m (take n xs) ≡ take (n - m) (drop m xs)
-front-behind zero n xs = let all : n - 0 ≡ n = omega arith in rw all refl
-front-behind (suc m) zero xs = let none : 0 - suc m ≡ 0 = omega arith in rw none refl
-front-behind (suc m) (suc n) [] = none-taken (suc n - suc m)
-front-behind (suc m) (suc n) (x ∷ xs) = let same : suc n - suc m ≡ n - m = omega arith in rw same (front-behind m n xs)
+-- after so many bytes
+pub front-following : (m n : ℕ) (xs : List ℕ) → drop m (take n xs) ≡ take (n - m) (drop m xs)
+front-following zero n xs = let all : n - 0 ≡ n = omega arith in rw all refl
+front-following (suc m) zero xs = let none : 0 - suc m ≡ 0 = omega arith in rw none refl
+front-following (suc m) (suc n) [] = none-taken (suc n - suc m)
+front-following (suc m) (suc n) (x ∷ xs) = let same : suc n - suc m ≡ n - m = omega arith in rw same
+    (front-following m n xs)
 
 module _ (mark : ℕ) (text : List ℕ) where
   pub marks-none : AreMarks mark text 0
   marks-none = record { count = 0; few = omega arith; within = omega arith; are = refl }
 
   module _ (bits : ℕ) (m : AreMarks mark text bits) where
-    pub marks-behind : (passed : ℕ) → AreMarks mark (drop passed text) (bits / 2 ^ passed)
-    marks-behind passed = record {
+    pub marks-following : (passed : ℕ) → AreMarks mark (drop passed text) (bits / 2 ^ passed)
+    marks-following passed = record {
       count = m.count - passed;
       few = omega (arith, m.few);
       within = omega (arith, m.within, length-drop passed text);
       are =
           ap (λ (n : ℕ). n / 2 ^ passed) m.are
           ∙ mask_l-drop (λ b. b == mark) passed (take m.count text)
-          ∙ ap (λ (l : List ℕ). mask_l (map (λ b. b == mark) l)) (front-behind passed m.count text);
+          ∙ ap (λ (l : List ℕ). mask_l (map (λ b. b == mark) l)) (front-following passed m.count text);
     }
 
     some : (bits ≡ 0 → ⊥) → mask_l (map (λ b. b == mark) (take m.count text)) ≡ 0 → ⊥
@@ -103,11 +104,11 @@ module _ (mark : ℕ) (text : List ℕ) where
           m.within,
         )
 
--- behind one byte
-pub marks-next : (mark byte bits : ℕ) (text behind : List ℕ) → text ≡ byte ∷ behind → AreMarks mark text bits
-    → AreMarks mark behind (bits / 2 ^ 1)
-marks-next mark byte bits text behind is m =
-    subst (λ (l : List ℕ). AreMarks mark (drop 1 l) (bits / 2 ^ 1)) is (marks-behind mark text bits m 1)
+-- after one byte
+pub marks-next : (mark byte bits : ℕ) (text following : List ℕ) → text ≡ byte ∷ following → AreMarks mark text bits
+    → AreMarks mark following (bits / 2 ^ 1)
+marks-next mark byte bits text following is m =
+    subst (λ (l : List ℕ). AreMarks mark (drop 1 l) (bits / 2 ^ 1)) is (marks-following mark text bits m 1)
 
 -- those of the first bytes, by two windows
 module _ (mark lanes count : ℕ) (text : List ℕ) where
@@ -127,8 +128,8 @@ module _ (mark lanes count : ℕ) (text : List ℕ) where
   pub first-small : (first : ℕ) → first ≡ mask_l (map (λ b. b == mark) (take lanes text)) → first < 2 ^ lanes
   first-small first is = rw is (bits-small (λ b. b == mark) lanes text)
 
-  pub behind-small : (window : ℕ) → window ≡ mask_l (map (λ b. b == mark) (take lanes (drop count text)))
+  pub following-small : (window : ℕ) → window ≡ mask_l (map (λ b. b == mark) (take lanes (drop count text)))
       → window / 2 ^ (lanes - count) < 2 ^ lanes
-  behind-small window is =
+  following-small window is =
       let small : window < 2 ^ lanes = rw is (bits-small (λ b. b == mark) lanes (drop count text)) in
       omega (arith, small, div-le_self window (2 ^ (lanes - count)))

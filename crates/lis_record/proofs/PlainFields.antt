@@ -1,5 +1,5 @@
 -- Which texts are a field of one component of characters, none of them a delimiter: those that are its bytes.
-use Rattle.lis_field.specs.declared.symbols.Sym.{Sym}
+use Rattle.lis_record_values.specs.declared.symbols.Sym.{Sym}
 use Rattle.std.proofs.Common.{◌≡◌, ◌≢◌, ℕ, ◌<◌, ◌≤◌, List, [], ◌∷◌, ◌++◌, length, map, Some, refl, sym, ap, ◌∙◌}
 use Rattle.std.proofs.Common.{arith, slice_get, get_or, eq-eqb, None, inl, inr, ◌*◌}
 use Rattle.std.proofs.lemmas.Bool.Decides.{nat_tests}
@@ -9,19 +9,20 @@ use Rattle.std.proofs.lemmas.List.Splits.{join_with_byte-slice_split}
 use Rattle.std.specs.List.{join_with_byte}
 use Rattle.hex.proofs.HexLemmas.{decode_of-ok}
 use Rattle.hex.specs.Hex.{decode_of}
-use Rattle.lis_field.specs.declared.symbols.Sym.TheVariants.{Char, Raw}
-use Rattle.lis_field.specs.Delimiters.{DelimiterBytes, IsDelimiters}
-use Rattle.lis_field.specs.declared.kinds.Kind.{Kind}
-use Rattle.lis_field.proofs.FirstFaults.{test_false}
-use Rattle.lis_field.specs.Shape.{RecordContent, Symbols, plain_component, plain_field}
-use Rattle.lis_field.specs.Escapes.{IsComponent, nothing, plain, escape, lone, escape_of, letter_symbol, raw_symbols}
-use Rattle.lis_record.specs.Lent.{Lent, lent}
-use Rattle.lis_field.specs.Relation.{Lacks, LacksDelimiters}
-use Rattle.lis_part.specs.FrontReading.{IsPlainText, components_of, fields_of, parts_of, repeats_of, symbols_of}
-use Rattle.lis_part.proofs.Components.{IsComponent-symbols_of, option_map-some, raw_symbols-ok}
+use Rattle.lis_record_values.specs.declared.symbols.Sym.TheVariants.{Char, Raw}
+use Rattle.lis_record_values.specs.Delimiters.{DelimiterBytes, IsDelimiters}
+use Rattle.lis_record_values.specs.declared.kinds.Kind.{Kind}
+use Rattle.lis_record_values.proofs.FirstFaults.{test_false}
+use Rattle.lis_record_values.specs.Shape.{RecordContent, Symbols, plain_component, plain_field}
+use Rattle.lis_record_values.specs.Escapes.{IsComponent, nothing, plain, escape, lone, escape_of, letter_symbol}
+use Rattle.lis_record_values.specs.Escapes.{raw_symbols}
+use Rattle.lis_record.specs.Borrowed.{Borrowed, borrowed}
+use Rattle.lis_record_values.specs.Relation.{Lacks, LacksDelimiters}
+use Rattle.lis_record_read.specs.FrontReading.{IsPlainText, components_of, fields_of, parts_of, repeats_of, symbols_of}
+use Rattle.lis_record_read.proofs.Components.{IsComponent-symbols_of, option_map-some, raw_symbols-ok}
 use Rattle.lis_record.proofs.TakenFields.{digit-apart}
-use Rattle.lis_part.proofs.FieldTexts.{plain_read}
-use Rattle.lis_part.proofs.Joins.{parts_of-apart}
+use Rattle.lis_record_read.proofs.FieldTexts.{plain_read}
+use Rattle.lis_record_read.proofs.Joins.{parts_of-apart}
 
 module _ (d : DelimiterBytes) where
   rest_lacks : (b : ℕ) (bs : List ℕ) → LacksDelimiters d (b ∷ bs) → LacksDelimiters d bs
@@ -82,9 +83,9 @@ module _ (d : DelimiterBytes) where
       let no : Char byte ∷ others ≡ [] = sym read ∙ is in cc no
   escape_lacks text symbols (plain byte rest others whole read other r) (b ∷ bs) is free =
       let same : Char byte ∷ others ≡ Char b ∷ plain_component bs = sym read ∙ is in
-      let behind : others ≡ plain_component bs = cc same in
+      let following : others ≡ plain_component bs = cc same in
       All-same (λ c. c ≢ d.escape) text (byte ∷ rest) whole
-      (All-cons (λ c. c ≢ d.escape) byte rest other (escape_lacks rest others r bs behind (rest_lacks b bs free)))
+      (All-cons (λ c. c ≢ d.escape) byte rest other (escape_lacks rest others r bs following (rest_lacks b bs free)))
   escape_lacks text symbols (escape inside rest meant others whole read means r) bytes is free =
       absurd (meant_apart inside meant others bytes means free (sym read ∙ is))
   escape_lacks text symbols (lone rest others whole read none r) [] is free =
@@ -154,7 +155,7 @@ module _ (d : DelimiterBytes) where
       alone : (mark : ℕ) → digit ≢ mark → Lacks mark (digit ∷ [])
       alone mark other = All-cons (λ c. c ≢ mark) digit [] other (All-nil (λ c. c ≢ mark))
 
-  -- The texts whose first field is a digit with another field behind it: a delimiter, the digit, and a delimiter.
+  -- The texts whose first field is a digit with another field after it: a delimiter, the digit, and a delimiter.
   digit_found : IsDelimiters d → (text : List ℕ) (digit : ℕ) → 48 ≤ digit → digit ≤ 57
       → 1 < length (fields_of d text) → slice_get (fields_of d text) 0 ≡ Some (plain_field (digit ∷ []))
       → (2 < length text) × ((get_or text 1 0 ≡ digit) × (get_or text 2 0 ≡ d.field))
@@ -178,12 +179,12 @@ module _ (d : DelimiterBytes) where
           joined ∙ ap (λ (p : List ℕ). join_with_byte d.field (p ∷ next ∷ parts)) same in
           rw whole (omega arith, (refl, refl))
 
-  -- the same of a record that stands in a text
-  pub digit_behind : IsDelimiters d → (text : List ℕ) (kind : Kind) (entry : Lent RecordContent)
-      → lent d (record { kind = kind; fields = fields_of d text }) ≡ entry → (digit : ℕ) → 48 ≤ digit → digit ≤ 57
+  -- the same of a record that is in a text
+  pub digit_after : IsDelimiters d → (text : List ℕ) (kind : Kind) (entry : Borrowed RecordContent)
+      → borrowed d (record { kind = kind; fields = fields_of d text }) ≡ entry → (digit : ℕ) → 48 ≤ digit → digit ≤ 57
       → 1 < length entry.content.fields → slice_get entry.content.fields 0 ≡ Some (plain_field (digit ∷ []))
       → (2 < length text) × ((get_or text 1 0 ≡ digit) × (get_or text 2 0 ≡ d.field))
-  digit_behind good text kind entry is digit low high more first =
-      let count = ap (λ (r : Lent RecordContent). length r.content.fields) is in
-      let same = ap (λ (r : Lent RecordContent). slice_get r.content.fields 0) is in
+  digit_after good text kind entry is digit low high more first =
+      let count = ap (λ (r : Borrowed RecordContent). length r.content.fields) is in
+      let same = ap (λ (r : Borrowed RecordContent). slice_get r.content.fields 0) is in
       digit_found good text digit low high (omega (arith, more, count)) (same ∙ first)

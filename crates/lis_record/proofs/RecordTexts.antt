@@ -4,20 +4,21 @@ use Rattle.std.proofs.Common.{subst, arith}
 use Rattle.std.proofs.lemmas.List.{append_cancel_left}
 use Rattle.std.proofs.lemmas.List.Splits.{join_with_byte-slice_split}
 use Rattle.std.specs.List.{All, flat_map, join_with_byte}
-use Rattle.lis_field.specs.declared.kinds.Kind.{Kind}
-use Rattle.lis_field.specs.declared.kinds.Kind.TheVariants as kinds
-use Rattle.lis_field.specs.Delimiters.{DelimiterBytes, IsDelimiters}
-use Rattle.lis_part.specs.FrontReading.{parts_of, symbols_of, components_of, repeats_of, fields_of}
-use Rattle.lis_field.specs.Kinds.{kind_of}
-use Rattle.lis_field.specs.Relation.{AreFieldTexts, IsField, IsRecord, IsRepeat, Lacks, declared_part}
-use Rattle.lis_field.specs.Escapes.{IsComponent}
-use Rattle.lis_field.specs.Shape.{Components, Fields, Repeats, RecordContent}
-use Rattle.lis_field.specs.Text.{IsRecordText, is_text_byte}
+use Rattle.lis_record_values.specs.declared.kinds.Kind.{Kind}
+use Rattle.lis_record_values.specs.declared.kinds.Kind.TheVariants as kinds
+use Rattle.lis_record_values.specs.Delimiters.{DelimiterBytes, IsDelimiters}
+use Rattle.lis_record_read.specs.FrontReading.{parts_of, symbols_of, components_of, repeats_of, fields_of}
+use Rattle.lis_record_values.specs.Kinds.{kind_of}
+use Rattle.lis_record_values.specs.Relation.{AreFieldTexts, IsField, IsRecord, IsRepeat, Lacks, declared_part}
+use Rattle.lis_record_values.specs.Escapes.{IsComponent}
+use Rattle.lis_record_values.specs.Shape.{Components, Fields, Repeats, RecordContent}
+use Rattle.lis_record_values.specs.Text.{IsRecordText, is_text_byte}
 use Rattle.std.proofs.lemmas.Bool.Decides.{nat_tests}
 use Rattle.std.proofs.lemmas.List.Elements.{All-weaker}
-use Rattle.lis_part.proofs.Components.{IsComponent-symbols_of, symbols_of-IsComponent}
-use Rattle.lis_part.proofs.Joins.{AllZip-map, map-AllZip, IsJoined-map, map-IsJoined, flat_map-join, parts_of-apart}
-use Rattle.lis_part.proofs.Joins.{parts_of-join, parts_of-some}
+use Rattle.lis_record_read.proofs.Components.{IsComponent-symbols_of, symbols_of-IsComponent}
+use Rattle.lis_record_read.proofs.Joins.{AllZip-map, map-AllZip, IsJoined-map, map-IsJoined, flat_map-join}
+use Rattle.lis_record_read.proofs.Joins.{parts_of-apart}
+use Rattle.lis_record_read.proofs.Joins.{parts_of-join, parts_of-some}
 
 module _ (d : DelimiterBytes) (good : IsDelimiters d) where
   pub IsRepeat-components_of : (text : List ℕ) → IsRepeat d text (components_of d text)
@@ -49,7 +50,7 @@ module _ (d : DelimiterBytes) (good : IsDelimiters d) where
       map-AllZip (IsField d) (repeats_of d) repeats_of-IsField h.parts fields h.each
       ∙ sym (ap (fields_of d) h.joined ∙ fields_of-parts h.parts h.apart)
 
-  -- behind the letter or a header's delimiters stands nothing, or a field delimiter first
+  -- after the letter or a header's delimiters is nothing, or a field delimiter first
   pub AreFieldTexts-none : AreFieldTexts d [] []
   AreFieldTexts-none = record { parts = []; joined = refl; apart = λ k e h. absurd (omega arith); each = tt }
 
@@ -82,14 +83,14 @@ IsRecord-one d good text r s h g =
     ∷ (declared_part d s.kind ++ g.fields_text) = sym h.whole ∙ g.whole in
     let letters : h.letter ≡ g.letter = cc in
     let same_kind : r.kind ≡ s.kind = same_some r.kind s.kind (sym h.kind_is ∙ ap kind_of letters ∙ g.kind_is) in
-    let behind : declared_part d r.kind ++ h.fields_text ≡ declared_part d s.kind ++ g.fields_text = cc in
+    let following : declared_part d r.kind ++ h.fields_text ≡ declared_part d s.kind ++ g.fields_text = cc in
     let same_rest : h.fields_text ≡ g.fields_text =
-    append_cancel_left (declared_part d s.kind) h.fields_text g.fields_text (rw same_kind at behind) in
+    append_cancel_left (declared_part d s.kind) h.fields_text g.fields_text (rw same_kind at following) in
     same_content r s same_kind
     (fields_of-AreFieldTexts d good h.fields_text r.fields h.fields_are ∙ ap (fields_of d) same_rest
     ∙ sym (fields_of-AreFieldTexts d good g.fields_text s.fields g.fields_are))
 
--- a text's letter tells its kind, whatever the delimiters
+-- a text's letter reports its kind, whatever the delimiters
 pub IsRecord-kind : (d e : DelimiterBytes) (text : List ℕ) (r s : RecordContent) → IsRecord d text r
     → IsRecord e text s → r.kind ≡ s.kind
 IsRecord-kind d e text r s h g =
@@ -128,6 +129,6 @@ CR_is_no_text : (byte : ℕ) → is_text_byte byte ≡ true → byte ≢ 13
 unfolding is_text_byte
 CR_is_no_text byte h same = grind (arith, nat_tests)
 
--- no CR stands in a text
+-- no CR is in a text
 pub Lacks-CR : (text : List ℕ) → IsRecordText text → Lacks 13 text
 Lacks-CR text h = All-weaker (λ byte. is_text_byte byte ≡ true) (λ byte. byte ≢ 13) CR_is_no_text text h

@@ -8,14 +8,15 @@ use Rattle.std.proofs.lemmas.List.Elements.{All-append, All-cons, All-nil, All-s
 use Rattle.hex.specs.Hex.{IsBytes, decode_of}
 use Rattle.hex.specs.declared.error.FromHexError.{FromHexError}
 use Rattle.hex.proofs.HexLemmas.{decode_of-ok}
-use Rattle.lis_field.specs.declared.symbols.Sym.{Sym}
-use Rattle.lis_field.specs.declared.symbols.Sym.TheVariants.{Char, Raw, On, Off}
-use Rattle.lis_field.specs.Delimiters.{DelimiterBytes, IsDelimiters, is_punctuation}
-use Rattle.lis_field.specs.Shape.{AreSymbols, Components, IsFieldShape, IsRecordShape, IsRepeatShape, IsSymbol}
-use Rattle.lis_field.specs.Shape.{AreSome, RecordContent, Repeats, Symbols}
-use Rattle.lis_field.specs.Escapes.{IsComponent, escape, escape_of, letter_symbol, lone, nothing, plain, raw_symbols}
-use Rattle.lis_field.specs.Relation.{IsField, IsJoined, IsRecord, IsRepeat, declared_part}
-use Rattle.lis_field.specs.Text.{IsRecordText, is_text_byte}
+use Rattle.lis_record_values.specs.declared.symbols.Sym.{Sym}
+use Rattle.lis_record_values.specs.declared.symbols.Sym.TheVariants.{Char, Raw, On, Off}
+use Rattle.lis_record_values.specs.Delimiters.{DelimiterBytes, IsDelimiters, is_punctuation}
+use Rattle.lis_record_values.specs.Shape.{AreSymbols, Components, IsFieldShape, IsRecordShape, IsRepeatShape, IsSymbol}
+use Rattle.lis_record_values.specs.Shape.{AreSome, RecordContent, Repeats, Symbols}
+use Rattle.lis_record_values.specs.Escapes.{IsComponent, escape, escape_of, letter_symbol, lone, nothing, plain}
+use Rattle.lis_record_values.specs.Escapes.{raw_symbols}
+use Rattle.lis_record_values.specs.Relation.{IsField, IsJoined, IsRecord, IsRepeat, declared_part}
+use Rattle.lis_record_values.specs.Text.{IsRecordText, is_text_byte}
 
 abbrev Small : List ℕ → Type 0
 Small = AllByRecursion (λ b. b < 256)
@@ -105,9 +106,9 @@ component_shape d good text symbols small (plain byte rest others t s other more
     (All-cons IsSymbol (Char byte) others inner.0 (component_shape d good rest others inner.1 more))
 component_shape d good text symbols small (escape inside rest meant others t s is more) =
     let inner : Small (d.escape ∷ inside ++ d.escape ∷ rest) = subst Small t small in
-    let behind : Small (d.escape ∷ rest) = small_rest inside (d.escape ∷ rest) inner.1 in
+    let following : Small (d.escape ∷ rest) = small_rest inside (d.escape ∷ rest) inner.1 in
     All-same IsSymbol symbols (meant ++ others) s (All-append IsSymbol meant others
-    (escape_shape d good inside meant is) (component_shape d good rest others behind.1 more))
+    (escape_shape d good inside meant is) (component_shape d good rest others following.1 more))
 component_shape d good text symbols small (lone rest others t s none more) =
     let inner : Small (d.escape ∷ rest) = subst Small t small in
     All-same IsSymbol symbols (Char d.escape ∷ others) s
@@ -127,11 +128,11 @@ small_parts byte (x ∷ y ∷ xs) h = (
       (small_rest x (byte ∷ join_with_byte byte (y ∷ xs)) h).1,
 )
 
-small_behind : (byte : ℕ) (parts : List (List ℕ)) → Small (flat_map (λ part. byte ∷ part) parts) → AllSmall parts
-small_behind byte [] h = tt
-small_behind byte (x ∷ xs) h = (
+small_after : (byte : ℕ) (parts : List (List ℕ)) → Small (flat_map (λ part. byte ∷ part) parts) → AllSmall parts
+small_after byte [] h = tt
+small_after byte (x ∷ xs) h = (
   (small_front (byte ∷ x) (flat_map (λ part. byte ∷ part) xs) h).1,
-  small_behind byte xs
+  small_after byte xs
       (small_rest (byte ∷ x) (flat_map (λ part. byte ∷ part) xs) h),
 )
 
@@ -173,4 +174,4 @@ IsRecord-shape d good text content h =
     subst Small h.whole (small_text text h.is_text) in
     let fields : Small h.fields_text = small_rest (declared_part d content.kind) h.fields_text all.1 in
     all_items (IsField d) IsFieldShape (field_shape d good) h.fields_are.parts content.fields
-    (small_behind d.field h.fields_are.parts (subst Small h.fields_are.joined fields)) h.fields_are.each
+    (small_after d.field h.fields_are.parts (subst Small h.fields_are.joined fields)) h.fields_are.each

@@ -1,9 +1,9 @@
 -- A text that is a record, whichever it is.
 use Rattle.std.specs.Prelude.{◌≡◌, ◌≢◌, ℕ, List}
-use Rattle.lis_field.specs.declared.kinds.Kind.TheVariants as kinds
-use Rattle.lis_field.specs.Delimiters.{DelimiterBytes, IsDelimiters}
-use Rattle.lis_field.specs.Shape.{RecordContent}
-use Rattle.lis_field.specs.Relation.{IsRecord}
+use Rattle.lis_record_values.specs.declared.kinds.Kind.TheVariants as kinds
+use Rattle.lis_record_values.specs.Delimiters.{DelimiterBytes, IsDelimiters}
+use Rattle.lis_record_values.specs.Shape.{RecordContent}
+use Rattle.lis_record_values.specs.Relation.{IsRecord}
 
 -- one other than a header, under these delimiters
 pub record IsSomeRecord (d : DelimiterBytes) (text : List ℕ) : Type 0 where

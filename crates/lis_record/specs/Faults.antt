@@ -2,15 +2,15 @@
 use Rattle.std.specs.Prelude.{◌≡◌, ◌⊎◌, ℕ, nat_lt, Bool, true, false, if◌then◌else◌, List, [], ◌∷◌, length, Option}
 use Rattle.std.specs.Prelude.{Some, None, option_map}
 use Rattle.std.specs.Option.{option_or}
-use Rattle.lis_field.specs.declared.faults.DelimiterPartFault.{DelimiterPartFault}
-use Rattle.lis_field.specs.declared.faults.DelimiterPartFault.TheVariants.{Short, Fault, Trailing}
-use Rattle.lis_field.specs.declared.faults.RecordFault.{RecordFault}
-use Rattle.lis_field.specs.declared.faults.RecordFault.TheVariants as record_faults
-use Rattle.lis_field.specs.declared.kinds.Kind.{Kind}
-use Rattle.lis_field.specs.declared.kinds.Kind.TheVariants as kinds
-use Rattle.lis_field.specs.Delimiters.{DelimiterBytes, delimiter_fault}
-use Rattle.lis_field.specs.Kinds.{kind_of}
-use Rattle.lis_field.specs.Text.{bad_byte_place, record_limit, trailing_byte}
+use Rattle.lis_record_values.specs.declared.faults.DelimiterPartFault.{DelimiterPartFault}
+use Rattle.lis_record_values.specs.declared.faults.DelimiterPartFault.TheVariants.{Short, Fault, Trailing}
+use Rattle.lis_record_values.specs.declared.faults.RecordFault.{RecordFault}
+use Rattle.lis_record_values.specs.declared.faults.RecordFault.TheVariants as record_faults
+use Rattle.lis_record_values.specs.declared.kinds.Kind.{Kind}
+use Rattle.lis_record_values.specs.declared.kinds.Kind.TheVariants as kinds
+use Rattle.lis_record_values.specs.Delimiters.{DelimiterBytes, delimiter_fault}
+use Rattle.lis_record_values.specs.Kinds.{kind_of}
+use Rattle.lis_record_values.specs.Text.{bad_byte_place, record_limit, trailing_byte}
 
 -- a byte that is no text byte, else too many bytes
 unfoldable pub record_text_fault : List ℕ → Option RecordFault
@@ -54,6 +54,6 @@ header_fault (letter ∷ bytes) =
     (option_or (option_map record_faults.DelimiterPart (delimiter_part_fault bytes))
     (record_text_fault (letter ∷ bytes)))
 
--- an error tells the first fault, or want of memory where no fault stands
-abbrev pub TellsFault : RecordFault → Option RecordFault → Type 0
-TellsFault error fault = (fault ≡ Some error) ⊎ ((error ≡ record_faults.OutOfMemory) × (fault ≡ None))
+-- an error reports the first fault, or a lack of memory where there is no fault
+abbrev pub ReportsFault : RecordFault → Option RecordFault → Type 0
+ReportsFault error fault = (fault ≡ Some error) ⊎ ((error ≡ record_faults.OutOfMemory) × (fault ≡ None))

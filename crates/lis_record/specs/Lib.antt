@@ -1,6 +1,6 @@
 pub mod Faultless
 pub mod Faults
-pub mod Lending
-pub mod Lent
+pub mod Borrowing
+pub mod Borrowed
 pub mod Marks
 pub mod inside

@@ -1,5 +1,5 @@
 -- What proofs and private functions speak of. No public contract cites it.
-pub mod LentRemaining
+pub mod BorrowedRemaining
 pub mod Marks
 pub mod Opening
-pub mod Respelling
+pub mod Reencoding

@@ -1,26 +1,26 @@
 //! What holds of all records, over the definitions that the contracts cite.
 
 ghost use Rattle.std.specs.Prelude.{◌≡◌, ◌↔◌, ◌∷◌, [], ℕ, List, None};
-ghost use Rattle.lis_field.specs.Delimiters.{DelimiterBytes, IsDelimiters};
+ghost use Rattle.lis_record_values.specs.Delimiters.{DelimiterBytes, IsDelimiters};
 ghost use Rattle.lis_record.specs.Faultless.{IsSomeHeader, IsSomeRecord};
-ghost use Rattle.lis_spelling.specs.WriteFaults.{check_fault};
+ghost use Rattle.lis_record_write.specs.WriteFaults.{check_fault};
 ghost use Rattle.lis_record.specs.Faults.{header_fault, record_fault};
-ghost use Rattle.lis_field.specs.Escapes.{IsComponent};
-ghost use Rattle.lis_field.specs.Relation.{AreFieldTexts, IsField, IsRecord, IsRepeat};
-ghost use Rattle.lis_field.specs.Shape.{Components, Fields, IsRecordShape, RecordContent, Repeats, Symbols};
-ghost use Rattle.lis_part.specs.FrontReading.{components_of, fields_of, repeats_of, symbols_of};
-ghost use Rattle.lis_spelling.specs.Spelling.{spelled};
-ghost use Rattle.lis_field.specs.declared.kinds.Kind.TheVariants as kinds;
+ghost use Rattle.lis_record_values.specs.Escapes.{IsComponent};
+ghost use Rattle.lis_record_values.specs.Relation.{AreFieldTexts, IsField, IsRecord, IsRepeat};
+ghost use Rattle.lis_record_values.specs.Shape.{Components, Fields, IsRecordShape, RecordContent, Repeats, Symbols};
+ghost use Rattle.lis_record_read.specs.FrontReading.{components_of, fields_of, repeats_of, symbols_of};
+ghost use Rattle.lis_record_write.specs.Encoding.{encoded};
+ghost use Rattle.lis_record_values.specs.declared.kinds.Kind.TheVariants as kinds;
 
-/// A record that can be written is read back: its spelling is a text of it, and of no other record.
+/// A record that can be written is read back: its encoding is a text of it, and of no other record.
 pub fn read_back()
     ensures related { (d : DelimiterBytes) (content : RecordContent) → IsDelimiters d → IsRecordShape content
-        → check_fault d content ≡ None → IsRecord d (spelled d content) content }
+        → check_fault d content ≡ None → IsRecord d (encoded d content) content }
     ensures alone { (d : DelimiterBytes) (content other : RecordContent) → IsDelimiters d → IsRecordShape content
-        → check_fault d content ≡ None → IsRecord d (spelled d content) other → other ≡ content }
+        → check_fault d content ≡ None → IsRecord d (encoded d content) other → other ≡ content }
 {}
 
-/// A text is one record at most, and its letter tells the kind. A header's text has one set of delimiters.
+/// A text is one record at most, and its letter reports the kind. A header's text has one set of delimiters.
 pub fn one_record()
     ensures content { (d : DelimiterBytes) (text : List ℕ) (r s : RecordContent) → IsDelimiters d
         → IsRecord d text r → IsRecord d text s → r ≡ s }
@@ -41,8 +41,8 @@ pub fn record_or_fault()
 {}
 
 /// What is read from a text's front is what the text is, and nothing else is (LIS02-A2, Delimiters): a component, as
-/// `LentSymbols::of_text` reads it, a repeat, a field, as `read_field` does, and the fields behind a letter, as
-/// `read_fields` does. Behind a letter stands nothing, or a field delimiter first.
+/// `BorrowedSymbols::of_text` reads it, a repeat, a field, as `read_field` does, and the fields after a letter, as
+/// `read_fields` does. After a letter is nothing, or a field delimiter first.
 pub fn front_reading()
     ensures component { (d : DelimiterBytes) (text : List ℕ) (symbols : Symbols) → IsDelimiters d
         → IsComponent d text symbols ↔ (symbols ≡ symbols_of d text) }

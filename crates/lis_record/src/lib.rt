@@ -1,24 +1,28 @@
-//! Records of a laboratory message as texts (LIS02-A2): read where they stand or as values, and written.
+//! Records of a laboratory message as texts (LIS02-A2): read where they are or as values, and written.
 #![tactic(auto)]
 
+mod borrowed;
+mod borrowed_cursor;
+mod known_parts;
 pub mod laws;
-mod lent;
-mod lent_cursor;
 mod places;
 mod reading;
-mod respelling;
-mod texts;
+mod reencoding;
 
-pub use lent::{LentComponent, LentField, LentFields, LentPart, LentParts, LentRecord, LentRepeat};
-pub use lis_field::{
+pub use borrowed::{
+    BorrowedComponent, BorrowedField, BorrowedFields, BorrowedPart, BorrowedParts, BorrowedRecord,
+    BorrowedRepeat,
+};
+pub use lis_record_read::{BorrowedSymbols, first_bad_byte};
+pub use lis_record_values::{
     Component, DelimiterFault, DelimiterPartFault, Delimiters, Field, Kind, Record, RecordFault,
     Repeat, Sym,
 };
-pub use lis_part::{LentSymbols, first_bad_byte};
-pub use lis_spelling::{
-    FieldSpelling, RECORD_LIMIT, WriteFault, WriteResult, check_record, put_field, spelled_length,
+pub use lis_record_write::{
+    FieldEncoding, RECORD_LIMIT, WriteFault, WriteResult, check_record, encoded_length, put_field,
     write_field, write_record, write_record_from,
 };
 pub use reading::{
-    lend_header, lend_record, lend_searched_header, lend_searched_record, read_header, read_record,
+    borrow_header, borrow_record, borrow_searched_header, borrow_searched_record, read_header,
+    read_record,
 };

@@ -4,7 +4,7 @@ ghost use Rattle.std.specs.Prelude.{◌≡◌, ◌≤◌, ◌<◌, ◌==◌, len
 ghost use Rattle.std.specs.Simd.Lanes.{mask_l};
 ghost use Rattle.lis_record.specs.Marks.{AreMarks};
 
-use lis_part::bits_of;
+use lis_record_read::bits_of;
 use std::simd::prelude::*;
 
 /// The places among thirty-two bytes that hold this one, as bits.
@@ -29,8 +29,8 @@ pub(crate) fn front_marks(text: &[u8], mark: u8) -> u64
     }
     let count = (text.len() - 32).min(32);
     let (_, window) = text.split_at(count);
-    let behind = bits_of_32(window, mark) >> (32 - count);
-    bits_of_32(text, mark) + 4_294_967_296 * behind
+    let following = bits_of_32(window, mark) >> (32 - count);
+    bits_of_32(text, mark) + 4_294_967_296 * following
 }
 
 /// The same, of fewer than thirty-two bytes.
@@ -44,6 +44,6 @@ fn short_marks(text: &[u8], mark: u8) -> u64
     }
     let count = text.len() - 16;
     let (_, window) = text.split_at(count);
-    let behind = bits_of(window, mark) >> (16 - count);
-    bits_of(text, mark) + 65_536 * behind
+    let following = bits_of(window, mark) >> (16 - count);
+    bits_of(text, mark) + 65_536 * following
 }

@@ -1,26 +1,26 @@
 //! Reading a record from its text (LIS02-A2, Delimiters, and Data Record Usage Overview).
 
 ghost use Rattle.std.specs.Prelude.{◌≡◌, ◌≢◌, IfOk, IfErr, MatchOption, MatchResult, Option, Some, None, true, false};
-ghost use Rattle.lis_field.specs.Delimiters.{DelimiterBytes, IsDelimiters};
-ghost use Rattle.lis_record.specs.Faults.{TellsFault, delimiter_part_fault, header_fault, is_header_kind};
+ghost use Rattle.lis_record_values.specs.Delimiters.{DelimiterBytes, IsDelimiters};
+ghost use Rattle.lis_record.specs.Faults.{ReportsFault, delimiter_part_fault, header_fault, is_header_kind};
 ghost use Rattle.lis_record.specs.Faults.{is_other_kind, record_fault, record_text_fault};
-ghost use Rattle.lis_field.specs.Text.{trailing_byte, bad_byte_place};
+ghost use Rattle.lis_record_values.specs.Text.{trailing_byte, bad_byte_place};
 ghost use Rattle.lis_record.specs.inside.Opening.{DeclaresDelimiters, OpensHeader, OpensRecord};
-ghost use Rattle.lis_record.specs.Lending.{FindsHeader, FindsRecord, IsLentHeader, IsLentRecord};
-ghost use Rattle.lis_record.specs.Lent.{record_in};
-ghost use Rattle.lis_field.specs.Relation.{IsRecord};
-ghost use Rattle.lis_field.specs.Shape.{RecordContent};
-ghost use Rattle.lis_field.specs.declared.kinds.Kind.TheVariants as kinds;
-ghost use Rattle.lis_field.specs.declared.faults.RecordFault.TheVariants.{OutOfMemory};
-ghost use Rattle.lis_field.specs.Kinds.{kind_of};
+ghost use Rattle.lis_record.specs.Borrowing.{FindsHeader, FindsRecord, IsBorrowedHeader, IsBorrowedRecord};
+ghost use Rattle.lis_record.specs.Borrowed.{record_in};
+ghost use Rattle.lis_record_values.specs.Relation.{IsRecord};
+ghost use Rattle.lis_record_values.specs.Shape.{RecordContent};
+ghost use Rattle.lis_record_values.specs.declared.kinds.Kind.TheVariants as kinds;
+ghost use Rattle.lis_record_values.specs.declared.faults.RecordFault.TheVariants.{OutOfMemory};
+ghost use Rattle.lis_record_values.specs.Kinds.{kind_of};
 
-use crate::lent::LentRecord;
-use lis_field::{DelimiterPartFault, Delimiters, Kind, Record, RecordFault};
-use lis_part::first_bad_byte;
-use lis_spelling::RECORD_LIMIT;
+use crate::borrowed::BorrowedRecord;
+use lis_record_read::first_bad_byte;
+use lis_record_values::{DelimiterPartFault, Delimiters, Kind, Record, RecordFault};
+use lis_record_write::RECORD_LIMIT;
 use std::alloc::{AllocError, Global};
 
-// A byte that is no text byte, the first of which stands at `bad`, else too many bytes.
+// A byte that is no text byte, the first of which is at `bad`, else too many bytes.
 #[tactic(auto, unfolding(crate::specs::Faults::record_text_fault))]
 #[inline(always)]
 fn record_text_fault(text: &[u8], bad: Option<usize>) -> Option<RecordFault>
@@ -93,7 +93,7 @@ fn open_record(
     Ok((kind, rest))
 }
 
-// The delimiters behind a header's letter, and what follows them; else the first fault.
+// The delimiters after a header's letter, and what follows them; else the first fault.
 #[inline(always)]
 fn read_delimiters(text: &[u8]) -> Result<(Delimiters, &[u8]), DelimiterPartFault>
     ensures { MatchResult result
@@ -135,23 +135,23 @@ fn open_header(text: &[u8], bad: Option<usize>) -> Result<(Delimiters, &[u8]), R
     }
 }
 
-/// Finds the record other than a header that a text without CR is, under these delimiters, where it stands.
+/// Finds the record other than a header that a text without CR is, under these delimiters, where it is.
 ///
 /// The answer is the record, else the first of these faults: `Empty`; `UnknownKind`, where the first byte
 /// is no letter of such a record, in either case, or the second byte isn't the field delimiter; `Byte`;
 /// `TooLong`. It takes no memory.
 ///
-/// The first byte that no record may hold stands at `bad`, as `first_bad_byte` finds it. It isn't looked for again.
+/// The first byte that no record may hold is at `bad`, as `first_bad_byte` finds it. It isn't looked for again.
 #[inline(always)]
-pub fn lend_searched_record<'a>(
+pub fn borrow_searched_record<'a>(
     delimiters: &Delimiters,
     text: &'a [u8],
     bad: Option<usize>,
-) -> Result<LentRecord<'a>, RecordFault>
+) -> Result<BorrowedRecord<'a>, RecordFault>
     requires { bad ≡ bad_byte_place text.now }
     // What is found is the record that the text is.
-    ensures found { IfOk result (λ entry. IsLentRecord delimiters.now text.now entry) }
-    // Its fields stand behind its letter.
+    ensures found { IfOk result (λ entry. IsBorrowedRecord delimiters.now text.now entry) }
+    // Its fields are after its letter.
     ensures place { IfOk result (λ entry. entry ≡ record_in entry.delimiters entry.content.kind text.now) }
     // A text that is a record is found to be it.
     ensures only { FindsRecord delimiters.now text.now result }
@@ -161,22 +161,22 @@ pub fn lend_searched_record<'a>(
 {
     match open_record(*delimiters, text, bad) {
         Err(fault) => Err(fault),
-        Ok((kind, rest)) => Ok(LentRecord::of_parts(*delimiters, kind, rest)),
+        Ok((kind, rest)) => Ok(BorrowedRecord::of_parts(*delimiters, kind, rest)),
     }
 }
 
-/// Finds the record other than a header that a text without CR is, under these delimiters, where it stands.
+/// Finds the record other than a header that a text without CR is, under these delimiters, where it is.
 ///
 /// The answer is the record, else the first of these faults: `Empty`; `UnknownKind`, where the first byte
 /// is no letter of such a record, in either case, or the second byte isn't the field delimiter; `Byte`;
 /// `TooLong`. It takes no memory.
-pub fn lend_record<'a>(
+pub fn borrow_record<'a>(
     delimiters: &Delimiters,
     text: &'a [u8],
-) -> Result<LentRecord<'a>, RecordFault>
+) -> Result<BorrowedRecord<'a>, RecordFault>
     // What is found is the record that the text is.
-    ensures found { IfOk result (λ entry. IsLentRecord delimiters.now text.now entry) }
-    // Its fields stand behind its letter.
+    ensures found { IfOk result (λ entry. IsBorrowedRecord delimiters.now text.now entry) }
+    // Its fields are after its letter.
     ensures place { IfOk result (λ entry. entry ≡ record_in entry.delimiters entry.content.kind text.now) }
     // A text that is a record is found to be it.
     ensures only { FindsRecord delimiters.now text.now result }
@@ -184,21 +184,24 @@ pub fn lend_record<'a>(
     ensures fault { MatchResult result (λ _. record_fault delimiters.now text.now ≡ None)
         (λ fault. record_fault delimiters.now text.now ≡ Some fault) }
 {
-    lend_searched_record(delimiters, text, first_bad_byte(text))
+    borrow_searched_record(delimiters, text, first_bad_byte(text))
 }
 
-/// Finds the header that a text without CR is, under the delimiters that it declares, where it stands.
+/// Finds the header that a text without CR is, under the delimiters that it declares, where it is.
 ///
 /// The answer is the header, else the first of these faults: `Empty`; `UnknownKind`, where the first byte is
 /// neither H nor h; `DelimiterPart`; `Byte`; `TooLong`. It takes no memory.
 ///
-/// The first byte that no record may hold stands at `bad`, as `first_bad_byte` finds it. It isn't looked for again.
+/// The first byte that no record may hold is at `bad`, as `first_bad_byte` finds it. It isn't looked for again.
 #[inline(always)]
-pub fn lend_searched_header(text: &[u8], bad: Option<usize>) -> Result<LentRecord<'_>, RecordFault>
+pub fn borrow_searched_header(
+    text: &[u8],
+    bad: Option<usize>,
+) -> Result<BorrowedRecord<'_>, RecordFault>
     requires { bad ≡ bad_byte_place text.now }
     // What is found is the header that the text is, under the delimiters that it declares.
-    ensures found { IfOk result (λ entry. IsLentHeader text.now entry) }
-    // Its fields stand behind its delimiters.
+    ensures found { IfOk result (λ entry. IsBorrowedHeader text.now entry) }
+    // Its fields are after its delimiters.
     ensures place { IfOk result (λ entry. entry ≡ record_in entry.delimiters entry.content.kind text.now) }
     // A text that is a header is found to be it.
     ensures only { FindsHeader text.now result }
@@ -208,18 +211,18 @@ pub fn lend_searched_header(text: &[u8], bad: Option<usize>) -> Result<LentRecor
 {
     match open_header(text, bad) {
         Err(fault) => Err(fault),
-        Ok(found) => Ok(LentRecord::of_parts(found.0, Kind::H, found.1)),
+        Ok(found) => Ok(BorrowedRecord::of_parts(found.0, Kind::H, found.1)),
     }
 }
 
-/// Finds the header that a text without CR is, under the delimiters that it declares, where it stands.
+/// Finds the header that a text without CR is, under the delimiters that it declares, where it is.
 ///
 /// The answer is the header, else the first of these faults: `Empty`; `UnknownKind`, where the first byte is
 /// neither H nor h; `DelimiterPart`; `Byte`; `TooLong`. It takes no memory.
-pub fn lend_header(text: &[u8]) -> Result<LentRecord<'_>, RecordFault>
+pub fn borrow_header(text: &[u8]) -> Result<BorrowedRecord<'_>, RecordFault>
     // What is found is the header that the text is, under the delimiters that it declares.
-    ensures found { IfOk result (λ entry. IsLentHeader text.now entry) }
-    // Its fields stand behind its delimiters.
+    ensures found { IfOk result (λ entry. IsBorrowedHeader text.now entry) }
+    // Its fields are after its delimiters.
     ensures place { IfOk result (λ entry. entry ≡ record_in entry.delimiters entry.content.kind text.now) }
     // A text that is a header is found to be it.
     ensures only { FindsHeader text.now result }
@@ -227,14 +230,14 @@ pub fn lend_header(text: &[u8]) -> Result<LentRecord<'_>, RecordFault>
     ensures fault { MatchResult result (λ _. header_fault text.now ≡ None)
         (λ fault. header_fault text.now ≡ Some fault) }
 {
-    lend_searched_header(text, first_bad_byte(text))
+    borrow_searched_header(text, first_bad_byte(text))
 }
 
 /// Reads a record other than a header, from its text without CR, under these delimiters.
 ///
 /// The answer is the record, else the first of these faults: `Empty`; `UnknownKind`, where the first byte
 /// is no letter of such a record, in either case, or the second byte isn't the field delimiter; `Byte`;
-/// `TooLong`. `OutOfMemory` comes where none of these stands and a growth was refused.
+/// `TooLong`. `OutOfMemory` comes where none of these is and a growth fails.
 pub fn read_record(
     alloc: Global,
     delimiters: &Delimiters,
@@ -246,9 +249,9 @@ pub fn read_record(
     ensures only { (content : RecordContent) → IsRecord delimiters.now text.now content → content.kind ≢ kinds.H
         → MatchResult result (λ found. found ≡ content) (λ fault. fault ≡ OutOfMemory) }
     // Which fault it is.
-    ensures fault { IfErr result (λ fault. TellsFault fault (record_fault delimiters.now text.now)) }
+    ensures fault { IfErr result (λ fault. ReportsFault fault (record_fault delimiters.now text.now)) }
 {
-    match lend_record(delimiters, text) {
+    match borrow_record(delimiters, text) {
         Err(fault) => Err(fault),
         Ok(entry) => match entry.to_record(alloc) {
             Ok(record) => Ok(record),
@@ -260,8 +263,8 @@ pub fn read_record(
 /// Reads a header from its text without CR, and the delimiters that it declares for its message.
 ///
 /// The answer is these, else the first of these faults: `Empty`; `UnknownKind`, where the first byte is
-/// neither H nor h; `DelimiterPart`; `Byte`; `TooLong`. `OutOfMemory` comes where none of these stands and
-/// a growth was refused.
+/// neither H nor h; `DelimiterPart`; `Byte`; `TooLong`. `OutOfMemory` comes where none of these is and
+/// a growth fails.
 pub fn read_header(alloc: Global, text: &[u8]) -> Result<(Delimiters, Record), RecordFault>
     // What is read is the header that the text is, under the delimiters that it declares.
     ensures found { IfOk result (λ found. IsDelimiters found.0 × IsRecord found.0 text.now found.1
@@ -271,9 +274,9 @@ pub fn read_header(alloc: Global, text: &[u8]) -> Result<(Delimiters, Record), R
         → content.kind ≡ kinds.H
         → MatchResult result (λ found. (found.0 ≡ d) × (found.1 ≡ content)) (λ fault. fault ≡ OutOfMemory) }
     // Which fault it is.
-    ensures fault { IfErr result (λ fault. TellsFault fault (header_fault text.now)) }
+    ensures fault { IfErr result (λ fault. ReportsFault fault (header_fault text.now)) }
 {
-    match lend_header(text) {
+    match borrow_header(text) {
         Err(fault) => Err(fault),
         Ok(entry) => match entry.to_record(alloc) {
             Ok(record) => Ok((entry.delimiters(), record)),

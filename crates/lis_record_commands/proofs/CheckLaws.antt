@@ -6,10 +6,10 @@ use Rattle.std.proofs.Common.{not, ◌&&◌, if◌then◌else◌}
 use Rattle.std.proofs.lemmas.Grind.{flat_map-append}
 use Rattle.std.specs.List.{flat_map}
 use Rattle.std.specs.Option.{option_to_list}
-use Rattle.lis_field.specs.declared.kinds.Kind.{Kind}
-use Rattle.lis_field.specs.Shape.{RecordContent, field_at}
+use Rattle.lis_record_values.specs.declared.kinds.Kind.{Kind}
+use Rattle.lis_record_values.specs.Shape.{RecordContent, field_at}
 use Rattle.lis_message.specs.Taking.{records_of}
-use Rattle.lis_record.specs.Lent.{Lent}
+use Rattle.lis_record.specs.Borrowed.{Borrowed}
 use Rattle.lis_tree.specs.declared.numbering.Numbering.{Numbering}
 use Rattle.lis_tree.specs.Begun.{Begun}
 use Rattle.lis_tree.specs.declared.numbering.Finding.{Finding}
@@ -25,7 +25,7 @@ use Rattle.lis_record_commands.specs.Check.{check_writes, finding_count, finding
 use Rattle.lis_record_commands.specs.Check.{record_lines, sums_line}
 use Rattle.lis_record_commands.specs.inside.Check.{IsChecking}
 use Rattle.lis_record_commands.specs.Messages.{record_count, report_after, whole_begun, with_record}
-use Rattle.lis_field.specs.declared.faults.MessageFault.{MessageFault}
+use Rattle.lis_record_values.specs.declared.faults.MessageFault.{MessageFault}
 use Rattle.lis_record_commands.proofs.MessageLaws.{record_count-append}
 
 one_at_most : (b : Bool) (f : Finding) → length (let fs : List Finding = if b then f ∷ [] else [] in fs) ≤ 1
@@ -74,10 +74,10 @@ record_lines-more place (x ∷ records) r =
 
 -- one record more, with the finding on it
 pub checking_on :
-    (records findings : List ℕ) (numbering next : Numbering) (found told : ℕ) (messages : List MessageTree)
+    (records findings : List ℕ) (numbering next : Numbering) (found reported : ℕ) (messages : List MessageTree)
     (left : Option Begun)
-    (entry : Lent RecordContent) (place : ℕ) (finding : Option Finding) (records' findings' : List ℕ) (found' : ℕ)
-    → IsChecking records findings numbering found told messages left
+    (entry : Borrowed RecordContent) (place : ℕ) (finding : Option Finding) (records' findings' : List ℕ) (found' : ℕ)
+    → IsChecking records findings numbering found reported messages left
     → record_count messages + length (records_of left) < 2 ^ 44
     → ((rs : List RecordContent) → HasNumbered numbering rs → place ≡ capped (length rs + 1))
     → ((rs : List RecordContent) → HasNumbered numbering rs
@@ -86,9 +86,10 @@ pub checking_on :
     → records' ≡ records ++ record_line place entry.content.kind (length entry.content.fields)
     → findings' ≡ findings ++ flat_map finding_line (option_to_list finding)
     → (found < 2 ^ 44 → found' ≡ found + length (option_to_list finding))
-    → IsChecking records' findings' next found' told messages (with_record left entry)
-checking_on records findings numbering next found told messages left entry place finding records' findings' found' is
-    few placed on numbered lines told_lines counts =
+    → IsChecking records' findings' next found' reported messages (with_record left entry)
+checking_on records findings numbering next found reported messages left entry place finding records' findings' found'
+    is
+    few placed on numbered lines reported_lines counts =
     let rs = records_of left in
     let r = entry.content in
     let more = on rs is.numbered in
@@ -100,57 +101,57 @@ checking_on records findings numbering next found told messages left entry place
           ∙ ap (λ (k : ℕ). record_lines 1 rs ++ record_line k r.kind (length r.fields)) here
           ∙ sym (record_lines-more 1 rs r);
       finding_lines_are =
-          told_lines ∙ ap (λ (l : List ℕ). l ++ flat_map finding_line (option_to_list finding)) is.finding_lines_are
+          reported_lines ∙ ap (λ (l : List ℕ). l ++ flat_map finding_line (option_to_list finding)) is.finding_lines_are
           ∙ sym (flat_map-append finding_line (findings_from [] 1 rs) (option_to_list finding))
           ∙ ap (flat_map finding_line) (sym more);
       numbered = numbered rs is.numbered;
       found_is =
           counts short ∙ ap (λ (k : ℕ). k + length (option_to_list finding)) is.found_is
           ∙ sym (length-append (findings_from [] 1 rs) (option_to_list finding)) ∙ ap length (sym more);
-      told_is = is.told_is;
+      reported_is = is.reported_is;
     }
 
 -- what waits of a whole message is its text
 pub check_text :
-    (records findings : List ℕ) (numbering : Numbering) (found told before : ℕ) (messages : List MessageTree)
+    (records findings : List ℕ) (numbering : Numbering) (found reported before : ℕ) (messages : List MessageTree)
     (m : MessageTree)
-    → IsChecking records findings numbering found told messages (whole_begun m)
+    → IsChecking records findings numbering found reported messages (whole_begun m)
     → message_line before ++ records ++ findings
     ≡ message_line before ++ record_lines 1 (flatten m) ++ flat_map finding_line (findings_of m)
-check_text records findings numbering found told before messages m is =
+check_text records findings numbering found reported before messages m is =
     ap (λ (l : List ℕ). message_line before ++ l ++ findings) is.record_lines_are
     ∙ ap (λ (l : List ℕ). message_line before ++ record_lines 1 (flatten m) ++ l) is.finding_lines_are
 
--- the line of what a report refuses, and the sums behind it, are the last lines
+-- the line of what a report rejects, and the sums after it, are the last lines
 pub check_last :
-    (report : Report) (before told : ℕ) (messages : List MessageTree) (fault : Option MessageFault)
-    → report ≡ report_after check_writes messages fault → before ≡ length messages → told ≡ finding_count messages
-    → text_if_any (λ (it : Refused). refused_line it.message it.fault) report.refused ++ sums_line before told
+    (report : Report) (before reported : ℕ) (messages : List MessageTree) (fault : Option MessageFault)
+    → report ≡ report_after check_writes messages fault → before ≡ length messages → reported ≡ finding_count messages
+    → text_if_any (λ (it : Refused). refused_line it.message it.fault) report.refused ++ sums_line before reported
     ≡ check_writes.last messages fault
-check_last report before told messages None is counted found = rw (is, counted, found) refl
-check_last report before told messages (Some fault) is counted found = rw (is, counted, found) refl
+check_last report before reported messages None is counted found = rw (is, counted, found) refl
+check_last report before reported messages (Some fault) is counted found = rw (is, counted, found) refl
 
--- the findings of one more message are told
-pub told_more :
-    (records findings : List ℕ) (numbering : Numbering) (found told sum : ℕ) (messages : List MessageTree)
+-- the findings of one more message are reported
+pub reported_more :
+    (records findings : List ℕ) (numbering : Numbering) (found reported sum : ℕ) (messages : List MessageTree)
     (m : MessageTree)
-    → IsChecking records findings numbering found told messages (whole_begun m)
+    → IsChecking records findings numbering found reported messages (whole_begun m)
     → record_count (messages ++ m ∷ []) < 2 ^ 44
-    → (told + found < 2 ^ 63 → sum ≡ told + found) → sum ≡ finding_count (messages ++ m ∷ [])
-told_more records findings numbering found told sum messages m is few sum_is =
+    → (reported + found < 2 ^ 63 → sum ≡ reported + found) → sum ≡ finding_count (messages ++ m ∷ [])
+reported_more records findings numbering found reported sum messages m is few sum_is =
     let found_is : found ≡ length (findings_of m) = is.found_is in
-    let short : told + found < 2 ^ 63 =
+    let short : reported + found < 2 ^ 63 =
     omega (
       arith,
       few,
-      is.told_is,
+      is.reported_is,
       found_is,
       findings_few m,
       finding_count-few messages,
       record_count-append messages
           (m ∷ []),
     ) in
-    omega (arith, sum_is short, is.told_is, found_is, finding_count-one_more messages m)
+    omega (arith, sum_is short, is.reported_is, found_is, finding_count-one_more messages m)
 
 pub check_status-few : (messages : List MessageTree) → check_writes.status messages ≤ 1
 check_status-few messages = by (nat_lt 0 (finding_count messages))

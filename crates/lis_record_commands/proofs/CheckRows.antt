@@ -2,18 +2,18 @@
 use Rattle.std.proofs.Common.{◌≡◌, ℕ, List, [], ◌∷◌, ◌++◌, None, Some, refl, codes}
 use Rattle.std.specs.Fmt.{digits}
 use Rattle.hex.specs.Hex.{decode_pairs, encode_with}
-use Rattle.lis_field.specs.declared.kinds.Kind.{Kind}
-use Rattle.lis_field.specs.declared.kinds.Kind.TheVariants as kinds
-use Rattle.lis_field.specs.Delimiters.{DelimiterBytes, delimiters_of}
-use Rattle.lis_field.specs.Shape.{RecordContent}
-use Rattle.lis_field.specs.declared.faults.RecordFault.TheVariants as record_faults
-use Rattle.lis_field.specs.Escapes.{escape_of}
-use Rattle.lis_part.specs.FrontReading.{escape_at, fields_of, symbols_after}
-use Rattle.lis_spelling.specs.Spelling.{spelled_symbol}
-use Rattle.lis_field.specs.declared.faults.Reason.TheVariants as reasons
+use Rattle.lis_record_values.specs.declared.kinds.Kind.{Kind}
+use Rattle.lis_record_values.specs.declared.kinds.Kind.TheVariants as kinds
+use Rattle.lis_record_values.specs.Delimiters.{DelimiterBytes, delimiters_of}
+use Rattle.lis_record_values.specs.Shape.{RecordContent}
+use Rattle.lis_record_values.specs.declared.faults.RecordFault.TheVariants as record_faults
+use Rattle.lis_record_values.specs.Escapes.{escape_of}
+use Rattle.lis_record_read.specs.FrontReading.{escape_at, fields_of, symbols_after}
+use Rattle.lis_record_write.specs.Encoding.{encoded_symbol}
+use Rattle.lis_record_values.specs.declared.faults.Reason.TheVariants as reasons
 use Rattle.lis_tree.specs.declared.tree.Group.TheVariants as groups
 use Rattle.lis_tree.specs.Findings.{findings_of}
-use Rattle.lis_tree.specs.Nodes.{Noted}
+use Rattle.lis_tree.specs.Nodes.{Annotated}
 use Rattle.lis_tree.specs.Tree.{MessageTree, flatten}
 use Rattle.lis_record_commands.specs.Check.{check_message, check_writes, refused_part, sums_line}
 use Rattle.lis_record_commands.specs.Messages.{messages_text, report_after}
@@ -22,12 +22,12 @@ use Rattle.lis_record_commands.specs.Results.{result_lines, results_writes}
 unfoldable usual : DelimiterBytes
 usual = delimiters_of 0x7c 0x5c 0x5e 0x26
 
--- a record of these fields, each behind its delimiter
+-- a record of these fields, each after its delimiter
 unfoldable entry : Kind → List ℕ → RecordContent
 entry kind text = record { kind = kind; fields = fields_of usual text }
 
 -- a message with one patient, this order and these results
-unfoldable with_order : List ℕ → List Noted → MessageTree
+unfoldable with_order : List ℕ → List Annotated → MessageTree
 with_order order results =
     record {
       delimiters = usual;
@@ -76,23 +76,23 @@ order_with_a_leading_zero = refl
 
 result_of_the_panel : messages_text results_writes 0 (panel (codes "|1|S7") ∷ [])
     ≡ codes "S7|^^^GLU|5.4|mmol/L|3.9 to 6.1|N|F\n"
-unfolding panel with_order entry usual symbols_after escape_at escape_of decode_pairs spelled_symbol
+unfolding panel with_order entry usual symbols_after escape_at escape_of decode_pairs encoded_symbol
 result_of_the_panel = refl
 
--- fields 5 to 9 are absent, and stand empty
+-- fields 5 to 9 are absent, and are empty
 short_result :
     result_lines usual None (entry kinds.O (codes "|1|S8") ∷ entry kinds.R (codes "|2|^^^K|4.1") ∷ [])
     ≡ codes "S8|^^^K|4.1||||\n"
-unfolding entry usual symbols_after escape_at escape_of decode_pairs spelled_symbol
+unfolding entry usual symbols_after escape_at escape_of decode_pairs encoded_symbol
 short_result = refl
 
--- each result stands behind the sample of its own order
+-- each result is after the sample of its own order
 two_orders :
     result_lines usual None
     (entry kinds.O (codes "|1|A") ∷ entry kinds.R (codes "|1|x|1") ∷ entry kinds.O (codes "|2|B")
     ∷ entry kinds.C (codes "|1") ∷ entry kinds.R (codes "|1|y|2") ∷ [])
     ≡ codes "A|x|1||||\nB|y|2||||\n"
-unfolding entry usual symbols_after escape_at escape_of decode_pairs spelled_symbol
+unfolding entry usual symbols_after escape_at escape_of decode_pairs encoded_symbol
 two_orders = refl
 
 -- escapes are written as such, and a lone escape byte as one
@@ -100,7 +100,7 @@ escapes :
     result_lines usual None (entry kinds.O (codes "|1|A&F&1")
     ∷ entry kinds.R (codes "|1|n|S & S|&X0D0a&|&H&hi&N&|a\\b^c||F") ∷ [])
     ≡ codes "A&F&1|n|S &E& S|&X0d&&X0a&|&H&hi&N&|a\\b^c|F\n"
-unfolding entry usual symbols_after escape_at escape_of decode_pairs encode_with spelled_symbol
+unfolding entry usual symbols_after escape_at escape_of decode_pairs encode_with encoded_symbol
 escapes = refl
 
 -- a query has no result
@@ -122,7 +122,7 @@ query_has_no_result : result_lines usual None (flatten query) ≡ []
 unfolding query entry usual
 query_has_no_result = refl
 
--- a result without an order, behind no message and behind one
+-- a result without an order, after no message and after one
 result_without_order : refused_part 0 (Some (record { place = 3; reason = reasons.NoParent kinds.R }))
     ++ sums_line 0 0 ≡ codes "refused 1 3 G3\nmessages 0 findings 0\n"
 unfolding digits

@@ -4,27 +4,35 @@ use Rattle.std.proofs.Common.{length, refl, sym, ◌∙◌, ap, subst, inl, inr,
 use Rattle.std.proofs.Common.{length-append}
 use Rattle.std.specs.declared.result.Result.{Result}
 use Rattle.std.specs.List.{AllZip, flat_map}
-use Rattle.lis_field.specs.Delimiters.{DelimiterBytes}
-use Rattle.lis_field.specs.Shape.{RecordContent}
-use Rattle.lis_field.specs.Relation.{IsRecord}
-use Rattle.lis_field.specs.declared.faults.MessageFault.{MessageFault}
-use Rattle.lis_field.specs.declared.faults.Reason.TheVariants as reasons
+use Rattle.lis_record_values.specs.Delimiters.{DelimiterBytes}
+use Rattle.lis_record_values.specs.Shape.{RecordContent}
+use Rattle.lis_record_values.specs.Relation.{IsRecord}
+use Rattle.lis_record_values.specs.declared.faults.MessageFault.{MessageFault}
+use Rattle.lis_record_values.specs.declared.faults.Reason.TheVariants as reasons
 use Rattle.lis_tree.specs.Begun.{Begun}
 use Rattle.lis_tree.specs.Tree.{MessageTree, flatten}
 use Rattle.lis_message.specs.Feeding.{answer_at_end, StopsReading}
-use Rattle.lis_message.specs.Stream.{IsCut, IsRefused, AreLeft, AreMessage, ended}
+use Rattle.lis_message.specs.Stream.{IsSplit, IsRefused, AreLeft, AreMessage, ended}
 use Rattle.lis_message.specs.Taking.{records_of}
 use Rattle.lis_engine.specs.declared.fault.ToolFault.{ToolFault}
 use Rattle.lis_report.specs.inside.Answers.{Halt}
 use Rattle.lis_engine.specs.Steps.{LineEnds, Halts, IsEarly, Puts, Ends}
-use Rattle.lis_engine.specs.Output.{Gathered, Out}
-use Rattle.lis_engine.proofs.GatherLaws.{gathered_then}
+use Rattle.lis_engine.specs.Output.{IsBuffered, Out}
+use Rattle.lis_engine.proofs.BufferLaws.{buffered_then}
 use Rattle.lis_record_commands.specs.Messages.{MessageWrites, messages_text, whole_outcome, record_count, report_after}
-use Rattle.lis_record_commands.specs.inside.Messages.{Comes}
+use Rattle.lis_record_commands.specs.inside.Messages.{RunGives}
 
 -- no byte is no message
-pub cut_nothing : IsCut [] [] None []
-cut_nothing = record { groups = []; texts = []; whole = refl; read = tt; begun = refl; lacks = tt; short = omega arith }
+pub split_nothing : IsSplit [] [] None []
+split_nothing = record {
+  groups = [];
+  texts = [];
+  whole = refl;
+  read = tt;
+  begun = refl;
+  lacks = tt;
+  short = omega arith;
+}
 
 pub messages_text-append :
     (w : MessageWrites) (n : ℕ) (xs ys : List MessageTree)
@@ -81,17 +89,17 @@ left_few texts None are = omega arith
 left_few texts (Some begun) are = texts_few begun.delimiters texts begun.records are.each
 
 -- a stream has no more records than bytes, with those of a message that isn't closed
-pub cut_few :
+pub split_few :
     (stream : List ℕ) (messages : List MessageTree) (left : Option Begun) (held : List ℕ)
-    → IsCut stream messages left held
+    → IsSplit stream messages left held
     → record_count messages + length (records_of left) ≤ length stream
-cut_few stream messages left held cut =
-    rw cut.whole (omega (
+split_few stream messages left held split =
+    rw split.whole (omega (
       arith,
-      groups_few cut.groups messages cut.read,
-      left_few cut.texts left cut.begun,
-      length-append (flat_map ended cut.groups ++ ended cut.texts) held,
-      length-append (flat_map ended cut.groups) (ended cut.texts),
+      groups_few split.groups messages split.read,
+      left_few split.texts left split.begun,
+      length-append (flat_map ended split.groups ++ ended split.texts) held,
+      length-append (flat_map ended split.groups) (ended split.texts),
     ))
 
 pub is_refused : (stream : List ℕ) (messages : List MessageTree) (fault : MessageFault)
@@ -102,26 +110,26 @@ is_refused stream messages fault (inr stop) other = stop
 
 -- ---- the end
 
--- the command told of the end
-pub ends_over :
+-- the command said about the end
+pub ends_through :
     (w : MessageWrites) (bytes : List ℕ) (at_end' : Bool) (a b c : Out) (before middle : ℕ) (start more : List ℕ)
     (messages : List MessageTree) (fault : Option MessageFault)
-    (result : Result Halt ToolFault) → Comes w bytes at_end' (whole_outcome w messages fault)
-    → start ++ more ≡ messages_text w 0 messages → Gathered a b before (Ok middle) more
+    (result : Result Halt ToolFault) → RunGives w bytes at_end' (whole_outcome w messages fault)
+    → start ++ more ≡ messages_text w 0 messages → IsBuffered a b before (Ok middle) more
     → LineEnds (report_after w messages fault) b c middle (w.last messages fault) result
-    → Ends true (Comes w bytes at_end') a c before start result
-ends_over w bytes at_end' a b c before middle start more messages fault (Ok halt) comes text_is put (halt_is, last) =
+    → Ends true (RunGives w bytes at_end') a c before start result
+ends_through w bytes at_end' a b c before middle start more messages fault (Ok halt) comes text_is put (halt_is, last) =
     record {
       more = more ++ w.last messages fault;
-      put = gathered_then a b c before middle (Ok halt.written) more _ put last;
-      behind = rw halt_is (
+      put = buffered_then a b c before middle (Ok halt.written) more _ put last;
+      following = rw halt_is (
         whole_outcome w messages fault,
         comes,
         refl,
         ap (λ (t : List ℕ). t ++ w.last messages fault) (sym text_is) ∙ append_assoc start more _,
       );
     }
-ends_over w bytes at_end' a b c before middle start more messages fault (Err stop) comes text_is put last =
+ends_through w bytes at_end' a b c before middle start more messages fault (Err stop) comes text_is put last =
     record {
       outcome = whole_outcome w messages fault;
       meant = comes;
@@ -130,24 +138,24 @@ ends_over w bytes at_end' a b c before middle start more messages fault (Err sto
       joined =
           ap (λ (t : List ℕ). t ++ w.last messages fault) (sym text_is) ∙ append_assoc start more _
           ∙ sym (append-nil _);
-      put = gathered_then a b c before middle (Err stop) more _ put last;
+      put = buffered_then a b c before middle (Err stop) more _ put last;
     }
 
--- the same of a refused record
-pub refuses_over :
+-- the same of a rejected record
+pub refuses_through :
     (w : MessageWrites) (bytes : List ℕ) (a b c : Out) (before middle : ℕ) (start more : List ℕ)
     (messages : List MessageTree) (fault : MessageFault)
-    (halt : Halt) → Comes w bytes false (whole_outcome w messages (Some fault))
+    (halt : Halt) → RunGives w bytes false (whole_outcome w messages (Some fault))
     → start ++ more ≡ messages_text w 0 messages
-    → Gathered a b before (Ok middle) more
+    → IsBuffered a b before (Ok middle) more
     → LineEnds (report_after w messages (Some fault)) b c middle (w.last messages (Some fault)) (Ok halt)
-    → Puts (λ all. Halts true (Comes w bytes false) all halt.result × IsEarly true halt.result) a c before
+    → Puts (λ all. Halts true (RunGives w bytes false) all halt.result × IsEarly true halt.result) a c before
     halt.written start
-refuses_over w bytes a b c before middle start more messages fault halt comes text_is put (halt_is, last) =
+refuses_through w bytes a b c before middle start more messages fault halt comes text_is put (halt_is, last) =
     record {
       more = more ++ w.last messages (Some fault);
-      put = gathered_then a b c before middle (Ok halt.written) more _ put last;
-      behind = rw halt_is (
+      put = buffered_then a b c before middle (Ok halt.written) more _ put last;
+      following = rw halt_is (
         (
           whole_outcome w messages (Some fault),
           comes,
@@ -163,9 +171,9 @@ nothing_left None [] e = (refl, refl)
 nothing_left None (b ∷ held) e = cc
 nothing_left (Some begun) held e = cc
 
--- the cut where nothing is left
-pub cut_whole : (stream : List ℕ) (messages : List MessageTree) (left : Option Begun) (held : List ℕ)
-    → IsCut stream messages left held → left ≡ None → held ≡ [] → IsCut stream messages None []
-cut_whole stream messages left held cut none nil =
-    subst (λ (l : Option Begun). IsCut stream messages l []) none
-    (subst (λ (h : List ℕ). IsCut stream messages left h) nil cut)
+-- the split where nothing is left
+pub split_whole : (stream : List ℕ) (messages : List MessageTree) (left : Option Begun) (held : List ℕ)
+    → IsSplit stream messages left held → left ≡ None → held ≡ [] → IsSplit stream messages None []
+split_whole stream messages left held split none nil =
+    subst (λ (l : Option Begun). IsSplit stream messages l []) none
+    (subst (λ (h : List ℕ). IsSplit stream messages left h) nil split)

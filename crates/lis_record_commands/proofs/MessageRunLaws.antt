@@ -1,4 +1,4 @@
--- A run over record text, told by its messages.
+-- A run over record text, reported by its messages.
 use Rattle.std.proofs.Common.{◌≡◌, ℕ, ◌≤◌, Bool, true, false, List, ◌++◌, Option, None, Some, Ok, Err, inl, inr}
 use Rattle.std.proofs.Common.{length, take, refl, sym, ◌∙◌, ap, subst, arith, append_assoc, append-nil, length-append}
 use Rattle.std.proofs.Common.{IfOk}
@@ -6,10 +6,10 @@ use Rattle.std.proofs.lemmas.List.{take-append-le}
 use Rattle.std.specs.declared.result.Result.{Result}
 use Rattle.std.specs.Io.KnownBytes.{Appends}
 use Rattle.lis_tree.specs.Begun.{Begun}
-use Rattle.lis_field.specs.declared.faults.MessageFault.{MessageFault}
+use Rattle.lis_record_values.specs.declared.faults.MessageFault.{MessageFault}
 use Rattle.lis_tree.specs.Tree.{MessageTree}
 use Rattle.lis_message.specs.Feeding.{answer_at_end}
-use Rattle.lis_message.specs.Stream.{IsCut, IsReadFrom}
+use Rattle.lis_message.specs.Stream.{IsSplit, IsReadFrom}
 use Rattle.lis_message.proofs.EveryStream.{goes_on as reads_more}
 use Rattle.lis_engine.specs.declared.fault.ToolFault.{ToolFault}
 use Rattle.lis_engine.specs.declared.fault.ToolFault.TheVariants.{CaptureLine, Read, Write, OutOfMemory, TooManyReads}
@@ -17,17 +17,17 @@ use Rattle.lis_report.specs.Answers.{Report}
 use Rattle.lis_engine.specs.Outcome.{going, whole}
 use Rattle.lis_report.specs.Answers.{Outcome}
 use Rattle.lis_engine.specs.Output.{WentOut}
-use Rattle.lis_engine.specs.Runs.{RanOver, Seen, WroteOutcome}
+use Rattle.lis_engine.specs.Runs.{HasRun, KnownPorts, WroteOutcome}
 use Rattle.lis_record_commands.specs.MessageRuns.{MessageAnswer, MessagesRan}
-use Rattle.lis_record_commands.specs.Messages.{MessageWrites, HasOutcome, complete, cut_short, goes_on, messages_text}
+use Rattle.lis_record_commands.specs.Messages.{MessageWrites, HasOutcome, complete, ended_early, goes_on, messages_text}
 use Rattle.lis_record_commands.specs.Messages.{whole_outcome, refused, report_after}
-use Rattle.lis_record_commands.specs.inside.Messages.{Comes, IsStarved}
-use Rattle.lis_record_commands.proofs.MessageLaws.{cut_whole, messages_text-append, nothing_left}
+use Rattle.lis_record_commands.specs.inside.Messages.{RunGives, IsStarved}
+use Rattle.lis_record_commands.proofs.MessageLaws.{split_whole, messages_text-append, nothing_left}
 
--- ---- a front of the bytes, and all of them
+-- ---- a prefix of the bytes, and all of them
 
--- what all of the bytes come to, where this text is that of a front of them
-pub record ReadsBehind (w : MessageWrites) (bytes : List ℕ) (ended : Bool) (text : List ℕ) : Type 0 where
+-- what all of the bytes give, where this text is that of a prefix of them
+pub record ReadsAfter (w : MessageWrites) (bytes : List ℕ) (ended : Bool) (text : List ℕ) : Type 0 where
   pub outcome : Outcome
   pub reads : HasOutcome w bytes ended outcome
   pub rest : List ℕ
@@ -39,41 +39,43 @@ module _ (w : MessageWrites) (bytes : List ℕ) (messages more : List MessageTre
       ∙ ap (λ (k : ℕ). messages_text w 0 messages ++ messages_text w k more) (omega arith)
 
   at_the_end :
-      (left : Option Begun) (held : List ℕ) → IsCut bytes (messages ++ more) left held
+      (left : Option Begun) (held : List ℕ) → IsSplit bytes (messages ++ more) left held
       → (r : Result (Unit {0}) MessageFault) → answer_at_end left held ≡ r
-      → ReadsBehind w bytes true (messages_text w 0 messages)
-  at_the_end left held cut (Ok done) is =
+      → ReadsAfter w bytes true (messages_text w 0 messages)
+  at_the_end left held split (Ok done) is =
       let nothing = nothing_left left held is in
       record {
         outcome = whole_outcome w (messages ++ more) None;
-        reads = complete (messages ++ more) (cut_whole bytes (messages ++ more) left held cut nothing.0 nothing.1)
+        reads = complete (messages ++ more) (split_whole bytes (messages ++ more) left held split nothing.0 nothing.1)
             refl refl;
         rest = messages_text w (length messages) more;
         text_is = longer;
       }
-  at_the_end left held cut (Err fault) is =
+  at_the_end left held split (Err fault) is =
       record {
         outcome = whole_outcome w (messages ++ more) (Some fault);
-        reads = cut_short (messages ++ more) fault (record { left = left; held = held; cut = cut; why = is }) refl refl;
+        reads = ended_early (messages ++ more) fault (record { left = left; held = held; split = split; why = is }) refl
+            refl;
         rest = messages_text w (length messages) more;
         text_is = longer;
       }
 
-  cut_behind : (ended : Bool) (left : Option Begun) (held : List ℕ) → IsCut bytes (messages ++ more) left held
-      → ReadsBehind w bytes ended (messages_text w 0 messages)
-  cut_behind true left held cut = at_the_end left held cut (answer_at_end left held) refl
-  cut_behind false left held cut =
+  split_following : (ended : Bool) (left : Option Begun) (held : List ℕ) → IsSplit bytes (messages ++ more) left held
+      → ReadsAfter w bytes ended (messages_text w 0 messages)
+  split_following true left held split = at_the_end left held split (answer_at_end left held) refl
+  split_following false left held split =
       record {
         outcome = going (messages_text w 0 (messages ++ more));
-        reads = goes_on (messages ++ more) left held cut refl refl;
+        reads = goes_on (messages ++ more) left held split refl refl;
         rest = messages_text w (length messages) more;
         text_is = longer;
       }
 
-pub read_behind : (w : MessageWrites) (bytes : List ℕ) (ended : Bool) (messages : List MessageTree)
-    → IsReadFrom bytes messages → ReadsBehind w bytes ended (messages_text w 0 messages)
-read_behind w bytes ended messages (more, inl cut) = cut_behind w bytes messages more ended cut.0 cut.1 cut.2
-read_behind w bytes ended messages (more, inr stop) =
+pub read_after : (w : MessageWrites) (bytes : List ℕ) (ended : Bool) (messages : List MessageTree)
+    → IsReadFrom bytes messages → ReadsAfter w bytes ended (messages_text w 0 messages)
+read_after w bytes ended messages (more, inl split) = split_following w bytes messages more ended split.0 split.1
+    split.2
+read_after w bytes ended messages (more, inr stop) =
     record {
       outcome = whole_outcome w (messages ++ more) (Some stop.0);
       reads = refused (messages ++ more) stop.0 stop.1 refl;
@@ -81,12 +83,12 @@ read_behind w bytes ended messages (more, inr stop) =
       text_is = longer w bytes messages more;
     }
 
-starved_behind : (w : MessageWrites) (bytes : List ℕ) (ended : Bool) (o : Outcome) (s : IsStarved w bytes o)
-    → ReadsBehind w bytes ended (messages_text w 0 s.messages)
-starved_behind w bytes ended o s =
-    read_behind w bytes ended s.messages
+starved_after : (w : MessageWrites) (bytes : List ℕ) (ended : Bool) (o : Outcome) (s : IsStarved w bytes o)
+    → ReadsAfter w bytes ended (messages_text w 0 s.messages)
+starved_after w bytes ended o s =
+    read_after w bytes ended s.messages
     (subst (λ (b : List ℕ). IsReadFrom b s.messages) (sym s.joined)
-    (reads_more s.more s.front s.messages s.left s.held s.cut))
+    (reads_more s.more s.front s.messages s.left s.held s.split))
 
 -- what went out of a text went out of a longer one
 went_out_longer :
@@ -116,12 +118,12 @@ module _ (w : MessageWrites) (given : List ℕ) (ended : Bool) (old new : Option
       no_line : ◌≡◌ {A = Option (Result Report ToolFault)} (Some (Ok (report_after w messages (Some fault))))
           (Some (Err (CaptureLine line))) → ⊥
       no_line e = cc
-  of_reads o (goes_on messages left held cut on same) (Err (CaptureLine line)) wrote =
+  of_reads o (goes_on messages left held split on same) (Err (CaptureLine line)) wrote =
       no_line (subst (λ (x : Outcome). x.halt ≡ Some (Err (CaptureLine line))) same wrote.0)
     where
       no_line : ◌≡◌ {A = Option (Result Report ToolFault)} None (Some (Err (CaptureLine line))) → ⊥
       no_line e = cc
-  of_reads o (cut_short messages fault is on same) (Err (CaptureLine line)) wrote =
+  of_reads o (ended_early messages fault is on same) (Err (CaptureLine line)) wrote =
       no_line (subst (λ (x : Outcome). x.halt ≡ Some (Err (CaptureLine line))) same wrote.0)
     where
       no_line : ◌≡◌ {A = Option (Result Report ToolFault)} (Some (Ok (report_after w messages (Some fault))))
@@ -158,37 +160,39 @@ module _ (w : MessageWrites) (given : List ℕ) (ended : Bool) (old new : Option
       no : ◌≡◌ {A = Option (Result Report ToolFault)} (Some (Err OutOfMemory)) (Some (Err (CaptureLine line))) → ⊥
       no e = cc
   of_starved o s (Err (Write written)) wrote =
-      let behind = starved_behind w given ended o s in
+      let following = starved_after w given ended o s in
       let text_is : whole o ≡ messages_text w 0 s.messages =
       ap whole s.outcome_is ∙ append-nil (messages_text w 0 s.messages) in
-      let whole_is : whole behind.outcome ≡ messages_text w 0 s.messages ++ (behind.rest ++ behind.outcome.closing) =
-      ap (λ (t : List ℕ). t ++ behind.outcome.closing) behind.text_is
-      ∙ append_assoc (messages_text w 0 s.messages) behind.rest behind.outcome.closing in (
-        behind.outcome,
-        behind.reads,
+      let whole_is : whole following.outcome ≡ messages_text w 0 s.messages ++
+      (following.rest ++ following.outcome.closing) =
+      ap (λ (t : List ℕ). t ++ following.outcome.closing) following.text_is
+      ∙ append_assoc (messages_text w 0 s.messages) following.rest following.outcome.closing in (
+        following.outcome,
+        following.reads,
         wrote.0,
         subst (λ (t : List ℕ). WentOut old new 0 written t wrote.0) (sym whole_is)
             (went_out_longer old new 0 written wrote.0 (messages_text w 0 s.messages)
-            (behind.rest ++ behind.outcome.closing)
+            (following.rest ++ following.outcome.closing)
             (subst (λ (t : List ℕ). WentOut old new 0 written t wrote.0) text_is wrote.1)),
       )
   of_starved o s (Err OutOfMemory) wrote =
-      let behind = starved_behind w given ended o s in
+      let following = starved_after w given ended o s in
       let text_is : o.text ≡ messages_text w 0 s.messages = ap (λ (x : Outcome). x.text) s.outcome_is in
       let few : wrote.1 ≤ length (messages_text w 0 s.messages) =
       subst (λ (t : List ℕ). wrote.1 ≤ length t) text_is wrote.2 in
       let taken : Appends old new (take wrote.1 (messages_text w 0 s.messages)) =
       subst (λ (t : List ℕ). Appends old new (take wrote.1 t)) text_is wrote.3 in (
-        behind.outcome,
-        behind.reads,
+        following.outcome,
+        following.reads,
         wrote.1,
-        rw behind.text_is (omega (arith, few, length-append (messages_text w 0 s.messages) behind.rest)),
-        rw behind.text_is (rw (take-append-le wrote.1 (messages_text w 0 s.messages) behind.rest few) taken),
+        rw following.text_is (omega (arith, few, length-append (messages_text w 0 s.messages) following.rest)),
+        rw following.text_is (rw (take-append-le wrote.1 (messages_text w 0 s.messages) following.rest few) taken),
       )
 
 -- a run whose outcome is that of messages
 pub messages_ran :
-    (w : MessageWrites) (old new : Seen) (result : Result Report ToolFault) → RanOver true (Comes w) old new result
+    (w : MessageWrites) (old new : KnownPorts) (result : Result Report ToolFault) → HasRun true (RunGives w) old new
+    result
     → MessagesRan w old new result
 messages_ran w old new result ran =
     record {
@@ -197,7 +201,7 @@ messages_ran w old new result ran =
       answer = by ran.meant;
     }
   where
-    by : Comes w ran.given new.ended ran.outcome → MessageAnswer w ran.given new.ended result old.taken new.taken
+    by : RunGives w ran.given new.ended ran.outcome → MessageAnswer w ran.given new.ended result old.taken new.taken
     by (inl reads) = of_reads w ran.given new.ended old.taken new.taken ran.outcome reads result ran.wrote
     by (inr starved) = of_starved w ran.given new.ended old.taken new.taken ran.outcome starved result ran.wrote
 
@@ -219,9 +223,9 @@ module _ (w : MessageWrites) (few : (messages : List MessageTree) → w.status m
   reads_few given ended o report (refused messages fault is same) halt =
       subst (λ (r : Report). r.status ≤ 1) (same_report _ report
       (subst (λ (x : Outcome). x.halt ≡ Some (Ok report)) same halt)) (after_few messages (Some fault))
-  reads_few given ended o report (goes_on messages left held cut on same) halt =
+  reads_few given ended o report (goes_on messages left held split on same) halt =
       absurd (no_report report (subst (λ (x : Outcome). x.halt ≡ Some (Ok report)) same halt))
-  reads_few given ended o report (cut_short messages fault is on same) halt =
+  reads_few given ended o report (ended_early messages fault is on same) halt =
       subst (λ (r : Report). r.status ≤ 1) (same_report _ report
       (subst (λ (x : Outcome). x.halt ≡ Some (Ok report)) same halt)) (after_few messages (Some fault))
   reads_few given ended o report (complete messages is on same) halt =
@@ -229,7 +233,7 @@ module _ (w : MessageWrites) (few : (messages : List MessageTree) → w.status m
       (subst (λ (x : Outcome). x.halt ≡ Some (Ok report)) same halt)) (after_few messages None)
 
   pub messages_status :
-      {old new : Seen} (result : Result Report ToolFault) → MessagesRan w old new result
+      {old new : KnownPorts} (result : Result Report ToolFault) → MessagesRan w old new result
       → IfOk result (λ report. report.status ≤ 1)
   messages_status {old} {new} (Ok report) ran =
       reads_few ran.given new.ended ran.answer.0 report ran.answer.1 ran.answer.2

@@ -1,14 +1,14 @@
--- What `check` writes: a line for each message and each of its records, its findings, and what is refused.
+-- What `check` writes: a line for each message and each of its records, its findings, and what is rejected.
 use Rattle.std.specs.Prelude.{ℕ, ◌+◌, nat_lt, List, [], ◌∷◌, ◌++◌, length, codes, decimal, Option, None, Some}
 use Rattle.std.specs.Prelude.{if◌then◌else◌}
 use Rattle.std.specs.List.{flat_map}
-use Rattle.lis_field.specs.declared.kinds.Kind.{Kind}
-use Rattle.lis_field.specs.Kinds.{letter_of}
-use Rattle.lis_field.specs.Shape.{RecordContent}
+use Rattle.lis_record_values.specs.declared.kinds.Kind.{Kind}
+use Rattle.lis_record_values.specs.Kinds.{letter_of}
+use Rattle.lis_record_values.specs.Shape.{RecordContent}
 use Rattle.lis_report.specs.Codes.{refused_line}
 use Rattle.lis_engine.specs.Parts.{joined}
 use Rattle.lis_record_commands.specs.Messages.{MessageWrites}
-use Rattle.lis_field.specs.declared.faults.MessageFault.{MessageFault}
+use Rattle.lis_record_values.specs.declared.faults.MessageFault.{MessageFault}
 use Rattle.lis_tree.specs.declared.numbering.Finding.{Finding}
 use Rattle.lis_tree.specs.Findings.{findings_of}
 use Rattle.lis_tree.specs.Tree.{MessageTree, flatten}
@@ -41,7 +41,7 @@ abbrev pub finding_count : List MessageTree → ℕ
 finding_count [] = 0
 finding_count (m ∷ messages) = length (findings_of m) + finding_count messages
 
--- where a record is refused, it stands in the message behind so many
+-- where a record is rejected, it is in the message after so many
 abbrev pub refused_part : ℕ → Option MessageFault → List ℕ
 refused_part before None = []
 refused_part before (Some fault) = refused_line (before + 1) fault

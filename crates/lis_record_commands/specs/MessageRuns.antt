@@ -8,12 +8,12 @@ use Rattle.lis_report.specs.Answers.{Report}
 use Rattle.lis_engine.specs.Outcome.{whole}
 use Rattle.lis_report.specs.Answers.{Outcome}
 use Rattle.lis_engine.specs.Output.{WentOut}
-use Rattle.lis_engine.specs.Runs.{Seen}
+use Rattle.lis_engine.specs.Runs.{KnownPorts}
 use Rattle.lis_record_commands.specs.Messages.{MessageWrites, HasOutcome}
 
 -- A report is that of the bytes, and all of their text went out, with the closing lines. Where the source failed or
--- was read too often no record is refused, and the text of the whole messages went out. Where the sink failed as much
--- went out as is told, and where memory was refused a part without the closing lines.
+-- was read too often no record is rejected, and the text of the whole messages went out. Where the sink failed as much
+-- went out as is reported, and if memory runs out a part without the closing lines.
 abbrev pub MessageAnswer : MessageWrites → List ℕ → (ended : Bool) → Result Report ToolFault
     → (old new : Option (List ℕ)) → Type 0
 MessageAnswer w given ended (Ok report) old new =
@@ -30,7 +30,7 @@ MessageAnswer w given ended (Err OutOfMemory) old new =
 MessageAnswer w given ended (Err (CaptureLine line)) old new = ⊥
 
 -- all the bytes that were read, and the answer by their messages
-pub record MessagesRan (w : MessageWrites) (old new : Seen) (result : Result Report ToolFault) : Type 0 where
+pub record MessagesRan (w : MessageWrites) (old new : KnownPorts) (result : Result Report ToolFault) : Type 0 where
   pub given : List ℕ
   pub read : Consumes old.left new.left given
   pub answer : MessageAnswer w given new.ended result old.taken new.taken

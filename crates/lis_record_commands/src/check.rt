@@ -9,18 +9,18 @@ ghost use Rattle.lis_record_commands.specs.Messages.{report_after};
 ghost use Rattle.lis_tree.specs.Tree.{MessageTree};
 
 use crate::held_text::HeldText;
-use crate::messages::{Closing, MessageMachine, report_behind, run_messages};
-use lis_engine::{Counts, Page, Part, SourceFor, Tell, ToolFault};
-use lis_field::Kind;
-use lis_message::{LentRecord, MessageFault};
+use crate::messages::{Closing, MessageMachine, report_following, run_messages};
+use lis_engine::{CountsLine, OutputBuffer, Part, Print, SourceFor, ToolFault};
+use lis_message::{BorrowedRecord, MessageFault};
 use lis_port::Sink;
+use lis_record_values::Kind;
 use lis_report::Ended;
 use lis_tree::{Finding, Numbering};
 use std::alloc::{AllocError, Global};
 
 /// Reads record text and writes for each message its number, a line for each of its records and one for each finding on
-/// their sequence numbers; where a record is refused, or the end of the input comes before that of a message, its place
-/// and the reason; and a last line with the sums. The status is 1 where there is a finding or a refusal.
+/// their sequence numbers; where a record is rejected, or the end of the input comes before that of a message, its
+/// place and the reason; and a last line with the sums. The status is 1 where there is a finding or a rejection.
 ///
 /// The source was never read, and neither it nor the sink has failed.
 pub fn run_check<R: SourceFor<W>, W: Sink>(
@@ -29,9 +29,11 @@ pub fn run_check<R: SourceFor<W>, W: Sink>(
     sink: &mut W,
     reads: u32,
 ) -> Ended
-    requires { AreFresh (R.seen source.old sink.old) }
-    ensures ran { MessagesRan check_writes (R.seen source.old sink.old) (R.seen source.new sink.new) result }
-    ensures stops { Stops true true (R.seen source.old sink.old) (R.seen source.new sink.new) reads result }
+    requires { AreFresh (R.known_ports source.old sink.old) }
+    ensures ran { MessagesRan check_writes (R.known_ports source.old sink.old) (R.known_ports source.new sink.new)
+        result }
+    ensures stops { Stops true true (R.known_ports source.old sink.old) (R.known_ports source.new sink.new) reads
+        result }
     ensures status { IfOk result (λ report. report.status ≤ 1) }
 {
     run_messages(alloc, Check::new(alloc), source, sink, reads)
@@ -46,21 +48,21 @@ struct Check {
     /// How many findings wait.
     found: u64,
     /// How many were written.
-    told: u64,
+    findings_reported: u64,
 }
 
 impl Check {
     /// No message was read.
     fn new(alloc: Global) -> Self
         ensures { IsChecking result.records.bytes.items result.findings.bytes.items result.numbering result.found
-            result.told [] None }
+            result.findings_reported [] None }
     {
         Check {
             records: HeldText::new(alloc),
             findings: HeldText::new(alloc),
             numbering: Numbering::new(),
             found: 0,
-            told: 0,
+            findings_reported: 0,
         }
     }
 }
@@ -68,11 +70,11 @@ impl Check {
 impl MessageMachine for Check {
     ghost writes = { check_writes };
 
-    ghost stands = { λ m messages left.
-        IsChecking m.records.bytes.items m.findings.bytes.items m.numbering m.found m.told messages left };
+    ghost represents = { λ m messages left.
+        IsChecking m.records.bytes.items m.findings.bytes.items m.numbering m.found m.findings_reported messages left };
 
     #[inline(always)]
-    fn record(&mut self, entry: &LentRecord<'_>) -> Result<(), AllocError> {
+    fn record(&mut self, entry: &BorrowedRecord<'_>) -> Result<(), AllocError> {
         let place = self.numbering.next_place();
         add_record(&mut self.records, place, entry.kind(), entry.len() as u64)?;
         let Some(finding) = self.numbering.take(entry) else {
@@ -87,15 +89,15 @@ impl MessageMachine for Check {
     fn message<W: Sink>(
         &mut self,
         sink: &mut W,
-        page: &mut Page,
+        outgoing: &mut OutputBuffer,
         written: u64,
         before: u64,
     ) -> Result<u64, ToolFault> {
         let number = before.saturating_add(1);
         let records = Part::Text(self.records.as_slice());
         let findings = Part::Text(self.findings.as_slice());
-        let result = ((FirstLine { number }, records), findings).tell(sink, page, written);
-        self.told = self.told.saturating_add(self.found);
+        let result = ((FirstLine { number }, records), findings).print(sink, outgoing, written);
+        self.findings_reported = self.findings_reported.saturating_add(self.found);
         self.found = 0;
         self.records.clear();
         self.findings.clear();
@@ -104,13 +106,13 @@ impl MessageMachine for Check {
     }
 
     fn closing(&self, before: u64, fault: Option<MessageFault>) -> Closing {
-        let sums = Counts {
+        let sums = CountsLine {
             word: b"messages ",
             count: before,
             other_word: b" findings ",
-            other_count: self.told,
+            other_count: self.findings_reported,
         };
-        let report = report_behind(before, self.told > 0, fault);
+        let report = report_following(before, self.findings_reported > 0, fault);
         Closing {
             report,
             lines: (report.refused, Some(sums)),
@@ -124,13 +126,18 @@ struct FirstLine {
     number: u64,
 }
 
-impl Tell for FirstLine {
+impl Print for FirstLine {
     ghost text = { λ line. message_line line.number };
 
     #[inline(always)]
-    fn tell<W: Sink>(&self, sink: &mut W, page: &mut Page, written: u64) -> Result<u64, ToolFault> {
+    fn print<W: Sink>(
+        &self,
+        sink: &mut W,
+        outgoing: &mut OutputBuffer,
+        written: u64,
+    ) -> Result<u64, ToolFault> {
         let number = (Part::Number(self.number), Part::Text(b"\n"));
-        (Part::Text(b"message "), number).tell(sink, page, written)
+        (Part::Text(b"message "), number).print(sink, outgoing, written)
     }
 }
 

@@ -2,14 +2,14 @@
 
 ghost use Rattle.std.specs.Prelude.{◌≡◌, ◌<◌, ◌≤◌, ◌++◌, ◌∷◌, ◌↔◌, [], IfOk, IsFalse, IsTrue, OnOk, decimal, drop};
 ghost use Rattle.std.specs.Prelude.{length, slice_get, take};
-ghost use Rattle.lis_field.specs.Shape.{field_at};
-ghost use Rattle.lis_record.specs.Lent.{lent};
-ghost use Rattle.lis_spelling.specs.Spelling.{more_fields};
+ghost use Rattle.lis_record_values.specs.Shape.{field_at};
+ghost use Rattle.lis_record.specs.Borrowed.{borrowed};
+ghost use Rattle.lis_record_write.specs.Encoding.{more_fields};
 ghost use Rattle.lis_record_commands.specs.Results.{field_text};
 
 use itoa::Buffer;
-use lis_message::LentRecord;
-use lis_record::LentFields;
+use lis_message::BorrowedRecord;
+use lis_record::BorrowedFields;
 use std::alloc::{AllocError, Global};
 
 /// Text in memory.
@@ -35,7 +35,7 @@ impl HeldText {
         self.bytes.as_slice()
     }
 
-    /// Lets go of the text.
+    /// Releases the text.
     pub(crate) fn clear(&mut self)
         ensures { self.new.bytes.items ≡ [] }
     {
@@ -70,11 +70,11 @@ impl HeldText {
         self.add(buffer.format(number).as_bytes())
     }
 
-    /// Adds a record's field of this number by its spelling; nothing where it is absent.
+    /// Adds a record's field of this number by its encoding; nothing where it is absent.
     #[inline(never)]
     pub(crate) fn add_field(
         &mut self,
-        entry: &LentRecord<'_>,
+        entry: &BorrowedRecord<'_>,
         number: usize,
     ) -> Result<(), AllocError>
         ensures { OnOk result (self.new.bytes.items ≡ self.old.bytes.items
@@ -86,36 +86,36 @@ impl HeldText {
         }
     }
 
-    /// Adds so many of the next fields by their spelling, each behind a field delimiter; false where there are fewer,
+    /// Adds so many of the next fields by their encoding, each after a field delimiter; false where there are fewer,
     /// and then nothing is added or taken. At least one is asked for.
     #[inline(always)]
     pub(crate) fn add_fields(
         &mut self,
-        fields: &mut LentFields<'_>,
+        fields: &mut BorrowedFields<'_>,
         count: usize,
     ) -> Result<bool, AllocError>
         requires { 0 < count }
         ensures enough { IfOk result (λ added. IsTrue added ↔ (count ≤ length fields.old.content)) }
         ensures added { IfOk result (λ added. IsTrue added → (self.new.bytes.items ≡ self.old.bytes.items
             ++ more_fields fields.old.delimiters (take count fields.old.content))
-            × (fields.new ≡ lent fields.old.delimiters (drop count fields.old.content))) }
+            × (fields.new ≡ borrowed fields.old.delimiters (drop count fields.old.content))) }
         ensures left { IfOk result (λ added. IsFalse added → (self.new.bytes.items ≡ self.old.bytes.items)
             × (fields.new ≡ fields.old)) }
     {
         fields.add_next(count, &mut self.bytes)
     }
 
-    /// Adds a mark and the next of these fields by its spelling; the mark alone where none is left.
+    /// Adds a mark and the next of these fields by its encoding; the mark alone where none is left.
     #[inline(always)]
     pub(crate) fn add_next(
         &mut self,
         mark: u8,
-        fields: &mut LentFields<'_>,
+        fields: &mut BorrowedFields<'_>,
     ) -> Result<(), AllocError>
         requires { mark ≡ fields.old.delimiters.field }
         ensures added { OnOk result (self.new.bytes.items ≡ self.old.bytes.items
             ++ mark ∷ field_text fields.old.delimiters (slice_get fields.old.content 0)) }
-        ensures left { OnOk result (fields.new ≡ lent fields.old.delimiters (drop 1 fields.old.content)) }
+        ensures left { OnOk result (fields.new ≡ borrowed fields.old.delimiters (drop 1 fields.old.content)) }
     {
         if self.add_fields(fields, 1)? {
             return Ok(());

@@ -1,27 +1,27 @@
 //! The command `results`: the result records of messages, with the samples that their orders name (LIS02-A2).
 
 ghost use Rattle.std.specs.Prelude.{◌≡◌, ◌^◌, ◌<◌, ◌≤◌, ◌++◌, ◌∷◌, List, Option, None, OnOk, true, length, IfOk};
-ghost use Rattle.lis_field.specs.declared.kinds.Kind.TheVariants as kinds;
-ghost use Rattle.lis_field.specs.Shape.{Repeats};
+ghost use Rattle.lis_record_values.specs.declared.kinds.Kind.TheVariants as kinds;
+ghost use Rattle.lis_record_values.specs.Shape.{Repeats};
 ghost use Rattle.lis_engine.specs.Runs.{AreFresh, Stops};
 ghost use Rattle.lis_record_commands.specs.MessageRuns.{MessagesRan};
 ghost use Rattle.lis_record_commands.specs.Messages.{report_after};
-ghost use Rattle.lis_record_commands.specs.Results.{field_text, fields_behind, result_line, results_writes};
-ghost use Rattle.lis_record_commands.specs.Results.{told_fields};
-ghost use Rattle.lis_record_commands.specs.inside.Results.{IsTelling};
+ghost use Rattle.lis_record_commands.specs.Results.{field_text, fields_following, result_line, results_writes};
+ghost use Rattle.lis_record_commands.specs.Results.{printed_fields};
+ghost use Rattle.lis_record_commands.specs.inside.Results.{HoldsResults};
 ghost use Rattle.lis_tree.specs.Tree.{MessageTree};
 
 use crate::held_text::HeldText;
-use crate::messages::{Closing, MessageMachine, report_behind, run_messages};
-use lis_engine::{Page, Part, SourceFor, Tell, ToolFault};
-use lis_field::Kind;
-use lis_message::{LentRecord, MessageFault};
+use crate::messages::{Closing, MessageMachine, report_following, run_messages};
+use lis_engine::{OutputBuffer, Part, Print, SourceFor, ToolFault};
+use lis_message::{BorrowedRecord, MessageFault};
 use lis_port::Sink;
+use lis_record_values::Kind;
 use lis_report::Ended;
 use std::alloc::{AllocError, Global};
 
 /// Reads record text and writes a line for each result record: field 3 of its order, and its own fields 3 to 7 and 9,
-/// each by its spelling. The status is 1 where a record is refused, or the end of the input comes before that of a
+/// each by its encoding. The status is 1 where a record is rejected, or the end of the input comes before that of a
 /// message; the lines of the whole messages before it are written.
 ///
 /// The source was never read, and neither it nor the sink has failed.
@@ -31,9 +31,11 @@ pub fn run_results<R: SourceFor<W>, W: Sink>(
     sink: &mut W,
     reads: u32,
 ) -> Ended
-    requires { AreFresh (R.seen source.old sink.old) }
-    ensures ran { MessagesRan results_writes (R.seen source.old sink.old) (R.seen source.new sink.new) result }
-    ensures stops { Stops true true (R.seen source.old sink.old) (R.seen source.new sink.new) reads result }
+    requires { AreFresh (R.known_ports source.old sink.old) }
+    ensures ran { MessagesRan results_writes (R.known_ports source.old sink.old) (R.known_ports source.new sink.new)
+        result }
+    ensures stops { Stops true true (R.known_ports source.old sink.old) (R.known_ports source.new sink.new) reads
+        result }
     ensures status { IfOk result (λ report. report.status ≤ 1) }
 {
     run_messages(alloc, Results::new(alloc), source, sink, reads)
@@ -49,7 +51,7 @@ struct Results {
 impl Results {
     /// No message was read.
     fn new(alloc: Global) -> Self
-        ensures { IsTelling result.lines.bytes.items result.sample.bytes.items None }
+        ensures { HoldsResults result.lines.bytes.items result.sample.bytes.items None }
     {
         Results {
             lines: HeldText::new(alloc),
@@ -61,10 +63,10 @@ impl Results {
 impl MessageMachine for Results {
     ghost writes = { results_writes };
 
-    ghost stands = { λ m messages left. IsTelling m.lines.bytes.items m.sample.bytes.items left };
+    ghost represents = { λ m messages left. HoldsResults m.lines.bytes.items m.sample.bytes.items left };
 
     #[inline(always)]
-    fn record(&mut self, entry: &LentRecord<'_>) -> Result<(), AllocError> {
+    fn record(&mut self, entry: &BorrowedRecord<'_>) -> Result<(), AllocError> {
         match entry.kind() {
             Kind::O => {
                 self.sample.clear();
@@ -79,11 +81,11 @@ impl MessageMachine for Results {
     fn message<W: Sink>(
         &mut self,
         sink: &mut W,
-        page: &mut Page,
+        outgoing: &mut OutputBuffer,
         written: u64,
         _before: u64,
     ) -> Result<u64, ToolFault> {
-        let result = Part::Text(self.lines.as_slice()).tell(sink, page, written);
+        let result = Part::Text(self.lines.as_slice()).print(sink, outgoing, written);
         self.lines.clear();
         self.sample.clear();
         result
@@ -91,7 +93,7 @@ impl MessageMachine for Results {
 
     fn closing(&self, before: u64, fault: Option<MessageFault>) -> Closing {
         Closing {
-            report: report_behind(before, false, fault),
+            report: report_following(before, false, fault),
             lines: (None, None),
         }
     }
@@ -99,22 +101,26 @@ impl MessageMachine for Results {
 
 /// Adds the line of a result under this sample.
 #[inline(always)]
-fn add_result(lines: &mut HeldText, sample: &[u8], entry: &LentRecord<'_>) -> Result<(), AllocError>
+fn add_result(
+    lines: &mut HeldText,
+    sample: &[u8],
+    entry: &BorrowedRecord<'_>,
+) -> Result<(), AllocError>
     requires { entry.now.content.kind ≡ kinds.R }
     ensures { OnOk result ((named : Option Repeats) → sample.now ≡ field_text entry.now.delimiters named →
         lines.new.bytes.items ≡ lines.old.bytes.items ++ result_line entry.now.delimiters named entry.now.content) }
 {
     lines.add(sample)?;
-    add_told(lines, entry)?;
+    add_printed(lines, entry)?;
     lines.add_byte(b'\n')
 }
 
-/// Adds the fields of a result that are told, each behind a field delimiter.
+/// Adds the fields of a result that are reported, each after a field delimiter.
 #[inline(always)]
-fn add_told(lines: &mut HeldText, entry: &LentRecord<'_>) -> Result<(), AllocError>
+fn add_printed(lines: &mut HeldText, entry: &BorrowedRecord<'_>) -> Result<(), AllocError>
     requires { entry.now.content.kind ≡ kinds.R }
     ensures { OnOk result (lines.new.bytes.items ≡ lines.old.bytes.items
-        ++ fields_behind entry.now.delimiters entry.now.content told_fields) }
+        ++ fields_following entry.now.delimiters entry.now.content printed_fields) }
 {
     let mut fields = entry.fields();
     let _number = fields.next();
@@ -127,10 +133,10 @@ fn add_told(lines: &mut HeldText, entry: &LentRecord<'_>) -> Result<(), AllocErr
 
 /// The same, of fields of which some may be absent: one by one.
 #[inline(never)]
-fn add_each(lines: &mut HeldText, entry: &LentRecord<'_>) -> Result<(), AllocError>
+fn add_each(lines: &mut HeldText, entry: &BorrowedRecord<'_>) -> Result<(), AllocError>
     requires { entry.now.content.kind ≡ kinds.R }
     ensures { OnOk result (lines.new.bytes.items ≡ lines.old.bytes.items
-        ++ fields_behind entry.now.delimiters entry.now.content told_fields) }
+        ++ fields_following entry.now.delimiters entry.now.content printed_fields) }
 {
     let mark = entry.delimiters().field();
     let mut fields = entry.fields();

@@ -1,11 +1,11 @@
--- The codes of the reasons for which a record is refused, as they are printed, and the line of a refusal.
+-- The codes of the reasons for which a record is rejected, as they are printed, and the line of a rejection.
 use Rattle.std.specs.Prelude.{ℕ, List, [], ◌∷◌, codes, decimal}
-use Rattle.lis_field.specs.declared.faults.RecordFault.{RecordFault}
-use Rattle.lis_field.specs.declared.faults.RecordFault.TheVariants as record_faults
+use Rattle.lis_record_values.specs.declared.faults.RecordFault.{RecordFault}
+use Rattle.lis_record_values.specs.declared.faults.RecordFault.TheVariants as record_faults
 use Rattle.lis_engine.specs.Parts.{joined}
-use Rattle.lis_field.specs.declared.faults.MessageFault.{MessageFault}
-use Rattle.lis_field.specs.declared.faults.Reason.{Reason}
-use Rattle.lis_field.specs.declared.faults.Reason.TheVariants as reasons
+use Rattle.lis_record_values.specs.declared.faults.MessageFault.{MessageFault}
+use Rattle.lis_record_values.specs.declared.faults.Reason.{Reason}
+use Rattle.lis_record_values.specs.declared.faults.Reason.TheVariants as reasons
 
 -- a text that is no record
 abbrev pub printed_record_fault : RecordFault → List ℕ

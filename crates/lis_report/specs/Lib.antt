@@ -1,4 +1,4 @@
--- How a command of the program ends, and how a refused record is told.
+-- How a command of the program ends, and how a rejected record is reported.
 pub mod Answers
 pub mod Codes
 pub mod inside

@@ -1,4 +1,4 @@
-//! How a command of the program ends: its report, and the record that it refused.
+//! How a command of the program ends: its report, and the record that it rejected.
 #![tactic(auto)]
 
 mod refused;

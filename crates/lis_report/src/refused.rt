@@ -1,14 +1,14 @@
-//! A record that a command refused, and how it is told.
+//! A record that a command rejected, and how it is reported.
 
 ghost use Rattle.std.specs.Prelude.{◌≡◌};
 ghost use Rattle.lis_report.specs.Codes.{printed_reason, refused_line};
 
-use lis_engine::{Page, Part, Tell, ToolFault};
-use lis_field::{MessageFault, Reason, RecordFault};
+use lis_engine::{OutputBuffer, Part, Print, ToolFault};
 use lis_port::Sink;
+use lis_record_values::{MessageFault, Reason, RecordFault};
 use std::fmt;
 
-/// A record that was refused, or an end of the input that came before the end of a message.
+/// A record that was rejected, or an end of the input that came before the end of a message.
 #[derive(Debug, Clone, Copy, PartialEq, Eq)]
 pub struct Refused {
     /// The number of its message, counted from 1: one more than the whole messages before it.
@@ -17,7 +17,7 @@ pub struct Refused {
     pub fault: MessageFault,
 }
 
-/// How a command's run ended that read its input to the end, or to a record that is refused.
+/// How a command's run ended that read its input to the end, or to a record that is rejected.
 pub type Report = lis_engine::Report<Refused>;
 
 /// How a command's run ended: with its report, or by a fault.
@@ -39,11 +39,16 @@ impl fmt::Display for Refused {
     }
 }
 
-/// The line of a refusal.
-impl Tell for Refused {
+/// The line of a rejection.
+impl Print for Refused {
     ghost text = { λ it. refused_line it.message it.fault };
 
-    fn tell<W: Sink>(&self, sink: &mut W, page: &mut Page, written: u64) -> Result<u64, ToolFault> {
+    fn print<W: Sink>(
+        &self,
+        sink: &mut W,
+        outgoing: &mut OutputBuffer,
+        written: u64,
+    ) -> Result<u64, ToolFault> {
         let parts = [
             Part::Text(b"refused "),
             Part::Number(self.message),
@@ -53,7 +58,7 @@ impl Tell for Refused {
             Part::Text(printed_reason(self.fault.reason).as_bytes()),
             Part::Text(b"\n"),
         ];
-        parts.as_slice().tell(sink, page, written)
+        parts.as_slice().print(sink, outgoing, written)
     }
 }
 

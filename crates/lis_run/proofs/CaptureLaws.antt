@@ -1,4 +1,4 @@
--- A run over a capture, told by its lines.
+-- A run over a capture, reported by its lines.
 use Rattle.std.proofs.Common.{◌≡◌, ℕ, ◌+◌, Bool, true, false, List, [], Option, None, Some, Ok, Err, length, refl}
 use Rattle.std.proofs.Common.{◌∙◌, ap, subst, IfOk}
 use Rattle.std.specs.declared.result.Result.{Result}
@@ -12,10 +12,10 @@ use Rattle.lis_report.specs.Answers.{Report}
 use Rattle.lis_run.specs.CaptureRuns.{CaptureRan, LineAnswer}
 use Rattle.lis_run.specs.LineOutcome.{Writes, capture_outcome, lines_outcome, lines_text}
 use Rattle.lis_report.specs.Answers.{Outcome}
-use Rattle.lis_engine.specs.Runs.{RanOver, Seen, WroteOutcome}
+use Rattle.lis_engine.specs.Runs.{HasRun, KnownPorts, WroteOutcome}
 
 module _ (memory : Bool) (w : Writes) (old new : Option (List ℕ)) where
-  -- a run that lines do not halt has none refused, and their text went out
+  -- a run that lines do not halt has none rejected, and their text went out
   read_on : (refused ended : Bool) (lines : List Line)
       → ((lines_outcome w refused ended lines).halt ≡ None)
       × Appends old new (lines_outcome w refused ended lines).text
@@ -70,7 +70,7 @@ pub capture_ran :
     (memory : Bool) (w : Writes) (means : List ℕ → Bool → Outcome → Type 0)
     → ((bytes : List ℕ) (ended : Bool) (o : Outcome) → means bytes ended o
     → o ≡ capture_outcome w (stream_with [] bytes) ended)
-    → (old new : Seen) (result : Result Report ToolFault) → RanOver memory means old new result
+    → (old new : KnownPorts) (result : Result Report ToolFault) → HasRun memory means old new result
     → CaptureRan memory w old new result
 capture_ran memory w means is old new result ran =
     let read = capture (stream_with [] ran.given) new.ended in
@@ -83,9 +83,9 @@ capture_ran memory w means is old new result ran =
           (is ran.given new.ended ran.outcome ran.meant) ran.wrote);
     }
 
--- the status of a command that never tells of anything to look at
+-- the status of a command that never says about anything to look at
 pub report_status :
-    {memory : Bool} (w : Writes) {old new : Seen} (result : Result Report ToolFault)
+    {memory : Bool} (w : Writes) {old new : KnownPorts} (result : Result Report ToolFault)
     → ((lines : List Line) → (w.report lines).status ≡ 0)
     → CaptureRan memory w old new result → IfOk result (λ report. report.status ≡ 0)
 report_status w {old} {new} (Ok report) clean ran =

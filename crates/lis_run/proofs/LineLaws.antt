@@ -8,10 +8,10 @@ use Rattle.std.specs.declared.result.Result.{Result}
 use Rattle.lis_text.specs.Control.{LF}
 use Rattle.lis_frame.specs.Stream.{stream_with}
 use Rattle.lis_capture.specs.declared.line.Line.{Line}
-use Rattle.lis_capture.specs.declared.reader.Found.{Found}
-use Rattle.lis_capture.specs.declared.reader.Found.TheVariants as found
+use Rattle.lis_capture.specs.declared.reader.LineFound.{LineFound}
+use Rattle.lis_capture.specs.declared.reader.LineFound.TheVariants as found
 use Rattle.lis_capture.specs.Line.{longest_line, line_of}
-use Rattle.lis_capture.specs.Capture.{Lines, begun, capture, counts, ended_lines, lines_of, next_by, read_lines}
+use Rattle.lis_capture.specs.Capture.{Lines, begun, capture, counts, ended_lines, lines_of, lines_with_next, read_lines}
 use Rattle.lis_capture.specs.Capture.{version_of, with_said}
 use Rattle.lis_capture.specs.Reader.{HasRead, Known, Reading, found_lines, known_of}
 use Rattle.lis_capture.specs.inside.Reader.{is_long}
@@ -24,8 +24,8 @@ use Rattle.lis_engine.specs.declared.machine.Turn.TheVariants.{Off}
 use Rattle.lis_run.specs.LineOutcome.{IsLined, Writes, capture_outcome, lines_outcome, lines_text}
 use Rattle.lis_engine.specs.Steps.{LineEnds, LineSteps, Ends, Fails, Halts, Puts}
 use Rattle.lis_engine.specs.Outcome.{whole}
-use Rattle.lis_engine.specs.Output.{Gathered, Out, most_counted}
-use Rattle.lis_engine.proofs.GatherLaws.{gathered_nothing, gathered_then}
+use Rattle.lis_engine.specs.Output.{IsBuffered, Out, most_counted}
+use Rattle.lis_engine.proofs.BufferLaws.{buffered_nothing, buffered_then}
 use Rattle.lis_run.proofs.ShowLaws.{front_stream}
 use Rattle.lis_link.proofs.HearingLaws.{stream_with-append}
 
@@ -42,7 +42,7 @@ ended-few (b ∷ past) = by_end (b == LF) b past (ended-few past)
     by_end true b past few = omega (arith, few)
     by_end false b past few = omega (arith, few, length-append (begun past) (b ∷ []))
 
--- one for a refused line
+-- one for a rejected line
 abbrev one_refused : Bool → ℕ
 one_refused true = 1
 one_refused false = 0
@@ -63,7 +63,8 @@ read-few (text ∷ texts) =
 
     next :
         (refused : Bool) (lines : List Line) (text : List ℕ) (n : ℕ) → length lines + one_refused refused ≤ n
-        → length (next_by refused lines text).lines + one_refused (next_by refused lines text).refused ≤ n + 1
+        → length (lines_with_next refused lines text).lines + one_refused (lines_with_next refused lines text).refused ≤
+        n + 1
     next true lines text n few = omega (arith, few)
     next false lines text n few = said lines (line_of (version_of lines) text) n (omega (arith, few))
 
@@ -166,60 +167,61 @@ text_is-lines w false false lines = refl
 
 -- ---- while bytes are read
 
--- bytes were read up to the rest, and no line of them is refused; their text is out
+-- bytes were read up to the rest, and no line of them is rejected; their text is out
 pub record IsAt
-    (w : Writes) (stands : List Line → Type 0) (reader : Reading) (old here : Out) (before after : ℕ)
+    (w : Writes) (represents : List Line → Type 0) (reader : Reading) (old here : Out) (before after : ℕ)
     (past text rest bytes : List ℕ) : Type 0 where
   pub read : List ℕ
   pub has_read : HasRead reader read
   pub fine : (capture read false).refused ≡ false
-  pub stood : stands (capture read false).lines
+  pub represented : represents (capture read false).lines
   pub joined : stream_with read rest ≡ stream_with [] (past ++ bytes)
   pub few : length read + length rest < 2 ^ 44
   pub more : List ℕ
-  pub put : Gathered old here before (Ok after) more
+  pub put : IsBuffered old here before (Ok after) more
   pub text_is : text ++ more ≡ lines_text w (capture read false).lines
 
 pub at_start :
-    (w : Writes) (stands : List Line → Type 0) (reader : Reading) (old : Out) (before : ℕ) (past text bytes : List ℕ)
-    → before ≤ most_counted → IsLined w stands reader past text → length past + length bytes < 2 ^ 44
-    → IsAt w stands reader old old before before past text bytes bytes
-at_start w stands reader old before past text bytes fits lined few =
+    (w : Writes) (represents : List Line → Type 0) (reader : Reading) (old : Out) (before : ℕ)
+    (past text bytes : List ℕ)
+    → before ≤ most_counted → IsLined w represents reader past text → length past + length bytes < 2 ^ 44
+    → IsAt w represents reader old old before before past text bytes bytes
+at_start w represents reader old before past text bytes fits lined few =
     record {
       read = stream_with [] past;
       has_read = lined.has_read;
       fine = lined.fine;
-      stood = lined.stood;
+      represented = lined.represented;
       joined = sym (stream_with-append past bytes []);
       few = omega (arith, few, stream-length [] past);
       more = [];
-      put = gathered_nothing old before fits;
+      put = buffered_nothing old before fits;
       text_is = append-nil text ∙ lined.text_is;
     }
 
 -- all was read
 pub at_end_of :
-    (w : Writes) (stands : List Line → Type 0) (reader : Reading) (old here : Out) (before after : ℕ)
+    (w : Writes) (represents : List Line → Type 0) (reader : Reading) (old here : Out) (before after : ℕ)
     (past text rest bytes : List ℕ)
-    → IsAt w stands reader old here before after past text rest bytes → length rest ≡ 0
-    → Puts (IsLined w stands reader (past ++ bytes)) old here before after text
-at_end_of w stands reader old here before after past text [] bytes at none =
+    → IsAt w represents reader old here before after past text rest bytes → length rest ≡ 0
+    → Puts (IsLined w represents reader (past ++ bytes)) old here before after text
+at_end_of w represents reader old here before after past text [] bytes at none =
     record {
       more = at.more;
       put = at.put;
-      behind = record {
+      following = record {
         has_read = subst (HasRead reader) at.joined at.has_read;
         fine = subst (λ (s : List ℕ). (capture s false).refused ≡ false) at.joined at.fine;
-        stood = subst (λ (s : List ℕ). stands (capture s false).lines) at.joined at.stood;
+        represented = subst (λ (s : List ℕ). represents (capture s false).lines) at.joined at.represented;
         text_is = at.text_is ∙ ap (λ (s : List ℕ). lines_text w (capture s false).lines) at.joined;
       };
     }
-at_end_of w stands reader old here before after past text (b ∷ rest) bytes at none = cc
+at_end_of w represents reader old here before after past text (b ∷ rest) bytes at none = cc
 
 module _
-    {w : Writes} {stands : List Line → Type 0} {reader next : Reading} {old here : Out} {before after : ℕ}
-    {past text rest bytes : List ℕ} (at : IsAt w stands reader old here before after past text rest bytes)
-    (count : ℕ) (result : Found)
+    {w : Writes} {represents : List Line → Type 0} {reader next : Reading} {old here : Out} {before after : ℕ}
+    {past text rest bytes : List ℕ} (at : IsAt w represents reader old here before after past text rest bytes)
+    (count : ℕ) (result : LineFound)
     (reads : (read : List ℕ) → HasRead reader read → HasRead next (stream_with read (take count rest)))
     (finds : (read : List ℕ) → HasRead reader read → capture (stream_with read (take count rest)) false
     ≡ found_lines (capture read false) result next.known.line) where
@@ -260,30 +262,30 @@ module _
 
   -- nothing was found: all was read
   pub nothing_found :
-      result ≡ found.Nothing → count ≡ length rest → Puts (IsLined w stands next (past ++ bytes)) old here before
+      result ≡ found.Nothing → count ≡ length rest → Puts (IsLined w represents next (past ++ bytes)) old here before
       after text
   nothing_found nothing all =
       let same : capture (stream_with at.read (take count rest)) false ≡ capture at.read false =
-      found_is ∙ ap (λ (f : Found). found_lines (capture at.read false) f next.known.line) nothing in
+      found_is ∙ ap (λ (f : LineFound). found_lines (capture at.read false) f next.known.line) nothing in
       let whole_is : stream_with at.read (take count rest) ≡ stream_with [] (past ++ bytes) =
       ap (stream_with at.read) (take_all count rest (omega (arith, all))) ∙ at.joined in
       record {
         more = at.more;
         put = at.put;
-        behind = record {
+        following = record {
           has_read = subst (HasRead next) whole_is has_read;
           fine = subst (λ (s : List ℕ). (capture s false).refused ≡ false) whole_is
               (ap (λ (r : Lines). r.refused) same ∙ at.fine);
-          stood =
-              subst (λ (s : List ℕ). stands (capture s false).lines) whole_is
-              (subst (λ (r : Lines). stands r.lines) (sym same) at.stood);
+          represented =
+              subst (λ (s : List ℕ). represents (capture s false).lines) whole_is
+              (subst (λ (r : Lines). represents r.lines) (sym same) at.represented);
           text_is =
               at.text_is ∙ ap (λ (r : Lines). lines_text w r.lines) (sym same)
               ∙ ap (λ (s : List ℕ). lines_text w (capture s false).lines) whole_is;
         };
       }
 
-  -- a line was refused
+  -- a line was rejected
   pub refused_found :
       (memory : Bool) (halt : Halt) → result ≡ found.Refused → halt.written ≡ after
       → halt.result ≡ Err (CaptureLine next.known.number)
@@ -293,7 +295,7 @@ module _
   refused_found memory halt refused written_is result_is =
       let lines = (capture at.read false).lines in
       let here_is : capture (stream_with at.read (take count rest)) false ≡ record { lines = lines; refused = true } =
-      found_is ∙ ap (λ (f : Found). found_lines (capture at.read false) f next.known.line) refused in
+      found_is ∙ ap (λ (f : LineFound). found_lines (capture at.read false) f next.known.line) refused in
       let all : capture (stream_with [] (past ++ bytes)) false ≡ record { lines = lines; refused = true } =
       ap (λ (s : List ℕ). capture s false) (sym all_is)
       ∙ capture-refused (stream_with at.read (take count rest)) (drop count rest) false
@@ -315,8 +317,8 @@ module _
       result_is ∙ ap (λ (n : ℕ). let r : Result Report ToolFault = Err (CaptureLine n) in r) number in
       record {
         more = at.more;
-        put = subst (λ (n : ℕ). Gathered old here before (Ok n) at.more) (sym written_is) at.put;
-        behind =
+        put = subst (λ (n : ℕ). IsBuffered old here before (Ok n) at.more) (sym written_is) at.put;
+        following =
             subst
             (λ (r : Result Report ToolFault).
             Halts memory (λ o. o ≡ capture_outcome w (stream_with [] (past ++ bytes)) false) (text ++ at.more) r
@@ -334,7 +336,7 @@ module _
   module _ (line_found : result ≡ found.Line) where
     said_there : capture (stream_with at.read (take count rest)) false
         ≡ record { lines = next.known.line ∷ (capture at.read false).lines; refused = false }
-    said_there = found_is ∙ ap (λ (f : Found). found_lines (capture at.read false) f next.known.line) line_found
+    said_there = found_is ∙ ap (λ (f : LineFound). found_lines (capture at.read false) f next.known.line) line_found
 
     line_number : (next.known.number ≡ length (capture at.read false).lines + 1) × (next.known.number < 2 ^ 44)
     line_number =
@@ -353,35 +355,35 @@ module _
 
     -- what is known of a line by its number
     pub by_number :
-        {P : List Line → Type 0} → ((lines : List Line) → stands lines → next.known.number ≡ length lines + 1
+        {P : List Line → Type 0} → ((lines : List Line) → represents lines → next.known.number ≡ length lines + 1
         → next.known.number < 2 ^ 44 → P lines)
         → P (capture at.read false).lines
-    by_number known = known (capture at.read false).lines at.stood line_number.0 line_number.1
+    by_number known = known (capture at.read false).lines at.represented line_number.0 line_number.1
 
     module _ {c : Out} where
       -- the line was taken
       pub line_taken :
-          {now : List Line → Type 0} {last : ℕ} → Gathered here c after (Ok last)
+          {now : List Line → Type 0} {last : ℕ} → IsBuffered here c after (Ok last)
           (w.line (capture at.read false).lines next.known.line)
           → now (next.known.line ∷ (capture at.read false).lines)
           → IsAt w now next old c before last past text (drop count rest) bytes
-      line_taken {now} {last} put stood =
+      line_taken {now} {last} put represented =
           record {
             read = stream_with at.read (take count rest);
             has_read = has_read;
             fine = ap (λ (r : Lines). r.refused) said_there;
-            stood = subst (λ (r : Lines). now r.lines) (sym said_there) stood;
+            represented = subst (λ (r : Lines). now r.lines) (sym said_there) represented;
             joined = all_is;
             few = few_there;
             more = at.more ++ w.line (capture at.read false).lines next.known.line;
-            put = gathered_then old here c before after (Ok last) at.more _ at.put put;
+            put = buffered_then old here c before after (Ok last) at.more _ at.put put;
             text_is =
                 sym (append_assoc text at.more (w.line (capture at.read false).lines next.known.line))
                 ∙ ap (λ (t : List ℕ). t ++ w.line (capture at.read false).lines next.known.line) at.text_is
                 ∙ ap (λ (r : Lines). lines_text w r.lines) (sym said_there);
           }
 
-      -- memory was refused in the line
+      -- memory ran out in the line
       pub line_starved :
           {memory : Bool} (halt : Halt)
           → LineSteps memory ⊤ here c after (w.line (capture at.read false).lines next.known.line) (Ok (Off halt))
@@ -393,8 +395,8 @@ module _
           let r = capture (stream_with [] (past ++ bytes)) false in
           record {
             more = at.more ++ more;
-            put = gathered_then old here c before after (Ok halt.written) at.more more at.put put;
-            behind =
+            put = buffered_then old here c before after (Ok halt.written) at.more more at.put put;
+            following =
                 subst
                 (λ (r : Result Report ToolFault).
                 Halts memory (λ o. o ≡ capture_outcome w (stream_with [] (past ++ bytes)) false)
@@ -418,7 +420,8 @@ module _
 
       -- the sink failed in the line
       pub line_failed :
-          (fault : ToolFault) → Gathered here c after (Err fault) (w.line (capture at.read false).lines next.known.line)
+          (fault : ToolFault) → IsBuffered here c after (Err fault)
+          (w.line (capture at.read false).lines next.known.line)
           → Fails (λ o. o ≡ capture_outcome w (stream_with [] (past ++ bytes)) false) old c before text fault
       line_failed fault put =
           let tail = begins (next.known.line ∷ (capture at.read false).lines) said_there in
@@ -433,7 +436,7 @@ module _
                 unclosed w r.refused r.lines ∙ tail.1
                 ∙ ap (λ (t : List ℕ). t ++ text_of_line ++ tail.0) (sym at.text_is)
                 ∙ regroup text at.more text_of_line tail.0;
-            put = gathered_then old here c before after (Err fault) at.more text_of_line at.put put;
+            put = buffered_then old here c before after (Err fault) at.more text_of_line at.put put;
           }
         where
           regroup : (a b c d : List ℕ) → (a ++ b) ++ c ++ d ≡ a ++ (b ++ c) ++ d
@@ -442,8 +445,8 @@ module _
 -- ---- at the end of the input
 
 module _
-    {w : Writes} {stands : List Line → Type 0} {reader : Reading} {past text : List ℕ}
-    (lined : IsLined w stands reader past text) (few : length past < 2 ^ 44) (next : Reading) (result : Found)
+    {w : Writes} {represents : List Line → Type 0} {reader : Reading} {past text : List ℕ}
+    (lined : IsLined w represents reader past text) (few : length past < 2 ^ 44) (next : Reading) (result : LineFound)
     (knows : (read : List ℕ) → HasRead reader read → next.known ≡ known_of (capture read true))
     (finds : (read : List ℕ) → HasRead reader read
     → capture read true ≡ found_lines (capture read false) result next.known.line) where
@@ -465,20 +468,20 @@ module _
       → capture_outcome w (stream_with [] past) true ≡ lines_outcome w read.refused true read.lines
   outcome_here read is = ap (λ (r : Lines). lines_outcome w r.refused true r.lines) is
 
-  -- the closing lines behind lines whose text is out
-  closes_behind :
+  -- the closing lines after lines whose text is out
+  closes_after :
       (memory : Bool) (lines : List Line) → capture (stream_with [] past) true
       ≡ record { lines = lines; refused = false }
-      → (old here c : Out) (before after : ℕ) (more : List ℕ) → Gathered old here before (Ok after) more
+      → (old here c : Out) (before after : ℕ) (more : List ℕ) → IsBuffered old here before (Ok after) more
       → text ++ more ≡ lines_text w lines
       → (ended : Result Halt ToolFault) → LineEnds (w.report lines) here c after (w.last lines) ended
       → Ends memory (λ o. o ≡ capture_outcome w (stream_with [] past) true) old c before text ended
-  closes_behind memory lines is old here c before after more put text_is (Ok halt) ends =
+  closes_after memory lines is old here c before after more put text_is (Ok halt) ends =
       let outcome_is = outcome_here (record { lines = lines; refused = false }) is in
       record {
         more = more ++ w.last lines;
-        put = gathered_then old here c before after (Ok halt.written) more (w.last lines) put ends.1;
-        behind =
+        put = buffered_then old here c before after (Ok halt.written) more (w.last lines) put ends.1;
+        following =
             subst (λ (r : Result Report ToolFault). Halts memory
             (λ o. o ≡ capture_outcome w (stream_with [] past) true) (text ++ (more ++ w.last lines)) r)
             (sym ends.0) (
@@ -489,7 +492,7 @@ module _
                   ∙ append_assoc text more (w.last lines),
             );
       }
-  closes_behind memory lines is old here c before after more put text_is (Err fault) ends =
+  closes_after memory lines is old here c before after more put text_is (Err fault) ends =
       let outcome_is = outcome_here (record { lines = lines; refused = false }) is in
       record {
         outcome = capture_outcome w (stream_with [] past) true;
@@ -500,25 +503,25 @@ module _
             ap whole outcome_is ∙ ap (λ (t : List ℕ). t ++ w.last lines) (sym text_is)
             ∙ append_assoc text more (w.last lines)
             ∙ sym (append-nil (text ++ (more ++ w.last lines)));
-        put = gathered_then old here c before after (Err fault) more (w.last lines) put ends;
+        put = buffered_then old here c before after (Err fault) more (w.last lines) put ends;
       }
 
   -- no line was begun
   pub nothing_ended :
       (memory : Bool) (old c : Out) (before : ℕ) (ended : Result Halt ToolFault) → result ≡ found.Nothing
       → before ≤ most_counted
-      → ((lines : List Line) → stands lines → length lines < 2 ^ 44
+      → ((lines : List Line) → represents lines → length lines < 2 ^ 44
       → LineEnds (w.report lines) old c before (w.last lines) ended)
       → Ends memory (λ o. o ≡ capture_outcome w (stream_with [] past) true) old c before text ended
   nothing_ended memory old c before ended nothing fits ends =
       let read = capture (stream_with [] past) false in
       let same : capture (stream_with [] past) true ≡ record { lines = read.lines; refused = false } =
-      last_is ∙ ap (λ (f : Found). found_lines read f next.known.line) nothing
+      last_is ∙ ap (λ (f : LineFound). found_lines read f next.known.line) nothing
       ∙ ap (λ (b : Bool). let r : Lines = record { lines = read.lines; refused = b } in r) lined.fine in
-      closes_behind memory read.lines same old old c before before [] (gathered_nothing old before fits)
-      (append-nil text ∙ lined.text_is) ended (ends read.lines lined.stood few_before)
+      closes_after memory read.lines same old old c before before [] (buffered_nothing old before fits)
+      (append-nil text ∙ lined.text_is) ended (ends read.lines lined.represented few_before)
 
-  -- the last line is refused
+  -- the last line is rejected
   pub refused_ended :
       (memory : Bool) {old : Out} {before : ℕ} (halt : Halt) → result ≡ found.Refused → before ≤ most_counted
       → halt.written ≡ before
@@ -528,7 +531,7 @@ module _
   refused_ended memory {old} {before} halt refused fits written_is result_is =
       let lines = (capture (stream_with [] past) false).lines in
       let is : capture (stream_with [] past) true ≡ record { lines = lines; refused = true } =
-      last_is ∙ ap (λ (f : Found). found_lines (capture (stream_with [] past) false) f next.known.line) refused in
+      last_is ∙ ap (λ (f : LineFound). found_lines (capture (stream_with [] past) false) f next.known.line) refused in
       let outcome_is = outcome_here (record { lines = lines; refused = true }) is in
       let small : length lines + 1 < 2 ^ 44 = subst (λ (r : Lines). length r.lines + one_refused r.refused < 2 ^ 44)
       is few_lines in
@@ -539,8 +542,9 @@ module _
       result_is ∙ ap (λ (n : ℕ). let r : Result Report ToolFault = Err (CaptureLine n) in r) number in
       record {
         more = [];
-        put = subst (λ (n : ℕ). Gathered old old before (Ok n) []) (sym written_is) (gathered_nothing old before fits);
-        behind =
+        put = subst (λ (n : ℕ). IsBuffered old old before (Ok n) []) (sym written_is)
+            (buffered_nothing old before fits);
+        following =
             subst (λ (r : Result Report ToolFault). Halts memory
             (λ o. o ≡ capture_outcome w (stream_with [] past) true) (text ++ []) r) (sym e) (
               capture_outcome w (stream_with [] past) true,
@@ -553,7 +557,7 @@ module _
   module _ (line_found : result ≡ found.Line) where
     said_last : capture (stream_with [] past) true
         ≡ record { lines = next.known.line ∷ (capture (stream_with [] past) false).lines; refused = false }
-    said_last = last_is ∙ ap (λ (f : Found). found_lines (capture (stream_with [] past) false) f next.known.line)
+    said_last = last_is ∙ ap (λ (f : LineFound). found_lines (capture (stream_with [] past) false) f next.known.line)
         line_found
 
     last_number : (next.known.number ≡ length (capture (stream_with [] past) false).lines + 1)
@@ -568,10 +572,11 @@ module _
 
     -- what is known of it by its number
     pub by_last_number :
-        {P : List Line → Type 0} → ((lines : List Line) → stands lines → next.known.number ≡ length lines + 1
+        {P : List Line → Type 0} → ((lines : List Line) → represents lines → next.known.number ≡ length lines + 1
         → next.known.number < 2 ^ 44 → P lines)
         → P (capture (stream_with [] past) false).lines
-    by_last_number known = known (capture (stream_with [] past) false).lines lined.stood last_number.0 last_number.1
+    by_last_number known = known (capture (stream_with [] past) false).lines lined.represented last_number.0
+        last_number.1
 
     text_with : text ++ w.line (capture (stream_with [] past) false).lines next.known.line
         ≡ lines_text w (next.known.line ∷ (capture (stream_with [] past) false).lines)
@@ -584,14 +589,14 @@ module _
         (ended : Result Halt ToolFault)
         → ((lines : List Line) → now lines → length lines < 2 ^ 44
         → LineEnds (w.report lines) here c after (w.last lines) ended)
-        → Gathered old here before (Ok after) (w.line (capture (stream_with [] past) false).lines next.known.line)
+        → IsBuffered old here before (Ok after) (w.line (capture (stream_with [] past) false).lines next.known.line)
         × now (next.known.line ∷ (capture (stream_with [] past) false).lines)
         → Ends memory (λ o. o ≡ capture_outcome w (stream_with [] past) true) old c before text ended
-    last_taken memory old here c before after ended ends (put, stood) =
+    last_taken memory old here c before after ended ends (put, represented) =
         let lines = next.known.line ∷ (capture (stream_with [] past) false).lines in
-        closes_behind memory lines said_last old here c before after
+        closes_after memory lines said_last old here c before after
         (w.line (capture (stream_with [] past) false).lines next.known.line) put text_with ended
-        (ends lines stood (omega (arith, last_number.0, last_number.1)))
+        (ends lines represented (omega (arith, last_number.0, last_number.1)))
 
     whole_with :
         (capture_outcome w (stream_with [] past) true).text
@@ -603,7 +608,7 @@ module _
         said_last)
         ∙ sym text_with
 
-    -- memory was refused in it
+    -- memory ran out in it
     pub last_starved :
         {memory : Bool} {old here : Out} {before : ℕ} (halt : Halt)
         → LineSteps memory ⊤ old here before (w.line (capture (stream_with [] past) false).lines next.known.line)
@@ -614,7 +619,7 @@ module _
         record {
           more = more;
           put = put;
-          behind =
+          following =
               subst (λ (r : Result Report ToolFault). Halts memory
               (λ o. o ≡ capture_outcome w (stream_with [] past) true) (text ++ more) r) (sym result_is) (
                 capture_outcome w (stream_with [] past) true,
@@ -628,7 +633,7 @@ module _
     -- the sink failed in it
     pub last_failed :
         {old here : Out} {before : ℕ} (fault : ToolFault)
-        → Gathered old here before (Err fault) (w.line (capture (stream_with [] past) false).lines next.known.line)
+        → IsBuffered old here before (Err fault) (w.line (capture (stream_with [] past) false).lines next.known.line)
         → Fails (λ o. o ≡ capture_outcome w (stream_with [] past) true) old here before text fault
     last_failed fault put =
         record {

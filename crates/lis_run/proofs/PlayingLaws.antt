@@ -11,7 +11,7 @@ use Rattle.lis_capture.specs.declared.line.Line.TheVariants.{Timer, Version}
 use Rattle.std.specs.Prelude.{⊤}
 use Rattle.lis_link.specs.Kept.{Kept}
 use Rattle.lis_link.specs.Receiver.{ReceiverState, on_byte}
-use Rattle.lis_link.specs.Stands.{IsIn}
+use Rattle.lis_link.specs.Representation.{IsIn}
 use Rattle.std.specs.declared.result.Result.{Result}
 use Rattle.lis_engine.specs.declared.fault.ToolFault.{ToolFault}
 use Rattle.lis_report.specs.inside.Answers.{Halt, Turn}
@@ -24,12 +24,12 @@ use Rattle.lis_engine.specs.Steps.{LineEnds, LineSteps}
 use Rattle.lis_run.specs.declared.playing.Account.{Account}
 use Rattle.lis_run.specs.declared.playing.Account.TheVariants.{Lines, Texts}
 use Rattle.std.specs.List.{flat_map}
-use Rattle.lis_engine.specs.Output.{Gathered, Out, most_counted}
-use Rattle.lis_engine.specs.Runs.{Seen}
-use Rattle.lis_engine.proofs.GatherLaws.{gathered_nothing, gathered_then}
+use Rattle.lis_engine.specs.Output.{IsBuffered, Out, most_counted}
+use Rattle.lis_engine.specs.Runs.{KnownPorts}
+use Rattle.lis_engine.proofs.BufferLaws.{buffered_nothing, buffered_then}
 use Rattle.lis_run.specs.inside.Playing.{IsHearing, IsPlaying, playing_writes, text_parts}
 use Rattle.lis_run.specs.Replay.{Played, all_differences, compared_line, count_with, difference_count, differs_at}
-use Rattle.lis_run.specs.Replay.{handed, having_heard, played, played_line, replay_line, replay_writes, replies}
+use Rattle.lis_run.specs.Replay.{delivered, having_heard, played, played_line, replay_line, replay_writes, replies}
 use Rattle.lis_run.specs.Replay.{counts_line, difference_line, left_line, status_of}
 use Rattle.lis_run.specs.Replay.{text_count, texts_at}
 
@@ -50,22 +50,22 @@ one_text : {A : Type 0} (o : Option A) (xs : List A) (n : ℕ) → length xs ≤
 one_text None xs n few = omega (arith, few)
 one_text (Some x) xs n few = omega (arith, few)
 
-pub handed-few : (limit : ℕ) (r : ReceiverState) (bytes : List ℕ) → length (handed limit r bytes) ≤ length bytes
-handed-few limit r [] = omega arith
-handed-few limit r (b ∷ bytes) =
+pub delivered-few : (limit : ℕ) (r : ReceiverState) (bytes : List ℕ) → length (delivered limit r bytes) ≤ length bytes
+delivered-few limit r [] = omega arith
+delivered-few limit r (b ∷ bytes) =
     omega (
       arith,
-      one_text (on_byte limit b r).message (handed limit (on_byte limit b r).after bytes) (length bytes)
-          (handed-few limit (on_byte limit b r).after bytes),
+      one_text (on_byte limit b r).message (delivered limit (on_byte limit b r).after bytes) (length bytes)
+          (delivered-few limit (on_byte limit b r).after bytes),
     )
 
 -- what is written for a line from the analyzer
-pub handed_text :
+pub delivered_text :
     (account : Account) (limit : ℕ) (lines : List Line) (bytes : List ℕ)
-    → text_parts account (length lines + 1) (handed limit (played limit lines).receiver bytes)
+    → text_parts account (length lines + 1) (delivered limit (played limit lines).receiver bytes)
     ≡ (playing_writes account limit).line lines (FromAnalyzer bytes)
-handed_text Lines limit lines bytes = refl
-handed_text Texts limit lines bytes = refl
+delivered_text Lines limit lines bytes = refl
+delivered_text Texts limit lines bytes = refl
 
 not_differs : (same : Bool) (n : ℕ) → (if same then n else n + 1) ≡ (if not same then n + 1 else n)
 not_differs true n = refl
@@ -78,14 +78,14 @@ pub played_analyzer :
     → IsPlaying account limit old old_collected old_count differences lines → now ≡ differences → length bytes ≤ 2047
     → IsHearing account limit kept collected count (having_heard limit (played limit lines).receiver bytes)
     ((played limit lines).replies ++ replies limit (played limit lines).receiver bytes)
-    (text_count limit lines + length (handed limit (played limit lines).receiver bytes))
+    (text_count limit lines + length (delivered limit (played limit lines).receiver bytes))
     → IsPlaying account limit kept collected count now (FromAnalyzer bytes ∷ lines)
 played_analyzer account limit old kept old_collected collected old_count count differences now lines bytes playing
     same short hearing =
     record {
       hearing = hearing;
       differences_are = λ compared. same ∙ playing.differences_are compared;
-      few = omega (arith, playing.few, handed-few limit (played limit lines).receiver bytes, short);
+      few = omega (arith, playing.few, delivered-few limit (played limit lines).receiver bytes, short);
     }
 
 -- a line from the computer was compared
@@ -110,7 +110,7 @@ played_computer account limit kept collected left count differences now lines by
       few = omega (arith, playing.few);
     }
 
--- a line that hands out no text and isn't compared
+-- a line that delivers no text and isn't compared
 record IsSilent (limit : ℕ) (line : Line) : Type 0 where
   pub no_texts : (p : Played) → texts_at limit line p ≡ []
   pub no_difference : (p : Played) → differs_at line p ≡ false
@@ -149,14 +149,14 @@ pub played_silent :
     (line : Line) (new : Kept) (a : Out) (before : ℕ) → SendsNothing line → before ≤ most_counted
     → IsPlaying account limit kept collected count differences lines
     → IsIn limit new (played limit (line ∷ lines)).receiver
-    → Gathered a a before (Ok before) ((playing_writes account limit).line lines line)
+    → IsBuffered a a before (Ok before) ((playing_writes account limit).line lines line)
     × IsPlaying account limit new collected count differences (line ∷ lines)
 played_silent {account} {limit} {lines = lines} line new a before sends fits playing is_in =
     let p = played limit lines in
     let quiet = silent limit line sends in
     let none = ap (λ (texts : List (List ℕ)). length texts) (quiet.no_texts p) in (
-      subst (λ (t : List ℕ). Gathered a a before (Ok before) t) (sym (silent_text account limit lines line quiet))
-          (gathered_nothing a before fits),
+      subst (λ (t : List ℕ). IsBuffered a a before (Ok before) t) (sym (silent_text account limit lines line quiet))
+          (buffered_nothing a before fits),
       record {
         hearing = record {
           receiver_is = is_in;
@@ -195,14 +195,14 @@ left_text (b ∷ left) =
     let some : (length (b ∷ left) == 0) ≡ false = grind (arith, nat_tests) in
     ap (λ (none : Bool). if none then [] else difference_line (codes "end") [] (b ∷ left)) some
 
-pub left_gathered :
+pub left_buffered :
     (a b : Out) (before : ℕ) (r : Result ℕ ToolFault) (left replies : List ℕ) → left ≡ replies
-    → Gathered a b before r (if length left == 0 then [] else difference_line (codes "end") [] left)
-    → Gathered a b before r (left_line replies)
-left_gathered a b before r left replies is gathered =
-    subst (λ (t : List ℕ). Gathered a b before r t) (left_text left ∙ ap left_line is) gathered
+    → IsBuffered a b before r (if length left == 0 then [] else difference_line (codes "end") [] left)
+    → IsBuffered a b before r (left_line replies)
+left_buffered a b before r left replies is buffered =
+    subst (λ (t : List ℕ). IsBuffered a b before r t) (left_text left ∙ ap left_line is) buffered
 
--- what is left behind these lines, and the count of differences with that
+-- what is left after these lines, and the count of differences with that
 pub record IsLeft (limit : ℕ) (lines : List Line) (left : List ℕ) (counted : ℕ) : Type 0 where
   pub left_is : left ≡ (played limit lines).replies
   pub counted_is : counted ≡ all_differences limit lines
@@ -226,13 +226,13 @@ pub closed :
     (limit : ℕ) (lines : List Line) (a : Out) {b : Out} (c : Out) {before after : ℕ} (r : Result ℕ ToolFault)
     {left : List ℕ}
     → left ≡ (played limit lines).replies
-    → Gathered a b before (Ok after) (if length left == 0 then [] else difference_line (codes "end") [] left)
-    → Gathered b c after r (counts_line (text_count limit lines) (all_differences limit lines))
-    → Gathered a c before r ((replay_writes limit).last lines)
+    → IsBuffered a b before (Ok after) (if length left == 0 then [] else difference_line (codes "end") [] left)
+    → IsBuffered b c after r (counts_line (text_count limit lines) (all_differences limit lines))
+    → IsBuffered a c before r ((replay_writes limit).last lines)
 closed limit lines a {b} c {before} {after} r is left counts =
-    gathered_then a b c before after r (left_line (played limit lines).replies)
+    buffered_then a b c before after r (left_line (played limit lines).replies)
     (counts_line (text_count limit lines) (all_differences limit lines))
-    (left_gathered a b before (Ok after) _ _ is left) counts
+    (left_buffered a b before (Ok after) _ _ is left) counts
 
 pub is_lines : (account : Account) → account ≢ Texts → account ≡ Lines
 is_lines Lines other = refl
@@ -246,17 +246,17 @@ pub compared_text :
 compared_text Lines limit lines bytes is = refl
 compared_text Texts limit lines bytes is = cc
 
--- where the texts alone are told, a line from the computer writes nothing
+-- where the texts alone are reported, a line from the computer writes nothing
 pub passed_computer :
     (account : Account) (limit : ℕ) (kept : Kept) (collected : List ℕ) (count differences : ℕ) (lines : List Line)
     (bytes : List ℕ)
     (a : Out) (before : ℕ) → account ≡ Texts → before ≤ most_counted
     → IsPlaying account limit kept collected count differences lines
-    → Gathered a a before (Ok before) ((playing_writes account limit).line lines (FromComputer bytes))
+    → IsBuffered a a before (Ok before) ((playing_writes account limit).line lines (FromComputer bytes))
     × IsPlaying account limit kept collected count differences (FromComputer bytes ∷ lines)
 passed_computer Lines limit kept collected count differences lines bytes a before is fits playing = cc
 passed_computer Texts limit kept collected count differences lines bytes a before is fits playing = (
-  gathered_nothing a before fits,
+  buffered_nothing a before fits,
   record {
     hearing = record {
       receiver_is = playing.hearing.receiver_is;
@@ -273,9 +273,9 @@ pub texts_end :
     (account : Account) (limit : ℕ) (lines : List Line) (a : Out) (before : ℕ) → account ≡ Texts → before ≤ most_counted
     → (let r : Result Report ToolFault = Ok (record { status = 0; refused = None }) in
     r ≡ Ok ((playing_writes account limit).report lines))
-    × Gathered a a before (Ok before) ((playing_writes account limit).last lines)
+    × IsBuffered a a before (Ok before) ((playing_writes account limit).last lines)
 texts_end Lines limit lines a before is fits = cc
-texts_end Texts limit lines a before is fits = (refl, gathered_nothing a before fits)
+texts_end Texts limit lines a before is fits = (refl, buffered_nothing a before fits)
 
 pub lines_end :
     (account : Account) (limit : ℕ) (lines : List Line) (a b : Out) (before : ℕ) (result : Result Halt ToolFault)
@@ -291,10 +291,10 @@ pub line_steps_as :
     (P Q : Type 0) → (P → Q) → (a b : Out) (before : ℕ) (t u : List ℕ) (result : Result Turn ToolFault) → t ≡ u
     → LineSteps true P a b before t result → LineSteps true Q a b before u result
 line_steps_as P Q f a b before t u (Ok (On after)) e (put, p) =
-    (subst (λ (x : List ℕ). Gathered a b before (Ok after) x) e put, f p)
+    (subst (λ (x : List ℕ). IsBuffered a b before (Ok after) x) e put, f p)
 line_steps_as P Q f a b before t u (Ok (Off halt)) e (fault, wants, more, rest, joined, put) =
     (fault, wants, more, rest, sym e ∙ joined, put)
-line_steps_as P Q f a b before t u (Err fault) e put = subst (λ (x : List ℕ). Gathered a b before (Err fault) x) e put
+line_steps_as P Q f a b before t u (Err fault) e put = subst (λ (x : List ℕ). IsBuffered a b before (Err fault) x) e put
 
 -- ---- a run
 
@@ -306,7 +306,7 @@ status-few differences = by (nat_lt 0 differences)
     by false = omega arith
 
 pub replay_status :
-    (limit : ℕ) {old new : Seen} (result : Result Report ToolFault)
+    (limit : ℕ) {old new : KnownPorts} (result : Result Report ToolFault)
     → CaptureRan true (replay_writes limit) old new result → IfOk result (λ report. report.status ≤ 1)
 replay_status limit {old} {new} (Ok report) ran =
     subst (λ (r : Report). r.status ≤ 1) (sym ran.answer.2)

@@ -5,7 +5,7 @@ use Rattle.lis_frame.specs.declared.scanner.SignalOf.{SignalOf}
 use Rattle.lis_frame.specs.Stream.{signal_after, with_signal, signals_after, stream_with}
 use Rattle.lis_frame.proofs.StreamLaws.{signals_after-append}
 use Rattle.lis_frame.specs.Frame.{FrameContent}
-use Rattle.lis_frame.specs.Scanner.{lent_signals}
+use Rattle.lis_frame.specs.Scanner.{borrowed_signals}
 use Rattle.std.specs.declared.result.Result.{Result}
 use Rattle.std.specs.Io.KnownBytes.{Appends}
 use Rattle.lis_engine.specs.declared.fault.ToolFault.{ToolFault}
@@ -14,9 +14,9 @@ use Rattle.lis_report.specs.Answers.{Report}
 use Rattle.lis_engine.specs.Outcome.{at_end, whole}
 use Rattle.lis_report.specs.Answers.{Outcome}
 use Rattle.lis_engine.specs.inside.Parts.{text_if_any}
-use Rattle.lis_engine.specs.Output.{Gathered, Out, WentOut}
-use Rattle.lis_engine.proofs.GatherLaws.{gathered_stops}
-use Rattle.lis_engine.specs.Runs.{RanOver, Seen, Shown, WroteOutcome, WroteText}
+use Rattle.lis_engine.specs.Output.{IsBuffered, Out, WentOut}
+use Rattle.lis_engine.proofs.BufferLaws.{buffered_stops}
+use Rattle.lis_engine.specs.Runs.{HasRun, KnownPorts, Shown, WroteOutcome, WroteText}
 use Rattle.lis_run.specs.Show.{Shows, clean, frame_line, show, signal_line, signal_lines}
 use Rattle.lis_link.proofs.HearingLaws.{stream_with-append}
 
@@ -48,40 +48,40 @@ pub no_lines : (limit : ℕ) (past bytes : List ℕ) → length bytes ≡ 0
 no_lines limit past [] none = refl
 no_lines limit past (b ∷ bytes) none = cc
 
-lent-lines : (limit : ℕ) (o : Option FrameContent)
-    → signal_lines (lent_signals {limit = limit} o) ≡ text_if_any frame_line o
-lent-lines limit None = refl
-lent-lines limit (Some frame) = append-nil (frame_line frame)
+borrowed-lines : (limit : ℕ) (o : Option FrameContent)
+    → signal_lines (borrowed_signals {limit = limit} o) ≡ text_if_any frame_line o
+borrowed-lines limit None = refl
+borrowed-lines limit (Some frame) = append-nil (frame_line frame)
 
 -- the line of a frame that was read at the front, and then the lines of what follows
 pub front_lines :
     (limit n : ℕ) (past bytes : List ℕ) (o : Option FrameContent)
-    → signals_after limit past (take n bytes) ≡ lent_signals o →
+    → signals_after limit past (take n bytes) ≡ borrowed_signals o →
     signal_lines (signals_after limit past bytes) ≡ text_if_any frame_line o
     ++ signal_lines (signals_after limit (stream_with past (take n bytes)) (drop n bytes))
 front_lines limit n past bytes o is =
     let both = rw (take-append-drop n bytes) at (lines-append limit past (take n bytes) (drop n bytes)) in
     both ∙ ap (λ (l : List ℕ). l ++ signal_lines (signals_after limit (stream_with past (take n bytes))
-    (drop n bytes))) (ap signal_lines is ∙ lent-lines limit o)
+    (drop n bytes))) (ap signal_lines is ∙ borrowed-lines limit o)
 
 -- the sink failed in the line of the first byte, or of the frame at the front
 pub byte_stops :
     (limit : ℕ) (past : List ℕ) (byte : ℕ) (left : List ℕ) (a b : Out) (before : ℕ) (fault : ToolFault)
-    → Gathered a b before (Err fault) (signal_lines (with_signal (signal_after limit past byte) []))
-    → Gathered a b before (Err fault) (signal_lines (signals_after limit past (byte ∷ left)))
-byte_stops limit past byte left a b before fault gathered =
+    → IsBuffered a b before (Err fault) (signal_lines (with_signal (signal_after limit past byte) []))
+    → IsBuffered a b before (Err fault) (signal_lines (signals_after limit past (byte ∷ left)))
+byte_stops limit past byte left a b before fault buffered =
     rw (signal_lines-with (signal_after limit past byte) (signals_after limit (byte ∷ past) left))
-    (gathered_stops a b before fault (signal_lines (with_signal (signal_after limit past byte) []))
-    (signal_lines (signals_after limit (byte ∷ past) left)) gathered)
+    (buffered_stops a b before fault (signal_lines (with_signal (signal_after limit past byte) []))
+    (signal_lines (signals_after limit (byte ∷ past) left)) buffered)
 
 pub front_stops :
     (limit n : ℕ) (past bytes : List ℕ) (o : Option FrameContent) (a b : Out) (before : ℕ) (fault : ToolFault)
-    → signals_after limit past (take n bytes) ≡ lent_signals o
-    → Gathered a b before (Err fault) (text_if_any frame_line o)
-    → Gathered a b before (Err fault) (signal_lines (signals_after limit past bytes))
-front_stops limit n past bytes o a b before fault is gathered =
-    rw (front_lines limit n past bytes o is) (gathered_stops a b before fault (text_if_any frame_line o)
-    (signal_lines (signals_after limit (stream_with past (take n bytes)) (drop n bytes))) gathered)
+    → signals_after limit past (take n bytes) ≡ borrowed_signals o
+    → IsBuffered a b before (Err fault) (text_if_any frame_line o)
+    → IsBuffered a b before (Err fault) (signal_lines (signals_after limit past bytes))
+front_stops limit n past bytes o a b before fault is buffered =
+    rw (front_lines limit n past bytes o is) (buffered_stops a b before fault (text_if_any frame_line o)
+    (signal_lines (signals_after limit (stream_with past (take n bytes)) (drop n bytes))) buffered)
 
 pub front_stream : (n : ℕ) (past bytes : List ℕ)
     → stream_with (stream_with past (take n bytes)) (drop n bytes) ≡ stream_with past bytes
@@ -98,9 +98,9 @@ shown_more limit past more text is =
     ap (λ (t : List ℕ). t ++ signal_lines (signals_after limit (stream_with [] past) more)) is
     ∙ sym (lines-append limit [] past more)
 
--- what a run that shows tells of the text of the bytes
+-- what a run that shows says about the text of the bytes
 pub shown_ran :
-    (limit : ℕ) (old new : Seen) (result : Result Report ToolFault) → RanOver false (Shows limit) old new result
+    (limit : ℕ) (old new : KnownPorts) (result : Result Report ToolFault) → HasRun false (Shows limit) old new result
     → Shown (show limit) old new result
 shown_ran limit old new result ran =
     record { given = ran.given; read = ran.read; wrote = text_of result ran.wrote }
@@ -131,7 +131,7 @@ shown_ran limit old new result ran =
 
 -- and of its status
 pub shown_status :
-    (limit : ℕ) (old new : Seen) (result : Result Report ToolFault) → RanOver false (Shows limit) old new result
+    (limit : ℕ) (old new : KnownPorts) (result : Result Report ToolFault) → HasRun false (Shows limit) old new result
     → IfOk result (λ report. report.status ≡ 0)
 shown_status limit old new (Ok report) ran =
     status_of new.ended (sym (ap (λ (o : Outcome). o.halt) ran.meant) ∙ ran.wrote.0)

@@ -3,8 +3,8 @@
 use Rattle.std.proofs.Common.{◌≡◌, ℕ, List, [], refl, codes}
 use Rattle.std.specs.Fmt.{digits}
 use Rattle.hex.specs.Hex.{decode_pairs, encode_with}
-use Rattle.lis_frame.specs.Stretch.{stretch_fault}
-use Rattle.lis_frame.specs.Stream.{signal_after, open_stretch}
+use Rattle.lis_frame.specs.FrameBody.{body_fault}
+use Rattle.lis_frame.specs.Stream.{signal_after, open_body}
 use Rattle.lis_run.specs.Replay.{texts}
 use Rattle.lis_run.specs.inside.Replay.{replay}
 use Rattle.lis_run.specs.Upgrade.{upgrade}
@@ -22,7 +22,7 @@ first_is :
     × (replay 240 first_version ≡ codes "text 4 6\ndifference 6 15 06\ntexts 1 differences 1\n")
     × (replay 240 first_version_upgraded ≡ codes "text 5 6\ndifference 7 15 06\ntexts 1 differences 1\n")
     × (texts 240 first_version ≡ codes "H|\\^&\r") × (texts 240 first_version_upgraded ≡ codes "H|\\^&\r")
-unfolding first_version first_version_upgraded decode_pairs encode_with digits signal_after open_stretch stretch_fault
+unfolding first_version first_version_upgraded decode_pairs encode_with digits signal_after open_body body_fault
 first_is = (refl, refl, refl, refl, refl, refl)
 
 -- a capture of version 2 keeps its lines and their numbers
@@ -36,13 +36,13 @@ second_is :
     (upgrade second_version ≡ second_version_upgraded)
     × (replay 240 second_version ≡ codes "difference 4 06 05\ntexts 0 differences 1\n")
     × (replay 240 second_version_upgraded ≡ codes "difference 4 06 05\ntexts 0 differences 1\n")
-unfolding second_version second_version_upgraded decode_pairs encode_with digits signal_after open_stretch stretch_fault
+unfolding second_version second_version_upgraded decode_pairs encode_with digits signal_after open_body body_fault
 second_is = (refl, refl, refl)
 
 no_line : upgrade [] ≡ codes "capture 2\n"
 no_line = refl
 
--- lines before a refused one are written
+-- lines before a rejected one are written
 half_a_byte_ends : upgrade (codes "> 05\n> 0\n> 04\n") ≡ codes "capture 2\n> 05\n"
 unfolding decode_pairs encode_with
 half_a_byte_ends = refl

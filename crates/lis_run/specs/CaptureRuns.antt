@@ -10,12 +10,12 @@ use Rattle.lis_report.specs.Answers.{Report}
 use Rattle.lis_run.specs.LineOutcome.{Writes, lines_outcome, lines_text}
 use Rattle.lis_engine.specs.Outcome.{whole}
 use Rattle.lis_engine.specs.Output.{WentOut}
-use Rattle.lis_engine.specs.Runs.{Seen}
+use Rattle.lis_engine.specs.Runs.{KnownPorts}
 
--- A report is answered only where the input was read to its end and no line is refused; then the text of all lines
--- and the closing lines went out. The number of a line is answered only where it is the first that is refused; then
+-- A report is answered only where the input was read to its end and no line is rejected; then the text of all lines
+-- and the closing lines went out. The number of a line is answered only where it is the first that is rejected; then
 -- the text of the lines before it went out, as it did where the source failed or was read too often, and no line is
--- refused. Where the sink failed as much went out as is told. Memory is wanted only by a command that takes some;
+-- rejected. Where the sink failed as much went out as is reported. Memory is wanted only by a command that takes some;
 -- then a part of the lines' text went out.
 abbrev pub LineAnswer :
     (takes_memory : Bool) → Writes → Lines → (ended : Bool) → Result Report ToolFault → (old new : Option (List ℕ))
@@ -37,7 +37,7 @@ LineAnswer takes_memory w read ended (Err OutOfMemory) old new =
 
 -- all the bytes that were read, and the answer by their lines
 pub record CaptureRan
-    (takes_memory : Bool) (w : Writes) (old new : Seen) (result : Result Report ToolFault) : Type 0 where
+    (takes_memory : Bool) (w : Writes) (old new : KnownPorts) (result : Result Report ToolFault) : Type 0 where
   pub given : List ℕ
   pub read : Consumes old.left new.left given
   pub answer :

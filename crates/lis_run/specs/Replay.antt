@@ -1,5 +1,5 @@
 -- What `replay` and `texts` write of a capture: a new receiver hears what the analyzer sent, what it replies is
--- compared with what the computer sent, and the texts that it hands out are told.
+-- compared with what the computer sent, and the texts that it delivers are reported.
 use Rattle.std.specs.Prelude.{ℕ, ◌+◌, nat_lt, not, Bool, true, false, List, [], ◌∷◌, ◌++◌, length, codes, decimal, None}
 use Rattle.std.specs.Prelude.{if◌then◌else◌}
 use Rattle.std.specs.List.{flat_map}
@@ -20,7 +20,7 @@ use Rattle.lis_run.specs.Show.{clean}
 
 -- ---- the receiver
 
--- the receiver after bytes, its replies to them, and the texts that it hands out
+-- the receiver after bytes, its replies to them, and the texts that it delivers
 abbrev pub having_heard : ℕ → ReceiverState → List ℕ → ReceiverState
 having_heard limit r [] = r
 having_heard limit r (b ∷ bytes) = having_heard limit (on_byte limit b r).after bytes
@@ -29,11 +29,12 @@ abbrev pub replies : ℕ → ReceiverState → List ℕ → List ℕ
 replies limit r [] = []
 replies limit r (b ∷ bytes) = option_to_list (on_byte limit b r).reply ++ replies limit (on_byte limit b r).after bytes
 
-abbrev pub handed : ℕ → ReceiverState → List ℕ → List (List ℕ)
-handed limit r [] = []
-handed limit r (b ∷ bytes) = option_to_list (on_byte limit b r).message ++ handed limit (on_byte limit b r).after bytes
+abbrev pub delivered : ℕ → ReceiverState → List ℕ → List (List ℕ)
+delivered limit r [] = []
+delivered limit r (b ∷ bytes) = option_to_list (on_byte limit b r).message ++ delivered limit (on_byte limit b r).after
+    bytes
 
--- what is known behind lines: the receiver, and its replies since the last line from the computer
+-- what is known after lines: the receiver, and its replies since the last line from the computer
 pub record Played : Type 0 where
   pub receiver : ReceiverState
   pub replies : List ℕ
@@ -49,14 +50,14 @@ played_line limit (SetReady readiness) p = record p { receiver = with_readiness 
 played_line limit Empty p = p
 played_line limit Version p = p
 
--- a new receiver, behind lines, newest first
+-- a new receiver, after lines, newest first
 abbrev pub played : ℕ → List Line → Played
 played limit [] = record { receiver = new_receiver; replies = [] }
 played limit (line ∷ lines) = played_line limit line (played limit lines)
 
--- the texts that a line hands out
+-- the texts that a line delivers
 abbrev pub texts_at : ℕ → Line → Played → List (List ℕ)
-texts_at limit (FromAnalyzer bytes) p = handed limit p.receiver bytes
+texts_at limit (FromAnalyzer bytes) p = delivered limit p.receiver bytes
 texts_at limit line p = []
 
 -- whether a line from the computer differs from the replies collected
@@ -81,17 +82,17 @@ difference_line place want got =
     joined (codes "difference " ∷ place ∷ codes " " ∷ digits_or_dash want ∷ codes " " ∷ digits_or_dash got
     ∷ codes "\n" ∷ [])
 
--- the computer's bytes beside the replies
+-- the computer's bytes next to the replies
 abbrev pub compared_line : ℕ → List ℕ → List ℕ → List ℕ
 compared_line number want got = if bytes_eq want got then [] else difference_line (decimal number) want got
 
--- what a line of this number writes, behind what was played
+-- what a line of this number writes, after what was played
 abbrev pub replay_line : ℕ → ℕ → Line → Played → List ℕ
-replay_line limit number (FromAnalyzer bytes) p = flat_map (text_line number) (handed limit p.receiver bytes)
+replay_line limit number (FromAnalyzer bytes) p = flat_map (text_line number) (delivered limit p.receiver bytes)
 replay_line limit number (FromComputer bytes) p = compared_line number bytes p.replies
 replay_line limit number line p = []
 
--- how many texts were handed out
+-- how many texts were delivered
 abbrev pub text_count : ℕ → List Line → ℕ
 text_count limit [] = 0
 text_count limit (line ∷ lines) = text_count limit lines + length (texts_at limit line (played limit lines))
@@ -141,7 +142,7 @@ replay_writes limit = replay_writes_from 1 limit
 
 -- ---- texts
 
--- the texts as they stand, with nothing between them
+-- the texts as they are, with nothing between them
 abbrev pub texts_writes : ℕ → Writes
 texts_writes limit =
     record {

@@ -53,6 +53,6 @@ show limit bytes = signal_lines (signals limit bytes)
 abbrev pub clean : Report
 clean = record { status = 0; refused = None }
 
--- what bytes come to
+-- what bytes give
 abbrev pub Shows : ℕ → List ℕ → Bool → Outcome → Type 0
 Shows limit bytes ended outcome = outcome ≡ record { text = show limit bytes; closing = []; halt = at_end ended clean }

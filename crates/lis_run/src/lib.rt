@@ -1,4 +1,4 @@
-//! The commands over what stands on a link: its bytes and captures.
+//! The commands over what is on a link: its bytes and captures.
 #![tactic(auto)]
 
 mod lines;

@@ -13,18 +13,18 @@ ghost use Rattle.lis_engine.specs.Output.{out};
 ghost use Rattle.lis_engine.specs.Runs.{AreFresh, Stops};
 ghost use Rattle.std.proofs.Common.{ap, sym, ◌∙◌};
 
-use lis_capture::{Found, Line, LineReader, MOST_BYTES};
-use lis_engine::{Machine, Page, SourceFor, ToolFault};
+use lis_capture::{Line, LineFound, LineReader, MOST_BYTES};
+use lis_engine::{Machine, OutputBuffer, SourceFor, ToolFault};
 use lis_port::Sink;
 use lis_report::{Ended, Fate, Halt, Refused, Turn};
 
 /// A command that takes a capture line by line. Contracts see the lines newest first.
 pub trait LineMachine: Drop {
-    // What it writes for a line behind others, and at the end.
+    // What it writes for a line after others, and at the end.
     ghost writes: { Writes };
 
-    // It stands for these lines, for which all was written.
-    ghost stands: { Self → List LineContent → Type 0 };
+    // It represents these lines, for which all was written.
+    ghost represents: { Self → List LineContent → Type 0 };
 
     // Whether it may want memory.
     ghost takes_memory: { Bool };
@@ -33,30 +33,36 @@ pub trait LineMachine: Drop {
     fn reader() -> LineReader
         ensures { HasRead result [] };
 
-    /// Takes the line of this number, behind `written` bytes of the run; there is room for its bytes where their digits
-    /// are kept. It halts the run only where memory is refused.
+    /// Takes the line of this number, after `written` bytes of the run; there is room for its bytes where their digits
+    /// are kept. It halts the run only if memory runs out.
     fn line<'a, W: Sink>(
         &mut self,
         sink: &mut W,
-        page: &mut Page,
+        outgoing: &mut OutputBuffer,
         written: u64,
         number: u64,
         line: &Line<'a>,
         room: &'a mut [u8; MOST_BYTES],
     ) -> Fate
         requires { W.failed sink.old ≡ false }
-        ensures steps { (lines : List LineContent) → stands self.old lines → number ≡ length lines + 1
+        ensures steps { (lines : List LineContent) → represents self.old lines → number ≡ length lines + 1
             → number < 2 ^ 44 →
-            LineSteps takes_memory (stands self.new (line.now ∷ lines)) (out (W.taken sink.old) page.old)
-            (out (W.taken sink.new) page.new) written
+            LineSteps takes_memory (represents self.new (line.now ∷ lines)) (out (W.taken sink.old) outgoing.old)
+            (out (W.taken sink.new) outgoing.new) written
             (writes.line lines line.now) result }
         ensures failed { W.failed sink.new ≡ is_err result };
 
     /// Takes the end of the input.
-    fn end<W: Sink>(self, sink: &mut W, page: &mut Page, written: u64) -> Result<Halt, ToolFault>
+    fn end<W: Sink>(
+        self,
+        sink: &mut W,
+        outgoing: &mut OutputBuffer,
+        written: u64,
+    ) -> Result<Halt, ToolFault>
         requires { W.failed sink.old ≡ false }
-        ensures ends { (lines : List LineContent) → stands self lines → length lines < 2 ^ 44 →
-            LineEnds (writes.report lines) (out (W.taken sink.old) page.old) (out (W.taken sink.new) page.new) written
+        ensures ends { (lines : List LineContent) → represents self lines → length lines < 2 ^ 44 →
+            LineEnds (writes.report lines) (out (W.taken sink.old) outgoing.old) (out (W.taken sink.new) outgoing.new)
+            written
             (writes.last lines) result }
         ensures failed { W.failed sink.new ≡ is_err result };
 }
@@ -68,10 +74,12 @@ pub(crate) fn run_lines<C: LineMachine, R: SourceFor<W>, W: Sink>(
     sink: &mut W,
     reads: u32,
 ) -> Ended
-    requires new { C.stands command [] }
-    requires fresh { AreFresh (R.seen source.old sink.old) }
-    ensures ran { CaptureRan C.takes_memory C.writes (R.seen source.old sink.old) (R.seen source.new sink.new) result }
-    ensures stops { Stops false true (R.seen source.old sink.old) (R.seen source.new sink.new) reads result }
+    requires new { C.represents command [] }
+    requires fresh { AreFresh (R.known_ports source.old sink.old) }
+    ensures ran { CaptureRan C.takes_memory C.writes (R.known_ports source.old sink.old)
+        (R.known_ports source.new sink.new) result }
+    ensures stops { Stops false true (R.known_ports source.old sink.old) (R.known_ports source.new sink.new) reads
+        result }
 {
     source.run(sink, Lines::new(command), reads)
 }
@@ -85,10 +93,10 @@ pub struct Lines<C> {
 }
 
 impl<C: LineMachine> Lines<C> {
-    /// A reader at the start of a capture, with a command that was told no line.
+    /// A reader at the start of a capture, with a command that was given no line.
     pub fn new(command: C) -> Self
-        requires { C.stands command [] }
-        ensures { IsLined C.writes (C.stands result.command) result.reader [] [] }
+        requires { C.represents command [] }
+        ensures { IsLined C.writes (C.represents result.command) result.reader [] [] }
     {
         Lines {
             command,
@@ -99,13 +107,18 @@ impl<C: LineMachine> Lines<C> {
 
     /// The command takes the line that was read last.
     #[inline(always)]
-    fn take_line<W: Sink>(&mut self, sink: &mut W, page: &mut Page, written: u64) -> Fate
+    fn take_line<W: Sink>(
+        &mut self,
+        sink: &mut W,
+        outgoing: &mut OutputBuffer,
+        written: u64,
+    ) -> Fate
         requires { W.failed sink.old ≡ false }
-        ensures steps { (lines : List LineContent) → C.stands self.old.command lines
+        ensures steps { (lines : List LineContent) → C.represents self.old.command lines
             → self.old.reader.known.number ≡ length lines + 1 →
             self.old.reader.known.number < 2 ^ 44 →
-            LineSteps C.takes_memory (C.stands self.new.command (self.old.reader.known.line ∷ lines))
-            (out (W.taken sink.old) page.old) (out (W.taken sink.new) page.new) written
+            LineSteps C.takes_memory (C.represents self.new.command (self.old.reader.known.line ∷ lines))
+            (out (W.taken sink.old) outgoing.old) (out (W.taken sink.new) outgoing.new) written
             (C.writes.line lines self.old.reader.known.line) result }
         ensures reader { self.new.reader ≡ self.old.reader }
         ensures failed { W.failed sink.new ≡ is_err result }
@@ -113,10 +126,10 @@ impl<C: LineMachine> Lines<C> {
         let number = self.reader.number();
         let line = self.reader.line();
         self.command
-            .line(sink, page, written, number, &line, &mut self.room)
+            .line(sink, outgoing, written, number, &line, &mut self.room)
     }
 
-    /// How a run halts whose last line is refused.
+    /// How a run halts whose last line is rejected.
     fn refused(&self, written: u64) -> Halt
         ensures written { result.written ≡ written }
         ensures result { result.result ≡ Err (ToolFault.CaptureLine self.now.reader.known.number) }
@@ -133,7 +146,7 @@ impl<C: LineMachine> Lines<C> {
 impl<C: LineMachine> Machine<Refused> for Lines<C> {
     ghost means = { λ bytes ended o. o ≡ capture_outcome C.writes (stream_with [] bytes) ended };
 
-    ghost stands = { λ m bytes text. IsLined C.writes (C.stands m.command) m.reader bytes text };
+    ghost represents = { λ m bytes text. IsLined C.writes (C.represents m.command) m.reader bytes text };
 
     ghost takes_memory = { C.takes_memory };
 
@@ -146,15 +159,21 @@ impl<C: LineMachine> Machine<Refused> for Lines<C> {
         ∙ sym (ap (λ (refused : Bool). lines_outcome C.writes refused false
         (capture (stream_with [] bytes) false).lines) lined.fine) };
 
-    fn feed<W: Sink>(&mut self, sink: &mut W, page: &mut Page, written: u64, bytes: &[u8]) -> Fate {
+    fn feed<W: Sink>(
+        &mut self,
+        sink: &mut W,
+        outgoing: &mut OutputBuffer,
+        written: u64,
+        bytes: &[u8],
+    ) -> Fate {
         let mut rest = bytes;
         let mut after = written;
         while !rest.is_empty() {
             let (count, found) = self.reader.read(rest);
             match found {
-                Found::Nothing => return Ok(Turn::On(after)),
-                Found::Refused => return Ok(Turn::Off(self.refused(after))),
-                Found::Line => match self.take_line(sink, page, after) {
+                LineFound::Nothing => return Ok(Turn::On(after)),
+                LineFound::Refused => return Ok(Turn::Off(self.refused(after))),
+                LineFound::Line => match self.take_line(sink, outgoing, after) {
                     Ok(Turn::On(next)) => {
                         after = next;
                         let (_, left) = rest.split_at(count);
@@ -168,13 +187,18 @@ impl<C: LineMachine> Machine<Refused> for Lines<C> {
         Ok(Turn::On(after))
     }
 
-    fn end<W: Sink>(self, sink: &mut W, page: &mut Page, written: u64) -> Result<Halt, ToolFault> {
+    fn end<W: Sink>(
+        self,
+        sink: &mut W,
+        outgoing: &mut OutputBuffer,
+        written: u64,
+    ) -> Result<Halt, ToolFault> {
         let mut lines = self;
         match lines.reader.finish() {
-            Found::Nothing => lines.command.end(sink, page, written),
-            Found::Refused => Ok(lines.refused(written)),
-            Found::Line => match lines.take_line(sink, page, written) {
-                Ok(Turn::On(after)) => lines.command.end(sink, page, after),
+            LineFound::Nothing => lines.command.end(sink, outgoing, written),
+            LineFound::Refused => Ok(lines.refused(written)),
+            LineFound::Line => match lines.take_line(sink, outgoing, written) {
+                Ok(Turn::On(after)) => lines.command.end(sink, outgoing, after),
                 Ok(Turn::Off(halt)) => Ok(halt),
                 Err(fault) => Err(fault),
             },

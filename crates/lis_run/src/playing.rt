@@ -7,25 +7,25 @@ ghost use Rattle.lis_frame.specs.Limit.{IsLimit};
 ghost use Rattle.lis_capture.specs.declared.line.Line.{Line as LineContent};
 ghost use Rattle.lis_capture.specs.declared.line.Line.TheVariants as line_kinds;
 ghost use Rattle.lis_link.specs.Receiver.{ReceiverState};
-ghost use Rattle.lis_link.specs.Stands.{IsIn};
+ghost use Rattle.lis_link.specs.Representation.{IsIn};
 ghost use Rattle.lis_run.specs.declared.playing.Account.{Account as AccountOf};
 ghost use Rattle.lis_run.specs.declared.playing.Account.TheVariants as accounts;
 ghost use Rattle.lis_engine.specs.Steps.{LineEnds, LineSteps};
 ghost use Rattle.lis_engine.specs.Output.{out};
-ghost use Rattle.lis_run.specs.inside.Playing.{IsHearing, IsPlaying, Took, playing_writes, text_parts};
-ghost use Rattle.lis_run.specs.Replay.{handed, having_heard, replay_writes, replies, status_of};
+ghost use Rattle.lis_run.specs.inside.Playing.{IsHearing, IsPlaying, TakesStep, playing_writes, text_parts};
+ghost use Rattle.lis_run.specs.Replay.{delivered, having_heard, replay_writes, replies, status_of};
 
 use crate::lines::LineMachine;
-use crate::replay::{TextLine, gather_difference};
+use crate::replay::{TextLine, buffer_difference};
 use lis_capture::{Line, LineReader, MOST_BYTES};
-use lis_engine::{Counts, Page, Part, Tell, ToolFault};
+use lis_engine::{CountsLine, OutputBuffer, Part, Print, ToolFault};
 use lis_link::{Hearing, Note, ReceiverOf, Step};
 use lis_port::Sink;
 use lis_report::{Halt, Report, Turn};
 use lis_text::LinkText;
 use std::alloc::Global;
 
-/// What a command tells of what is played.
+/// What a command says about what is played.
 #[derive(Clone, Copy)]
 pub(crate) enum Account {
     /// A line for each text and for each difference, and their counts.
@@ -34,12 +34,12 @@ pub(crate) enum Account {
     Texts,
 }
 
-/// A command that tells what is played.
+/// A command that says what is played.
 pub(crate) trait Teller: Drop {
-    // What it tells.
+    // What it reports.
     ghost account: { AccountOf };
 
-    /// What it tells.
+    /// What it reports.
     fn account(&self) -> Account
         ensures { result ≡ account };
 }
@@ -99,7 +99,7 @@ impl<const N: usize, T: Teller> Playing<N, T> {
     fn hear<W: Sink>(
         &mut self,
         sink: &mut W,
-        page: &mut Page,
+        outgoing: &mut OutputBuffer,
         written: u64,
         number: u64,
         bytes: &[u8],
@@ -110,9 +110,10 @@ impl<const N: usize, T: Teller> Playing<N, T> {
             → count + length bytes.now ≤ 2 ^ 63 →
             LineSteps true
             (IsHearing T.account N self.new.receiver self.new.replies.items self.new.texts
-            (having_heard N r bytes.now) (collected ++ replies N r bytes.now) (count + length (handed N r bytes.now)))
-            (out (W.taken sink.old) page.old) (out (W.taken sink.new) page.new) written
-            (text_parts T.account number (handed N r bytes.now)) result }
+            (having_heard N r bytes.now) (collected ++ replies N r bytes.now)
+            (count + length (delivered N r bytes.now)))
+            (out (W.taken sink.old) outgoing.old) (out (W.taken sink.new) outgoing.new) written
+            (text_parts T.account number (delivered N r bytes.now)) result }
         ensures differences { self.new.differences ≡ self.old.differences }
         ensures failed { W.failed sink.new ≡ is_err result }
     {
@@ -120,7 +121,7 @@ impl<const N: usize, T: Teller> Playing<N, T> {
         let mut after = written;
         while !rest.is_empty() {
             let Hearing { count, step } = self.receiver.bytes(rest);
-            match self.take(sink, page, after, number, step) {
+            match self.take(sink, outgoing, after, number, step) {
                 Ok(Turn::On(next)) => after = next,
                 Ok(Turn::Off(halt)) => return Ok(Turn::Off(halt)),
                 Err(fault) => return Err(fault),
@@ -131,21 +132,21 @@ impl<const N: usize, T: Teller> Playing<N, T> {
         Ok(Turn::On(after))
     }
 
-    /// Takes a step of the receiver: its reply is kept, what is told of its text goes out, and the text's room is used
-    /// again.
+    /// Takes a step of the receiver: its reply is kept, what is said about its text goes out, and the text's room is
+    /// used again.
     #[inline(always)]
     fn take<W: Sink>(
         &mut self,
         sink: &mut W,
-        page: &mut Page,
+        outgoing: &mut OutputBuffer,
         written: u64,
         number: u64,
         step: Step,
     ) -> Result<Turn, ToolFault>
         requires { W.failed sink.old ≡ false }
-        ensures took { Took T.account number step self.old.replies.items self.new.replies.items
+        ensures step_taken { TakesStep T.account number step self.old.replies.items self.new.replies.items
             (vec_len self.old.replies) (vec_capacity self.old.replies) self.old.texts self.new.texts
-            (out (W.taken sink.old) page.old) (out (W.taken sink.new) page.new) written result }
+            (out (W.taken sink.old) outgoing.old) (out (W.taken sink.new) outgoing.new) written result }
         ensures receiver { (r : ReceiverState) → IsIn N self.old.receiver r → IsIn N self.new.receiver r }
         ensures differences { self.new.differences ≡ self.old.differences }
         ensures failed { W.failed sink.new ≡ is_err result }
@@ -163,14 +164,14 @@ impl<const N: usize, T: Teller> Playing<N, T> {
         }
         self.texts = self.texts.saturating_add(count_of(&message));
         let account = self.teller.account();
-        let told = HandedOut {
+        let reported = DeliveredText {
             account,
             number,
             message: &message,
         }
-        .tell(sink, page, written);
+        .print(sink, outgoing, written);
         self.reuse(message);
-        match told {
+        match reported {
             Ok(after) => Ok(Turn::On(after)),
             Err(fault) => Err(fault),
         }
@@ -194,7 +195,7 @@ impl<const N: usize, T: Teller> Playing<N, T> {
         }
     }
 
-    /// The room of a text that was told is used again.
+    /// The room of a text that was reported is used again.
     fn reuse(&mut self, message: Option<LinkText>)
         ensures receiver { (r : ReceiverState) → IsIn N self.old.receiver r → IsIn N self.new.receiver r }
         ensures replies { self.new.replies ≡ self.old.replies }
@@ -206,12 +207,12 @@ impl<const N: usize, T: Teller> Playing<N, T> {
         }
     }
 
-    /// Compares the bytes of the computer with the replies, which are let go.
+    /// Compares the bytes of the computer with the replies, which are released.
     #[inline(always)]
     fn compare<W: Sink>(
         &mut self,
         sink: &mut W,
-        page: &mut Page,
+        outgoing: &mut OutputBuffer,
         written: u64,
         number: u64,
         bytes: &[u8],
@@ -223,7 +224,7 @@ impl<const N: usize, T: Teller> Playing<N, T> {
             LineSteps true
             (IsPlaying T.account N self.new.receiver self.new.replies.items self.new.texts self.new.differences
             (line_kinds.FromComputer bytes.now ∷ lines))
-            (out (W.taken sink.old) page.old) (out (W.taken sink.new) page.new) written
+            (out (W.taken sink.old) outgoing.old) (out (W.taken sink.new) outgoing.new) written
             ((playing_writes T.account N).line lines (line_kinds.FromComputer bytes.now)) result }
         ensures failed { W.failed sink.new ≡ is_err result }
     {
@@ -234,7 +235,7 @@ impl<const N: usize, T: Teller> Playing<N, T> {
         let same = bytes == got;
         let differences = counted(self.differences, same);
         let place = Part::Number(number);
-        let after = match gather_difference(sink, page, written, place, bytes, got, same) {
+        let after = match buffer_difference(sink, outgoing, written, place, bytes, got, same) {
             Ok(after) => after,
             Err(fault) => return Err(fault),
         };
@@ -243,32 +244,37 @@ impl<const N: usize, T: Teller> Playing<N, T> {
         Ok(Turn::On(after))
     }
 
-    /// Gathers the closing lines of `replay`.
-    fn close<W: Sink>(&self, sink: &mut W, page: &mut Page, written: u64) -> Result<Halt, ToolFault>
+    /// Buffers the closing lines of `replay`.
+    fn close<W: Sink>(
+        &self,
+        sink: &mut W,
+        outgoing: &mut OutputBuffer,
+        written: u64,
+    ) -> Result<Halt, ToolFault>
         requires working { W.failed sink.old ≡ false }
         requires lines { T.account ≡ accounts.Lines }
         ensures ends { (lines : List LineContent) →
             IsPlaying T.account N self.now.receiver self.now.replies.items self.now.texts self.now.differences lines →
             length lines < 2 ^ 44 →
-            LineEnds ((replay_writes N).report lines) (out (W.taken sink.old) page.old)
-            (out (W.taken sink.new) page.new) written ((replay_writes N).last lines) result }
+            LineEnds ((replay_writes N).report lines) (out (W.taken sink.old) outgoing.old)
+            (out (W.taken sink.new) outgoing.new) written ((replay_writes N).last lines) result }
         ensures failed { W.failed sink.new ≡ is_err result }
     {
         let left = self.replies.as_slice();
         let same = left.is_empty();
         let place = Part::Text(b"end");
-        let after = match gather_difference(sink, page, written, place, &[], left, same) {
+        let after = match buffer_difference(sink, outgoing, written, place, &[], left, same) {
             Ok(after) => after,
             Err(fault) => return Err(fault),
         };
         let differences = counted(self.differences, same);
-        let counts = Counts {
+        let counts = CountsLine {
             word: b"texts ",
             count: self.texts,
             other_word: b" differences ",
             other_count: differences,
         };
-        match counts.tell(sink, page, after) {
+        match counts.print(sink, outgoing, after) {
             Ok(written) => Ok(Halt {
                 written,
                 result: Ok(Report::of(differences > 0)),
@@ -281,7 +287,7 @@ impl<const N: usize, T: Teller> Playing<N, T> {
 impl<const N: usize, T: Teller> LineMachine for Playing<N, T> {
     ghost writes = { playing_writes T.account N };
 
-    ghost stands = { λ m lines. IsPlaying T.account N m.receiver m.replies.items m.texts m.differences lines };
+    ghost represents = { λ m lines. IsPlaying T.account N m.receiver m.replies.items m.texts m.differences lines };
 
     ghost takes_memory = { true };
 
@@ -293,7 +299,7 @@ impl<const N: usize, T: Teller> LineMachine for Playing<N, T> {
     fn line<'a, W: Sink>(
         &mut self,
         sink: &mut W,
-        page: &mut Page,
+        outgoing: &mut OutputBuffer,
         written: u64,
         number: u64,
         line: &Line<'a>,
@@ -302,10 +308,16 @@ impl<const N: usize, T: Teller> LineMachine for Playing<N, T> {
         match line {
             Line::Empty => Ok(Turn::On(written)),
             Line::Version => Ok(Turn::On(written)),
-            Line::FromAnalyzer(bytes) => self.hear(sink, page, written, number, bytes.read(room)),
+            Line::FromAnalyzer(bytes) => self.hear(
+                sink,
+                outgoing,
+                written,
+                number,
+                bytes.read(room),
+            ),
             Line::FromComputer(bytes) => self.compare(
                 sink,
-                page,
+                outgoing,
                 written,
                 number,
                 bytes.read(room),
@@ -325,13 +337,18 @@ impl<const N: usize, T: Teller> LineMachine for Playing<N, T> {
         }
     }
 
-    fn end<W: Sink>(self, sink: &mut W, page: &mut Page, written: u64) -> Result<Halt, ToolFault> {
+    fn end<W: Sink>(
+        self,
+        sink: &mut W,
+        outgoing: &mut OutputBuffer,
+        written: u64,
+    ) -> Result<Halt, ToolFault> {
         match self.teller.account() {
             Account::Texts => Ok(Halt {
                 written,
                 result: Ok(Report::of(false)),
             }),
-            Account::Lines => self.close(sink, page, written),
+            Account::Lines => self.close(sink, outgoing, written),
         }
     }
 }
@@ -357,26 +374,31 @@ fn count_of(message: &Option<LinkText>) -> u64
     }
 }
 
-/// A text that the receiver hands out at the line of this number, if it hands one out.
+/// A text that the receiver delivers at the line of this number, if it delivers one.
 #[derive(Clone, Copy)]
-struct HandedOut<'a> {
+struct DeliveredText<'a> {
     account: Account,
     number: u64,
     message: &'a Option<LinkText>,
 }
 
-impl Tell for HandedOut<'_> {
+impl Print for DeliveredText<'_> {
     ghost text = { λ it. text_parts it.account it.number (option_to_list it.message.now) };
 
     #[inline(always)]
-    fn tell<W: Sink>(&self, sink: &mut W, page: &mut Page, written: u64) -> Result<u64, ToolFault> {
+    fn print<W: Sink>(
+        &self,
+        sink: &mut W,
+        outgoing: &mut OutputBuffer,
+        written: u64,
+    ) -> Result<u64, ToolFault> {
         let Some(text) = self.message else {
             return Ok(written);
         };
         let (number, text) = (self.number, text.as_slice());
         match self.account {
-            Account::Lines => TextLine { number, text }.tell(sink, page, written),
-            Account::Texts => Part::Text(text).tell(sink, page, written),
+            Account::Lines => TextLine { number, text }.print(sink, outgoing, written),
+            Account::Texts => Part::Text(text).print(sink, outgoing, written),
         }
     }
 }

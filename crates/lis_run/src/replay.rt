@@ -1,16 +1,16 @@
-//! The command `replay`: what a receiver answers to the analyzer's bytes of a capture, beside the computer's.
+//! The command `replay`: what a receiver answers to the analyzer's bytes of a capture, next to the computer's.
 
 ghost use Rattle.std.specs.Prelude.{◌≡◌, ◌≤◌, [], true, false, is_err, if◌then◌else◌, IfOk};
 ghost use Rattle.lis_frame.specs.Limit.{IsLimit};
 ghost use Rattle.lis_run.specs.CaptureRuns.{CaptureRan};
 ghost use Rattle.lis_engine.specs.inside.Parts.{part_text};
-ghost use Rattle.lis_engine.specs.Output.{Gathered, out};
+ghost use Rattle.lis_engine.specs.Output.{IsBuffered, out};
 ghost use Rattle.lis_run.specs.Replay.{difference_line, digits_or_dash, replay_writes, text_line};
 ghost use Rattle.lis_engine.specs.Runs.{AreFresh, Stops};
 
 use crate::lines::run_lines;
 use crate::playing::{InLines, Playing};
-use lis_engine::{Page, Part, SourceFor, Tell, ToolFault, make_room};
+use lis_engine::{OutputBuffer, Part, Print, SourceFor, ToolFault, make_room};
 use lis_port::Sink;
 use lis_report::Ended;
 use std::alloc::Global;
@@ -19,8 +19,8 @@ use std::alloc::Global;
 const TEXT_LINE_ROOM: usize = 100;
 
 /// Plays a capture to a new receiver whose frames have at most `N` bytes of text (LIS01-A2, 6.3): it hears what the
-/// analyzer sent, and what it replies is compared with what the computer sent. A line tells each text that it hands
-/// out and each difference, and a last one their counts; the status is 1 where there is a difference.
+/// analyzer sent, and what it replies is compared with what the computer sent. A line reports each text that it
+/// delivers and each difference, and a last one their counts; the status is 1 where there is a difference.
 ///
 /// The source was never read, and neither it nor the sink has failed.
 pub fn run_replay_of<const N: usize, R: SourceFor<W>, W: Sink>(
@@ -30,9 +30,11 @@ pub fn run_replay_of<const N: usize, R: SourceFor<W>, W: Sink>(
     reads: u32,
 ) -> Ended
     requires limit { IsLimit N }
-    requires fresh { AreFresh (R.seen source.old sink.old) }
-    ensures ran { CaptureRan true (replay_writes N) (R.seen source.old sink.old) (R.seen source.new sink.new) result }
-    ensures stops { Stops false true (R.seen source.old sink.old) (R.seen source.new sink.new) reads result }
+    requires fresh { AreFresh (R.known_ports source.old sink.old) }
+    ensures ran { CaptureRan true (replay_writes N) (R.known_ports source.old sink.old)
+        (R.known_ports source.new sink.new) result }
+    ensures stops { Stops false true (R.known_ports source.old sink.old) (R.known_ports source.new sink.new) reads
+        result }
     ensures status { IfOk result (λ report. report.status ≤ 1) }
 {
     let playing = Playing::<N, InLines>::new(alloc, InLines);
@@ -48,9 +50,11 @@ pub fn run_replay<R: SourceFor<W>, W: Sink>(
     sink: &mut W,
     reads: u32,
 ) -> Ended
-    requires { AreFresh (R.seen source.old sink.old) }
-    ensures ran { CaptureRan true (replay_writes 240) (R.seen source.old sink.old) (R.seen source.new sink.new) result }
-    ensures stops { Stops false true (R.seen source.old sink.old) (R.seen source.new sink.new) reads result }
+    requires { AreFresh (R.known_ports source.old sink.old) }
+    ensures ran { CaptureRan true (replay_writes 240) (R.known_ports source.old sink.old)
+        (R.known_ports source.new sink.new) result }
+    ensures stops { Stops false true (R.known_ports source.old sink.old) (R.known_ports source.new sink.new) reads
+        result }
     ensures status { IfOk result (λ report. report.status ≤ 1) }
 {
     run_replay_of::<240, R, W>(alloc, source, sink, reads)
@@ -63,25 +67,30 @@ pub(crate) struct TextLine<'a> {
     pub(crate) text: &'a [u8],
 }
 
-impl Tell for TextLine<'_> {
+impl Print for TextLine<'_> {
     ghost text = { λ line. text_line line.number line.text.now };
 
-    fn tell<W: Sink>(&self, sink: &mut W, page: &mut Page, written: u64) -> Result<u64, ToolFault> {
-        let after = make_room(sink, page, written, TEXT_LINE_ROOM)?;
-        page.append(b"text ");
-        page.append_number(self.number);
-        page.append(b" ");
-        page.append_number(self.text.len() as u64);
-        page.append(b"\n");
+    fn print<W: Sink>(
+        &self,
+        sink: &mut W,
+        outgoing: &mut OutputBuffer,
+        written: u64,
+    ) -> Result<u64, ToolFault> {
+        let after = make_room(sink, outgoing, written, TEXT_LINE_ROOM)?;
+        outgoing.append(b"text ");
+        outgoing.append_number(self.number);
+        outgoing.append(b" ");
+        outgoing.append_number(self.text.len() as u64);
+        outgoing.append(b"\n");
         Ok(after)
     }
 }
 
-/// Gathers the line of a difference between what the computer sent and the replies; none where both are the same.
+/// Buffers the line of a difference between what the computer sent and the replies; none where both are the same.
 #[inline(always)]
-pub(crate) fn gather_difference<'x, W: Sink>(
+pub(crate) fn buffer_difference<'x, W: Sink>(
     sink: &mut W,
-    page: &mut Page,
+    outgoing: &mut OutputBuffer,
     written: u64,
     place: Part<'x>,
     want: &'x [u8],
@@ -89,7 +98,8 @@ pub(crate) fn gather_difference<'x, W: Sink>(
     same: bool,
 ) -> Result<u64, ToolFault>
     requires { W.failed sink.old ≡ false }
-    ensures gathered { Gathered (out (W.taken sink.old) page.old) (out (W.taken sink.new) page.new) written result
+    ensures buffered { IsBuffered (out (W.taken sink.old) outgoing.old) (out (W.taken sink.new) outgoing.new) written
+        result
         (if same then [] else difference_line (part_text place.entry) want.now got.now) }
     ensures failed { W.failed sink.new ≡ is_err result }
 {
@@ -105,7 +115,7 @@ pub(crate) fn gather_difference<'x, W: Sink>(
         or_dash(got),
         Part::Text(b"\n"),
     ];
-    parts.as_slice().tell(sink, page, written)
+    parts.as_slice().print(sink, outgoing, written)
 }
 
 /// The digits of bytes, or a dash for no byte.

@@ -5,9 +5,9 @@ ghost use Rattle.std.specs.Prelude.{OnOk};
 ghost use Rattle.lis_frame.specs.Limit.{IsLimit};
 ghost use Rattle.lis_frame.specs.Scanner.{StandsFor};
 ghost use Rattle.lis_frame.specs.Stream.{signal_after, signals_after, stream_with, with_signal};
-ghost use Rattle.lis_engine.specs.declared.page.TheConstants.{PAGE_ROOM};
-ghost use Rattle.lis_engine.specs.Output.{Gathered, most_counted, out};
-ghost use Rattle.lis_engine.specs.Runs.{AreFresh, RanOver, Shown, Stops};
+ghost use Rattle.lis_engine.specs.declared.output_buffer.TheConstants.{OUTPUT_ROOM};
+ghost use Rattle.lis_engine.specs.Output.{IsBuffered, most_counted, out};
+ghost use Rattle.lis_engine.specs.Runs.{AreFresh, HasRun, Shown, Stops};
 ghost use Rattle.lis_run.specs.Show.{bad_line, digits_part, frame_line, frame_start, Shows, printed_fault, show};
 ghost use Rattle.lis_run.specs.Show.{signal_lines};
 ghost use Rattle.lis_run.specs.inside.Show.{heard_line};
@@ -15,8 +15,8 @@ ghost use Rattle.lis_engine.specs.Outcome.{going};
 ghost use Rattle.lis_engine.specs.inside.Parts.{part_text, text_if_any};
 ghost use Rattle.std.proofs.Common.{ap};
 
-use lis_engine::{Machine, Page, Part, SourceFor, Tell, ToolFault, Written, make_room};
-use lis_frame::{FrameFault, Heard, LentFrame, ScannerOf};
+use lis_engine::{Machine, OutputBuffer, Part, Print, SourceFor, ToolFault, Written, make_room};
+use lis_frame::{BorrowedFrame, FrameFault, Heard, ScannerOf};
 use lis_port::Sink;
 use lis_report::{Ended, Fate, Halt, Refused, Report, Turn};
 
@@ -27,7 +27,7 @@ const FRAME_ROOM: usize = 100;
 /// of text. At most `reads` calls of read are made. The sink is flushed before each that may wait for bytes, so
 /// that no line waits with it, and where the run ends. The faults are those of the source and the sink and
 /// too many reads; what went out by then is the text of the bytes read, and where the sink failed as
-/// much of it as is told.
+/// much of it as is reported.
 ///
 /// The source was never read, and neither it nor the sink has failed.
 pub fn run_show_of<const N: usize, R: SourceFor<W>, W: Sink>(
@@ -36,10 +36,12 @@ pub fn run_show_of<const N: usize, R: SourceFor<W>, W: Sink>(
     reads: u32,
 ) -> Ended
     requires limit { IsLimit N }
-    requires fresh { AreFresh (R.seen source.old sink.old) }
-    ensures ran { RanOver false (Shows N) (R.seen source.old sink.old) (R.seen source.new sink.new) result }
-    ensures stops { Stops false false (R.seen source.old sink.old) (R.seen source.new sink.new) reads result }
-    ensures shown { Shown (show N) (R.seen source.old sink.old) (R.seen source.new sink.new) result }
+    requires fresh { AreFresh (R.known_ports source.old sink.old) }
+    ensures ran { HasRun false (Shows N) (R.known_ports source.old sink.old) (R.known_ports source.new sink.new)
+        result }
+    ensures stops { Stops false false (R.known_ports source.old sink.old) (R.known_ports source.new sink.new) reads
+        result }
+    ensures shown { Shown (show N) (R.known_ports source.old sink.old) (R.known_ports source.new sink.new) result }
     ensures status { IfOk result (λ report. report.status ≡ 0) }
 {
     source.run(sink, Show::<N>::new(), reads)
@@ -49,10 +51,12 @@ pub fn run_show_of<const N: usize, R: SourceFor<W>, W: Sink>(
 ///
 /// The source was never read, and neither it nor the sink has failed.
 pub fn run_show<R: SourceFor<W>, W: Sink>(source: &mut R, sink: &mut W, reads: u32) -> Ended
-    requires { AreFresh (R.seen source.old sink.old) }
-    ensures ran { RanOver false (Shows 240) (R.seen source.old sink.old) (R.seen source.new sink.new) result }
-    ensures stops { Stops false false (R.seen source.old sink.old) (R.seen source.new sink.new) reads result }
-    ensures shown { Shown (show 240) (R.seen source.old sink.old) (R.seen source.new sink.new) result }
+    requires { AreFresh (R.known_ports source.old sink.old) }
+    ensures ran { HasRun false (Shows 240) (R.known_ports source.old sink.old) (R.known_ports source.new sink.new)
+        result }
+    ensures stops { Stops false false (R.known_ports source.old sink.old) (R.known_ports source.new sink.new) reads
+        result }
+    ensures shown { Shown (show 240) (R.known_ports source.old sink.old) (R.known_ports source.new sink.new) result }
     ensures status { IfOk result (λ report. report.status ≡ 0) }
 {
     run_show_of::<240, R, W>(source, sink, reads)
@@ -79,7 +83,7 @@ impl<const N: usize> Show<N> {
 impl<const N: usize> Machine<Refused> for Show<N> {
     ghost means = { Shows N };
 
-    ghost stands = { λ m bytes text. (text ≡ show N bytes) × StandsFor N m.scanner (stream_with [] bytes) };
+    ghost represents = { λ m bytes text. (text ≡ show N bytes) × StandsFor N m.scanner (stream_with [] bytes) };
 
     ghost takes_memory = { false };
 
@@ -87,10 +91,16 @@ impl<const N: usize> Machine<Refused> for Show<N> {
 
     ghost refuses = { false };
 
-    ghost goes_on = { λ m bytes text stood. ap going stood.0 };
+    ghost goes_on = { λ m bytes text represented. ap going represented.0 };
 
-    fn feed<W: Sink>(&mut self, sink: &mut W, page: &mut Page, written: u64, bytes: &[u8]) -> Fate {
-        match show_bytes(&mut self.scanner, sink, page, written, bytes) {
+    fn feed<W: Sink>(
+        &mut self,
+        sink: &mut W,
+        outgoing: &mut OutputBuffer,
+        written: u64,
+        bytes: &[u8],
+    ) -> Fate {
+        match show_bytes(&mut self.scanner, sink, outgoing, written, bytes) {
             Ok(after) => Ok(Turn::On(after)),
             Err(fault) => Err(fault),
         }
@@ -99,7 +109,7 @@ impl<const N: usize> Machine<Refused> for Show<N> {
     fn end<W: Sink>(
         self,
         _sink: &mut W,
-        _page: &mut Page,
+        _outgoing: &mut OutputBuffer,
         written: u64,
     ) -> Result<Halt, ToolFault> {
         Ok(Halt {
@@ -113,19 +123,19 @@ impl<const N: usize> Machine<Refused> for Show<N> {
     }
 }
 
-/// Gathers the lines of the signals that further bytes give.
+/// Buffers the lines of the signals that further bytes give.
 fn show_bytes<const N: usize, W: Sink>(
     scanner: &mut ScannerOf<N>,
     sink: &mut W,
-    page: &mut Page,
+    outgoing: &mut OutputBuffer,
     written: u64,
     bytes: &[u8],
 ) -> Written
     requires { W.failed sink.old ≡ false }
-    ensures gathered { (past : List ℕ) → StandsFor N scanner.old past →
-        Gathered (out (W.taken sink.old) page.old) (out (W.taken sink.new) page.new) written result
+    ensures buffered { (past : List ℕ) → StandsFor N scanner.old past →
+        IsBuffered (out (W.taken sink.old) outgoing.old) (out (W.taken sink.new) outgoing.new) written result
         (signal_lines (signals_after N past bytes.now)) }
-    ensures stands { OnOk result ((past : List ℕ) → StandsFor N scanner.old past →
+    ensures represents { OnOk result ((past : List ℕ) → StandsFor N scanner.old past →
         StandsFor N scanner.new (stream_with past bytes.now)) }
     ensures failed { W.failed sink.new ≡ is_err result }
 {
@@ -134,128 +144,142 @@ fn show_bytes<const N: usize, W: Sink>(
     while let Some((byte, left)) = rest.split_first() {
         let (taken, frame) = scanner.scan(rest);
         if taken == 0 {
-            match show_byte(scanner, sink, page, after, *byte) {
+            match show_byte(scanner, sink, outgoing, after, *byte) {
                 Ok(next) => after = next,
                 Err(fault) => return Err(fault),
             }
             rest = left;
         } else {
-            match tell_lent(sink, page, after, frame) {
+            match print_frame(sink, outgoing, after, frame) {
                 Ok(next) => after = next,
                 Err(fault) => return Err(fault),
             }
-            let (_, behind) = rest.split_at(taken);
-            rest = behind;
+            let (_, following) = rest.split_at(taken);
+            rest = following;
         }
     }
     Ok(after)
 }
 
-/// Gathers the line of a frame, where there is one.
-// By value: told as an option that is lent, each would be put into memory to be looked at, also where there is none.
+/// Buffers the line of a frame, where there is one.
+// By value: reported as an option that is borrowed, each would be put into memory to be looked at, also where there
+// is none.
 #[inline(always)]
-fn tell_lent<W: Sink>(
+fn print_frame<W: Sink>(
     sink: &mut W,
-    page: &mut Page,
+    outgoing: &mut OutputBuffer,
     written: u64,
-    frame: Option<LentFrame<'_>>,
+    frame: Option<BorrowedFrame<'_>>,
 ) -> Written
     requires { W.failed sink.old ≡ false }
-    ensures gathered { Gathered (out (W.taken sink.old) page.old) (out (W.taken sink.new) page.new) written result
+    ensures buffered { IsBuffered (out (W.taken sink.old) outgoing.old) (out (W.taken sink.new) outgoing.new) written
+        result
         (text_if_any frame_line frame.entry) }
     ensures failed { W.failed sink.new ≡ is_err result }
 {
     match frame {
         None => Ok(written),
-        Some(frame) => tell_frame(sink, page, written, &frame),
+        Some(frame) => report_frame(sink, outgoing, written, &frame),
     }
 }
 
-/// Gathers the line of the signal that one more byte gives, if it gives one.
+/// Buffers the line of the signal that one more byte gives, if it gives one.
 fn show_byte<const N: usize, W: Sink>(
     scanner: &mut ScannerOf<N>,
     sink: &mut W,
-    page: &mut Page,
+    outgoing: &mut OutputBuffer,
     written: u64,
     byte: u8,
 ) -> Written
     requires { W.failed sink.old ≡ false }
-    ensures gathered { (past : List ℕ) → StandsFor N scanner.old past →
-        Gathered (out (W.taken sink.old) page.old) (out (W.taken sink.new) page.new) written result
+    ensures buffered { (past : List ℕ) → StandsFor N scanner.old past →
+        IsBuffered (out (W.taken sink.old) outgoing.old) (out (W.taken sink.new) outgoing.new) written result
         (signal_lines (with_signal (signal_after N past byte) [])) }
-    ensures stands { (past : List ℕ) → StandsFor N scanner.old past → StandsFor N scanner.new (byte ∷ past) }
+    ensures represents { (past : List ℕ) → StandsFor N scanner.old past → StandsFor N scanner.new (byte ∷ past) }
     ensures count { IfOk result (λ after. after ≤ most_counted) }
     ensures failed { W.failed sink.new ≡ is_err result }
 {
-    let result = match scanner.told(byte) {
+    let result = match scanner.peek(byte) {
         None => Ok(written),
-        Some(heard) => tell_heard(sink, page, written, &heard),
+        Some(heard) => report_heard(sink, outgoing, written, &heard),
     };
     scanner.take(byte);
     result
 }
 
-/// Gathers the line of a signal.
-fn tell_heard<W: Sink>(sink: &mut W, page: &mut Page, written: u64, heard: &Heard<'_>) -> Written
+/// Buffers the line of a signal.
+fn report_heard<W: Sink>(
+    sink: &mut W,
+    outgoing: &mut OutputBuffer,
+    written: u64,
+    heard: &Heard<'_>,
+) -> Written
     requires { W.failed sink.old ≡ false }
-    ensures gathered { Gathered (out (W.taken sink.old) page.old) (out (W.taken sink.new) page.new) written result
+    ensures buffered { IsBuffered (out (W.taken sink.old) outgoing.old) (out (W.taken sink.new) outgoing.new) written
+        result
         (heard_line heard.now) }
     ensures failed { W.failed sink.new ≡ is_err result }
 {
     match heard {
-        Heard::Enq => Part::Text(b"ENQ\n").tell(sink, page, written),
-        Heard::Eot => Part::Text(b"EOT\n").tell(sink, page, written),
-        Heard::Good(frame) => tell_frame(sink, page, written, frame),
-        Heard::Bad(fault) => tell_fault(sink, page, written, *fault),
+        Heard::Enq => Part::Text(b"ENQ\n").print(sink, outgoing, written),
+        Heard::Eot => Part::Text(b"EOT\n").print(sink, outgoing, written),
+        Heard::Good(frame) => report_frame(sink, outgoing, written, frame),
+        Heard::Bad(fault) => report_fault(sink, outgoing, written, *fault),
     }
 }
 
-/// Gathers the line of a frame.
-fn tell_frame<W: Sink>(
+/// Buffers the line of a frame.
+fn report_frame<W: Sink>(
     sink: &mut W,
-    page: &mut Page,
+    outgoing: &mut OutputBuffer,
     written: u64,
-    frame: &LentFrame<'_>,
+    frame: &BorrowedFrame<'_>,
 ) -> Written
     requires { W.failed sink.old ≡ false }
-    ensures gathered { Gathered (out (W.taken sink.old) page.old) (out (W.taken sink.new) page.new) written result
+    ensures buffered { IsBuffered (out (W.taken sink.old) outgoing.old) (out (W.taken sink.new) outgoing.new) written
+        result
         (frame_line frame.now) }
     ensures failed { W.failed sink.new ≡ is_err result }
 {
     let digits = digits_part(frame.text());
-    ((FrameStart(frame), digits), Part::Text(b"\n")).tell(sink, page, written)
+    ((FrameStart(frame), digits), Part::Text(b"\n")).print(sink, outgoing, written)
 }
 
 /// The line of a frame as far as the length of its text.
 #[derive(Clone, Copy)]
-struct FrameStart<'a>(&'a LentFrame<'a>);
+struct FrameStart<'a>(&'a BorrowedFrame<'a>);
 
-impl Tell for FrameStart<'_> {
+impl Print for FrameStart<'_> {
     ghost text = { λ start. frame_start start.0.now.number start.0.now.last ++ decimal (length start.0.now.text) };
 
     #[inline(always)]
-    fn tell<W: Sink>(&self, sink: &mut W, page: &mut Page, written: u64) -> Written {
+    fn print<W: Sink>(&self, sink: &mut W, outgoing: &mut OutputBuffer, written: u64) -> Written {
         let FrameStart(frame) = self;
-        let after = make_room(sink, page, written, FRAME_ROOM)?;
-        start_frame(page, frame.number(), frame.is_last(), frame.text().len());
+        let after = make_room(sink, outgoing, written, FRAME_ROOM)?;
+        start_frame(
+            outgoing,
+            frame.number(),
+            frame.is_last(),
+            frame.text().len(),
+        );
         Ok(after)
     }
 }
 
-/// Puts the line of a frame behind the page, as far as the length of its text.
+/// Puts the line of a frame after the output buffer, as far as the length of its text.
 #[inline(always)]
-fn start_frame(page: &mut Page, number: u8, last: bool, count: usize)
-    requires { length page.old + FRAME_ROOM ≤ PAGE_ROOM }
-    ensures { page.new ≡ page.old ++ (frame_start number last ++ decimal count) }
+fn start_frame(outgoing: &mut OutputBuffer, number: u8, last: bool, count: usize)
+    requires { length outgoing.old + FRAME_ROOM ≤ OUTPUT_ROOM }
+    ensures { outgoing.new ≡ outgoing.old ++ (frame_start number last ++ decimal count) }
 {
-    page.append(b"frame ");
-    page.append_number(number as u64);
+    outgoing.append(b"frame ");
+    outgoing.append_number(number as u64);
     if last {
-        page.append(b" end ");
+        outgoing.append(b" end ");
     } else {
-        page.append(b" more ");
+        outgoing.append(b" more ");
     }
-    page.append_number(count as u64);
+    outgoing.append_number(count as u64);
 }
 
 /// A space and the digits of bytes, where there are any.
@@ -269,34 +293,40 @@ fn digits_part(bytes: &[u8]) -> Option<(Part<'_>, Part<'_>)>
     Some((Part::Text(b" "), Part::Digits(bytes)))
 }
 
-/// Gathers the line of a bad frame.
-fn tell_fault<W: Sink>(sink: &mut W, page: &mut Page, written: u64, fault: FrameFault) -> Written
+/// Buffers the line of a bad frame.
+fn report_fault<W: Sink>(
+    sink: &mut W,
+    outgoing: &mut OutputBuffer,
+    written: u64,
+    fault: FrameFault,
+) -> Written
     requires { W.failed sink.old ≡ false }
-    ensures gathered { Gathered (out (W.taken sink.old) page.old) (out (W.taken sink.new) page.new) written result
+    ensures buffered { IsBuffered (out (W.taken sink.old) outgoing.old) (out (W.taken sink.new) outgoing.new) written
+        result
         (bad_line fault) }
     ensures failed { W.failed sink.new ≡ is_err result }
 {
-    let after = make_room(sink, page, written, FRAME_ROOM)?;
-    page.append(b"bad ");
-    append_fault(page, fault);
-    page.append(b"\n");
+    let after = make_room(sink, outgoing, written, FRAME_ROOM)?;
+    outgoing.append(b"bad ");
+    append_fault(outgoing, fault);
+    outgoing.append(b"\n");
     Ok(after)
 }
 
-/// Puts the code of a fault behind the page, with the place of a byte that a text may not hold.
-fn append_fault(page: &mut Page, fault: FrameFault)
-    requires { length page.old + 50 ≤ PAGE_ROOM }
-    ensures value { page.new ≡ page.old ++ printed_fault fault }
-    ensures short { length page.new ≤ length page.old + 50 }
+/// Puts the code of a fault after the output buffer, with the place of a byte that a text may not hold.
+fn append_fault(outgoing: &mut OutputBuffer, fault: FrameFault)
+    requires { length outgoing.old + 50 ≤ OUTPUT_ROOM }
+    ensures value { outgoing.new ≡ outgoing.old ++ printed_fault fault }
+    ensures short { length outgoing.new ≤ length outgoing.old + 50 }
 {
     match fault {
-        FrameFault::TooLong => page.append(b"F1"),
-        FrameFault::Shape => page.append(b"F2"),
-        FrameFault::Number => page.append(b"F3"),
+        FrameFault::TooLong => outgoing.append(b"F1"),
+        FrameFault::Shape => outgoing.append(b"F2"),
+        FrameFault::Number => outgoing.append(b"F3"),
         FrameFault::Text(place) => {
-            page.append(b"F4 ");
-            page.append_number(place as u64);
+            outgoing.append(b"F4 ");
+            outgoing.append_number(place as u64);
         }
-        FrameFault::Sum => page.append(b"F5"),
+        FrameFault::Sum => outgoing.append(b"F5"),
     }
 }

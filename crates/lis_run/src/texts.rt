@@ -1,4 +1,4 @@
-//! The command `texts`: the texts that a receiver hands out of the analyzer's bytes of a capture.
+//! The command `texts`: the texts that a receiver delivers of the analyzer's bytes of a capture.
 
 ghost use Rattle.std.specs.Prelude.{◌≡◌, false, true, IfOk};
 ghost use Rattle.lis_frame.specs.Limit.{IsLimit};
@@ -14,7 +14,7 @@ use lis_report::Ended;
 use std::alloc::Global;
 
 /// Plays a capture to a new receiver whose frames have at most `N` bytes of text (LIS01-A2, 6.3): it hears what the
-/// analyzer sent, and each text that it hands out is written as it stands, with nothing between them.
+/// analyzer sent, and each text that it delivers is written as it is, with nothing between them.
 ///
 /// The source was never read, and neither it nor the sink has failed.
 pub fn run_texts_of<const N: usize, R: SourceFor<W>, W: Sink>(
@@ -24,9 +24,11 @@ pub fn run_texts_of<const N: usize, R: SourceFor<W>, W: Sink>(
     reads: u32,
 ) -> Ended
     requires limit { IsLimit N }
-    requires fresh { AreFresh (R.seen source.old sink.old) }
-    ensures ran { CaptureRan true (texts_writes N) (R.seen source.old sink.old) (R.seen source.new sink.new) result }
-    ensures stops { Stops false true (R.seen source.old sink.old) (R.seen source.new sink.new) reads result }
+    requires fresh { AreFresh (R.known_ports source.old sink.old) }
+    ensures ran { CaptureRan true (texts_writes N) (R.known_ports source.old sink.old)
+        (R.known_ports source.new sink.new) result }
+    ensures stops { Stops false true (R.known_ports source.old sink.old) (R.known_ports source.new sink.new) reads
+        result }
     ensures status { IfOk result (λ report. report.status ≡ 0) }
 {
     let playing = Playing::<N, InTexts>::new(alloc, InTexts);
@@ -42,9 +44,11 @@ pub fn run_texts<R: SourceFor<W>, W: Sink>(
     sink: &mut W,
     reads: u32,
 ) -> Ended
-    requires { AreFresh (R.seen source.old sink.old) }
-    ensures ran { CaptureRan true (texts_writes 240) (R.seen source.old sink.old) (R.seen source.new sink.new) result }
-    ensures stops { Stops false true (R.seen source.old sink.old) (R.seen source.new sink.new) reads result }
+    requires { AreFresh (R.known_ports source.old sink.old) }
+    ensures ran { CaptureRan true (texts_writes 240) (R.known_ports source.old sink.old)
+        (R.known_ports source.new sink.new) result }
+    ensures stops { Stops false true (R.known_ports source.old sink.old) (R.known_ports source.new sink.new) reads
+        result }
     ensures status { IfOk result (λ report. report.status ≡ 0) }
 {
     run_texts_of::<240, R, W>(alloc, source, sink, reads)

@@ -2,7 +2,7 @@
 
 ghost use Rattle.std.specs.Prelude.{◌≡◌, ◌≤◌, ◌++◌, [], List, true, false, is_err, length, IfOk};
 ghost use Rattle.lis_capture.specs.declared.line.Line.{Line as LineContent};
-ghost use Rattle.lis_capture.specs.Spelling.{added_spelling};
+ghost use Rattle.lis_capture.specs.Encoding.{added_encoding};
 ghost use Rattle.lis_run.specs.CaptureRuns.{CaptureRan};
 ghost use Rattle.lis_engine.specs.inside.Parts.{part_text, text_if_any};
 ghost use Rattle.lis_engine.specs.Runs.{AreFresh, Stops};
@@ -10,19 +10,21 @@ ghost use Rattle.lis_run.specs.Upgrade.{opening, upgrade_writes};
 ghost use Rattle.lis_run.specs.inside.Upgrade.{is_begun};
 
 use crate::lines::{LineMachine, run_lines};
-use lis_capture::{LONGEST_SPELLING, Line, LineReader, MOST_BYTES};
-use lis_engine::{Page, Part, SourceFor, Tell, ToolFault, make_room};
+use lis_capture::{LONGEST_ENCODING, Line, LineReader, MOST_BYTES};
+use lis_engine::{OutputBuffer, Part, Print, SourceFor, ToolFault, make_room};
 use lis_port::Sink;
 use lis_report::{Ended, Halt, Report, Turn};
 
 /// Writes a capture as one of version 2: the line `capture 2`, and then each of its lines, with digits in
-/// lower case and without CR. Where a line is none, the lines before it are written. It takes no memory.
+/// lower case and without CR. Where a line is malformed, the lines before it are written. It takes no memory.
 ///
 /// The source was never read, and neither it nor the sink has failed.
 pub fn run_upgrade<R: SourceFor<W>, W: Sink>(source: &mut R, sink: &mut W, reads: u32) -> Ended
-    requires { AreFresh (R.seen source.old sink.old) }
-    ensures ran { CaptureRan false upgrade_writes (R.seen source.old sink.old) (R.seen source.new sink.new) result }
-    ensures stops { Stops false true (R.seen source.old sink.old) (R.seen source.new sink.new) reads result }
+    requires { AreFresh (R.known_ports source.old sink.old) }
+    ensures ran { CaptureRan false upgrade_writes (R.known_ports source.old sink.old)
+        (R.known_ports source.new sink.new) result }
+    ensures stops { Stops false true (R.known_ports source.old sink.old) (R.known_ports source.new sink.new) reads
+        result }
     ensures status { IfOk result (λ report. report.status ≡ 0) }
 {
     run_lines(Upgrade { begun: false }, source, sink, reads)
@@ -37,7 +39,7 @@ struct Upgrade {
 impl LineMachine for Upgrade {
     ghost writes = { upgrade_writes };
 
-    ghost stands = { λ m lines. m.begun ≡ is_begun lines };
+    ghost represents = { λ m lines. m.begun ≡ is_begun lines };
 
     ghost takes_memory = { false };
 
@@ -49,20 +51,25 @@ impl LineMachine for Upgrade {
     fn line<'a, W: Sink>(
         &mut self,
         sink: &mut W,
-        page: &mut Page,
+        outgoing: &mut OutputBuffer,
         written: u64,
         _number: u64,
         line: &Line<'a>,
         _room: &'a mut [u8; MOST_BYTES],
     ) -> Result<Turn, ToolFault> {
-        let opening = opening_behind(self.begun);
+        let opening = opening_after(self.begun);
         self.begun = true;
-        let after = (opening, AddedLine(line)).tell(sink, page, written)?;
+        let after = (opening, AddedLine(line)).print(sink, outgoing, written)?;
         Ok(Turn::On(after))
     }
 
-    fn end<W: Sink>(self, sink: &mut W, page: &mut Page, written: u64) -> Result<Halt, ToolFault> {
-        let written = opening_behind(self.begun).tell(sink, page, written)?;
+    fn end<W: Sink>(
+        self,
+        sink: &mut W,
+        outgoing: &mut OutputBuffer,
+        written: u64,
+    ) -> Result<Halt, ToolFault> {
+        let written = opening_after(self.begun).print(sink, outgoing, written)?;
         Ok(Halt {
             written,
             result: Ok(Report::of(false)),
@@ -72,7 +79,7 @@ impl LineMachine for Upgrade {
 
 /// The line of the version, where no line was read before.
 #[inline(always)]
-fn opening_behind(begun: bool) -> Option<Part<'static>>
+fn opening_after(begun: bool) -> Option<Part<'static>>
     ensures { (lines : List LineContent) → begun ≡ is_begun lines → text_if_any part_text result ≡ opening lines }
 {
     if begun {
@@ -81,21 +88,26 @@ fn opening_behind(begun: bool) -> Option<Part<'static>>
     Some(Part::Text(b"capture 2\n"))
 }
 
-/// A line as it is written; the version stands in front alone.
+/// A line as it is written; the version is in front alone.
 #[derive(Clone, Copy)]
 struct AddedLine<'a, 'b>(&'b Line<'a>);
 
-impl Tell for AddedLine<'_, '_> {
-    ghost text = { λ added. added_spelling added.0.now };
+impl Print for AddedLine<'_, '_> {
+    ghost text = { λ added. added_encoding added.0.now };
 
     #[inline(always)]
-    fn tell<W: Sink>(&self, sink: &mut W, page: &mut Page, written: u64) -> Result<u64, ToolFault> {
+    fn print<W: Sink>(
+        &self,
+        sink: &mut W,
+        outgoing: &mut OutputBuffer,
+        written: u64,
+    ) -> Result<u64, ToolFault> {
         let AddedLine(line) = self;
         if let Line::Version = line {
             return Ok(written);
         }
-        let after = make_room(sink, page, written, LONGEST_SPELLING)?;
-        line.append_to(page);
+        let after = make_room(sink, outgoing, written, LONGEST_ENCODING)?;
+        line.append_to(outgoing);
         Ok(after)
     }
 }

@@ -5,11 +5,11 @@ use Rattle.std.specs.List.{join_with_byte}
 use Rattle.std.proofs.Math.Seq.{drop-append_seam, take-append_seam}
 use Rattle.std.proofs.lemmas.List.{drop-drop, map-append}
 use Rattle.std.proofs.lemmas.List.Splits.{join_with_byte-slice_split}
-use Rattle.lis_field.specs.declared.kinds.Kind.{Kind}
-use Rattle.lis_field.specs.Delimiters.{DelimiterBytes}
-use Rattle.lis_field.specs.Shape.{first_number}
-use Rattle.lis_part.specs.FrontReading.{components_of, parts_behind, parts_of, repeats_of, symbols_of}
-use Rattle.lis_record.specs.Lent.{front_length, record_in}
+use Rattle.lis_record_values.specs.declared.kinds.Kind.{Kind}
+use Rattle.lis_record_values.specs.Delimiters.{DelimiterBytes}
+use Rattle.lis_record_values.specs.Shape.{first_number}
+use Rattle.lis_record_read.specs.FrontReading.{components_of, parts_following, parts_of, repeats_of, symbols_of}
+use Rattle.lis_record.specs.Borrowed.{front_length, record_in}
 use Rattle.lis_table.specs.declared.table.LisPart.{LisPart}
 use Rattle.lis_table.specs.Entries.{Entry, component_entries, entries_of, entry_at, field_entries, repeat_entries}
 use Rattle.lis_table.specs.Table.{component_places, field_places, place_of, repeat_places, table_of}
@@ -18,9 +18,10 @@ module _ (d : DelimiterBytes) (text : List ℕ) where
   abbrev Follows : ℕ → List ℕ → Type 0
   Follows at bytes = drop at text ≡ bytes
 
-  -- what comes after a part and the byte behind it
-  behind : (mark at : ℕ) (part more : List ℕ) → Follows at (part ++ mark ∷ more) → Follows (at + length part + 1) more
-  behind mark at part more is =
+  -- what comes after a part and the byte after it
+  following : (mark at : ℕ) (part more : List ℕ) → Follows at (part ++ mark ∷ more) → Follows (at + length part + 1)
+      more
+  following mark at part more is =
       let sum : at + length part + 1 ≡ at + (length part + 1) = omega arith in
       let one : drop 1 (mark ∷ more) ≡ more = refl in
       ap (λ (n : ℕ). drop n text) sum
@@ -49,11 +50,12 @@ module _ (d : DelimiterBytes) (text : List ℕ) where
       let here : Follows at (part ++ (d.component ∷ (others ++ more))) =
       is ∙ append_assoc part (d.component ∷ others) more in
       let first = component_read f r c at part (d.component ∷ (others ++ more)) here in
-      ap (λ (e : Entry). e ∷ map (entry_at d text) (component_places d f r (c + 1) (at + length part + 1) (next ∷ parts)))
+      ap (λ (e : Entry). e ∷ map (entry_at d text) (component_places d f r (c + 1) (at + length part + 1)
+      (next ∷ parts)))
       first
       ∙ ap (λ (l : List Entry). record { field = f; repeat = r; component = c; symbols = symbols_of d part } ∷ l)
       (components_read (next ∷ parts) f r (c + 1) (at + length part + 1) more
-      (behind d.component at part (others ++ more) here))
+      (following d.component at part (others ++ more) here))
 
   -- the components of a repeat's text
   repeat_read : (f r at : ℕ) (part more : List ℕ) → Follows at (part ++ more)
@@ -80,7 +82,7 @@ module _ (d : DelimiterBytes) (text : List ℕ) where
       (repeat_read f r at part (d.repeat ∷ (others ++ more)) here)
       ∙ ap (λ (l : List Entry). component_entries f r 0 (components_of d part) ++ l)
       (repeats_read (next ∷ parts) f (r + 1) (at + length part + 1) more
-      (behind d.repeat at part (others ++ more) here))
+      (following d.repeat at part (others ++ more) here))
 
   -- the components of a field's text
   field_read : (f at : ℕ) (part more : List ℕ) → Follows at (part ++ more)
@@ -107,7 +109,7 @@ module _ (d : DelimiterBytes) (text : List ℕ) where
       (field_read f at part (d.field ∷ (others ++ more)) here)
       ∙ ap (λ (l : List Entry). repeat_entries f 0 (repeats_of d part) ++ l)
       (fields_read (next ∷ parts) (f + 1) (at + length part + 1) more
-      (behind d.field at part (others ++ more) here))
+      (following d.field at part (others ++ more) here))
 
 -- the table of a record's text
 pub table_read : (d : DelimiterBytes) (kind : Kind) (text : List ℕ)
@@ -116,8 +118,8 @@ table_read d kind text = go (drop (front_length kind) text) refl
   where
     go : (rest : List ℕ) → drop (front_length kind) text ≡ rest
         → map (entry_at d text)
-        (field_places d (first_number kind) (front_length kind + 1) (parts_behind d.field rest))
-        ≡ field_entries (first_number kind) (map (repeats_of d) (parts_behind d.field rest))
+        (field_places d (first_number kind) (front_length kind + 1) (parts_following d.field rest))
+        ≡ field_entries (first_number kind) (map (repeats_of d) (parts_following d.field rest))
     go [] is = refl
     go (mark ∷ rest) is =
         let here : drop (front_length kind + 1) text ≡ join_with_byte d.field (parts_of d.field rest) ++ [] =

@@ -4,11 +4,11 @@ use Rattle.std.proofs.Common.{◌<◌, get_or, refl, sym, ap, ◌∙◌, arith, 
 use Rattle.std.specs.List.{list_any, onto_first}
 use Rattle.std.proofs.lemmas.Bool.Decides.{eqb_tells}
 use Rattle.std.proofs.lemmas.List.{drop_more}
-use Rattle.lis_field.specs.declared.kinds.Kind.{Kind}
-use Rattle.lis_field.specs.Delimiters.{DelimiterBytes}
-use Rattle.lis_field.specs.Shape.{first_number}
-use Rattle.lis_record.specs.Lent.{front_length}
-use Rattle.lis_part.specs.FrontReading.{parts_behind, parts_of}
+use Rattle.lis_record_values.specs.declared.kinds.Kind.{Kind}
+use Rattle.lis_record_values.specs.Delimiters.{DelimiterBytes}
+use Rattle.lis_record_values.specs.Shape.{first_number}
+use Rattle.lis_record.specs.Borrowed.{front_length}
+use Rattle.lis_record_read.specs.FrontReading.{parts_following, parts_of}
 use Rattle.lis_table.specs.declared.table.LisPart.{LisPart}
 use Rattle.lis_table.specs.Table.{component_places, field_places, place_of, repeat_places, table_of}
 use Rattle.lis_table.specs.inside.Table.{first_place}
@@ -31,7 +31,8 @@ others-onto : (b : ℕ) (parts : List (List ℕ)) → others (onto_first b parts
 others-onto b [] = refl
 others-onto b (part ∷ parts) = refl
 
-onto-some : (b : ℕ) (parts : List (List ℕ)) → onto_first b parts ≡ first (onto_first b parts) ∷ others (onto_first b parts)
+onto-some : (b : ℕ) (parts : List (List ℕ)) → onto_first b parts ≡ first (onto_first b parts) ∷ others
+    (onto_first b parts)
 onto-some b [] = refl
 onto-some b (part ∷ parts) = refl
 
@@ -79,7 +80,8 @@ module _ (d : DelimiterBytes) where
 
   -- at the start of a component, a repeat or a field nothing of it was read
   components-start : (f r c at : ℕ) (text : List ℕ)
-      → component_places d f r c at (parts_of d.component text) ≡ components_left f r c at [] (parts_of d.component text)
+      → component_places d f r c at (parts_of d.component text) ≡ components_left f r c at []
+      (parts_of d.component text)
   components-start f r c at text = ap (component_places d f r c at) (parts-some d.component text)
 
   repeats-start : (f r at : ℕ) (text : List ℕ)
@@ -123,7 +125,8 @@ module _ (d : DelimiterBytes) where
       by true false more = refl
       by false t more = more
 
-  with_size : (p : LisPart) (size flags : ℕ) → p.len ≡ size → p.flags ≡ flags → p ≡ record p { len = size; flags = flags }
+  with_size : (p : LisPart) (size flags : ℕ) → p.len ≡ size → p.flags ≡ flags → p
+      ≡ record p { len = size; flags = flags }
   with_size p size flags a b = rw (← a, ← b) refl
 
   longer-is : (f r c at : ℕ) (u : List ℕ) (b : ℕ)
@@ -328,19 +331,19 @@ module _ (d : DelimiterBytes) where
 
   -- the table of a record's fields
   pub scanned-table : (f at b : ℕ) (bs text : List ℕ) → text ≡ b ∷ bs
-      → scanned d (place_of d f 0 0 at []) bs ≡ field_places d f at (parts_behind d.field text)
+      → scanned d (place_of d f 0 0 at []) bs ≡ field_places d f at (parts_following d.field text)
   scanned-table f at b bs text is =
       scanned-left bs f 0 0 at [] ∙ sym (fields-start f at bs)
-      ∙ ap (λ (l : List ℕ). field_places d f at (parts_behind d.field l)) (sym is)
+      ∙ ap (λ (l : List ℕ). field_places d f at (parts_following d.field l)) (sym is)
 
 -- the table of a record whose fields begin there
 pub scanned-record : (d : DelimiterBytes) (kind : Kind) (text fields : List ℕ) (before : ℕ) (first : LisPart)
     → before ≡ front_length kind → before < length text → fields ≡ drop (before + 1) text → first ≡ first_place kind
     → scanned d first fields ≡ table_of d kind text
-scanned-record d kind text fields before first front longer_is behind starts =
+scanned-record d kind text fields before first front longer_is following starts =
     let at : drop (front_length kind) text ≡ get_or text before 0 ∷ fields =
     ap (λ (n : ℕ). drop n text) (sym front) ∙ drop_more text before 0 longer_is
-    ∙ ap (λ (l : List ℕ). get_or text before 0 ∷ l) (sym behind) in
+    ∙ ap (λ (l : List ℕ). get_or text before 0 ∷ l) (sym following) in
     ap (λ (p : LisPart). scanned d p fields) starts
     ∙ scanned-table d (first_number kind) (front_length kind + 1) (get_or text before 0) fields
     (drop (front_length kind) text) at

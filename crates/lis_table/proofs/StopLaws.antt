@@ -12,12 +12,12 @@ use Rattle.std.proofs.lemmas.Bool.Decides.{eqb_tells}
 use Rattle.std.specs.Prelude.{Option}
 use Rattle.std.proofs.lemmas.List.{drop-drop, length-drop, length-map, take_all}
 use Rattle.std.proofs.lemmas.Simd.{mask_l-lt}
-use Rattle.lis_field.specs.Delimiters.{DelimiterBytes, IsDelimiters}
+use Rattle.lis_record_values.specs.Delimiters.{DelimiterBytes, IsDelimiters}
 use Rattle.lis_text.proofs.SearchLemmas.{clean-before, found-chunk, found-within}
-use Rattle.lis_part.proofs.LastBits.{last-bits, mask_l-drop}
-use Rattle.lis_part.proofs.Stops.{all-fail}
-use Rattle.lis_record.proofs.Marks.{front-behind}
-use Rattle.lis_part.specs.inside.FrontReading.{stops}
+use Rattle.lis_record_read.proofs.LastBits.{last-bits, mask_l-drop}
+use Rattle.lis_record_read.proofs.Stops.{all-fail}
+use Rattle.lis_record.proofs.Marks.{front-following}
+use Rattle.lis_record_read.specs.inside.FrontReading.{stops}
 use Rattle.lis_table.specs.inside.Stops.{AreEndStops, AreStops, KnowsEnd}
 
 -- two tests that no byte passes both of
@@ -90,7 +90,8 @@ none-free : (d : DelimiterBytes) (xs : List ℕ) → mask_l (map (stops d d.esca
     → All (λ b. stops d d.escape b ≡ false) xs
 none-free d xs none = all-fail (stops d d.escape) 0 xs (clear 0 xs none)
   where
-    clear : (i : ℕ) (xs : List ℕ) → mask_l (map (stops d d.escape) xs) ≡ 0 → position_from (stops d d.escape) i xs ≡ None
+    clear : (i : ℕ) (xs : List ℕ) → mask_l (map (stops d d.escape) xs) ≡ 0 → position_from (stops d d.escape) i xs
+        ≡ None
     clear i [] e = refl
     clear i (x ∷ xs) e = by (stops d d.escape x) e (clear (i + 1) xs)
       where
@@ -143,7 +144,7 @@ module _ (d : DelimiterBytes) (text : List ℕ) where
       are =
           ap (λ (n : ℕ). n / 2 ^ passed) m.are
           ∙ mask_l-drop (stops d d.escape) passed (take m.count text)
-          ∙ ap (λ (l : List ℕ). mask_l (map (stops d d.escape) l)) (front-behind passed m.count text);
+          ∙ ap (λ (l : List ℕ). mask_l (map (stops d d.escape) l)) (front-following passed m.count text);
     }
 
 -- halved once more

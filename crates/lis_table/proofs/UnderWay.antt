@@ -6,8 +6,8 @@ use Rattle.std.specs.Prelude.{slice_set}
 use Rattle.std.specs.List.{All}
 use Rattle.std.proofs.lemmas.Bool.Decides.{eqb_tells}
 use Rattle.std.proofs.lemmas.List.{drop-drop, length-drop, length-take-le}
-use Rattle.lis_field.specs.Delimiters.{DelimiterBytes}
-use Rattle.lis_part.specs.inside.FrontReading.{stops}
+use Rattle.lis_record_values.specs.Delimiters.{DelimiterBytes}
+use Rattle.lis_record_read.specs.inside.FrontReading.{stops}
 use Rattle.lis_table.specs.declared.table.LisPart.{LisPart}
 use Rattle.lis_table.specs.inside.Scan.{IsRoomy, longer, next_place, scanned, scanned_by}
 use Rattle.lis_table.specs.inside.Stops.{AreStops, KnowsEnd}
@@ -84,7 +84,8 @@ module _ (d : DelimiterBytes) where
           ∙ ap (λ (o : Option LisPart). scanned_by (grown p free) o (longer d (grown p free) byte)
           (λ q. scanned d q more)) e
 
-      went_on : next_place d (grown p free) byte ≡ None → scanned d p rest ≡ scanned d (longer d (grown p free) byte) more
+      went_on : next_place d (grown p free) byte ≡ None → scanned d p rest ≡ scanned d (longer d (grown p free) byte)
+          more
       went_on e = at_byte
           ∙ ap (λ (o : Option LisPart). scanned_by (grown p free) o (longer d (grown p free) byte)
           (λ q. scanned d q more)) e
@@ -92,8 +93,8 @@ module _ (d : DelimiterBytes) where
       size : length rest ≡ free + suc (length more)
       size = omega (arith, ap length is, length-drop free rest, within)
 
-      pub behind : more ≡ drop (free + 1) rest
-      behind = sym (ap (drop 1) is) ∙ drop-drop 1 free rest
+      pub following : more ≡ drop (free + 1) rest
+      following = sym (ap (drop 1) is) ∙ drop-drop 1 free rest
 
       module _ (begun : LisPart) (text : List ℕ) (before out : List LisPart) (marks known count : ℕ) (end : Option ℕ)
           (u : IsUnderWay d begun text before p rest marks end out count)
@@ -108,11 +109,12 @@ module _ (d : DelimiterBytes) where
 
         end_later : KnowsEnd d more end
         end_later =
-            subst (λ (l : List ℕ). KnowsEnd d l end) (sym behind) (end-more d rest end (free + 1) (omega (arith, size))
+            subst (λ (l : List ℕ). KnowsEnd d l end) (sym following) (end-more d rest end (free + 1)
+            (omega (arith, size))
             u.ends)
 
         later : AreStops d more known
-        later = subst (λ (l : List ℕ). AreStops d l known) (sym behind) marked
+        later = subst (λ (l : List ℕ). AreStops d l known) (sym following) marked
 
         -- the byte ended the component
         pub next-under_way : (next : LisPart) (new : List LisPart) → Some next ≡ next_place d (grown p free) byte

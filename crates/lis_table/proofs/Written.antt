@@ -1,15 +1,16 @@
 -- A table that is written entry by entry, as far as it has room; and bytes that end no component.
-use Rattle.std.proofs.Common.{◌≡◌, ◌≤◌, ℕ, zero, suc, ◌+◌, ◌-◌, ◌^◌, ◌<◌, ◌==◌, ◌||◌, Bool, true, false, List, [], ◌∷◌, ◌++◌}
+use Rattle.std.proofs.Common.{◌≡◌, ◌≤◌, ℕ, zero, suc, ◌+◌, ◌-◌, ◌^◌, ◌<◌, ◌==◌, ◌||◌, Bool, true, false, List, [], ◌∷◌}
+use Rattle.std.proofs.Common.{◌++◌}
 use Rattle.std.proofs.Common.{length, take, drop, refl, sym, ap, ◌∙◌, arith, add-one, inl, inr}
 use Rattle.std.specs.Prelude.{Option, slice_set}
 use Rattle.std.specs.List.{All}
 use Rattle.std.proofs.lemmas.List.{drop-drop, length-drop, take_all}
 use Rattle.std.proofs.lemmas.List.Elements.{All-head, All-tail}
-use Rattle.lis_field.specs.Delimiters.{DelimiterBytes}
+use Rattle.lis_record_values.specs.Delimiters.{DelimiterBytes}
 use Rattle.lis_table.specs.declared.table.LisPart.{LisPart}
 use Rattle.lis_table.specs.inside.Scan.{IsRoomy, longer, scanned}
 use Rattle.lis_table.specs.inside.Stops.{AreStops, KnowsEnd}
-use Rattle.lis_part.specs.inside.FrontReading.{stops}
+use Rattle.lis_record_read.specs.inside.FrontReading.{stops}
 
 take-none : (n : ℕ) → take {A = LisPart} n [] ≡ []
 take-none zero = refl
@@ -27,7 +28,8 @@ pub written-none : (table before : List LisPart) → before ≡ written table be
 written-none table before = ap (λ (l : List LisPart). l ++ before) (sym (take-none (length before)))
 
 -- one more is put
-set-written : (table before : List LisPart) (count : ℕ) (p : LisPart) (rest : List LisPart) → drop count table ≡ p ∷ rest
+set-written : (table before : List LisPart) (count : ℕ) (p : LisPart) (rest : List LisPart) → drop count table
+    ≡ p ∷ rest
     → slice_set (written table before count) count p ≡ written table before (suc count)
 set-written table [] zero p rest e = refl
 set-written table [] (suc count) p rest e = refl

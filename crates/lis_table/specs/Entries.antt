@@ -1,9 +1,9 @@
 -- The components of a record in order, by the number of their field and the places of their repeat and component, and
 -- what an entry of a table says of a text.
 use Rattle.std.specs.Prelude.{ℕ, ◌+◌, List, [], ◌∷◌, ◌++◌, drop, take}
-use Rattle.lis_field.specs.Delimiters.{DelimiterBytes}
-use Rattle.lis_field.specs.Shape.{Components, Fields, RecordContent, Repeats, Symbols, first_number}
-use Rattle.lis_part.specs.FrontReading.{symbols_of}
+use Rattle.lis_record_values.specs.Delimiters.{DelimiterBytes}
+use Rattle.lis_record_values.specs.Shape.{Components, Fields, RecordContent, Repeats, Symbols, first_number}
+use Rattle.lis_record_read.specs.FrontReading.{symbols_of}
 use Rattle.lis_table.specs.declared.table.LisPart.{LisPart}
 
 -- a component of a record, and which it is

@@ -2,11 +2,11 @@
 -- and components that the text is read as: a component is where its part of the text is.
 use Rattle.std.specs.Prelude.{ℕ, ◌+◌, ◌==◌, List, [], ◌∷◌, ◌++◌, drop, if◌then◌else◌, length}
 use Rattle.std.specs.List.{list_any}
-use Rattle.lis_field.specs.declared.kinds.Kind.{Kind}
-use Rattle.lis_field.specs.Delimiters.{DelimiterBytes}
-use Rattle.lis_field.specs.Shape.{first_number}
-use Rattle.lis_part.specs.FrontReading.{parts_behind, parts_of}
-use Rattle.lis_record.specs.Lent.{front_length}
+use Rattle.lis_record_values.specs.declared.kinds.Kind.{Kind}
+use Rattle.lis_record_values.specs.Delimiters.{DelimiterBytes}
+use Rattle.lis_record_values.specs.Shape.{first_number}
+use Rattle.lis_record_read.specs.FrontReading.{parts_following, parts_of}
+use Rattle.lis_record.specs.Borrowed.{front_length}
 use Rattle.lis_table.specs.declared.table.LisPart.{LisPart}
 
 -- a component of these bytes
@@ -45,4 +45,4 @@ field_places d field offset (text ∷ texts) =
 abbrev pub table_of : DelimiterBytes → Kind → List ℕ → List LisPart
 table_of d kind text =
     field_places d (first_number kind) (front_length kind + 1)
-    (parts_behind d.field (drop (front_length kind) text))
+    (parts_following d.field (drop (front_length kind) text))

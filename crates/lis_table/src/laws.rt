@@ -1,9 +1,9 @@
 //! What a table of places says of its record.
 
 ghost use Rattle.std.specs.Prelude.{◌≡◌, ℕ, List, map};
-ghost use Rattle.lis_field.specs.declared.kinds.Kind.{Kind};
-ghost use Rattle.lis_field.specs.Delimiters.{DelimiterBytes};
-ghost use Rattle.lis_record.specs.Lent.{record_in};
+ghost use Rattle.lis_record_values.specs.declared.kinds.Kind.{Kind};
+ghost use Rattle.lis_record_values.specs.Delimiters.{DelimiterBytes};
+ghost use Rattle.lis_record.specs.Borrowed.{record_in};
 ghost use Rattle.lis_table.specs.Entries.{entries_of, entry_at};
 ghost use Rattle.lis_table.specs.Table.{table_of};
 

@@ -6,10 +6,10 @@ ghost use Rattle.std.specs.Int.Count.{count_trailing_zeros};
 ghost use Rattle.std.specs.List.{All};
 ghost use Rattle.std.specs.Simd.Lanes.{mask_l};
 ghost use Rattle.lis_table.specs.inside.Stops.{AreStops, KnowsEnd};
-ghost use Rattle.lis_part.specs.inside.FrontReading.{stops};
+ghost use Rattle.lis_record_read.specs.inside.FrontReading.{stops};
 
-use lis_field::Delimiters;
-use lis_part::bits_of;
+use lis_record_read::bits_of;
+use lis_record_values::Delimiters;
 
 /// The places among the first sixteen bytes of a text that hold one of the four, as bits.
 #[inline(always)]
@@ -51,7 +51,7 @@ fn free_by_one(delimiters: Delimiters, text: &[u8]) -> usize
     count
 }
 
-/// What known places tell: how many bytes come before the first, and the places that are known after it.
+/// What known places report: how many bytes come before the first, and the places that are known after it.
 #[inline(always)]
 fn next_known(marks: u64) -> (usize, u64)
     requires { 0 < marks }
@@ -94,7 +94,7 @@ fn last_stop(delimiters: Delimiters, text: &[u8], end: Option<u64>) -> (usize, u
 }
 
 /// How many bytes hold none of the four before the next one to be looked at, and the places that are known after that.
-/// Few places are known at a time, or none, and beside them those at the text's end.
+/// Few places are known at a time, or none, and next to them those at the text's end.
 #[inline(always)]
 pub(crate) fn next_stop(
     delimiters: Delimiters,

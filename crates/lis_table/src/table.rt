@@ -1,14 +1,14 @@
 //! The components of a record as a table, made in one pass over its text (LIS02-A2, Delimiters).
 
 ghost use Rattle.std.specs.Prelude.{◌≡◌, ◌≤◌, ◌<◌, ◌+◌, ◌++◌, MatchOption, Some, drop, length, slice_set, take};
-ghost use Rattle.lis_field.specs.Text.{record_limit};
-ghost use Rattle.lis_record.specs.Lent.{front_length};
+ghost use Rattle.lis_record_values.specs.Text.{record_limit};
+ghost use Rattle.lis_record.specs.Borrowed.{front_length};
 ghost use Rattle.lis_table.specs.Table.{table_of};
 ghost use Rattle.lis_table.specs.inside.Table.{first_place};
 ghost use Rattle.lis_table.specs.inside.Scan.{IsRoomy, longer, next_place, scanned};
 
 use crate::stops::{end_stops, next_stop};
-use lis_field::{Delimiters, Kind};
+use lis_record_values::{Delimiters, Kind};
 
 /// Where a component is in its record's text, and which it is: the number of its field, as the standard counts, and
 /// its repeat and component from 0. `flags` is 1 if the escape byte is among its bytes, else 0.
@@ -127,9 +127,9 @@ fn put_from(delimiters: Delimiters, first: LisPart, text: &[u8], out: &mut [LisP
     let mut count: usize = 0;
     'bytes: loop {
         let (free, known) = next_stop(delimiters, rest, marks, end);
-        let (_, behind) = rest.split_at(free);
+        let (_, following) = rest.split_at(free);
         place.len += free as u32;
-        let Some((byte, more)) = behind.split_first() else {
+        let Some((byte, more)) = following.split_first() else {
             break 'bytes;
         };
         match next_place(delimiters, place, *byte) {

@@ -13,7 +13,7 @@ fn faults_say_what_is_wrong(rt: HostRuntime) {
         place: 6,
         reason: Reason::Unfinished,
     };
-    let told = format!(in rt.alloc();
+    let reported = format!(in rt.alloc();
         "{}\n{}\n{}\n{}\n{}\n",
         ToolFault::TooManyReads,
         PlayFault::OutOfMemory,
@@ -23,12 +23,12 @@ fn faults_say_what_is_wrong(rt: HostRuntime) {
     )
     .expect(&rt, "memory");
     let want = "lislink: K5\n\
-        memory was refused\n\
+        memory ran out\n\
         no message: record 6: the end came before the message's closing record [G5]\n\
         no texts: the message has more than 65536 records\n\
-        memory was refused\n";
-    assert!(rt; told.as_str() == want);
-    drop(told);
+        memory ran out\n";
+    assert!(rt; reported.as_str() == want);
+    drop(reported);
 }
 
 #[test]

@@ -13,11 +13,11 @@ use uses::analyzer::send_texts;
 use uses::building::{result_message, result_texts};
 use uses::capture::is_as_played;
 use uses::computer::next_text;
+use uses::connection::Event;
 use uses::frames::ends_message;
-use uses::line::Event;
 use uses::results::{Reading, count_results, readings};
 use uses::resuming::write_to_both;
-use uses::testing::{Entry, ScriptedLine};
+use uses::testing::{Entry, ScriptedConnection};
 
 /// ENQ, the text A in one frame, and EOT.
 const SESSION: &[u8] = b"\x05\x021A\x0375\r\n\x04";
@@ -29,19 +29,24 @@ fn assert_sent(
     alloc: Global,
     events: &[Event],
     ended: Outcome,
-    told: (&[u8], &[u32]),
+    reported: (&[u8], &[u32]),
 ) {
     let texts = Texts::from_slices(alloc, &[b"A".as_slice()]).expect(rt, "memory");
-    let mut line = ScriptedLine::new(alloc, events);
+    let mut line = ScriptedConnection::new(alloc, events);
     let mut sender = Sender::new();
     assert!(rt; send_texts(&mut line, &mut sender, texts) == Ok(Some(ended)));
     drop(sender);
-    assert_told(rt, alloc, &line, told);
+    assert_reported(rt, alloc, &line, reported);
     drop(line);
 }
 
 /// Fails where other bytes were sent on a line, or other timers started.
-fn assert_told(rt: &impl Abort, alloc: Global, line: &ScriptedLine<'_>, told: (&[u8], &[u32])) {
+fn assert_reported(
+    rt: &impl Abort,
+    alloc: Global,
+    line: &ScriptedConnection<'_>,
+    reported: (&[u8], &[u32]),
+) {
     let log = line.log().expect(rt, "memory");
     let mut bytes = Vec::new(alloc);
     let mut timers = Vec::new(alloc);
@@ -54,7 +59,7 @@ fn assert_told(rt: &impl Abort, alloc: Global, line: &ScriptedLine<'_>, told: (&
             Entry::Timed(seconds) => timers.push(*seconds).expect(rt, "memory"),
         }
     }
-    assert!(rt; (bytes.as_slice(), timers.as_slice()) == told);
+    assert!(rt; (bytes.as_slice(), timers.as_slice()) == reported);
     drop(bytes);
     drop(timers);
 }
@@ -71,7 +76,7 @@ fn a_text_is_sent(rt: HostRuntime) {
     );
 }
 
-/// NAK, noise and the end of the wait behind NAK; ENQ and the end of the wait behind that; and no reply.
+/// NAK, noise and the end of the wait after NAK; ENQ and the end of the wait after that; and no reply.
 const WAITS: [Event; 6] = [
     Event::Byte(NAK),
     Event::Byte(b'x'),
@@ -83,13 +88,13 @@ const WAITS: [Event; 6] = [
 
 #[test]
 fn each_wait_has_its_timer(rt: HostRuntime) {
-    let told: (&[u8], &[u32]) = (&[ENQ, ENQ, ENQ, EOT], &[15, 10, 15, 1, 15]);
-    assert_sent(&rt, rt.alloc(), &WAITS, Outcome::TimedOut, told);
+    let reported: (&[u8], &[u32]) = (&[ENQ, ENQ, ENQ, EOT], &[15, 10, 15, 1, 15]);
+    assert_sent(&rt, rt.alloc(), &WAITS, Outcome::TimedOut, reported);
 }
 
 /// Sends the text A in so many sessions of one sender on a line with these events; fails unless this was done.
 fn assert_sessions(rt: &impl Abort, alloc: Global, events: &[Event], sessions: usize, done: &[u8]) {
-    let mut line = ScriptedLine::new(alloc, events);
+    let mut line = ScriptedConnection::new(alloc, events);
     let mut sender = Sender::new();
     for _session in 0..sessions {
         let texts = Texts::from_slices(alloc, &[b"A".as_slice()]).expect(rt, "memory");
@@ -134,20 +139,20 @@ const RECEIVED: [Event; 10] = [
 
 #[test]
 fn a_text_is_received(rt: HostRuntime) {
-    let mut line = ScriptedLine::new(rt.alloc(), &RECEIVED);
+    let mut line = ScriptedConnection::new(rt.alloc(), &RECEIVED);
     let mut receiver = Receiver::new(rt.alloc());
     let text = next_text(&mut line, &mut receiver).expect(&rt, "a text");
     assert!(rt; text.as_slice() == b"A".as_slice());
     drop(text);
     assert!(rt; next_text(&mut line, &mut receiver).is_none());
     drop(receiver);
-    assert_told(&rt, rt.alloc(), &line, (&[ACK, ACK], &[30, 30]));
+    assert_reported(&rt, rt.alloc(), &line, (&[ACK, ACK], &[30, 30]));
     drop(line);
 }
 
 /// Fails unless this was done on a line, a letter for each entry: W waited, S sent, T timer, R reconnected, K kept,
 /// N not kept.
-fn assert_done(rt: &impl Abort, alloc: Global, line: &ScriptedLine<'_>, done: &[u8]) {
+fn assert_done(rt: &impl Abort, alloc: Global, line: &ScriptedConnection<'_>, done: &[u8]) {
     let mut letters = Vec::new(alloc);
     for entry in line.log().expect(rt, "memory") {
         let letter = match entry {
@@ -166,7 +171,7 @@ fn assert_done(rt: &impl Abort, alloc: Global, line: &ScriptedLine<'_>, done: &[
 
 #[test]
 fn a_text_is_kept_before_it_is_acknowledged(rt: HostRuntime) {
-    let mut line = ScriptedLine::new(rt.alloc(), &RECEIVED);
+    let mut line = ScriptedConnection::new(rt.alloc(), &RECEIVED);
     let mut receiver = Receiver::new(rt.alloc());
     let text = next_text(&mut line, &mut receiver).expect(&rt, "a text");
     drop(text);
@@ -177,7 +182,7 @@ fn a_text_is_kept_before_it_is_acknowledged(rt: HostRuntime) {
 
 #[test]
 fn a_text_that_is_not_kept_gets_no_reply(rt: HostRuntime) {
-    let mut line = ScriptedLine::new(rt.alloc(), &RECEIVED).with_answers(&[false]);
+    let mut line = ScriptedConnection::new(rt.alloc(), &RECEIVED).with_answers(&[false]);
     let mut receiver = Receiver::new(rt.alloc());
     assert!(rt; next_text(&mut line, &mut receiver).is_none());
     drop(receiver);
@@ -194,7 +199,7 @@ fn a_frame_that_comes_again_gets_no_reply_if_its_text_is_not_kept(rt: HostRuntim
     for event in RECEIVED.as_slice().split_at(9).0.split_at(1).1 {
         events.push(*event).expect(&rt, "memory");
     }
-    let mut line = ScriptedLine::new(rt.alloc(), events.as_slice()).with_answers(&[false]);
+    let mut line = ScriptedConnection::new(rt.alloc(), events.as_slice()).with_answers(&[false]);
     let mut receiver = Receiver::new(rt.alloc());
     assert!(rt; next_text(&mut line, &mut receiver).is_none());
     drop(receiver);
@@ -213,7 +218,7 @@ fn the_last_frame_ends_a_message(rt: HostRuntime) {
 }
 
 /// The bytes that were sent on a line, as events on the other end's.
-fn sent_on(rt: &impl Abort, alloc: Global, line: &ScriptedLine<'_>) -> Vec<Event> {
+fn sent_on(rt: &impl Abort, alloc: Global, line: &ScriptedConnection<'_>) -> Vec<Event> {
     let mut events = Vec::new(alloc);
     for entry in line.log().expect(rt, "memory") {
         if let Entry::Sent(bytes) = entry {
@@ -232,7 +237,7 @@ fn sent_by_analyzer(
     replies: &[Event],
     sessions: usize,
 ) -> (Vec<Event>, Option<Outcome>) {
-    let mut line = ScriptedLine::new(alloc, replies);
+    let mut line = ScriptedConnection::new(alloc, replies);
     let mut sender = Sender::new();
     let mut ended = None;
     for _session in 0..sessions {
@@ -253,7 +258,7 @@ fn sent_by_computer(
     bytes: &[Event],
     answers: &[bool],
 ) -> (Vec<Event>, usize) {
-    let mut line = ScriptedLine::new(alloc, bytes).with_answers(answers);
+    let mut line = ScriptedConnection::new(alloc, bytes).with_answers(answers);
     let mut receiver = Receiver::new(alloc);
     let mut count = 0usize;
     for expected in TEXTS {
@@ -273,7 +278,7 @@ fn sent_by_computer(
 /// The texts that are carried from one loop to the other.
 const TEXTS: [&[u8]; 2] = [b"A", b"BC"];
 
-// Neither loop runs beside the other: each round is played again from the start, with one more reply.
+// Neither loop runs next to the other: each round is played again from the start, with one more reply.
 #[test]
 fn one_loop_carries_texts_to_the_other(rt: HostRuntime) {
     let mut replies = Vec::new(rt.alloc());
@@ -354,9 +359,9 @@ fn a_message_has_a_text_for_each_record(rt: HostRuntime) {
 fn assert_texts(rt: &impl Abort, texts: &[LinkText]) {
     let mut rest = RESULT;
     for text in texts {
-        let (front, behind) = rest.split_at(text.len().min(rest.len()));
+        let (front, following) = rest.split_at(text.len().min(rest.len()));
         assert!(rt; text.as_slice() == front);
-        rest = behind;
+        rest = following;
     }
     assert!(rt; rest.is_empty());
 }

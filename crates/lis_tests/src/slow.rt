@@ -10,11 +10,11 @@ use std::collections::VecDeque;
 use std::mem::drop;
 use std::process::Abort;
 use uses::analyzer::send_texts;
-use uses::line::{Event, Line};
+use uses::connection::{Connection, Event};
 
 /// A line in memory to a computer that is slow. A reply that comes after the timer stays on the line.
 #[derive(Drop)]
-struct SlowLine {
+struct SlowConnection {
     computer: Receiver,
     replies: VecDeque<u8>,
     /// The last text that the computer got; its one byte.
@@ -24,9 +24,9 @@ struct SlowLine {
     reconnects: u32,
 }
 
-impl SlowLine {
+impl SlowConnection {
     fn new(alloc: Global) -> Self {
-        SlowLine {
+        SlowConnection {
             computer: Receiver::new(alloc),
             replies: VecDeque::new(alloc),
             last: None,
@@ -46,7 +46,7 @@ impl SlowLine {
         (self.chance >> 16) % one_of == 0
     }
 
-    /// A byte comes to the computer, which replies.
+    /// A byte reaches the computer, which replies.
     fn hear(&mut self, byte: u8) {
         let Step {
             reply,
@@ -63,8 +63,8 @@ impl SlowLine {
     }
 }
 
-impl Line for SlowLine {
-    ghost deeds = { λ _. None };
+impl Connection for SlowConnection {
+    ghost event_log = { λ _. None };
 
     fn send(&mut self, bytes: &[u8]) {
         if bytes.len() > 1 && self.happens(8) {
@@ -96,7 +96,7 @@ impl Line for SlowLine {
 
 #[test]
 fn no_session_is_done_whose_text_was_lost(rt: HostRuntime) {
-    let mut line = SlowLine::new(rt.alloc());
+    let mut line = SlowConnection::new(rt.alloc());
     let mut sender = Sender::new();
     let mut done = 0u32;
     for session in 0..1000u32 {

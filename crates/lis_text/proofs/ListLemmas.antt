@@ -1,4 +1,4 @@
--- What a list is after items were put to it, and what stands at a place of it.
+-- What a list is after items were put to it, and what is at a place of it.
 use Rattle.std.proofs.Common.{◌≡◌, ◌++◌, List, Result, Ok}
 use Rattle.std.proofs.Common.{Err, IfErr, OnOk, ap, ◌∙◌}
 use Rattle.std.specs.Bool.{if◌then◌else◌}
@@ -13,5 +13,5 @@ added (Err fault) new before old more same is = tt
 pub refused : {A E : Type 0} (P : E → Type 0) (result : Result (Unit {0}) E) (new before old more : List A)
     → before ≡ old → new ≡ (if is_ok result then before ++ more else before) → IfErr result P
     → IfErr result (λ fault. P fault × (new ≡ old))
-refused P (Ok done) new before old more same is told = tt
-refused P (Err fault) new before old more same is told = (told, is ∙ same)
+refused P (Ok done) new before old more same is reported = tt
+refused P (Err fault) new before old more same is reported = (reported, is ∙ same)

@@ -46,7 +46,7 @@ position-some f i (x ∷ xs) ys e = by (f x) e (position-some f (i + 1) xs ys)
         let at : i + (1 + prefix_len (λ x. not (f x)) xs) ≡ i + 1 + prefix_len (λ x. not (f x)) xs = omega arith in
         rw at (later (omega arith))
 
--- what stands before the first that passes
+-- what is before the first that passes
 pub record Before (f : ℕ → Bool) (i k : ℕ) (xs : List ℕ) : Type 0 where
   pub from : i ≤ k
   pub inside : k < i + length xs
@@ -79,7 +79,7 @@ module _ (f : ℕ → Bool) (xs : List ℕ) where
       let at : k - 0 ≡ k = omega arith in
       (omega (arith, before.inside), rw at at before.clean)
 
-  -- the first that passes stands behind all that don't, and no further
+  -- the first that passes is after all that don't, and no further
   pub prefix-found : (k : ℕ) → position_from f 0 xs ≡ Some k → k ≡ prefix_len (λ x. not (f x)) xs
   prefix-found k e = by (nat_lt (prefix_len (λ x. not (f x)) xs) (length xs)) refl
     where
@@ -174,10 +174,10 @@ position-shift f i j (x ∷ xs) = by (f x) (position-shift f i (j + 1) xs)
         let at : i + j + 1 ≡ i + (j + 1) = omega arith in
         rw at later
 
-pub position-behind :
+pub position-following :
     (f : ℕ → Bool) (i : ℕ) (xs : List ℕ) (o : Option ℕ) → o ≡ position_from f 0 xs
     → option_map (λ k. i + k) o ≡ position_from f i xs
-position-behind f i xs o e = rw e (sym (rw (add-zero i) at (position-shift f i 0 xs)))
+position-following f i xs o e = rw e (sym (rw (add-zero i) at (position-shift f i 0 xs)))
 
 -- tests that agree on each byte
 pub same_map : (f g : ℕ → Bool) → ((b : ℕ) → f b ≡ g b) → (xs : List ℕ) → map f xs ≡ map g xs

@@ -35,7 +35,7 @@ zip-wrapped [] (y ∷ ys) e = cc
 zip-wrapped (x ∷ xs) [] e = cc
 zip-wrapped (x ∷ xs) (y ∷ ys) e = omega (arith, zip-wrapped xs ys (omega arith))
 
--- the lanes before a place, and 0 behind them
+-- the lanes before a place, and 0 after them
 selected :
     (i n : ℕ) (xs : List ℕ) →
     sum_l (sel_l (map (λ (a : ℕ). nat_lt a n) (range_with_len i (length xs))) xs (replicate (length xs) 0))
@@ -59,12 +59,12 @@ selected i n (x ∷ xs) = by (nat_lt i n) refl (selected (i + 1) n xs)
         rw (at, later) refl
     by false t later =
         let at : n - i ≡ 0 = grind (arith, nat_tests, t) in
-        let behind : n - (i + 1) ≡ 0 = grind (arith, nat_tests, t) in
+        let following : n - (i + 1) ≡ 0 = grind (arith, nat_tests, t) in
         rw (
           at,
           zero-add (sum_l (sel_l (map (λ (a : ℕ). nat_lt a n) (range_with_len (i + 1) (length xs))) xs
               (replicate (length xs) 0))),
-        ) (rw behind at later)
+        ) (rw following at later)
 
 pub front-selected :
     (n : ℕ) (xs : List ℕ) → length xs ≡ 16 →

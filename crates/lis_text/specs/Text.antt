@@ -19,7 +19,7 @@ pub record IsText (limit : ℕ) (bytes : List ℕ) : Type 0 where
   pub short : length bytes ≤ limit
   pub clean : first_forbidden bytes ≡ None
 
--- what is wrong with a text: its length is told before a byte of it
+-- what is wrong with a text: its length is reported before a byte of it
 abbrev pub text_fault : ℕ → List ℕ → Option TextFault
 text_fault limit bytes = if nat_lt limit (length bytes) then Some TooLong else option_map Forbidden
     (first_forbidden bytes)

@@ -12,7 +12,7 @@ pub const ENQ: u8 = 0x05;
 pub const ACK: u8 = 0x06;
 /// Line feed: ends a frame.
 pub const LF: u8 = 0x0a;
-/// Carriage return: stands before the line feed that ends a frame.
+/// Carriage return: is before the line feed that ends a frame.
 pub const CR: u8 = 0x0d;
 /// Negative acknowledgement: the negative reply.
 pub const NAK: u8 = 0x15;

@@ -53,8 +53,8 @@ pub enum TextRefused {
     /// There are as many texts as a session has.
     #[error("a session has 65536 texts at most")]
     Full(LinkText),
-    /// Memory was refused.
-    #[error("memory was refused")]
+    /// Memory ran out.
+    #[error("memory ran out")]
     OutOfMemory(LinkText),
 }
 
@@ -91,8 +91,8 @@ impl Texts {
         Ok(Texts { texts })
     }
 
-    /// Puts a text at the end. That there are as many as a session has is told before any want of
-    /// memory; in both cases the text comes back, and the texts are as before.
+    /// Puts a text at the end. That there are as many as a session has is reported before any lack
+    /// of memory; in both cases the text comes back, and the texts are as before.
     pub fn push(&mut self, text: LinkText) -> Result<(), TextRefused>
         ensures ok { OnOk result (self.new ≡ self.old ++ text ∷ []) }
         ensures err { IfErr result (λ refused. IsTextRefused self.old text refused × (self.new ≡ self.old)) }

@@ -1,4 +1,4 @@
-//! The list that texts, frames and what stands above them are kept in.
+//! The list that texts, frames and what is above them are kept in.
 
 ghost use Rattle.std.specs.Prelude.{◌≡◌, ◌==◌, ◌++◌, ◌∷◌, ◌-◌, [], length, slice_get, slice_set, IfErr, IfOk, OnOk};
 ghost use Rattle.std.specs.Prelude.{OnErr};
@@ -50,7 +50,7 @@ impl<T> List<T> {
         items
     }
 
-    /// Puts an item at the end. Where memory is refused it comes back, and the list is as before.
+    /// Puts an item at the end. If memory runs out it comes back, and the list is as before.
     pub fn push(&mut self, item: T) -> Result<(), AllocFailed<T>>
         ensures ok { OnOk result (self.new ≡ self.old ++ item ∷ []) }
         ensures err { IfErr result (λ refused. (refused.value ≡ item) × (self.new ≡ self.old)) }
@@ -79,7 +79,7 @@ impl<T> List<T> {
         self.items.get(place)
     }
 
-    /// The last item, to change it where it stands.
+    /// The last item, to change it where it is.
     pub fn last_mut(&mut self) -> Option<&mut T>
         ensures* writes_back { sem 𝓛 (LendsIf (the_row T.row) T.row self.entry result
             (slice_set self.old (length self.old - 1)) self.old) }
@@ -121,7 +121,7 @@ impl<T: Copy> List<T> {
         })
     }
 
-    /// Puts items at the end. Where memory is refused the list is as before.
+    /// Puts items at the end. If memory runs out the list is as before.
     pub fn extend(&mut self, items: &[T]) -> Result<(), AllocError>
         ensures ok { OnOk result (self.new ≡ self.old ++ items.now) }
         ensures err { OnErr result (self.new ≡ self.old) }

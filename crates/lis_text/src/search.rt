@@ -33,8 +33,8 @@ pub fn first_in<S: ByteSet>(bytes: &[u8]) -> Option<usize>
         if bits != 0 {
             return Some(place + bits.trailing_zeros() as usize);
         }
-        let (_, behind) = rest.split_at(16);
-        rest = behind;
+        let (_, following) = rest.split_at(16);
+        rest = following;
         place += 16;
     }
     match first_by_one::<S>(rest) {
@@ -71,8 +71,8 @@ pub fn first_and_sum<S: ByteSet>(bytes: &[u8]) -> (Option<usize>, u8)
             );
         }
         sums += sixteen;
-        let (_, behind) = rest.split_at(16);
-        rest = behind;
+        let (_, following) = rest.split_at(16);
+        rest = following;
         place += 16;
     }
     let sum = sums.reduce_sum();

@@ -16,7 +16,7 @@ pub enum TextFault {
     #[error("the text is too long")]
     TooLong,
     /// The byte at this place, from 0, is the first that a text may not hold.
-    #[error("the byte at place {0} may not stand in a text")]
+    #[error("the byte at place {0} may not be in a text")]
     Forbidden(usize),
 }
 

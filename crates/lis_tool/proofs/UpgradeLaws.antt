@@ -1,15 +1,15 @@
--- An upgraded capture says the same: its lines are the capture's, perhaps behind that of the version.
+-- An upgraded capture says the same: its lines are the capture's, perhaps after that of the version.
 use Rattle.std.proofs.Common.{◌≡◌, ℕ, ◌+◌, Bool, true, false, List, [], ◌∷◌, ◌++◌, length, refl, sym, ◌∙◌, ap, arith}
 use Rattle.std.proofs.Common.{append_assoc, append-nil, length-append}
 use Rattle.lis_frame.specs.Stream.{stream_with}
 use Rattle.lis_capture.specs.declared.line.CaptureVersion.{CaptureVersion}
-use Rattle.lis_capture.specs.declared.line.CaptureVersion.TheVariants.{Untold, First, Second}
+use Rattle.lis_capture.specs.declared.line.CaptureVersion.TheVariants.{Unsaid, First, Second}
 use Rattle.lis_capture.specs.declared.line.Line.{Line}
 use Rattle.lis_capture.specs.declared.line.Line.TheVariants.{Version}
 use Rattle.lis_capture.specs.Capture.{Lines, lines_of, version_of}
-use Rattle.lis_capture.specs.Spelling.{added_spelling, upgraded, upgraded_lines}
-use Rattle.lis_capture.proofs.SpellingLemmas.{AreRead-read_lines, capture-upgraded, upgraded-upgraded_lines}
-use Rattle.lis_capture.proofs.SpellingLemmas.{version_of-upgraded_lines}
+use Rattle.lis_capture.specs.Encoding.{added_encoding, upgraded, upgraded_lines}
+use Rattle.lis_capture.proofs.EncodingLemmas.{AreRead-read_lines, capture-upgraded, upgraded-upgraded_lines}
+use Rattle.lis_capture.proofs.EncodingLemmas.{version_of-upgraded_lines}
 use Rattle.lis_capture.proofs.VersionLemmas.{Gains, gains-capture}
 use Rattle.lis_run.specs.LineOutcome.{Writes, capture_outcome, lines_outcome, lines_text}
 use Rattle.lis_engine.specs.Outcome.{whole}
@@ -24,70 +24,72 @@ use Rattle.lis_tool.specs.Laws.{UpgradedSaysTheSame, lines_in, number_upgraded, 
 written-upgraded : (lines : List Line) → lines_text upgrade_writes lines ++ opening lines ≡ upgraded lines
 written-upgraded [] = refl
 written-upgraded (line ∷ lines) =
-    append-nil (lines_text upgrade_writes lines ++ (opening lines ++ added_spelling line))
-    ∙ sym (append_assoc (lines_text upgrade_writes lines) (opening lines) (added_spelling line))
-    ∙ ap (λ (t : List ℕ). t ++ added_spelling line) (written-upgraded lines)
+    append-nil (lines_text upgrade_writes lines ++ (opening lines ++ added_encoding line))
+    ∙ sym (append_assoc (lines_text upgrade_writes lines) (opening lines) (added_encoding line))
+    ∙ ap (λ (t : List ℕ). t ++ added_encoding line) (written-upgraded lines)
 
--- ---- what is played of lines behind that of the version
+-- ---- what is played of lines after that of the version
 
-abbrev behind_version : List Line → List Line
-behind_version lines = lines ++ Version ∷ []
+abbrev following_version : List Line → List Line
+following_version lines = lines ++ Version ∷ []
 
-played-behind : (limit : ℕ) (lines : List Line) → played limit (behind_version lines) ≡ played limit lines
-played-behind limit [] = refl
-played-behind limit (line ∷ lines) = ap (played_line limit line) (played-behind limit lines)
+played-following : (limit : ℕ) (lines : List Line) → played limit (following_version lines) ≡ played limit lines
+played-following limit [] = refl
+played-following limit (line ∷ lines) = ap (played_line limit line) (played-following limit lines)
 
-text_count-behind : (limit : ℕ) (lines : List Line) → text_count limit (behind_version lines) ≡ text_count limit lines
-text_count-behind limit [] = refl
-text_count-behind limit (line ∷ lines) = rw (text_count-behind limit lines) (rw (played-behind limit lines) refl)
+text_count-following : (limit : ℕ) (lines : List Line) → text_count limit (following_version lines)
+    ≡ text_count limit lines
+text_count-following limit [] = refl
+text_count-following limit (line ∷ lines) = rw (text_count-following limit lines)
+    (rw (played-following limit lines) refl)
 
-difference_count-behind : (limit : ℕ) (lines : List Line)
-    → difference_count limit (behind_version lines) ≡ difference_count limit lines
-difference_count-behind limit [] = refl
-difference_count-behind limit (line ∷ lines) =
-    rw (difference_count-behind limit lines) (rw (played-behind limit lines) refl)
+difference_count-following : (limit : ℕ) (lines : List Line)
+    → difference_count limit (following_version lines) ≡ difference_count limit lines
+difference_count-following limit [] = refl
+difference_count-following limit (line ∷ lines) =
+    rw (difference_count-following limit lines) (rw (played-following limit lines) refl)
 
-texts-behind : (limit : ℕ) (lines : List Line)
-    → lines_text (texts_writes limit) (behind_version lines) ≡ lines_text (texts_writes limit) lines
-texts-behind limit [] = refl
-texts-behind limit (line ∷ lines) = rw (texts-behind limit lines) (rw (played-behind limit lines) refl)
+texts-following : (limit : ℕ) (lines : List Line)
+    → lines_text (texts_writes limit) (following_version lines) ≡ lines_text (texts_writes limit) lines
+texts-following limit [] = refl
+texts-following limit (line ∷ lines) = rw (texts-following limit lines) (rw (played-following limit lines) refl)
 
-number-behind : (lines : List Line) → length (behind_version lines) + 1 ≡ length lines + 2
-number-behind lines = omega (arith, length-append lines (Version ∷ []))
+number-following : (lines : List Line) → length (following_version lines) + 1 ≡ length lines + 2
+number-following lines = omega (arith, length-append lines (Version ∷ []))
 
-replay-behind : (limit : ℕ) (lines : List Line)
-    → lines_text (replay_writes_from 1 limit) (behind_version lines) ≡ lines_text (replay_writes_from 2 limit) lines
-replay-behind limit [] = refl
-replay-behind limit (line ∷ lines) =
-    rw (replay-behind limit lines) (rw (played-behind limit lines) (rw (number-behind lines) refl))
+replay-following : (limit : ℕ) (lines : List Line)
+    → lines_text (replay_writes_from 1 limit) (following_version lines) ≡ lines_text (replay_writes_from 2 limit) lines
+replay-following limit [] = refl
+replay-following limit (line ∷ lines) =
+    rw (replay-following limit lines) (rw (played-following limit lines) (rw (number-following lines) refl))
 
--- ---- what a command writes of lines, and of them behind that of the version
+-- ---- what a command writes of lines, and of them after that of the version
 
 abbrev ended : Writes → List Line → Outcome
 ended w lines = lines_outcome w false true lines
 
 ended_texts : (limit : ℕ) (lines : List Line)
-    → ended (texts_writes limit) (behind_version lines) ≡ ended (texts_writes limit) lines
-ended_texts limit lines = rw (texts-behind limit lines) refl
+    → ended (texts_writes limit) (following_version lines) ≡ ended (texts_writes limit) lines
+ended_texts limit lines = rw (texts-following limit lines) refl
 
 ended_replay : (limit : ℕ) (lines : List Line)
-    → ended (replay_writes_from 1 limit) (behind_version lines) ≡ ended (replay_writes_from 2 limit) lines
+    → ended (replay_writes_from 1 limit) (following_version lines) ≡ ended (replay_writes_from 2 limit) lines
 ended_replay limit lines =
-    rw (replay-behind limit lines)
-    (rw (played-behind limit lines)
-    (rw (text_count-behind limit lines) (rw (difference_count-behind limit lines) refl)))
+    rw (replay-following limit lines)
+    (rw (played-following limit lines)
+    (rw (text_count-following limit lines) (rw (difference_count-following limit lines) refl)))
 
 -- by the version of the lines
 upgraded_texts : (version : CaptureVersion) (limit : ℕ) (lines : List Line) → Gains version lines
     → ended (texts_writes limit) (upgraded_lines lines) ≡ ended (texts_writes limit) lines
-upgraded_texts Untold limit lines gains = rw gains refl
+upgraded_texts Unsaid limit lines gains = rw gains refl
 upgraded_texts First limit lines gains = ap (ended (texts_writes limit)) gains ∙ ended_texts limit lines
 upgraded_texts Second limit lines gains = ap (ended (texts_writes limit)) gains
 
 upgraded_replay : (version : CaptureVersion) (limit : ℕ) (lines : List Line) → Gains version lines
     → ended (replay_writes_from 1 limit) (upgraded_lines lines)
     ≡ ended (replay_writes_from (number_upgraded version) limit) lines
-upgraded_replay Untold limit lines gains = rw gains refl
+upgraded_replay Unsaid limit lines gains = rw gains refl
 upgraded_replay First limit lines gains =
     ap (ended (replay_writes_from 1 limit)) gains ∙ ended_replay limit lines
 upgraded_replay Second limit lines gains = ap (ended (replay_writes_from 1 limit)) gains

@@ -3,19 +3,19 @@ use Rattle.std.specs.Prelude.{◌≡◌, ℕ, true, false, List, [], Option, Non
 use Rattle.std.specs.List.{AllByRecursion, Contains, flat_map}
 use Rattle.lis_frame.specs.Stream.{stream_with}
 use Rattle.lis_capture.specs.declared.line.CaptureVersion.{CaptureVersion}
-use Rattle.lis_capture.specs.declared.line.CaptureVersion.TheVariants.{Untold, First, Second}
+use Rattle.lis_capture.specs.declared.line.CaptureVersion.TheVariants.{Unsaid, First, Second}
 use Rattle.lis_capture.specs.Capture.{Lines, capture, version_of}
 use Rattle.lis_link.specs.declared.sender.Outcome.TheVariants.{Done}
 use Rattle.lis_message.specs.Feeding.{ReadsWhole}
-use Rattle.lis_message.specs.Stream.{IsCut}
+use Rattle.lis_message.specs.Stream.{IsSplit}
 use Rattle.lis_message.specs.Texts.{FitsInTexts}
 use Rattle.lis_message.specs.Writing.{message_bytes, message_texts_of}
 use Rattle.lis_run.specs.LineOutcome.{capture_outcome}
 use Rattle.lis_report.specs.Answers.{Outcome}
 use Rattle.lis_run.specs.Replay.{replay_writes_from, texts}
 use Rattle.lis_run.specs.Upgrade.{upgrade}
-use Rattle.lis_field.specs.declared.faults.MessageFault.{MessageFault}
-use Rattle.lis_field.specs.declared.faults.Reason.TheVariants as reasons
+use Rattle.lis_record_values.specs.declared.faults.MessageFault.{MessageFault}
+use Rattle.lis_record_values.specs.declared.faults.Reason.TheVariants as reasons
 use Rattle.lis_tree.specs.Tree.{IsTree, MessageTree}
 use Rattle.lis_world.specs.declared.event.Event.{Event}
 use Rattle.lis_world.specs.declared.event.LateEvent.{LateEvent}
@@ -25,17 +25,17 @@ use Rattle.lis_world.specs.Session.{Session}
 use Rattle.lis_world.specs.Steps.{world}
 use Rattle.lis_world.specs.World.{new_world}
 
--- the lines of a whole capture, and the version that they tell
+-- the lines of a whole capture, and the version that they report
 abbrev pub lines_in : List ℕ → Lines
 lines_in bytes = capture (stream_with [] bytes) true
 
 abbrev pub version_in : List ℕ → CaptureVersion
 version_in bytes = version_of (lines_in bytes).lines
 
--- the number that the first line of a capture has when it is upgraded: it stands behind `capture 2`, but for a capture
+-- the number that the first line of a capture has when it is upgraded: it is after `capture 2`, but for a capture
 -- of version 2, whose first line that is
 abbrev pub number_upgraded : CaptureVersion → ℕ
-number_upgraded Untold = 2
+number_upgraded Unsaid = 2
 number_upgraded First = 2
 number_upgraded Second = 1
 
@@ -43,7 +43,7 @@ number_upgraded Second = 1
 abbrev pub replay_from : (first : ℕ) → ℕ → List ℕ → Outcome
 replay_from first limit bytes = capture_outcome (replay_writes_from first limit) (stream_with [] bytes) true
 
--- A capture of which no line is refused says the same when it is upgraded: no line is refused then, it is of version
+-- A capture of which no line is rejected says the same when it is upgraded: no line is rejected then, it is of version
 -- 2, upgraded again it is the same bytes, it has the same texts, and the same replay but for the numbers of its lines.
 abbrev pub UpgradedSaysTheSame : Type 0
 UpgradedSaysTheSame =
@@ -56,9 +56,9 @@ UpgradedSaysTheSame =
 
 -- ---- messages over the link
 
--- what a session handed out, one text behind the other
-abbrev pub handed_bytes : Session → List ℕ
-handed_bytes x = flat_map (λ text. text) x.handed
+-- what a session delivered, one text after the other
+abbrev pub delivered_bytes : Session → List ℕ
+delivered_bytes x = flat_map (λ text. text) x.handed
 
 -- One of these sessions is done, and was started with the texts of these messages, one for each of their records.
 pub record HasCarried (sessions : List Session) (x : Session) (messages : List MessageTree) : Type 0 where
@@ -68,17 +68,17 @@ pub record HasCarried (sessions : List Session) (x : Session) (messages : List M
   pub trees : AllByRecursion IsTree messages
   pub fit : AllByRecursion FitsInTexts messages
 
--- What such a session handed out is the bytes of the messages, which are cut into them with nothing left.
+-- What such a session delivered is the bytes of the messages, which are split into them with nothing left.
 abbrev pub Carry : List Session → Type 0
 Carry sessions =
     (x : Session) (messages : List MessageTree) → HasCarried sessions x messages
-    → (handed_bytes x ≡ flat_map message_bytes messages) × IsCut (handed_bytes x) messages None []
+    → (delivered_bytes x ≡ flat_map message_bytes messages) × IsSplit (delivered_bytes x) messages None []
 
 -- And a reader of messages that is fed with it and finished reads these messages, unless it wants memory.
 abbrev pub AreReadBack : List Session → Type 0
 AreReadBack sessions =
     (x : Session) (messages : List MessageTree) → HasCarried sessions x messages
-    → (read : List MessageTree) (fault : Option MessageFault) → ReadsWhole (handed_bytes x) read fault
+    → (read : List MessageTree) (fault : Option MessageFault) → ReadsWhole (delivered_bytes x) read fault
     → MatchOption fault (read ≡ messages) (λ f. f.reason ≡ reasons.OutOfMemory)
 
 -- So it is whatever happened on the link.

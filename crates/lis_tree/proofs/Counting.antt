@@ -6,10 +6,10 @@ use Rattle.std.specs.Prelude.{slice_get, Bool, true, false, not, ◌&&◌, if◌
 use Rattle.std.proofs.lemmas.Bool.Decides.{nat_tests}
 use Rattle.std.proofs.Math.Nat.{pow-suc}
 use Rattle.std.proofs.lemmas.Option.{slice_get_within, get_or_from_slice_get}
-use Rattle.lis_field.specs.declared.kinds.Kind.{Kind}
-use Rattle.lis_field.specs.declared.kinds.Kind.TheVariants as kinds
-use Rattle.lis_field.specs.declared.symbols.Sym.{Sym}
-use Rattle.lis_field.specs.Shape.{RecordContent, Symbols, field_at}
+use Rattle.lis_record_values.specs.declared.kinds.Kind.{Kind}
+use Rattle.lis_record_values.specs.declared.kinds.Kind.TheVariants as kinds
+use Rattle.lis_record_values.specs.declared.symbols.Sym.{Sym}
+use Rattle.lis_record_values.specs.Shape.{RecordContent, Symbols, field_at}
 use Rattle.lis_tree.specs.declared.numbering.Finding.{Finding}
 use Rattle.lis_tree.specs.Findings.{finding_of, finding_on, findings_from, kinds_back}
 use Rattle.lis_tree.specs.Numbers.{symbol_digit, digits_from, digits_number, expected_number, field_number, is_number}

@@ -1,14 +1,14 @@
 -- The definitions at records whose place in a message is known from outside, by computation.
 use Rattle.std.proofs.Common.{◌≡◌, List, [], ◌∷◌, Some, refl, arith}
-use Rattle.lis_field.specs.declared.kinds.Kind.{Kind}
-use Rattle.lis_field.specs.declared.kinds.Kind.TheVariants as kinds
-use Rattle.lis_field.specs.declared.symbols.Sym.TheVariants.{Char}
-use Rattle.lis_field.specs.Delimiters.{IsDelimiters, is_punctuation, usual}
-use Rattle.lis_field.specs.Shape.{IsRecordShape, Symbols, RecordContent}
-use Rattle.lis_field.specs.declared.faults.Reason.TheVariants as reasons
+use Rattle.lis_record_values.specs.declared.kinds.Kind.{Kind}
+use Rattle.lis_record_values.specs.declared.kinds.Kind.TheVariants as kinds
+use Rattle.lis_record_values.specs.declared.symbols.Sym.TheVariants.{Char}
+use Rattle.lis_record_values.specs.Delimiters.{IsDelimiters, is_punctuation, usual}
+use Rattle.lis_record_values.specs.Shape.{IsRecordShape, Symbols, RecordContent}
+use Rattle.lis_record_values.specs.declared.faults.Reason.TheVariants as reasons
 use Rattle.lis_tree.specs.Findings.{findings_from}
 use Rattle.lis_tree.specs.Level.{outside, closed, kinds_of, level_after, misplaced}
-use Rattle.lis_tree.specs.Nodes.{Noted}
+use Rattle.lis_tree.specs.Nodes.{Annotated}
 use Rattle.lis_tree.specs.Tree.{IsTree, MessageTree, flatten}
 use Rattle.lis_tree.specs.declared.tree.Group.{Group}
 use Rattle.lis_tree.specs.declared.tree.Group.TheVariants as groups
@@ -51,7 +51,7 @@ pub no_fields : (kind : Kind) → IsRecordShape (record { kind = kind; fields = 
 no_fields kind k d below = absurd (omega (arith, below))
 
 -- a record without fields and notes
-unfoldable pub bare : Kind → Noted
+unfoldable pub bare : Kind → Annotated
 bare kind = record { head = record { kind = kind; fields = [] }; notes = [] }
 
 -- | \ ^ & are delimiters
@@ -131,7 +131,7 @@ whole_is_tree = record {
   );
 }
 
--- a query whose record is a patient's is none, and a result is no note on a patient
+-- a query whose record is a patient's is invalid, and a result is no note on a patient
 patient_is_no_query : IsTree (message_with (groups.Query (bare kinds.P) ∷ [])) → ⊥
 unfolding message_with bare
 patient_is_no_query is = let same : kinds.P ≡ kinds.Q = is.groups.0.head in cc

@@ -1,14 +1,14 @@
 -- A tree is determined by its records.
 use Rattle.std.proofs.Common.{◌≡◌, Bool, true, false, List, [], ◌∷◌, ◌++◌, refl, sym, ◌∙◌, ap, subst}
 use Rattle.std.specs.List.{AllByRecursion, flat_map}
-use Rattle.lis_field.specs.declared.kinds.Kind.{Kind}
-use Rattle.lis_field.specs.declared.kinds.Kind.TheVariants as kinds
-use Rattle.lis_field.specs.Shape.{RecordContent}
-use Rattle.lis_tree.specs.Nodes.{Branch, Noted, OrderTree, PatientTree}
+use Rattle.lis_record_values.specs.declared.kinds.Kind.{Kind}
+use Rattle.lis_record_values.specs.declared.kinds.Kind.TheVariants as kinds
+use Rattle.lis_record_values.specs.Shape.{RecordContent}
+use Rattle.lis_tree.specs.Nodes.{Branch, Annotated, OrderTree, PatientTree}
 use Rattle.lis_tree.specs.declared.tree.Group.{Group}
 use Rattle.lis_tree.specs.declared.tree.Group.TheVariants as groups
-use Rattle.lis_tree.specs.Tree.{MessageTree, noted_records, order_records, patient_records, group_records, flatten}
-use Rattle.lis_tree.specs.Tree.{IsBranch, IsNote, AreNotes, IsNoted, IsOrder, IsPatient, IsGroup, IsTree}
+use Rattle.lis_tree.specs.Tree.{MessageTree, annotated_records, order_records, patient_records, group_records, flatten}
+use Rattle.lis_tree.specs.Tree.{IsBranch, IsNote, AreNotes, IsAnnotated, IsOrder, IsPatient, IsGroup, IsTree}
 use Rattle.lis_tree.specs.Tree.{branch_records}
 use Rattle.lis_tree.specs.Front.{message_tree}
 
@@ -70,25 +70,25 @@ module _ {X : Type 0} (p : Kind → Bool) (f : X → List RecordContent) (Is : X
       let whole : a.head ∷ (a.tail ++ flat_map f xs) ≡ b.head ∷ (b.tail ++ flat_map f ys) =
       sym (starts x (flat_map f xs) ax.0) ∙ e ∙ starts y (flat_map f ys) ay.0 in
       let heads : a.head ≡ b.head = cc in
-      let behind : a.tail ++ flat_map f xs ≡ b.tail ++ flat_map f ys = cc in
+      let following : a.tail ++ flat_map f xs ≡ b.tail ++ flat_map f ys = cc in
       let both = span_one p a.tail b.tail (flat_map f xs) (flat_map f ys) a.passes b.passes (pieces_stop xs ax.1)
-      (pieces_stop ys ay.1) behind in
+      (pieces_stop ys ay.1) following in
       let tails : a.tail ≡ b.tail = both.0 in
       let same : f x ≡ f y = a.whole ∙ (let w : a.head ∷ a.tail ≡ b.head ∷ b.tail = cc in w) ∙ sym b.whole in
       let first : x ≡ y = one x y ax.0 ay.0 same in
       let others : xs ≡ ys = pieces_one xs ys ax.1 ay.1 both.1 in
       cc
 
--- the kinds that stand inside a result or a query, an order, a group
-abbrev in_noted : Kind → Bool
-in_noted kinds.C = true
-in_noted kinds.M = true
-in_noted kinds.S = true
-in_noted _ = false
+-- the kinds that are inside a result or a query, an order, a group
+abbrev in_annotated : Kind → Bool
+in_annotated kinds.C = true
+in_annotated kinds.M = true
+in_annotated kinds.S = true
+in_annotated _ = false
 
 abbrev below_order : Kind → Bool
 below_order kinds.R = true
-below_order k = in_noted k
+below_order k = in_annotated k
 
 abbrev below_group : Kind → Bool
 below_group kinds.O = true
@@ -98,15 +98,15 @@ below_group k = below_order k
 abbrev TakesNotes : (Kind → Bool) → Type 0
 TakesNotes p = (k : Kind) → IsNote k → p k ≡ true
 
-noted_takes : TakesNotes in_noted
-noted_takes kinds.C n = refl
-noted_takes kinds.M n = refl
-noted_takes kinds.S n = refl
-noted_takes k n = absurd n
+annotated_takes : TakesNotes in_annotated
+annotated_takes kinds.C n = refl
+annotated_takes kinds.M n = refl
+annotated_takes kinds.S n = refl
+annotated_takes k n = absurd n
 
 order_takes : TakesNotes below_order
 order_takes kinds.R n = refl
-order_takes k n = noted_takes k n
+order_takes k n = annotated_takes k n
 
 group_takes : TakesNotes below_group
 group_takes kinds.O n = refl
@@ -132,13 +132,13 @@ all_pass p f Is passes (x ∷ xs) a =
 
 -- ---- results
 
-noted_pass : (p : Kind → Bool) → TakesNotes p → (k : Kind) → p k ≡ true → (n : Noted) → IsNoted k n
-    → Pass p (noted_records n)
-noted_pass p takes k passes n is = (kind_as p n.head k true is.head passes, notes_pass p takes n.notes is.notes)
+annotated_pass : (p : Kind → Bool) → TakesNotes p → (k : Kind) → p k ≡ true → (n : Annotated) → IsAnnotated k n
+    → Pass p (annotated_records n)
+annotated_pass p takes k passes n is = (kind_as p n.head k true is.head passes, notes_pass p takes n.notes is.notes)
 
-noted_piece : (p : Kind → Bool) → TakesNotes p → (k : Kind) → p k ≡ false → (n : Noted) → IsNoted k n
-    → IsPiece p (noted_records n)
-noted_piece p takes k fails n is = record {
+annotated_piece : (p : Kind → Bool) → TakesNotes p → (k : Kind) → p k ≡ false → (n : Annotated) → IsAnnotated k n
+    → IsPiece p (annotated_records n)
+annotated_piece p takes k fails n is = record {
   head = n.head;
   tail = n.notes;
   whole = refl;
@@ -146,25 +146,30 @@ noted_piece p takes k fails n is = record {
   passes = notes_pass p takes n.notes is.notes;
 }
 
-noted_one : (k : Kind) (a b : Noted) → IsNoted k a → IsNoted k b → noted_records a ≡ noted_records b → a ≡ b
-noted_one k a b ia ib e =
+annotated_one : (k : Kind) (a b : Annotated) → IsAnnotated k a → IsAnnotated k b → annotated_records a
+    ≡ annotated_records b → a ≡ b
+annotated_one k a b ia ib e =
     let heads : a.head ≡ b.head = cc in
     let notes : a.notes ≡ b.notes = cc in
-    let make : RecordContent → List RecordContent → Noted = λ h n. record { head = h; notes = n } in
+    let make : RecordContent → List RecordContent → Annotated = λ h n. record { head = h; notes = n } in
     ap (λ h. make h a.notes) heads ∙ ap (make b.head) notes
 
-results_one : (xs ys : List Noted) → AllByRecursion (IsNoted kinds.R) xs → AllByRecursion (IsNoted kinds.R) ys
-    → flat_map noted_records xs ≡ flat_map noted_records ys → xs ≡ ys
-results_one = pieces_one in_noted noted_records (IsNoted kinds.R) (noted_piece in_noted noted_takes kinds.R refl)
-    (noted_one kinds.R)
+results_one : (xs ys : List Annotated) → AllByRecursion (IsAnnotated kinds.R) xs → AllByRecursion (IsAnnotated kinds.R)
+    ys
+    → flat_map annotated_records xs ≡ flat_map annotated_records ys → xs ≡ ys
+results_one = pieces_one in_annotated annotated_records (IsAnnotated kinds.R)
+    (annotated_piece in_annotated annotated_takes kinds.R refl)
+    (annotated_one kinds.R)
 
-results_stop : (xs : List Noted) → AllByRecursion (IsNoted kinds.R) xs → HeadFails in_noted (flat_map noted_records xs)
-results_stop = pieces_stop in_noted noted_records (IsNoted kinds.R) (noted_piece in_noted noted_takes kinds.R refl)
-    (noted_one kinds.R)
+results_stop : (xs : List Annotated) → AllByRecursion (IsAnnotated kinds.R) xs → HeadFails in_annotated
+    (flat_map annotated_records xs)
+results_stop = pieces_stop in_annotated annotated_records (IsAnnotated kinds.R)
+    (annotated_piece in_annotated annotated_takes kinds.R refl)
+    (annotated_one kinds.R)
 
-results_pass : (p : Kind → Bool) → TakesNotes p → p kinds.R ≡ true → (xs : List Noted)
-    → AllByRecursion (IsNoted kinds.R) xs → Pass p (flat_map noted_records xs)
-results_pass p takes passes = all_pass p noted_records (IsNoted kinds.R) (noted_pass p takes kinds.R passes)
+results_pass : (p : Kind → Bool) → TakesNotes p → p kinds.R ≡ true → (xs : List Annotated)
+    → AllByRecursion (IsAnnotated kinds.R) xs → Pass p (flat_map annotated_records xs)
+results_pass p takes passes = all_pass p annotated_records (IsAnnotated kinds.R) (annotated_pass p takes kinds.R passes)
 
 -- ---- branches
 
@@ -181,16 +186,16 @@ module _ {X : Type 0} (f : X → List RecordContent) (Is : X → Type 0) (k : Ki
         (below b.below is.below);
   }
 
-  branch_one : ((xs : List X) → AllByRecursion Is xs → HeadFails in_noted (flat_map f xs))
+  branch_one : ((xs : List X) → AllByRecursion Is xs → HeadFails in_annotated (flat_map f xs))
       → ((xs ys : List X) → AllByRecursion Is xs → AllByRecursion Is ys → flat_map f xs ≡ flat_map f ys → xs ≡ ys)
       → (a b : Branch X) → IsBranch k Is a → IsBranch k Is b → branch_records f a ≡ branch_records f b → a ≡ b
   branch_one stop one a b ia ib e =
       let heads : a.top.head ≡ b.top.head = cc in
-      let behind : a.top.notes ++ flat_map f a.below ≡ b.top.notes ++ flat_map f b.below = cc in
-      let both = span_one in_noted a.top.notes b.top.notes (flat_map f a.below) (flat_map f b.below)
-      (notes_pass in_noted noted_takes a.top.notes ia.top.notes)
-      (notes_pass in_noted noted_takes b.top.notes ib.top.notes) (stop a.below ia.below) (stop b.below ib.below)
-      behind in
+      let following : a.top.notes ++ flat_map f a.below ≡ b.top.notes ++ flat_map f b.below = cc in
+      let both = span_one in_annotated a.top.notes b.top.notes (flat_map f a.below) (flat_map f b.below)
+      (notes_pass in_annotated annotated_takes a.top.notes ia.top.notes)
+      (notes_pass in_annotated annotated_takes b.top.notes ib.top.notes) (stop a.below ia.below) (stop b.below ib.below)
+      following in
       let below = one a.below b.below ia.below ib.below both.1 in
       let make : RecordContent → List RecordContent → List X → Branch X =
       λ h n l. record { top = record { head = h; notes = n }; below = l } in
@@ -200,23 +205,23 @@ module _ {X : Type 0} (f : X → List RecordContent) (Is : X → Type 0) (k : Ki
 -- ---- orders
 
 order_piece : (o : OrderTree) → IsOrder o → IsPiece below_order (order_records o)
-order_piece = branch_piece noted_records (IsNoted kinds.R) kinds.O below_order order_takes refl
+order_piece = branch_piece annotated_records (IsAnnotated kinds.R) kinds.O below_order order_takes refl
     (results_pass below_order order_takes refl)
 
 order_one : (a b : OrderTree) → IsOrder a → IsOrder b → order_records a ≡ order_records b → a ≡ b
-order_one = branch_one noted_records (IsNoted kinds.R) kinds.O results_stop results_one
+order_one = branch_one annotated_records (IsAnnotated kinds.R) kinds.O results_stop results_one
 
 orders_one : (xs ys : List OrderTree) → AllByRecursion IsOrder xs → AllByRecursion IsOrder ys
     → flat_map order_records xs ≡ flat_map order_records ys → xs ≡ ys
 orders_one = pieces_one below_order order_records IsOrder order_piece order_one
 
-orders_stop : (xs : List OrderTree) → AllByRecursion IsOrder xs → HeadFails in_noted (flat_map order_records xs)
+orders_stop : (xs : List OrderTree) → AllByRecursion IsOrder xs → HeadFails in_annotated (flat_map order_records xs)
 orders_stop [] a = tt
-orders_stop (x ∷ xs) a = kind_as in_noted x.top.head kinds.O false a.0.top.head refl
+orders_stop (x ∷ xs) a = kind_as in_annotated x.top.head kinds.O false a.0.top.head refl
 
 orders_pass : (xs : List OrderTree) → AllByRecursion IsOrder xs → Pass below_group (flat_map order_records xs)
-orders_pass = all_pass below_group order_records IsOrder (λ o is. pass_append below_group (noted_records o.top)
-    (flat_map noted_records o.below) (noted_pass below_group group_takes kinds.O refl o.top is.top)
+orders_pass = all_pass below_group order_records IsOrder (λ o is. pass_append below_group (annotated_records o.top)
+    (flat_map annotated_records o.below) (annotated_pass below_group group_takes kinds.O refl o.top is.top)
     (results_pass below_group group_takes refl o.below is.below))
 
 -- ---- groups
@@ -224,7 +229,7 @@ orders_pass = all_pass below_group order_records IsOrder (λ o is. pass_append b
 group_piece : (g : Group) → IsGroup g → IsPiece below_group (group_records g)
 group_piece (groups.Patient p) is =
     branch_piece order_records IsOrder kinds.P below_group group_takes refl orders_pass p is
-group_piece (groups.Query q) is = noted_piece below_group group_takes kinds.Q refl q is
+group_piece (groups.Query q) is = annotated_piece below_group group_takes kinds.Q refl q is
 
 patient_one : (a b : PatientTree) → IsPatient a → IsPatient b → patient_records a ≡ patient_records b → a ≡ b
 patient_one = branch_one order_records IsOrder kinds.P orders_stop orders_one
@@ -234,7 +239,7 @@ different_kinds a b e p q = let k : kinds.P ≡ kinds.Q = sym p ∙ ap (λ (r : 
 
 group_one : (a b : Group) → IsGroup a → IsGroup b → group_records a ≡ group_records b → a ≡ b
 group_one (groups.Patient p) (groups.Patient q) ia ib e = ap groups.Patient (patient_one p q ia ib e)
-group_one (groups.Query p) (groups.Query q) ia ib e = ap groups.Query (noted_one kinds.Q p q ia ib e)
+group_one (groups.Query p) (groups.Query q) ia ib e = ap groups.Query (annotated_one kinds.Q p q ia ib e)
 group_one (groups.Patient p) (groups.Query q) ia ib e = let h : p.top.head ≡ q.head = cc in
     absurd (different_kinds p.top.head q.head h ia.top.head ib.head)
 group_one (groups.Query p) (groups.Patient q) ia ib e = let h : q.top.head ≡ p.head = cc in
@@ -244,10 +249,10 @@ groups_one : (xs ys : List Group) → AllByRecursion IsGroup xs → AllByRecursi
     → flat_map group_records xs ≡ flat_map group_records ys → xs ≡ ys
 groups_one = pieces_one below_group group_records IsGroup group_piece group_one
 
-groups_stop : (xs : List Group) → AllByRecursion IsGroup xs → HeadFails in_noted (flat_map group_records xs)
+groups_stop : (xs : List Group) → AllByRecursion IsGroup xs → HeadFails in_annotated (flat_map group_records xs)
 groups_stop [] a = tt
-groups_stop (groups.Patient p ∷ xs) a = kind_as in_noted p.top.head kinds.P false a.0.top.head refl
-groups_stop (groups.Query q ∷ xs) a = kind_as in_noted q.head kinds.Q false a.0.head refl
+groups_stop (groups.Patient p ∷ xs) a = kind_as in_annotated p.top.head kinds.P false a.0.top.head refl
+groups_stop (groups.Query q ∷ xs) a = kind_as in_annotated q.head kinds.Q false a.0.head refl
 
 -- ---- messages
 

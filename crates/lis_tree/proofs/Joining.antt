@@ -1,12 +1,12 @@
--- A record that may stand behind the last node may join it.
+-- A record that may be after the last node may join it.
 use Rattle.std.proofs.Common.{◌≡◌, ◌≢◌, List, [], ◌∷◌, ◌++◌, None, Some, ◌-◌, length, slice_get, Bool, ◌==◌}
 use Rattle.std.proofs.Common.{if◌then◌else◌, refl, sym, ◌∙◌, ap, subst}
-use Rattle.lis_field.specs.declared.kinds.Kind.{Kind}
-use Rattle.lis_field.specs.declared.kinds.Kind.TheVariants as kinds
+use Rattle.lis_record_values.specs.declared.kinds.Kind.{Kind}
+use Rattle.lis_record_values.specs.declared.kinds.Kind.TheVariants as kinds
 use Rattle.lis_tree.specs.Level.{Level, in_header, in_order, in_patient, in_query, misplaced}
-use Rattle.lis_tree.specs.Nodes.{Branch, Noted, OrderTree, PatientTree}
-use Rattle.lis_tree.specs.Tree.{IsNote, IsNoted}
-use Rattle.lis_field.specs.Shape.{RecordContent}
+use Rattle.lis_tree.specs.Nodes.{Branch, Annotated, OrderTree, PatientTree}
+use Rattle.lis_tree.specs.Tree.{IsNote, IsAnnotated}
+use Rattle.lis_record_values.specs.Shape.{RecordContent}
 use Rattle.std.proofs.Math.Dec.{eqb-suc-zero}
 use Rattle.std.proofs.ByRecursion.{All-append}
 use Rattle.lis_tree.proofs.Last.{is_last}
@@ -20,9 +20,10 @@ use Rattle.lis_tree.specs.inside.Last.{IsLast}
 abbrev IsBelow : Kind → Type 0
 IsBelow k = (k ≢ kinds.P) × (k ≢ kinds.Q) × (k ≢ kinds.L)
 
-level_behind : (level : Level) (front : List Group) (g : Group) → groups_level level (front ++ g ∷ []) ≡ group_level g
-level_behind level [] g = refl
-level_behind level (f ∷ front) g = level_behind (group_level f) front g
+level_following : (level : Level) (front : List Group) (g : Group) → groups_level level (front ++ g ∷ [])
+    ≡ group_level g
+level_following level [] g = refl
+level_following level (f ∷ front) g = level_following (group_level f) front g
 
 -- right under a header or a query only a note
 bare_note : (k : Kind) → IsBelow k → misplaced in_header k ≡ None → IsNote k
@@ -65,7 +66,8 @@ group_joined (groups.Patient p) k other may = patient_joined p.below k other may
 pub joins_last : (f : Branch Group) (g : Group) (k : Kind) → IsLast f.below g → k ≢ kinds.P → k ≢ kinds.Q
     → k ≢ kinds.L → misplaced (front_level f) k ≡ None → JoinsGroup g k
 joins_last f g k last p q l may =
-    let level : front_level f ≡ group_level g = ap (groups_level in_header) last.1 ∙ level_behind in_header last.0 g in
+    let level : front_level f ≡ group_level g = ap (groups_level in_header) last.1 ∙ level_following in_header last.0 g
+    in
     group_joined g k (p, q, l) (ap (λ (v : Level). misplaced v k) (sym level) ∙ may)
 
 pub joins_header : (f : Branch Group) (k : Kind) → f.below ≡ [] → k ≢ kinds.P → k ≢ kinds.Q → k ≢ kinds.L
@@ -73,7 +75,7 @@ pub joins_header : (f : Branch Group) (k : Kind) → f.below ≡ [] → k ≢ ki
 joins_header f k none p q l may =
     bare_note k (p, q, l) (ap (λ (gs : List Group). misplaced (groups_level in_header gs) k) (sym none) ∙ may)
 
--- a record that joins a patient with orders, and is none, joins the last
+-- a record that joins a patient with orders, and is no order, joins the last
 pub joins_order : (orders : List OrderTree) (o : OrderTree) (k : Kind) → IsLast orders o → k ≢ kinds.O
     → JoinsPatient orders k → JoinsOrder k
 joins_order [] o k ([], is) other joins = absurd cc
@@ -86,19 +88,20 @@ note_of kinds.R other joins = absurd (other refl)
 note_of k other joins = joins
 
 -- a note that joins a result
-pub note_joins : (n m : Noted) (r : RecordContent) (k : Kind) → m ≡ record { head = n.head; notes = n.notes ++ r ∷ [] }
-    → r.kind ≡ k → k ≢ kinds.R → IsNoted kinds.R n → JoinsOrder k → IsNoted kinds.R m
-note_joins n m r k is kind other noted joins = subst (IsNoted kinds.R) (sym is) (record {
-  head = noted.head;
-  notes = All-append (λ (s : RecordContent). IsNote s.kind) n.notes (r ∷ []) noted.notes
+pub note_joins : (n m : Annotated) (r : RecordContent) (k : Kind) → m
+    ≡ record { head = n.head; notes = n.notes ++ r ∷ [] }
+    → r.kind ≡ k → k ≢ kinds.R → IsAnnotated kinds.R n → JoinsOrder k → IsAnnotated kinds.R m
+note_joins n m r k is kind other annotated joins = subst (IsAnnotated kinds.R) (sym is) (record {
+  head = annotated.head;
+  notes = All-append (λ (s : RecordContent). IsNote s.kind) n.notes (r ∷ []) annotated.notes
       (subst IsNote (sym kind) (note_of k other joins), tt);
 })
 
--- the last patient or query tells where the next record stands
+-- the last patient or query says where the next record is
 pub level_by_last : (f : Branch Group) (g : Group) → slice_get f.below (length f.below - 1) ≡ Some g
     → front_level f ≡ group_level g
 level_by_last f g at =
-    let last = is_last f.below g at in ap (groups_level in_header) last.1 ∙ level_behind in_header last.0 g
+    let last = is_last f.below g at in ap (groups_level in_header) last.1 ∙ level_following in_header last.0 g
 
 by_length : (orders : List OrderTree)
     → orders_level in_patient orders ≡ if length orders == 0 then in_patient else in_order

@@ -1,6 +1,7 @@
--- What follows where the last of a list is changed, or one more comes behind it.
+-- What follows where the last of a list is changed, or one more comes after it.
 use Rattle.std.proofs.Common.{◌≡◌, ℕ, ◌-◌, ◌<◌, List, [], ◌∷◌, ◌++◌, length, slice_set, arith, sym, ◌∙◌, ap, subst}
-use Rattle.std.proofs.Common.{append_assoc, length-append, append-nil, Some, ◌+◌, slice_get, take, Result, Ok, Err, OnOk}
+use Rattle.std.proofs.Common.{append_assoc, length-append, append-nil, Some, ◌+◌, slice_get, take, Result, Ok, Err}
+use Rattle.std.proofs.Common.{OnOk}
 use Rattle.std.proofs.Common.{OnErr}
 use Rattle.std.specs.declared.alloc.AllocError.{AllocError}
 use Rattle.std.proofs.lemmas.List.{take_more}
@@ -9,10 +10,10 @@ use Rattle.std.proofs.ByRecursion.{All-append}
 use Rattle.std.proofs.Math.Seq.{set-append_seam, take-length}
 use Rattle.std.proofs.lemmas.Grind.{flat_map-append}
 use Rattle.std.specs.List.{AllByRecursion, flat_map}
-use Rattle.lis_field.specs.Shape.{RecordContent}
-use Rattle.lis_field.specs.declared.kinds.Kind.{Kind}
+use Rattle.lis_record_values.specs.Shape.{RecordContent}
+use Rattle.lis_record_values.specs.declared.kinds.Kind.{Kind}
 use Rattle.lis_tree.specs.Nodes.{Branch}
-use Rattle.lis_tree.specs.Tree.{IsBranch, branch_records, noted_records}
+use Rattle.lis_tree.specs.Tree.{IsBranch, branch_records, annotated_records}
 use Rattle.lis_tree.specs.inside.Last.{IsLast, with_last}
 
 all_but_last : {A : Type 0} (P : A → Type 0) (front : List A) (item : A) → AllByRecursion P (front ++ item ∷ [])
@@ -64,10 +65,10 @@ module _ {A : Type 0} (b : Branch A) (item : A) (last : IsLast b.below item) (ne
   pub branch_records_more : (f : A → List RecordContent) (r : RecordContent) → f new ≡ f item ++ r ∷ []
       → branch_records f (with_last b new) ≡ branch_records f b ++ r ∷ []
   branch_records_more f r is =
-      ap (λ l. noted_records b.top ++ l) (last_records b.below item last f new (r ∷ []) is)
-      ∙ sym (append_assoc (noted_records b.top) (flat_map f b.below) (r ∷ []))
+      ap (λ l. annotated_records b.top ++ l) (last_records b.below item last f new (r ∷ []) is)
+      ∙ sym (append_assoc (annotated_records b.top) (flat_map f b.below) (r ∷ []))
 
-  -- and is what stands there
+  -- and is what is there
   pub branch_is : (kind : Kind) (Is : A → Type 0) → IsBranch kind Is b → (Is item → Is new)
       → IsBranch kind Is (with_last b new)
   branch_is kind Is is keeps = record {
@@ -80,7 +81,7 @@ module _ {A : Type 0} (b : Branch A) (item : A) (last : IsLast b.below item) (ne
   branch_same is = ap (λ (l : List A). record { top = b.top; below = l })
       (set_last b.below item last new ∙ ap (λ (x : A). last.0 ++ x ∷ []) is ∙ sym last.1)
 
-  -- the same as a call tells it
+  -- the same as a call says it
   module _ (result : Result (Unit {0}) AllocError) where
     pub records_on : (f : A → List RecordContent) (r : RecordContent) → OnOk result (f new ≡ f item ++ r ∷ [])
         → OnOk result (branch_records f (with_last b new) ≡ branch_records f b ++ r ∷ [])
@@ -93,7 +94,7 @@ module _ {A : Type 0} (b : Branch A) (item : A) (last : IsLast b.below item) (ne
     pub same_on : OnErr result (new ≡ item) → OnErr result (with_last b new ≡ b)
     same_on = on_err result branch_same
 
--- ---- what code tells of the last
+-- ---- what code says about the last
 
 pub is_last : {A : Type 0} (items : List A) (item : A) → slice_get items (length items - 1) ≡ Some item
     → IsLast items item

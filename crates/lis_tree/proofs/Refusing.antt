@@ -1,19 +1,19 @@
 -- The reason by the place of the next record is that in the standard's words.
 use Rattle.std.proofs.Common.{◌≡◌, ◌≢◌, ◌⊎◌, inl, inr, List, [], ◌∷◌, ◌++◌, Option, Some, None, refl, sym, ◌∙◌, ap}
 use Rattle.std.proofs.Common.{subst}
-use Rattle.lis_field.specs.declared.kinds.Kind.{Kind}
-use Rattle.lis_field.specs.declared.kinds.Kind.TheVariants as kinds
-use Rattle.lis_field.specs.declared.faults.Reason.{Reason}
-use Rattle.lis_field.specs.declared.faults.Reason.TheVariants as reasons
+use Rattle.lis_record_values.specs.declared.kinds.Kind.{Kind}
+use Rattle.lis_record_values.specs.declared.kinds.Kind.TheVariants as kinds
+use Rattle.lis_record_values.specs.declared.faults.Reason.{Reason}
+use Rattle.lis_record_values.specs.declared.faults.Reason.TheVariants as reasons
 use Rattle.lis_tree.specs.Hierarchy.{HasParent, IsViable}
 use Rattle.lis_tree.specs.Level.{Level, outside, in_header, in_patient, in_query, closed, next_level}
-use Rattle.lis_tree.specs.Level.{level_after, misplaced, StandsFrom}
+use Rattle.lis_tree.specs.Level.{level_after, misplaced, AllowedFrom}
 use Rattle.lis_tree.specs.Refusing.{IsClosed, IsRefusedFor}
-use Rattle.lis_tree.proofs.Levels.{level_append, stands_append, stands_back, header_first, nothing_closed}
+use Rattle.lis_tree.proofs.Levels.{level_append, allowed_append, allowed_back, header_first, nothing_closed}
 use Rattle.lis_tree.proofs.Levels.{outside_refused}
 use Rattle.lis_tree.proofs.Viable.{from_viable, viable_from, parent_from, place_from, begun_after, in_header_at}
 
--- ---- a message is closed exactly behind its closing record
+-- ---- a message is closed exactly after its closing record
 
 closing_kind : (l : Level) (k : Kind) → l ≢ closed → next_level l k ≡ closed → k ≡ kinds.L
 closing_kind l kinds.L u e = refl
@@ -23,7 +23,7 @@ closing_kind l kinds.O u e = absurd cc
 closing_kind l kinds.Q u e = absurd cc
 closing_kind l k u e = absurd (u e)
 
-closed_last : (l : Level) (ks : List Kind) → StandsFrom l ks → l ≢ closed → level_after l ks ≡ closed → IsClosed ks
+closed_last : (l : Level) (ks : List Kind) → AllowedFrom l ks → l ≢ closed → level_after l ks ≡ closed → IsClosed ks
 closed_last l [] s u e = absurd (u e)
 closed_last l (k ∷ []) s u e = ([], ap (λ j. j ∷ []) (closing_kind l k u e))
 closed_last l (k ∷ j ∷ ks) s u e =
@@ -42,9 +42,9 @@ outside_refuses :
 outside_refuses kinds.H reason e = absurd cc
 outside_refuses k reason e = (cc, λ h. cc)
 
--- ---- behind a header
+-- ---- after a header
 
--- a second header; a record behind the closing one; or one that has no parent
+-- a second header; a record after the closing one; or one that has no parent
 abbrev IsInsideReason : Level → Kind → Reason → Type 0
 IsInsideReason l k reason =
     ((k ≡ kinds.H) × (reason ≡ reasons.SecondHeader))
@@ -78,37 +78,38 @@ some_not_none x o some none = cc
 cons_not_nil : (k : Kind) (ks : List Kind) → k ∷ ks ≢ []
 cons_not_nil k ks e = cc
 
--- ---- each way, behind records that stand
+-- ---- each way, after records that are allowed
 
--- what they lead to is the place behind a header
-record IsBehindHeader (b : Kind) (ks : List Kind) : Type 0 where
+-- what they lead to is the place after a header
+record IsAfterHeader (b : Kind) (ks : List Kind) : Type 0 where
   is_header : b ≡ kinds.H
-  placed : StandsFrom in_header ks
+  placed : AllowedFrom in_header ks
   level_is : level_after outside (b ∷ ks) ≡ level_after in_header ks
   begun : level_after outside (b ∷ ks) ≢ outside
 
-behind_header : (b : Kind) (ks : List Kind) → StandsFrom outside (b ∷ ks) → IsBehindHeader b ks
-behind_header b ks s =
+following_header : (b : Kind) (ks : List Kind) → AllowedFrom outside (b ∷ ks) → IsAfterHeader b ks
+following_header b ks s =
     let is = header_first b s.0 in
     let goes : next_level outside b ≡ in_header = in_header_at b is in
     let level : level_after outside (b ∷ ks) ≡ level_after in_header ks = ap (λ l. level_after l ks) goes in
     record {
       is_header = is;
-      placed = subst (λ l. StandsFrom l ks) goes s.1;
+      placed = subst (λ l. AllowedFrom l ks) goes s.1;
       level_is = level;
       begun = λ e. begun_after in_header ks (λ x. cc) (sym level ∙ e);
     }
 
-told_by :
-    (b : Kind) (ks : List Kind) (k : Kind) (reason : Reason) → StandsFrom outside (b ∷ ks)
+reported_by :
+    (b : Kind) (ks : List Kind) (k : Kind) (reason : Reason) → AllowedFrom outside (b ∷ ks)
     → misplaced (level_after outside (b ∷ ks)) k ≡ Some reason
     → IsInsideReason (level_after outside (b ∷ ks)) k reason → IsRefusedFor (b ∷ ks) k reason
-told_by b ks k reason s e (inl second) =
+reported_by b ks k reason s e (inl second) =
     subst (IsRefusedFor (b ∷ ks) k) (sym second.1) (second.0, cons_not_nil b ks)
-told_by b ks k reason s e (inr (inl behind)) =
-    subst (IsRefusedFor (b ∷ ks) k) (sym behind.2) (behind.0, inr (closed_last outside (b ∷ ks) s (λ x. cc) behind.1))
-told_by b ks k reason s e (inr (inr none)) =
-    let header = behind_header b ks s in
+reported_by b ks k reason s e (inr (inl following)) =
+    subst (IsRefusedFor (b ∷ ks) k) (sym following.2)
+    (following.0, inr (closed_last outside (b ∷ ks) s (λ x. cc) following.1))
+reported_by b ks k reason s e (inr (inr none)) =
+    let header = following_header b ks s in
     subst (IsRefusedFor (b ∷ ks) k) (sym none.2) (
       refl,
       cons_not_nil b ks,
@@ -119,37 +120,38 @@ told_by b ks k reason s e (inr (inr none)) =
           (subst (λ h. HasParent (h ∷ ks) k) header.is_header parent)),
     )
 
-told :
-    (before : List Kind) (k : Kind) (reason : Reason) → StandsFrom outside before
+reported :
+    (before : List Kind) (k : Kind) (reason : Reason) → AllowedFrom outside before
     → misplaced (level_after outside before) k ≡ Some reason → IsRefusedFor before k reason
-told [] k reason s e =
+reported [] k reason s e =
     let why = outside_refuses k reason e in
     subst (IsRefusedFor [] k) (sym why.0) (why.1, inl refl)
-told (b ∷ ks) k reason s e =
-    told_by b ks k reason s e (inside_refuses (level_after outside (b ∷ ks)) k reason (behind_header b ks s).begun e)
+reported (b ∷ ks) k reason s e =
+    reported_by b ks k reason s e (inside_refuses (level_after outside (b ∷ ks)) k reason
+    (following_header b ks s).begun e)
 
--- a record without its parent is refused for that
+-- a record without its parent is rejected for that
 no_parent_refused :
     (b : Kind) (ks : List Kind) (k : Kind) (found : Option Reason)
-    → StandsFrom outside (b ∷ ks)
+    → AllowedFrom outside (b ∷ ks)
     → (IsClosed (b ∷ ks) → ⊥)
     → (HasParent (b ∷ ks) k → ⊥)
     → misplaced (level_after outside (b ∷ ks)) k ≡ found
     → found ≡ Some (reasons.NoParent k)
 no_parent_refused b ks k None s unclosed orphan is =
-    let header = behind_header b ks s in
+    let header = following_header b ks s in
     absurd (orphan (subst (λ h. HasParent (h ∷ ks) k) (sym header.is_header)
     (parent_from ks k header.placed (sym (ap (λ l. misplaced l k) header.level_is) ∙ is))))
 no_parent_refused b ks k (Some reason) s unclosed orphan is =
-    go (inside_refuses (level_after outside (b ∷ ks)) k reason (behind_header b ks s).begun is)
+    go (inside_refuses (level_after outside (b ∷ ks)) k reason (following_header b ks s).begun is)
   where
     go : IsInsideReason (level_after outside (b ∷ ks)) k reason → Some reason ≡ Some (reasons.NoParent k)
     go (inl second) = absurd (orphan (subst (HasParent (b ∷ ks)) (sym second.0) tt))
-    go (inr (inl behind)) = absurd (unclosed (closed_last outside (b ∷ ks) s (λ x. cc) behind.1))
+    go (inr (inl following)) = absurd (unclosed (closed_last outside (b ∷ ks) s (λ x. cc) following.1))
     go (inr (inr none)) = ap Some none.2
 
 refused :
-    (before : List Kind) (k : Kind) (reason : Reason) → StandsFrom outside before → IsRefusedFor before k reason
+    (before : List Kind) (k : Kind) (reason : Reason) → AllowedFrom outside before → IsRefusedFor before k reason
     → misplaced (level_after outside before) k ≡ Some reason
 refused [] k reasons.NotHeader s why = outside_refused k why.0
 refused [] k reasons.SecondHeader s why = absurd (why.1 refl)
@@ -162,7 +164,7 @@ refused (b ∷ ks) k reasons.NotHeader s why = go why.1
     go (inr last) = ap (λ l. misplaced l k) (last_closed (b ∷ ks) last) ∙ closed_refused k why.0
 refused (b ∷ ks) k reasons.SecondHeader s why =
     ap (misplaced (level_after outside (b ∷ ks))) why.0
-    ∙ header_refused (level_after outside (b ∷ ks)) (behind_header b ks s).begun
+    ∙ header_refused (level_after outside (b ∷ ks)) (following_header b ks s).begun
 refused (b ∷ ks) k (reasons.NoParent kind) s why =
     no_parent_refused b ks k (misplaced (level_after outside (b ∷ ks)) k) s why.2 why.3 refl
     ∙ ap (λ j. Some (reasons.NoParent j)) (sym why.0)
@@ -170,10 +172,10 @@ refused (b ∷ ks) k reason s why = absurd why
 
 -- ---- over what is viable
 
-pub told_viable :
+pub reported_viable :
     (before : List Kind) (k : Kind) (reason : Reason) → IsViable before
     → misplaced (level_after outside before) k ≡ Some reason → IsRefusedFor before k reason
-told_viable before k reason v = told before k reason (from_viable before v)
+reported_viable before k reason v = reported before k reason (from_viable before v)
 
 pub refused_viable :
     (before : List Kind) (k : Kind) (reason : Reason) → IsViable before → IsRefusedFor before k reason
@@ -184,9 +186,9 @@ pub taken_viable :
     (before : List Kind) (k : Kind) → IsViable before → misplaced (level_after outside before) k ≡ None
     → IsViable (before ++ k ∷ [])
 taken_viable before k v e =
-    viable_from (before ++ k ∷ []) (stands_append outside before (k ∷ []) (from_viable before v) (e, tt))
+    viable_from (before ++ k ∷ []) (allowed_append outside before (k ∷ []) (from_viable before v) (e, tt))
 
 pub viable_taken :
     (before : List Kind) (k : Kind) → IsViable (before ++ k ∷ [])
     → misplaced (level_after outside before) k ≡ None
-viable_taken before k v = (stands_back outside before (k ∷ []) (from_viable (before ++ k ∷ []) v)).0
+viable_taken before k v = (allowed_back outside before (k ∷ []) (from_viable (before ++ k ∷ []) v)).0

@@ -1,19 +1,19 @@
--- Records that stand where they may, and one that closes them, are a message.
+-- Records that are where they may, and one that closes them, are a message.
 use Rattle.std.proofs.Common.{◌≡◌, ◌≢◌, List, [], ◌∷◌, ◌++◌, None, refl, sym, ◌∙◌, ap, subst}
 use Rattle.std.proofs.lemmas.List.{append-nil}
 use Rattle.std.specs.Prelude.{⊤}
 use Rattle.std.specs.List.{AllByRecursion, flat_map}
-use Rattle.lis_field.specs.declared.kinds.Kind.{Kind}
-use Rattle.lis_field.specs.declared.kinds.Kind.TheVariants as kinds
-use Rattle.lis_field.specs.Delimiters.{DelimiterBytes, IsDelimiters}
-use Rattle.lis_field.specs.Shape.{IsRecordShape, RecordContent}
+use Rattle.lis_record_values.specs.declared.kinds.Kind.{Kind}
+use Rattle.lis_record_values.specs.declared.kinds.Kind.TheVariants as kinds
+use Rattle.lis_record_values.specs.Delimiters.{DelimiterBytes, IsDelimiters}
+use Rattle.lis_record_values.specs.Shape.{IsRecordShape, RecordContent}
 use Rattle.lis_tree.specs.declared.tree.Group.{Group}
 use Rattle.lis_tree.specs.declared.tree.Group.TheVariants as groups
-use Rattle.lis_tree.specs.Level.{Level, StandsFrom, closed, in_header, in_order, in_patient, in_query, kinds_of}
+use Rattle.lis_tree.specs.Level.{Level, AllowedFrom, closed, in_header, in_order, in_patient, in_query, kinds_of}
 use Rattle.lis_tree.specs.Level.{level_after, misplaced, next_level, outside}
-use Rattle.lis_tree.specs.Nodes.{Noted, OrderTree}
-use Rattle.lis_tree.specs.Tree.{AreNotes, IsGroup, IsNote, IsNoted, IsOrder, IsTree, MessageTree, flatten}
-use Rattle.lis_tree.specs.Tree.{group_records, noted_records, order_records}
+use Rattle.lis_tree.specs.Nodes.{Annotated, OrderTree}
+use Rattle.lis_tree.specs.Tree.{AreNotes, IsGroup, IsNote, IsAnnotated, IsOrder, IsTree, MessageTree, flatten}
+use Rattle.lis_tree.specs.Tree.{group_records, annotated_records, order_records}
 
 -- in a message that isn't closed
 abbrev IsInside : Level → Type 0
@@ -21,7 +21,7 @@ IsInside outside = ⊥
 IsInside closed = ⊥
 IsInside level = ⊤
 
-abbrev LacksResults : Level → List Noted → Type 0
+abbrev LacksResults : Level → List Annotated → Type 0
 LacksResults in_order results = ⊤
 LacksResults level results = results ≡ []
 
@@ -42,12 +42,13 @@ no_orders level = refl
 -- The records from this place on: notes, results of the open order, orders of the open patient, and groups.
 record IsParsed (level : Level) (rs : List RecordContent) : Type 0 where
   notes : List RecordContent
-  results : List Noted
+  results : List Annotated
   orders : List OrderTree
   groups : List Group
-  whole : rs ≡ notes ++ flat_map noted_records results ++ flat_map order_records orders ++ flat_map group_records groups
+  whole : rs ≡ notes ++ flat_map annotated_records results ++ flat_map order_records orders ++ flat_map group_records
+      groups
   are_notes : AreNotes notes
-  are_results : AllByRecursion (IsNoted kinds.R) results
+  are_results : AllByRecursion (IsAnnotated kinds.R) results
   are_orders : AllByRecursion IsOrder orders
   are_groups : AllByRecursion IsGroup groups
   lacks_results : LacksResults level results
@@ -110,7 +111,8 @@ patient_parsed level r rs kind p = record {
   groups = groups.Patient (record { top = record { head = r; notes = p.notes }; below = p.orders }) ∷ p.groups;
   whole =
       ap (λ (l : List RecordContent). r ∷ l) (p.whole
-      ∙ ap (λ (results : List Noted). p.notes ++ flat_map noted_records results ++ flat_map order_records p.orders
+      ∙ ap (λ (results : List Annotated). p.notes ++ flat_map annotated_records results ++ flat_map order_records
+      p.orders
       ++ flat_map group_records p.groups) p.lacks_results
       ∙ ap (λ (l : List RecordContent). l ++ flat_map order_records p.orders ++ flat_map group_records p.groups)
       (append-nil p.notes));
@@ -131,7 +133,8 @@ query_parsed level r rs kind p = record {
   groups = groups.Query (record { head = r; notes = p.notes }) ∷ p.groups;
   whole =
       ap (λ (l : List RecordContent). r ∷ l) (p.whole
-      ∙ ap (λ (results : List Noted). p.notes ++ flat_map noted_records results ++ flat_map order_records p.orders
+      ∙ ap (λ (results : List Annotated). p.notes ++ flat_map annotated_records results ++ flat_map order_records
+      p.orders
       ++ flat_map group_records p.groups) p.lacks_results
       ∙ ap (λ (orders : List OrderTree). p.notes ++ [] ++ flat_map order_records orders
       ++ flat_map group_records p.groups) p.lacks_orders
@@ -145,7 +148,7 @@ query_parsed level r rs kind p = record {
   lacks_orders = no_orders level;
 }
 
--- an order stands under a patient or an order
+-- an order is under a patient or an order
 order_placed : (level : Level) → IsInside level → misplaced level kinds.O ≡ None → (orders : List OrderTree)
     → LacksOrders level orders
 order_placed outside inside may orders = absurd inside
@@ -180,24 +183,24 @@ one_more level kinds.Q r rs is inside may next p = query_parsed level r rs is p
 one_more level kinds.L r rs is inside may next p = absurd next
 one_more level k r rs is inside may next p = note_parsed level r rs (subst IsNote (sym is) tt) p
 
--- nothing stands behind the record that closes a message
-closed_over : (ks : List Kind) → StandsFrom closed ks → level_after closed ks ≢ closed → ⊥
-closed_over [] stands open' = open' refl
-closed_over (kinds.H ∷ ks) stands open' = let e = stands.0 in cc
-closed_over ks stands open' = let e = stands.0 in cc
+-- nothing is after the record that closes a message
+closed_over : (ks : List Kind) → AllowedFrom closed ks → level_after closed ks ≢ closed → ⊥
+closed_over [] allowed open' = open' refl
+closed_over (kinds.H ∷ ks) allowed open' = let e = allowed.0 in cc
+closed_over ks allowed open' = let e = allowed.0 in cc
 
-stays_inside : (level : Level) (k : Kind) (ks : List Kind) → IsInside level → StandsFrom (next_level level k) ks
+stays_inside : (level : Level) (k : Kind) (ks : List Kind) → IsInside level → AllowedFrom (next_level level k) ks
     → level_after (next_level level k) ks ≢ closed → IsInside (next_level level k)
-stays_inside level kinds.R ks inside stands open' = inside
-stays_inside level kinds.C ks inside stands open' = inside
-stays_inside level kinds.M ks inside stands open' = inside
-stays_inside level kinds.S ks inside stands open' = inside
-stays_inside level kinds.L ks inside stands open' = closed_over ks stands open'
-stays_inside level k ks inside stands open' = tt
+stays_inside level kinds.R ks inside allowed open' = inside
+stays_inside level kinds.C ks inside allowed open' = inside
+stays_inside level kinds.M ks inside allowed open' = inside
+stays_inside level kinds.S ks inside allowed open' = inside
+stays_inside level kinds.L ks inside allowed open' = closed_over ks allowed open'
+stays_inside level k ks inside allowed open' = tt
 
-parsed : (level : Level) (rs : List RecordContent) → IsInside level → StandsFrom level (kinds_of rs)
+parsed : (level : Level) (rs : List RecordContent) → IsInside level → AllowedFrom level (kinds_of rs)
     → level_after level (kinds_of rs) ≢ closed → IsParsed level rs
-parsed level [] inside stands open' = record {
+parsed level [] inside allowed open' = record {
   notes = [];
   results = [];
   orders = [];
@@ -210,9 +213,9 @@ parsed level [] inside stands open' = record {
   lacks_results = no_results level;
   lacks_orders = no_orders level;
 }
-parsed level (r ∷ rs) inside stands open' =
-    let next = stays_inside level r.kind (kinds_of rs) inside stands.1 open' in
-    one_more level r.kind r rs refl inside stands.0 next (parsed (next_level level r.kind) rs next stands.1 open')
+parsed level (r ∷ rs) inside allowed open' =
+    let next = stays_inside level r.kind (kinds_of rs) inside allowed.1 open' in
+    one_more level r.kind r rs refl inside allowed.0 next (parsed (next_level level r.kind) rs next allowed.1 open')
 
 first_header : (k : Kind) → misplaced outside k ≡ None → k ≡ kinds.H
 first_header kinds.H e = refl
@@ -231,19 +234,19 @@ pub record IsTreeOf (d : DelimiterBytes) (records : List RecordContent) (message
 
 pub tree_of :
     (d : DelimiterBytes) → IsDelimiters d → (rs : List RecordContent) (closing : RecordContent) → rs ≢ []
-    → StandsFrom outside (kinds_of rs)
+    → AllowedFrom outside (kinds_of rs)
     → level_after outside (kinds_of rs) ≢ closed → closing.kind ≡ kinds.L → AllByRecursion IsRecordShape rs
     → IsRecordShape closing
     → (message : MessageTree) × IsTreeOf d (rs ++ closing ∷ []) message
-tree_of d good [] closing some stands open' kind shapes last = absurd (some refl)
-tree_of d good (r ∷ rs) closing some stands open' kind shapes last =
-    let header : r.kind ≡ kinds.H = first_header r.kind stands.0 in
+tree_of d good [] closing some allowed open' kind shapes last = absurd (some refl)
+tree_of d good (r ∷ rs) closing some allowed open' kind shapes last =
+    let header : r.kind ≡ kinds.H = first_header r.kind allowed.0 in
     let level : next_level outside r.kind ≡ in_header = ap (next_level outside) header in
-    let p = parsed in_header rs tt (subst (λ (l : Level). StandsFrom l (kinds_of rs)) level stands.1)
+    let p = parsed in_header rs tt (subst (λ (l : Level). AllowedFrom l (kinds_of rs)) level allowed.1)
     (subst (λ (l : Level). level_after l (kinds_of rs) ≢ closed) level open') in
     let whole : rs ≡ p.notes ++ flat_map group_records p.groups =
     p.whole
-    ∙ ap (λ (results : List Noted). p.notes ++ flat_map noted_records results ++ flat_map order_records p.orders
+    ∙ ap (λ (results : List Annotated). p.notes ++ flat_map annotated_records results ++ flat_map order_records p.orders
     ++ flat_map group_records p.groups) p.lacks_results
     ∙ ap (λ (orders : List OrderTree). p.notes ++ [] ++ flat_map order_records orders
     ++ flat_map group_records p.groups) p.lacks_orders

@@ -1,16 +1,16 @@
--- What is left of a walk, before its next record and behind it.
+-- What is left of a walk, before its next record and after it.
 use Rattle.std.proofs.Common.{◌≡◌, List, ◌∷◌, ◌++◌, Option, None, append-nil, length, refl}
 use Rattle.std.specs.Option.{option_to_list}
 use Rattle.std.proofs.lemmas.List.{nil_from_length}
-use Rattle.lis_field.specs.Shape.{RecordContent}
-use Rattle.lis_tree.specs.Nodes.{Noted, OrderTree, PatientTree}
+use Rattle.lis_record_values.specs.Shape.{RecordContent}
+use Rattle.lis_tree.specs.Nodes.{Annotated, OrderTree, PatientTree}
 use Rattle.lis_tree.specs.declared.tree.Group.{Group}
 use Rattle.lis_tree.specs.declared.tree.Group.TheVariants as groups
 use Rattle.lis_tree.specs.Walk.{walk_records}
 
--- before the next record, where its head was told
+-- before the next record, where its head was reported
 module _
-    (head : Option RecordContent) (notes : List RecordContent) (results : List Noted) (orders : List OrderTree)
+    (head : Option RecordContent) (notes : List RecordContent) (results : List Annotated) (orders : List OrderTree)
     (below : List Group) (closing : Option RecordContent) (no_head : head ≡ None) where
   abbrev left : List RecordContent
   left = walk_records head notes results orders below closing
@@ -19,14 +19,14 @@ module _
       → left ≡ note ∷ walk_records head rest results orders below closing
   note_next note rest is = rw (no_head, is) refl
 
-  -- the next record is the head of a node, and its notes come behind it
+  -- the next record is the head of a node, and its notes come after it
   module _ (no_notes : length notes ≡ 0) (next : RecordContent) (more : List RecordContent) where
-    pub result_next : (entry : Noted) (rest : List Noted) → results ≡ entry ∷ rest → next ≡ entry.head
+    pub result_next : (entry : Annotated) (rest : List Annotated) → results ≡ entry ∷ rest → next ≡ entry.head
         → more ≡ entry.notes → left ≡ next ∷ walk_records head more rest orders below closing
     result_next entry rest is head_is notes_are =
         rw (no_head, nil_from_length notes no_notes, is, head_is, notes_are) refl
 
-    pub order_next : (order : OrderTree) (rest : List OrderTree) (entries : List Noted)
+    pub order_next : (order : OrderTree) (rest : List OrderTree) (entries : List Annotated)
         → length results ≡ 0 → orders ≡ order ∷ rest → next ≡ order.top.head → more ≡ order.top.notes
         → entries ≡ order.below → left ≡ next ∷ walk_records head more entries rest below closing
     order_next order rest entries none is head_is notes_are entries_are =
@@ -41,7 +41,7 @@ module _
         rw (no_head, nil_from_length notes no_notes, nil_from_length results none, nil_from_length orders no_orders)
         (rw (is, head_is, notes_are, orders_are, append-nil) refl)
 
-    pub query_next : (query : Noted) (rest : List Group) → length results ≡ 0 → length orders ≡ 0
+    pub query_next : (query : Annotated) (rest : List Group) → length results ≡ 0 → length orders ≡ 0
         → below ≡ groups.Query query ∷ rest → next ≡ query.head → more ≡ query.notes
         → left ≡ next ∷ walk_records head more results orders rest closing
     query_next query rest none no_orders is head_is notes_are =

@@ -1,14 +1,14 @@
 -- The findings on a message's sequence numbers.
 use Rattle.std.specs.Prelude.{◌≡◌, ℕ, ◌+◌, not, ◌&&◌, if◌then◌else◌, List, [], ◌∷◌, ◌++◌, length}
-use Rattle.lis_field.specs.declared.kinds.Kind.{Kind}
-use Rattle.lis_field.specs.Shape.{RecordContent, field_at}
+use Rattle.lis_record_values.specs.declared.kinds.Kind.{Kind}
+use Rattle.lis_record_values.specs.Shape.{RecordContent, field_at}
 use Rattle.lis_tree.specs.declared.numbering.Finding.{Finding}
 use Rattle.lis_tree.specs.declared.numbering.Numbering.{Numbering}
 use Rattle.lis_tree.specs.Numbers.{CountsOf, expected_number, field_number, is_number, is_numbered}
 use Rattle.lis_text.specs.Capped.{capped}
 use Rattle.lis_tree.specs.Tree.{MessageTree, flatten}
 
--- what is told of a record whose number is wrong
+-- what is said about a record whose number is wrong
 abbrev pub finding_of : List Kind → ℕ → RecordContent → Finding
 finding_of earlier place r =
     record { place = capped place; kind = r.kind; expected = capped (expected_number r.kind earlier) }
@@ -35,7 +35,7 @@ abbrev pub kinds_back : List Kind → List RecordContent → List Kind
 kinds_back earlier [] = earlier
 kinds_back earlier (r ∷ records) = kinds_back (r.kind ∷ earlier) records
 
--- These records were examined, and the next one comes behind them.
+-- These records were examined, and the next one comes after them.
 pub record HasNumbered (numbering : Numbering) (records : List RecordContent) : Type 0 where
   pub counts : CountsOf (kinds_back [] records) numbering.counts
   pub counted : numbering.count ≡ capped (length records)

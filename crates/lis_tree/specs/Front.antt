@@ -1,8 +1,8 @@
 -- A message that isn't closed yet: the header with its notes, and the patients and queries so far.
 use Rattle.std.specs.Prelude.{List}
-use Rattle.lis_field.specs.declared.kinds.Kind.TheVariants as kinds
-use Rattle.lis_field.specs.Delimiters.{DelimiterBytes}
-use Rattle.lis_field.specs.Shape.{RecordContent}
+use Rattle.lis_record_values.specs.declared.kinds.Kind.TheVariants as kinds
+use Rattle.lis_record_values.specs.Delimiters.{DelimiterBytes}
+use Rattle.lis_record_values.specs.Shape.{RecordContent}
 use Rattle.lis_tree.specs.declared.tree.Group.{Group}
 use Rattle.lis_tree.specs.declared.tree.Group.TheVariants as groups
 use Rattle.lis_tree.specs.Nodes.{Branch}

@@ -2,8 +2,8 @@
 use Rattle.std.specs.Prelude.{◌≡◌, ◌≢◌, Bool, true, false, if◌then◌else◌, List, [], ◌∷◌, ◌++◌, Option, Some, None, ⊤}
 use Rattle.std.specs.List.{AllByRecursion}
 use Rattle.std.specs.Option.{option_or}
-use Rattle.lis_field.specs.declared.kinds.Kind.{Kind}
-use Rattle.lis_field.specs.declared.kinds.Kind.TheVariants as kinds
+use Rattle.lis_record_values.specs.declared.kinds.Kind.{Kind}
+use Rattle.lis_record_values.specs.declared.kinds.Kind.TheVariants as kinds
 
 -- the last of these kinds that passes a test
 abbrev pub last_of : (Kind → Bool) → List Kind → Option Kind
@@ -36,5 +36,5 @@ HasHeaderFirst (k ∷ ks) = (k ≡ kinds.H) × AllByRecursion (λ j. j ≢ kinds
 -- the records of a message, or the first of them
 pub record IsViable (ks : List Kind) : Type 0 where
   pub header : HasHeaderFirst ks
-  pub closing : (before behind : List Kind) → ks ≡ before ++ kinds.L ∷ behind → behind ≡ []
-  pub parents : (before behind : List Kind) (k : Kind) → ks ≡ before ++ k ∷ behind → HasParent before k
+  pub closing : (before following : List Kind) → ks ≡ before ++ kinds.L ∷ following → following ≡ []
+  pub parents : (before following : List Kind) (k : Kind) → ks ≡ before ++ k ∷ following → HasParent before k

@@ -1,16 +1,16 @@
 -- The hierarchy of LIS02-A2's records as a machine that goes over their kinds.
 use Rattle.std.specs.Prelude.{◌≡◌, List, [], ◌∷◌, map, Option, Some, None, ⊤}
-use Rattle.lis_field.specs.declared.kinds.Kind.{Kind}
-use Rattle.lis_field.specs.declared.kinds.Kind.TheVariants as kinds
-use Rattle.lis_field.specs.Shape.{RecordContent}
-use Rattle.lis_field.specs.declared.faults.Reason.{Reason}
-use Rattle.lis_field.specs.declared.faults.Reason.TheVariants as reasons
+use Rattle.lis_record_values.specs.declared.kinds.Kind.{Kind}
+use Rattle.lis_record_values.specs.declared.kinds.Kind.TheVariants as kinds
+use Rattle.lis_record_values.specs.Shape.{RecordContent}
+use Rattle.lis_record_values.specs.declared.faults.Reason.{Reason}
+use Rattle.lis_record_values.specs.declared.faults.Reason.TheVariants as reasons
 
 -- the kinds of records
 abbrev pub kinds_of : List RecordContent → List Kind
 kinds_of records = map (λ r. r.kind) records
 
--- where in a message the next record will stand: before the header, right under it, under a patient, an order or a
+-- where in a message the next record will be: before the header, right under it, under a patient, an order or a
 -- query, or after the closing record
 pub data Level : Type 0 where
   outside : Level
@@ -37,7 +37,7 @@ abbrev pub level_after : Level → List Kind → Level
 level_after level [] = level
 level_after level (k ∷ ks) = level_after (next_level level k) ks
 
--- outside a message and after its end only a header may come, and inside it none; an order stands under a patient, a
+-- outside a message and after its end only a header may come, and inside it none; an order is under a patient, a
 -- result under an order
 abbrev pub misplaced : Level → Kind → Option Reason
 misplaced outside kinds.H = None
@@ -52,7 +52,7 @@ misplaced in_query kinds.R = Some (reasons.NoParent kinds.R)
 misplaced in_patient kinds.R = Some (reasons.NoParent kinds.R)
 misplaced level k = None
 
--- each record of these kinds stands where it may, from this place on
-abbrev pub StandsFrom : Level → List Kind → Type 0
-StandsFrom level [] = ⊤
-StandsFrom level (k ∷ ks) = (misplaced level k ≡ None) × StandsFrom (next_level level k) ks
+-- each record of these kinds is where it may, from this place on
+abbrev pub AllowedFrom : Level → List Kind → Type 0
+AllowedFrom level [] = ⊤
+AllowedFrom level (k ∷ ks) = (misplaced level k ≡ None) × AllowedFrom (next_level level k) ks

@@ -11,7 +11,7 @@ pub mod Open
 pub mod Places
 pub mod Refusing
 pub mod Results
-pub mod Standing
+pub mod Position
 pub mod Tree
 pub mod Walk
 pub mod inside

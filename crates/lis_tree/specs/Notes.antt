@@ -1,8 +1,8 @@
 -- The record that each note of a message is a note on (LIS02-A2): the last one before it that is no note.
 use Rattle.std.specs.Prelude.{◌≡◌, List, [], ◌∷◌, ◌++◌, Option, Some, None, map}
 use Rattle.std.specs.List.{flat_map}
-use Rattle.lis_field.specs.Shape.{RecordContent}
-use Rattle.lis_tree.specs.Nodes.{Branch, Noted, OrderTree, PatientTree}
+use Rattle.lis_record_values.specs.Shape.{RecordContent}
+use Rattle.lis_tree.specs.Nodes.{Branch, Annotated, OrderTree, PatientTree}
 use Rattle.lis_tree.specs.declared.tree.Group.{Group}
 use Rattle.lis_tree.specs.declared.tree.Group.TheVariants as groups
 use Rattle.lis_tree.specs.Tree.{MessageTree, IsNote, AreNotes}
@@ -17,21 +17,21 @@ abbrev pub placed_notes : RecordContent → List RecordContent → List Placed
 placed_notes head notes = record { content = head; note_on = None }
     ∷ map (λ note. record { content = note; note_on = Some head }) notes
 
-abbrev pub placed_noted : Noted → List Placed
-placed_noted n = placed_notes n.head n.notes
+abbrev pub placed_annotated : Annotated → List Placed
+placed_annotated n = placed_notes n.head n.notes
 
 abbrev pub placed_branch : {A : Type 0} → (A → List Placed) → Branch A → List Placed
-placed_branch placed_below b = placed_noted b.top ++ flat_map placed_below b.below
+placed_branch placed_below b = placed_annotated b.top ++ flat_map placed_below b.below
 
 abbrev pub placed_order : OrderTree → List Placed
-placed_order = placed_branch placed_noted
+placed_order = placed_branch placed_annotated
 
 abbrev pub placed_patient : PatientTree → List Placed
 placed_patient = placed_branch placed_order
 
 abbrev pub placed_group : Group → List Placed
 placed_group (groups.Patient p) = placed_patient p
-placed_group (groups.Query q) = placed_noted q
+placed_group (groups.Query q) = placed_annotated q
 
 -- the records of a message in the order in which they are written
 abbrev pub placed : MessageTree → List Placed
@@ -46,6 +46,6 @@ pub record IsLastHead (records : List RecordContent) (head : RecordContent) : Ty
   pub are_notes : AreNotes notes
 
 -- a note is one on the last record before it that is no note; no other record is one
-abbrev pub IsNotedOn : List RecordContent → RecordContent → Option RecordContent → Type 0
-IsNotedOn before r (Some head) = IsNote r.kind × IsLastHead before head
-IsNotedOn before r None = IsNote r.kind → ⊥
+abbrev pub IsNoteOn : List RecordContent → RecordContent → Option RecordContent → Type 0
+IsNoteOn before r (Some head) = IsNote r.kind × IsLastHead before head
+IsNoteOn before r None = IsNote r.kind → ⊥

@@ -2,12 +2,12 @@
 -- parent.
 use Rattle.std.specs.Prelude.{◌≡◌, ℕ, ◌+◌, ◌*◌, ◌-◌, ◌==◌, nat_le, Bool, true, false, ◌&&◌, if◌then◌else◌, List, []}
 use Rattle.std.specs.Prelude.{◌∷◌, length, Option, Some, None}
-use Rattle.lis_field.specs.declared.kinds.Kind.{Kind}
-use Rattle.lis_field.specs.declared.kinds.Kind.TheVariants as kinds
-use Rattle.lis_field.specs.declared.symbols.Sym.{Sym}
-use Rattle.lis_field.specs.declared.symbols.Sym.TheVariants.{Char}
-use Rattle.lis_field.specs.Shape.{Repeats, Symbols}
-use Rattle.lis_tree.specs.declared.numbering.Counts.{Counts}
+use Rattle.lis_record_values.specs.declared.kinds.Kind.{Kind}
+use Rattle.lis_record_values.specs.declared.kinds.Kind.TheVariants as kinds
+use Rattle.lis_record_values.specs.declared.symbols.Sym.{Sym}
+use Rattle.lis_record_values.specs.declared.symbols.Sym.TheVariants.{Char}
+use Rattle.lis_record_values.specs.Shape.{Repeats, Symbols}
+use Rattle.lis_tree.specs.declared.numbering.KindCounts.{KindCounts}
 use Rattle.lis_text.specs.Capped.{capped}
 
 -- whether records of this kind carry a number that is examined: not headers, manufacturer and scientific records
@@ -38,7 +38,7 @@ same_kind kinds.R kinds.R = true
 same_kind kinds.C kinds.C = true
 same_kind k j = false
 
--- how many records of a kind stand behind its parent, going back from here: the kinds before, the nearest first
+-- how many records of a kind are after its parent, going back from here: the kinds before, the nearest first
 abbrev pub siblings : Kind → List Kind → ℕ
 siblings k [] = 0
 siblings k (j ∷ earlier) = if belongs_to k j then 0 else if same_kind k j then siblings k earlier + 1
@@ -54,7 +54,7 @@ abbrev pub symbol_digit : Sym → Option ℕ
 symbol_digit (Char b) = if nat_le 48 b && nat_le b 57 then Some (b - 48) else None
 symbol_digit s = None
 
--- the number that digits make behind a number
+-- the number that digits make after a number
 abbrev pub digits_from : ℕ → Symbols → Option ℕ
 digits_from number [] = Some number
 digits_from number (s ∷ symbols) = elim (symbol_digit s)
@@ -76,8 +76,8 @@ is_number (Some m) n = m == n
 
 -- ---- counting while the records pass
 
--- the counts of each kind behind its parent
-pub record CountsOf (earlier : List Kind) (counts : Counts) : Type 0 where
+-- the counts of each kind after its parent
+pub record CountsOf (earlier : List Kind) (counts : KindCounts) : Type 0 where
   pub patients_are : counts.patients ≡ capped (siblings kinds.P earlier)
   pub queries_are : counts.queries ≡ capped (siblings kinds.Q earlier)
   pub orders_are : counts.orders ≡ capped (siblings kinds.O earlier)

@@ -1,8 +1,8 @@
 -- What an open message keeps.
 use Rattle.std.specs.Prelude.{◌≡◌, ℕ, length}
 use Rattle.std.specs.List.{AllByRecursion}
-use Rattle.lis_field.specs.Delimiters.{DelimiterBytes, IsDelimiters}
-use Rattle.lis_field.specs.Shape.{IsRecordShape}
+use Rattle.lis_record_values.specs.Delimiters.{DelimiterBytes, IsDelimiters}
+use Rattle.lis_record_values.specs.Shape.{IsRecordShape}
 use Rattle.lis_tree.specs.declared.tree.Group.{Group}
 use Rattle.lis_tree.specs.Front.{IsFront, front_records}
 use Rattle.lis_tree.specs.Nodes.{Branch}

@@ -1,13 +1,13 @@
 -- The number that each record of a message should have, read off its tree: its position among the records of its kind
 -- under its parent (LIS02-A2).
 use Rattle.std.specs.Prelude.{ℕ, ◌+◌, if◌then◌else◌, List, [], ◌∷◌, ◌++◌, Option, Some, None}
-use Rattle.lis_field.specs.declared.kinds.Kind.{Kind}
-use Rattle.lis_field.specs.declared.kinds.Kind.TheVariants as kinds
-use Rattle.lis_field.specs.Shape.{RecordContent, field_at}
+use Rattle.lis_record_values.specs.declared.kinds.Kind.{Kind}
+use Rattle.lis_record_values.specs.declared.kinds.Kind.TheVariants as kinds
+use Rattle.lis_record_values.specs.Shape.{RecordContent, field_at}
 use Rattle.lis_tree.specs.declared.numbering.Finding.{Finding}
 use Rattle.lis_tree.specs.declared.tree.Group.{Group}
 use Rattle.lis_tree.specs.declared.tree.Group.TheVariants as groups
-use Rattle.lis_tree.specs.Nodes.{Noted, OrderTree}
+use Rattle.lis_tree.specs.Nodes.{Annotated, OrderTree}
 use Rattle.lis_tree.specs.Numbers.{field_number, is_number}
 use Rattle.lis_tree.specs.Tree.{MessageTree}
 use Rattle.lis_text.specs.Capped.{capped}
@@ -27,7 +27,7 @@ note_numbers n [] = []
 note_numbers n (r ∷ notes) = comment_number n r.kind ∷ note_numbers (next_comment n r.kind) notes
 
 -- the results of an order, with their notes, from this number on
-abbrev pub result_numbers : ℕ → List Noted → List (Option ℕ)
+abbrev pub result_numbers : ℕ → List Annotated → List (Option ℕ)
 result_numbers n [] = []
 result_numbers n (r ∷ results) = Some n ∷ note_numbers 1 r.notes ++ result_numbers (n + 1) results
 

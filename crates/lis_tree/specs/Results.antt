@@ -1,10 +1,10 @@
 -- The results of a message, each with the order and the patient that it belongs to (LIS02-A2).
 use Rattle.std.specs.Prelude.{List, [], ◌∷◌, ◌++◌, map, Option, Some, None}
 use Rattle.std.specs.List.{flat_map}
-use Rattle.lis_field.specs.declared.kinds.Kind.{Kind}
-use Rattle.lis_field.specs.declared.kinds.Kind.TheVariants as kinds
-use Rattle.lis_field.specs.Shape.{RecordContent}
-use Rattle.lis_tree.specs.Nodes.{Noted, OrderTree, PatientTree}
+use Rattle.lis_record_values.specs.declared.kinds.Kind.{Kind}
+use Rattle.lis_record_values.specs.declared.kinds.Kind.TheVariants as kinds
+use Rattle.lis_record_values.specs.Shape.{RecordContent}
+use Rattle.lis_tree.specs.Nodes.{Annotated, OrderTree, PatientTree}
 use Rattle.lis_tree.specs.declared.tree.Group.{Group}
 use Rattle.lis_tree.specs.declared.tree.Group.TheVariants as groups
 use Rattle.lis_tree.specs.Tree.{MessageTree}
@@ -13,9 +13,9 @@ use Rattle.lis_tree.specs.Tree.{MessageTree}
 pub record ResultNode : Type 0 where
   pub patient : PatientTree
   pub order : OrderTree
-  pub entry : Noted
+  pub entry : Annotated
 
-abbrev pub under_order : PatientTree → OrderTree → List Noted → List ResultNode
+abbrev pub under_order : PatientTree → OrderTree → List Annotated → List ResultNode
 under_order p o entries = map (λ entry. record { patient = p; order = o; entry = entry }) entries
 
 abbrev pub order_results : PatientTree → OrderTree → List ResultNode
@@ -30,16 +30,16 @@ results_of m = flat_map group_results m.groups
 
 -- ---- while they are gone over
 
--- what is left: of the patient's orders, of the order's results, and of the groups behind
+-- what is left: of the patient's orders, of the order's results, and of the groups after
 pub record ResultsLeft : Type 0 where
   pub patient : Option PatientTree
   pub order : Option OrderTree
-  pub entries : List Noted
+  pub entries : List Annotated
   pub orders : List OrderTree
   pub groups : List Group
 
 -- the results that are left of the order
-abbrev pub order_left : Option PatientTree → Option OrderTree → List Noted → List ResultNode
+abbrev pub order_left : Option PatientTree → Option OrderTree → List Annotated → List ResultNode
 order_left (Some p) (Some o) entries = under_order p o entries
 order_left p o entries = []
 
@@ -60,28 +60,28 @@ pub record ResultRecord : Type 0 where
   pub order : Option RecordContent
   pub entry : RecordContent
 
-abbrev pub patient_behind : Option RecordContent → RecordContent → Kind → Option RecordContent
-patient_behind patient r kinds.P = Some r
-patient_behind patient r kinds.Q = None
-patient_behind patient r kind = patient
+abbrev pub patient_after : Option RecordContent → RecordContent → Kind → Option RecordContent
+patient_after patient r kinds.P = Some r
+patient_after patient r kinds.Q = None
+patient_after patient r kind = patient
 
-abbrev pub order_behind : Option RecordContent → RecordContent → Kind → Option RecordContent
-order_behind order r kinds.P = None
-order_behind order r kinds.Q = None
-order_behind order r kinds.O = Some r
-order_behind order r kind = order
+abbrev pub order_after : Option RecordContent → RecordContent → Kind → Option RecordContent
+order_after order r kinds.P = None
+order_after order r kinds.Q = None
+order_after order r kinds.O = Some r
+order_after order r kind = order
 
--- a result is told, and no other record is
-abbrev pub told_of : Option RecordContent → Option RecordContent → RecordContent → Kind → List ResultRecord
-told_of patient order r kinds.R = record { patient = patient; order = order; entry = r } ∷ []
-told_of patient order r kind = []
+-- a result is reported, and no other record is
+abbrev pub listed_results : Option RecordContent → Option RecordContent → RecordContent → Kind → List ResultRecord
+listed_results patient order r kinds.R = record { patient = patient; order = order; entry = r } ∷ []
+listed_results patient order r kind = []
 
--- the results among records that stand behind this patient and this order
+-- the results among records that are after this patient and this order
 abbrev pub results_among : Option RecordContent → Option RecordContent → List RecordContent → List ResultRecord
 results_among patient order [] = []
 results_among patient order (r ∷ records) =
-    told_of patient order r r.kind
-    ++ results_among (patient_behind patient r r.kind) (order_behind order r r.kind) records
+    listed_results patient order r r.kind
+    ++ results_among (patient_after patient r r.kind) (order_after order r r.kind) records
 
 -- the records of a result in the tree
 abbrev pub result_record : ResultNode → ResultRecord

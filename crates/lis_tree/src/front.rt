@@ -1,34 +1,34 @@
-//! The tree of a message while its records come: each joins the node that stands last or begins one below it, and no
+//! The tree of a message while its records come: each joins the node that is last or begins one below it, and no
 //! other node moves.
 ghost use Rattle.std.specs.Prelude.{◌≡◌, ◌≢◌, ◌∷◌, [], ◌++◌, None, OnErr, OnOk};
-ghost use Rattle.lis_field.specs.declared.kinds.Kind.TheVariants as kinds;
+ghost use Rattle.lis_record_values.specs.declared.kinds.Kind.TheVariants as kinds;
 ghost use Rattle.lis_tree.specs.Level.{misplaced};
 ghost use Rattle.lis_tree.specs.Tree.{group_records, order_records, patient_records, IsGroup, IsOrder, IsPatient};
 ghost use Rattle.lis_tree.specs.Front.{IsFront, front_records};
 ghost use Rattle.lis_tree.specs.inside.Front.{front_level};
 ghost use Rattle.lis_tree.specs.inside.Joining.{JoinsGroup, JoinsOrder, JoinsPatient};
-ghost use Rattle.lis_tree.specs.Standing.{standing_level};
+ghost use Rattle.lis_tree.specs.Position.{position_level};
 
-use crate::standing::Standing;
-use crate::tree::{Branch, Group, Noted, Order, Patient};
+use crate::position::Position;
+use crate::tree::{Annotated, Branch, Group, Order, Patient};
 use lis_record::{Kind, Record};
 use std::alloc::{AllocError, Global};
 
 /// The header with its notes, and the patients and queries so far.
 pub(crate) type Front = Branch<Group>;
 
-/// Where the next record will stand.
-pub(crate) fn standing(front: &Front) -> Standing
-    ensures { standing_level result ≡ front_level front.now }
+/// Where the next record will be.
+pub(crate) fn position(front: &Front) -> Position
+    ensures { position_level result ≡ front_level front.now }
 {
     match front.below().last() {
-        None => Standing::InHeader,
-        Some(Group::Query(_)) => Standing::InQuery,
+        None => Position::InHeader,
+        Some(Group::Query(_)) => Position::InQuery,
         Some(Group::Patient(patient)) => {
             if patient.orders().is_empty() {
-                Standing::InPatient
+                Position::InPatient
             } else {
-                Standing::InOrder
+                Position::InOrder
             }
         }
     }
@@ -47,7 +47,7 @@ fn push_in_order(
     ensures err { OnErr result (order.new ≡ order.old) }
 {
     if let Kind::R = kind {
-        return order.push(Noted::new(alloc, entry));
+        return order.push(Annotated::new(alloc, entry));
     }
     match order.last_mut() {
         Some(last) => last.push(entry),
@@ -68,7 +68,7 @@ fn push_in_patient(
     ensures err { OnErr result (patient.new ≡ patient.old) }
 {
     if let Kind::O = kind {
-        return patient.push(Order::new(alloc, Noted::new(alloc, entry)));
+        return patient.push(Order::new(alloc, Annotated::new(alloc, entry)));
     }
     match patient.last_mut() {
         Some(last) => push_in_order(alloc, last, kind, entry),
@@ -94,8 +94,8 @@ fn push_in_group(
     }
 }
 
-/// Adds a patient or a query to a message; another record, which may stand there, joins the last of these, or the
-/// header where there is none. Where memory is refused all is as before.
+/// Adds a patient or a query to a message; another record, which may be there, joins the last of these, or the
+/// header where there is none. If memory runs out all is as before.
 pub(crate) fn push_record(
     alloc: Global,
     front: &mut Front,
@@ -111,9 +111,9 @@ pub(crate) fn push_record(
 {
     match kind {
         Kind::P => {
-            return front.push(Group::Patient(Patient::new(alloc, Noted::new(alloc, entry))));
+            return front.push(Group::Patient(Patient::new(alloc, Annotated::new(alloc, entry))));
         }
-        Kind::Q => return front.push(Group::Query(Noted::new(alloc, entry))),
+        Kind::Q => return front.push(Group::Query(Annotated::new(alloc, entry))),
         _ => {}
     }
     match front.last_mut() {

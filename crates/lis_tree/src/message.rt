@@ -1,7 +1,7 @@
 ghost use Rattle.std.specs.Prelude.{◌≡◌, ◌+◌, ◌∷◌, [], ◌++◌, ◌⊎◌, IfOk, IfErr, MatchResult, MatchOption, None, Some};
 ghost use Rattle.std.specs.Prelude.{length};
-ghost use Rattle.lis_field.specs.declared.kinds.Kind.TheVariants as kinds;
-ghost use Rattle.lis_field.specs.declared.faults.Reason.TheVariants as reasons;
+ghost use Rattle.lis_record_values.specs.declared.kinds.Kind.TheVariants as kinds;
+ghost use Rattle.lis_record_values.specs.declared.faults.Reason.TheVariants as reasons;
 ghost use Rattle.lis_tree.specs.Level.{misplaced, closed, kinds_of};
 ghost use Rattle.lis_tree.specs.ListFaults.{IsListFault};
 ghost use Rattle.lis_tree.specs.Front.{message_tree};
@@ -14,8 +14,8 @@ use crate::open::OpenMessage;
 use crate::results::Results;
 use crate::tree::{Branch, Group};
 use crate::walk::{Walk, count};
-use lis_field::{MessageFault, Reason};
 use lis_record::{Delimiters, Kind, Record};
+use lis_record_values::{MessageFault, Reason};
 use std::alloc::{AllocError, Global};
 use std::marker::Model;
 use std::mem::drop;
@@ -59,7 +59,7 @@ impl Message {
     }
 
     /// The message that these records are under these delimiters. The records are used up, also on a fault: the first
-    /// that can't stand where it does, or `Unfinished` at the place after the last, or want of memory.
+    /// that can't be where it is, or `Unfinished` at the place after the last, or a lack of memory.
     pub fn from_records(
         alloc: Global,
         delimiters: Delimiters,

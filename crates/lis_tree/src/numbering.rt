@@ -1,18 +1,20 @@
 //! Findings on sequence numbers (LIS02-A2).
 ghost use Rattle.std.specs.Prelude.{◌≡◌, ◌≢◌, ℕ, ◌+◌, ◌<◌, ◌∷◌, [], ◌++◌, List as Listed, Some, IfSome, IfOk, OnOk};
 ghost use Rattle.std.specs.Prelude.{length};
-ghost use Rattle.lis_field.specs.declared.kinds.Kind.{Kind as KindOf};
+ghost use Rattle.lis_record_values.specs.declared.kinds.Kind.{Kind as KindOf};
 ghost use Rattle.lis_tree.specs.Findings.{HasNumbered, finding_on, findings_from, findings_of};
 ghost use Rattle.std.specs.Option.{option_to_list};
-ghost use Rattle.lis_field.specs.Shape.{RecordContent, field_at, plain_component};
+ghost use Rattle.lis_record_values.specs.Shape.{RecordContent, field_at, plain_component};
 ghost use Rattle.lis_text.specs.Capped.{capped};
 ghost use Rattle.lis_tree.specs.Numbers.{CountsOf, expected_number, symbol_digit, digits_number, field_number};
 ghost use Rattle.lis_tree.specs.Numbers.{is_number, is_numbered};
-ghost use Rattle.lis_field.specs.declared.kinds.Kind.TheVariants as kinds;
+ghost use Rattle.lis_record_values.specs.declared.kinds.Kind.TheVariants as kinds;
 
 use crate::message::Message;
 use crate::walk::Walk;
-use lis_record::{Component, Field, Kind, LentField, LentRecord, LentSymbols, Record, Sym};
+use lis_record::{
+    BorrowedField, BorrowedRecord, BorrowedSymbols, Component, Field, Kind, Record, Sym,
+};
 use lis_text::List;
 use std::alloc::{AllocError, Global};
 
@@ -29,9 +31,9 @@ pub struct Finding {
 /// A list of findings.
 pub type Findings = List<Finding>;
 
-/// How many records of each kind stand behind the parent of the next one.
+/// How many records of each kind are after the parent of the next one.
 #[derive(Clone, Copy)]
-struct Counts {
+struct KindCounts {
     patients: u64,
     queries: u64,
     orders: u64,
@@ -51,11 +53,11 @@ fn one_more(count: &mut u64, comments: &mut u64) -> u64
     *count
 }
 
-impl Counts {
+impl KindCounts {
     fn none() -> Self
         ensures { CountsOf [] result }
     {
-        Counts {
+        KindCounts {
             patients: 0,
             queries: 0,
             orders: 0,
@@ -172,7 +174,7 @@ fn record_number(entry: &Record) -> Option<u64>
 }
 
 /// The number that the symbols of a component are, where they are one to nine digits.
-fn symbols_number(symbols: LentSymbols<'_>) -> Option<u64>
+fn symbols_number(symbols: BorrowedSymbols<'_>) -> Option<u64>
     ensures { result ≡ digits_number symbols.entry }
 {
     let mut symbols = symbols;
@@ -199,7 +201,7 @@ fn bytes_number(bytes: &[u8]) -> Option<u64>
     let mut rest = bytes;
     let mut number = 0u64;
     let mut count = 0u64;
-    while let Some((byte, behind)) = rest.split_first() {
+    while let Some((byte, following)) = rest.split_first() {
         if count == 9 {
             return None;
         }
@@ -208,14 +210,14 @@ fn bytes_number(bytes: &[u8]) -> Option<u64>
         };
         number = number * 10 + digit;
         count += 1;
-        rest = behind;
+        rest = following;
     }
     if count == 0 { None } else { Some(number) }
 }
 
-/// The number that a lent field is, where it is one repeat of one component.
+/// The number that a borrowed field is, where it is one repeat of one component.
 #[inline(always)]
-fn lent_field_number(field: &LentField<'_>) -> Option<u64>
+fn borrowed_field_number(field: &BorrowedField<'_>) -> Option<u64>
     ensures { result ≡ field_number (Some field.now.content) }
 {
     match field.only_component() {
@@ -226,7 +228,7 @@ fn lent_field_number(field: &LentField<'_>) -> Option<u64>
 
 /// The same, where there may be more repeats or components, or an escape.
 #[inline(never)]
-fn other_field_number(field: &LentField<'_>) -> Option<u64>
+fn other_field_number(field: &BorrowedField<'_>) -> Option<u64>
     ensures { result ≡ field_number (Some field.now.content) }
 {
     if field.len() != 1 {
@@ -240,9 +242,9 @@ fn other_field_number(field: &LentField<'_>) -> Option<u64>
     symbols_number(component.symbols())
 }
 
-/// The number that a lent record's second field is.
+/// The number that a borrowed record's second field is.
 #[inline(always)]
-fn lent_number(entry: &LentRecord<'_>) -> Option<u64>
+fn borrowed_number(entry: &BorrowedRecord<'_>) -> Option<u64>
     ensures { result ≡ field_number (field_at entry.now.content 2) }
 {
     // A header's second field is its delimiters.
@@ -253,7 +255,7 @@ fn lent_number(entry: &LentRecord<'_>) -> Option<u64>
         return bytes_number(&[digit]);
     }
     match entry.fields().next() {
-        Some(field) => lent_field_number(&field),
+        Some(field) => borrowed_field_number(&field),
         None => None,
     }
 }
@@ -295,7 +297,7 @@ fn finding_on(kind: Kind, number: Option<u64>, expected: u64, place: u64) -> Opt
 /// (LIS02-A2).
 #[derive(Clone, Copy)]
 pub struct Numbering {
-    counts: Counts,
+    counts: KindCounts,
     /// How many records there are; it stays at the greatest number.
     count: u64,
 }
@@ -306,7 +308,7 @@ impl Numbering {
         ensures { HasNumbered result [] }
     {
         Numbering {
-            counts: Counts::none(),
+            counts: KindCounts::none(),
             count: 0,
         }
     }
@@ -322,7 +324,7 @@ impl Numbering {
     /// Takes the next record, and answers the finding on its second field, if there is one: those on all records with
     /// it are those on the records before, and that.
     #[inline(always)]
-    pub fn take(&mut self, entry: &LentRecord<'_>) -> Option<Finding>
+    pub fn take(&mut self, entry: &BorrowedRecord<'_>) -> Option<Finding>
         ensures found { (records : Listed RecordContent) → HasNumbered self.old records
             → findings_from [] 1 (records ++ entry.now.content ∷ []) ≡ findings_from [] 1 records
             ++ option_to_list result }
@@ -334,7 +336,7 @@ impl Numbering {
         let expected = self.counts.count(kind);
         self.count = self.count.saturating_add(1);
         // Last, so that no finding is carried past these: one is seldom found.
-        finding_on(kind, lent_number(entry), expected, place)
+        finding_on(kind, borrowed_number(entry), expected, place)
     }
 }
 
@@ -356,7 +358,7 @@ pub fn findings(alloc: Global, message: &Message) -> Result<Findings, AllocError
 {
     let mut found = Findings::new(alloc);
     let mut walk = Walk::new(message);
-    let mut counts = Counts::none();
+    let mut counts = KindCounts::none();
     let mut place: u64 = 1;
     while let Some(entry) = walk.next() {
         let kind = entry.kind();

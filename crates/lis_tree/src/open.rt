@@ -1,17 +1,17 @@
 //! A message whose closing record hasn't come yet.
 ghost use Rattle.std.specs.Prelude.{◌≡◌, ◌≢◌, ◌+◌, ◌∷◌, [], ◌++◌, None, OnErr, OnOk, Some, length};
-ghost use Rattle.lis_field.specs.declared.kinds.Kind.TheVariants as kinds;
-ghost use Rattle.lis_field.specs.Delimiters.{IsDelimiters};
+ghost use Rattle.lis_record_values.specs.declared.kinds.Kind.TheVariants as kinds;
+ghost use Rattle.lis_record_values.specs.Delimiters.{IsDelimiters};
 ghost use Rattle.lis_tree.specs.Level.{misplaced};
 ghost use Rattle.lis_tree.specs.Begun.{level_of};
 ghost use Rattle.lis_text.specs.Capped.{capped};
 ghost use Rattle.lis_tree.specs.Tree.{flatten, IsTree};
 
-use crate::front::{Front, push_record, standing};
+use crate::front::{Front, position, push_record};
 use crate::message::Message;
-use crate::tree::Noted;
-use lis_field::Reason;
+use crate::tree::Annotated;
 use lis_record::{Delimiters, Kind, Record};
+use lis_record_values::Reason;
 use std::alloc::{AllocError, Global};
 use std::marker::Model;
 
@@ -48,7 +48,7 @@ impl OpenMessage {
         let _ = (delimiters.field(), header.kind());
         OpenMessage {
             delimiters,
-            front: Front::new(alloc, Noted::new(alloc, header)),
+            front: Front::new(alloc, Annotated::new(alloc, header)),
             count: 1,
         }
     }
@@ -72,10 +72,10 @@ impl OpenMessage {
     pub fn place_fault(&self, kind: Kind) -> Option<Reason>
         ensures { result ≡ misplaced (level_of (Some self.now)) kind }
     {
-        standing(&self.front).place_fault(kind)
+        position(&self.front).place_fault(kind)
     }
 
-    /// Adds one more record, which may stand there and doesn't close the message. Where memory is refused the message
+    /// Adds one more record, which may be there and doesn't close the message. If memory runs out the message
     /// is as before.
     pub fn push(&mut self, alloc: Global, entry: Record) -> Result<(), AllocError>
         requires placed { misplaced (level_of (Some self.old)) entry.kind ≡ None }

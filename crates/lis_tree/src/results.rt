@@ -79,7 +79,7 @@ impl<'a> Results<'a> {
         })
     }
 
-    /// Goes on to the next order of the patient, or to the next patient or query; tells whether there was one.
+    /// Goes on to the next order of the patient, or to the next patient or query; says whether there was one.
     fn go_on(&mut self) -> bool
         requires { order_left self.old.patient self.old.order self.old.entries ≡ [] }
         ensures same { results_left self.new ≡ results_left self.old }

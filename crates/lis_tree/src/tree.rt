@@ -1,20 +1,20 @@
-//! What stands below a message's header: patients with their orders and results, and queries.
+//! What is below a message's header: patients with their orders and results, and queries.
 
 ghost use Rattle.std.specs.Prelude.{◌≡◌, IfOk};
 
+mod annotated;
 mod branch;
-mod noted;
 mod order;
 mod patient;
 
 use crate::lists::Copied;
+pub use annotated::{Annotated, Query, ResultEntry};
 pub use branch::Branch;
-pub use noted::{Noted, Query, ResultEntry};
 pub use order::Order;
 pub use patient::Patient;
 use std::alloc::{AllocError, Global};
 
-/// What stands right under a header.
+/// What is right under a header.
 #[derive(Debug, PartialEq, Eq, Drop)]
 pub enum Group {
     Patient(Patient),

@@ -23,7 +23,7 @@ pub struct Walk<'a> {
 impl<'a> Model for Walk<'a> {
     ghost use Rattle.std.specs.Prelude.{List};
     ghost use Rattle.std.specs.Option.{option_copied};
-    ghost use Rattle.lis_field.specs.Shape.{RecordContent};
+    ghost use Rattle.lis_record_values.specs.Shape.{RecordContent};
 
     ghost Value = { List RecordContent };
 

@@ -15,17 +15,18 @@ use Rattle.lis_link.specs.declared.receiver.Note.{Note}
 use Rattle.lis_link.specs.declared.receiver.Note.TheVariants.{Accepted, Duplicate, NoRoom, TooLong, TooMany}
 use Rattle.lis_text.specs.LinkText.{longest_text}
 use Rattle.lis_link.specs.Joining.{completed, groups, rest}
-use Rattle.lis_link.specs.Receiver.{ReceiverState, bid_with, judged, on_judged, heard_by, held_text, most_frames}
+use Rattle.lis_link.specs.Receiver.{ReceiverState, answered_request, classified, on_classified, heard_by, held_text}
+use Rattle.lis_link.specs.Receiver.{most_frames}
 use Rattle.lis_link.proofs.JoiningLaws.{groups-append}
 use Rattle.lis_world.specs.Unit.{Load, enquiry, ending, one_frame}
 use Rattle.lis_world.specs.Session.{Session, session_at, changed, takes, with_more}
-use Rattle.lis_world.specs.World.{Desk, booked}
+use Rattle.lis_world.specs.World.{ComputerState, booked}
 use Rattle.lis_world.proofs.SessionLemmas.{length-changed, at-changed_same, at-changed, kept-changed}
 use Rattle.lis_world.proofs.Invariant.{IsSound, Line, Pending, Unsent, IsYes, AreKept, IsLeft}
 use Rattle.lis_world.proofs.Hearing.{at_past, hears_signal}
 
 -- the computer's side before a unit comes
-pub record IsSide (limit : ℕ) (d : Desk) : Type 0 where
+pub record IsSide (limit : ℕ) (d : ComputerState) : Type 0 where
   pub sound : (k : ℕ) → IsSound limit (session_at k d.sessions)
   pub line : Line d.sessions d.receiver.is_open d.receiver.accepted d.opened
   pub no_reply : d.replies ≡ []
@@ -37,7 +38,7 @@ kept_refl ss = record {
 }
 
 -- nothing was heard
-pub left_unheard : (limit s : ℕ) (load : Load) (past : List ℕ) (d : Desk) → IsSide limit d
+pub left_unheard : (limit s : ℕ) (load : Load) (past : List ℕ) (d : ComputerState) → IsSide limit d
     → IsLeft limit s load d (at_past past d)
 left_unheard limit s load past d side = record {
   sound = side.sound;
@@ -57,7 +58,7 @@ no_is_no_yes (inr e) = absurd (omega arith)
 
 -- one reply, and nothing else, in the place of a frame; the frame was accepted where it says yes
 left_answered :
-    (limit s byte : ℕ) (f : FrameContent) (past : List ℕ) (d : Desk)
+    (limit s byte : ℕ) (f : FrameContent) (past : List ℕ) (d : ComputerState)
     → IsSide limit d
     → ((before : List FrameContent) (g : FrameContent) → Pending d.sessions d.receiver.is_open d.opened s before g
     → IsYes byte → (session_at s d.sessions).accepted ≡ before ++ g ∷ [])
@@ -73,14 +74,14 @@ left_answered limit s byte f past d side accepted = record {
 }
 
 left_refused :
-    (limit s : ℕ) (f : FrameContent) (past : List ℕ) (d : Desk)
+    (limit s : ℕ) (f : FrameContent) (past : List ℕ) (d : ComputerState)
     → IsSide limit d
     → IsLeft limit s (one_frame f) d (at_past past (record d { replies = d.replies ++ NAK ∷ [] }))
 left_refused limit s f past d side =
     left_answered limit s NAK f past d side (λ before g pending yes. absurd (no_is_no_yes yes))
 
 pub left_bad :
-    (limit s : ℕ) (f : FrameContent) (fault : FrameFault) (past : List ℕ) (d : Desk)
+    (limit s : ℕ) (f : FrameContent) (fault : FrameFault) (past : List ℕ) (d : ComputerState)
     → IsSide limit d
     → IsLeft limit s (one_frame f) d (at_past past (hears_signal {limit = limit} s (Bad fault) d))
 left_bad limit s f fault past d side = go d.receiver.is_open
@@ -91,7 +92,7 @@ left_bad limit s f fault past d side = go d.receiver.is_open
     go false = left_unheard limit s (one_frame f) past d side
 
 pub left_ending :
-    (limit s : ℕ) (past : List ℕ) (d : Desk)
+    (limit s : ℕ) (past : List ℕ) (d : ComputerState)
     → IsSide limit d
     → IsLeft limit s ending d (at_past past (hears_signal {limit = limit} s Eot d))
 left_ending limit s past d side = go d.receiver.is_open
@@ -118,7 +119,7 @@ accepted_of_unsent limit x sound none =
 
 -- ENQ is answered while the line stays closed
 left_closed :
-    (limit s byte : ℕ) (past : List ℕ) (d : Desk) (after : ReceiverState)
+    (limit s byte : ℕ) (past : List ℕ) (d : ComputerState) (after : ReceiverState)
     → IsSide limit d
     → after.is_open ≡ false
     → IsLeft limit s enquiry d (at_past past (record d { receiver = after; replies = d.replies ++ byte ∷ [] }))
@@ -131,13 +132,13 @@ left_closed limit s byte past d after side closed = record {
   after_frame = λ before f e pending. cc;
 }
 
-left_bid :
-    (limit s : ℕ) (past : List ℕ) (d : Desk)
+left_request :
+    (limit s : ℕ) (past : List ℕ) (d : ComputerState)
     → IsSide limit d
     → Unsent d.sessions s
     → (readiness : Readiness)
-    → IsLeft limit s enquiry d (at_past past (booked s (bid_with readiness d.receiver) d))
-left_bid limit s past d side unsent Ready = record {
+    → IsLeft limit s enquiry d (at_past past (booked s (answered_request readiness d.receiver) d))
+left_request limit s past d side unsent Ready = record {
   sound = side.sound;
   line = λ e. (unsent.0, sym (accepted_of_unsent limit (session_at s d.sessions) (side.sound s) unsent.1));
   kept = kept_refl d.sessions;
@@ -145,13 +146,13 @@ left_bid limit s past d side unsent Ready = record {
   after_enquiry = λ e. inr (ACK, one_reply ACK d.replies side.no_reply, λ is_open. refl);
   after_frame = λ before f e pending. cc;
 }
-left_bid limit s past d side unsent Busy =
+left_request limit s past d side unsent Busy =
     left_closed limit s NAK past d (record d.receiver { is_open = false }) side refl
-left_bid limit s past d side unsent Contending =
+left_request limit s past d side unsent Contending =
     left_closed limit s ENQ past d (record d.receiver { is_open = false; readiness = Ready }) side refl
 
 pub left_enquiry :
-    (limit s : ℕ) (past : List ℕ) (d : Desk)
+    (limit s : ℕ) (past : List ℕ) (d : ComputerState)
     → IsSide limit d
     → Unsent d.sessions s
     → IsLeft limit s enquiry d (at_past past (hears_signal {limit = limit} s Enq d))
@@ -159,16 +160,16 @@ left_enquiry limit s past d side unsent = go d.receiver.is_open
   where
     go : (is_open : Bool) → IsLeft limit s enquiry d
         (at_past past (booked s (heard_by {limit = limit} is_open Enq d.receiver) d))
-    go true = left_bid limit s past d side unsent d.receiver.readiness
-    go false = left_bid limit s past d side unsent d.receiver.readiness
+    go true = left_request limit s past d side unsent d.receiver.readiness
+    go false = left_request limit s past d side unsent d.receiver.readiness
 
 -- a frame that comes again is acknowledged
 left_duplicate :
-    (limit s number : ℕ) (f : FrameContent) (past : List ℕ) (d : Desk) (before : List FrameContent)
+    (limit s number : ℕ) (f : FrameContent) (past : List ℕ) (d : ComputerState) (before : List FrameContent)
     → IsSide limit d
     → Pending d.sessions d.receiver.is_open d.opened s before f
     → (session_at s d.sessions).accepted ≡ before ++ f ∷ []
-    → IsLeft limit s (one_frame f) d (at_past past (booked s (on_judged d.receiver f (Duplicate number)) d))
+    → IsLeft limit s (one_frame f) d (at_past past (booked s (on_classified d.receiver f (Duplicate number)) d))
 left_duplicate limit s number f past d before side is_pending accepted =
     left_answered limit s ACK f past d side (λ before' g pending yes.
     accepted ∙ sym is_pending.sent_is ∙ pending.sent_is)
@@ -188,7 +189,7 @@ sound_taken :
     → x.accepted ≡ before
     → x.sent ≡ before ++ f ∷ []
     → IsSound limit x
-    → IsSound limit (takes (on_judged r f (Accepted number)) x)
+    → IsSound limit (takes (on_classified r f (Accepted number)) x)
 sound_taken limit number r x before f same accepted sent h = record {
   sendable = h.sendable;
   accepted_of_sent = record {
@@ -201,19 +202,19 @@ sound_taken limit number r x before f same accepted sent h = record {
       let more = length_push x.accepted f in
       let enough = h.acknowledged_of_accepted in
       omega arith;
-  handed_whole =
+  delivered_whole =
       let held : rest [] r.accepted ≡ rest [] x.accepted = ap (rest []) same in
-      rw (held, h.handed_whole) (sym (groups_push [] x.accepted f));
+      rw (held, h.delivered_whole) (sym (groups_push [] x.accepted f));
   done_acknowledged = h.done_acknowledged;
 }
 
 left_accepted :
-    (limit s number : ℕ) (f : FrameContent) (past : List ℕ) (d : Desk) (before : List FrameContent)
+    (limit s number : ℕ) (f : FrameContent) (past : List ℕ) (d : ComputerState) (before : List FrameContent)
     → IsSide limit d
     → Pending d.sessions d.receiver.is_open d.opened s before f
     → d.receiver.is_open ≡ true
     → (session_at s d.sessions).accepted ≡ before
-    → IsLeft limit s (one_frame f) d (at_past past (booked s (on_judged d.receiver f (Accepted number)) d))
+    → IsLeft limit s (one_frame f) d (at_past past (booked s (on_classified d.receiver f (Accepted number)) d))
 left_accepted limit s number f past d before side is_pending is_open accepted = record {
   sound = at-changed (λ k x. IsSound limit x) d.opened taken d.sessions here side.sound;
   line = λ e. (
@@ -245,7 +246,7 @@ left_accepted limit s number f past d before side is_pending is_open accepted = 
 }
   where
     taken : Session → Session
-    taken = takes (on_judged d.receiver f (Accepted number))
+    taken = takes (on_classified d.receiver f (Accepted number))
 
     owned : (d.opened < length d.sessions) × (d.receiver.accepted ≡ (session_at d.opened d.sessions).accepted)
     owned = side.line is_open
@@ -266,17 +267,17 @@ left_accepted limit s number f past d before side is_pending is_open accepted = 
         (ap (λ (x : Session). x.accepted) (at-changed_same d.opened taken d.sessions owned.0)
         ∙ ap (λ xs. xs ++ f ∷ []) (subst (λ k. (session_at k d.sessions).accepted ≡ before) (sym owner) accepted))
 
--- what is found of a frame behind those that are accepted
-pub judged_new :
+-- what is found of a frame after those that are accepted
+pub classified_new :
     (r : ReceiverState) (f : FrameContent) (before : List FrameContent)
     → f.number ≡ (length before + 1) % 8
     → r.accepted ≡ before
-    → judged r f
+    → classified r f
     ≡ (if not r.room then NoRoom
     else if length r.accepted == most_frames then TooMany
     else if nat_lt longest_text (length (held_text r) + length f.text) then TooLong
     else Accepted f.number)
-judged_new r f before number_is accepted =
+classified_new r f before number_is accepted =
     let count : length r.accepted ≡ length before = ap length accepted in
     let differs : f.number ≡ length r.accepted % 8 → ⊥ = λ e. omega arith in
     let not_again : (nat_lt 0 (length r.accepted) && f.number == length r.accepted % 8) ≡ false =
@@ -287,12 +288,12 @@ judged_new r f before number_is accepted =
     rw (not_again, next) refl
 
 -- and of the last one that is accepted
-pub judged_again :
+pub classified_again :
     (r : ReceiverState) (f : FrameContent) (before : List FrameContent)
     → f.number ≡ (length before + 1) % 8
     → r.accepted ≡ before ++ f ∷ []
-    → judged r f ≡ Duplicate f.number
-judged_again r f before number_is accepted =
+    → classified r f ≡ Duplicate f.number
+classified_again r f before number_is accepted =
     let count : length r.accepted ≡ length before + 1 = ap length accepted ∙ length_push before f in
     let is_again : (nat_lt 0 (length r.accepted) && f.number == length r.accepted % 8) ≡ true =
     and_from (nat_lt 0 (length r.accepted)) (f.number == length r.accepted % 8)
@@ -301,26 +302,26 @@ judged_again r f before number_is accepted =
     rw is_again refl
 
 -- a frame to a receiver whose line is open
-left_judged :
-    (limit s : ℕ) (f : FrameContent) (past : List ℕ) (d : Desk) (before : List FrameContent)
+left_classified :
+    (limit s : ℕ) (f : FrameContent) (past : List ℕ) (d : ComputerState) (before : List FrameContent)
     → IsSide limit d
     → Pending d.sessions d.receiver.is_open d.opened s before f
     → f.number ≡ (length before + 1) % 8
     → d.receiver.is_open ≡ true
-    → IsLeft limit s (one_frame f) d (at_past past (booked s (on_judged d.receiver f (judged d.receiver f)) d))
-left_judged limit s f past d before side is_pending number_is is_open = go is_pending.accepted_is
+    → IsLeft limit s (one_frame f) d (at_past past (booked s (on_classified d.receiver f (classified d.receiver f)) d))
+left_classified limit s f past d before side is_pending number_is is_open = go is_pending.accepted_is
   where
     Fits : Note → Type 0
-    Fits note = IsLeft limit s (one_frame f) d (at_past past (booked s (on_judged d.receiver f note) d))
+    Fits note = IsLeft limit s (one_frame f) d (at_past past (booked s (on_classified d.receiver f note) d))
 
     held : d.receiver.accepted ≡ (session_at s d.sessions).accepted
     held = subst (λ k. d.receiver.accepted ≡ (session_at k d.sessions).accepted) (is_pending.owner_is is_open)
         (side.line is_open).1
 
     go : ((session_at s d.sessions).accepted ≡ before) ⊎ ((session_at s d.sessions).accepted ≡ before ++ f ∷ [])
-        → Fits (judged d.receiver f)
+        → Fits (classified d.receiver f)
     go (inl accepted) =
-        subst Fits (sym (judged_new d.receiver f before number_is (held ∙ accepted)))
+        subst Fits (sym (classified_new d.receiver f before number_is (held ∙ accepted)))
         (cond_both (not d.receiver.room) NoRoom _ Fits (λ e. left_refused limit s f past d side)
         (λ e. cond_both (length d.receiver.accepted == most_frames) TooMany _ Fits
         (λ e'. left_refused limit s f past d side)
@@ -329,11 +330,11 @@ left_judged limit s f past d before side is_pending number_is is_open = go is_pe
         (λ e''. left_refused limit s f past d side)
         (λ e''. left_accepted limit s f.number f past d before side is_pending is_open accepted))))
     go (inr accepted) =
-        subst Fits (sym (judged_again d.receiver f before number_is (held ∙ accepted)))
+        subst Fits (sym (classified_again d.receiver f before number_is (held ∙ accepted)))
         (left_duplicate limit s f.number f past d before side is_pending accepted)
 
 pub left_frame :
-    (limit s : ℕ) (f : FrameContent) (past : List ℕ) (d : Desk) (before : List FrameContent)
+    (limit s : ℕ) (f : FrameContent) (past : List ℕ) (d : ComputerState) (before : List FrameContent)
     → IsSide limit d
     → Pending d.sessions d.receiver.is_open d.opened s before f
     → f.number ≡ (length before + 1) % 8
@@ -345,5 +346,5 @@ left_frame limit s f past d before side is_pending number_is = go d.receiver.is_
         → d.receiver.is_open ≡ is_open
         → IsLeft limit s (one_frame f) d (at_past past
         (booked s (heard_by {limit = limit} is_open (Good f) d.receiver) d))
-    go true e = left_judged limit s f past d before side is_pending number_is e
+    go true e = left_classified limit s f past d before side is_pending number_is e
     go false e = left_unheard limit s (one_frame f) past d side

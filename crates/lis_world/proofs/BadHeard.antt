@@ -7,8 +7,8 @@ use Rattle.std.proofs.lemmas.List.Elements.{All-head, All-tail}
 use Rattle.lis_text.specs.Control.{STX, LF}
 use Rattle.lis_frame.specs.declared.frame.FrameFault.{FrameFault}
 use Rattle.lis_frame.specs.declared.scanner.SignalOf.TheVariants.{Bad}
-use Rattle.lis_frame.specs.Stretch.{stretch_fault}
-use Rattle.lis_frame.specs.Stream.{is_mark, look_back, open_stretch, signal_after, signals_after, stream_with}
+use Rattle.lis_frame.specs.FrameBody.{body_fault}
+use Rattle.lis_frame.specs.Stream.{is_mark, look_back, open_body, signal_after, signals_after, stream_with}
 
 abbrev pub AreInner : List ℕ → Type 0
 AreInner xs = All (λ b. is_mark b ≡ false) xs
@@ -39,14 +39,14 @@ look_back-inner past (x ∷ xs) since inner =
     let later = All-tail (λ b. is_mark b ≡ false) x xs inner in
     look_back-inner (x ∷ past) xs since later ∙ look_back-mark past (xs ++ since) x here
 
--- a stretch of bytes without a mark that is no frame is heard as that, after any stream
-pub signals-bad_stretch :
-    (limit : ℕ) (past stretch : List ℕ) (fault : FrameFault)
-    → AreInner stretch
-    → stretch_fault limit stretch ≡ Some fault
-    → signals_after limit past (STX ∷ (stretch ++ LF ∷ [])) ≡ Bad fault ∷ []
-unfolding signal_after open_stretch
-signals-bad_stretch limit past stretch fault inner bad =
-    let found : look_back (stream_with (STX ∷ past) stretch) [] ≡ Some stretch =
-    look_back-inner (STX ∷ past) stretch [] inner ∙ ap Some (append-nil stretch) in
-    signals-inner limit (STX ∷ past) stretch (LF ∷ []) inner ∙ rw (found, bad) refl
+-- a frame body of bytes without a mark that is no frame is heard as that, after any stream
+pub signals-bad_body :
+    (limit : ℕ) (past body : List ℕ) (fault : FrameFault)
+    → AreInner body
+    → body_fault limit body ≡ Some fault
+    → signals_after limit past (STX ∷ (body ++ LF ∷ [])) ≡ Bad fault ∷ []
+unfolding signal_after open_body
+signals-bad_body limit past body fault inner bad =
+    let found : look_back (stream_with (STX ∷ past) body) [] ≡ Some body =
+    look_back-inner (STX ∷ past) body [] inner ∙ ap Some (append-nil body) in
+    signals-inner limit (STX ∷ past) body (LF ∷ []) inner ∙ rw (found, bad) refl

@@ -11,18 +11,18 @@ use Rattle.lis_world.specs.Session.{Session, new_session, session_at, changed, f
 use Rattle.lis_world.specs.World.{World}
 use Rattle.lis_world.specs.Steps.{put_on_link, with_sender, forgotten}
 use Rattle.lis_world.proofs.SessionLemmas.{length-changed, at-changed_same, at-changed, kept-changed}
-use Rattle.lis_world.proofs.Invariant.{IsSound, Line, Pending, Unsent, Waits, Behind, Leads, Front, KeepsFrames}
+use Rattle.lis_world.proofs.Invariant.{IsSound, Line, Pending, Unsent, Waits, Following, Leads, Front, KeepsFrames}
 use Rattle.lis_world.proofs.Invariant.{IsCurrent, InPhase, Holds}
 use Rattle.lis_world.proofs.Leaving.{leads_from_waits}
 
 pub record Base (limit : ℕ) (w : World) : Type 0 where
   pub sound : (k : ℕ) → IsSound limit (session_at k w.sessions)
-  pub mute_within : w.mute ≤ length w.units
+  pub to_drop_within : w.to_drop ≤ length w.units
   pub line : Line w.sessions w.receiver.is_open w.receiver.accepted w.opened
   pub front : Front w.sessions w.receiver.is_open w.opened w.units
 
 pub base_of : (limit : ℕ) (w : World) → Holds limit w → Base limit w
-base_of limit w h = record { sound = h.sound; mute_within = h.mute_within; line = h.line; front = h.front }
+base_of limit w h = record { sound = h.sound; to_drop_within = h.to_drop_within; line = h.line; front = h.front }
 
 pub holds_of :
     (limit : ℕ) (w : World)
@@ -33,7 +33,7 @@ pub holds_of :
 holds_of limit w base current phase =
     record {
       sound = base.sound;
-      mute_within = base.mute_within;
+      to_drop_within = base.to_drop_within;
       line = base.line;
       front = base.front;
       current = current;
@@ -78,9 +78,9 @@ waits_same ss ss' s enquiry same h = unsent_same ss ss' s same h
 waits_same ss ss' s ending same h = tt
 waits_same ss ss' s (one_frame f) same h = h
 
-behind_same : (ss ss' : List Session) (us : List Travelling) → AreSame ss ss' → Behind ss us → Behind ss' us
-behind_same ss ss' [] same h = tt
-behind_same ss ss' (u ∷ us) same h = (waits_same ss ss' u.session u.load same h.0, behind_same ss ss' us same h.1)
+following_same : (ss ss' : List Session) (us : List Travelling) → AreSame ss ss' → Following ss us → Following ss' us
+following_same ss ss' [] same h = tt
+following_same ss ss' (u ∷ us) same h = (waits_same ss ss' u.session u.load same h.0, following_same ss ss' us same h.1)
 
 leads_same :
     (ss ss' : List Session) (is_open : Bool) (owner s : ℕ) (load : Load)
@@ -98,7 +98,7 @@ pub front_same :
     → Front ss' is_open owner us
 front_same ss ss' is_open owner [] same h = tt
 front_same ss ss' is_open owner (u ∷ us) same h =
-    (leads_same ss ss' is_open owner u.session u.load same h.0, behind_same ss ss' us same h.1)
+    (leads_same ss ss' is_open owner u.session u.load same h.0, following_same ss ss' us same h.1)
 
 pub line_same :
     (ss ss' : List Session) (is_open : Bool) (accepted : List FrameContent) (owner : ℕ)
@@ -110,11 +110,12 @@ line_same ss ss' is_open accepted owner same h e =
     let within = (h e).0 in
     (omega arith, (h e).1 ∙ sym (same.accepted_same owner (h e).0))
 
--- one more unit behind those that are there
-behind_more : (ss : List Session) (us : List Travelling) (u : Travelling) → Behind ss us → Waits ss u.session u.load
-    → Behind ss (us ++ u ∷ [])
-behind_more ss [] u h waits = (waits, tt)
-behind_more ss (v ∷ us) u h waits = (h.0, behind_more ss us u h.1 waits)
+-- one more unit after those that are there
+following_more : (ss : List Session) (us : List Travelling) (u : Travelling) → Following ss us
+    → Waits ss u.session u.load
+    → Following ss (us ++ u ∷ [])
+following_more ss [] u h waits = (waits, tt)
+following_more ss (v ∷ us) u h waits = (h.0, following_more ss us u h.1 waits)
 
 pub front_more :
     (ss : List Session) (is_open : Bool) (owner : ℕ) (us : List Travelling) (u : Travelling)
@@ -122,14 +123,14 @@ pub front_more :
     → Waits ss u.session u.load
     → Front ss is_open owner (us ++ u ∷ [])
 front_more ss is_open owner [] u h waits = (leads_from_waits ss is_open owner u.session u.load waits, tt)
-front_more ss is_open owner (v ∷ us) u h waits = (h.0, behind_more ss us u h.1 waits)
+front_more ss is_open owner (v ∷ us) u h waits = (h.0, following_more ss us u h.1 waits)
 
 pub base_placed : (limit : ℕ) (load : Load) (w : World) → Waits w.sessions w.current load → Base limit w
     → Base limit (put_on_link load w)
 base_placed limit load w waits base = record {
   sound = base.sound;
-  mute_within =
-      let within = base.mute_within in
+  to_drop_within =
+      let within = base.to_drop_within in
       let more = length_push w.units (record { session = w.current; load = load }) in
       omega arith;
   line = base.line;
@@ -140,7 +141,7 @@ base_placed limit load w waits base = record {
 pub base_forgotten : (limit : ℕ) (w : World) → Base limit w → Base limit (forgotten w)
 base_forgotten limit w base = record {
   sound = base.sound;
-  mute_within = omega arith;
+  to_drop_within = omega arith;
   line = base.line;
   front = base.front;
 }
@@ -149,7 +150,7 @@ pub base_replies : (limit : ℕ) (replies : List ℕ) (w : World) → Base limit
     → Base limit (record w { replies = replies })
 base_replies limit replies w base = record {
   sound = base.sound;
-  mute_within = base.mute_within;
+  to_drop_within = base.to_drop_within;
   line = base.line;
   front = base.front;
 }
@@ -177,7 +178,7 @@ sound_followed limit sender x can h = record {
   accepted_of_sent = h.accepted_of_sent;
   sent_of_frames = h.sent_of_frames;
   acknowledged_of_accepted = can.acknowledged_of_accepted;
-  handed_whole = h.handed_whole;
+  delivered_whole = h.delivered_whole;
   done_acknowledged = can.done_acknowledged;
 }
 
@@ -192,7 +193,7 @@ base_followed limit sender w can base =
     record {
       sound = at-changed (λ k x. IsSound limit x) w.current (follows sender) w.sessions
           (sound_followed limit sender (session_at w.current w.sessions) can (base.sound w.current)) base.sound;
-      mute_within = base.mute_within;
+      to_drop_within = base.to_drop_within;
       line = line_same w.sessions ss' w.receiver.is_open w.receiver.accepted w.opened same base.line;
       front = front_same w.sessions ss' w.receiver.is_open w.opened w.units same base.front;
     }

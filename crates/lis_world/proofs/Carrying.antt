@@ -14,41 +14,41 @@ use Rattle.lis_link.specs.declared.sender.Phase.TheVariants.{AwaitLine}
 use Rattle.lis_link.specs.declared.receiver.Readiness.TheVariants as Readinesses
 use Rattle.lis_link.specs.Joining.{groups}
 use Rattle.lis_link.specs.Sender.{sends_first, started, most_tries}
-use Rattle.lis_link.specs.Receiver.{bid_with, heard_by}
+use Rattle.lis_link.specs.Receiver.{answered_request, heard_by}
 use Rattle.lis_link.proofs.JoiningLaws.{groups-session_frames}
 use Rattle.lis_world.specs.declared.event.Event.{Event}
 use Rattle.lis_world.specs.declared.event.Event.TheVariants.{Start, Deliver, DeliverNoRoom, Damage, Reply, DamageReply}
 use Rattle.lis_world.specs.Unit.{enquiry, ending, Travelling, load_bytes}
 use Rattle.lis_world.specs.Session.{Session, new_session, session_at}
-use Rattle.lis_world.specs.World.{World, new_world, Desk, desk_of, booked, hears, lowered, settled}
+use Rattle.lis_world.specs.World.{World, new_world, ComputerState, computer_state_of, booked, hears, lowered, settled}
 use Rattle.lis_world.specs.Steps.{begins, delivered, delivered_no_room, damaged, is_noticed, room_at, replied}
 use Rattle.lis_world.specs.Steps.{reply_damaged, sender_steps, after_event, runs, world}
 use Rattle.lis_world.specs.Safe.{IsPrefix}
 use Rattle.lis_world.specs.Progress.{Round, undisturbed, without_room, bad_frame, bad_reply, round_events}
-use Rattle.lis_world.specs.Progress.{rounds_events, IsBadStretch, IsNoticed, AreNoticed, good_rounds, FewInARow, IsCalm}
+use Rattle.lis_world.specs.Progress.{rounds_events, IsBadBody, IsNoticed, AreNoticed, good_rounds, FewInARow, IsCalm}
 use Rattle.lis_world.specs.Progress.{session_events, done_session, IsCarried, AreSendable, AreEnough}
 use Rattle.lis_world.specs.Progress.{undisturbed_rounds, quiet_events, CarriesThrough, RunsQuietly}
 use Rattle.lis_world.proofs.Invariant.{IsSound, InPhase, Holds, kept_frames}
 use Rattle.lis_world.proofs.Room.{room_runs}
 use Rattle.lis_world.proofs.Leaving.{heard_replies}
 use Rattle.lis_world.proofs.Hearing.{at_past}
-use Rattle.lis_world.proofs.BadHeard.{signals-bad_stretch}
+use Rattle.lis_world.proofs.BadHeard.{signals-bad_body}
 use Rattle.lis_link.proofs.Counting.{few-session_frames}
 use Rattle.lis_world.proofs.Starting.{can_start}
-use Rattle.lis_world.proofs.Sending.{zero_mute}
+use Rattle.lis_world.proofs.Sending.{zero_to_drop}
 use Rattle.lis_world.proofs.Safety.{event_holds, runs_hold, new_holds, whole_prefix, prefix_trans}
-use Rattle.lis_world.proofs.Safety.{hands_out_all_from_sound}
+use Rattle.lis_world.proofs.Safety.{delivers_all_from_sound}
 use Rattle.lis_world.proofs.Rounds.{EndTraffic}
 use Rattle.lis_world.proofs.Rounds.{IsSent, IsFinished, GoesOn, GoesOnOrAgain, by_signals, awaiting_of, sender_frames}
 use Rattle.lis_world.proofs.Rounds.{sent_on, undisturbed_round, disturbed_round}
 
 -- EOT closes the line
-record IsClosed (ss : List Session) (d : Desk) : Type 0 where
+record IsClosed (ss : List Session) (d : ComputerState) : Type 0 where
   no_reply : d.replies ≡ []
   is_closed : d.receiver.is_open ≡ false
   sessions_are : d.sessions ≡ ss
 
-ending_heard : (limit s : ℕ) (d : Desk) → d.replies ≡ [] → IsClosed d.sessions (hears limit s (EOT ∷ []) d)
+ending_heard : (limit s : ℕ) (d : ComputerState) → d.replies ≡ [] → IsClosed d.sessions (hears limit s (EOT ∷ []) d)
 unfolding signal_after
 ending_heard limit s d none =
     by_signals (IsClosed d.sessions) limit s (EOT ∷ []) d (Eot ∷ []) refl (go d.receiver.is_open refl)
@@ -62,19 +62,19 @@ ending_heard limit s d none =
     go false e = record { no_reply = none; is_closed = e; sessions_are = refl }
 
 -- a session that is over stays so
-record IsOver (limit c : ℕ) (frames : List FrameContent) (w : World) : Type 0 where
+record IsSessionFinished (limit c : ℕ) (frames : List FrameContent) (w : World) : Type 0 where
   finished : IsFinished limit c frames w
   closed : w.receiver.is_open ≡ false
 
 closed_after :
-    (limit c : ℕ) (frames : List FrameContent) (w w2 : World) (d : Desk)
+    (limit c : ℕ) (frames : List FrameContent) (w w2 : World) (d : ComputerState)
     → IsFinished limit c frames w
     → Holds limit w2
     → IsClosed w.sessions d
     → w2 ≡ settled [] d w
-    → IsOver limit c frames w2
+    → IsSessionFinished limit c frames w2
 closed_after limit c frames w w2 d finished holds closed e =
-    subst (IsOver limit c frames) (sym e) (record {
+    subst (IsSessionFinished limit c frames) (sym e) (record {
       finished = record {
         tracked = record {
           holds = subst (Holds limit) e holds;
@@ -87,23 +87,25 @@ closed_after limit c frames w w2 d finished holds closed e =
         neutral = finished.neutral;
         outcome_is = finished.outcome_is;
         unmuted = subst (λ m. lowered m ≡ 0) (sym finished.unmuted) refl;
-        no_reply = heard_replies w.mute d.replies w.replies finished.unmuted finished.no_reply ∙ closed.no_reply;
+        no_reply = heard_replies w.to_drop d.replies w.replies finished.unmuted finished.no_reply ∙ closed.no_reply;
         traffic = inr (refl, closed.is_closed);
       };
       closed = closed.is_closed;
     })
 
 finished_delivered : (limit c : ℕ) (frames : List FrameContent) (w : World) → IsLimit limit
-    → IsFinished limit c frames w → IsOver limit c frames (after_event limit Deliver w)
+    → IsFinished limit c frames w → IsSessionFinished limit c frames (after_event limit Deliver w)
 finished_delivered limit c frames w is_limit finished = go finished.traffic
   where
-    go : EndTraffic w → IsOver limit c frames (after_event limit Deliver w)
+    go : EndTraffic w → IsSessionFinished limit c frames (after_event limit Deliver w)
     go (inl one) =
-        closed_after limit c frames w (after_event limit Deliver w) (hears limit one.0 (EOT ∷ []) (desk_of w)) finished
-        (event_holds limit Deliver w is_limit finished.tracked.holds) (ending_heard limit one.0 (desk_of w) refl)
+        closed_after limit c frames w (after_event limit Deliver w) (hears limit one.0 (EOT ∷ []) (computer_state_of w))
+        finished
+        (event_holds limit Deliver w is_limit finished.tracked.holds) (ending_heard limit one.0 (computer_state_of w)
+        refl)
         (ap (λ us. delivered limit us w) one.1)
     go (inr none) =
-        subst (IsOver limit c frames) (sym (ap (λ us. delivered limit us w) none.0))
+        subst (IsSessionFinished limit c frames) (sym (ap (λ us. delivered limit us w) none.0))
         (record { finished = finished; closed = none.1 })
 
 finished_no_room :
@@ -113,7 +115,7 @@ finished_no_room limit c frames w is_limit finished = go finished.traffic
   where
     go : EndTraffic w → IsFinished limit c frames (after_event limit DeliverNoRoom w)
     go (inl one) =
-        let d : Desk = room_at false (desk_of w) in
+        let d : ComputerState = room_at false (computer_state_of w) in
         let closed = ending_heard limit one.0 d refl in
         (closed_after limit c frames w (after_event limit DeliverNoRoom w)
         (room_at true (hears limit one.0 (EOT ∷ []) d)) finished
@@ -124,23 +126,23 @@ finished_no_room limit c frames w is_limit finished = go finished.traffic
 
 -- damage that is heard as a bad frame is not allowed for EOT
 finished_damaged :
-    (limit c : ℕ) (frames : List FrameContent) (stretch : List ℕ) (w : World)
-    → IsBadStretch limit stretch
+    (limit c : ℕ) (frames : List FrameContent) (body : List ℕ) (w : World)
+    → IsBadBody limit body
     → IsFinished limit c frames w
-    → IsFinished limit c frames (after_event limit (Damage (STX ∷ (stretch ++ LF ∷ []))) w)
-finished_damaged limit c frames stretch w bad finished = go finished.traffic
+    → IsFinished limit c frames (after_event limit (Damage (STX ∷ (body ++ LF ∷ []))) w)
+finished_damaged limit c frames body w bad finished = go finished.traffic
   where
     bytes : List ℕ
-    bytes = STX ∷ (stretch ++ LF ∷ [])
+    bytes = STX ∷ (body ++ LF ∷ [])
 
     go : EndTraffic w → IsFinished limit c frames (after_event limit (Damage bytes) w)
     go (inl one) =
         let unnoticed : is_noticed ending (signals_after limit w.receiver.past bytes) ≡ false =
-        ap (is_noticed ending) (signals-bad_stretch limit w.receiver.past stretch bad.fault bad.no_mark bad.is_bad) in
+        ap (is_noticed ending) (signals-bad_body limit w.receiver.past body bad.fault bad.no_mark bad.is_bad) in
         let same : after_event limit (Damage bytes) w ≡ w =
         ap (λ us. damaged limit bytes us w) one.1
         ∙ cond-false (is_noticed ending (signals_after limit w.receiver.past bytes))
-        (settled [] (hears limit one.0 bytes (desk_of w)) w) w unnoticed in
+        (settled [] (hears limit one.0 bytes (computer_state_of w)) w) w unnoticed in
         subst (IsFinished limit c frames) (sym same) finished
     go (inr none) = subst (IsFinished limit c frames) (sym (ap (λ us. damaged limit bytes us w) none.0)) finished
 
@@ -167,9 +169,9 @@ finished_round limit c frames undisturbed w is_limit noticed finished =
 finished_round limit c frames without_room w is_limit noticed finished =
     finished_reply limit c frames (after_event limit DeliverNoRoom w)
     (finished_no_room limit c frames w is_limit finished)
-finished_round limit c frames (bad_frame stretch) w is_limit noticed finished =
-    finished_reply limit c frames (after_event limit (Damage (STX ∷ (stretch ++ LF ∷ []))) w)
-    (finished_damaged limit c frames stretch w noticed finished)
+finished_round limit c frames (bad_frame body) w is_limit noticed finished =
+    finished_reply limit c frames (after_event limit (Damage (STX ∷ (body ++ LF ∷ []))) w)
+    (finished_damaged limit c frames body w noticed finished)
 finished_round limit c frames (bad_reply r) w is_limit noticed finished =
     finished_bad_reply limit c frames r (after_event limit Deliver w)
     (finished_delivered limit c frames w is_limit finished).finished
@@ -252,14 +254,14 @@ through limit c frames (round ∷ rounds) row k t w is_limit few noticed in_a_ro
     go (inr sent2) later = later k (t + 1) (omega arith) enough sent2
 
 -- ENQ opens the line of a receiver that is ready
-record IsOpened (n : ℕ) (d : Desk) : Type 0 where
+record IsOpened (n : ℕ) (d : ComputerState) : Type 0 where
   reply_is : d.replies ≡ ACK ∷ []
   is_open : d.receiver.is_open ≡ true
   room_is : d.receiver.room ≡ true
   length_is : length d.sessions ≡ n
 
 enquiry_heard :
-    (limit s : ℕ) (d : Desk)
+    (limit s : ℕ) (d : ComputerState)
     → d.replies ≡ []
     → d.receiver.readiness ≡ Readinesses.Ready
     → d.receiver.room ≡ true
@@ -271,15 +273,17 @@ enquiry_heard limit s d none ready room =
     past : List ℕ
     past = stream_with d.receiver.past (ENQ ∷ [])
 
-    bid : IsOpened (length d.sessions) (at_past past (booked s (bid_with d.receiver.readiness d.receiver) d))
-    bid =
-        subst (λ r. IsOpened (length d.sessions) (at_past past (booked s (bid_with r d.receiver) d))) (sym ready)
+    request : IsOpened (length d.sessions) (at_past past (booked s (answered_request d.receiver.readiness d.receiver)
+        d))
+    request =
+        subst (λ r. IsOpened (length d.sessions) (at_past past (booked s (answered_request r d.receiver) d)))
+        (sym ready)
         (record { reply_is = ap (λ xs. xs ++ ACK ∷ []) none; is_open = refl; room_is = room; length_is = refl })
 
     go : (is_open : Bool) → IsOpened (length d.sessions)
         (at_past past (booked s (heard_by {limit = limit} is_open Enq d.receiver) d))
-    go true = bid
-    go false = bid
+    go true = request
+    go false = request
 
 -- the line is opened, and the first frame sent
 begun :
@@ -294,17 +298,17 @@ begun :
 begun limit texts w is_limit h calm room holds =
     let c : ℕ = length w.sessions in
     let w1 : World = begins limit None texts w in
-    let bid : Travelling = record { session = c; load = enquiry } in
-    let d : Desk = desk_of w1 in
-    let after : Desk = hears limit c (load_bytes enquiry) d in
+    let request : Travelling = record { session = c; load = enquiry } in
+    let d : ComputerState = computer_state_of w1 in
+    let after : ComputerState = hears limit c (load_bytes enquiry) d in
     let opened = enquiry_heard limit c d refl calm.ready room in
-    let alone : w1.units ≡ bid ∷ [] = ap (λ us. us ++ bid ∷ []) calm.no_unit in
+    let alone : w1.units ≡ request ∷ [] = ap (λ us. us ++ request ∷ []) calm.no_unit in
     let w2 : World = after_event limit Deliver w1 in
     let e2 : w2 ≡ settled [] after w1 = ap (λ us. delivered limit us w1) alone in
-    let unmuted : w.mute ≡ 0 = zero_mute w.mute w.units h.mute_within calm.no_unit in
+    let unmuted : w.to_drop ≡ 0 = zero_to_drop w.to_drop w.units h.to_drop_within calm.no_unit in
     let no_reply : w.replies ≡ [] = (subst (λ p. InPhase p w) calm.neutral h.phase).no_reply in
     let replies_are : (settled [] after w1).replies ≡ ACK ∷ [] =
-    heard_replies w.mute after.replies w.replies unmuted no_reply ∙ opened.reply_is in
+    heard_replies w.to_drop after.replies w.replies unmuted no_reply ∙ opened.reply_is in
     let holds2 : Holds limit (settled [] after w1) =
     subst (Holds limit) e2 (event_holds limit Deliver w1 is_limit holds) in
     let w3 : World = record (settled [] after w1) { replies = [] } in
@@ -314,7 +318,7 @@ begun limit texts w is_limit h calm room holds =
     let count : length (session_frames limit texts) ≡ length (session_frames limit texts) = refl in
     sent_on limit c (session_frames limit texts) (length (session_frames limit texts)) (started limit texts) w3
     (after_event limit Reply w2)
-    refl (opened.length_is ∙ more_sessions w.sessions (new_session texts)) holds2.mute_within
+    refl (opened.length_is ∙ more_sessions w.sessions (new_session texts)) holds2.to_drop_within
     (event_holds limit Reply w2 is_limit (event_holds limit Deliver w1 is_limit holds))
     refl refl opened.is_open opened.room_is (sym (kept_frames limit (settled [] after w1) AwaitLine holds2 refl))
     (omega arith)
@@ -325,12 +329,12 @@ begun limit texts w is_limit h calm room holds =
         let more = length_push ss x in
         omega arith
 
--- the session when it is over
-session_over :
+-- the session when it is finished
+session_finished :
     (limit c : ℕ) (texts : List (List ℕ)) (w : World)
     → IsFinished limit c (session_frames limit texts) w
     → session_at c w.sessions ≡ done_session limit texts
-session_over limit c texts w finished =
+session_finished limit c texts w finished =
     let frames : List FrameContent = session_frames limit texts in
     let h = finished.tracked.holds in
     let x : Session = session_at w.current w.sessions in
@@ -352,10 +356,10 @@ session_over limit c texts w finished =
     whole_prefix x.sent (session_frames limit x.texts) sound.sent_of_frames (omega arith) in
     let count_same : length (session_frames limit x.texts) ≡ length frames = ap length frames_same in
     let acknowledged_is : x.acknowledged ≡ length frames = omega arith in
-    let handed_is : x.handed ≡ texts = hands_out_all_from_sound limit x sound done ∙ texts_is in
+    let delivered_is : x.handed ≡ texts = delivers_all_from_sound limit x sound done ∙ texts_is in
     let whole : x ≡ done_session limit texts =
     same_session x (done_session limit texts) texts_is (sent_is ∙ frames_same) (accepted_is ∙ frames_same)
-    acknowledged_is handed_is done in
+    acknowledged_is delivered_is done in
     subst (λ k. session_at k w.sessions ≡ done_session limit texts) finished.tracked.current_is whole
   where
     same_session :
@@ -392,12 +396,12 @@ carried limit texts rounds w is_limit h calm room sendable enough =
     go c frames w2 enough.noticed (begun limit texts w is_limit h calm room holds1)
     (λ sent. through limit c frames rounds 0 (length frames) 1 w2 is_limit few enough.noticed enough.few_in_a_row
     enough.enough_good (omega arith) sent) in
-    let over : IsOver limit c frames (runs limit (rounds_events rounds ++ Deliver ∷ []) w2) =
-    subst (IsOver limit c frames) (sym (runs-append limit (rounds_events rounds) (Deliver ∷ []) w2))
+    let over : IsSessionFinished limit c frames (runs limit (rounds_events rounds ++ Deliver ∷ []) w2) =
+    subst (IsSessionFinished limit c frames) (sym (runs-append limit (rounds_events rounds) (Deliver ∷ []) w2))
     (finished_delivered limit c frames (runs limit (rounds_events rounds) w2) is_limit finished) in
     let result : IsCarried limit texts w (runs limit (rounds_events rounds ++ Deliver ∷ []) w2) = record {
       one_more = over.finished.tracked.length_is;
-      session_is = session_over limit c texts (runs limit (rounds_events rounds ++ Deliver ∷ []) w2) over.finished;
+      session_is = session_finished limit c texts (runs limit (rounds_events rounds ++ Deliver ∷ []) w2) over.finished;
       sender_neutral = over.finished.neutral;
       receiver_neutral = over.closed;
     } in

@@ -1,4 +1,4 @@
--- The frames of a session: each is one that can be spelled, and its number tells its place.
+-- The frames of a session: each is one that can be encoded, and its number reports its place.
 use Rattle.std.proofs.Common.{◌≡◌, ℕ, zero, suc, ◌+◌, ◌*◌, ◌-◌, ◌/◌, ◌%◌, ◌<◌, ◌≤◌, Bool, true, false, List, [], ◌∷◌}
 use Rattle.std.proofs.Common.{◌++◌, None, Some, length, take, drop, refl, ap, arith}
 use Rattle.std.specs.Prelude.{All, if◌then◌else◌}
@@ -101,7 +101,7 @@ content-session_frames limit texts is_limit h =
     let some : 0 < limit = omega (arith, is_limit.at_least) in
     content-all_pieces limit 1 texts some (omega arith) h
 
--- a frame behind others is the number of these behind the first number
+-- a frame after others is the number of these after the first number
 number-numbered :
     (n : ℕ) (pieces : List Piece) (before : List FrameContent) (f : FrameContent) (left : List FrameContent)
     → n ≤ 7

@@ -1,8 +1,8 @@
 -- The definitions at lists of events whose outcomes are known from outside, by computation.
 use Rattle.std.proofs.Common.{◌≡◌, ℕ, zero, suc, List, [], ◌∷◌, ◌++◌, None, Some, refl, true, false, replicate}
 use Rattle.lis_frame.specs.Frame.{FrameContent, frame_bytes}
-use Rattle.lis_frame.specs.Stretch.{stretch_fault}
-use Rattle.lis_frame.specs.Stream.{signal_after, open_stretch}
+use Rattle.lis_frame.specs.FrameBody.{body_fault}
+use Rattle.lis_frame.specs.Stream.{signal_after, open_body}
 use Rattle.lis_frame.specs.Pieces.{session_frames, pieces}
 use Rattle.lis_link.specs.declared.sender.Outcome.TheVariants.{Done, TimedOut, Restarted}
 use Rattle.lis_world.specs.declared.event.Event.{Event}
@@ -40,7 +40,7 @@ abbrev pub begun_letter : ℕ → Session
 begun_letter letter =
     record (done_letter letter) { sent = []; accepted = []; acknowledged = 0; handed = []; outcome = None }
 
--- the sessions that these events come to
+-- the sessions that these events give
 abbrev ComesTo : List Event → List Session → Type 0
 ComesTo events sessions = (world 240 events).sessions ≡ sessions
 
@@ -54,7 +54,7 @@ nothing_to_deliver = refl
 sent_again_and_taken_once : ComesTo
     (start 0x41 ∷ Deliver ∷ Reply ∷ Deliver ∷ DamageReply 0x7f ∷ Deliver ∷ Reply ∷ Deliver ∷ [])
     (done_letter 0x41 ∷ [])
-unfolding signal_after open_stretch stretch_fault session_frames pieces frame_bytes
+unfolding signal_after open_body body_fault session_frames pieces frame_bytes
 sent_again_and_taken_once = refl
 
 -- the sender gives up before its frame has come: the frame counts for its own session, and its ACK comes too late
@@ -62,50 +62,50 @@ late_frame_is_of_its_session : ComesTo
     (start 0x41 ∷ Deliver ∷ Reply ∷ SenderTimer ∷ start 0x42 ∷ Deliver ∷ Deliver ∷ Deliver ∷ Reply ∷ Deliver
     ∷ Reply ∷ Deliver ∷ [])
     (unheard_letter 0x41 ∷ done_letter 0x42 ∷ [])
-unfolding signal_after open_stretch stretch_fault session_frames pieces frame_bytes
+unfolding signal_after open_body body_fault session_frames pieces frame_bytes
 late_frame_is_of_its_session = refl
 
--- an ENQ can't be damaged to a bad frame, a frame can: it is refused and sent again
+-- an ENQ can't be damaged to a bad frame, a frame can: it is rejected and sent again
 damaged_frame_is_sent_again : ComesTo
     (start 0x41 ∷ Damage (0x05 ∷ []) ∷ Deliver ∷ Reply ∷ Damage (0x02 ∷ 0x31 ∷ 0x0a ∷ []) ∷ Reply ∷ Deliver
     ∷ Reply ∷ Deliver ∷ [])
     (done_letter 0x41 ∷ [])
-unfolding signal_after open_stretch stretch_fault session_frames pieces frame_bytes
+unfolding signal_after open_body body_fault session_frames pieces frame_bytes
 damaged_frame_is_sent_again = refl
 
 -- so the ENQ is delivered; the session goes on
 damage_of_an_enquiry_is_not_allowed : ComesTo
     (start 0x41 ∷ Damage (0x02 ∷ 0x31 ∷ 0x0a ∷ []) ∷ Deliver ∷ [])
     (begun_letter 0x41 ∷ [])
-unfolding signal_after open_stretch stretch_fault session_frames pieces frame_bytes
+unfolding signal_after open_body body_fault session_frames pieces frame_bytes
 damage_of_an_enquiry_is_not_allowed = refl
 
 -- there is no room for the frame, and then there is
 no_room_is_answered_by_sending_again : ComesTo
     (start 0x41 ∷ Deliver ∷ Reply ∷ DeliverNoRoom ∷ Reply ∷ Deliver ∷ Reply ∷ Deliver ∷ [])
     (done_letter 0x41 ∷ [])
-unfolding signal_after open_stretch stretch_fault session_frames pieces frame_bytes
+unfolding signal_after open_body body_fault session_frames pieces frame_bytes
 no_room_is_answered_by_sending_again = refl
 
 -- the receiver answers ENQ with ENQ; the sender waits, and asks again
 contention_ends_with_the_timer : ComesTo
     (Contending ∷ start 0x41 ∷ Deliver ∷ Reply ∷ SenderTimer ∷ Deliver ∷ Reply ∷ Deliver ∷ Reply ∷ Deliver ∷ [])
     (done_letter 0x41 ∷ [])
-unfolding signal_after open_stretch stretch_fault session_frames pieces frame_bytes
+unfolding signal_after open_body body_fault session_frames pieces frame_bytes
 contention_ends_with_the_timer = refl
 
 -- the sender is restarted before the line is open: no late reply reaches it, and its next session is whole
 a_restarted_session_ends : ComesTo
     (start 0x41 ∷ Deliver ∷ RestartSender ∷ Reply ∷ start 0x42 ∷ Deliver ∷ Reply ∷ Deliver ∷ Reply ∷ Deliver ∷ [])
     (record (begun_letter 0x41) { outcome = Some Restarted } ∷ done_letter 0x42 ∷ [])
-unfolding signal_after open_stretch stretch_fault session_frames pieces frame_bytes
+unfolding signal_after open_body body_fault session_frames pieces frame_bytes
 a_restarted_session_ends = refl
 
 -- the frame of a session that was given up is taken, and the reply to it is dropped, in the next session too
 late_reply_never_comes : ComesTo
     (start 0x41 ∷ Deliver ∷ Reply ∷ SenderTimer ∷ start 0x42 ∷ Deliver ∷ Reply ∷ [])
     (unheard_letter 0x41 ∷ begun_letter 0x42 ∷ [])
-unfolding signal_after open_stretch stretch_fault session_frames pieces frame_bytes
+unfolding signal_after open_body body_fault session_frames pieces frame_bytes
 late_reply_never_comes = refl
 
 -- the number of a frame that is sent again comes round to 0
@@ -145,17 +145,17 @@ numbers_come_round :
       outcome = Some Done;
     }
     ∷ []
-unfolding signal_after open_stretch stretch_fault session_frames pieces frame_bytes nine_texts_events round_trips
+unfolding signal_after open_body body_fault session_frames pieces frame_bytes nine_texts_events round_trips
     nine_frames numbered_letter
 numbers_come_round = refl
 
--- the receiver is restarted between two frames of a text: the second is not taken, and nothing is handed out
+-- the receiver is restarted between two frames of a text: the second is not taken, and nothing is delivered
 restarted_receiver_events : List Event
 restarted_receiver_events =
     Start (replicate 500 0x41 ∷ [])
     ∷ (round_trips 2 ++ RestartReceiver ∷ Deliver ∷ SenderTimer ∷ Deliver ∷ [])
 
-restarted_receiver_hands_out_nothing :
+restarted_receiver_delivers_nothing :
     (world 240 restarted_receiver_events).sessions
     ≡ record {
       texts = replicate 500 0x41 ∷ [];
@@ -169,12 +169,12 @@ restarted_receiver_hands_out_nothing :
       outcome = Some TimedOut;
     }
     ∷ []
-unfolding signal_after open_stretch stretch_fault session_frames pieces frame_bytes round_trips
+unfolding signal_after open_body body_fault session_frames pieces frame_bytes round_trips
     restarted_receiver_events
-restarted_receiver_hands_out_nothing = refl
+restarted_receiver_delivers_nothing = refl
 
 -- with the long limit the same text is one frame, and the session is done before
-long_frame_hands_out :
+long_frame_delivers :
     (world 63993 restarted_receiver_events).sessions
     ≡ record {
       texts = replicate 500 0x41 ∷ [];
@@ -185,9 +185,9 @@ long_frame_hands_out :
       outcome = Some Done;
     }
     ∷ []
-unfolding signal_after open_stretch stretch_fault session_frames pieces frame_bytes round_trips
+unfolding signal_after open_body body_fault session_frames pieces frame_bytes round_trips
     restarted_receiver_events
-long_frame_hands_out = refl
+long_frame_delivers = refl
 
 -- a frame is lost, and the sender's timer ends its session; EOT is lost too, and the next session is carried through
 abbrev untaken_letter : ℕ → Session
@@ -200,7 +200,7 @@ lost_frame_is_overcome : ComesTo
     (start 0x41 ∷ Deliver ∷ Reply ∷ (lost_events unit_is_lost (ReceiverTimer ∷ Deliver ∷ [])
     ++ emptying_events (is_lost ∷ []) ++ next_letter_events))
     (untaken_letter 0x41 ∷ done_letter 0x42 ∷ [])
-unfolding signal_after open_stretch stretch_fault session_frames pieces frame_bytes
+unfolding signal_after open_body body_fault session_frames pieces frame_bytes
 lost_frame_is_overcome = refl
 
 -- its bytes give no signal, as their LF is gone
@@ -208,7 +208,7 @@ unheard_frame_is_overcome : ComesTo
     (start 0x41 ∷ Deliver ∷ Reply ∷ (lost_events (unit_is_unheard (0x02 ∷ 0x31 ∷ 0x41 ∷ [])) []
     ++ emptying_events (comes ∷ []) ++ next_letter_events))
     (untaken_letter 0x41 ∷ done_letter 0x42 ∷ [])
-unfolding signal_after open_stretch stretch_fault session_frames pieces frame_bytes
+unfolding signal_after open_body body_fault session_frames pieces frame_bytes
 unheard_frame_is_overcome = refl
 
 -- the reply to it is lost: it was taken, and is not acknowledged
@@ -216,7 +216,7 @@ lost_reply_is_overcome : ComesTo
     (start 0x41 ∷ Deliver ∷ Reply ∷ (lost_events reply_is_lost []
     ++ emptying_events (comes_without_room ∷ []) ++ next_letter_events))
     (unheard_letter 0x41 ∷ done_letter 0x42 ∷ [])
-unfolding signal_after open_stretch stretch_fault session_frames pieces frame_bytes
+unfolding signal_after open_body body_fault session_frames pieces frame_bytes
 lost_reply_is_overcome = refl
 
 -- a busy receiver: the first timer asks for the line once more, the second ends the session; ENQ and EOT are on the
@@ -225,5 +225,5 @@ busy_receiver_is_overcome : ComesTo
     (Busy ∷ start 0x41 ∷ Deliver ∷ Reply ∷ (rest_events two_timers
     ++ emptying_events (comes ∷ comes ∷ []) ++ next_letter_events))
     (record (untaken_letter 0x41) { sent = [] } ∷ done_letter 0x42 ∷ [])
-unfolding signal_after open_stretch stretch_fault session_frames pieces frame_bytes
+unfolding signal_after open_body body_fault session_frames pieces frame_bytes
 busy_receiver_is_overcome = refl

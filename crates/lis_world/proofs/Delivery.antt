@@ -15,7 +15,7 @@ use Rattle.lis_frame.specs.Stream.{signal_after, signals_after, stream_with}
 use Rattle.lis_frame.specs.Frame.{frame_bytes}
 use Rattle.lis_world.specs.Unit.{Load, enquiry, ending, one_frame, Travelling, load_bytes}
 use Rattle.lis_world.specs.Session.{Session, session_at}
-use Rattle.lis_world.specs.World.{World, Desk, desk_of, hears, settled}
+use Rattle.lis_world.specs.World.{World, ComputerState, computer_state_of, hears, settled}
 use Rattle.lis_world.specs.Steps.{room_at, is_noticed, delivered, delivered_no_room, damaged, lost}
 use Rattle.lis_world.proofs.Invariant.{IsSound, Leads, Front, IsLeft, Holds}
 use Rattle.lis_world.proofs.Leaving.{settled_holds}
@@ -47,12 +47,12 @@ next_frame limit x before f is_limit sound sent =
     (subst (λ xs. Contains xs f) (sym frames_are) (Contains-append_right before (f ∷ rest) f (contains_head f rest))) in
     record { content = here; number_is = number-session_frames limit x.texts before f rest frames_are }
 
-pub side_of : (limit : ℕ) (w : World) → Holds limit w → IsSide limit (desk_of w)
+pub side_of : (limit : ℕ) (w : World) → Holds limit w → IsSide limit (computer_state_of w)
 side_of limit w h = record { sound = h.sound; line = h.line; no_reply = refl }
 
 -- bytes with these signals
 left_by_signals :
-    (limit s : ℕ) (load : Load) (bytes : List ℕ) (d : Desk) (signals : List (SignalOf limit))
+    (limit s : ℕ) (load : Load) (bytes : List ℕ) (d : ComputerState) (signals : List (SignalOf limit))
     → signals_after limit d.receiver.past bytes ≡ signals
     → IsLeft limit s load d (at_past (stream_with d.receiver.past bytes) (hears_signals s signals d))
     → IsLeft limit s load d (hears limit s bytes d)
@@ -62,7 +62,7 @@ left_by_signals limit s load bytes d signals are left =
     (sym are) left)
 
 pub left_delivered :
-    (limit s : ℕ) (load : Load) (d : Desk)
+    (limit s : ℕ) (load : Load) (d : ComputerState)
     → IsLimit limit
     → IsSide limit d
     → Leads d.sessions d.receiver.is_open d.opened s load
@@ -81,11 +81,11 @@ left_delivered limit s (one_frame f) d is_limit side leads =
     (left_frame limit s f (stream_with d.receiver.past (frame_bytes f)) d leads.0 side leads.1 next.number_is)
 
 -- the room of the receiver is of no account
-side_room : (limit : ℕ) (room : Bool) (d : Desk) → IsSide limit d → IsSide limit (room_at room d)
+side_room : (limit : ℕ) (room : Bool) (d : ComputerState) → IsSide limit d → IsSide limit (room_at room d)
 side_room limit room d side = record { sound = side.sound; line = side.line; no_reply = side.no_reply }
 
 left_room :
-    (limit s : ℕ) (load : Load) (d d' : Desk)
+    (limit s : ℕ) (load : Load) (d d' : ComputerState)
     → IsLeft limit s load (room_at false d) d'
     → IsLeft limit s load d (room_at true d')
 left_room limit s load d d' left = record {
@@ -112,7 +112,7 @@ noticed_cases load (Eot ∷ xs) e = cc
 noticed_cases load (Good f ∷ xs) e = cc
 
 left_damaged :
-    (limit s : ℕ) (load : Load) (bytes : List ℕ) (d : Desk)
+    (limit s : ℕ) (load : Load) (bytes : List ℕ) (d : ComputerState)
     → IsSide limit d
     → is_noticed load (signals_after limit d.receiver.past bytes) ≡ true
     → IsLeft limit s load d (hears limit s bytes d)
@@ -140,18 +140,20 @@ pub delivered_holds : (limit : ℕ) (units : List Travelling) (w : World) → Is
     → Holds limit w → Holds limit (delivered limit units w)
 delivered_holds limit [] w is_limit are h = h
 delivered_holds limit (u ∷ us) w is_limit are h =
-    settled_holds limit w u us (hears limit u.session (load_bytes u.load) (desk_of w)) h are
-    (left_delivered limit u.session u.load (desk_of w) is_limit (side_of limit w h) (leads_of limit w u us h are))
+    settled_holds limit w u us (hears limit u.session (load_bytes u.load) (computer_state_of w)) h are
+    (left_delivered limit u.session u.load (computer_state_of w) is_limit (side_of limit w h)
+    (leads_of limit w u us h are))
 
 pub delivered_no_room_holds :
     (limit : ℕ) (units : List Travelling) (w : World) → IsLimit limit → w.units ≡ units → Holds limit w
     → Holds limit (delivered_no_room limit units w)
 delivered_no_room_holds limit [] w is_limit are h = h
 delivered_no_room_holds limit (u ∷ us) w is_limit are h =
-    let without = room_at false (desk_of w) in
+    let without = room_at false (computer_state_of w) in
     settled_holds limit w u us (room_at true (hears limit u.session (load_bytes u.load) without)) h are
-    (left_room limit u.session u.load (desk_of w) (hears limit u.session (load_bytes u.load) without)
-    (left_delivered limit u.session u.load without is_limit (side_room limit false (desk_of w) (side_of limit w h))
+    (left_room limit u.session u.load (computer_state_of w) (hears limit u.session (load_bytes u.load) without)
+    (left_delivered limit u.session u.load without is_limit (side_room limit false (computer_state_of w)
+    (side_of limit w h))
     (leads_of limit w u us h are)))
 
 pub damaged_holds :
@@ -160,14 +162,15 @@ pub damaged_holds :
 damaged_holds limit bytes [] w are h = h
 damaged_holds limit bytes (u ∷ us) w are h =
     cond_both (is_noticed u.load (signals_after limit w.receiver.past bytes))
-    (settled us (hears limit u.session bytes (desk_of w)) w) w (Holds limit)
-    (λ noticed. settled_holds limit w u us (hears limit u.session bytes (desk_of w)) h are
-    (left_damaged limit u.session u.load bytes (desk_of w) (side_of limit w h) noticed))
+    (settled us (hears limit u.session bytes (computer_state_of w)) w) w (Holds limit)
+    (λ noticed. settled_holds limit w u us (hears limit u.session bytes (computer_state_of w)) h are
+    (left_damaged limit u.session u.load bytes (computer_state_of w) (side_of limit w h) noticed))
     (λ ignored. h)
 
 pub lost_holds : (limit : ℕ) (units : List Travelling) (w : World) → w.units ≡ units → Holds limit w
     → Holds limit (lost units w)
 lost_holds limit [] w are h = h
 lost_holds limit (u ∷ us) w are h =
-    settled_holds limit w u us (desk_of w) h are (left_unheard limit u.session u.load w.receiver.past (desk_of w)
+    settled_holds limit w u us (computer_state_of w) h are (left_unheard limit u.session u.load w.receiver.past
+    (computer_state_of w)
     (side_of limit w h))

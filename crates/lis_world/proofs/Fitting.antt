@@ -10,7 +10,7 @@ use Rattle.lis_frame.specs.Frame.{FrameContent}
 use Rattle.lis_frame.specs.Pieces.{Piece, pieces_from, pieces, all_pieces, next_number, numbered, session_frames}
 use Rattle.lis_link.specs.Joining.{held_with, rest}
 
--- each frame's text fits behind what is held then
+-- each frame's text fits after what is held then
 abbrev FitsAll : List ℕ → List FrameContent → Type 0
 FitsAll held [] = Unit {0}
 FitsAll held (f ∷ fs) = (length held + length f.text ≤ longest_text) × FitsAll (held_with held f) fs

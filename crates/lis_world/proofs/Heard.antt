@@ -1,4 +1,4 @@
--- What a step of the receiver leaves as it is, and what the desk has of it.
+-- What a step of the receiver leaves as it is, and what the computer's state has of it.
 use Rattle.std.proofs.Common.{◌≡◌, ℕ, Bool, true, false, Option, None, Some, refl}
 use Rattle.lis_frame.specs.declared.scanner.SignalOf.{SignalOf}
 use Rattle.lis_frame.specs.declared.scanner.SignalOf.TheVariants.{Enq, Eot, Good, Bad}
@@ -7,29 +7,30 @@ use Rattle.lis_link.specs.declared.receiver.Readiness.{Readiness}
 use Rattle.lis_link.specs.declared.receiver.Readiness.TheVariants.{Ready}
 use Rattle.lis_link.specs.declared.receiver.Note.{Note}
 use Rattle.lis_link.specs.declared.receiver.Note.TheVariants.{Accepted, Duplicate, Opened}
-use Rattle.lis_link.specs.Receiver.{ReceiverState, ReceiverStep, bid_with, judged, on_judged, heard_by, heard}
-use Rattle.lis_world.specs.World.{Desk, noted}
+use Rattle.lis_link.specs.Receiver.{ReceiverState, ReceiverStep, answered_request, classified, on_classified, heard_by}
+use Rattle.lis_link.specs.Receiver.{heard}
+use Rattle.lis_world.specs.World.{ComputerState, after_note}
 
 -- the stream and the room
 abbrev pub LeavesRest : ReceiverState → ReceiverStep → Type 0
 LeavesRest r step = (step.after.past ≡ r.past) × (step.after.room ≡ r.room)
 
-bid_leaves : (readiness : Readiness) (r : ReceiverState) → LeavesRest r (bid_with readiness r)
-bid_leaves Ready r = (refl, refl)
-bid_leaves _ r = (refl, refl)
+request_leaves : (readiness : Readiness) (r : ReceiverState) → LeavesRest r (answered_request readiness r)
+request_leaves Ready r = (refl, refl)
+request_leaves _ r = (refl, refl)
 
-judged_leaves : (r : ReceiverState) (frame : FrameContent) (note : Note) → LeavesRest r (on_judged r frame note)
-judged_leaves r frame (Accepted n) = (refl, refl)
-judged_leaves r frame (Duplicate n) = (refl, refl)
-judged_leaves r frame _ = (refl, refl)
+classified_leaves : (r : ReceiverState) (frame : FrameContent) (note : Note) → LeavesRest r (on_classified r frame note)
+classified_leaves r frame (Accepted n) = (refl, refl)
+classified_leaves r frame (Duplicate n) = (refl, refl)
+classified_leaves r frame _ = (refl, refl)
 
 signal_leaves : {limit : ℕ} (is_open : Bool) (signal : SignalOf limit) (r : ReceiverState)
     → LeavesRest r (heard_by is_open signal r)
-signal_leaves true Enq r = bid_leaves r.readiness r
+signal_leaves true Enq r = request_leaves r.readiness r
 signal_leaves true Eot r = (refl, refl)
-signal_leaves true (Good frame) r = judged_leaves r frame (judged r frame)
+signal_leaves true (Good frame) r = classified_leaves r frame (classified r frame)
 signal_leaves true (Bad fault) r = (refl, refl)
-signal_leaves false Enq r = bid_leaves r.readiness r
+signal_leaves false Enq r = request_leaves r.readiness r
 signal_leaves false Eot r = (refl, refl)
 signal_leaves false (Good frame) r = (refl, refl)
 signal_leaves false (Bad fault) r = (refl, refl)
@@ -38,7 +39,8 @@ pub heard_leaves : {limit : ℕ} (signal : Option (SignalOf limit)) (r : Receive
 heard_leaves None r = (refl, refl)
 heard_leaves (Some signal) r = signal_leaves r.is_open signal r
 
-pub noted_after : (s : ℕ) (step : ReceiverStep) (d : Desk) (note : Note) → (noted s step note d).receiver ≡ step.after
-noted_after s step d Opened = refl
-noted_after s step d (Accepted n) = refl
-noted_after s step d _ = refl
+pub after_note_after : (s : ℕ) (step : ReceiverStep) (d : ComputerState) (note : Note)
+    → (after_note s step note d).receiver ≡ step.after
+after_note_after s step d Opened = refl
+after_note_after s step d (Accepted n) = refl
+after_note_after s step d _ = refl

@@ -46,7 +46,7 @@ module _ (may_start : World → Bool) (limit : ℕ) where
   plain_round : (round : Round) → ArePlain may_start limit (round_events round)
   plain_round undisturbed = (λ w. refl, (λ w. refl, tt))
   plain_round without_room = (λ w. refl, (λ w. refl, tt))
-  plain_round (bad_frame stretch) = (λ w. refl, (λ w. refl, tt))
+  plain_round (bad_frame body) = (λ w. refl, (λ w. refl, tt))
   plain_round (bad_reply b) = (λ w. refl, (λ w. refl, tt))
 
   plain_rounds : (rounds : List Round) → ArePlain may_start limit (rounds_events rounds)

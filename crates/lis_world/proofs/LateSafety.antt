@@ -1,6 +1,6 @@
 -- Why sessions are safe on a line that answers late: a sender without a session does nothing on a reply. So until its
 -- next start all is as if no reply came to what is on its way. At that start nothing is on its way that a reply could
--- come to.
+-- give.
 use Rattle.std.proofs.Common.{◌≡◌, ℕ, Bool, true, false, inl, inr, List, [], ◌∷◌, length, drop, Option, None, Some}
 use Rattle.std.proofs.Common.{refl, sym, ap, ◌∙◌, subst, arith}
 use Rattle.std.specs.Prelude.{not, ◌==◌, ◌||◌, if◌then◌else◌}
@@ -27,7 +27,7 @@ use Rattle.lis_world.specs.declared.event.Event.TheVariants.{RestartSender, Rest
 use Rattle.lis_world.specs.declared.event.LateEvent.{LateEvent}
 use Rattle.lis_world.specs.declared.event.LateEvent.TheVariants.{Happens, Reconnect}
 use Rattle.lis_world.specs.Unit.{Load, enquiry, ending, one_frame, load_bytes, Travelling}
-use Rattle.lis_world.specs.World.{World, new_world, Desk, desk_of, hears, lowered, settled}
+use Rattle.lis_world.specs.World.{World, new_world, ComputerState, computer_state_of, hears, lowered, settled}
 use Rattle.lis_world.specs.Steps.{with_sender, emitted, sender_steps, begins, delivered, delivered_no_room, room_at}
 use Rattle.lis_world.specs.Steps.{is_noticed, damaged, lost, replied, reply_damaged, reply_lost, forgotten, given_up}
 use Rattle.lis_world.specs.Steps.{after_event}
@@ -36,7 +36,7 @@ use Rattle.lis_world.specs.Late.{reconnected, happens_late, after_late_event, ru
 use Rattle.lis_world.specs.Late.{is_ending, only_endings, is_quiet, reply_may_come, is_answered, SafeWhere}
 use Rattle.lis_world.proofs.Invariant.{AllEndings, InPhase, Holds, kept_frames}
 use Rattle.lis_world.proofs.Base.{base_of, holds_of, base_forgotten, with_sender_same}
-use Rattle.lis_world.proofs.Timers.{all_muted, sender_timer_phase, restart_phase}
+use Rattle.lis_world.proofs.Timers.{all_dropped, sender_timer_phase, restart_phase}
 use Rattle.lis_world.proofs.Starting.{can_start, begins_holds}
 use Rattle.lis_world.proofs.Safety.{event_holds, new_holds, safe_from_holds}
 
@@ -55,7 +55,7 @@ deaf_neutral Phases.Busy outcome is = absurd (cc)
 deaf_neutral Phases.Contention outcome is = absurd (cc)
 deaf_neutral AwaitReply outcome is = absurd (cc)
 
--- the world as such a sender hears it: no reply comes to what is on its way
+-- the world as such a sender hears it: no reply reaches what is on its way
 abbrev hush : Bool → World → World
 hush true w = forgotten w
 hush false w = w
@@ -69,13 +69,13 @@ abbrev IsDeaf : World → Type 0
 IsDeaf w = is_deaf w.sender.phase w.sender.outcome ≡ true
 
 pub record HoldsLate (limit : ℕ) (w : World) : Type 0 where
-  pub unmuted : w.mute ≡ 0
+  pub unmuted : w.to_drop ≡ 0
   pub hushed : HoldsHushed limit w
 
 forgotten_holds : (limit : ℕ) (w : World) → w.sender.phase ≡ Neutral → Holds limit w → Holds limit (forgotten w)
 forgotten_holds limit w is h =
     holds_of limit (forgotten w) (base_forgotten limit w (base_of limit w h)) h.current
-    (subst (λ p. InPhase p (forgotten w)) (sym is) (record { no_reply = refl; live_endings = all_muted w.units }))
+    (subst (λ p. InPhase p (forgotten w)) (sym is) (record { no_reply = refl; live_endings = all_dropped w.units }))
 
 pub hushed_from : (limit : ℕ) (w : World) → Holds limit w → HoldsHushed limit w
 hushed_from limit w h = go (is_deaf w.sender.phase w.sender.outcome) refl
@@ -113,24 +113,25 @@ usual limit event w is_limit h =
     usual_holds limit event w (is_deaf w.sender.phase w.sender.outcome) is_limit refl h.hushed
 
 -- the sender is deaf: a unit leaves the link
-deaf_settled : (limit : ℕ) (units : List Travelling) (desk : Desk) (w : World) → IsDeaf w
-    → Holds limit (settled units desk (forgotten w)) → HoldsHushed limit (settled units desk w)
-deaf_settled limit units desk w is h =
-    hushed_deaf limit (settled units desk w) is
-    (forgotten_holds limit (settled units desk (forgotten w)) (deaf_neutral w.sender.phase w.sender.outcome is) h)
+deaf_settled : (limit : ℕ) (units : List Travelling) (computer_state : ComputerState) (w : World) → IsDeaf w
+    → Holds limit (settled units computer_state (forgotten w)) → HoldsHushed limit (settled units computer_state w)
+deaf_settled limit units computer_state w is h =
+    hushed_deaf limit (settled units computer_state w) is
+    (forgotten_holds limit (settled units computer_state (forgotten w)) (deaf_neutral w.sender.phase w.sender.outcome
+    is) h)
 
 deaf_delivered : (limit : ℕ) (units : List Travelling) (w : World) → IsDeaf w
     → Holds limit (delivered limit units (forgotten w)) → HoldsHushed limit (delivered limit units w)
 deaf_delivered limit [] w is h = hushed_deaf limit w is h
 deaf_delivered limit (u ∷ us) w is h =
-    deaf_settled limit us (hears limit u.session (load_bytes u.load) (desk_of w)) w is h
+    deaf_settled limit us (hears limit u.session (load_bytes u.load) (computer_state_of w)) w is h
 
 deaf_no_room : (limit : ℕ) (units : List Travelling) (w : World) → IsDeaf w
     → Holds limit (delivered_no_room limit units (forgotten w)) → HoldsHushed limit (delivered_no_room limit units w)
 deaf_no_room limit [] w is h = hushed_deaf limit w is h
 deaf_no_room limit (u ∷ us) w is h =
     deaf_settled limit us
-    (room_at true (hears limit u.session (load_bytes u.load) (room_at false (desk_of w)))) w is h
+    (room_at true (hears limit u.session (load_bytes u.load) (room_at false (computer_state_of w)))) w is h
 
 deaf_damaged :
     (limit : ℕ) (bytes : List ℕ) (units : List Travelling) (w : World) → IsDeaf w
@@ -139,20 +140,20 @@ deaf_damaged :
 deaf_damaged limit bytes [] w is before h = hushed_deaf limit w is h
 deaf_damaged limit bytes (u ∷ us) w is before h = go (is_noticed u.load (signals_after limit w.receiver.past bytes)) h
   where
-    desk : Desk
-    desk = hears limit u.session bytes (desk_of w)
+    computer_state : ComputerState
+    computer_state = hears limit u.session bytes (computer_state_of w)
 
     go :
         (noticed : Bool)
-        → Holds limit (if noticed then settled us desk (forgotten w) else forgotten w)
-        → HoldsHushed limit (if noticed then settled us desk w else w)
-    go true h = deaf_settled limit us desk w is h
+        → Holds limit (if noticed then settled us computer_state (forgotten w) else forgotten w)
+        → HoldsHushed limit (if noticed then settled us computer_state w else w)
+    go true h = deaf_settled limit us computer_state w is h
     go false h = hushed_deaf limit w is h
 
 deaf_lost : (limit : ℕ) (units : List Travelling) (w : World) → IsDeaf w
     → Holds limit (lost units (forgotten w)) → HoldsHushed limit (lost units w)
 deaf_lost limit [] w is h = hushed_deaf limit w is h
-deaf_lost limit (u ∷ us) w is h = deaf_settled limit us (desk_of w) w is h
+deaf_lost limit (u ∷ us) w is h = deaf_settled limit us (computer_state_of w) w is h
 
 -- a reply comes, and changes nothing
 deaf_heard :
@@ -272,14 +273,14 @@ pub record IsQuiet (w : World) : Type 0 where
 -- then the other link has nothing to drop
 quiet_holds :
     (limit : ℕ) (w : World)
-    → w.mute ≡ 0
+    → w.to_drop ≡ 0
     → w.sender.phase ≡ Neutral
     → IsQuiet w
     → Holds limit (forgotten w)
     → Holds limit w
 quiet_holds limit w unmuted is quiet h = record {
   sound = h.sound;
-  mute_within = omega arith;
+  to_drop_within = omega arith;
   line = h.line;
   front = h.front;
   current = h.current;
@@ -315,7 +316,7 @@ start_late limit texts w None h now is = hushed_from limit (begins limit None te
 
 -- the other link, emptied
 abbrev cleared : World → World
-cleared w = record (reconnected w) { mute = 0 }
+cleared w = record (reconnected w) { to_drop = 0 }
 
 phase_cleared : (w : World) (p : Phase) → InPhase p w → InPhase p (cleared w)
 phase_cleared w Neutral h = record { no_reply = refl; live_endings = tt }
@@ -355,20 +356,20 @@ phase_cleared w AwaitReply h = record {
 cleared_holds : (limit : ℕ) (w : World) → Holds limit w → Holds limit (cleared w)
 cleared_holds limit w h = record {
   sound = h.sound;
-  mute_within = omega arith;
+  to_drop_within = omega arith;
   line = λ e. absurd (cc);
   front = tt;
   current = h.current;
   phase = phase_cleared w w.sender.phase h.phase;
 }
 
-reconnected_holds : (limit : ℕ) (w : World) → w.mute ≡ 0 → Holds limit w → Holds limit (reconnected w)
+reconnected_holds : (limit : ℕ) (w : World) → w.to_drop ≡ 0 → Holds limit w → Holds limit (reconnected w)
 reconnected_holds limit w unmuted h =
-    subst (λ m. Holds limit (record (reconnected w) { mute = m })) (sym unmuted) (cleared_holds limit w h)
+    subst (λ m. Holds limit (record (reconnected w) { to_drop = m })) (sym unmuted) (cleared_holds limit w h)
 
 reconnect_late :
     (limit : ℕ) (w : World) (deaf : Bool)
-    → w.mute ≡ 0
+    → w.to_drop ≡ 0
     → Holds limit (hush deaf w)
     → Holds limit (hush deaf (reconnected w))
 reconnect_late limit w true unmuted h = cleared_holds limit (forgotten w) h
@@ -376,68 +377,68 @@ reconnect_late limit w false unmuted h = reconnected_holds limit w unmuted h
 
 -- ---- nothing is ever muted
 
-unmuted_emitted : {limit : ℕ} (emit : EmitOf limit) (w : World) → (emitted emit w).mute ≡ w.mute
+unmuted_emitted : {limit : ℕ} (emit : EmitOf limit) (w : World) → (emitted emit w).to_drop ≡ w.to_drop
 unmuted_emitted Emits.Nothing w = refl
 unmuted_emitted Emits.Enq w = refl
 unmuted_emitted Emits.Eot w = refl
 unmuted_emitted Emits.Nak w = refl
 unmuted_emitted (Emits.Frame frame) w = refl
 
-unmuted_stepped : {limit : ℕ} (step : SenderStep limit) (w : World) → w.mute ≡ 0 → (sender_steps step w).mute ≡ 0
+unmuted_stepped : {limit : ℕ} (step : SenderStep limit) (w : World) → w.to_drop ≡ 0 → (sender_steps step w).to_drop ≡ 0
 unmuted_stepped step w unmuted = unmuted_emitted step.emit (with_sender step.after w) ∙ unmuted
 
-pub unmuted_begun : (limit : ℕ) (fault : Option StartFault) (texts : List (List ℕ)) (w : World) → w.mute ≡ 0
-    → (begins limit fault texts w).mute ≡ 0
+pub unmuted_begun : (limit : ℕ) (fault : Option StartFault) (texts : List (List ℕ)) (w : World) → w.to_drop ≡ 0
+    → (begins limit fault texts w).to_drop ≡ 0
 unmuted_begun limit (Some fault) texts w unmuted = unmuted
 unmuted_begun limit None texts w unmuted = unmuted
 
-unmuted_delivered : (limit : ℕ) (units : List Travelling) (w : World) → w.mute ≡ 0
-    → (delivered limit units w).mute ≡ 0
+unmuted_delivered : (limit : ℕ) (units : List Travelling) (w : World) → w.to_drop ≡ 0
+    → (delivered limit units w).to_drop ≡ 0
 unmuted_delivered limit [] w unmuted = unmuted
 unmuted_delivered limit (u ∷ us) w unmuted = ap lowered unmuted
 
-unmuted_no_room : (limit : ℕ) (units : List Travelling) (w : World) → w.mute ≡ 0
-    → (delivered_no_room limit units w).mute ≡ 0
+unmuted_no_room : (limit : ℕ) (units : List Travelling) (w : World) → w.to_drop ≡ 0
+    → (delivered_no_room limit units w).to_drop ≡ 0
 unmuted_no_room limit [] w unmuted = unmuted
 unmuted_no_room limit (u ∷ us) w unmuted = ap lowered unmuted
 
-unmuted_damaged : (limit : ℕ) (bytes : List ℕ) (units : List Travelling) (w : World) → w.mute ≡ 0
-    → (damaged limit bytes units w).mute ≡ 0
+unmuted_damaged : (limit : ℕ) (bytes : List ℕ) (units : List Travelling) (w : World) → w.to_drop ≡ 0
+    → (damaged limit bytes units w).to_drop ≡ 0
 unmuted_damaged limit bytes [] w unmuted = unmuted
 unmuted_damaged limit bytes (u ∷ us) w unmuted =
     cond_both (is_noticed u.load (signals_after limit w.receiver.past bytes))
-    (settled us (hears limit u.session bytes (desk_of w)) w) w (λ v. v.mute ≡ 0)
+    (settled us (hears limit u.session bytes (computer_state_of w)) w) w (λ v. v.to_drop ≡ 0)
     (λ noticed. ap lowered unmuted)
     (λ other. unmuted)
 
-unmuted_lost : (units : List Travelling) (w : World) → w.mute ≡ 0 → (lost units w).mute ≡ 0
+unmuted_lost : (units : List Travelling) (w : World) → w.to_drop ≡ 0 → (lost units w).to_drop ≡ 0
 unmuted_lost [] w unmuted = unmuted
 unmuted_lost (u ∷ us) w unmuted = ap lowered unmuted
 
-unmuted_replied : (limit : ℕ) (replies : List ℕ) (w : World) → w.mute ≡ 0 → (replied limit replies w).mute ≡ 0
+unmuted_replied : (limit : ℕ) (replies : List ℕ) (w : World) → w.to_drop ≡ 0 → (replied limit replies w).to_drop ≡ 0
 unmuted_replied limit [] w unmuted = unmuted
 unmuted_replied limit (b ∷ bs) w unmuted =
     unmuted_stepped {limit = limit} (on_reply b w.sender) (record w { replies = bs }) unmuted
 
-unmuted_reply_damaged : (limit : ℕ) (damage : ℕ) (replies : List ℕ) (w : World) → w.mute ≡ 0
-    → (reply_damaged limit damage replies w).mute ≡ 0
+unmuted_reply_damaged : (limit : ℕ) (damage : ℕ) (replies : List ℕ) (w : World) → w.to_drop ≡ 0
+    → (reply_damaged limit damage replies w).to_drop ≡ 0
 unmuted_reply_damaged limit damage [] w unmuted = unmuted
 unmuted_reply_damaged limit damage (b ∷ bs) w unmuted =
     cond_both (damage == ACK || damage == EOT) w (sender_steps {limit = limit} (on_reply damage w.sender)
-    (record w { replies = bs })) (λ v. v.mute ≡ 0)
+    (record w { replies = bs })) (λ v. v.to_drop ≡ 0)
     (λ yes. unmuted)
     (λ no. unmuted_stepped {limit = limit} (on_reply damage w.sender) (record w { replies = bs }) unmuted)
 
-unmuted_reply_lost : (replies : List ℕ) (w : World) → w.mute ≡ 0 → (reply_lost replies w).mute ≡ 0
+unmuted_reply_lost : (replies : List ℕ) (w : World) → w.to_drop ≡ 0 → (reply_lost replies w).to_drop ≡ 0
 unmuted_reply_lost [] w unmuted = unmuted
 unmuted_reply_lost (b ∷ bs) w unmuted = unmuted
 
 unmuted_after :
     (may_start : World → Bool) (limit : ℕ) (event : Event) (w : World)
-    → w.mute ≡ 0
-    → (happens_late may_start limit event w).mute ≡ 0
+    → w.to_drop ≡ 0
+    → (happens_late may_start limit event w).to_drop ≡ 0
 unmuted_after may_start limit (Start texts) w unmuted =
-    cond_both (may_start w) (after_event limit (Start texts) w) w (λ v. v.mute ≡ 0)
+    cond_both (may_start w) (after_event limit (Start texts) w) w (λ v. v.to_drop ≡ 0)
     (λ may. unmuted_begun limit (start_fault w.sender texts) texts w unmuted)
     (λ may_not. unmuted)
 unmuted_after may_start limit Deliver w unmuted = unmuted_delivered limit w.units w unmuted

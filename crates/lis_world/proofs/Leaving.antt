@@ -7,10 +7,12 @@ use Rattle.lis_link.specs.declared.sender.Phase.TheVariants.{Neutral, AwaitLine,
 use Rattle.lis_link.specs.Sender.{SenderState}
 use Rattle.lis_world.specs.Unit.{Load, enquiry, ending, one_frame, Travelling}
 use Rattle.lis_world.specs.Session.{Session, session_at}
-use Rattle.lis_world.specs.World.{World, Desk, desk_of, replies_with, lowered, settled}
-use Rattle.lis_world.proofs.Invariant.{BidTraffic}
-use Rattle.lis_world.proofs.Invariant.{Unsent, Waits, Behind, Leads, Front, KeepsFrames, IsCurrent, AllEndings, BidsBy}
-use Rattle.lis_world.proofs.Invariant.{Bids, BidAnswer, FrameAnswer, IsAwaiting, InPhase, Holds, IsKeptSession, AreKept}
+use Rattle.lis_world.specs.World.{World, ComputerState, computer_state_of, replies_with, lowered, settled}
+use Rattle.lis_world.proofs.Invariant.{RequestTraffic}
+use Rattle.lis_world.proofs.Invariant.{Unsent, Waits, Following, Leads, Front, KeepsFrames, IsCurrent, AllEndings}
+use Rattle.lis_world.proofs.Invariant.{RequestsBy}
+use Rattle.lis_world.proofs.Invariant.{Requests, RequestAnswer, FrameAnswer, IsAwaiting, InPhase, Holds, IsKeptSession}
+use Rattle.lis_world.proofs.Invariant.{AreKept}
 use Rattle.lis_world.proofs.Invariant.{IsLeft}
 
 pub unsent_kept : (ss ss' : List Session) (s : ℕ) → AreKept ss ss' → Unsent ss s → Unsent ss' s
@@ -22,21 +24,22 @@ waits_kept ss ss' s enquiry kept h = unsent_kept ss ss' s kept h
 waits_kept ss ss' s ending kept h = tt
 waits_kept ss ss' s (one_frame f) kept h = h
 
-pub behind_kept : (ss ss' : List Session) (us : List Travelling) → AreKept ss ss' → Behind ss us → Behind ss' us
-behind_kept ss ss' [] kept h = tt
-behind_kept ss ss' (u ∷ us) kept h = (waits_kept ss ss' u.session u.load kept h.0, behind_kept ss ss' us kept h.1)
+pub following_kept : (ss ss' : List Session) (us : List Travelling) → AreKept ss ss' → Following ss us
+    → Following ss' us
+following_kept ss ss' [] kept h = tt
+following_kept ss ss' (u ∷ us) kept h = (waits_kept ss ss' u.session u.load kept h.0, following_kept ss ss' us kept h.1)
 
--- a unit that is no frame may stand in front
+-- a unit that is no frame may be in front
 pub leads_from_waits : (ss : List Session) (is_open : Bool) (owner s : ℕ) (load : Load) → Waits ss s load
     → Leads ss is_open owner s load
 leads_from_waits ss is_open owner s enquiry h = h
 leads_from_waits ss is_open owner s ending h = tt
 leads_from_waits ss is_open owner s (one_frame f) h = absurd h
 
-pub front_from_behind : (ss : List Session) (is_open : Bool) (owner : ℕ) (us : List Travelling) → Behind ss us
+pub front_from_after : (ss : List Session) (is_open : Bool) (owner : ℕ) (us : List Travelling) → Following ss us
     → Front ss is_open owner us
-front_from_behind ss is_open owner [] h = tt
-front_from_behind ss is_open owner (u ∷ us) h = (leads_from_waits ss is_open owner u.session u.load h.0, h.1)
+front_from_after ss is_open owner [] h = tt
+front_from_after ss is_open owner (u ∷ us) h = (leads_from_waits ss is_open owner u.session u.load h.0, h.1)
 
 lowered_within : (m n : ℕ) → m ≤ suc n → lowered m ≤ n
 lowered_within zero n h = omega arith
@@ -58,54 +61,54 @@ heard_replies zero caused replies zero_is none = ap (λ xs. xs ++ caused) none
 heard_replies (suc m) caused replies zero_is none = absurd (omega arith)
 
 resting_left :
-    (mute : ℕ) (u : Travelling) (us : List Travelling) (caused replies : List ℕ)
+    (to_drop : ℕ) (u : Travelling) (us : List Travelling) (caused replies : List ℕ)
     → (u.load ≡ ending → caused ≡ [])
     → replies ≡ []
-    → AllEndings (drop mute (u ∷ us))
-    → (replies_with mute caused replies ≡ []) × AllEndings (drop (lowered mute) us)
+    → AllEndings (drop to_drop (u ∷ us))
+    → (replies_with to_drop caused replies ≡ []) × AllEndings (drop (lowered to_drop) us)
 resting_left zero u us caused replies quiet none h = (ap (λ xs. xs ++ caused) none ∙ quiet h.0, h.1)
 resting_left (suc m) u us caused replies quiet none h = (none, h)
 
-bids_left :
+requests_left :
     (c s : ℕ) (load : Load) (us : List Travelling) (caused : List ℕ) (is_open : Bool) (owner : ℕ)
-    → BidsBy c s load us
-    → (load ≡ ending → Bids c us)
+    → RequestsBy c s load us
+    → (load ≡ ending → Requests c us)
     → (load ≡ ending → caused ≡ [])
-    → (load ≡ enquiry → (caused ≡ []) ⊎ BidAnswer caused is_open owner s)
-    → ((caused ≡ []) × Bids c us) ⊎ ((us ≡ []) × BidAnswer caused is_open owner c)
-bids_left c s ending us caused is_open owner by later quiet answer = inl (quiet refl, later refl)
-bids_left c s (one_frame f) us caused is_open owner by later quiet answer = absurd by
-bids_left c s enquiry us caused is_open owner by later quiet answer = go (answer refl)
+    → (load ≡ enquiry → (caused ≡ []) ⊎ RequestAnswer caused is_open owner s)
+    → ((caused ≡ []) × Requests c us) ⊎ ((us ≡ []) × RequestAnswer caused is_open owner c)
+requests_left c s ending us caused is_open owner by later quiet answer = inl (quiet refl, later refl)
+requests_left c s (one_frame f) us caused is_open owner by later quiet answer = absurd by
+requests_left c s enquiry us caused is_open owner by later quiet answer = go (answer refl)
   where
-    go : (caused ≡ []) ⊎ BidAnswer caused is_open owner s
-        → ((caused ≡ []) × Bids c us) ⊎ ((us ≡ []) × BidAnswer caused is_open owner c)
-    go (inl none) = inl (none, subst (Bids c) (sym by.1) tt)
-    go (inr one) = inr (by.1, subst (λ k. BidAnswer caused is_open owner k) by.0 one)
+    go : (caused ≡ []) ⊎ RequestAnswer caused is_open owner s
+        → ((caused ≡ []) × Requests c us) ⊎ ((us ≡ []) × RequestAnswer caused is_open owner c)
+    go (inl none) = inl (none, subst (Requests c) (sym by.1) tt)
+    go (inr one) = inr (by.1, subst (λ k. RequestAnswer caused is_open owner k) by.0 one)
 
-bidding_left :
-    (c : ℕ) (mute : ℕ) (u : Travelling) (us : List Travelling) (caused replies : List ℕ) (is_open : Bool) (owner : ℕ)
+requesting_left :
+    (c : ℕ) (to_drop : ℕ) (u : Travelling) (us : List Travelling) (caused replies : List ℕ) (is_open : Bool) (owner : ℕ)
     → (u.load ≡ ending → caused ≡ [])
-    → (u.load ≡ enquiry → (caused ≡ []) ⊎ BidAnswer caused is_open owner u.session)
+    → (u.load ≡ enquiry → (caused ≡ []) ⊎ RequestAnswer caused is_open owner u.session)
     → replies ≡ []
-    → Bids c (drop mute (u ∷ us))
-    → ((replies_with mute caused replies ≡ []) × Bids c (drop (lowered mute) us))
-    ⊎ ((us ≡ []) × BidAnswer (replies_with mute caused replies) is_open owner c)
-bidding_left c zero u us caused replies is_open owner quiet answer none h =
-    subst (λ xs. ((xs ≡ []) × Bids c us) ⊎ ((us ≡ []) × BidAnswer xs is_open owner c))
+    → Requests c (drop to_drop (u ∷ us))
+    → ((replies_with to_drop caused replies ≡ []) × Requests c (drop (lowered to_drop) us))
+    ⊎ ((us ≡ []) × RequestAnswer (replies_with to_drop caused replies) is_open owner c)
+requesting_left c zero u us caused replies is_open owner quiet answer none h =
+    subst (λ xs. ((xs ≡ []) × Requests c us) ⊎ ((us ≡ []) × RequestAnswer xs is_open owner c))
     (sym (ap (λ xs. xs ++ caused) none))
-    (bids_left c u.session u.load us caused is_open owner h.0 h.1 quiet answer)
-bidding_left c (suc m) u us caused replies is_open owner quiet answer none h = inl (none, h)
+    (requests_left c u.session u.load us caused is_open owner h.0 h.1 quiet answer)
+requesting_left c (suc m) u us caused replies is_open owner quiet answer none h = inl (none, h)
 
 phase_left :
-    (limit : ℕ) (w : World) (u : Travelling) (us : List Travelling) (d' : Desk)
+    (limit : ℕ) (w : World) (u : Travelling) (us : List Travelling) (d' : ComputerState)
     → w.units ≡ u ∷ us
-    → IsLeft limit u.session u.load (desk_of w) d'
+    → IsLeft limit u.session u.load (computer_state_of w) d'
     → (p : Phase)
     → InPhase p w
     → InPhase p (settled us d' w)
 phase_left limit w u us d' units_are left Neutral h =
-    let both = resting_left w.mute u us d'.replies w.replies left.after_ending h.no_reply
-    (subst (λ xs. AllEndings (drop w.mute xs)) units_are h.live_endings) in
+    let both = resting_left w.to_drop u us d'.replies w.replies left.after_ending h.no_reply
+    (subst (λ xs. AllEndings (drop w.to_drop xs)) units_are h.live_endings) in
     record { no_reply = both.0; live_endings = both.1 }
 phase_left limit w u us d' units_are left AwaitLine h = record {
   unsent = unsent_kept w.sessions d'.sessions w.current left.kept h.unsent;
@@ -113,13 +116,14 @@ phase_left limit w u us d' units_are left AwaitLine h = record {
   traffic = go h.traffic;
 }
   where
-    go : BidTraffic w
-        → ((replies_with w.mute d'.replies w.replies ≡ []) × Bids w.current (drop (lowered w.mute) us))
-        ⊎ ((us ≡ []) × BidAnswer (replies_with w.mute d'.replies w.replies) d'.receiver.is_open d'.opened w.current)
-    go (inl bids) =
-        bidding_left w.current w.mute u us d'.replies w.replies d'.receiver.is_open d'.opened left.after_ending
-        left.after_enquiry bids.0
-        (subst (λ xs. Bids w.current (drop w.mute xs)) units_are bids.1)
+    go : RequestTraffic w
+        → ((replies_with w.to_drop d'.replies w.replies ≡ []) × Requests w.current (drop (lowered w.to_drop) us))
+        ⊎ ((us ≡ []) × RequestAnswer (replies_with w.to_drop d'.replies w.replies) d'.receiver.is_open d'.opened
+        w.current)
+    go (inl requests) =
+        requesting_left w.current w.to_drop u us d'.replies w.replies d'.receiver.is_open d'.opened left.after_ending
+        left.after_enquiry requests.0
+        (subst (λ xs. Requests w.current (drop w.to_drop xs)) units_are requests.1)
     go (inr answered) = let none : w.units ≡ [] = answered.0 in cc
 phase_left limit w u us d' units_are left Busy h = let none : w.units ≡ [] = h.no_unit in cc
 phase_left limit w u us d' units_are left Contention h = let none : w.units ≡ [] = h.no_unit in cc
@@ -130,7 +134,7 @@ phase_left limit w u us d' units_are left AwaitReply h = go h.traffic
 
     arrived : u ≡ front → w.replies ≡ [] → us ≡ [] → IsAwaiting (settled us d' w)
     arrived same none alone =
-        let at_front = subst (λ v. IsLeft limit v.session v.load (desk_of w) d') same left in
+        let at_front = subst (λ v. IsLeft limit v.session v.load (computer_state_of w) d') same left in
         let both = at_front.after_frame h.before h.frame refl h.pending in
         record {
           before = h.before;
@@ -143,7 +147,7 @@ phase_left limit w u us d' units_are left AwaitReply h = go h.traffic
           traffic = inr (
             alone,
             subst (λ xs. FrameAnswer xs d'.sessions w.current h.before h.frame)
-                (sym (heard_replies w.mute d'.replies w.replies h.unmuted none)) both.1,
+                (sym (heard_replies w.to_drop d'.replies w.replies h.unmuted none)) both.1,
           );
         }
 
@@ -159,20 +163,20 @@ phase_left limit w u us d' units_are left AwaitReply h = go h.traffic
     go (inr none) = let none_is : w.units ≡ [] = none.0 in cc
 
 pub settled_holds :
-    (limit : ℕ) (w : World) (u : Travelling) (us : List Travelling) (d' : Desk)
+    (limit : ℕ) (w : World) (u : Travelling) (us : List Travelling) (d' : ComputerState)
     → Holds limit w
     → w.units ≡ u ∷ us
-    → IsLeft limit u.session u.load (desk_of w) d'
+    → IsLeft limit u.session u.load (computer_state_of w) d'
     → Holds limit (settled us d' w)
 settled_holds limit w u us d' h units_are left =
     let front_is = subst (Front w.sessions w.receiver.is_open w.opened) units_are h.front in
-    let within : w.mute ≤ suc (length us) = subst (λ xs. w.mute ≤ length xs) units_are h.mute_within in
+    let within : w.to_drop ≤ suc (length us) = subst (λ xs. w.to_drop ≤ length xs) units_are h.to_drop_within in
     record {
       sound = left.sound;
-      mute_within = lowered_within w.mute (length us) within;
+      to_drop_within = lowered_within w.to_drop (length us) within;
       line = left.line;
-      front = front_from_behind d'.sessions d'.receiver.is_open d'.opened us
-          (behind_kept w.sessions d'.sessions us left.kept front_is.1);
+      front = front_from_after d'.sessions d'.receiver.is_open d'.opened us
+          (following_kept w.sessions d'.sessions us left.kept front_is.1);
       current =
           current_kept limit w.sender (session_at w.current w.sessions) (session_at w.current d'.sessions)
           (left.kept.each_kept w.current) h.current;

@@ -1,4 +1,4 @@
--- What a loss comes to: the sender's timer ends the session, and a later one is carried through.
+-- What a loss gives: the sender's timer ends the session, and a later one is carried through.
 use Rattle.std.proofs.Common.{◌≡◌, ℕ, zero, suc, ◌<◌, ◌⊎◌, inl, inr, true, List, [], ◌∷◌, ◌++◌, length, Some}
 use Rattle.std.proofs.Common.{refl, sym, ap, ◌∙◌, subst, arith}
 use Rattle.std.specs.Prelude.{All}
@@ -9,14 +9,14 @@ use Rattle.lis_frame.specs.Stream.{signals_after}
 use Rattle.lis_link.specs.declared.sender.Phase.TheVariants.{AwaitLine, AwaitReply}
 use Rattle.lis_link.specs.declared.sender.Outcome.TheVariants.{TimedOut}
 use Rattle.lis_link.specs.declared.sender.StartFault.TheVariants.{InSession}
-use Rattle.lis_link.specs.Sender.{SenderState, over, start_fault, start_fault_in, timer_in}
+use Rattle.lis_link.specs.Sender.{SenderState, finished_with, start_fault, start_fault_in, timer_in}
 use Rattle.lis_world.specs.declared.event.Event.{Event}
 use Rattle.lis_world.specs.declared.event.Event.TheVariants.{Start, Deliver, DeliverNoRoom, Damage, Lose, Reply}
 use Rattle.lis_world.specs.declared.event.Event.TheVariants.{DamageReply, LoseReply, SenderTimer, ReceiverTimer}
 use Rattle.lis_world.specs.declared.event.Event.TheVariants.{RestartSender, RestartReceiver, Ready, Busy, Contending}
 use Rattle.lis_world.specs.Unit.{ending, Travelling, load_bytes}
 use Rattle.lis_world.specs.Session.{Session, session_at, changed, follows}
-use Rattle.lis_world.specs.World.{World, Desk, desk_of, hears, replies_with, settled}
+use Rattle.lis_world.specs.World.{World, ComputerState, computer_state_of, hears, replies_with, settled}
 use Rattle.lis_world.specs.Steps.{put_on_link, with_sender, sender_steps, begins, delivered, delivered_no_room}
 use Rattle.lis_world.specs.Steps.{is_noticed}
 use Rattle.lis_world.specs.Steps.{damaged, lost, replied, reply_damaged, reply_lost, forgotten, given_up, after_event}
@@ -24,7 +24,7 @@ use Rattle.lis_world.specs.Steps.{runs, world}
 use Rattle.lis_world.specs.Recovery.{Loss, unit_is_lost, unit_is_unheard, reply_is_lost, loss_events, IsUnheard}
 use Rattle.lis_world.specs.Recovery.{IsAwaitingOne, is_other, IsTimedOut, lost_events, OvercomesLoss}
 use Rattle.lis_world.proofs.SessionLemmas.{length-changed, at-changed_same}
-use Rattle.lis_world.proofs.Invariant.{BidTraffic, FrameTraffic}
+use Rattle.lis_world.proofs.Invariant.{RequestTraffic, FrameTraffic}
 use Rattle.lis_world.proofs.Invariant.{FrameAnswer, IsAwaiting, InPhase, Holds, AreKept}
 use Rattle.lis_world.proofs.Arrival.{kept_refl}
 use Rattle.lis_world.proofs.Delivery.{side_of, left_delivered, leads_of}
@@ -42,9 +42,9 @@ none_is_some xs x none one = cc
 
 -- while a unit is on the link no reply is
 no_reply_yet : (limit : ℕ) (w : World) (u : Travelling) → Holds limit w → Awaits w → w.units ≡ u ∷ [] → w.replies ≡ []
-no_reply_yet limit w u h (inl bids) alone = go (subst (λ p. InPhase p w) bids h.phase).traffic
+no_reply_yet limit w u h (inl requests) alone = go (subst (λ p. InPhase p w) requests h.phase).traffic
   where
-    go : BidTraffic w → w.replies ≡ []
+    go : RequestTraffic w → w.replies ≡ []
     go (inl none) = none.0
     go (inr answered) = absurd (none_is_some w.units u answered.0 alone)
 no_reply_yet limit w u h (inr awaits) alone =
@@ -57,14 +57,14 @@ no_reply_yet limit w u h (inr awaits) alone =
     go a (inl one) = one.1
     go a (inr answered) = absurd (none_is_some w.units u answered.0 alone)
 
--- and behind it one is at most
+-- and after it one is at most
 abbrev AtMostOne : List ℕ → Type 0
 AtMostOne replies = (replies ≡ []) ⊎ ((b : ℕ) × (replies ≡ b ∷ []))
 
 one_reply_left : (limit : ℕ) (w : World) → Holds limit w → Awaits w → w.units ≡ [] → AtMostOne w.replies
-one_reply_left limit w h (inl bids) none = go (subst (λ p. InPhase p w) bids h.phase).traffic
+one_reply_left limit w h (inl requests) none = go (subst (λ p. InPhase p w) requests h.phase).traffic
   where
-    go : BidTraffic w → AtMostOne w.replies
+    go : RequestTraffic w → AtMostOne w.replies
     go (inl no_reply) = inl no_reply.0
     go (inr answered) = inr (answered.1.0, answered.1.1)
 one_reply_left limit w h (inr awaits) none =
@@ -82,12 +82,12 @@ one_reply_left limit w h (inr awaits) none =
     go a (inr answered) = answer a answered.1
 
 within_sessions : (limit : ℕ) (w : World) → Holds limit w → Awaits w → w.current < length w.sessions
-within_sessions limit w h (inl bids) = (subst (λ p. InPhase p w) bids h.phase).unsent.0
+within_sessions limit w h (inl requests) = (subst (λ p. InPhase p w) requests h.phase).unsent.0
 within_sessions limit w h (inr awaits) = (subst (λ p. InPhase p w) awaits h.phase).pending.is_session
 
 -- ---- the unit, or its reply, is lost
 
--- the unit has left the link, and the sender stands as it stood
+-- the unit has left the link, and the sender is as it was
 record IsGone (limit : ℕ) (w v : World) : Type 0 where
   holds : Holds limit v
   awaits : Awaits v
@@ -102,7 +102,7 @@ record IsCutOff (limit : ℕ) (w v : World) : Type 0 where
   no_reply : v.replies ≡ []
 
 gone_settled :
-    (limit : ℕ) (w v : World) (d : Desk) → Awaits w → AreKept w.sessions d.sessions → Holds limit v
+    (limit : ℕ) (w v : World) (d : ComputerState) → Awaits w → AreKept w.sessions d.sessions → Holds limit v
     → v ≡ settled [] d w → IsGone limit w v
 gone_settled limit w v d awaits kept h is =
     subst (IsGone limit w) (sym is) (record {
@@ -115,30 +115,30 @@ gone_settled limit w v d awaits kept h is =
     })
 
 quiet_replies :
-    (mute : ℕ) (caused replies : List ℕ) → caused ≡ [] → replies ≡ [] → replies_with mute caused replies ≡ []
+    (to_drop : ℕ) (caused replies : List ℕ) → caused ≡ [] → replies ≡ [] → replies_with to_drop caused replies ≡ []
 quiet_replies zero caused replies quiet none = ap (λ xs. xs ++ caused) none ∙ quiet
-quiet_replies (suc mute) caused replies quiet none = none
+quiet_replies (suc to_drop) caused replies quiet none = none
 
 cut_settled :
-    (limit : ℕ) (w v : World) (d : Desk)
+    (limit : ℕ) (w v : World) (d : ComputerState)
     → Awaits w → w.replies ≡ [] → d.replies ≡ [] → AreKept w.sessions d.sessions → Holds limit v
     → v ≡ settled [] d w → IsCutOff limit w v
 cut_settled limit w v d awaits none quiet kept h is =
     record {
       gone = gone_settled limit w v d awaits kept h is;
-      no_reply = ap (λ (x : World). x.replies) is ∙ quiet_replies w.mute d.replies w.replies quiet none;
+      no_reply = ap (λ (x : World). x.replies) is ∙ quiet_replies w.to_drop d.replies w.replies quiet none;
     }
 
 -- bytes without a signal are heard as nothing
-record IsUntouched (ss : List Session) (d : Desk) : Type 0 where
+record IsUntouched (ss : List Session) (d : ComputerState) : Type 0 where
   quiet : d.replies ≡ []
   kept : AreKept ss d.sessions
 
 unheard :
     (limit s : ℕ) (bytes : List ℕ) (w : World) → signals_after limit w.receiver.past bytes ≡ []
-    → IsUntouched w.sessions (hears limit s bytes (desk_of w))
+    → IsUntouched w.sessions (hears limit s bytes (computer_state_of w))
 unheard limit s bytes w none =
-    by_signals (IsUntouched w.sessions) limit s bytes (desk_of w) [] none
+    by_signals (IsUntouched w.sessions) limit s bytes (computer_state_of w) [] none
     (record { quiet = refl; kept = kept_refl w.sessions })
 
 cut_unheard :
@@ -146,7 +146,7 @@ cut_unheard :
     → IsLimit limit → Holds limit w → Awaits w → w.units ≡ u ∷ [] → signals_after limit w.receiver.past bytes ≡ []
     → IsCutOff limit w (after_event limit (Damage bytes) w)
 cut_unheard limit w u bytes is_limit h awaits alone none =
-    let after : Desk = hears limit u.session bytes (desk_of w) in
+    let after : ComputerState = hears limit u.session bytes (computer_state_of w) in
     let untouched = unheard limit u.session bytes w none in
     let noticed : is_noticed u.load (signals_after limit w.receiver.past bytes) ≡ true = ap (is_noticed u.load) none in
     cut_settled limit w (after_event limit (Damage bytes) w) after awaits (no_reply_yet limit w u h awaits alone)
@@ -155,11 +155,11 @@ cut_unheard limit w u bytes is_limit h awaits alone none =
     (ap (λ us. damaged limit bytes us w) alone
     ∙ cond-true (is_noticed u.load (signals_after limit w.receiver.past bytes)) (settled [] after w) w noticed)
 
--- the reply is lost behind the unit
-lost_behind :
+-- the reply is lost after the unit
+lost_after :
     (limit : ℕ) (w v : World) → IsLimit limit → IsGone limit w v
     → IsCutOff limit w (after_event limit LoseReply v)
-lost_behind limit w v is_limit gone = go (one_reply_left limit v gone.holds gone.awaits gone.no_unit)
+lost_after limit w v is_limit gone = go (one_reply_left limit v gone.holds gone.awaits gone.no_unit)
   where
     go : AtMostOne v.replies → IsCutOff limit w (after_event limit LoseReply v)
     go (inl none) =
@@ -183,8 +183,9 @@ gone_delivered :
     → IsGone limit w (after_event limit Deliver w)
 gone_delivered limit w u is_limit h awaits alone =
     let left =
-    left_delivered limit u.session u.load (desk_of w) is_limit (side_of limit w h) (leads_of limit w u [] h alone) in
-    gone_settled limit w (after_event limit Deliver w) (hears limit u.session (load_bytes u.load) (desk_of w))
+    left_delivered limit u.session u.load (computer_state_of w) is_limit (side_of limit w h)
+    (leads_of limit w u [] h alone) in
+    gone_settled limit w (after_event limit Deliver w) (hears limit u.session (load_bytes u.load) (computer_state_of w))
     awaits left.kept
     (event_holds limit Deliver w is_limit h) (ap (λ us. delivered limit us w) alone)
 
@@ -193,13 +194,13 @@ cut_off :
     → IsLimit limit → Holds limit w → IsAwaitingOne w → IsUnheard limit w loss
     → IsCutOff limit w (runs limit (loss_events loss) w)
 cut_off limit unit_is_lost w is_limit h one silent =
-    cut_settled limit w (after_event limit Lose w) (desk_of w) one.awaits
+    cut_settled limit w (after_event limit Lose w) (computer_state_of w) one.awaits
     (no_reply_yet limit w one.unit h one.awaits one.alone) refl (kept_refl w.sessions)
     (event_holds limit Lose w is_limit h) (ap (λ us. lost us w) one.alone)
 cut_off limit (unit_is_unheard bytes) w is_limit h one silent =
     cut_unheard limit w one.unit bytes is_limit h one.awaits one.alone silent
 cut_off limit reply_is_lost w is_limit h one silent =
-    lost_behind limit w (after_event limit Deliver w) is_limit
+    lost_after limit w (after_event limit Deliver w) is_limit
     (gone_delivered limit w one.unit is_limit h one.awaits one.alone)
 
 -- ---- nothing but the sender's timer and its restart moves it
@@ -208,8 +209,8 @@ cut_same : (limit : ℕ) (w v x : World) → x ≡ v → IsCutOff limit w v → 
 cut_same limit w v x is cut = subst (IsCutOff limit w) (sym is) cut
 
 refused_start : (limit : ℕ) (texts : List (List ℕ)) (v : World) → Awaits v → after_event limit (Start texts) v ≡ v
-refused_start limit texts v (inl bids) =
-    let fault : start_fault v.sender texts ≡ Some InSession = ap (λ p. start_fault_in p texts) bids in
+refused_start limit texts v (inl requests) =
+    let fault : start_fault v.sender texts ≡ Some InSession = ap (λ p. start_fault_in p texts) requests in
     ap (λ f. begins limit f texts v) fault
 refused_start limit texts v (inr awaits) =
     let fault : start_fault v.sender texts ≡ Some InSession = ap (λ p. start_fault_in p texts) awaits in
@@ -275,17 +276,17 @@ cut_on limit (event ∷ others) w v is_limit all cut =
 
 timed_is :
     (limit : ℕ) (v : World) → Awaits v
-    → after_event limit SenderTimer v ≡ put_on_link ending (with_sender (over TimedOut v.sender) (forgotten v))
-timed_is limit v (inl bids) = ap (λ p. sender_steps {limit = limit} (timer_in p v.sender) (given_up p v)) bids
+    → after_event limit SenderTimer v ≡ put_on_link ending (with_sender (finished_with TimedOut v.sender) (forgotten v))
+timed_is limit v (inl requests) = ap (λ p. sender_steps {limit = limit} (timer_in p v.sender) (given_up p v)) requests
 timed_is limit v (inr awaits) = ap (λ p. sender_steps {limit = limit} (timer_in p v.sender) (given_up p v)) awaits
 
 timed_out_of :
     (limit : ℕ) (w v : World) → IsCutOff limit w v
-    → IsTimedOut w (put_on_link ending (with_sender (over TimedOut v.sender) (forgotten v)))
+    → IsTimedOut w (put_on_link ending (with_sender (finished_with TimedOut v.sender) (forgotten v)))
 timed_out_of limit w v cut =
     let gone = cut.gone in
     let c : ℕ = v.current in
-    let sender : SenderState = over TimedOut v.sender in
+    let sender : SenderState = finished_with TimedOut v.sender in
     let ss : List Session = changed c (follows sender) v.sessions in
     let within : c < length v.sessions = within_sessions limit v gone.holds gone.awaits in
     let here : session_at w.current ss ≡ follows sender (session_at c v.sessions) =
@@ -294,7 +295,7 @@ timed_out_of limit w v cut =
     let before : session_at c w.sessions ≡ session_at w.current w.sessions =
     ap (λ k. session_at k w.sessions) gone.current_same in
     record {
-      sender_is = ap (over TimedOut) gone.sender_same;
+      sender_is = ap (finished_with TimedOut) gone.sender_same;
       as_many = length-changed c (follows sender) v.sessions ∙ gone.kept.length_same;
       texts_same = ap (λ (x : Session). x.texts) here ∙ kept.texts_same ∙ ap (λ (x : Session). x.texts) before;
       sent_same = ap (λ (x : Session). x.sent) here ∙ kept.sent_same ∙ ap (λ (x : Session). x.sent) before;
@@ -330,7 +331,7 @@ timed_out limit events others loss is_limit one silent all =
     let cut =
     cut_on limit others w (runs limit (loss_events loss) w) is_limit all (cut_off limit loss w is_limit h one silent) in
     let is : world limit (events ++ lost_events loss others)
-    ≡ put_on_link ending (with_sender (over TimedOut v.sender) (forgotten v)) =
+    ≡ put_on_link ending (with_sender (finished_with TimedOut v.sender) (forgotten v)) =
     world-append limit events (lost_events loss others) ∙ lost_runs limit loss others w
     ∙ timed_is limit v cut.gone.awaits in
     subst (IsTimedOut w) (sym is) (timed_out_of limit w v cut)

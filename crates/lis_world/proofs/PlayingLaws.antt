@@ -14,21 +14,23 @@ use Rattle.lis_link.specs.declared.receiver.Readiness.TheVariants.{Ready}
 use Rattle.lis_link.specs.declared.receiver.Note.{Note}
 use Rattle.lis_link.specs.declared.receiver.Note.TheVariants.{Accepted, Opened, OutOfMemory, Quiet}
 use Rattle.lis_link.specs.declared.receiver.Step.{Step}
-use Rattle.lis_link.specs.Receiver.{ReceiverState, ReceiverStep, ReceiverHearing, bid_with, judged, on_judged, heard_by}
+use Rattle.lis_link.specs.Receiver.{ReceiverState, ReceiverStep, ReceiverHearing, answered_request, classified}
+use Rattle.lis_link.specs.Receiver.{on_classified, heard_by}
 use Rattle.lis_link.specs.Receiver.{heard, on_byte, on_bytes, heard_on, with_heard, with_room}
 use Rattle.lis_link.specs.Kept.{Kept}
-use Rattle.lis_link.specs.Stands.{IsIn, IsStep, Makes}
+use Rattle.lis_link.specs.Representation.{IsIn, IsStep, IsStepMade}
 use Rattle.lis_link.proofs.HearingLaws.{on_byte-quiet}
 use Rattle.lis_world.specs.declared.event.Event.{Event}
 use Rattle.lis_world.specs.declared.event.LateEvent.{LateEvent}
-use Rattle.lis_world.proofs.Heard.{heard_leaves, noted_after}
+use Rattle.lis_world.proofs.Heard.{heard_leaves, after_note_after}
 use Rattle.lis_world.specs.Unit.{Load, one_frame}
-use Rattle.lis_world.specs.World.{World, Desk, booked, noted, hears}
+use Rattle.lis_world.specs.World.{World, ComputerState, booked, after_note, hears}
 use Rattle.lis_world.specs.Steps.{after_event}
 use Rattle.lis_world.specs.Steps.{room_at, runs}
 use Rattle.lis_world.specs.Late.{after_late_event, runs_late}
-use Rattle.lis_world.specs.inside.Playing.{KeptWorld, world_at, IsWorld, IsPlaying, run_by, KeptDesk, desk_at}
-use Rattle.lis_world.specs.inside.Playing.{IsDesk, OnlyLoad, IsLoad, TakesLoad}
+use Rattle.lis_world.specs.inside.Playing.{KeptWorld, world_at, IsWorld, IsPlaying, run_by, KeptComputerState}
+use Rattle.lis_world.specs.inside.Playing.{computer_state_at}
+use Rattle.lis_world.specs.inside.Playing.{IsComputerState, OnlyLoad, IsLoad, TakesLoad}
 
 -- what is accepted is a good frame that was heard
 record IsGood {limit : ℕ} (signal : Option (SignalOf limit)) (step : ReceiverStep) : Type 0 where
@@ -39,23 +41,23 @@ record IsGood {limit : ℕ} (signal : Option (SignalOf limit)) (step : ReceiverS
 abbrev IsHeardAs : {limit : ℕ} → Option (SignalOf limit) → ReceiverStep → Type 0
 IsHeardAs signal step = (number : ℕ) → step.note ≡ Accepted number → IsGood signal step
 
-judged_as : {limit : ℕ} (r : ReceiverState) (frame : FrameContent) (note : Note)
-    → IsHeardAs {limit = limit} (Some (Good frame)) (on_judged r frame note)
-judged_as r frame (Accepted n) number e = record { frame = frame; signal_is = refl; taken_is = refl }
-judged_as r frame _ number e = absurd cc
+classified_as : {limit : ℕ} (r : ReceiverState) (frame : FrameContent) (note : Note)
+    → IsHeardAs {limit = limit} (Some (Good frame)) (on_classified r frame note)
+classified_as r frame (Accepted n) number e = record { frame = frame; signal_is = refl; taken_is = refl }
+classified_as r frame _ number e = absurd cc
 
-bid_as : {limit : ℕ} (signal : Option (SignalOf limit)) (r : ReceiverState) (readiness : Readiness)
-    → IsHeardAs signal (bid_with readiness r)
-bid_as signal r Ready number e = absurd cc
-bid_as signal r _ number e = absurd cc
+request_as : {limit : ℕ} (signal : Option (SignalOf limit)) (r : ReceiverState) (readiness : Readiness)
+    → IsHeardAs signal (answered_request readiness r)
+request_as signal r Ready number e = absurd cc
+request_as signal r _ number e = absurd cc
 
 heard_by_as : {limit : ℕ} (is_open : Bool) (signal : SignalOf limit) (r : ReceiverState)
     → IsHeardAs (Some signal) (heard_by is_open signal r)
-heard_by_as true Enq r = bid_as (Some Enq) r r.readiness
+heard_by_as true Enq r = request_as (Some Enq) r r.readiness
 heard_by_as true Eot r = λ number e. absurd cc
-heard_by_as true (Good frame) r = judged_as r frame (judged r frame)
+heard_by_as true (Good frame) r = classified_as r frame (classified r frame)
 heard_by_as true (Bad fault) r = λ number e. absurd cc
-heard_by_as false Enq r = bid_as (Some Enq) r r.readiness
+heard_by_as false Enq r = request_as (Some Enq) r r.readiness
 heard_by_as false Eot r = λ number e. absurd cc
 heard_by_as false (Good frame) r = λ number e. absurd cc
 heard_by_as false (Bad fault) r = λ number e. absurd cc
@@ -64,18 +66,19 @@ heard_as : {limit : ℕ} (signal : Option (SignalOf limit)) (r : ReceiverState) 
 heard_as None r number e = absurd cc
 heard_as (Some signal) r number e = heard_by_as r.is_open signal r number e
 
--- the desk after a step has the step's receiver, whatever receiver it had
-noted-receiver : (s : ℕ) (step : ReceiverStep) (kept : KeptDesk) (p q : ReceiverState) (note : Note)
-    → record (noted s step note (desk_at kept p)) { receiver = step.after } ≡ noted s step note (desk_at kept q)
-noted-receiver s step kept p q Opened = refl
-noted-receiver s step kept p q (Accepted n) = refl
-noted-receiver s step kept p q _ = refl
+-- the computer's state after a step has the step's receiver, whatever receiver it had
+after_note-receiver : (s : ℕ) (step : ReceiverStep) (kept : KeptComputerState) (p q : ReceiverState) (note : Note)
+    → record (after_note s step note (computer_state_at kept p)) { receiver = step.after } ≡ after_note s step note
+    (computer_state_at kept q)
+after_note-receiver s step kept p q Opened = refl
+after_note-receiver s step kept p q (Accepted n) = refl
+after_note-receiver s step kept p q _ = refl
 
-noted-same : (s : ℕ) (step : ReceiverStep) (kept : KeptDesk) (p q : ReceiverState) (note : Note)
-    → noted s step note (desk_at kept p) ≡ noted s step note (desk_at kept q)
-noted-same s step kept p q Opened = refl
-noted-same s step kept p q (Accepted n) = refl
-noted-same s step kept p q _ = refl
+after_note-same : (s : ℕ) (step : ReceiverStep) (kept : KeptComputerState) (p q : ReceiverState) (note : Note)
+    → after_note s step note (computer_state_at kept p) ≡ after_note s step note (computer_state_at kept q)
+after_note-same s step kept p q Opened = refl
+after_note-same s step kept p q (Accepted n) = refl
+after_note-same s step kept p q _ = refl
 
 later_signals :
     {limit : ℕ} (load : Load) (signal : Option (SignalOf limit)) (signals : List (SignalOf limit))
@@ -92,16 +95,17 @@ good_is_load {limit} load signal signals step h good =
     let here = subst (λ x. OnlyLoad load (with_signal x signals)) good.signal_is h in
     record { frame = good.frame; load_is = here.0; taken_is = good.taken_is }
 
--- bytes that the receiver heard at once, and what comes of those behind them
-record HearsAtOnce (limit s : ℕ) (load : Load) (bytes : List ℕ) (d : Desk) (heard_it : ReceiverHearing) : Type 0 where
+-- bytes that the receiver heard at once, and what comes of those after them
+record HearsAtOnce (limit s : ℕ) (load : Load) (bytes : List ℕ) (d : ComputerState) (heard_it : ReceiverHearing) : Type
+    0 where
   goes_on : hears limit s bytes d ≡ hears limit s (drop heard_it.count bytes) (booked s heard_it.step d)
   takes : TakesLoad load heard_it.step
   later : OnlyLoad load (signals_after limit heard_it.step.after.past (drop heard_it.count bytes))
 
 hears_at_once :
-    (limit s : ℕ) (load : Load) (bytes : List ℕ) (r : ReceiverState) (kept : KeptDesk)
+    (limit s : ℕ) (load : Load) (bytes : List ℕ) (r : ReceiverState) (kept : KeptComputerState)
     → OnlyLoad load (signals_after limit r.past bytes) →
-    HearsAtOnce limit s load bytes (desk_at kept r) (on_bytes limit bytes r)
+    HearsAtOnce limit s load bytes (computer_state_at kept r) (on_bytes limit bytes r)
 hears_at_once limit s load [] r kept only = record { goes_on = refl; takes = λ number e. absurd cc; later = only }
 hears_at_once limit s load (b ∷ bytes) r kept only =
     by (on_byte limit b r).note refl
@@ -110,29 +114,30 @@ hears_at_once limit s load (b ∷ bytes) r kept only =
   where
     by :
         (note : Note) → (on_byte limit b r).note ≡ note →
-        HearsAtOnce limit s load bytes (desk_at kept (with_heard (b ∷ []) r))
+        HearsAtOnce limit s load bytes (computer_state_at kept (with_heard (b ∷ []) r))
         (on_bytes limit bytes (with_heard (b ∷ []) r)) →
-        HearsAtOnce limit s load (b ∷ bytes) (desk_at kept r)
+        HearsAtOnce limit s load (b ∷ bytes) (computer_state_at kept r)
         (heard_on 1 note (on_byte limit b r) (on_bytes limit bytes (with_heard (b ∷ []) r)))
-    by Quiet e behind =
+    by Quiet e following =
         let next : ReceiverState = with_heard (b ∷ []) r in
         let heard_it : ReceiverHearing = on_bytes limit bytes next in
         let count_is : suc heard_it.count ≡ 1 + heard_it.count = omega arith in
         let step_is = on_byte-quiet limit b r e in
-        let desk_is : booked s (on_byte limit b r) (desk_at kept r) ≡ desk_at kept next =
-        ap (λ (step : ReceiverStep). booked s step (desk_at kept r)) step_is in
+        let computer_state_is : booked s (on_byte limit b r) (computer_state_at kept r) ≡ computer_state_at kept next =
+        ap (λ (step : ReceiverStep). booked s step (computer_state_at kept r)) step_is in
         record {
           goes_on =
-              ap (hears limit s bytes) desk_is
-              ∙ behind.goes_on
+              ap (hears limit s bytes) computer_state_is
+              ∙ following.goes_on
               ∙ ap (hears limit s (drop heard_it.count bytes))
-              (noted-same s heard_it.step kept next r heard_it.step.note)
-              ∙ ap (λ n. hears limit s (drop n (b ∷ bytes)) (booked s heard_it.step (desk_at kept r))) count_is;
-          takes = behind.takes;
+              (after_note-same s heard_it.step kept next r heard_it.step.note)
+              ∙ ap (λ n. hears limit s (drop n (b ∷ bytes)) (booked s heard_it.step (computer_state_at kept r)))
+              count_is;
+          takes = following.takes;
           later = subst (λ n. OnlyLoad load (signals_after limit heard_it.step.after.past (drop n (b ∷ bytes))))
-              count_is behind.later;
+              count_is following.later;
         }
-    by note e behind =
+    by note e following =
         let signal : Option (SignalOf limit) = signal_after limit r.past b in
         let next : ReceiverState = with_heard (b ∷ []) r in
         let signals : List (SignalOf limit) = signals_after limit (b ∷ r.past) bytes in
@@ -145,88 +150,93 @@ hears_at_once limit s load (b ∷ bytes) r kept only =
               (later_signals load signal signals only);
         }
 
--- while bytes are heard: the rest, heard from here, leads to the same desk
-pub record IsHearing (limit session : ℕ) (load : Load) (kept : KeptDesk) (left : List ℕ) (goal : Desk) : Type 0 where
+-- while bytes are heard: the rest, heard from here, leads to the same computer's state
+pub record IsHearing (limit session : ℕ) (load : Load) (kept : KeptComputerState) (left : List ℕ)
+    (goal : ComputerState) : Type 0 where
   pub state : ReceiverState
   pub is_in : IsIn limit kept.receiver state
   pub only : OnlyLoad load (signals_after limit state.past left)
-  pub goes_on : hears limit session left (desk_at kept state) ≡ goal
+  pub goes_on : hears limit session left (computer_state_at kept state) ≡ goal
 
 -- a step that was made and booked
-heard_desk :
-    (limit s : ℕ) (load : Load) (old heard_it new : KeptDesk) (r : ReceiverState) (step : ReceiverStep) (result : Step)
+heard_computer_state :
+    (limit s : ℕ) (load : Load) (old heard_it new : KeptComputerState) (r : ReceiverState) (step : ReceiverStep)
+    (result : Step)
     → TakesLoad load step
-    → Makes limit step result heard_it.receiver
+    → IsStepMade limit step result heard_it.receiver
     → heard_it ≡ record old { receiver = heard_it.receiver }
     → new.receiver ≡ heard_it.receiver
     → ((meant : ReceiverStep) (q : ReceiverState)
     → IsStep meant result
     → TakesLoad load meant
-    → desk_at new q ≡ record (booked s meant (desk_at heard_it q)) { receiver = q })
-    → IsDesk limit new (booked s step (desk_at old r))
-heard_desk limit s load old heard_it new r step result takes makes same_desk same_receiver is_booked =
-    let goal : Desk = booked s step (desk_at old r) in
-    let here : desk_at new step.after ≡ goal =
+    → computer_state_at new q ≡ record (booked s meant (computer_state_at heard_it q)) { receiver = q })
+    → IsComputerState limit new (booked s step (computer_state_at old r))
+heard_computer_state limit s load old heard_it new r step result takes makes same_computer_state same_receiver
+    is_booked =
+    let goal : ComputerState = booked s step (computer_state_at old r) in
+    let here : computer_state_at new step.after ≡ goal =
     is_booked step step.after makes.answer takes
-    ∙ ap (λ k. record (booked s step (desk_at k step.after)) { receiver = step.after }) same_desk
-    ∙ noted-receiver s step old step.after r step.note in
-    let after : goal.receiver ≡ step.after = noted_after s step (desk_at old r) step.note in
+    ∙ ap (λ k. record (booked s step (computer_state_at k step.after)) { receiver = step.after }) same_computer_state
+    ∙ after_note-receiver s step old step.after r step.note in
+    let after : goal.receiver ≡ step.after = after_note_after s step (computer_state_at old r) step.note in
     record {
       receiver_is =
           subst (λ k. IsIn limit k goal.receiver) (sym same_receiver)
           (subst (λ q. IsIn limit heard_it.receiver q) (sym after) makes.state);
-      desk_is = ap (desk_at new) after ∙ here;
+      computer_state_is = ap (computer_state_at new) after ∙ here;
     }
 
--- bytes that were heard at once, where memory was not refused
+-- bytes that were heard at once, where memory did not run out
 pub hearing_next :
-    {A E : Type 0} (outcome : Result A E) (limit s : ℕ) (load : Load) (left : List ℕ) (goal : Desk)
-    (old heard_it new : KeptDesk) (result : Hearing)
+    {A E : Type 0} (outcome : Result A E) (limit s : ℕ) (load : Load) (left : List ℕ) (goal : ComputerState)
+    (old heard_it new : KeptComputerState) (result : Hearing)
     → (hearing : IsHearing limit s load old left goal)
     → result.count ≡ (on_bytes limit left hearing.state).count
     → OnOk outcome (result.step.note ≢ OutOfMemory)
-    → (result.step.note ≢ OutOfMemory → Makes limit (on_bytes limit left hearing.state).step result.step
+    → (result.step.note ≢ OutOfMemory → IsStepMade limit (on_bytes limit left hearing.state).step result.step
     heard_it.receiver)
     → heard_it ≡ record old { receiver = heard_it.receiver }
     → new.receiver ≡ heard_it.receiver
     → ((meant : ReceiverStep) (q : ReceiverState)
     → IsStep meant result.step
     → TakesLoad load meant
-    → OnOk outcome (desk_at new q ≡ record (booked s meant (desk_at heard_it q)) { receiver = q }))
+    → OnOk outcome (computer_state_at new q ≡ record (booked s meant (computer_state_at heard_it q)) { receiver = q }))
     → IsOk outcome
     → IsHearing limit s load new (drop result.count left) goal
-hearing_next (Ok x) limit s load left goal old heard_it new result hearing count_is memory makes same_desk
+hearing_next (Ok x) limit s load left goal old heard_it new result hearing count_is memory makes same_computer_state
     same_receiver is_booked is_ok =
     let meant : ReceiverHearing = on_bytes limit left hearing.state in
     let at_once = hears_at_once limit s load left hearing.state old hearing.only in
-    let desk = heard_desk limit s load old heard_it new hearing.state meant.step result.step at_once.takes
-    (makes memory) same_desk same_receiver is_booked in
-    let booked_it : Desk = booked s meant.step (desk_at old hearing.state) in
+    let computer_state = heard_computer_state limit s load old heard_it new hearing.state meant.step result.step
+    at_once.takes
+    (makes memory) same_computer_state same_receiver is_booked in
+    let booked_it : ComputerState = booked s meant.step (computer_state_at old hearing.state) in
     let after : booked_it.receiver ≡ meant.step.after =
-    noted_after s meant.step (desk_at old hearing.state) meant.step.note in
+    after_note_after s meant.step (computer_state_at old hearing.state) meant.step.note in
     record {
       state = booked_it.receiver;
-      is_in = desk.receiver_is;
+      is_in = computer_state.receiver_is;
       only =
           subst (λ n. OnlyLoad load (signals_after limit booked_it.receiver.past (drop n left))) (sym count_is)
           (subst (λ (q : ReceiverState). OnlyLoad load (signals_after limit q.past (drop meant.count left)))
           (sym after) at_once.later);
       goes_on =
-          ap (hears limit s (drop result.count left)) desk.desk_is
+          ap (hears limit s (drop result.count left)) computer_state.computer_state_is
           ∙ ap (λ n. hears limit s (drop n left) booked_it) count_is
           ∙ sym at_once.goes_on
           ∙ hearing.goes_on;
     }
-hearing_next (Err e) limit s load left goal old heard_it new result hearing count_is memory makes same_desk
+hearing_next (Err e) limit s load left goal old heard_it new result hearing count_is memory makes same_computer_state
     same_receiver is_booked is_ok = absurd cc
 
 -- all bytes were heard
 pub heard_all :
-    (limit s : ℕ) (load : Load) (kept : KeptDesk) (left : List ℕ) (goal : Desk)
-    → IsHearing limit s load kept left goal → left ≡ [] → IsDesk limit kept goal
+    (limit s : ℕ) (load : Load) (kept : KeptComputerState) (left : List ℕ) (goal : ComputerState)
+    → IsHearing limit s load kept left goal → left ≡ [] → IsComputerState limit kept goal
 heard_all limit s load kept left goal h none =
-    let e : desk_at kept h.state ≡ goal = subst (λ xs. hears limit s xs (desk_at kept h.state) ≡ goal) none h.goes_on in
-    subst (λ d. IsDesk limit kept d) e (record { receiver_is = h.is_in; desk_is = refl })
+    let e : computer_state_at kept h.state ≡ goal = subst (λ xs. hears limit s xs (computer_state_at kept h.state)
+    ≡ goal) none h.goes_on in
+    subst (λ d. IsComputerState limit kept d) e (record { receiver_is = h.is_in; computer_state_is = refl })
 
 -- nor do an enquiry and an ending
 pub enquiry_only : (limit : ℕ) (load : Load) (past : List ℕ) → OnlyLoad load (signals_after limit past (ENQ ∷ []))
@@ -245,28 +255,32 @@ frame_only limit load past frame load_is content =
     subst (λ (signals : List (SignalOf limit)). OnlyLoad load signals)
     (sym (signals-frame_bytes limit past frame content)) (load_is, tt)
 
-pub with_receiver : (first second : KeptDesk) (kept : Kept) → first ≡ second
+pub with_receiver : (first second : KeptComputerState) (kept : Kept) → first ≡ second
     → record first { receiver = kept } ≡ record second { receiver = kept }
-with_receiver first second kept same = ap (λ (d : KeptDesk). record d { receiver = kept }) same
+with_receiver first second kept same = ap (λ (d : KeptComputerState). record d { receiver = kept }) same
 
 -- bytes that came while there was no room
 pub without_room :
-    {A E : Type 0} (outcome : Result A E) (limit s : ℕ) (bytes : List ℕ) (old without heard_it new : KeptDesk)
+    {A E : Type 0} (outcome : Result A E) (limit s : ℕ) (bytes : List ℕ) (old without heard_it new : KeptComputerState)
     (r : ReceiverState)
-    → IsDesk limit without (room_at false (desk_at old r))
+    → IsComputerState limit without (room_at false (computer_state_at old r))
     → ((q : ReceiverState)
     → IsIn limit without.receiver q
-    → OnOk outcome (IsDesk limit heard_it (hears limit s bytes (record (desk_at without q) { replies = [] }))))
+    → OnOk outcome (IsComputerState limit heard_it
+    (hears limit s bytes (record (computer_state_at without q) { replies = [] }))))
     → ((q : ReceiverState)
     → IsIn limit heard_it.receiver q
-    → IsDesk limit new (record (desk_at heard_it q) { receiver = with_room true q }))
+    → IsComputerState limit new (record (computer_state_at heard_it q) { receiver = with_room true q }))
     → IsOk outcome
-    → IsDesk limit new (room_at true (hears limit s bytes (room_at false (record (desk_at old r) { replies = [] }))))
+    → IsComputerState limit new
+    (room_at true (hears limit s bytes (room_at false (record (computer_state_at old r) { replies = [] }))))
 without_room (Ok x) limit s bytes old without heard_it new r closed comes opens is_ok =
     let came =
-    subst (λ (d : Desk). IsDesk limit heard_it (hears limit s bytes (record d { replies = [] }))) closed.desk_is
+    subst (λ (d : ComputerState). IsComputerState limit heard_it (hears limit s bytes (record d { replies = [] })))
+    closed.computer_state_is
     (comes (with_room false r) closed.receiver_is) in
-    subst (λ (d : Desk). IsDesk limit new (room_at true d)) came.desk_is (opens _ came.receiver_is)
+    subst (λ (d : ComputerState). IsComputerState limit new (room_at true d)) came.computer_state_is
+    (opens _ came.receiver_is)
 without_room (Err x) limit s bytes old without heard_it new r closed comes opens is_ok = absurd cc
 
 -- what follows of a value, where there is one
@@ -298,7 +312,7 @@ pub played :
     {E : Type 0} {after : E → World → World} (limit : ℕ) (kept : KeptWorld) (left : List E) (goal : World)
     → IsPlaying after limit kept left goal
     → left ≡ []
-    → kept.desk.sessions ≡ goal.sessions
+    → kept.computer_state.sessions ≡ goal.sessions
 played {after = after} limit kept left goal playing none =
     ap (λ (w : World). w.sessions)
     (ap (λ es. run_by after es (world_at kept playing.state)) (sym none) ∙ playing.goes_on)

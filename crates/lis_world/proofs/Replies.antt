@@ -1,4 +1,4 @@
--- A reply comes to the sender, in time; or another byte does, or none.
+-- A reply reaches the sender, in time; or another byte does, or none.
 use Rattle.std.proofs.Common.{◌≡◌, ℕ, ◌+◌, ◌≤◌, ◌⊎◌, inl, inr, true, false, List, [], ◌∷◌, ◌++◌, length, drop, refl}
 use Rattle.std.proofs.Common.{sym, ap, ◌∙◌, subst, arith}
 use Rattle.std.specs.Prelude.{nat_lt, ◌==◌, ◌||◌}
@@ -12,14 +12,15 @@ use Rattle.lis_link.specs.declared.sender.Phase.TheVariants.{Neutral, AwaitLine,
 use Rattle.lis_link.specs.declared.sender.Outcome.TheVariants.{Done, SixTries}
 use Rattle.lis_link.specs.declared.sender.EmitOf.TheVariants.{Nothing}
 use Rattle.lis_link.specs.declared.sender.EmitOf.TheVariants as Emits
-use Rattle.lis_link.specs.Sender.{SenderState, over, gives, ends, sends_first, sends_again, on_accepted, reply_in}
+use Rattle.lis_link.specs.Sender.{SenderState, finished_with, gives, ends, sends_first, sends_again, on_accepted}
+use Rattle.lis_link.specs.Sender.{reply_in}
 use Rattle.lis_link.specs.Sender.{on_reply, most_tries}
 use Rattle.lis_world.specs.Unit.{Travelling}
 use Rattle.lis_world.specs.Session.{session_at, changed, follows}
 use Rattle.lis_world.specs.World.{World}
 use Rattle.lis_world.specs.Steps.{with_sender, sender_steps, replied, reply_damaged, reply_lost}
-use Rattle.lis_world.proofs.Invariant.{BidTraffic, FrameTraffic}
-use Rattle.lis_world.proofs.Invariant.{Unsent, AllEndings, Bids, IsYes, FrameAnswer, IsBidding, IsWaiting}
+use Rattle.lis_world.proofs.Invariant.{RequestTraffic, FrameTraffic}
+use Rattle.lis_world.proofs.Invariant.{Unsent, AllEndings, Requests, IsYes, FrameAnswer, IsRequesting, IsWaiting}
 use Rattle.lis_world.proofs.Invariant.{IsAwaiting, KeepsFrames, InPhase, Holds, kept_frames}
 use Rattle.lis_world.proofs.Arrival.{accepted_of_unsent}
 use Rattle.lis_world.proofs.Base.{base_of, holds_of, CanFollow, base_replies, base_followed, current_followed}
@@ -65,9 +66,9 @@ can_follow_as limit w sender h count outcome kept =
           (can.done_acknowledged (sym outcome ∙ done));
     }
 
-live_none : (mute : ℕ) (us : List Travelling) → us ≡ [] → AllEndings (drop mute us)
-live_none mute us none =
-    subst AllEndings (sym (drop_all mute us (subst (λ xs. length xs ≤ mute) (sym none) (omega arith)))) tt
+live_none : (to_drop : ℕ) (us : List Travelling) → us ≡ [] → AllEndings (drop to_drop us)
+live_none to_drop us none =
+    subst AllEndings (sym (drop_all to_drop us (subst (λ xs. length xs ≤ to_drop) (sym none) (omega arith)))) tt
 
 -- ENQ was answered: by ACK
 line_given :
@@ -84,7 +85,7 @@ line_given :
     → Holds limit (sender_steps {limit = limit} (sends_first frames w.sender) (record w { replies = bs }))
 line_given limit w bs h unsent zero_is no_unit no_reply owner kept [] frames_are =
     let can = can_follow limit w h in
-    ended_with_ending limit (over Done w.sender) (record w { replies = bs })
+    ended_with_ending limit (finished_with Done w.sender) (record w { replies = bs })
     (base_replies limit bs w (base_of limit w h)) unsent.0
     (record {
       frames_are = tt;
@@ -93,7 +94,7 @@ line_given limit w bs h unsent zero_is no_unit no_reply owner kept [] frames_are
           let none : session_frames limit (session_at w.current w.sessions).texts ≡ [] = sym kept ∙ frames_are in
           subst (λ xs. length xs ≤ w.sender.acknowledged) (sym none) (omega arith);
     })
-    refl no_reply (live_none w.mute w.units no_unit)
+    refl no_reply (live_none w.to_drop w.units no_unit)
 line_given limit w bs h unsent zero_is no_unit no_reply owner kept (f ∷ left) frames_are =
     let sender : SenderState = record w.sender { phase = AwaitReply; tries = 1 } in
     frame_sent_holds limit sender (record w { replies = bs }) [] f left (base_replies limit bs w (base_of limit w h))
@@ -137,16 +138,16 @@ line_refused limit w bs p h unsent zero_is no_unit no_reply kept waits =
       no_unit = no_unit;
     }))
 
-bid_answered :
+request_answered :
     (limit : ℕ) (b : ℕ) (bs : List ℕ) (w : World)
     → Holds limit w
     → w.replies ≡ b ∷ bs
     → w.sender.frames ≡ session_frames limit (session_at w.current w.sessions).texts
-    → IsBidding w
+    → IsRequesting w
     → Replied limit AwaitLine b bs w
-bid_answered limit b bs w h are kept bidding = go bidding.traffic
+request_answered limit b bs w h are kept requesting = go requesting.traffic
   where
-    go : BidTraffic w → Replied limit AwaitLine b bs w
+    go : RequestTraffic w → Replied limit AwaitLine b bs w
     go (inl none) =
         let e : b ∷ bs ≡ [] = sym are ∙ none.0 in
         absurd (cc)
@@ -155,14 +156,14 @@ bid_answered limit b bs w h are kept bidding = go bidding.traffic
         let no_reply : bs ≡ [] = cc in
         cond_both (b == ACK) (sends_first w.sender.frames w.sender) _
         (λ step. Holds limit (sender_steps {limit = limit} step (record w { replies = bs })))
-        (λ ack. line_given limit w bs h bidding.unsent bidding.none_acknowledged one.0 no_reply one.1.2 kept
+        (λ ack. line_given limit w bs h requesting.unsent requesting.none_acknowledged one.0 no_reply one.1.2 kept
         w.sender.frames refl)
         (λ other. cond_both (b == ENQ) (gives Nothing (record w.sender { phase = Contention }))
         (gives Nothing (record w.sender { phase = Busy }))
         (λ step. Holds limit (sender_steps {limit = limit} step (record w { replies = bs })))
-        (λ enq. line_refused limit w bs Contention h bidding.unsent bidding.none_acknowledged one.0 no_reply kept
+        (λ enq. line_refused limit w bs Contention h requesting.unsent requesting.none_acknowledged one.0 no_reply kept
         (λ v waiting. waiting))
-        (λ nak. line_refused limit w bs Busy h bidding.unsent bidding.none_acknowledged one.0 no_reply kept
+        (λ nak. line_refused limit w bs Busy h requesting.unsent requesting.none_acknowledged one.0 no_reply kept
         (λ v waiting. waiting)))
 
 -- a frame was acknowledged
@@ -186,7 +187,7 @@ next_sent limit w bs h awaiting kept no_unit no_reply accepted [] none =
     let frames : session_frames limit (session_at w.current w.sessions).texts ≡ before ++ f ∷ [] =
     sym kept ∙ awaiting.frames_are ∙ ap (λ xs. before ++ f ∷ xs) none in
     let more = length_push before f in
-    ended_with_ending limit (over Done (record w.sender { acknowledged = w.sender.acknowledged + 1 }))
+    ended_with_ending limit (finished_with Done (record w.sender { acknowledged = w.sender.acknowledged + 1 }))
     (record w { replies = bs })
     (base_replies limit bs w (base_of limit w h)) awaiting.pending.is_session
     (record {
@@ -196,7 +197,7 @@ next_sent limit w bs h awaiting kept no_unit no_reply accepted [] none =
       done_acknowledged = λ done.
           subst (λ xs. length xs ≤ w.sender.acknowledged + 1) (sym frames) (omega arith);
     })
-    refl no_reply (live_none w.mute w.units no_unit)
+    refl no_reply (live_none w.to_drop w.units no_unit)
 next_sent limit w bs h awaiting kept no_unit no_reply accepted (g ∷ left) some =
     let can = can_follow limit w h in
     let before = awaiting.before in
@@ -245,7 +246,7 @@ same_sent :
 same_sent limit w bs h awaiting awaits no_unit no_reply =
     let can = can_follow limit w h in
     let again : SenderState = record w.sender { tries = w.sender.tries + 1 } in
-    let given_up : SenderState = over SixTries w.sender in
+    let given_up : SenderState = finished_with SixTries w.sender in
     cond_both (nat_lt w.sender.tries most_tries) (gives {limit = limit} (Emits.Frame awaiting.frame) again)
     (ends {limit = limit} SixTries w.sender)
     (λ step. Holds limit (sender_steps {limit = limit} step (record w { replies = bs })))
@@ -270,7 +271,7 @@ same_sent limit w bs h awaiting awaits no_unit no_reply =
       acknowledged_of_accepted = can.acknowledged_of_accepted;
       done_acknowledged = λ done. cc;
     })
-    refl no_reply (live_none w.mute w.units no_unit))
+    refl no_reply (live_none w.to_drop w.units no_unit))
 
 frame_answered :
     (limit : ℕ) (b : ℕ) (bs : List ℕ) (w : World)
@@ -355,8 +356,8 @@ reply_phase :
 reply_phase limit b bs w Neutral h are is resting =
     let e : b ∷ bs ≡ [] = sym are ∙ resting.no_reply in
     absurd (cc)
-reply_phase limit b bs w AwaitLine h are is bidding =
-    bid_answered limit b bs w h are (kept_frames limit w AwaitLine h is) bidding
+reply_phase limit b bs w AwaitLine h are is requesting =
+    request_answered limit b bs w h are (kept_frames limit w AwaitLine h is) requesting
 reply_phase limit b bs w Busy h are is waiting =
     let e : b ∷ bs ≡ [] = sym are ∙ waiting.no_reply in
     absurd (cc)
@@ -396,10 +397,15 @@ changed_reply :
 changed_reply limit b d bs w Neutral are refused resting =
     let e : b ∷ bs ≡ [] = sym are ∙ resting.no_reply in
     absurd (cc)
-changed_reply limit b d bs w AwaitLine are refused bidding =
-    record { unsent = bidding.unsent; none_acknowledged = bidding.none_acknowledged; traffic = go bidding.traffic }
+changed_reply limit b d bs w AwaitLine are refused requesting =
+    record {
+      unsent = requesting.unsent;
+      none_acknowledged = requesting.none_acknowledged;
+      traffic = go
+          requesting.traffic;
+    }
   where
-    go : BidTraffic w → BidTraffic (record w { replies = d ∷ bs })
+    go : RequestTraffic w → RequestTraffic (record w { replies = d ∷ bs })
     go (inl none) =
         let e : b ∷ bs ≡ [] = sym are ∙ none.0 in
         absurd (cc)
@@ -461,14 +467,14 @@ without_reply :
 without_reply limit b bs w Neutral are resting =
     let e : b ∷ bs ≡ [] = sym are ∙ resting.no_reply in
     absurd (cc)
-without_reply limit b bs w AwaitLine are bidding =
+without_reply limit b bs w AwaitLine are requesting =
     record {
-      unsent = bidding.unsent;
-      none_acknowledged = bidding.none_acknowledged;
-      traffic = inl (go bidding.traffic);
+      unsent = requesting.unsent;
+      none_acknowledged = requesting.none_acknowledged;
+      traffic = inl (go requesting.traffic);
     }
   where
-    go : BidTraffic w → (bs ≡ []) × Bids w.current (drop w.mute w.units)
+    go : RequestTraffic w → (bs ≡ []) × Requests w.current (drop w.to_drop w.units)
     go (inl none) =
         let e : b ∷ bs ≡ [] = sym are ∙ none.0 in
         absurd (cc)
@@ -476,8 +482,8 @@ without_reply limit b bs w AwaitLine are bidding =
         let e : b ∷ bs ≡ one.1.0 ∷ [] = sym are ∙ one.1.1 in
         let last : bs ≡ [] = cc in (
           last,
-          subst (Bids w.current) (sym (drop_all w.mute w.units
-              (subst (λ xs. length xs ≤ w.mute) (sym one.0) (omega arith)))) tt,
+          subst (Requests w.current) (sym (drop_all w.to_drop w.units
+              (subst (λ xs. length xs ≤ w.to_drop) (sym one.0) (omega arith)))) tt,
         )
 without_reply limit b bs w Busy are waiting =
     let e : b ∷ bs ≡ [] = sym are ∙ waiting.no_reply in

@@ -16,19 +16,20 @@ use Rattle.lis_world.specs.declared.event.Event.{Event}
 use Rattle.lis_world.specs.declared.event.Event.TheVariants.{Start, Deliver, DeliverNoRoom, Damage, Lose, Reply}
 use Rattle.lis_world.specs.declared.event.Event.TheVariants.{DamageReply, LoseReply, SenderTimer, ReceiverTimer}
 use Rattle.lis_world.specs.declared.event.Event.TheVariants.{RestartSender, RestartReceiver, Ready, Busy, Contending}
-use Rattle.lis_world.proofs.Heard.{heard_leaves, noted_after}
+use Rattle.lis_world.proofs.Heard.{heard_leaves, after_note_after}
 use Rattle.lis_world.specs.Unit.{Travelling, load_bytes}
-use Rattle.lis_world.specs.World.{World, Desk, desk_of, booked, hears, settled}
+use Rattle.lis_world.specs.World.{World, ComputerState, computer_state_of, booked, hears, settled}
 use Rattle.lis_world.specs.Steps.{emitted, with_sender, sender_steps, begins, delivered, delivered_no_room, is_noticed}
 use Rattle.lis_world.specs.Steps.{damaged, lost, replied, reply_damaged, reply_lost, given_up, after_event, runs}
 
 -- hearing bytes leaves the room as it is
-room-hears : (limit s : ℕ) (bytes : List ℕ) (d : Desk) → (hears limit s bytes d).receiver.room ≡ d.receiver.room
+room-hears : (limit s : ℕ) (bytes : List ℕ) (d : ComputerState) → (hears limit s bytes d).receiver.room
+    ≡ d.receiver.room
 room-hears limit s [] d = refl
 room-hears limit s (b ∷ bytes) d =
     let step : ReceiverStep = on_byte limit b d.receiver in
     room-hears limit s bytes (booked s step d)
-    ∙ ap (λ (r : ReceiverState). r.room) (noted_after s step d step.note)
+    ∙ ap (λ (r : ReceiverState). r.room) (after_note_after s step d step.note)
     ∙ (heard_leaves (signal_after limit d.receiver.past b) (record d.receiver { past = b ∷ d.receiver.past })).1
 
 room-timer : (is_open : Bool) (r : ReceiverState) → (timer_by is_open r).after.room ≡ r.room
@@ -41,7 +42,7 @@ HasRoom w = w.receiver.room ≡ true
 
 room-delivered : (limit : ℕ) (units : List Travelling) (w : World) → HasRoom w → HasRoom (delivered limit units w)
 room-delivered limit [] w has = has
-room-delivered limit (u ∷ us) w has = room-hears limit u.session (load_bytes u.load) (desk_of w) ∙ has
+room-delivered limit (u ∷ us) w has = room-hears limit u.session (load_bytes u.load) (computer_state_of w) ∙ has
 
 room-delivered_no_room :
     (limit : ℕ) (units : List Travelling) (w : World) → HasRoom w → HasRoom (delivered_no_room limit units w)
@@ -54,8 +55,8 @@ room-damaged :
 room-damaged limit bytes [] w has = has
 room-damaged limit bytes (u ∷ us) w has =
     cond_both (is_noticed u.load (signals_after limit w.receiver.past bytes))
-    (settled us (hears limit u.session bytes (desk_of w)) w) w HasRoom
-    (λ noticed. room-hears limit u.session bytes (desk_of w) ∙ has) (λ ignored. has)
+    (settled us (hears limit u.session bytes (computer_state_of w)) w) w HasRoom
+    (λ noticed. room-hears limit u.session bytes (computer_state_of w) ∙ has) (λ ignored. has)
 
 room-lost : (units : List Travelling) (w : World) → HasRoom w → HasRoom (lost units w)
 room-lost [] w has = has

@@ -18,28 +18,29 @@ use Rattle.lis_link.specs.declared.receiver.Note.{Note}
 use Rattle.lis_link.specs.declared.receiver.Note.TheVariants.{Accepted, Duplicate, NoRoom}
 use Rattle.lis_text.specs.LinkText.{longest_text}
 use Rattle.lis_link.specs.Joining.{rest}
-use Rattle.lis_link.specs.Sender.{SenderState, over, gives, ends, sends_first, sends_again, on_accepted, reply_in}
+use Rattle.lis_link.specs.Sender.{SenderState, finished_with, gives, ends, sends_first, sends_again, on_accepted}
+use Rattle.lis_link.specs.Sender.{reply_in}
 use Rattle.lis_link.specs.Sender.{on_reply, most_tries}
-use Rattle.lis_link.specs.Receiver.{judged, on_judged, heard_by, held_text, most_frames}
+use Rattle.lis_link.specs.Receiver.{classified, on_classified, heard_by, held_text, most_frames}
 use Rattle.lis_world.specs.declared.event.Event.TheVariants.{Deliver, DeliverNoRoom, Damage, Reply, DamageReply}
 use Rattle.lis_frame.specs.Frame.{frame_bytes}
 use Rattle.lis_world.specs.Unit.{Load, ending, one_frame, Travelling}
 use Rattle.lis_world.specs.Session.{Session, session_at, changed, follows, sends_frame, takes}
-use Rattle.lis_world.specs.World.{World, Desk, desk_of, booked, hears, settled}
+use Rattle.lis_world.specs.World.{World, ComputerState, computer_state_of, booked, hears, settled}
 use Rattle.lis_world.specs.Steps.{sender_steps, delivered, delivered_no_room, damaged, is_noticed, room_at, replied}
 use Rattle.lis_world.specs.Steps.{reply_damaged, after_event, runs}
-use Rattle.lis_world.specs.Progress.{Round, undisturbed, without_room, bad_frame, bad_reply, round_events, IsBadStretch}
+use Rattle.lis_world.specs.Progress.{Round, undisturbed, without_room, bad_frame, bad_reply, round_events, IsBadBody}
 use Rattle.lis_world.specs.Progress.{IsNoticed}
 use Rattle.lis_world.proofs.SessionLemmas.{length-changed, kept-changed}
 use Rattle.lis_world.proofs.Invariant.{IsYes, FrameAnswer, IsAwaiting, InPhase, Holds, kept_frames}
 use Rattle.lis_world.proofs.Leaving.{heard_replies}
 use Rattle.lis_world.proofs.Hearing.{at_past, hears_signal, hears_signals, hears-heard}
-use Rattle.lis_world.proofs.Arrival.{judged_new, judged_again}
+use Rattle.lis_world.proofs.Arrival.{classified_new, classified_again}
 use Rattle.lis_world.proofs.Delivery.{next_frame}
 use Rattle.lis_frame.proofs.StreamLaws.{signals-frame_bytes}
-use Rattle.lis_world.proofs.BadHeard.{signals-bad_stretch}
+use Rattle.lis_world.proofs.BadHeard.{signals-bad_body}
 use Rattle.lis_world.proofs.Fitting.{fits-session_frames}
-use Rattle.lis_world.proofs.Sending.{zero_mute}
+use Rattle.lis_world.proofs.Sending.{zero_to_drop}
 use Rattle.lis_world.proofs.Safety.{event_holds}
 
 -- what stays the same through a session
@@ -82,7 +83,7 @@ pub record IsFinished (limit c : ℕ) (frames : List FrameContent) (w : World) :
   pub tracked : IsTracked limit c frames w
   pub neutral : w.sender.phase ≡ Neutral
   pub outcome_is : w.sender.outcome ≡ Some Done
-  pub unmuted : w.mute ≡ 0
+  pub unmuted : w.to_drop ≡ 0
   pub no_reply : w.replies ≡ []
   pub traffic : EndTraffic w
 
@@ -117,7 +118,7 @@ pub sent_on :
     (limit c : ℕ) (frames : List FrameContent) (k : ℕ) (sender : SenderState) (w w2 : World)
     → w.current ≡ c
     → length w.sessions ≡ suc c
-    → w.mute ≤ length w.units
+    → w.to_drop ≤ length w.units
     → Holds limit w2
     → w.units ≡ []
     → w.replies ≡ []
@@ -128,22 +129,23 @@ pub sent_on :
     → (left : List FrameContent)
     → w2 ≡ sender_steps {limit = limit} (sends_first left sender) w
     → GoesOn limit c frames k w2
-sent_on limit c frames k sender w w2 current_is length_is mute_within holds no_unit no_reply is_open room frames_are
+sent_on limit c frames k sender w w2 current_is length_is to_drop_within holds no_unit no_reply is_open room frames_are
     remaining [] e =
     inl (subst (IsFinished limit c frames) (sym e) (record {
       tracked = record {
         holds = subst (Holds limit) e holds;
         current_is = current_is;
-        length_is = length-followed w.current (over Done sender) w.sessions (suc c) length_is;
-        frames_are = texts-changed limit w.current (follows (over Done sender)) w.sessions (λ x. refl) ∙ frames_are;
+        length_is = length-followed w.current (finished_with Done sender) w.sessions (suc c) length_is;
+        frames_are = texts-changed limit w.current (follows (finished_with Done sender)) w.sessions (λ x. refl)
+            ∙ frames_are;
       };
       neutral = refl;
       outcome_is = refl;
-      unmuted = zero_mute w.mute w.units mute_within no_unit;
+      unmuted = zero_to_drop w.to_drop w.units to_drop_within no_unit;
       no_reply = no_reply;
       traffic = inl (w.current, ap (λ us. us ++ record { session = w.current; load = ending } ∷ []) no_unit);
     }))
-sent_on limit c frames k sender w w2 current_is length_is mute_within holds no_unit no_reply is_open room frames_are
+sent_on limit c frames k sender w w2 current_is length_is to_drop_within holds no_unit no_reply is_open room frames_are
     remaining (f ∷ left) e =
     let next : SenderState = record sender { phase = AwaitReply; tries = 1 } in
     inr (subst (IsSent limit c frames k 1) (sym e) (record {
@@ -188,7 +190,7 @@ after_yes limit c frames k t w is_limit answered =
     ∙ length-append awaiting.before (awaiting.frame ∷ awaiting.left)
     ∙ ap (λ n. n + suc (length awaiting.left)) (sym awaiting.acknowledged_is) in
     sent_on limit c frames (k - 1) sender w1 (after_event limit Reply w)
-    answered.tracked.current_is answered.tracked.length_is h.mute_within
+    answered.tracked.current_is answered.tracked.length_is h.to_drop_within
     (event_holds limit Reply w is_limit h)
     answered.no_unit refl answered.is_open answered.room answered.tracked.frames_are (omega arith)
     (drop (w.sender.acknowledged + 1) w.sender.frames) e
@@ -245,14 +247,14 @@ after_no limit c frames k t b r w w2 answered refused few holds e =
     })
 
 -- what the computer's side answers to a unit
-record IsReplied (room : Bool) (n b : ℕ) (d : Desk) : Type 0 where
+record IsReplied (room : Bool) (n b : ℕ) (d : ComputerState) : Type 0 where
   reply_is : d.replies ≡ b ∷ []
   is_open : d.receiver.is_open ≡ true
   room_is : d.receiver.room ≡ room
   length_is : length d.sessions ≡ n
 
 pub by_signals :
-    (P : Desk → Type 0) (limit s : ℕ) (bytes : List ℕ) (d : Desk) (signals : List (SignalOf limit))
+    (P : ComputerState → Type 0) (limit s : ℕ) (bytes : List ℕ) (d : ComputerState) (signals : List (SignalOf limit))
     → signals_after limit d.receiver.past bytes ≡ signals
     → P (at_past (stream_with d.receiver.past bytes) (hears_signals s signals d))
     → P (hears limit s bytes d)
@@ -261,33 +263,34 @@ by_signals P limit s bytes d signals are h =
     (subst (λ xs. P (at_past (stream_with d.receiver.past bytes) (hears_signals {limit = limit} s xs d))) (sym are) h)
 
 -- a frame that is due, or came before, to a receiver whose line is open
-record IsDue (limit s : ℕ) (room : Bool) (before : List FrameContent) (f : FrameContent) (d : Desk) : Type 0 where
-  no_reply : d.replies ≡ []
-  is_open : d.receiver.is_open ≡ true
-  room_is : d.receiver.room ≡ room
-  number_is : f.number ≡ (length before + 1) % 8
-  accepted_is : (d.receiver.accepted ≡ before) ⊎ (d.receiver.accepted ≡ before ++ f ∷ [])
-  countable : length before < most_frames
-  fits : length (rest [] before) + length f.text ≤ longest_text
+record IsDue (limit s : ℕ) (room : Bool) (before : List FrameContent) (f : FrameContent) (d : ComputerState) : Type 0
+  where
+    no_reply : d.replies ≡ []
+    is_open : d.receiver.is_open ≡ true
+    room_is : d.receiver.room ≡ room
+    number_is : f.number ≡ (length before + 1) % 8
+    accepted_is : (d.receiver.accepted ≡ before) ⊎ (d.receiver.accepted ≡ before ++ f ∷ [])
+    countable : length before < most_frames
+    fits : length (rest [] before) + length f.text ≤ longest_text
 
 replied_after :
-    (limit s : ℕ) (room : Bool) (before : List FrameContent) (f : FrameContent) (d : Desk) (past : List ℕ)
+    (limit s : ℕ) (room : Bool) (before : List FrameContent) (f : FrameContent) (d : ComputerState) (past : List ℕ)
     (note : Note) (b : ℕ)
     → IsDue limit s room before f d
-    → judged d.receiver f ≡ note
-    → IsReplied room (length d.sessions) b (at_past past (booked s (on_judged d.receiver f note) d))
+    → classified d.receiver f ≡ note
+    → IsReplied room (length d.sessions) b (at_past past (booked s (on_classified d.receiver f note) d))
     → IsReplied room (length d.sessions) b (at_past past (hears_signal {limit = limit} s (Good f) d))
 replied_after limit s room before f d past note b due found h =
     subst (λ o. IsReplied room (length d.sessions) b
     (at_past past (booked s (heard_by {limit = limit} o (Good f) d.receiver) d))) (sym due.is_open)
-    (subst (λ n. IsReplied room (length d.sessions) b (at_past past (booked s (on_judged d.receiver f n) d)))
+    (subst (λ n. IsReplied room (length d.sessions) b (at_past past (booked s (on_classified d.receiver f n) d)))
     (sym found) h)
 
 one_more_reply : (b : ℕ) (replies : List ℕ) → replies ≡ [] → replies ++ b ∷ [] ≡ b ∷ []
 one_more_reply b replies none = ap (λ xs. xs ++ b ∷ []) none
 
 replied_with_room :
-    (limit s : ℕ) (before : List FrameContent) (f : FrameContent) (d : Desk) (past : List ℕ)
+    (limit s : ℕ) (before : List FrameContent) (f : FrameContent) (d : ComputerState) (past : List ℕ)
     → IsDue limit s true before f d
     → IsReplied true (length d.sessions) ACK (at_past past (hears_signal {limit = limit} s (Good f) d))
 replied_with_room limit s before f d past due = go due.accepted_is
@@ -304,29 +307,29 @@ replied_with_room limit s before f d past due = go due.accepted_is
         ne_eqb (length d.receiver.accepted) most_frames (λ e. omega arith) in
         let short : nat_lt longest_text (length (held_text d.receiver) + length f.text) ≡ false =
         le-ltb longest_text (length (held_text d.receiver) + length f.text) (omega arith) in
-        let found : judged d.receiver f ≡ Accepted f.number =
-        judged_new d.receiver f before due.number_is accepted ∙ rw (due.room_is, counted, short) refl in
+        let found : classified d.receiver f ≡ Accepted f.number =
+        classified_new d.receiver f before due.number_is accepted ∙ rw (due.room_is, counted, short) refl in
         replied_after limit s true before f d past (Accepted f.number) ACK due found (record {
           reply_is = one_more_reply ACK d.replies due.no_reply;
           is_open = due.is_open;
           room_is = due.room_is;
-          length_is = length-changed d.opened (takes (on_judged d.receiver f (Accepted f.number))) d.sessions;
+          length_is = length-changed d.opened (takes (on_classified d.receiver f (Accepted f.number))) d.sessions;
         })
     go (inr accepted) =
         replied_after limit s true before f d past (Duplicate f.number) ACK due
-        (judged_again d.receiver f before due.number_is accepted) (record {
+        (classified_again d.receiver f before due.number_is accepted) (record {
           reply_is = one_more_reply ACK d.replies due.no_reply;
           is_open = due.is_open;
           room_is = due.room_is;
           length_is = refl;
         })
 
--- without room it is refused, or acknowledged again
+-- without room it is rejected, or acknowledged again
 abbrev IsAckOrNak : ℕ → Type 0
 IsAckOrNak b = (b ≡ ACK) ⊎ (b ≡ NAK)
 
 replied_without_room :
-    (limit s : ℕ) (before : List FrameContent) (f : FrameContent) (d : Desk) (past : List ℕ)
+    (limit s : ℕ) (before : List FrameContent) (f : FrameContent) (d : ComputerState) (past : List ℕ)
     → IsDue limit s false before f d
     → (b : ℕ) × IsAckOrNak b × IsReplied false (length d.sessions) b
     (at_past past (hears_signal {limit = limit} s (Good f) d))
@@ -337,8 +340,8 @@ replied_without_room limit s before f d past due = go due.accepted_is
         → (b : ℕ) × IsAckOrNak b × IsReplied false (length d.sessions) b
         (at_past past (hears_signal {limit = limit} s (Good f) d))
     go (inl accepted) =
-        let found : judged d.receiver f ≡ NoRoom =
-        judged_new d.receiver f before due.number_is accepted ∙ rw due.room_is refl in (
+        let found : classified d.receiver f ≡ NoRoom =
+        classified_new d.receiver f before due.number_is accepted ∙ rw due.room_is refl in (
           NAK,
           inr refl,
           replied_after limit s false before f d past NoRoom NAK due found (record {
@@ -352,7 +355,7 @@ replied_without_room limit s before f d past due = go due.accepted_is
       ACK,
       inl refl,
       replied_after limit s false before f d past (Duplicate f.number) ACK due
-          (judged_again d.receiver f before due.number_is accepted) (record {
+          (classified_again d.receiver f before due.number_is accepted) (record {
             reply_is = one_more_reply ACK d.replies due.no_reply;
             is_open = due.is_open;
             room_is = due.room_is;
@@ -433,7 +436,7 @@ due_in limit c frames k t w is_limit few sent =
 
 -- the unit has left, and its reply is on the link
 answered_after :
-    (limit c : ℕ) (frames : List FrameContent) (k t b : ℕ) (w w2 : World) (d : Desk)
+    (limit c : ℕ) (frames : List FrameContent) (k t b : ℕ) (w w2 : World) (d : ComputerState)
     → IsSent limit c frames k t w
     → Holds limit w2
     → IsReplied true (length w.sessions) b d
@@ -454,7 +457,7 @@ answered_after limit c frames k t b w w2 d sent holds is_replied e =
       awaits = sent.awaits;
       tries_is = sent.tries_is;
       no_unit = refl;
-      reply_is = heard_replies w.mute d.replies w.replies awaiting.unmuted sent.no_reply ∙ is_replied.reply_is;
+      reply_is = heard_replies w.to_drop d.replies w.replies awaiting.unmuted sent.no_reply ∙ is_replied.reply_is;
       is_open = is_replied.is_open;
       room = is_replied.room_is;
       remaining = sent.remaining;
@@ -469,8 +472,8 @@ delivered_answered :
 delivered_answered limit c frames k t w is_limit few sent =
     let f = sent.frame in
     let due = due_in limit c frames k t w is_limit few sent in
-    let d : Desk = desk_of w in
-    let after : Desk = hears limit w.current (frame_bytes f) d in
+    let d : ComputerState = computer_state_of w in
+    let after : ComputerState = hears limit w.current (frame_bytes f) d in
     let is_due : IsDue limit w.current true due.before f d = record {
       no_reply = refl;
       is_open = sent.is_open;
@@ -497,8 +500,8 @@ delivered_no_room_answered :
 delivered_no_room_answered limit c frames k t w is_limit few sent =
     let f = sent.frame in
     let due = due_in limit c frames k t w is_limit few sent in
-    let d : Desk = room_at false (desk_of w) in
-    let after : Desk = hears limit w.current (frame_bytes f) d in
+    let d : ComputerState = room_at false (computer_state_of w) in
+    let after : ComputerState = hears limit w.current (frame_bytes f) d in
     let is_due : IsDue limit w.current false due.before f d = record {
       no_reply = refl;
       is_open = sent.is_open;
@@ -522,17 +525,17 @@ delivered_no_room_answered limit c frames k t w is_limit few sent =
     )
 
 damaged_answered :
-    (limit c : ℕ) (frames : List FrameContent) (k t : ℕ) (stretch : List ℕ) (w : World)
+    (limit c : ℕ) (frames : List FrameContent) (k t : ℕ) (body : List ℕ) (w : World)
     → IsLimit limit
-    → IsBadStretch limit stretch
+    → IsBadBody limit body
     → IsSent limit c frames k t w
-    → IsAnswered limit c frames k t NAK (after_event limit (Damage (STX ∷ (stretch ++ LF ∷ []))) w)
-damaged_answered limit c frames k t stretch w is_limit bad sent =
-    let bytes : List ℕ = STX ∷ (stretch ++ LF ∷ []) in
-    let d : Desk = desk_of w in
-    let after : Desk = hears limit w.current bytes d in
+    → IsAnswered limit c frames k t NAK (after_event limit (Damage (STX ∷ (body ++ LF ∷ []))) w)
+damaged_answered limit c frames k t body w is_limit bad sent =
+    let bytes : List ℕ = STX ∷ (body ++ LF ∷ []) in
+    let d : ComputerState = computer_state_of w in
+    let after : ComputerState = hears limit w.current bytes d in
     let signals_are : signals_after limit w.receiver.past bytes ≡ Bad bad.fault ∷ [] =
-    signals-bad_stretch limit w.receiver.past stretch bad.fault bad.no_mark bad.is_bad in
+    signals-bad_body limit w.receiver.past body bad.fault bad.no_mark bad.is_bad in
     let past : List ℕ = stream_with w.receiver.past bytes in
     let heard : IsReplied true (length w.sessions) NAK after =
     by_signals (IsReplied true (length w.sessions) NAK) limit w.current bytes d (Bad bad.fault ∷ []) signals_are
@@ -599,10 +602,10 @@ disturbed_round limit c frames k t undisturbed w is_limit few tries noticed sent
 disturbed_round limit c frames k t without_room w is_limit few tries noticed sent =
     let found = delivered_no_room_answered limit c frames k t w is_limit few sent in
     answered_round limit c frames k t found.0 (after_event limit DeliverNoRoom w) is_limit tries found.1 found.2
-disturbed_round limit c frames k t (bad_frame stretch) w is_limit few tries noticed sent =
-    answered_round limit c frames k t NAK (after_event limit (Damage (STX ∷ (stretch ++ LF ∷ []))) w) is_limit tries
+disturbed_round limit c frames k t (bad_frame body) w is_limit few tries noticed sent =
+    answered_round limit c frames k t NAK (after_event limit (Damage (STX ∷ (body ++ LF ∷ []))) w) is_limit tries
     (inr refl)
-    (damaged_answered limit c frames k t stretch w is_limit noticed sent)
+    (damaged_answered limit c frames k t body w is_limit noticed sent)
 disturbed_round limit c frames k t (bad_reply r) w is_limit few tries noticed sent =
     let w1 : World = after_event limit Deliver w in
     let answered = delivered_answered limit c frames k t w is_limit few sent in

@@ -17,7 +17,7 @@ use Rattle.lis_world.specs.declared.event.Event.TheVariants.{RestartSender, Rest
 use Rattle.lis_world.specs.Session.{Session, new_session, session_at}
 use Rattle.lis_world.specs.World.{World, new_world}
 use Rattle.lis_world.specs.Steps.{after_event, runs, world}
-use Rattle.lis_world.specs.Safe.{IsPrefix, IsSafe, HandsOutAll, Safe, AlwaysSafe}
+use Rattle.lis_world.specs.Safe.{IsPrefix, IsSafe, DeliversAll, Safe, AlwaysSafe}
 use Rattle.lis_world.proofs.Invariant.{IsSound, Holds}
 use Rattle.lis_world.proofs.Delivery.{delivered_holds, delivered_no_room_holds, damaged_holds, lost_holds}
 use Rattle.lis_world.proofs.Replies.{replied_holds, reply_damaged_holds, reply_lost_holds}
@@ -56,7 +56,7 @@ pub new_holds : (limit : ℕ) → Holds limit new_world
 unfolding session_frames
 new_holds limit = record {
   sound = λ k. sound_new limit [] (All-nil (IsText longest_text));
-  mute_within = omega arith;
+  to_drop_within = omega arith;
   line = λ e. absurd (cc);
   front = tt;
   current = record { frames_are = tt; acknowledged_is = refl; outcome_is = refl };
@@ -92,28 +92,28 @@ safe_from_sound limit x h = record {
   accepted_of_sent = h.accepted_of_sent;
   sent_of_frames = h.sent_of_frames;
   acknowledged_of_accepted = h.acknowledged_of_accepted;
-  handed_whole = h.handed_whole;
-  handed_in_order =
-      subst (λ t. IsPrefix t x.texts) (sym h.handed_whole)
+  delivered_whole = h.delivered_whole;
+  delivered_in_order =
+      subst (λ t. IsPrefix t x.texts) (sym h.delivered_whole)
       (groups_prefix limit x.texts x.accepted
       (prefix_trans x.accepted x.sent (session_frames limit x.texts) h.accepted_of_sent h.sent_of_frames));
 }
 
-pub hands_out_all_from_sound : (limit : ℕ) (x : Session) → IsSound limit x → HandsOutAll x
-hands_out_all_from_sound limit x h done =
+pub delivers_all_from_sound : (limit : ℕ) (x : Session) → IsSound limit x → DeliversAll x
+delivers_all_from_sound limit x h done =
     let first = prefix_trans x.accepted x.sent (session_frames limit x.texts) h.accepted_of_sent h.sent_of_frames in
     let acknowledged = h.done_acknowledged done in
     let enough = h.acknowledged_of_accepted in
     let whole : x.accepted ≡ session_frames limit x.texts =
     whole_prefix x.accepted (session_frames limit x.texts) first (omega arith) in
-    h.handed_whole ∙ ap (groups []) whole ∙ groups-session_frames limit x.texts
+    h.delivered_whole ∙ ap (groups []) whole ∙ groups-session_frames limit x.texts
 
 pub safe_from_holds : (limit : ℕ) (w : World) → Holds limit w → Safe limit w
 safe_from_holds limit w h = (
   All-from_get_or (IsSafe limit) w.sessions (new_session [])
       (λ k within. safe_from_sound limit (session_at k w.sessions) (h.sound k)),
-  All-from_get_or HandsOutAll w.sessions (new_session [])
-      (λ k within. hands_out_all_from_sound limit (session_at k w.sessions) (h.sound k)),
+  All-from_get_or DeliversAll w.sessions (new_session [])
+      (λ k within. delivers_all_from_sound limit (session_at k w.sessions) (h.sound k)),
 )
 
 pub always_safe : (limit : ℕ) → IsLimit limit → AlwaysSafe limit

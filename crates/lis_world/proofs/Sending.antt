@@ -27,15 +27,15 @@ pub endings_more : (us : List Travelling) (u : Travelling) → AllEndings us →
 endings_more [] u h e = (e, tt)
 endings_more (v ∷ us) u h e = (h.0, endings_more us u h.1 e)
 
-pub zero_mute : (mute : ℕ) (us : List Travelling) → mute ≤ length us → us ≡ [] → mute ≡ 0
-zero_mute mute us within none =
+pub zero_to_drop : (to_drop : ℕ) (us : List Travelling) → to_drop ≤ length us → us ≡ [] → to_drop ≡ 0
+zero_to_drop to_drop us within none =
     let empty : length us ≡ 0 = ap length none in
     omega arith
 
--- a session that is over, its replies heard and nothing but ends of sessions on their way
+-- a session that is finished, its replies heard and nothing but ends of sessions on their way
 module _ (limit : ℕ) (sender : SenderState) (w : World) (base : Base limit w) (within : w.current < length w.sessions)
     (can : CanFollow limit sender (session_at w.current w.sessions)) (neutral : sender.phase ≡ Neutral)
-    (none : w.replies ≡ []) (endings : AllEndings (drop w.mute w.units)) where
+    (none : w.replies ≡ []) (endings : AllEndings (drop w.to_drop w.units)) where
   pub ended_holds : Holds limit (with_sender sender w)
   ended_holds =
       holds_of limit (with_sender sender w) (base_followed limit sender w can base)
@@ -47,9 +47,9 @@ module _ (limit : ℕ) (sender : SenderState) (w : World) (base : Base limit w) 
   pub ended_with_ending : Holds limit (put_on_link ending (with_sender sender w))
   ended_with_ending =
       let last : Travelling = record { session = w.current; load = ending } in
-      let live : AllEndings (drop w.mute (w.units ++ last ∷ [])) =
-      subst AllEndings (sym (drop-append-le w.mute w.units (last ∷ []) base.mute_within))
-      (endings_more (drop w.mute w.units) last endings refl) in
+      let live : AllEndings (drop w.to_drop (w.units ++ last ∷ [])) =
+      subst AllEndings (sym (drop-append-le w.to_drop w.units (last ∷ []) base.to_drop_within))
+      (endings_more (drop w.to_drop w.units) last endings refl) in
       holds_of limit (put_on_link ending (with_sender sender w))
       (base_placed limit ending (with_sender sender w) tt (base_followed limit sender w can base))
       (current_followed limit sender w within can)
@@ -117,7 +117,7 @@ sound_sent limit f before left x h frames sent accepted = record {
         ∷ []) left ∙ sym frames;
   };
   acknowledged_of_accepted = h.acknowledged_of_accepted;
-  handed_whole = h.handed_whole;
+  delivered_whole = h.delivered_whole;
   done_acknowledged = h.done_acknowledged;
 }
 
@@ -159,11 +159,11 @@ frame_sent_holds limit sender w before f left base can_send =
     let alone : w.units ++ record { session = c; load = one_frame f } ∷ []
     ≡ record { session = c; load = one_frame f } ∷ [] =
     ap (λ us. us ++ record { session = c; load = one_frame f } ∷ []) can_send.no_unit in
-    let unmuted : w.mute ≡ 0 = zero_mute w.mute w.units base.mute_within can_send.no_unit in
+    let unmuted : w.to_drop ≡ 0 = zero_to_drop w.to_drop w.units base.to_drop_within can_send.no_unit in
     record {
       sound = at-changed (λ k z. IsSound limit z) c (sends_frame f) ss1
           (subst (λ z. IsSound limit (sends_frame f z)) (sym at1) sound2) base1.sound;
-      mute_within = subst (λ m. m ≤ length (w.units ++ record { session = c; load = one_frame f } ∷ []))
+      to_drop_within = subst (λ m. m ≤ length (w.units ++ record { session = c; load = one_frame f } ∷ []))
           (sym unmuted) (omega arith);
       line = λ e.
           let owned = base1.line e in (

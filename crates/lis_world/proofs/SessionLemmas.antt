@@ -53,7 +53,7 @@ kept-changed part k change ss keeps j = go (cases_eq j k) (cases_lt k (length ss
     go (inl same) (inr past) = ap (λ xs. part (session_at j xs)) (set_past ss k (change (session_at k ss)) past)
     go (inr apart) _ = ap part (at-changed_other j k change ss apart)
 
--- the sessions with one more behind them
+-- the sessions with one more after them
 pub at-more : (ss : List Session) (x : Session) (k : ℕ) → k < length ss → session_at k (ss ++ x ∷ []) ≡ session_at k ss
 at-more ss x k within = get_or_append_left ss (x ∷ []) (new_session []) k within
 

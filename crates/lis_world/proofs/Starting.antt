@@ -20,7 +20,7 @@ use Rattle.lis_world.specs.Session.{Session, new_session}
 use Rattle.lis_world.specs.World.{World}
 use Rattle.lis_world.specs.Steps.{put_on_link, begins}
 use Rattle.lis_world.proofs.SessionLemmas.{at-more, at-more_last, at-more_each}
-use Rattle.lis_world.proofs.Invariant.{IsSound, Unsent, IsCurrent, AllEndings, BidsBy, Bids, InPhase, Holds}
+use Rattle.lis_world.proofs.Invariant.{IsSound, Unsent, IsCurrent, AllEndings, RequestsBy, Requests, InPhase, Holds}
 use Rattle.lis_world.proofs.Base.{Base, holds_of, AreSame, base_placed, front_same, line_same}
 
 -- a text with no fault can be sent
@@ -56,7 +56,7 @@ texts_from_fault index (text ∷ texts) e = go (text_fault longest_text text) re
     go None is none later = All-cons (IsText longest_text) text texts (text_from_fault text is) (later none)
     go (Some fault) is none later = absurd (cc)
 
--- a start that is not refused
+-- a start that is not rejected
 pub record CanStart (s : SenderState) (texts : List (List ℕ)) : Type 0 where
   pub neutral : s.phase ≡ Neutral
   pub sendable : All (IsText longest_text) texts
@@ -79,17 +79,17 @@ sound_new limit texts sendable = record {
   accepted_of_sent = record { rest = []; joined = refl };
   sent_of_frames = record { rest = session_frames limit texts; joined = refl };
   acknowledged_of_accepted = omega arith;
-  handed_whole = refl;
+  delivered_whole = refl;
   done_acknowledged = λ done. absurd (cc);
 }
 
--- endings, and one bid behind them
-bids_behind : (c : ℕ) (us : List Travelling) → AllEndings us
-    → Bids c (us ++ record { session = c; load = enquiry } ∷ [])
-bids_behind c [] h = ((refl, refl), λ e. tt)
-bids_behind c (u ∷ us) h = (
-  subst (λ l. BidsBy c u.session l (us ++ record { session = c; load = enquiry } ∷ [])) (sym h.0) tt,
-  λ e. bids_behind c us h.1,
+-- endings, and one line request after them
+requests_following : (c : ℕ) (us : List Travelling) → AllEndings us
+    → Requests c (us ++ record { session = c; load = enquiry } ∷ [])
+requests_following c [] h = ((refl, refl), λ e. tt)
+requests_following c (u ∷ us) h = (
+  subst (λ l. RequestsBy c u.session l (us ++ record { session = c; load = enquiry } ∷ [])) (sym h.0) tt,
+  λ e. requests_following c us h.1,
 )
 
 are_same_more : (ss : List Session) (x : Session) → AreSame ss (ss ++ x ∷ [])
@@ -115,14 +115,14 @@ begun_holds limit texts w h can =
     let base1 : Base limit w1 = record {
       sound = at-more_each (IsSound limit) ss x (sound_new limit [] (All-nil (IsText longest_text)))
           (sound_new limit texts can.sendable) h.sound;
-      mute_within = h.mute_within;
+      to_drop_within = h.to_drop_within;
       line = line_same ss ss' w.receiver.is_open w.receiver.accepted w.opened same h.line;
       front = front_same ss ss' w.receiver.is_open w.opened w.units same h.front;
     } in
     let unsent : Unsent ss' (length ss) =
     (let more = length_push ss x in omega arith, ap (λ (y : Session). y.sent) (at-more_last ss x)) in
     let resting = subst (λ p. InPhase p w) can.neutral h.phase in
-    let bid : Travelling = record { session = length ss; load = enquiry } in
+    let request : Travelling = record { session = length ss; load = enquiry } in
     holds_of limit (put_on_link enquiry w1) (base_placed limit enquiry w1 unsent base1)
     (subst (IsCurrent limit (started limit texts)) (sym (at-more_last ss x))
     (record { frames_are = refl; acknowledged_is = refl; outcome_is = refl }))
@@ -131,8 +131,8 @@ begun_holds limit texts w h can =
       none_acknowledged = refl;
       traffic = inl (
         resting.no_reply,
-        subst (Bids (length ss)) (sym (drop-append-le w.mute w.units (bid ∷ []) h.mute_within))
-            (bids_behind (length ss) (drop w.mute w.units) resting.live_endings),
+        subst (Requests (length ss)) (sym (drop-append-le w.to_drop w.units (request ∷ []) h.to_drop_within))
+            (requests_following (length ss) (drop w.to_drop w.units) resting.live_endings),
       );
     })
 

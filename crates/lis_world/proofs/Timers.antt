@@ -8,29 +8,29 @@ use Rattle.lis_link.specs.declared.sender.Phase.{Phase}
 use Rattle.lis_link.specs.declared.sender.Phase.TheVariants.{Neutral, AwaitLine, Busy, Contention, AwaitReply}
 use Rattle.lis_link.specs.declared.sender.Outcome.{Outcome}
 use Rattle.lis_link.specs.declared.sender.Outcome.TheVariants.{Done, TimedOut, Restarted}
-use Rattle.lis_link.specs.Sender.{SenderState, over, timer_in, restart_in}
+use Rattle.lis_link.specs.Sender.{SenderState, finished_with, timer_in, restart_in}
 use Rattle.lis_link.specs.Receiver.{ReceiverState, timer_by, on_receiver_timer}
 use Rattle.lis_world.specs.Unit.{Load, enquiry, ending, one_frame, Travelling}
 use Rattle.lis_world.specs.Session.{Session, session_at, changed, follows}
 use Rattle.lis_world.specs.World.{World}
 use Rattle.lis_world.specs.Steps.{put_on_link, with_sender, sender_steps, forgotten, given_up}
-use Rattle.lis_world.proofs.Invariant.{BidTraffic}
-use Rattle.lis_world.proofs.Invariant.{Pending, Unsent, Leads, Front, AllEndings, Bids, IsWaiting}
+use Rattle.lis_world.proofs.Invariant.{RequestTraffic}
+use Rattle.lis_world.proofs.Invariant.{Pending, Unsent, Leads, Front, AllEndings, Requests, IsWaiting}
 use Rattle.lis_world.proofs.Invariant.{KeepsFrames, InPhase, Holds}
 use Rattle.lis_world.proofs.Base.{base_of, holds_of, CanFollow, base_forgotten, base_placed, base_followed}
 use Rattle.lis_world.proofs.Base.{current_followed, unsent_same, are_same_followed, with_sender_same}
-use Rattle.lis_world.proofs.Sending.{zero_mute, ended_holds, ended_with_ending}
+use Rattle.lis_world.proofs.Sending.{zero_to_drop, ended_holds, ended_with_ending}
 use Rattle.lis_world.proofs.Replies.{can_follow, can_follow_as}
 
-pub all_muted : (us : List Travelling) → AllEndings (drop (length us) us)
-all_muted us = subst AllEndings (sym (drop_all (length us) us (omega arith))) tt
+pub all_dropped : (us : List Travelling) → AllEndings (drop (length us) us)
+all_dropped us = subst AllEndings (sym (drop_all (length us) us (omega arith))) tt
 
 -- a session that ends for another reason than that it is done
 can_stop :
     (limit : ℕ) (w : World) (outcome : Outcome)
     → Holds limit w
     → (Some outcome ≡ Some Done → ⊥)
-    → CanFollow limit (over outcome w.sender) (session_at w.current w.sessions)
+    → CanFollow limit (finished_with outcome w.sender) (session_at w.current w.sessions)
 can_stop limit w outcome h other =
     let can = can_follow limit w h in
     record {
@@ -42,9 +42,9 @@ can_stop limit w outcome h other =
 timed_out : (limit : ℕ) (w : World) → Holds limit w → w.current < length w.sessions
     → Holds limit (sender_steps {limit = limit} (timer_in AwaitLine w.sender) (forgotten w))
 timed_out limit w h within =
-    ended_with_ending limit (over TimedOut w.sender) (forgotten w)
+    ended_with_ending limit (finished_with TimedOut w.sender) (forgotten w)
     (base_forgotten limit w (base_of limit w h)) within (can_stop limit w TimedOut h (λ e. cc)) refl refl
-    (all_muted w.units)
+    (all_dropped w.units)
 
 -- the sender asks for the line once more
 asks_again :
@@ -60,17 +60,17 @@ asks_again limit w h kept waiting =
     let unsent : Unsent w1.sessions w1.current =
     unsent_same w.sessions (changed w.current (follows sender) w.sessions) w.current
     (are_same_followed w.current sender w.sessions) waiting.unsent in
-    let bid : Travelling = record { session = w.current; load = enquiry } in
-    let unmuted : w.mute ≡ 0 = zero_mute w.mute w.units h.mute_within waiting.no_unit in
-    let live : drop w.mute (w.units ++ bid ∷ []) ≡ bid ∷ [] =
-    ap (λ m. drop m (w.units ++ bid ∷ [])) unmuted ∙ ap (λ us. us ++ bid ∷ []) waiting.no_unit in
+    let request : Travelling = record { session = w.current; load = enquiry } in
+    let unmuted : w.to_drop ≡ 0 = zero_to_drop w.to_drop w.units h.to_drop_within waiting.no_unit in
+    let live : drop w.to_drop (w.units ++ request ∷ []) ≡ request ∷ [] =
+    ap (λ m. drop m (w.units ++ request ∷ [])) unmuted ∙ ap (λ us. us ++ request ∷ []) waiting.no_unit in
     holds_of limit (put_on_link enquiry w1) (base_placed limit enquiry w1 unsent
     (base_followed limit sender w now (base_of limit w h)))
     (current_followed limit sender w waiting.unsent.0 now)
     (record {
       unsent = unsent;
       none_acknowledged = waiting.none_acknowledged;
-      traffic = inl (waiting.no_reply, subst (Bids w.current) (sym live) ((refl, refl), λ e. tt));
+      traffic = inl (waiting.no_reply, subst (Requests w.current) (sym live) ((refl, refl), λ e. tt));
     })
 
 pub sender_timer_phase :
@@ -80,7 +80,7 @@ pub sender_timer_phase :
     → InPhase p w
     → Holds limit (sender_steps {limit = limit} (timer_in p w.sender) (given_up p w))
 sender_timer_phase limit w Neutral h kept resting = subst (Holds limit) (sym (with_sender_same limit w h.current)) h
-sender_timer_phase limit w AwaitLine h kept bidding = timed_out limit w h bidding.unsent.0
+sender_timer_phase limit w AwaitLine h kept requesting = timed_out limit w h requesting.unsent.0
 sender_timer_phase limit w Busy h kept waiting = asks_again limit w h kept waiting
 sender_timer_phase limit w Contention h kept waiting = asks_again limit w h kept waiting
 sender_timer_phase limit w AwaitReply h kept awaiting = timed_out limit w h awaiting.pending.is_session
@@ -94,11 +94,11 @@ restarted_in :
     (limit : ℕ) (w : World)
     → Holds limit w
     → w.current < length w.sessions
-    → Holds limit (with_sender (over Restarted w.sender) (forgotten w))
+    → Holds limit (with_sender (finished_with Restarted w.sender) (forgotten w))
 restarted_in limit w h within =
-    ended_holds limit (over Restarted w.sender) (forgotten w)
+    ended_holds limit (finished_with Restarted w.sender) (forgotten w)
     (base_forgotten limit w (base_of limit w h)) within (can_stop limit w Restarted h (λ e. cc)) refl refl
-    (all_muted w.units)
+    (all_dropped w.units)
 
 pub restart_phase :
     (limit : ℕ) (w : World) (p : Phase)
@@ -109,8 +109,8 @@ pub restart_phase :
 restart_phase limit w Neutral h is resting =
     subst (Holds limit) (sym (with_sender_same limit (forgotten w) h.current))
     (holds_of limit (forgotten w) (base_forgotten limit w (base_of limit w h)) h.current
-    (subst (λ p. InPhase p (forgotten w)) (sym is) (record { no_reply = refl; live_endings = all_muted w.units })))
-restart_phase limit w AwaitLine h is bidding = restarted_in limit w h bidding.unsent.0
+    (subst (λ p. InPhase p (forgotten w)) (sym is) (record { no_reply = refl; live_endings = all_dropped w.units })))
+restart_phase limit w AwaitLine h is requesting = restarted_in limit w h requesting.unsent.0
 restart_phase limit w Busy h is waiting = restarted_in limit w h waiting.unsent.0
 restart_phase limit w Contention h is waiting = restarted_in limit w h waiting.unsent.0
 restart_phase limit w AwaitReply h is awaiting = restarted_in limit w h awaiting.pending.is_session
@@ -165,7 +165,7 @@ phase_closer w r' AwaitLine closer h = record {
   traffic = go h.traffic;
 }
   where
-    go : BidTraffic w → BidTraffic (record w { receiver = r' })
+    go : RequestTraffic w → RequestTraffic (record w { receiver = r' })
     go (inl none) = inl none
     go (inr one) = inr (one.0, (one.1.0, one.1.1, λ e. one.1.2 (closer.was_open e)))
 phase_closer w r' Busy closer h = record {
@@ -192,7 +192,7 @@ pub no_more_open_holds : (limit : ℕ) (w : World) (r' : ReceiverState) → IsNo
     → Holds limit (record w { receiver = r' })
 no_more_open_holds limit w r' closer h = record {
   sound = h.sound;
-  mute_within = h.mute_within;
+  to_drop_within = h.to_drop_within;
   line = λ e.
       let owned = h.line (closer.was_open e) in
       (owned.0, closer.accepted_same ∙ owned.1);

@@ -6,7 +6,7 @@ use Rattle.lis_frame.specs.declared.frame.FrameFault.{FrameFault}
 use Rattle.lis_text.specs.LinkText.{most_texts}
 use Rattle.lis_frame.specs.Pieces.{session_frames}
 use Rattle.lis_frame.specs.Stream.{is_mark}
-use Rattle.lis_frame.specs.Stretch.{stretch_fault}
+use Rattle.lis_frame.specs.FrameBody.{body_fault}
 use Rattle.lis_link.specs.declared.sender.Phase.TheVariants.{Neutral}
 use Rattle.lis_link.specs.declared.sender.Outcome.TheVariants.{Done}
 use Rattle.lis_link.specs.declared.receiver.Readiness.TheVariants as Readinesses
@@ -18,7 +18,7 @@ use Rattle.lis_world.specs.World.{World, new_world}
 use Rattle.lis_world.specs.Steps.{world}
 
 -- a frame goes to the receiver and a reply comes back: undisturbed, or while there is no room,
--- or with this stretch between STX and LF in the frame's place, or with this byte in the reply's place
+-- or with this frame body between STX and LF in the frame's place, or with this byte in the reply's place
 pub data Round : Type 0 where
   undisturbed : Round
   without_room : Round
@@ -28,23 +28,23 @@ pub data Round : Type 0 where
 abbrev pub round_events : Round → List Event
 round_events undisturbed = Deliver ∷ Reply ∷ []
 round_events without_room = DeliverNoRoom ∷ Reply ∷ []
-round_events (bad_frame stretch) = Damage (STX ∷ (stretch ++ LF ∷ [])) ∷ Reply ∷ []
+round_events (bad_frame body) = Damage (STX ∷ (body ++ LF ∷ [])) ∷ Reply ∷ []
 round_events (bad_reply b) = Deliver ∷ DamageReply b ∷ []
 
 abbrev pub rounds_events : List Round → List Event
 rounds_events [] = []
 rounds_events (round ∷ rounds) = round_events round ++ rounds_events rounds
 
--- the disturbance is noticed: the stretch holds no mark and is no frame, the reply byte is neither ACK nor EOT
-pub record IsBadStretch (limit : ℕ) (stretch : List ℕ) : Type 0 where
-  pub no_mark : All (λ b. is_mark b ≡ false) stretch
+-- the disturbance is noticed: the frame body holds no mark and is no frame, the reply byte is neither ACK nor EOT
+pub record IsBadBody (limit : ℕ) (body : List ℕ) : Type 0 where
+  pub no_mark : All (λ b. is_mark b ≡ false) body
   pub fault : FrameFault
-  pub is_bad : stretch_fault limit stretch ≡ Some fault
+  pub is_bad : body_fault limit body ≡ Some fault
 
 abbrev pub IsNoticed : ℕ → Round → Type 0
 IsNoticed limit undisturbed = Unit {0}
 IsNoticed limit without_room = Unit {0}
-IsNoticed limit (bad_frame stretch) = IsBadStretch limit stretch
+IsNoticed limit (bad_frame body) = IsBadBody limit body
 IsNoticed limit (bad_reply b) = (b ≢ ACK) × (b ≢ EOT)
 
 abbrev pub AreNoticed : ℕ → List Round → Type 0
@@ -57,7 +57,7 @@ good_rounds [] = 0
 good_rounds (undisturbed ∷ rounds) = suc (good_rounds rounds)
 good_rounds (round ∷ rounds) = good_rounds rounds
 
--- fewer than six disturbed rounds stand in a row, where so many stand before the first
+-- fewer than six disturbed rounds are in a row, where so many are before the first
 abbrev pub FewInARow : ℕ → List Round → Type 0
 FewInARow row [] = Unit {0}
 FewInARow row (undisturbed ∷ rounds) = FewInARow 0 rounds
@@ -73,7 +73,7 @@ pub record IsCalm (w : World) : Type 0 where
 abbrev pub session_events : List (List ℕ) → List Round → List Event
 session_events texts rounds = Start texts ∷ Deliver ∷ Reply ∷ (rounds_events rounds ++ Deliver ∷ [])
 
--- a session of these texts in which everything was sent, accepted, acknowledged and handed out
+-- a session of these texts in which everything was sent, accepted, acknowledged and delivered
 abbrev pub done_session : ℕ → List (List ℕ) → Session
 done_session limit texts =
     record {

@@ -1,10 +1,10 @@
--- What a loss on the line comes to, and that no state of the two ends blocks the line for good (LIS01-A2, 6.2 to 6.6).
+-- What a loss on the line gives, and that no state of the two ends blocks the line for good (LIS01-A2, 6.2 to 6.6).
 use Rattle.std.specs.Prelude.{◌≡◌, ◌⊎◌, ℕ, ◌≤◌, Bool, true, false, List, [], ◌∷◌, ◌++◌, length, map, None, Some, All}
 use Rattle.lis_text.specs.LinkText.{most_texts}
 use Rattle.lis_frame.specs.Stream.{signals_after}
 use Rattle.lis_link.specs.declared.sender.Phase.TheVariants.{AwaitLine, AwaitReply}
 use Rattle.lis_link.specs.declared.sender.Outcome.TheVariants.{TimedOut}
-use Rattle.lis_link.specs.Sender.{bad_texts, over}
+use Rattle.lis_link.specs.Sender.{bad_texts, finished_with}
 use Rattle.lis_world.specs.declared.event.Event.{Event}
 use Rattle.lis_world.specs.declared.event.Event.TheVariants.{Deliver, DeliverNoRoom, Damage, Lose, LoseReply}
 use Rattle.lis_world.specs.declared.event.Event.TheVariants.{SenderTimer, RestartSender, Ready}
@@ -19,7 +19,7 @@ pub record AreTexts (texts : List (List ℕ)) : Type 0 where
   pub not_refused : bad_texts texts ≡ None
   pub few : length texts ≤ most_texts
 
--- a session of texts that a sender takes is carried through behind these events, if it has enough rounds
+-- a session of texts that a sender takes is carried through after these events, if it has enough rounds
 abbrev pub CarriesNext : ℕ → List Event → Type 0
 CarriesNext limit events =
     (texts : List (List ℕ)) (rounds : List Round)
@@ -103,7 +103,7 @@ is_other event = true
 -- the sender's session ended at its timer: with the frames that were sent and acknowledged before, and its EOT is all
 -- that is on the link
 pub record IsTimedOut (before after : World) : Type 0 where
-  pub sender_is : after.sender ≡ over TimedOut before.sender
+  pub sender_is : after.sender ≡ finished_with TimedOut before.sender
   pub as_many : length after.sessions ≡ length before.sessions
   pub texts_same : (session_at before.current after.sessions).texts ≡ (session_at before.current before.sessions).texts
   pub sent_same : (session_at before.current after.sessions).sent ≡ (session_at before.current before.sessions).sent

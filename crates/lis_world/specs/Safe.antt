@@ -1,4 +1,4 @@
--- What is safe: nothing is accepted that wasn't sent, nothing acknowledged that wasn't accepted, and what is handed out
+-- What is safe: nothing is accepted that wasn't sent, nothing acknowledged that wasn't accepted, and what is delivered
 -- are the texts, whole and in order.
 use Rattle.std.specs.Prelude.{◌≡◌, ℕ, ◌≤◌, List, [], ◌++◌, length, Some, All}
 use Rattle.lis_frame.specs.Pieces.{session_frames}
@@ -18,15 +18,15 @@ pub record IsSafe (limit : ℕ) (x : Session) : Type 0 where
   pub accepted_of_sent : IsPrefix x.accepted x.sent
   pub sent_of_frames : IsPrefix x.sent (session_frames limit x.texts)
   pub acknowledged_of_accepted : x.acknowledged ≤ length x.accepted
-  pub handed_whole : x.handed ≡ groups [] x.accepted
-  pub handed_in_order : IsPrefix x.handed x.texts
+  pub delivered_whole : x.handed ≡ groups [] x.accepted
+  pub delivered_in_order : IsPrefix x.handed x.texts
 
--- a session that is done has handed out all its texts
-abbrev pub HandsOutAll : Session → Type 0
-HandsOutAll x = x.outcome ≡ Some Done → x.handed ≡ x.texts
+-- a session that is done has delivered all its texts
+abbrev pub DeliversAll : Session → Type 0
+DeliversAll x = x.outcome ≡ Some Done → x.handed ≡ x.texts
 
 abbrev pub Safe : ℕ → World → Type 0
-Safe limit w = All (IsSafe limit) w.sessions × All HandsOutAll w.sessions
+Safe limit w = All (IsSafe limit) w.sessions × All DeliversAll w.sessions
 
 -- the world is safe after every list of events
 abbrev pub AlwaysSafe : ℕ → Type 0

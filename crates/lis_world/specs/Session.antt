@@ -7,7 +7,7 @@ use Rattle.lis_link.specs.Sender.{SenderState}
 use Rattle.lis_link.specs.Receiver.{ReceiverStep}
 
 -- its texts; the frames sent, each once and in order; the frames accepted; how many are acknowledged;
--- the texts handed out; and its outcome, none while it goes on
+-- the texts delivered; and its outcome, none while it goes on
 pub record Session : Type 0 where
   pub texts : List (List ℕ)
   pub sent : List FrameContent
@@ -32,7 +32,7 @@ abbrev pub with_more : {A : Type 0} → List A → Option A → List A
 with_more xs None = xs
 with_more xs (Some x) = xs ++ x ∷ []
 
--- what a step of the receiver took and handed out
+-- what a step of the receiver took and delivered
 abbrev pub takes : ReceiverStep → Session → Session
 takes step x = record x { accepted = with_more x.accepted step.taken; handed = with_more x.handed step.message }
 

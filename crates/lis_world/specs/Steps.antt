@@ -20,9 +20,9 @@ use Rattle.lis_world.specs.declared.event.Event.TheVariants.{DamageReply, LoseRe
 use Rattle.lis_world.specs.declared.event.Event.TheVariants.{RestartSender, RestartReceiver, Ready, Busy, Contending}
 use Rattle.lis_world.specs.Unit.{Load, enquiry, ending, one_frame, Travelling, load_bytes}
 use Rattle.lis_world.specs.Session.{new_session, changed, follows, sends_frame}
-use Rattle.lis_world.specs.World.{World, new_world, Desk, desk_of, hears, settled}
+use Rattle.lis_world.specs.World.{World, new_world, ComputerState, computer_state_of, hears, settled}
 
--- a unit of the present session goes on the link, behind what is there
+-- a unit of the present session goes on the link, after what is there
 abbrev pub put_on_link : Load → World → World
 put_on_link load w = record w { units = w.units ++ record { session = w.current; load = load } ∷ [] }
 
@@ -41,7 +41,7 @@ with_sender sender w = record w { sender = sender; sessions = changed w.current 
 abbrev pub sender_steps : {limit : ℕ} → SenderStep limit → World → World
 sender_steps step w = emitted step.emit (with_sender step.after w)
 
--- a start that is not refused begins a session
+-- a start that is not rejected begins a session
 abbrev pub begins : ℕ → Option StartFault → List (List ℕ) → World → World
 begins limit (Some fault) texts w = w
 begins limit None texts w =
@@ -51,19 +51,21 @@ begins limit None texts w =
       sessions = w.sessions ++ new_session texts ∷ [];
     })
 
--- the front unit comes to the receiver
+-- the front unit reaches the receiver
 abbrev pub delivered : ℕ → List Travelling → World → World
 delivered limit [] w = w
-delivered limit (front ∷ units) w = settled units (hears limit front.session (load_bytes front.load) (desk_of w)) w
+delivered limit (front ∷ units) w = settled units (hears limit front.session (load_bytes front.load)
+    (computer_state_of w)) w
 
 -- the same while the receiver has no room
-abbrev pub room_at : Bool → Desk → Desk
-room_at room desk = record desk { receiver = with_room room desk.receiver }
+abbrev pub room_at : Bool → ComputerState → ComputerState
+room_at room computer_state = record computer_state { receiver = with_room room computer_state.receiver }
 
 abbrev pub delivered_no_room : ℕ → List Travelling → World → World
 delivered_no_room limit [] w = w
 delivered_no_room limit (front ∷ units) w =
-    settled units (room_at true (hears limit front.session (load_bytes front.load) (room_at false (desk_of w)))) w
+    settled units (room_at true (hears limit front.session (load_bytes front.load)
+    (room_at false (computer_state_of w)))) w
 
 -- damage is noticed where what is heard of it is nothing or, of a frame, one bad frame
 abbrev pub is_frame : Load → Bool
@@ -81,15 +83,15 @@ abbrev pub damaged : ℕ → List ℕ → List Travelling → World → World
 damaged limit bytes [] w = w
 damaged limit bytes (front ∷ units) w =
     if is_noticed front.load (signals_after limit w.receiver.past bytes) then
-    settled units (hears limit front.session bytes (desk_of w)) w
+    settled units (hears limit front.session bytes (computer_state_of w)) w
     else w
 
 -- the front unit is taken away
 abbrev pub lost : List Travelling → World → World
 lost [] w = w
-lost (front ∷ units) w = settled units (desk_of w) w
+lost (front ∷ units) w = settled units (computer_state_of w) w
 
--- the front reply comes to the sender
+-- the front reply reaches the sender
 abbrev pub replied : ℕ → List ℕ → World → World
 replied limit [] w = w
 replied limit (b ∷ replies) w = sender_steps {limit = limit} (on_reply b w.sender) (record w { replies = replies })
@@ -107,7 +109,7 @@ reply_lost (b ∷ replies) w = record w { replies = replies }
 
 -- no reply to a unit that is on its way reaches the sender in time
 abbrev pub forgotten : World → World
-forgotten w = record w { replies = []; mute = length w.units }
+forgotten w = record w { replies = []; to_drop = length w.units }
 
 -- the timer of a sender that awaits a reply
 abbrev pub given_up : Phase → World → World

@@ -15,7 +15,7 @@ pub record World : Type 0 where
   pub receiver : ReceiverState
   pub units : List Travelling
   pub replies : List ℕ
-  pub mute : ℕ
+  pub to_drop : ℕ
   pub current : ℕ
   pub opened : ℕ
   pub sessions : List Session
@@ -27,72 +27,73 @@ new_world =
       receiver = new_receiver;
       units = [];
       replies = [];
-      mute = 0;
+      to_drop = 0;
       current = 0;
       opened = 0;
       sessions = [];
     }
 
 -- the computer's side while the bytes of one unit come, with the replies that these cause
-pub record Desk : Type 0 where
+pub record ComputerState : Type 0 where
   pub receiver : ReceiverState
   pub opened : ℕ
   pub sessions : List Session
   pub replies : List ℕ
 
-abbrev pub desk_of : World → Desk
-desk_of w = record { receiver = w.receiver; opened = w.opened; sessions = w.sessions; replies = [] }
+abbrev pub computer_state_of : World → ComputerState
+computer_state_of w = record { receiver = w.receiver; opened = w.opened; sessions = w.sessions; replies = [] }
 
 -- a step of the receiver, by its note, while a unit of this session comes: an ENQ that opens the line makes the session
 -- the one that owns it, and what is accepted is booked to the owner
-abbrev pub noted : ℕ → ReceiverStep → Note → Desk → Desk
-noted session step Opened desk =
+abbrev pub after_note : ℕ → ReceiverStep → Note → ComputerState → ComputerState
+after_note session step Opened computer_state =
     record {
       receiver = step.after;
       opened = session;
-      sessions = desk.sessions;
-      replies = with_more desk.replies step.reply;
+      sessions = computer_state.sessions;
+      replies = with_more computer_state.replies step.reply;
     }
-noted session step (Accepted number) desk =
+after_note session step (Accepted number) computer_state =
     record {
       receiver = step.after;
-      opened = desk.opened;
-      sessions = changed desk.opened (takes step) desk.sessions;
-      replies = with_more desk.replies step.reply;
+      opened = computer_state.opened;
+      sessions = changed computer_state.opened (takes step) computer_state.sessions;
+      replies = with_more computer_state.replies step.reply;
     }
-noted session step note desk =
+after_note session step note computer_state =
     record {
       receiver = step.after;
-      opened = desk.opened;
-      sessions = desk.sessions;
-      replies = with_more desk.replies step.reply;
+      opened = computer_state.opened;
+      sessions = computer_state.sessions;
+      replies = with_more computer_state.replies step.reply;
     }
 
-abbrev pub booked : ℕ → ReceiverStep → Desk → Desk
-booked session step desk = noted session step step.note desk
+abbrev pub booked : ℕ → ReceiverStep → ComputerState → ComputerState
+booked session step computer_state = after_note session step step.note computer_state
 
 -- bytes that come while a unit of this session does
-abbrev pub hears : ℕ → ℕ → List ℕ → Desk → Desk
-hears limit session [] desk = desk
-hears limit session (b ∷ bytes) desk = hears limit session bytes (booked session (on_byte limit b desk.receiver) desk)
+abbrev pub hears : ℕ → ℕ → List ℕ → ComputerState → ComputerState
+hears limit session [] computer_state = computer_state
+hears limit session (b ∷ bytes) computer_state = hears limit session bytes
+    (booked session (on_byte limit b computer_state.receiver) computer_state)
 
 -- the replies on the link, with those that a unit caused: none of them where the unit's reply comes too late
 abbrev pub replies_with : ℕ → List ℕ → List ℕ → List ℕ
 replies_with zero caused replies = replies ++ caused
-replies_with (suc mute) caused replies = replies
+replies_with (suc to_drop) caused replies = replies
 
 abbrev pub lowered : ℕ → ℕ
 lowered zero = zero
-lowered (suc mute) = mute
+lowered (suc to_drop) = to_drop
 
 -- the front unit has left the link, and this is the computer's side after it
-abbrev pub settled : List Travelling → Desk → World → World
-settled units desk w =
+abbrev pub settled : List Travelling → ComputerState → World → World
+settled units computer_state w =
     record w {
-      receiver = desk.receiver;
+      receiver = computer_state.receiver;
       units = units;
-      replies = replies_with w.mute desk.replies w.replies;
-      mute = lowered w.mute;
-      opened = desk.opened;
-      sessions = desk.sessions;
+      replies = replies_with w.to_drop computer_state.replies w.replies;
+      to_drop = lowered w.to_drop;
+      opened = computer_state.opened;
+      sessions = computer_state.sessions;
     }

@@ -5,17 +5,17 @@ use lis_text::{LinkText, List, Texts};
 /// One event. Where it isn't allowed, it does nothing.
 #[derive(Drop)]
 pub enum Event {
-    /// The sender starts a session with these texts; not allowed where the start is refused.
+    /// The sender starts a session with these texts; not allowed where the start is rejected.
     Start(Texts),
-    /// The front unit comes to the receiver.
+    /// The front unit reaches the receiver.
     Deliver,
-    /// The front unit comes to the receiver while it has no room.
+    /// The front unit reaches the receiver while it has no room.
     DeliverNoRoom,
     /// These bytes come in the front unit's place; allowed where the receiver notices.
     Damage(LinkText),
     /// The front unit is lost.
     Lose,
-    /// The front reply comes to the sender.
+    /// The front reply reaches the sender.
     Reply,
     /// This byte, which is neither ACK nor EOT, comes in the front reply's place.
     DamageReply(u8),

@@ -2,7 +2,7 @@
 
 ghost use Rattle.std.specs.Prelude.{◌≡◌, OnOk};
 ghost use Rattle.lis_link.specs.Receiver.{ReceiverState};
-ghost use Rattle.lis_link.specs.Stands.{IsIn};
+ghost use Rattle.lis_link.specs.Representation.{IsIn};
 ghost use Rattle.lis_world.specs.Late.{after_late_event, happens_late, is_empty, reconnected};
 ghost use Rattle.lis_world.specs.declared.event.Event.TheVariants.{Start};
 ghost use Rattle.lis_world.specs.inside.Playing.{IsWorld, world_at};
@@ -15,7 +15,7 @@ use std::alloc::AllocError;
 impl<const N: usize> RunOf<N> {
     /// One event. A session starts only on an empty link.
     pub(crate) fn happen_late(&mut self, event: LateEvent) -> Result<(), AllocError>
-        ensures { (r : ReceiverState) → IsIn N self.old.desk.receiver r →
+        ensures { (r : ReceiverState) → IsIn N self.old.computer_state.receiver r →
             OnOk result (IsWorld N self.new (after_late_event is_empty N event (world_at self.old r))) }
     {
         match event {
@@ -29,7 +29,7 @@ impl<const N: usize> RunOf<N> {
 
     /// An event of the link.
     fn happen_answered_late(&mut self, event: Event) -> Result<(), AllocError>
-        ensures { (r : ReceiverState) → IsIn N self.old.desk.receiver r →
+        ensures { (r : ReceiverState) → IsIn N self.old.computer_state.receiver r →
             OnOk result (IsWorld N self.new (happens_late is_empty N event (world_at self.old r))) }
     {
         match event {
@@ -45,7 +45,7 @@ impl<const N: usize> RunOf<N> {
 
     /// The sender is started, if the link is empty.
     fn start_on_empty(&mut self, texts: Texts) -> Result<(), AllocError>
-        ensures { (r : ReceiverState) → IsIn N self.old.desk.receiver r →
+        ensures { (r : ReceiverState) → IsIn N self.old.computer_state.receiver r →
             OnOk result (IsWorld N self.new (happens_late is_empty N (Start texts) (world_at self.old r))) }
     {
         if !self.is_empty() {
@@ -63,11 +63,11 @@ impl<const N: usize> RunOf<N> {
 
     /// The line is connected anew.
     fn reconnect(&mut self)
-        ensures { (r : ReceiverState) → IsIn N self.old.desk.receiver r →
+        ensures { (r : ReceiverState) → IsIn N self.old.computer_state.receiver r →
             IsWorld N self.new (reconnected (world_at self.old r)) }
     {
         self.units.clear();
         self.replies.clear();
-        self.desk.restart();
+        self.computer_state.restart();
     }
 }

@@ -10,7 +10,7 @@ ghost use Rattle.lis_world.specs.Progress.{RunsQuietly, CarriesThrough};
 ghost use Rattle.lis_world.specs.Recovery.{OvercomesLoss, Recovers, RecoversQuietly};
 
 /// Over every list of events each session is safe: what was accepted was sent, what was
-/// acknowledged was accepted, and what was handed out are the session's texts, whole and in order;
+/// acknowledged was accepted, and what was delivered are the session's texts, whole and in order;
 /// all of them, where the session is done. At every limit on a frame's text.
 pub fn safe_of<const N: usize>()
     requires { IsLimit N }
@@ -53,8 +53,8 @@ pub fn unsafe_on_early_starts()
     ensures reply { UnsafeWhere has_no_unit 240 }
 {}
 
-/// On an undisturbed link a session whose start isn't refused is done after as many rounds as it
-/// has frames: everything was sent, accepted, acknowledged and handed out, and both ends are
+/// On an undisturbed link a session whose start isn't rejected is done after as many rounds as it
+/// has frames: everything was sent, accepted, acknowledged and delivered, and both ends are
 /// neutral. At every limit on a frame's text.
 pub fn runs_quietly_of<const N: usize>()
     requires { IsLimit N }
@@ -67,7 +67,7 @@ pub fn runs_quietly()
 {}
 
 /// On a link that is disturbed in ways that are noticed, a session is carried through if enough
-/// rounds are undisturbed and no six disturbed ones stand in a row. At every limit on a frame's
+/// rounds are undisturbed and no six disturbed ones are in a row. At every limit on a frame's
 /// text.
 pub fn carries_through_of<const N: usize>()
     requires { IsLimit N }

@@ -2,7 +2,7 @@
 //! over every list of events.
 #![tactic(auto)]
 
-mod desk;
+mod computer_state;
 mod event;
 mod late;
 pub mod laws;

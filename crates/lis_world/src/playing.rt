@@ -3,12 +3,12 @@
 ghost use Rattle.std.specs.Prelude.{◌≡◌, ℕ, List, [], ◌∷◌, OnOk, IfOk, All, map};
 ghost use Rattle.lis_frame.specs.Limit.{IsLimit};
 ghost use Rattle.lis_link.specs.Receiver.{ReceiverState};
-ghost use Rattle.lis_link.specs.Stands.{IsIn};
+ghost use Rattle.lis_link.specs.Representation.{IsIn};
 ghost use Rattle.lis_world.specs.declared.event.LateEvent.TheVariants.{Happens};
 ghost use Rattle.lis_world.specs.inside.Playing.{IsWorld, world_at, run_by};
 ghost use Rattle.lis_world.specs.Late.{after_late_event, late_world, is_empty};
 ghost use Rattle.lis_world.specs.Progress.{AreSendable, done_session, quiet_events};
-ghost use Rattle.lis_world.specs.Safe.{IsSafe, HandsOutAll};
+ghost use Rattle.lis_world.specs.Safe.{IsSafe, DeliversAll};
 ghost use Rattle.lis_world.specs.Steps.{world, after_event};
 ghost use Rattle.lis_world.specs.World.{World, new_world};
 
@@ -23,12 +23,12 @@ use thiserror::Error;
 /// Why events weren't played.
 #[derive(Debug, Clone, Copy, PartialEq, Eq, Error)]
 pub enum PlayFault {
-    /// Memory was refused.
-    #[error("memory was refused")]
+    /// Memory ran out.
+    #[error("memory ran out")]
     OutOfMemory,
 }
 
-/// The sessions, one for each start that wasn't refused, in their order.
+/// The sessions, one for each start that wasn't rejected, in their order.
 pub type HistoryOf<const N: usize> = List<SessionOf<N>>;
 
 /// The sessions, with the usual limit on a frame's text.
@@ -36,12 +36,12 @@ pub type History = HistoryOf<240>;
 
 /// Plays events on a link between a new sender and a new receiver, and answers what became of each
 /// session: exactly what the definition of the link says. An undisturbed session, alone, is done. The one
-/// fault is want of memory.
+/// fault is a lack of memory.
 pub fn play_of<const N: usize>(alloc: Global, events: Events) -> Result<HistoryOf<N>, PlayFault>
     requires { IsLimit N }
     ensures world { IfOk result (λ history. history ≡ (world N events).sessions) }
     ensures safe { IfOk result (λ history. All (IsSafe N) history) }
-    ensures done { IfOk result (λ history. All HandsOutAll history) }
+    ensures done { IfOk result (λ history. All DeliversAll history) }
     ensures quiet { IfOk result (λ history. (texts : List (List ℕ)) → AreSendable new_world texts →
         events ≡ quiet_events N texts → history ≡ done_session N texts ∷ []) }
 {
@@ -52,7 +52,7 @@ pub fn play_of<const N: usize>(alloc: Global, events: Events) -> Result<HistoryO
 pub fn play(alloc: Global, events: Events) -> Result<History, PlayFault>
     ensures world { IfOk result (λ history. history ≡ (world 240 events).sessions) }
     ensures safe { IfOk result (λ history. All (IsSafe 240) history) }
-    ensures done { IfOk result (λ history. All HandsOutAll history) }
+    ensures done { IfOk result (λ history. All DeliversAll history) }
     ensures quiet { IfOk result (λ history. (texts : List (List ℕ)) → AreSendable new_world texts →
         events ≡ quiet_events 240 texts → history ≡ done_session 240 texts ∷ []) }
 {
@@ -61,7 +61,7 @@ pub fn play(alloc: Global, events: Events) -> Result<History, PlayFault>
 
 /// Plays events on a line that answers late, between a new sender and a new receiver, and answers what became of each
 /// session: exactly what the definition says. A session starts only on an empty link. An undisturbed session, alone, is
-/// done. The one fault is want of memory.
+/// done. The one fault is a lack of memory.
 pub fn play_late_of<const N: usize>(
     alloc: Global,
     events: LateEvents,
@@ -69,7 +69,7 @@ pub fn play_late_of<const N: usize>(
     requires { IsLimit N }
     ensures world { IfOk result (λ history. history ≡ (late_world is_empty N events).sessions) }
     ensures safe { IfOk result (λ history. All (IsSafe N) history) }
-    ensures done { IfOk result (λ history. All HandsOutAll history) }
+    ensures done { IfOk result (λ history. All DeliversAll history) }
     ensures quiet { IfOk result (λ history. (texts : List (List ℕ)) → AreSendable new_world texts →
         events ≡ map Happens (quiet_events N texts) → history ≡ done_session N texts ∷ []) }
 {
@@ -80,7 +80,7 @@ pub fn play_late_of<const N: usize>(
 pub fn play_late(alloc: Global, events: LateEvents) -> Result<History, PlayFault>
     ensures world { IfOk result (λ history. history ≡ (late_world is_empty 240 events).sessions) }
     ensures safe { IfOk result (λ history. All (IsSafe 240) history) }
-    ensures done { IfOk result (λ history. All HandsOutAll history) }
+    ensures done { IfOk result (λ history. All DeliversAll history) }
     ensures quiet { IfOk result (λ history. (texts : List (List ℕ)) → AreSendable new_world texts →
         events ≡ map Happens (quiet_events 240 texts) → history ≡ done_session 240 texts ∷ []) }
 {
@@ -94,7 +94,7 @@ trait Happening<const N: usize>: Drop {
 
     /// It happens.
     fn happen(self, run: &mut RunOf<N>) -> Result<(), AllocError>
-        ensures { (r : ReceiverState) → IsIn N run.old.desk.receiver r →
+        ensures { (r : ReceiverState) → IsIn N run.old.computer_state.receiver r →
             OnOk result (IsWorld N run.new (after self (world_at run.old r))) };
 }
 

@@ -5,7 +5,7 @@ ghost use Rattle.lis_frame.specs.Limit.{IsLimit};
 ghost use Rattle.lis_frame.specs.Stream.{signals_after};
 ghost use Rattle.lis_link.specs.Receiver.{ReceiverState};
 ghost use Rattle.lis_link.specs.Sender.{start_fault, on_sender_timer, sender_restarted};
-ghost use Rattle.lis_link.specs.Stands.{IsIn};
+ghost use Rattle.lis_link.specs.Representation.{IsIn};
 ghost use Rattle.lis_world.specs.inside.Loads.{load_of};
 ghost use Rattle.lis_world.specs.inside.Playing.{IsWorld, world_at, front_noticed, kept_given_up, kept_forgotten};
 ghost use Rattle.lis_world.specs.inside.Playing.{kept_following, kept_sending, kept_with};
@@ -17,7 +17,7 @@ ghost use Rattle.lis_world.specs.Steps.{delivered_no_room, damaged, lost, replie
 ghost use Rattle.lis_world.specs.Steps.{after_event};
 ghost use Rattle.lis_world.specs.declared.event.Event.TheVariants.{SenderTimer, RestartSender};
 
-use crate::desk::DeskOf;
+use crate::computer_state::ComputerStateOf;
 use crate::event::Event;
 use crate::session::SessionOf;
 use crate::unit::{LoadOf, TravellingOf};
@@ -34,10 +34,10 @@ use std::marker::Model;
 pub(crate) struct RunOf<const N: usize> {
     alloc: Global,
     pub(crate) sender: SenderOf<N>,
-    pub(crate) desk: DeskOf<N>,
+    pub(crate) computer_state: ComputerStateOf<N>,
     pub(crate) units: VecDeque<TravellingOf<N>>,
     pub(crate) replies: VecDeque<u8>,
-    mute: usize,
+    to_drop: usize,
     current: usize,
 }
 
@@ -49,10 +49,10 @@ impl<const N: usize> Model for RunOf<N> {
 
     ghost view = { λ w. record {
       sender = w.sender;
-      desk = w.desk;
+      computer_state = w.computer_state;
       units = w.units.items;
       replies = w.replies.items;
-      mute = w.mute;
+      to_drop = w.to_drop;
       current = w.current;
     } };
 
@@ -65,21 +65,21 @@ impl<const N: usize> RunOf<N> {
         requires { IsLimit N }
         ensures { IfOk result (λ run. IsWorld N run new_world) }
     {
-        let desk = DeskOf::new(alloc)?;
+        let computer_state = ComputerStateOf::new(alloc)?;
         Ok(RunOf {
             alloc,
             sender: SenderOf::new(),
-            desk,
+            computer_state,
             units: VecDeque::new(alloc),
             replies: VecDeque::new(alloc),
-            mute: 0,
+            to_drop: 0,
             current: 0,
         })
     }
 
     /// One event.
     pub(crate) fn happen(&mut self, event: Event) -> Result<(), AllocError>
-        ensures { (r : ReceiverState) → IsIn N self.old.desk.receiver r →
+        ensures { (r : ReceiverState) → IsIn N self.old.computer_state.receiver r →
             OnOk result (IsWorld N self.new (after_event N event (world_at self.old r))) }
     {
         match event {
@@ -92,28 +92,28 @@ impl<const N: usize> RunOf<N> {
             Event::DamageReply(byte) => return self.damage_reply(byte),
             Event::LoseReply => self.lose_reply(),
             Event::SenderTimer => return self.sender_timer(),
-            Event::ReceiverTimer => self.desk.timer(),
+            Event::ReceiverTimer => self.computer_state.timer(),
             Event::RestartSender => self.restart_sender(),
-            Event::RestartReceiver => self.desk.restart(),
-            Event::Ready => self.desk.set_ready(Readiness::Ready),
-            Event::Busy => self.desk.set_ready(Readiness::Busy),
-            Event::Contending => self.desk.set_ready(Readiness::Contending),
+            Event::RestartReceiver => self.computer_state.restart(),
+            Event::Ready => self.computer_state.set_ready(Readiness::Ready),
+            Event::Busy => self.computer_state.set_ready(Readiness::Busy),
+            Event::Contending => self.computer_state.set_ready(Readiness::Contending),
         }
         Ok(())
     }
 
     /// The sessions.
     pub(crate) fn into_sessions(self) -> Vec<SessionOf<N>>
-        ensures { result.items ≡ self.entry.desk.sessions }
+        ensures { result.items ≡ self.entry.computer_state.sessions }
     {
-        let RunOf { desk, .. } = self;
-        desk.into_sessions()
+        let RunOf { computer_state, .. } = self;
+        computer_state.into_sessions()
     }
 
-    /// The sender is started, if the start isn't refused. One that is refused takes no memory, so it can't end the
+    /// The sender is started, if the start isn't rejected. One that is rejected takes no memory, so it can't end the
     /// play.
     pub(crate) fn start(&mut self, texts: Texts) -> Result<(), AllocError>
-        ensures world { (r : ReceiverState) → IsIn N self.old.desk.receiver r →
+        ensures world { (r : ReceiverState) → IsIn N self.old.computer_state.receiver r →
             OnOk result (IsWorld N self.new (begins N (start_fault self.old.sender texts) texts
             (world_at self.old r))) }
         ensures refused { OnErr result (start_fault self.old.sender texts ≡ None) }
@@ -131,43 +131,47 @@ impl<const N: usize> RunOf<N> {
     /// A session of these texts begins.
     fn begin(&mut self, texts: List<LinkText>) -> Result<(), AllocError>
         ensures { OnOk result (self.new ≡ record self.old {
-          current = length self.old.desk.sessions;
-          desk = record self.old.desk { sessions = self.old.desk.sessions ++ new_session texts ∷ [] };
-          units = self.old.units ++ record { session = length self.old.desk.sessions; load = enquiry } ∷ [];
+          current = length self.old.computer_state.sessions;
+          computer_state = record self.old.computer_state {
+            sessions = self.old.computer_state.sessions ++ new_session
+                texts ∷ [];
+          };
+          units = self.old.units ++ record { session = length self.old.computer_state.sessions; load = enquiry } ∷ [];
         }) }
     {
-        self.current = self.desk.sessions();
-        self.desk.begin(SessionOf::new(self.alloc, texts))?;
+        self.current = self.computer_state.sessions();
+        self.computer_state
+            .begin(SessionOf::new(self.alloc, texts))?;
         self.place(LoadOf::Enquiry)
     }
 
-    /// The front unit comes to the receiver.
+    /// The front unit reaches the receiver.
     fn deliver(&mut self) -> Result<(), AllocError>
-        ensures { (r : ReceiverState) → IsIn N self.old.desk.receiver r →
+        ensures { (r : ReceiverState) → IsIn N self.old.computer_state.receiver r →
             OnOk result (IsWorld N self.new (delivered N self.old.units (world_at self.old r))) }
     {
         let Some(unit) = self.units.pop_front() else {
             return Ok(());
         };
-        self.desk.deliver(&unit)?;
+        self.computer_state.deliver(&unit)?;
         self.settle()
     }
 
     /// The same while the receiver has no room.
     fn deliver_no_room(&mut self) -> Result<(), AllocError>
-        ensures { (r : ReceiverState) → IsIn N self.old.desk.receiver r →
+        ensures { (r : ReceiverState) → IsIn N self.old.computer_state.receiver r →
             OnOk result (IsWorld N self.new (delivered_no_room N self.old.units (world_at self.old r))) }
     {
         let Some(unit) = self.units.pop_front() else {
             return Ok(());
         };
-        self.desk.deliver_no_room(&unit)?;
+        self.computer_state.deliver_no_room(&unit)?;
         self.settle()
     }
 
     /// These bytes come in the front unit's place, if that is noticed.
     fn damage(&mut self, bytes: &[u8]) -> Result<(), AllocError>
-        ensures { (r : ReceiverState) → IsIn N self.old.desk.receiver r →
+        ensures { (r : ReceiverState) → IsIn N self.old.computer_state.receiver r →
             OnOk result (IsWorld N self.new (damaged N bytes.now self.old.units (world_at self.old r))) }
     {
         if !self.notices(bytes) {
@@ -176,36 +180,36 @@ impl<const N: usize> RunOf<N> {
         let Some(unit) = self.units.pop_front() else {
             return Ok(());
         };
-        self.desk.damage(&unit, bytes)?;
+        self.computer_state.damage(&unit, bytes)?;
         self.settle()
     }
 
     /// Whether there is a unit, and the receiver notices these bytes in its place.
     fn notices(&self, bytes: &[u8]) -> bool
-        ensures { (r : ReceiverState) → IsIn N self.now.desk.receiver r →
+        ensures { (r : ReceiverState) → IsIn N self.now.computer_state.receiver r →
             result ≡ front_noticed self.now.units (λ load. is_noticed load (signals_after N r.past bytes.now)) }
     {
         match self.units.front() {
             None => false,
-            Some(unit) => self.desk.notices(unit, bytes),
+            Some(unit) => self.computer_state.notices(unit, bytes),
         }
     }
 
     /// The front unit is lost.
     fn lose(&mut self) -> Result<(), AllocError>
-        ensures { (r : ReceiverState) → IsIn N self.old.desk.receiver r →
+        ensures { (r : ReceiverState) → IsIn N self.old.computer_state.receiver r →
             OnOk result (IsWorld N self.new (lost self.old.units (world_at self.old r))) }
     {
         let Some(_) = self.units.pop_front() else {
             return Ok(());
         };
-        self.desk.keep_silent();
+        self.computer_state.keep_silent();
         self.settle()
     }
 
-    /// The front reply comes to the sender.
+    /// The front reply reaches the sender.
     fn reply(&mut self) -> Result<(), AllocError>
-        ensures { (r : ReceiverState) → IsIn N self.old.desk.receiver r →
+        ensures { (r : ReceiverState) → IsIn N self.old.computer_state.receiver r →
             OnOk result (IsWorld N self.new (replied N self.old.replies (world_at self.old r))) }
     {
         let Some(byte) = self.replies.pop_front() else {
@@ -217,7 +221,7 @@ impl<const N: usize> RunOf<N> {
 
     /// This byte comes in the front reply's place, if it is neither ACK nor EOT.
     fn damage_reply(&mut self, byte: u8) -> Result<(), AllocError>
-        ensures { (r : ReceiverState) → IsIn N self.old.desk.receiver r →
+        ensures { (r : ReceiverState) → IsIn N self.old.computer_state.receiver r →
             OnOk result (IsWorld N self.new (reply_damaged N byte self.old.replies (world_at self.old r))) }
     {
         if byte == ACK || byte == EOT {
@@ -232,7 +236,7 @@ impl<const N: usize> RunOf<N> {
 
     /// The front reply is lost.
     fn lose_reply(&mut self)
-        ensures { (r : ReceiverState) → IsIn N self.old.desk.receiver r →
+        ensures { (r : ReceiverState) → IsIn N self.old.computer_state.receiver r →
             IsWorld N self.new (reply_lost self.old.replies (world_at self.old r)) }
     {
         self.replies.pop_front();
@@ -240,7 +244,7 @@ impl<const N: usize> RunOf<N> {
 
     /// The sender's timer runs out.
     fn sender_timer(&mut self) -> Result<(), AllocError>
-        ensures { (r : ReceiverState) → IsIn N self.old.desk.receiver r →
+        ensures { (r : ReceiverState) → IsIn N self.old.computer_state.receiver r →
             OnOk result (IsWorld N self.new (after_event N SenderTimer (world_at self.old r))) }
     {
         self.give_up();
@@ -249,7 +253,7 @@ impl<const N: usize> RunOf<N> {
 
     /// The sender's timer runs out, and what is on its way stays there.
     pub(crate) fn time_out(&mut self) -> Result<(), AllocError>
-        ensures { (r : ReceiverState) → IsIn N self.old.desk.receiver r →
+        ensures { (r : ReceiverState) → IsIn N self.old.computer_state.receiver r →
             OnOk result (IsWorld N self.new (sender_steps {limit = N} (on_sender_timer self.old.sender)
             (world_at self.old r))) }
     {
@@ -269,7 +273,7 @@ impl<const N: usize> RunOf<N> {
 
     /// The sender is restarted.
     fn restart_sender(&mut self)
-        ensures { (r : ReceiverState) → IsIn N self.old.desk.receiver r →
+        ensures { (r : ReceiverState) → IsIn N self.old.computer_state.receiver r →
             IsWorld N self.new (after_event N RestartSender (world_at self.old r)) }
     {
         self.forget();
@@ -278,7 +282,7 @@ impl<const N: usize> RunOf<N> {
 
     /// The sender is restarted, and what is on its way stays there.
     pub(crate) fn end_session(&mut self)
-        ensures { (r : ReceiverState) → IsIn N self.old.desk.receiver r →
+        ensures { (r : ReceiverState) → IsIn N self.old.computer_state.receiver r →
             IsWorld N self.new (with_sender (sender_restarted self.old.sender) (world_at self.old r)) }
     {
         self.sender.restart();
@@ -290,30 +294,30 @@ impl<const N: usize> RunOf<N> {
         ensures { self.new ≡ kept_forgotten self.old }
     {
         self.replies.clear();
-        self.mute = self.units.len();
+        self.to_drop = self.units.len();
     }
 
     /// The front unit has left the link, and the computer's side has heard it.
     fn settle(&mut self) -> Result<(), AllocError>
         ensures { OnOk result (self.new ≡ record self.old {
-          replies = replies_with self.old.mute self.old.desk.replies self.old.replies;
-          mute = lowered self.old.mute;
-          desk = record self.old.desk { replies = [] };
+          replies = replies_with self.old.to_drop self.old.computer_state.replies self.old.replies;
+          to_drop = lowered self.old.to_drop;
+          computer_state = record self.old.computer_state { replies = [] };
         }) }
     {
-        if self.mute > 0 {
-            self.mute -= 1;
-            self.desk.keep_silent();
+        if self.to_drop > 0 {
+            self.to_drop -= 1;
+            self.computer_state.keep_silent();
             return Ok(());
         }
-        self.desk.answer(&mut self.replies)
+        self.computer_state.answer(&mut self.replies)
     }
 
     /// The sender has made a step: it is booked to its session, and what it emits goes on the link.
     #[tactic(auto, unfolding(crate::specs::inside::Playing::sends))]
     fn step(&mut self, emit: EmitOf<N>) -> Result<(), AllocError>
         requires { IsLimit N }
-        ensures { (r : ReceiverState) → IsIn N self.old.desk.receiver r →
+        ensures { (r : ReceiverState) → IsIn N self.old.computer_state.receiver r →
             OnOk result (IsWorld N self.new (emitted emit.entry (with_sender self.old.sender (world_at self.old r)))) }
     {
         self.follow();
@@ -329,7 +333,7 @@ impl<const N: usize> RunOf<N> {
     fn follow(&mut self)
         ensures { self.new ≡ kept_following self.old }
     {
-        self.desk.follow(
+        self.computer_state.follow(
             self.current,
             self.sender.acknowledged(),
             self.sender.outcome(),
@@ -340,7 +344,7 @@ impl<const N: usize> RunOf<N> {
     fn send(&mut self, frame: FrameOf<N>) -> Result<(), AllocError>
         ensures { OnOk result (self.new ≡ kept_sending frame.entry self.old) }
     {
-        self.desk.send(self.current, &frame)?;
+        self.computer_state.send(self.current, &frame)?;
         self.units.push_back(TravellingOf {
             session: self.current,
             load: LoadOf::Frame(frame),
@@ -348,7 +352,7 @@ impl<const N: usize> RunOf<N> {
         Ok(())
     }
 
-    /// A unit of the present session goes on the link, behind what is there.
+    /// A unit of the present session goes on the link, after what is there.
     fn place(&mut self, load: LoadOf<N>) -> Result<(), AllocError>
         ensures { OnOk result (self.new ≡ kept_with (load_of load.entry) self.old) }
     {

@@ -68,7 +68,7 @@ impl<const N: usize> SessionOf<N> {
         self.acknowledged
     }
 
-    /// The texts that the receiver handed out.
+    /// The texts that the receiver delivered.
     pub fn handed(&self) -> &[LinkText]
         ensures { result.now ≡ self.now.handed }
     {
@@ -108,7 +108,7 @@ impl<const N: usize> SessionOf<N> {
         Ok(())
     }
 
-    /// A frame was accepted, and a text handed out if it was the last of one.
+    /// A frame was accepted, and a text delivered if it was the last of one.
     pub(crate) fn take(
         &mut self,
         frame: FrameOf<N>,

@@ -1,4 +1,4 @@
-//! The program: finds out what is asked, runs it over standard input and output, and tells how it ended.
+//! The program: finds out what is asked, runs it over standard input and output, and says how it ended.
 #![tactic(auto)]
 
 ghost use Rattle.std.specs.Prelude.{◌≡◌, IfOk, OnErr};
@@ -13,23 +13,23 @@ use std::{env, mem};
 /// The room of the buffer on standard input.
 const READ_ROOM: usize = 32_768;
 
-/// The room of the buffer on standard output. A page of a command is longer and passes it by.
+/// The room of the buffer on standard output. An output buffer of a command is longer and passes it by.
 const WRITE_ROOM: usize = 4096;
 
 fn main(rt: HostRuntime) -> ExitCode {
     let Ok(Ok(words)) = env::args(&rt).map(|args| args.collect::<Vec<String>>(rt.alloc())) else {
-        return told(&rt, Err(ToolFault::OutOfMemory));
+        return exit_code(&rt, Err(ToolFault::OutOfMemory));
     };
     let Some(command) = command(words.as_slice()) else {
         let _ = eprintln!(rt; "usage: lislink COMMAND");
         return ExitCode::from(2);
     };
     let Ok(reader) = BufReader::with_capacity(rt.alloc(), READ_ROOM, rt.reader()) else {
-        return told(&rt, Err(ToolFault::OutOfMemory));
+        return exit_code(&rt, Err(ToolFault::OutOfMemory));
     };
     let Ok(writer) = BufWriter::with_capacity(rt.alloc(), WRITE_ROOM, Once::new(io::writer(&rt)))
     else {
-        return told(&rt, Err(ToolFault::OutOfMemory));
+        return exit_code(&rt, Err(ToolFault::OutOfMemory));
     };
     let mut source = ReadAhead::new(reader);
     let mut sink = Buffered::new(writer);
@@ -37,20 +37,20 @@ fn main(rt: HostRuntime) -> ExitCode {
     // Only a sink that failed still holds bytes. Dropped, its buffer would try to write them again.
     mem::forget(sink);
     if let (Command::Results, Ok(report)) = (command, ended) {
-        tell_refused(&rt, report);
+        print_refused(&rt, report);
     }
-    told(&rt, ended)
+    exit_code(&rt, ended)
 }
 
-/// Tells a refused record on standard error.
-fn tell_refused(rt: &HostRuntime, report: Report) {
+/// Reports a rejected record on standard error.
+fn print_refused(rt: &HostRuntime, report: Report) {
     if let Some(refused) = report.refused {
         let _ = eprintln!(rt; "lislink: {refused}");
     }
 }
 
-/// The exit status for a run that ended so; why it stopped is told on standard error.
-fn told(rt: &HostRuntime, ended: Ended) -> ExitCode
+/// The exit status for a run that ended so; why it stopped is reported on standard error.
+fn exit_code(rt: &HostRuntime, ended: Ended) -> ExitCode
     ensures report { IfOk ended (λ report. exit_status result ≡ report.status) }
     ensures fault { OnErr ended (exit_status result ≡ 3) }
 {

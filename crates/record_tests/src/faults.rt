@@ -1,8 +1,8 @@
 //! What each fault of records and messages says of itself.
 
-use lis_field::{DelimiterFault, Kind};
 use lis_message::{MessageFault, MessageWriteFault, Reason, TextsFault};
 use lis_record::{DelimiterPartFault, RecordFault, WriteFault};
+use lis_record_values::{DelimiterFault, Kind};
 use std::alloc::Global;
 use std::fmt::Display;
 use std::mem::drop;
@@ -24,7 +24,7 @@ fn faults_of_delimiters_say_what_is_wrong(rt: HostRuntime) {
     assert_says(&rt, alloc, &DelimiterPartFault::Trailing(65), trailing);
     let repeated = DelimiterPartFault::Fault(DelimiterFault::Repeated(2));
     let want =
-        "the header's delimiters are wrong: the delimiter at place 2 stands at an earlier one too [G1 C3]";
+        "the header's delimiters are wrong: the delimiter at place 2 is at an earlier one too [G1 C3]";
     assert_says(&rt, alloc, &RecordFault::DelimiterPart(repeated), want);
 }
 
@@ -37,13 +37,13 @@ fn faults_of_records_say_what_is_wrong(rt: HostRuntime) {
         &RecordFault::Empty,
         "the record is empty [G1 C1]",
     );
-    let kind = "byte 88 stands where the record's letter or its field delimiter is due [G1 C2]";
+    let kind = "byte 88 is where the record's letter or its field delimiter is due [G1 C2]";
     assert_says(&rt, alloc, &RecordFault::UnknownKind(88), kind);
-    let byte = "the byte at place 7 may not stand in a record [G1 C4]";
+    let byte = "the byte at place 7 may not be in a record [G1 C4]";
     assert_says(&rt, alloc, &RecordFault::Byte(7), byte);
     let long = "the record has more than 65536 bytes";
     assert_says(&rt, alloc, &RecordFault::TooLong, long);
-    assert_says(&rt, alloc, &RecordFault::OutOfMemory, "memory was refused");
+    assert_says(&rt, alloc, &RecordFault::OutOfMemory, "memory ran out");
 }
 
 #[test]
@@ -51,15 +51,15 @@ fn reasons_say_what_is_wrong(rt: HostRuntime) {
     let alloc = rt.alloc();
     let record = Reason::BadRecord(RecordFault::Empty);
     assert_says(&rt, alloc, &record, "the record is empty [G1 C1]");
-    let header = "it stands outside a message and is no header [G2]";
+    let header = "it is outside a message and is no header [G2]";
     assert_says(&rt, alloc, &Reason::NotHeader, header);
-    let parent = "no record that it belongs to stands above this R record [G3]";
+    let parent = "no record that it belongs to is above this R record [G3]";
     assert_says(&rt, alloc, &Reason::NoParent(Kind::R), parent);
-    let second = "a header stands inside a message or behind its end [G4]";
+    let second = "a header is inside a message or after its end [G4]";
     assert_says(&rt, alloc, &Reason::SecondHeader, second);
     let long = "the record has more than 65536 bytes without CR [G6]";
     assert_says(&rt, alloc, &Reason::RecordTooLong, long);
-    assert_says(&rt, alloc, &Reason::OutOfMemory, "memory was refused");
+    assert_says(&rt, alloc, &Reason::OutOfMemory, "memory ran out");
 }
 
 #[test]
@@ -90,12 +90,12 @@ fn faults_of_writing_say_what_is_wrong(rt: HostRuntime) {
     );
     let many = "the message has more than 65536 records";
     assert_says(&rt, alloc, &TextsFault::TooMany, many);
-    assert_says(&rt, alloc, &TextsFault::OutOfMemory, "memory was refused");
+    assert_says(&rt, alloc, &TextsFault::OutOfMemory, "memory ran out");
 }
 
 /// Fails where a fault says something else of itself.
 fn assert_says<T: Display>(rt: &impl Abort, alloc: Global, fault: &T, want: &str) {
-    let told = format!(in alloc; "{fault}").expect(rt, "memory");
-    assert!(rt; told.as_str() == want);
-    drop(told);
+    let reported = format!(in alloc; "{fault}").expect(rt, "memory");
+    assert!(rt; reported.as_str() == want);
+    drop(reported);
 }

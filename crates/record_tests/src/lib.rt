@@ -1,12 +1,12 @@
 //! Tests over the public calls of fields, records and messages: what no contract, no conformance row and no test of the
 //! programs says.
-//! They stand in a crate of their own, as a crate that has tests is proved once more with them.
+//! They are in a crate of their own, as a crate that has tests is proved once more with them.
 #![tactic(auto)]
 
 #[cfg(test)]
-mod faults;
+mod borrowed;
 #[cfg(test)]
-mod lent;
+mod faults;
 #[cfg(test)]
 mod memory;
 #[cfg(test)]

@@ -1,18 +1,18 @@
-//! Lists to which memory is refused. Each test passes with memory, and where any one growth is refused: what is
-//! refused comes back, the list is as before, and the same call again is answered in full. All this is seen of the
-//! whole list, since what came back is pushed. `tests/faults` refuses each growth.
+//! Lists for which memory runs out. Each test passes with memory, and where any one growth fails: what is
+//! rejected comes back, the list is as before, and the same call again is answered in full. All this is seen of the
+//! whole list, since what came back is pushed. `tests/faults` rejects each growth.
 
 ghost use Rattle.std.specs.Mem.{FitsInMemory};
 
-use lis_field::*;
 use lis_port::Slow;
-use lis_record::{LentField, lend_record, put_field, write_record};
+use lis_record::{BorrowedField, borrow_record, put_field, write_record};
+use lis_record_values::*;
 use lis_text::*;
 use std::alloc::{AllocError, AllocFailed, Global};
 use std::mem::drop;
 use std::process::Abort;
 
-/// Grows a text by these bytes; memory that is refused is asked for once more.
+/// Grows a text by these bytes; an allocation that fails is tried once more.
 fn grow(rt: &impl Abort, text: &mut LinkText, more: &[u8]) {
     if text.extend(more).is_err() {
         assert!(rt; text.extend(more).is_ok());
@@ -25,12 +25,12 @@ fn a_text_that_cannot_grow_is_as_before(rt: HostRuntime) {
     grow(&rt, &mut text, b"AB");
     grow(&rt, &mut text, &[0x43; 100]);
     assert!(rt; text.len() == 102);
-    let (front, behind) = text.as_slice().split_at(2);
-    assert!(rt; front == b"AB".as_slice() && behind == [0x43; 100].as_slice());
+    let (front, following) = text.as_slice().split_at(2);
+    assert!(rt; front == b"AB".as_slice() && following == [0x43; 100].as_slice());
     drop(text);
 }
 
-/// What came back from a push, where memory was refused to it.
+/// What came back from a push, if memory runs out to it.
 fn refused<T>(pushed: Result<(), AllocFailed<T>>) -> Option<T> {
     match pushed {
         Ok(()) => None,
@@ -38,7 +38,7 @@ fn refused<T>(pushed: Result<(), AllocFailed<T>>) -> Option<T> {
     }
 }
 
-/// Fails where what came back is refused again.
+/// Fails where what came back is rejected again.
 fn assert_pushed<T: Drop>(rt: &impl Abort, pushed: Result<(), AllocFailed<T>>) {
     assert!(rt; pushed.is_ok());
     drop(pushed);
@@ -61,7 +61,7 @@ fn an_item_that_is_refused_comes_back(rt: HostRuntime) {
     drop(text);
 }
 
-/// A text of these bytes; memory that is refused is asked for once more.
+/// A text of these bytes; an allocation that fails is tried once more.
 fn text_of(alloc: Global, bytes: &[u8]) -> Result<LinkText, AllocError> {
     match LinkText::from_slice(alloc, bytes) {
         Ok(text) => Ok(text),
@@ -137,8 +137,8 @@ fn push_part<P: Part>(rt: &impl Abort, parts: &mut Parts<P>, part: P)
     }
 }
 
-/// Fails where a field is spelled otherwise.
-fn assert_spelled(rt: &impl Abort, field: &Field, want: &[u8]) {
+/// Fails where a field is encoded otherwise.
+fn assert_encoded(rt: &impl Abort, field: &Field, want: &[u8]) {
     let mut sink = Slow::new(100, 100);
     assert!(rt; put_field(&mut sink, &Delimiters::usual(), field).is_ok());
     assert!(rt; sink.took() == want);
@@ -167,7 +167,7 @@ fn a_component_that_is_refused_comes_back(rt: HostRuntime) {
         push_part(&rt, &mut repeat, component_of(&rt, rt.alloc(), letter));
     }
     let field = Field::new(rt.alloc(), repeat).expect(&rt, "a field without memory");
-    assert_spelled(&rt, &field, b"A^B^C^D^E^F^G^H^I");
+    assert_encoded(&rt, &field, b"A^B^C^D^E^F^G^H^I");
     drop(field);
 }
 
@@ -177,7 +177,7 @@ fn a_repeat_that_is_refused_comes_back(rt: HostRuntime) {
     for letter in b'B'..=b'I' {
         push_part(&rt, &mut field, repeat_of(&rt, rt.alloc(), letter));
     }
-    assert_spelled(&rt, &field, b"A\\B\\C\\D\\E\\F\\G\\H\\I");
+    assert_encoded(&rt, &field, b"A\\B\\C\\D\\E\\F\\G\\H\\I");
     drop(field);
 }
 
@@ -241,15 +241,15 @@ fn assert_kinds(rt: &impl Abort, records: &[Record]) {
     assert!(rt; records.len() == 9);
     let mut rest = KINDS.as_slice();
     for record in records {
-        let (kind, behind) = rest.split_first().expect(rt, "a tenth record");
+        let (kind, following) = rest.split_first().expect(rt, "a tenth record");
         assert!(rt; record.kind() == *kind);
-        rest = behind;
+        rest = following;
     }
 }
 
-/// Adds a field's spelling to a text; where memory is refused the text begins with what it was, and it is asked once
+/// Adds a field's encoding to a text; if memory runs out the text begins with what it was, and it is asked once
 /// more.
-fn add_field(rt: &impl Abort, field: &LentField<'_>, text: &mut Vec<u8>) {
+fn add_field(rt: &impl Abort, field: &BorrowedField<'_>, text: &mut Vec<u8>) {
     let length = text.len();
     if field.add_to(text).is_err() {
         assert!(rt; text.len() >= length);
@@ -260,7 +260,7 @@ fn add_field(rt: &impl Abort, field: &LentField<'_>, text: &mut Vec<u8>) {
 
 #[test]
 fn a_text_that_takes_no_field_begins_as_before(rt: HostRuntime) {
-    let record = lend_record(&Delimiters::usual(), b"C|a\\b|&X0d&").expect(&rt, "a record");
+    let record = borrow_record(&Delimiters::usual(), b"C|a\\b|&X0d&").expect(&rt, "a record");
     let plain = record.field(2).expect(&rt, "a field");
     let raw = record.field(3).expect(&rt, "a field");
     let mut text = Vec::new(rt.alloc());

@@ -81,9 +81,9 @@ fn results_come_with_their_orders_and_patients(rt: HostRuntime) {
 fn assert_copied(rt: &impl Abort, alloc: Global, message: Option<&Message>) {
     let message = message.expect(rt, "a message");
     let copy = message.copy(alloc).expect(rt, "a copy");
-    let told = (copy.len(), copy == *message);
+    let reported = (copy.len(), copy == *message);
     drop(copy);
-    assert!(rt; told == (14, true));
+    assert!(rt; reported == (14, true));
 }
 
 #[test]

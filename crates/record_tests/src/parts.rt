@@ -1,8 +1,8 @@
 //! What no contract and no conformance row says: which fields have a text, what number a field has, copies, the fronts
 //! of texts.
 
-use lis_field::{Component, Repeat};
 use lis_record::{Delimiters, Kind, Record, read_record};
+use lis_record_values::{Component, Repeat};
 use std::alloc::Global;
 use std::mem::drop;
 use std::process::Abort;

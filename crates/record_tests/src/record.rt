@@ -1,15 +1,15 @@
-//! What no contract and no conformance row says: a field that is put from where it stands, a field's spelling in pieces,
+//! What no contract and no conformance row says: a field that is put from where it is, a field's encoding in pieces,
 //! and how long a record is.
 
-use lis_field::Field;
 use lis_port::Slow;
-use lis_record::{Delimiters, FieldSpelling, Kind, Record, lend_record, spelled_length};
+use lis_record::{Delimiters, FieldEncoding, Kind, Record, borrow_record, encoded_length};
+use lis_record_values::Field;
 use std::mem::drop;
 use std::process::Abort;
 
 /// Fails where a field of a record's text is put otherwise.
 fn assert_put(rt: &impl Abort, text: &[u8], number: usize, want: &[u8]) {
-    let record = lend_record(&Delimiters::usual(), text).expect(rt, "a record");
+    let record = borrow_record(&Delimiters::usual(), text).expect(rt, "a record");
     let field = record.field(number).expect(rt, "a field");
     let mut sink = Slow::new(100, 1);
     assert!(rt; field.put(&mut sink).is_ok());
@@ -18,7 +18,7 @@ fn assert_put(rt: &impl Abort, text: &[u8], number: usize, want: &[u8]) {
 }
 
 #[test]
-fn a_lent_field_is_put_as_it_is_spelled(rt: HostRuntime) {
+fn a_borrowed_field_is_put_as_it_is_encoded(rt: HostRuntime) {
     assert_put(&rt, b"C|a\\b^c||", 2, b"a\\b^c");
     assert_put(&rt, b"C|a||", 3, b"");
     assert_put(&rt, b"C|Smith & Sons", 2, b"Smith &E& Sons");
@@ -30,29 +30,29 @@ fn a_lent_field_is_put_as_it_is_spelled(rt: HostRuntime) {
 }
 
 #[test]
-fn the_length_of_a_spelling_is_told(rt: HostRuntime) {
+fn the_length_of_an_encoding_is_reported(rt: HostRuntime) {
     let texts = [b"1".as_slice(), b"", b"Smith & Sons", b"a|b\\c^d"];
     // P|1||Smith &E& Sons|a&F&b&R&c&S&d
     let record = Record::from_texts(rt.alloc(), Kind::P, &texts).expect(&rt, "a record");
-    let length = spelled_length(&Delimiters::usual(), &record);
+    let length = encoded_length(&Delimiters::usual(), &record);
     drop(record);
     assert!(rt; length == 33);
 }
 
 #[test]
-fn the_pieces_of_a_field_are_its_spelling(rt: HostRuntime) {
+fn the_pieces_of_a_field_are_its_encoding(rt: HostRuntime) {
     let field = Field::from_text(rt.alloc(), &[b'a'; 600]).expect(&rt, "a field");
-    let mut spelled = Vec::new(rt.alloc());
-    let mut rest = FieldSpelling::new(&Delimiters::usual(), &field);
+    let mut encoded = Vec::new(rt.alloc());
+    let mut rest = FieldEncoding::new(&Delimiters::usual(), &field);
     for _ in 0..9 {
         if let Some(piece) = rest.piece() {
-            assert!(rt; spelled.extend_from_slice(piece).is_ok());
+            assert!(rt; encoded.extend_from_slice(piece).is_ok());
             rest.advance();
         }
     }
     assert!(rt; rest.piece().is_none());
     drop(rest);
     drop(field);
-    assert!(rt; spelled.as_slice() == [b'a'; 600].as_slice());
-    drop(spelled);
+    assert!(rt; encoded.as_slice() == [b'a'; 600].as_slice());
+    drop(encoded);
 }

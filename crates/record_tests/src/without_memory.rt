@@ -3,9 +3,11 @@
 //! them. `tests/faults` counts the growths of memory of both, those of memory that is released at once among them:
 //! they must be as many.
 
-use lis_field::*;
-use lis_message::{Fed, Found, Message, MessageReader, RecordReader, read_messages, write_message};
+use lis_message::{
+    Fed, Message, MessageReader, RecordFound, RecordReader, read_messages, write_message,
+};
 use lis_port::Discard;
+use lis_record_values::*;
 use std::alloc::Global;
 use std::mem::drop;
 use std::process::Abort;
@@ -44,24 +46,24 @@ fn records_in(reader: &mut RecordReader, piece: &[u8]) -> u64 {
     let mut rest = piece;
     let mut count: u64 = 0;
     for _turn in 0..=piece.len() {
-        let (behind, found) = reader.read(rest);
+        let (following, found) = reader.read(rest);
         match found {
-            Found::Nothing | Found::Refused(_) => return count,
-            Found::Record(_) | Found::Held => count = count.saturating_add(1),
+            RecordFound::Nothing | RecordFound::Refused(_) => return count,
+            RecordFound::Record(_) | RecordFound::Held => count = count.saturating_add(1),
         }
-        rest = behind;
+        rest = following;
     }
     count
 }
 
-/// A reader of records that holds the bytes of one, and a new one, which reads records that stand whole in a piece.
+/// A reader of records that holds the bytes of one, and a new one, which reads records that are whole in a piece.
 fn some_records(rt: &impl Abort, alloc: Global, asked: bool) {
     let mut reader = RecordReader::new(alloc);
     assert!(rt; records_in(&mut reader, b"H|\\^&\rP|1\rO|1|") == 2);
     if asked {
         assert!(rt; reader.read_whole(b"S7\r").is_none());
         assert!(rt; reader.held() == 4 && reader.next_place() == 3 && reader.finish().is_err());
-        assert!(rt; reader.cut().is_none());
+        assert!(rt; reader.split().is_none());
         let mut whole = RecordReader::new(alloc);
         assert!(rt; whole.read_whole(MESSAGE).is_some());
         drop(whole);

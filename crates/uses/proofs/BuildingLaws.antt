@@ -2,11 +2,11 @@
 use Rattle.std.proofs.Common.{◌≡◌, ◌⊎◌, inl, inr, List, [], ◌∷◌, ◌++◌, Some, refl, ℕ, Result, Ok, Err, MatchResult}
 use Rattle.std.specs.Result.{IfErr, IsErrAnd, IsOkAnd, OnOk}
 use Rattle.std.specs.Prelude.{⊤}
-use Rattle.lis_field.specs.Shape.{RecordContent}
-use Rattle.lis_field.specs.declared.kinds.Kind.{Kind}
-use Rattle.lis_field.specs.declared.faults.MessageFault.{MessageFault}
-use Rattle.lis_field.specs.declared.faults.Reason.TheVariants.{OutOfMemory}
-use Rattle.lis_tree.specs.Level.{StandsFrom, closed, kinds_of, level_after, outside}
+use Rattle.lis_record_values.specs.Shape.{RecordContent}
+use Rattle.lis_record_values.specs.declared.kinds.Kind.{Kind}
+use Rattle.lis_record_values.specs.declared.faults.MessageFault.{MessageFault}
+use Rattle.lis_record_values.specs.declared.faults.Reason.TheVariants.{OutOfMemory}
+use Rattle.lis_tree.specs.Level.{AllowedFrom, closed, kinds_of, level_after, outside}
 use Rattle.lis_tree.specs.ListFaults.{IsListFault}
 use Rattle.lis_tree.specs.Tree.{MessageTree}
 use Rattle.uses.specs.declared.building.BuildFault.{BuildFault}
@@ -20,7 +20,7 @@ where_ok (Err e) holds is = elim is [ ]
 
 -- a list of records in the hierarchy whose last one closes it has no fault
 abbrev pub HasNoFault : Type 0
-HasNoFault = (ks : List Kind) (fault : MessageFault) → StandsFrom outside ks → level_after outside ks ≡ closed
+HasNoFault = (ks : List Kind) (fault : MessageFault) → AllowedFrom outside ks → level_after outside ks ≡ closed
     → IsListFault ks fault → ⊥
 
 -- so memory alone can run out
@@ -28,11 +28,12 @@ pub only_memory : HasNoFault → (sample value : List ℕ) (records : List Recor
     (made : Result MessageTree MessageFault) (result : Result MessageTree BuildFault)
     → records ≡ result_records sample value
     → IfErr made (λ fault. (fault.reason ≡ OutOfMemory) ⊎ IsListFault (kinds_of records) fault)
-    → MatchResult made (λ message. result ≡ Ok message) (λ fault. IsErrAnd result (λ told. told ≡ Message fault))
+    → MatchResult made (λ message. result ≡ Ok message) (λ fault. IsErrAnd result (λ reported. reported
+    ≡ Message fault))
     → IfErr result IsMemory
 only_memory whole sample value records (Ok message) result are refused is = rw is (record {})
 only_memory whole sample value records (Err fault) (Ok message) are refused is = elim is [ ]
-only_memory whole sample value records (Err fault) (Err told) are refused is =
+only_memory whole sample value records (Err fault) (Err reported) are refused is =
     rw is (elim refused [
       | inl memory ↦ memory
       | inr was ↦

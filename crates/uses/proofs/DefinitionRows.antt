@@ -1,18 +1,18 @@
 -- The definitions of the loops at values known from outside.
 use Rattle.std.proofs.Common.{[], ◌∷◌, None, Some, true, refl}
 use Rattle.lis_frame.specs.Frame.{frame_bytes}
-use Rattle.lis_frame.specs.Stream.{open_stretch, signal_after}
-use Rattle.lis_frame.specs.Stretch.{stretch_fault}
+use Rattle.lis_frame.specs.Stream.{open_body, signal_after}
+use Rattle.lis_frame.specs.FrameBody.{body_fault}
 use Rattle.lis_frame.specs.Pieces.{pieces, session_frames, text_frames}
 use Rattle.lis_link.specs.declared.sender.Outcome.TheVariants.{Done, TimedOut}
 use Rattle.lis_link.specs.declared.sender.Phase.TheVariants.{Neutral}
 use Rattle.lis_link.specs.declared.receiver.Note.TheVariants as notes
 use Rattle.lis_link.specs.Receiver.{ReceiverState, new_receiver}
 use Rattle.lis_link.specs.Sender.{started}
-use Rattle.uses.specs.Analyzer.{IsSession, answered, over, quiet}
+use Rattle.uses.specs.Analyzer.{IsSession, answered, finished, quiet}
 use Rattle.uses.specs.Computer.{IsReception, acknowledged, closed, goes_on, made, unanswered}
-use Rattle.uses.specs.Line.{kept, not_kept, sent, timed, waited}
-use Rattle.uses.specs.declared.line.Event.TheVariants.{Byte, Closed, Timer}
+use Rattle.uses.specs.Connection.{kept, not_kept, sent, timed, waited}
+use Rattle.uses.specs.declared.connection.Event.TheVariants.{Byte, Closed, Timer}
 
 -- the text A: ACK, its frame, ACK, EOT
 a_text_is_sent : IsSession 2 (started 240 ((65 ∷ []) ∷ []))
@@ -22,7 +22,7 @@ a_text_is_sent : IsSession 2 (started 240 ((65 ∷ []) ∷ []))
 unfolding session_frames text_frames pieces frame_bytes
 a_text_is_sent =
     answered 1 (Byte 6) 15 (waited (Byte 6) ∷ sent (4 ∷ []) ∷ []) refl (λ e. cc) refl (λ nothing. cc) refl
-    (over 0 (Byte 6) refl (λ e. cc) refl refl refl refl)
+    (finished 0 (Byte 6) refl (λ e. cc) refl refl refl refl)
 
 -- NAK, a byte that means nothing, the timer that ends the wait, and one that ends the session
 each_wait_has_its_timer : IsSession 4 (started 240 ((65 ∷ []) ∷ []))
@@ -37,7 +37,7 @@ each_wait_has_its_timer =
     (quiet 2 (Byte 120) 10 (waited Timer ∷ sent (5 ∷ []) ∷ timed 15 ∷ waited Timer ∷ sent (4 ∷ []) ∷ [])
     refl (λ e. cc) refl (refl, refl) refl
     (answered 1 Timer 15 (waited Timer ∷ sent (4 ∷ []) ∷ []) refl (λ e. cc) refl (λ nothing. cc) refl
-    (over 0 Timer refl (λ e. cc) refl refl refl refl)))
+    (finished 0 Timer refl (λ e. cc) refl refl refl refl)))
 
 -- ENQ opens the line, the timer closes it again, and the line is hung up
 a_line_is_opened_and_times_out : IsReception 3 new_receiver
@@ -64,7 +64,7 @@ a_text_is_kept : IsReception 1 before_last_byte
       accepted = record { number = 1; text = 65 ∷ []; last = true } ∷ [];
       past = 10 ∷ 13 ∷ 53 ∷ 55 ∷ 3 ∷ 65 ∷ 49 ∷ 2 ∷ 5 ∷ [];
     })
-unfolding signal_after open_stretch stretch_fault before_last_byte
+unfolding signal_after open_body body_fault before_last_byte
 a_text_is_kept =
     acknowledged {r = before_last_byte} 0 (Byte 10)
     (record { reply = Some 6; message = Some (65 ∷ []); note = notes.Accepted 1 }) (65 ∷ []) refl (λ e. cc)
@@ -73,7 +73,7 @@ a_text_is_kept =
 -- it can't be kept: nothing is sent, and the receiver restarts; then the line is hung up
 a_text_is_not_kept : IsReception 2 before_last_byte (waited (Byte 10) ∷ not_kept (65 ∷ []) ∷ waited Closed ∷ []) None
     (record new_receiver { accepted = record { number = 1; text = 65 ∷ []; last = true } ∷ [] })
-unfolding signal_after open_stretch stretch_fault before_last_byte
+unfolding signal_after open_body body_fault before_last_byte
 a_text_is_not_kept =
     unanswered {r = before_last_byte} 1 (Byte 10)
     (record { reply = Some 6; message = Some (65 ∷ []); note = notes.Accepted 1 }) (65 ∷ [])

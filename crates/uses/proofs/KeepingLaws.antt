@@ -1,4 +1,4 @@
--- What is acknowledged stays what was kept: through a step of the receiver, and through deeds on the line.
+-- What is acknowledged stays what was kept: through a step of the receiver, and through logged events on the line.
 use Rattle.std.proofs.Common.{◌≡◌, ℕ, Bool, ◌⊎◌, inl, inr, List, true, false, [], ◌∷◌, ◌++◌, Option, None, Some}
 use Rattle.std.proofs.Common.{refl, sym, ap, ◌∙◌, append_assoc, append-nil}
 use Rattle.std.proofs.lemmas.Bool.{false≢true}
@@ -13,14 +13,15 @@ use Rattle.lis_link.specs.declared.receiver.Readiness.{Readiness}
 use Rattle.lis_link.specs.declared.receiver.Readiness.TheVariants as readiness
 use Rattle.lis_link.specs.declared.receiver.Step.{Step}
 use Rattle.lis_link.specs.Joining.{completed, groups}
-use Rattle.lis_link.specs.Receiver.{ReceiverState, bid_with, heard, heard_by, held_text, judged, on_judged}
+use Rattle.lis_link.specs.Receiver.{ReceiverState, answered_request, heard, heard_by, held_text, classified}
+use Rattle.lis_link.specs.Receiver.{on_classified}
 use Rattle.lis_link.specs.Receiver.{receiver_restarted, timer_by}
 use Rattle.lis_link.proofs.JoiningLaws.{groups-append}
-use Rattle.uses.specs.Computer.{AcknowledgedIsKept, IsAnswer, answer_deeds, made, refused, reply_deeds, step_at}
-use Rattle.uses.specs.Computer.{timer_behind}
-use Rattle.uses.specs.Line.{Deed, GoesOn, kept, kept_texts, not_kept, reconnected, sent, timed, waited}
-use Rattle.uses.specs.declared.line.Event.{Event}
-use Rattle.uses.specs.declared.line.Event.TheVariants.{Byte, Timer, Closed}
+use Rattle.uses.specs.Computer.{AcknowledgedIsKept, IsAnswer, answer_log, made, refused, reply_log, step_at}
+use Rattle.uses.specs.Computer.{timer_after}
+use Rattle.uses.specs.Connection.{LogEvent, GoesOn, kept, kept_texts, not_kept, reconnected, sent, timed, waited}
+use Rattle.uses.specs.declared.connection.Event.{Event}
+use Rattle.uses.specs.declared.connection.Event.TheVariants.{Byte, Timer, Closed}
 
 -- if the line is open after it, either its session began with it, or the acknowledged texts are those before and these
 abbrev pub Grows : ReceiverState → ReceiverState → List (List ℕ) → Type 0
@@ -48,24 +49,24 @@ one_more r frame =
     ∙ ap (λ t. groups [] r.accepted ++ t) (append-nil (option_to_list (completed (held_text r) frame)))
 
 -- a step of the receiver, by what was heard
-bid_grows : (ready : Readiness) (r : ReceiverState)
-    → Grows r (bid_with ready r).after (option_to_list (bid_with ready r).message)
-bid_grows readiness.Ready r = λ is. inl refl
-bid_grows readiness.Busy r = is_shut r (bid_with readiness.Busy r).after [] refl
-bid_grows readiness.Contending r = is_shut r (bid_with readiness.Contending r).after [] refl
+request_grows : (ready : Readiness) (r : ReceiverState)
+    → Grows r (answered_request ready r).after (option_to_list (answered_request ready r).message)
+request_grows readiness.Ready r = λ is. inl refl
+request_grows readiness.Busy r = is_shut r (answered_request readiness.Busy r).after [] refl
+request_grows readiness.Contending r = is_shut r (answered_request readiness.Contending r).after [] refl
 
-judged_grows : (r : ReceiverState) (frame : FrameContent) (note : Note)
-    → Grows r (on_judged r frame note).after (option_to_list (on_judged r frame note).message)
-judged_grows r frame (Notes.Accepted number) = λ is. inr (is, one_more r frame)
-judged_grows r frame note = stays r r refl refl
+classified_grows : (r : ReceiverState) (frame : FrameContent) (note : Note)
+    → Grows r (on_classified r frame note).after (option_to_list (on_classified r frame note).message)
+classified_grows r frame (Notes.Accepted number) = λ is. inr (is, one_more r frame)
+classified_grows r frame note = stays r r refl refl
 
 signal_grows : (is_open : Bool) (signal : SignalOf 240) (r : ReceiverState) → r.is_open ≡ is_open
     → Grows r (heard_by is_open signal r).after (option_to_list (heard_by is_open signal r).message)
-signal_grows true signals.Enq r opens = bid_grows r.readiness r
+signal_grows true signals.Enq r opens = request_grows r.readiness r
 signal_grows true signals.Eot r opens = is_shut r (record r { is_open = false }) [] refl
-signal_grows true (signals.Good frame) r opens = judged_grows r frame (judged r frame)
+signal_grows true (signals.Good frame) r opens = classified_grows r frame (classified r frame)
 signal_grows true (signals.Bad fault) r opens = stays r r refl refl
-signal_grows false signals.Enq r opens = bid_grows r.readiness r
+signal_grows false signals.Enq r opens = request_grows r.readiness r
 signal_grows false signals.Eot r opens = stays r r refl refl
 signal_grows false (signals.Good frame) r opens = stays r r refl refl
 signal_grows false (signals.Bad fault) r opens = stays r r refl refl
@@ -96,36 +97,37 @@ answer_grows event r answer after (refused byte frame event_is taken after_is is
 pub restart_grows : (r after : ReceiverState) (texts : List (List ℕ)) → Grows r (receiver_restarted after) texts
 restart_grows r after texts = is_shut r (receiver_restarted after) texts refl
 
--- the texts that were kept by deeds after deeds, and by an answer
-kept_texts-append : (deeds more : List Deed) → kept_texts (deeds ++ more) ≡ kept_texts deeds ++ kept_texts more
+-- the texts that were kept by logged events after logged events, and by an answer
+kept_texts-append : (event_log more : List LogEvent) → kept_texts (event_log ++ more) ≡ kept_texts event_log ++
+    kept_texts more
 kept_texts-append [] more = refl
-kept_texts-append (kept text ∷ deeds) more = ap (λ t. text ∷ t) (kept_texts-append deeds more)
-kept_texts-append (not_kept text ∷ deeds) more = kept_texts-append deeds more
-kept_texts-append (waited event ∷ deeds) more = kept_texts-append deeds more
-kept_texts-append (sent bytes ∷ deeds) more = kept_texts-append deeds more
-kept_texts-append (timed seconds ∷ deeds) more = kept_texts-append deeds more
-kept_texts-append (reconnected ∷ deeds) more = kept_texts-append deeds more
+kept_texts-append (kept text ∷ event_log) more = ap (λ t. text ∷ t) (kept_texts-append event_log more)
+kept_texts-append (not_kept text ∷ event_log) more = kept_texts-append event_log more
+kept_texts-append (waited event ∷ event_log) more = kept_texts-append event_log more
+kept_texts-append (sent bytes ∷ event_log) more = kept_texts-append event_log more
+kept_texts-append (timed seconds ∷ event_log) more = kept_texts-append event_log more
+kept_texts-append (reconnected ∷ event_log) more = kept_texts-append event_log more
 
-none_by_timer : (note : Note) (is_open : Bool) → kept_texts (timer_behind note is_open) ≡ []
+none_by_timer : (note : Note) (is_open : Bool) → kept_texts (timer_after note is_open) ≡ []
 none_by_timer note false = refl
 none_by_timer Notes.Quiet true = refl
 none_by_timer note true = refl
 
-none_by_reply : (reply : Option ℕ) (more : List Deed) → kept_texts (reply_deeds reply ++ more) ≡ kept_texts more
+none_by_reply : (reply : Option ℕ) (more : List LogEvent) → kept_texts (reply_log reply ++ more) ≡ kept_texts more
 none_by_reply None more = refl
 none_by_reply (Some byte) more = refl
 
-pub none_by_answer : (answer : Step) (is_open : Bool) → kept_texts (answer_deeds answer is_open) ≡ []
+pub none_by_answer : (answer : Step) (is_open : Bool) → kept_texts (answer_log answer is_open) ≡ []
 none_by_answer answer is_open =
-    none_by_reply answer.reply (timer_behind answer.note is_open) ∙ none_by_timer answer.note is_open
+    none_by_reply answer.reply (timer_after answer.note is_open) ∙ none_by_timer answer.note is_open
 
--- what is acknowledged is still kept after deeds that keep the texts by which it grows
-still_kept : (log deeds all : List Deed) (r after : ReceiverState) (texts : List (List ℕ))
-    → all ≡ log ++ deeds → kept_texts deeds ≡ texts → Grows r after texts
+-- what is acknowledged is still kept after logged events that keep the texts by which it grows
+still_kept : (log event_log all : List LogEvent) (r after : ReceiverState) (texts : List (List ℕ))
+    → all ≡ log ++ event_log → kept_texts event_log ≡ texts → Grows r after texts
     → AcknowledgedIsKept (Some log) r → AcknowledgedIsKept (Some all) after
-still_kept log deeds all r after texts all_is texts_is grows is_kept = λ is.
+still_kept log event_log all r after texts all_is texts_is grows is_kept = λ is.
     let whole : kept_texts all ≡ kept_texts log ++ texts =
-    ap kept_texts all_is ∙ kept_texts-append log deeds ∙ ap (λ t. kept_texts log ++ t) texts_is in
+    ap kept_texts all_is ∙ kept_texts-append log event_log ∙ ap (λ t. kept_texts log ++ t) texts_is in
     elim (grows is) [
       | inl begun ↦ (kept_texts all, sym (append-nil (kept_texts all)) ∙ ap (λ t. kept_texts all ++ t) (sym begun))
       | inr went_on ↦
@@ -136,11 +138,11 @@ still_kept log deeds all r after texts all_is texts_is grows is_kept = λ is.
           )
     ]
 
-pub is_still_kept : (past now : Option (List Deed)) (deeds : List Deed) (r after : ReceiverState)
+pub is_still_kept : (past now : Option (List LogEvent)) (event_log : List LogEvent) (r after : ReceiverState)
     (texts : List (List ℕ))
-    → GoesOn past now deeds → kept_texts deeds ≡ texts → Grows r after texts
+    → GoesOn past now event_log → kept_texts event_log ≡ texts → Grows r after texts
     → AcknowledgedIsKept past r → AcknowledgedIsKept now after
-is_still_kept past None deeds r after texts done texts_is grows is_kept = record {}
-is_still_kept None (Some all) deeds r after texts done texts_is grows is_kept = elim done [ ]
-is_still_kept (Some log) (Some all) deeds r after texts done texts_is grows is_kept =
-    still_kept log deeds all r after texts done texts_is grows is_kept
+is_still_kept past None event_log r after texts done texts_is grows is_kept = record {}
+is_still_kept None (Some all) event_log r after texts done texts_is grows is_kept = elim done [ ]
+is_still_kept (Some log) (Some all) event_log r after texts done texts_is grows is_kept =
+    still_kept log event_log all r after texts done texts_is grows is_kept

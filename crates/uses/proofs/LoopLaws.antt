@@ -1,23 +1,23 @@
--- Deeds on a line that is known or isn't.
+-- Logged events on a line that is known or isn't.
 use Rattle.std.proofs.Common.{List, [], ◌++◌, Option, None, Some, ◌∙◌, ap, sym, append_assoc, append-nil}
-use Rattle.uses.specs.Line.{Deed, GoesOn}
+use Rattle.uses.specs.Connection.{LogEvent, GoesOn}
 
 -- nothing was done
-pub none_yet : (past : Option (List Deed)) → GoesOn past past []
+pub none_yet : (past : Option (List LogEvent)) → GoesOn past past []
 none_yet None = record {}
 none_yet (Some past) = sym (append-nil past)
 
--- none behind deeds
-pub goes_on_none : (past now : Option (List Deed)) (deeds : List Deed) → GoesOn past now deeds
-    → GoesOn past now (deeds ++ [])
-goes_on_none past now deeds done = rw (append-nil deeds) done
+-- none after logged events
+pub goes_on_none : (past now : Option (List LogEvent)) (event_log : List LogEvent) → GoesOn past now event_log
+    → GoesOn past now (event_log ++ [])
+goes_on_none past now event_log done = rw (append-nil event_log) done
 
--- deeds behind deeds
-pub goes_on_then : (past now last : Option (List Deed)) (deeds more : List Deed) → GoesOn past now deeds
+-- logged events after logged events
+pub goes_on_then : (past now last : Option (List LogEvent)) (event_log more : List LogEvent) → GoesOn past now event_log
     → GoesOn now last more
-    → GoesOn past last (deeds ++ more)
-goes_on_then past now None deeds more done behind = record {}
-goes_on_then past None (Some last) deeds more done behind = elim behind [ ]
-goes_on_then None (Some now) (Some last) deeds more done behind = elim done [ ]
-goes_on_then (Some past) (Some now) (Some last) deeds more done behind =
-    behind ∙ ap (λ (l : List Deed). l ++ more) done ∙ append_assoc past deeds more
+    → GoesOn past last (event_log ++ more)
+goes_on_then past now None event_log more done following = record {}
+goes_on_then past None (Some last) event_log more done following = elim following [ ]
+goes_on_then None (Some now) (Some last) event_log more done following = elim done [ ]
+goes_on_then (Some past) (Some now) (Some last) event_log more done following =
+    following ∙ ap (λ (l : List LogEvent). l ++ more) done ∙ append_assoc past event_log more

@@ -15,7 +15,7 @@ use Rattle.lis_run.specs.Replay.{all_differences}
 use Rattle.lis_engine.specs.Runs.{EachGave, Stopped}
 use Rattle.uses.specs.Played.{WasNotPlayed, WasPlayed}
 
--- the lines of what was read up to a refused one are those of the whole
+-- the lines of what was read up to a rejected one are those of the whole
 refused_in_whole :
     (front rest : List ℕ) (ended : Bool) → (ended ≡ true → rest ≡ [])
     → (capture (stream_with [] front) ended).refused ≡ true
@@ -62,9 +62,9 @@ not_played w bytes front left old new ended made OutOfMemory read answer stopped
 not_played w bytes front left old new ended made TooManyReads read answer (running, failed, working, is) end
     (given, all, most) = read_too_often bytes given left made all most is
 
--- the capture was played, and no difference was told of where the status is 0
+-- the capture was played, and no difference was said about where the status is 0
 pub was_played : (bytes : List ℕ) (status : ℕ)
     → (capture (stream_with [] bytes) true).refused ≡ false
     → (status ≡ 0 ↔ all_differences 240 (capture (stream_with [] bytes) true).lines ≡ 0)
     → WasPlayed bytes (eqb status 0)
-was_played bytes status whole told = record { whole = whole; told = search rules }
+was_played bytes status whole reported = record { whole = whole; reported = search rules }

@@ -7,7 +7,7 @@ use Rattle.std.proofs.lemmas.Grind.{flat_map-append}
 use Rattle.std.proofs.lemmas.List.{take_more, take-append-drop}
 use Rattle.std.specs.List.{AllZip, flat_map}
 use Rattle.lis_message.specs.Feeding.{ReaderState, answer_at_end, finished}
-use Rattle.lis_message.specs.Stream.{IsCut}
+use Rattle.lis_message.specs.Stream.{IsSplit}
 use Rattle.lis_tree.specs.Begun.{Begun}
 use Rattle.lis_tree.specs.Results.{ResultNode, results_of}
 use Rattle.lis_tree.specs.Tree.{MessageTree}
@@ -24,7 +24,7 @@ one_more [] (r ∷ readings) node reading all is = elim all [ ]
 one_more (n ∷ nodes) [] node reading all is = elim all [ ]
 one_more (n ∷ nodes) (r ∷ readings) node reading all is = (all.0, one_more nodes readings node reading all.1 is)
 
--- the results of messages behind others
+-- the results of messages after others
 pub result_count-append : (messages more : List MessageTree)
     → result_count (messages ++ more) ≡ result_count messages + result_count more
 result_count-append [] more = omega arith
@@ -62,7 +62,7 @@ stream_next pieces index none few =
       append-nil (get_or pieces index none).now,
     ) refl
 
--- the pieces behind a front
+-- the pieces after a front
 pub stream_rest : (pieces : List (Bor (List ℕ))) (index : ℕ)
     → flat_map (λ (p : Bor (List ℕ)). p.now) pieces ≡ flat_map (λ (p : Bor (List ℕ)). p.now) (take index pieces)
     ++ flat_map (λ (p : Bor (List ℕ)). p.now) (drop index pieces)
@@ -71,7 +71,7 @@ stream_rest pieces index =
     ∙ flat_map-append (λ (p : Bor (List ℕ)). p.now) (take index pieces) (drop index pieces)
 
 -- nothing was read yet
-pub nothing_read : IsCut [] [] None []
+pub nothing_read : IsSplit [] [] None []
 nothing_read = record {
   groups = [];
   texts = [];
@@ -83,10 +83,10 @@ nothing_read = record {
 }
 
 ended : {stream : List ℕ} {messages : List MessageTree} (left : Option Begun) (held : List ℕ)
-    → answer_at_end left held ≡ Ok tt → IsCut stream messages left held → IsCut stream messages None []
-ended None [] well cut = cut
-ended None (byte ∷ held) well cut = cc
-ended (Some begun) held well cut = cc
+    → answer_at_end left held ≡ Ok tt → IsSplit stream messages left held → IsSplit stream messages None []
+ended None [] well split = split
+ended None (byte ∷ held) well split = cc
+ended (Some begun) held well split = cc
 
 -- an error that is passed on
 pub if_err : {T E : Type 0} (P Q : E → Type 0) (result : Result T E) → IsErrAnd result P → ((e : E) → P e → Q e)
@@ -94,11 +94,11 @@ pub if_err : {T E : Type 0} (P Q : E → Type 0) (result : Result T E) → IsErr
 if_err P Q (Ok value) is implies = record {}
 if_err P Q (Err e) is implies = implies e is
 
--- a stream that ends well ends behind a message
+-- a stream that ends well ends after a message
 pub ends_well : (reader : ReaderState) (pieces : List (Bor (List ℕ))) (index : ℕ) (messages : List MessageTree)
     → length pieces ≤ index → reader.fault ≡ None → finished reader ≡ Ok tt
-    → IsCut (flat_map (λ (p : Bor (List ℕ)). p.now) (take index pieces)) messages reader.left reader.held
-    → IsCut (flat_map (λ (p : Bor (List ℕ)). p.now) pieces) messages None []
-ends_well reader pieces index messages all fine well cut =
-    let whole = rw (take_all index pieces all) at cut in
+    → IsSplit (flat_map (λ (p : Bor (List ℕ)). p.now) (take index pieces)) messages reader.left reader.held
+    → IsSplit (flat_map (λ (p : Bor (List ℕ)). p.now) pieces) messages None []
+ends_well reader pieces index messages all fine well split =
+    let whole = rw (take_all index pieces all) at split in
     ended reader.left reader.held (rw fine at well) whole

@@ -15,17 +15,17 @@ use Rattle.lis_world.specs.declared.event.LateEvent.TheVariants.{Happens, Reconn
 use Rattle.lis_world.specs.Late.{reply_may_come}
 use Rattle.lis_world.specs.LateDiscipline.{StartInTime}
 use Rattle.lis_world.specs.World.{World}
-use Rattle.uses.specs.declared.line.Event.{Event}
-use Rattle.uses.specs.declared.line.Event.TheVariants.{Byte, Timer, Closed}
-use Rattle.uses.specs.Line.{Deed, GoesOn, most_events, reconnected, sent, timed, waited}
+use Rattle.uses.specs.declared.connection.Event.{Event}
+use Rattle.uses.specs.declared.connection.Event.TheVariants.{Byte, Timer, Closed}
+use Rattle.uses.specs.Connection.{LogEvent, GoesOn, most_events, reconnected, sent, timed, waited}
 
 -- bytes are sent, if there are any
-abbrev pub sent_if_any : List ℕ → List Deed
+abbrev pub sent_if_any : List ℕ → List LogEvent
 sent_if_any [] = []
 sent_if_any (byte ∷ bytes) = sent (byte ∷ bytes) ∷ []
 
 -- what is sent of what the sender emits
-abbrev pub put_out : EmitOf 240 → List Deed
+abbrev pub put_out : EmitOf 240 → List LogEvent
 put_out emit = sent_if_any (emitted_bytes emit)
 
 -- the sender's step at an event
@@ -38,42 +38,45 @@ sender_step_at Closed s = gives emits.Nothing s
 abbrev pub MeansNothing : Phase → SenderStep 240 → Type 0
 MeansNothing phase step = (step.emit ≡ emits.Nothing) × (step.after.phase ≡ phase)
 
--- The rest of a session of a sender, of which so many events are waited for at most: the deeds on the line, how it
--- ended, none if the line was closed before, and the sender after it, which is then restarted. An event that means
+-- The rest of a session of a sender, of which so many events are waited for at most: the logged events on the line, how
+-- it ended, none if the line was closed before, and the sender after it, which is then restarted. An event that means
 -- nothing leaves the timer running; after any other that of the phase is started anew.
-pub data IsSession : ℕ → SenderState → List Deed → Option Outcome → SenderState → Type 0 where
-  closed : {left : ℕ} {s last : SenderState} {deeds : List Deed} {outcome : Option Outcome} (more : ℕ)
-      → left ≡ more + 1 → deeds ≡ waited Closed ∷ [] → outcome ≡ None → last ≡ sender_restarted s
-      → IsSession left s deeds outcome last
-  over : {left : ℕ} {s last : SenderState} {deeds : List Deed} {outcome : Option Outcome} (more : ℕ) (event : Event)
+pub data IsSession : ℕ → SenderState → List LogEvent → Option Outcome → SenderState → Type 0 where
+  closed : {left : ℕ} {s last : SenderState} {event_log : List LogEvent} {outcome : Option Outcome} (more : ℕ)
+      → left ≡ more + 1 → event_log ≡ waited Closed ∷ [] → outcome ≡ None → last ≡ sender_restarted s
+      → IsSession left s event_log outcome last
+  finished : {left : ℕ} {s last : SenderState} {event_log : List LogEvent} {outcome : Option Outcome} (more : ℕ)
+      (event : Event)
       → left ≡ more + 1 → event ≢ Closed → timer_seconds (sender_step_at event s).after.phase ≡ None
-      → deeds ≡ waited event ∷ put_out (sender_step_at event s).emit → outcome ≡ (sender_step_at event s).after.outcome
-      → last ≡ (sender_step_at event s).after → IsSession left s deeds outcome last
-  quiet : {left : ℕ} {s last : SenderState} {deeds : List Deed} {outcome : Option Outcome} (more : ℕ) (event : Event)
-      (seconds : ℕ) (rest : List Deed)
+      → event_log ≡ waited event ∷ put_out (sender_step_at event s).emit → outcome
+      ≡ (sender_step_at event s).after.outcome
+      → last ≡ (sender_step_at event s).after → IsSession left s event_log outcome last
+  quiet : {left : ℕ} {s last : SenderState} {event_log : List LogEvent} {outcome : Option Outcome} (more : ℕ)
+      (event : Event)
+      (seconds : ℕ) (rest : List LogEvent)
       → left ≡ more + 1 → event ≢ Closed → timer_seconds (sender_step_at event s).after.phase ≡ Some seconds
-      → MeansNothing s.phase (sender_step_at event s) → deeds ≡ waited event ∷ rest
-      → IsSession more (sender_step_at event s).after rest outcome last → IsSession left s deeds outcome last
-  answered : {left : ℕ} {s last : SenderState} {deeds : List Deed} {outcome : Option Outcome} (more : ℕ)
-      (event : Event) (seconds : ℕ) (rest : List Deed)
+      → MeansNothing s.phase (sender_step_at event s) → event_log ≡ waited event ∷ rest
+      → IsSession more (sender_step_at event s).after rest outcome last → IsSession left s event_log outcome last
+  answered : {left : ℕ} {s last : SenderState} {event_log : List LogEvent} {outcome : Option Outcome} (more : ℕ)
+      (event : Event) (seconds : ℕ) (rest : List LogEvent)
       → left ≡ more + 1 → event ≢ Closed → timer_seconds (sender_step_at event s).after.phase ≡ Some seconds
       → ¬ (MeansNothing s.phase (sender_step_at event s))
-      → deeds ≡ waited event ∷ put_out (sender_step_at event s).emit ++ timed seconds ∷ rest
-      → IsSession more (sender_step_at event s).after rest outcome last → IsSession left s deeds outcome last
-  given_up : {left : ℕ} {s last : SenderState} {deeds : List Deed} {outcome : Option Outcome}
-      → left ≡ 0 → deeds ≡ [] → outcome ≡ None → last ≡ sender_restarted s → IsSession left s deeds outcome last
+      → event_log ≡ waited event ∷ put_out (sender_step_at event s).emit ++ timed seconds ∷ rest
+      → IsSession more (sender_step_at event s).after rest outcome last → IsSession left s event_log outcome last
+  given_up : {left : ℕ} {s last : SenderState} {event_log : List LogEvent} {outcome : Option Outcome}
+      → left ≡ 0 → event_log ≡ [] → outcome ≡ None → last ≡ sender_restarted s → IsSession left s event_log outcome last
 
 -- Before a session of a sender whose last one ended so, the line is connected anew if a reply to that may still come:
 -- after one that timed out or was restarted, and for a new sender, since the line may be older than that.
-abbrev pub renewal : Option Outcome → List Deed
+abbrev pub renewal : Option Outcome → List LogEvent
 renewal outcome = if reply_may_come outcome then reconnected ∷ [] else []
 
 -- a session of this sender with these texts: the new line if there is one, ENQ, the timer for its reply, and the rest
-pub record WasSession (texts : List (List ℕ)) (s : SenderState) (past now : Option (List Deed))
+pub record WasSession (texts : List (List ℕ)) (s : SenderState) (past now : Option (List LogEvent))
     (outcome : Option Outcome) (last : SenderState) : Type 0 where
-  pub deeds : List Deed
-  pub done : GoesOn past now (renewal s.outcome ++ sent (ENQ ∷ []) ∷ timed 15 ∷ deeds)
-  pub session : IsSession most_events (started 240 texts) deeds outcome last
+  pub event_log : List LogEvent
+  pub done : GoesOn past now (renewal s.outcome ++ sent (ENQ ∷ []) ∷ timed 15 ∷ event_log)
+  pub session : IsSession most_events (started 240 texts) event_log outcome last
 
 -- the same start, as events on a line that answers late
 abbrev pub start_events : Option Outcome → List (List ℕ) → List LateEvent

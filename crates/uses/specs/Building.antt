@@ -1,11 +1,11 @@
 -- The message of one result, record by record, and why there may be none (LIS02-A2).
 use Rattle.std.specs.Prelude.{◌≡◌, ℕ, List, [], ◌∷◌, codes, map, ⊤}
-use Rattle.lis_field.specs.declared.kinds.Kind.{Kind}
-use Rattle.lis_field.specs.declared.kinds.Kind.TheVariants.{H, P, O, R, L}
-use Rattle.lis_field.specs.Delimiters.{usual}
-use Rattle.lis_field.specs.Shape.{RecordContent, Repeats, plain_component, plain_field}
+use Rattle.lis_record_values.specs.declared.kinds.Kind.{Kind}
+use Rattle.lis_record_values.specs.declared.kinds.Kind.TheVariants.{H, P, O, R, L}
+use Rattle.lis_record_values.specs.Delimiters.{usual}
+use Rattle.lis_record_values.specs.Shape.{RecordContent, Repeats, plain_component, plain_field}
 use Rattle.lis_message.specs.Texts.{HasNoTexts}
-use Rattle.lis_field.specs.declared.faults.Reason.TheVariants.{OutOfMemory}
+use Rattle.lis_record_values.specs.declared.faults.Reason.TheVariants.{OutOfMemory}
 use Rattle.lis_tree.specs.Tree.{MessageTree, flatten}
 use Rattle.uses.specs.declared.building.BuildFault.{BuildFault}
 use Rattle.uses.specs.declared.building.BuildFault.TheVariants.{Memory, Message, Texts}
@@ -38,13 +38,13 @@ pub record IsResultMessage (sample value : List ℕ) (message : MessageTree) : T
   pub delimiters : message.delimiters ≡ usual
   pub records : flatten message ≡ result_records sample value
 
--- memory was refused
+-- memory ran out
 abbrev pub IsMemory : BuildFault → Type 0
 IsMemory (Memory refused) = ⊤
 IsMemory (Message fault) = fault.reason ≡ OutOfMemory
 IsMemory (Texts fault) = ⊥
 
--- memory was refused, or the message has no texts
+-- memory ran out, or the message has no texts
 abbrev pub HasNoResultTexts : (sample value : List ℕ) → BuildFault → Type 0
 HasNoResultTexts sample value (Texts fault) = (message : MessageTree) × IsResultMessage sample value message
     × HasNoTexts message fault

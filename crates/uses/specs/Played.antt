@@ -1,4 +1,4 @@
--- What is told of a capture that is played to a new receiver.
+-- What is said about a capture that is played to a new receiver.
 use Rattle.std.specs.Prelude.{◌≡◌, ℕ, ◌≤◌, ◌↔◌, Bool, true, false, List, [], IsTrue, length, ⊤}
 use Rattle.lis_capture.specs.Capture.{capture, number_of}
 use Rattle.lis_frame.specs.Stream.{stream_with}
@@ -9,7 +9,7 @@ use Rattle.lis_run.specs.Replay.{all_differences}
 -- each line is one, and this is whether each reply of the computer is the receiver's
 pub record WasPlayed (bytes : List ℕ) (same : Bool) : Type 0 where
   pub whole : (capture (stream_with [] bytes) true).refused ≡ false
-  pub told : IsTrue same ↔ (all_differences 240 (capture (stream_with [] bytes) true).lines ≡ 0)
+  pub reported : IsTrue same ↔ (all_differences 240 (capture (stream_with [] bytes) true).lines ≡ 0)
 
 -- The number of a line is that of the first that says nothing. Memory may be wanted. The reads are too many only of a
 -- capture that is longer than they can be counted.

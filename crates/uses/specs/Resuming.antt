@@ -3,12 +3,12 @@ use Rattle.std.specs.Prelude.{◌≡◌, ◌≢◌, ℕ, ◌<◌, Bool, true, fa
 use Rattle.std.specs.declared.result.Result.{Result}
 use Rattle.lis_message.specs.declared.fault.MessageWriteFault.{MessageWriteFault}
 use Rattle.lis_message.specs.Writing.{WroteMessage, is_sink_fault}
-use Rattle.lis_spelling.specs.declared.faults.WriteFault.TheVariants.{Io}
+use Rattle.lis_record_write.specs.declared.faults.WriteFault.TheVariants.{Io}
 use Rattle.lis_tree.specs.Tree.{MessageTree}
 
--- The first sink takes all of it, or it is refused before any byte: the second one gets nothing. Or the first sink
--- fails in a record, and the second one gets the rest. A fault of a sink is told of the last one that was written to,
--- and only if that one failed.
+-- The first sink takes all of it, or it is rejected before any byte: the second one gets nothing. Or the first sink
+-- fails in a record, and the second one gets the rest. A fault of a sink is said about the last one that was written
+-- to, and only if that one failed.
 pub data WroteToBoth
     (message : MessageTree) (first_old first_new second_old second_new : Option (List ℕ))
     (first_failed second_failed : Bool) (result : Result (Unit {0}) MessageWriteFault)

@@ -5,10 +5,10 @@ ghost use Rattle.lis_link.specs.declared.sender.EmitOf.TheVariants as Emits;
 ghost use Rattle.lis_link.specs.Sender.{sender_restarted, start_fault};
 ghost use Rattle.lis_world.specs.Late.{reply_may_come};
 ghost use Rattle.uses.specs.Analyzer.{KeepsTheRule, WasSession, put_out, renewal, sender_step_at};
-ghost use Rattle.uses.specs.Line.{GoesOn};
-ghost use Rattle.uses.specs.declared.line.Event.TheVariants as Events;
+ghost use Rattle.uses.specs.Connection.{GoesOn};
+ghost use Rattle.uses.specs.declared.connection.Event.TheVariants as Events;
 
-use crate::line::{Event, Line};
+use crate::connection::{Connection, Event};
 use lis_link::{Emit, EmitOf, Outcome, Phase, REPLY_SECONDS, Sender, StartRefused};
 use lis_text::Texts;
 
@@ -26,16 +26,16 @@ pub fn reply_may_come(outcome: Option<Outcome>) -> bool
 /// Sends texts over the sender's line, and returns how the session ended, or none if the line was closed before. If a
 /// reply to the sender's last session may still come, the line is connected anew first, so that no late reply is taken
 /// for one to this session.
-pub fn send_texts<L: Line>(
+pub fn send_texts<L: Connection>(
     line: &mut L,
     sender: &mut Sender,
     texts: Texts,
 ) -> Result<Option<Outcome>, StartRefused>
     ensures session { MatchResult result
         (λ outcome. (start_fault sender.old texts ≡ None)
-        × WasSession texts sender.old (L.deeds line.old) (L.deeds line.new) outcome sender.new)
+        × WasSession texts sender.old (L.event_log line.old) (L.event_log line.new) outcome sender.new)
         (λ refused. (start_fault sender.old texts ≡ Some refused.fault) × (refused.texts ≡ texts)
-        × (sender.new ≡ sender.old) × (L.deeds line.new ≡ L.deeds line.old)) }
+        × (sender.new ≡ sender.old) × (L.event_log line.new ≡ L.event_log line.old)) }
     ensures rule { KeepsTheRule sender.old texts }
 {
     let last = sender.outcome();
@@ -63,8 +63,8 @@ pub fn send_texts<L: Line>(
 }
 
 /// Connects the line anew if a reply to a session that ended so may still come.
-fn renew<L: Line>(line: &mut L, outcome: Option<Outcome>)
-    ensures { GoesOn (L.deeds line.old) (L.deeds line.new) (renewal outcome) }
+fn renew<L: Connection>(line: &mut L, outcome: Option<Outcome>)
+    ensures { GoesOn (L.event_log line.old) (L.event_log line.new) (renewal outcome) }
 {
     if reply_may_come(outcome) {
         line.reconnect();
@@ -96,8 +96,8 @@ fn means_nothing(before: Phase, after: Phase, emit: &Emit) -> bool
 }
 
 /// Sends what the sender emits.
-pub fn put<L: Line>(line: &mut L, emit: &Emit)
-    ensures { GoesOn (L.deeds line.old) (L.deeds line.new) (put_out emit.now) }
+pub fn put<L: Connection>(line: &mut L, emit: &Emit)
+    ensures { GoesOn (L.event_log line.old) (L.event_log line.new) (put_out emit.now) }
 {
     let bytes = emit.bytes();
     if !bytes.is_empty() {

@@ -1,14 +1,14 @@
 //! Building a message of results, and its link texts.
 
 ghost use Rattle.std.specs.Prelude.{◌≡◌, ◌++◌, ◌∷◌, [], IfErr, IfOk, OnOk, map};
-ghost use Rattle.lis_field.specs.Delimiters.{usual};
-ghost use Rattle.lis_field.specs.Shape.{plain_component, plain_field};
-ghost use Rattle.lis_spelling.specs.Spelling.{written};
+ghost use Rattle.lis_record_values.specs.Delimiters.{usual};
+ghost use Rattle.lis_record_values.specs.Shape.{plain_component, plain_field};
+ghost use Rattle.lis_record_write.specs.Encoding.{written};
 ghost use Rattle.uses.specs.Building.{HasNoResultTexts, IsMemory, IsResultMessage};
 ghost use Rattle.uses.specs.Building.{glucose_record, glucose_test, result_records};
 
-use lis_field::{Component, Delimiters, Field, Kind, Record, Repeat};
 use lis_message::{Message, MessageFault, Records, Texts, TextsFault, message_texts};
+use lis_record_values::{Component, Delimiters, Field, Kind, Record, Repeat};
 use lis_tree::laws::whole_lists;
 use std::alloc::{AllocError, Global};
 use std::mem::drop;
@@ -17,7 +17,7 @@ use thiserror::Error;
 /// Why there is nothing to send.
 #[derive(Debug, Clone, Copy, PartialEq, Eq, Error)]
 pub enum BuildFault {
-    #[error("memory was refused")]
+    #[error("memory ran out")]
     Memory(#[from(alloc)] AllocError),
     #[error("no message: {0}")]
     Message(#[from] MessageFault),
@@ -87,7 +87,7 @@ fn glucose_test(alloc: Global) -> Result<Field, AllocError>
     Ok(Field::new(alloc, test)?)
 }
 
-/// Adds the components of a test behind the first: two without a symbol, and its name.
+/// Adds the components of a test after the first: two without a symbol, and its name.
 fn push_name(alloc: Global, test: &mut Repeat, name: &[u8]) -> Result<(), AllocError>
     ensures { OnOk result (test.new ≡ test.old ++ [] ∷ [] ∷ plain_component name.now ∷ []) }
 {
@@ -103,7 +103,7 @@ pub fn result_texts(alloc: Global, sample: &[u8], value: &[u8]) -> Result<Texts,
 {
     let message = result_message(alloc, sample, value)?;
     let texts = message_texts(alloc, &message).map_err(BuildFault::Texts);
-    // By a call: what ends in place is let go of part by part, and the proof goes over each of them.
+    // By a call: what ends in place is released part by part, and the proof goes over each of them.
     drop(message);
     texts
 }

@@ -7,7 +7,8 @@ use lis_port::{Discard, InMemory};
 use lis_run::{ToolFault, run_replay};
 use std::alloc::Global;
 
-/// Whether each reply in a capture is the one that a receiver gives. A line that says nothing is told by its number.
+/// Whether each reply in a capture is the one that a receiver gives. A line that says nothing is reported by its
+/// number.
 pub fn is_as_played(alloc: Global, capture: &[u8]) -> Result<bool, ToolFault>
     ensures ok { IfOk result (WasPlayed capture.now) }
     ensures err { IfErr result (WasNotPlayed capture.now) }

@@ -2,14 +2,14 @@
 
 ghost use Rattle.std.specs.Prelude.{◌≡◌, ◌≢◌, ◌++◌, MatchOption};
 ghost use Rattle.lis_link.specs.declared.receiver.Note.TheVariants as Notes;
-ghost use Rattle.lis_link.specs.Stands.{IsIn};
+ghost use Rattle.lis_link.specs.Representation.{IsIn};
 ghost use Rattle.lis_link.specs.Receiver.{ReceiverState};
-ghost use Rattle.uses.specs.Computer.{WasReception, reply_deeds, timer_behind};
-ghost use Rattle.uses.specs.inside.Computer.{Answers, keeping_deeds, state_after_keeping};
-ghost use Rattle.uses.specs.Line.{GoesOn};
-ghost use Rattle.uses.specs.declared.line.Event.TheVariants as Events;
+ghost use Rattle.uses.specs.Computer.{WasReception, reply_log, timer_after};
+ghost use Rattle.uses.specs.inside.Computer.{Answers, keeping_log, state_after_keeping};
+ghost use Rattle.uses.specs.Connection.{GoesOn};
+ghost use Rattle.uses.specs.declared.connection.Event.TheVariants as Events;
 
-use crate::line::{Event, Host, Line};
+use crate::connection::{Connection, Event, Host};
 use lis_link::{Note, RECEIVER_SECONDS, Receiver, Step};
 use lis_text::LinkText;
 
@@ -18,7 +18,7 @@ use lis_text::LinkText;
 /// and it sends the text again in a later session. Returns the text, or none if the line was closed.
 pub fn next_text<H: Host>(host: &mut H, receiver: &mut Receiver) -> Option<LinkText>
     ensures { (r : ReceiverState) → IsIn 240 receiver.old r →
-        WasReception r (H.deeds host.old) (H.deeds host.new) result receiver.new }
+        WasReception r (H.event_log host.old) (H.event_log host.new) result receiver.new }
 {
     for _turn in 0..u64::MAX {
         let event = host.wait();
@@ -52,8 +52,8 @@ fn keep_then_reply<H: Host>(
     note: Note,
 ) -> bool
     ensures { (r : ReceiverState) → IsIn 240 receiver.old r →
-        GoesOn (H.deeds host.old) (H.deeds host.new)
-        (keeping_deeds result text.now (reply_deeds reply ++ timer_behind note r.is_open))
+        GoesOn (H.event_log host.old) (H.event_log host.new)
+        (keeping_log result text.now (reply_log reply ++ timer_after note r.is_open))
         × IsIn 240 receiver.new (state_after_keeping result r) }
 {
     if !host.keep(text) {
@@ -81,8 +81,8 @@ fn step_at(receiver: &mut Receiver, event: Event) -> Option<Step>
 
 /// Sends the reply and starts the timer, by what an event meant. Each answer but that to EOT starts the timer anew;
 /// noise leaves it running.
-fn put<L: Line>(line: &mut L, reply: Option<u8>, note: Note, is_open: bool)
-    ensures { GoesOn (L.deeds line.old) (L.deeds line.new) (reply_deeds reply ++ timer_behind note is_open) }
+fn put<L: Connection>(line: &mut L, reply: Option<u8>, note: Note, is_open: bool)
+    ensures { GoesOn (L.event_log line.old) (L.event_log line.new) (reply_log reply ++ timer_after note is_open) }
 {
     if let Some(byte) = reply {
         line.send(&[byte]);

@@ -9,7 +9,7 @@ use lis_frame::{Scanner, Signal};
 
 /// Whether a byte completes a good frame that is the last of its message.
 pub fn ends_message(scanner: &mut Scanner, byte: u8) -> bool
-    ensures told { (past : List ℕ) → StandsFor 240 scanner.old past →
+    ensures reported { (past : List ℕ) → StandsFor 240 scanner.old past →
         result ≡ is_last_frame (signal_after 240 past byte) }
     ensures after { (past : List ℕ) → StandsFor 240 scanner.old past → StandsFor 240 scanner.new (byte ∷ past) }
 {

@@ -1,13 +1,13 @@
 //! Small callers of the crates, which `docs/GUIDE.md` quotes: the loops of both ends of a line, reading results,
-//! building and sending a message, writing it on behind a sink that failed, and checking a capture.
+//! building and sending a message, writing it on after a sink that failed, and checking a capture.
 #![tactic(auto)]
 
 pub mod analyzer;
 pub mod building;
 pub mod capture;
 pub mod computer;
+pub mod connection;
 pub mod frames;
-pub mod line;
 pub mod results;
 pub mod resuming;
 pub mod testing;

@@ -2,15 +2,15 @@
 
 ghost use Rattle.std.specs.Prelude.{◌≡◌, [], IfErr, IfOk, List, None, ℕ, length};
 ghost use Rattle.std.specs.List.{AllZip, flat_map};
-ghost use Rattle.lis_field.specs.Shape.{field_at};
-ghost use Rattle.lis_message.specs.Stream.{IsCut};
+ghost use Rattle.lis_record_values.specs.Shape.{field_at};
+ghost use Rattle.lis_message.specs.Stream.{IsSplit};
 ghost use Rattle.lis_tree.specs.Results.{results_of};
 ghost use Rattle.lis_tree.specs.Tree.{MessageTree};
 ghost use Rattle.lis_text.specs.Capped.{capped};
 ghost use Rattle.uses.specs.Readings.{IsReading, IsPlainOrEmpty, IsUnread, result_count};
 
-use lis_field::Record;
 use lis_message::{Message, MessageFault, MessageReader};
+use lis_record_values::Record;
 use std::alloc::{AllocError, Global};
 use std::mem::drop;
 
@@ -48,10 +48,10 @@ fn text_of(alloc: Global, entry: &Record, number: usize) -> Result<Vec<u8>, Allo
     Ok(text.unwrap_or(Vec::new(alloc)))
 }
 
-/// How many results a stream has that comes in pieces; where they are more than a number can tell, the greatest number.
+/// How many results a stream has that comes in pieces; where they are more than a number can hold, the greatest number.
 pub fn count_results(alloc: Global, pieces: &[&[u8]]) -> Result<usize, MessageFault>
     ensures ok { IfOk result (λ count. (messages : List MessageTree)
-        × IsCut (flat_map (λ piece. piece.now) pieces.now) messages None []
+        × IsSplit (flat_map (λ piece. piece.now) pieces.now) messages None []
         × (count ≡ capped (result_count messages))) }
     ensures err { IfErr result (IsUnread (flat_map (λ piece. piece.now) pieces.now)) }
 {
@@ -63,7 +63,7 @@ pub fn count_results(alloc: Global, pieces: &[&[u8]]) -> Result<usize, MessageFa
             count = count.saturating_add(results_in(message));
         }
         let fault = fed.fault;
-        // By a call here and below: what ends in place is let go of part by part, and the proof goes over each of them.
+        // By a call here and below: what ends in place is released part by part, and the proof goes over each of them.
         drop(fed);
         if let Some(fault) = fault {
             drop(reader);

@@ -1,4 +1,4 @@
-//! Writing a message on behind a sink that failed.
+//! Writing a message on after a sink that failed.
 
 ghost use Rattle.std.specs.Prelude.{◌≡◌, false};
 ghost use Rattle.uses.specs.Resuming.{WroteToBoth};

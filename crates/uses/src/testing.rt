@@ -2,10 +2,10 @@
 //! done on it.
 
 ghost use Rattle.std.specs.Prelude.{◌≡◌, ◌∷◌, [], None, Some, MatchOption, if◌then◌else◌, map};
-ghost use Rattle.uses.specs.Line.{GoesOn, keeping};
-ghost use Rattle.uses.specs.Scripted.{deed_of, log_of};
+ghost use Rattle.uses.specs.Connection.{GoesOn, keeping};
+ghost use Rattle.uses.specs.Scripted.{log_event_of, log_of};
 
-use crate::line::{Event, Host, Line};
+use crate::connection::{Connection, Event, Host};
 use lis_text::LinkText;
 use std::alloc::Global;
 
@@ -27,10 +27,10 @@ pub enum Entry {
 }
 
 /// A line on which the events of a script happen, one after another, until it is closed. Its store keeps each text but
-/// those that a second script refuses. Its log is what was done, oldest first; if memory for that was refused, the log
+/// those that a second script rejects. Its log is what was done, oldest first; if memory for that ran out, the log
 /// is lost from then on.
 #[derive(Drop)]
-pub struct ScriptedLine<'a> {
+pub struct ScriptedConnection<'a> {
     alloc: Global,
     events: &'a [Event],
     answers: &'a [bool],
@@ -38,12 +38,12 @@ pub struct ScriptedLine<'a> {
     is_whole: bool,
 }
 
-impl<'a> ScriptedLine<'a> {
+impl<'a> ScriptedConnection<'a> {
     /// A line on which nothing was done. It takes no memory yet.
     pub fn new(alloc: Global, events: &'a [Event]) -> Self
         ensures { log_of result.is_whole result.entries.items ≡ Some [] }
     {
-        ScriptedLine {
+        ScriptedConnection {
             alloc,
             events,
             answers: &[],
@@ -56,13 +56,13 @@ impl<'a> ScriptedLine<'a> {
     pub fn with_answers(self, answers: &'a [bool]) -> Self
         ensures { log_of result.is_whole result.entries.items ≡ log_of self.entry.is_whole self.entry.entries.items }
     {
-        ScriptedLine { answers, ..self }
+        ScriptedConnection { answers, ..self }
     }
 
-    /// The log; none if memory for it was refused.
+    /// The log; none if memory for it ran out.
     pub fn log(&self) -> Option<&[Entry]>
         ensures { MatchOption result (log_of self.now.is_whole self.now.entries.items ≡ None)
-            (λ log. log_of self.now.is_whole self.now.entries.items ≡ Some (map deed_of log.now)) }
+            (λ log. log_of self.now.is_whole self.now.entries.items ≡ Some (map log_event_of log.now)) }
     {
         if self.is_whole {
             Some(self.entries.as_slice())
@@ -74,7 +74,7 @@ impl<'a> ScriptedLine<'a> {
     /// Adds an entry to the log.
     fn add(&mut self, entry: Entry)
         ensures { GoesOn (log_of self.old.is_whole self.old.entries.items)
-            (log_of self.new.is_whole self.new.entries.items) (deed_of entry ∷ []) }
+            (log_of self.new.is_whole self.new.entries.items) (log_event_of entry ∷ []) }
     {
         if self.is_whole {
             self.is_whole = self.entries.push(entry).is_ok();
@@ -82,8 +82,8 @@ impl<'a> ScriptedLine<'a> {
     }
 }
 
-impl Line for ScriptedLine<'_> {
-    ghost deeds = { λ line. log_of line.is_whole line.entries.items };
+impl Connection for ScriptedConnection<'_> {
+    ghost event_log = { λ line. log_of line.is_whole line.entries.items };
 
     fn send(&mut self, bytes: &[u8]) {
         match Vec::from_slice(self.alloc, bytes) {
@@ -113,7 +113,7 @@ impl Line for ScriptedLine<'_> {
     }
 }
 
-impl Host for ScriptedLine<'_> {
+impl Host for ScriptedConnection<'_> {
     fn keep(&mut self, text: &LinkText) -> bool {
         let is_kept = match self.answers.split_first() {
             Some((answer, rest)) => {
@@ -133,7 +133,7 @@ impl Host for ScriptedLine<'_> {
 
 /// The entry of a text that was to be kept.
 fn kept_entry(text: Vec<u8>, is_kept: bool) -> Entry
-    ensures { deed_of result ≡ keeping text.items is_kept }
+    ensures { log_event_of result ≡ keeping text.items is_kept }
 {
     if is_kept {
         Entry::Kept(text)

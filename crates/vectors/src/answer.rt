@@ -6,13 +6,13 @@ use std::mem::drop;
 /// Why a call has no answer.
 #[derive(Clone, Copy)]
 pub(crate) enum Trouble {
-    /// The line is no call, or the call isn't possible where it stands.
+    /// The line is no call, or the call isn't possible where it is.
     NoCall,
-    /// Memory was refused.
+    /// Memory ran out.
     OutOfMemory,
 }
 
-/// The words of an answer, with a space between two. Behind the first trouble it takes no more and has no line.
+/// The words of an answer, with a space between two. After the first trouble it takes no more and has no line.
 #[derive(Drop)]
 pub(crate) struct Answer {
     pub(crate) alloc: Global,
@@ -30,7 +30,7 @@ impl Answer {
         }
     }
 
-    /// The line, or what stands in its place.
+    /// The line, or what is in its place.
     pub(crate) fn line(&self) -> &str {
         match self.trouble {
             None => self.line.as_str(),
@@ -61,7 +61,7 @@ impl Answer {
         }
     }
 
-    /// What was made; where memory was refused to it nothing, which is remembered.
+    /// What was made; if memory runs out to it nothing, which is remembered.
     pub(crate) fn made<T: Drop, E: Drop>(&mut self, made: Result<T, E>) -> Option<T> {
         if made.is_err() {
             self.trouble(Trouble::OutOfMemory);
@@ -69,7 +69,7 @@ impl Answer {
         made.ok()
     }
 
-    /// Remembers where memory was refused.
+    /// Remembers if memory runs out.
     pub(crate) fn needs<E: Drop>(&mut self, done: Result<(), E>) {
         if done.is_err() {
             self.trouble(Trouble::OutOfMemory);
@@ -77,7 +77,7 @@ impl Answer {
         drop(done);
     }
 
-    /// Puts a space behind the words, where there are any.
+    /// Puts a space after the words, where there are any.
     pub(crate) fn part(&mut self) {
         if !self.line.is_empty() {
             self.text(" ");

@@ -8,7 +8,7 @@ ghost use Rattle.lis_text.specs.Text.{text_fault};
 use crate::answer::Answer;
 use crate::words::Call;
 use lis_frame::{
-    FrameFault, FrameOf, Heard, LentFrame, ScannerOf, Signal, SignalOf, TextOf, frame_bytes_of,
+    BorrowedFrame, FrameFault, FrameOf, Heard, ScannerOf, Signal, SignalOf, TextOf, frame_bytes_of,
     read_frame_of, split_all_of,
 };
 use lis_text::{TextFault, check_text};
@@ -82,22 +82,22 @@ fn put_split<const N: usize>(first: u8, text: &[u8], answer: &mut Answer)
     drop(frames);
 }
 
-/// Puts the frame that bytes are, or why they are none.
+/// Puts the frame that bytes are, or why they are invalid.
 fn read<const N: usize>(call: Call<'_>, answer: &mut Answer)
     requires { IsLimit N }
 {
-    let stretch = call.bytes(0, answer);
-    match read_frame_of::<N>(stretch.as_slice()) {
+    let body = call.bytes(0, answer);
+    match read_frame_of::<N>(body.as_slice()) {
         Ok(frame) => put_frame(&frame, answer),
         Err(fault) => {
             answer.word("fault ");
             put_frame_fault(fault, answer);
         }
     }
-    drop(stretch);
+    drop(body);
 }
 
-/// Puts the frame of a number, an end and a text, or why the text is refused.
+/// Puts the frame of a number, an end and a text, or why the text is rejected.
 fn make<const N: usize>(call: Call<'_>, answer: &mut Answer)
     requires { IsLimit N }
 {
@@ -141,7 +141,7 @@ fn scan<const N: usize>(call: Call<'_>, answer: &mut Answer)
     drop(bytes);
 }
 
-/// Puts the signals behind a fork, and those of the copy where it tells others.
+/// Puts the signals after a fork, and those of the copy where it reports others.
 fn put_signals(pushed: Answer, scanned: Answer, answer: &mut Answer) {
     if pushed.line() != scanned.line() {
         answer.word("the copy differs: ");
@@ -220,25 +220,25 @@ impl<const N: usize> Course<N> {
         let mut rest = bytes;
         for _ in 0..bytes.len() {
             let (count, frame) = self.scanner.scan(rest);
-            let (_, behind) = rest.split_at(count);
+            let (_, following) = rest.split_at(count);
             self.read = self.read.saturating_add(count);
-            rest = behind;
+            rest = following;
             if let Some(frame) = frame {
                 put_place(self.read.saturating_sub(1), "=frame:", answer);
-                put_lent(&frame, answer);
+                put_borrowed(&frame, answer);
             }
             if count > 0 {
                 continue;
             }
-            let Some((byte, behind)) = rest.split_first() else {
+            let Some((byte, following)) = rest.split_first() else {
                 return;
             };
-            if let Some(heard) = self.scanner.told(*byte) {
+            if let Some(heard) = self.scanner.peek(*byte) {
                 put_heard(&heard, self.read, answer);
             }
             self.scanner.take(*byte);
             self.read = self.read.saturating_add(1);
-            rest = behind;
+            rest = following;
         }
     }
 }
@@ -262,14 +262,14 @@ fn put_signal<const N: usize>(signal: SignalOf<N>, place: usize, answer: &mut An
     drop(signal);
 }
 
-/// Puts a signal that was told before its last byte was taken.
+/// Puts a signal that was reported before its last byte was taken.
 fn put_heard(heard: &Heard<'_>, place: usize, answer: &mut Answer) {
     match heard {
         Heard::Enq => put_place(place, "=ENQ", answer),
         Heard::Eot => put_place(place, "=EOT", answer),
         Heard::Good(frame) => {
             put_place(place, "=frame:", answer);
-            put_lent(frame, answer)
+            put_borrowed(frame, answer)
         }
         Heard::Bad(fault) => {
             put_place(place, "=bad:", answer);
@@ -297,8 +297,8 @@ pub(crate) fn put_frame<const N: usize>(frame: &FrameOf<N>, answer: &mut Answer)
     )
 }
 
-/// Puts a frame that is lent by the bytes that were read.
-fn put_lent(frame: &LentFrame<'_>, answer: &mut Answer) {
+/// Puts a frame that is borrowed by the bytes that were read.
+fn put_borrowed(frame: &BorrowedFrame<'_>, answer: &mut Answer) {
     put_parts(frame.number(), frame.is_last(), frame.text(), answer)
 }
 

@@ -44,7 +44,7 @@ fn put_played<const N: usize>(played: Result<HistoryOf<N>, PlayFault>, answer: &
     }
 }
 
-/// The events that words tell.
+/// The events that words report.
 fn events_of(words: &[&str], answer: &mut Answer) -> Events {
     let mut events = Events::new(answer.alloc);
     for word in words {
@@ -56,7 +56,7 @@ fn events_of(words: &[&str], answer: &mut Answer) -> Events {
     events
 }
 
-/// The events on a line that answers late that words tell.
+/// The events on a line that answers late that words report.
 fn late_events_of(words: &[&str], answer: &mut Answer) -> LateEvents {
     let mut events = LateEvents::new(answer.alloc);
     for word in words {
@@ -68,7 +68,7 @@ fn late_events_of(words: &[&str], answer: &mut Answer) -> LateEvents {
     events
 }
 
-/// The event on a line that answers late that a word tells.
+/// The event on a line that answers late that a word reports.
 fn late_event_of(word: &str, answer: &mut Answer) -> Option<LateEvent> {
     match word {
         "Reconnect" => Some(LateEvent::Reconnect),
@@ -76,7 +76,7 @@ fn late_event_of(word: &str, answer: &mut Answer) -> Option<LateEvent> {
     }
 }
 
-/// The event that a word tells.
+/// The event that a word reports.
 fn event_of(word: &str, answer: &mut Answer) -> Option<Event> {
     match word.split_once(':') {
         None => plain_event_of(word),
@@ -87,7 +87,7 @@ fn event_of(word: &str, answer: &mut Answer) -> Option<Event> {
     }
 }
 
-/// The event that a word without an argument tells.
+/// The event that a word without an argument reports.
 fn plain_event_of(word: &str) -> Option<Event> {
     match word {
         "Deliver" => Some(Event::Deliver),

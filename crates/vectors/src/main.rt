@@ -1,17 +1,18 @@
 //! Answers the calls of conformance rows by the real calls of the crates.
 //!
 //! Reads a call a line from standard input and prints the answer of each a line to standard output; an empty line,
-//! which parts two cases, is answered by an empty line. `conformance/README.md` tells the calls.
+//! which parts two cases, is answered by an empty line. `conformance/README.md` reports the calls.
 //!
-//! With words behind its name it makes calls for the benchmark to time:
+//! With words after its name it makes calls for the benchmark to time:
 //!
-//!     vectors bytes       hears the link bytes of standard input, and tells how many texts were handed out
-//!     vectors messages    reads the record text of standard input, and tells how many messages it holds
-//!     vectors again 40    the same so many times, each time with the memory of the time before
-//!     vectors play 40     plays a session of 1,000 full frames so many times, and tells how many were accepted
+//! vectors bytes hears the link bytes of standard input, and says how many texts were delivered vectors
+//! messages reads the record text of standard input, and says how many messages it holds vectors again 40 the
+//! same so many times, each time with the memory of the time before vectors play 40 plays a session of 1,000
+//! full frames so many times, and says how many were accepted
 #![tactic(auto)]
 
 mod answer;
+mod encoding;
 mod frame_rows;
 mod link_rows;
 mod message_parts;
@@ -21,7 +22,6 @@ mod receiver_rows;
 mod record_rows;
 mod resuming;
 mod sender_rows;
-mod spelling;
 mod state;
 mod timed;
 mod words;

@@ -1,9 +1,9 @@
 //! Messages and their faults in the rows.
 
 use crate::answer::Answer;
+use crate::encoding::{put_delimiters, put_kind, put_record};
 use crate::narrow::WIDE;
 use crate::record_rows::put_record_fault;
-use crate::spelling::{put_delimiters, put_kind, put_record};
 use crate::writing_rows::{put_write_fault, put_wrote};
 use lis_message::{
     Group, Message, MessageFault, MessageWriteFault, Order, Patient, Reason, Record, Records,

@@ -1,10 +1,10 @@
 //! Calls on messages: reading them from pieces, building them from records, writing them on.
 
 use crate::answer::Answer;
+use crate::encoding::{delimiters_of, record_of};
 use crate::message_parts::{put_fault, put_message, put_place_fault};
 use crate::narrow::narrow_of;
 use crate::resuming::write_on;
-use crate::spelling::{delimiters_of, record_of};
 use crate::words::Call;
 use lis_message::{Fed, Message, MessageFault, MessageReader, Messages, Records, read_messages};
 use std::mem::{drop, replace};
@@ -116,7 +116,7 @@ impl Reading {
         }
     }
 
-    /// Puts a message and keeps it, where the answer still has memory: a message that isn't told is not kept.
+    /// Puts a message and keeps it, where the answer still has memory: a message that isn't reported is not kept.
     fn put_message(&mut self, message: Message, answer: &mut Answer) {
         put_message(&message, answer);
         if answer.is_in_trouble() {
@@ -133,7 +133,7 @@ fn put_refusal(fault: MessageFault, answer: &mut Answer) {
     put_place_fault(fault, answer);
 }
 
-/// The records that words tell.
+/// The records that words report.
 fn records_of(words: &[&str], answer: &mut Answer) -> Records {
     let mut records = Records::new(answer.alloc);
     for word in words {

@@ -26,7 +26,7 @@ impl Narrow {
     }
 }
 
-/// The sink that two words tell, from a place on.
+/// The sink that two words report, from a place on.
 pub(crate) fn narrow_of(call: Call<'_>, place: usize, answer: &mut Answer) -> Option<Narrow>
     requires { place < 8 }
 {

@@ -61,15 +61,15 @@ impl<const N: usize> Ends<N> {
                 return;
             }
             let Hearing { count, step } = self.other_receiver.bytes(rest);
-            let (_, behind) = rest.split_at(count);
+            let (_, following) = rest.split_at(count);
             heard = heard.saturating_add(count);
             put_step(heard.saturating_sub(1), step, answer);
-            rest = behind;
+            rest = following;
         }
     }
 }
 
-/// What happens to a receiver beside bytes.
+/// What happens to a receiver next to bytes.
 fn event<const N: usize>(receiver: &mut ReceiverOf<N>, call: Call<'_>, answer: &mut Answer)
     requires { IsLimit N }
 {
@@ -105,7 +105,7 @@ fn reserve<const N: usize>(receiver: &mut ReceiverOf<N>, count: u64, answer: &mu
     answer.word("ok");
 }
 
-/// Puts a step that isn't quiet: its place, its note, its reply, and the text that is handed out.
+/// Puts a step that isn't quiet: its place, its note, its reply, and the text that is delivered.
 fn put_step(place: usize, step: Step, answer: &mut Answer) {
     if step.note != Note::Quiet || step.reply.is_some() {
         answer.part();
@@ -149,7 +149,7 @@ fn put_note(note: Note, answer: &mut Answer) {
     }
 }
 
-/// Puts where a receiver stands.
+/// Puts where a receiver is.
 fn put_state<const N: usize>(receiver: &ReceiverOf<N>, answer: &mut Answer)
     requires { IsLimit N }
 {

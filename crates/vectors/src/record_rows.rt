@@ -1,8 +1,8 @@
 //! Calls on delimiters, headers and records.
 
 use crate::answer::Answer;
+use crate::encoding::{delimiters_of, put_delimiters, put_record, read_delimiters, record_of};
 use crate::narrow::narrow_of;
-use crate::spelling::{delimiters_of, put_delimiters, put_record, read_delimiters, record_of};
 use crate::words::Call;
 use crate::writing_rows::Writing;
 use lis_record::{DelimiterFault, DelimiterPartFault, RecordFault, read_header, read_record};

@@ -1,4 +1,4 @@
-//! Writing a message on behind sinks that failed.
+//! Writing a message on after sinks that failed.
 
 ghost use Rattle.std.specs.Prelude.{◌≡◌, ◌≤◌, ◌-◌, length, drop, IfErr};
 ghost use Rattle.lis_message.specs.Writing.{CanResume, first_length};
@@ -28,7 +28,7 @@ struct Rest<'a> {
 }
 
 /// Writes a message from a place on, without the first bytes of that record, to as many narrow sinks as it takes; it
-/// stops where a sink took nothing. What stands before goes to a sink that is full there.
+/// stops where a sink took nothing. What is before goes to a sink that is full there.
 pub(crate) fn write_on(
     message: &Message,
     narrow: Narrow,
@@ -52,7 +52,7 @@ pub(crate) fn write_on(
     }
 }
 
-/// How many bytes of a message stand before a place, with so many of that record; none where it can't be written.
+/// How many bytes of a message are before a place, with so many of that record; none where it can't be written.
 fn front_of(message: &Message, place: u64, skip: u64, answer: &mut Answer) -> usize {
     match message_texts(answer.alloc, message) {
         Ok(texts) => {
@@ -68,7 +68,7 @@ fn front_of(message: &Message, place: u64, skip: u64, answer: &mut Answer) -> us
     }
 }
 
-/// How many bytes stand before a place of texts, with so many of the one there.
+/// How many bytes are before a place of texts, with so many of the one there.
 fn bytes_before(texts: &Texts, place: u64, skip: u64, answer: &mut Answer) -> usize {
     let mut before = 0usize;
     let mut at = 1u64;
@@ -100,7 +100,7 @@ fn rest_of(message: &Message, wrote: Result<(), MessageWriteFault>) -> Option<Re
     }
 }
 
-/// Writes what is left to one narrow sink behind the other.
+/// Writes what is left to one narrow sink after the other.
 fn write_rest(rest: Rest<'_>, narrow: Narrow, answer: &mut Answer) {
     let mut left = rest;
     for _ in 0..MOST_SINKS {
@@ -118,9 +118,9 @@ fn write_part<'a>(rest: Rest<'a>, narrow: Narrow, answer: &mut Answer) -> Option
     let wrote = write_message_from(&mut sink, rest.message, rest.place, rest.skip);
     answer.part();
     put_message_wrote(wrote, sink.took(), answer);
-    let is_over = sink.took().is_empty();
+    let is_finished = sink.took().is_empty();
     drop(sink);
-    if is_over {
+    if is_finished {
         return None;
     }
     rest_of(rest.message, wrote)

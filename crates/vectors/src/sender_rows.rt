@@ -11,7 +11,7 @@ use lis_text::Texts;
 use std::mem::{drop, replace};
 
 impl<const N: usize> Ends<N> {
-    /// Answers a call on the sender: what it emits, and then where it stands.
+    /// Answers a call on the sender: what it emits, and then where it is.
     pub(crate) fn sender_call(&mut self, call: Call<'_>, answer: &mut Answer)
         requires { IsLimit N }
     {
@@ -35,7 +35,7 @@ impl<const N: usize> Ends<N> {
         }
     }
 
-    /// Puts what the start of a session emits, or why it is refused. No session is started without some of its texts.
+    /// Puts what the start of a session emits, or why it is rejected. No session is started without some of its texts.
     fn start(&mut self, texts: Texts, answer: &mut Answer)
         requires { IsLimit N }
     {
@@ -50,7 +50,7 @@ impl<const N: usize> Ends<N> {
     }
 }
 
-/// Puts why a start is refused, and its texts.
+/// Puts why a start is rejected, and its texts.
 fn put_start_refused(refused: StartRefused, answer: &mut Answer) {
     answer.word("refused:");
     put_start_fault(refused.fault, answer);
@@ -75,7 +75,7 @@ fn put_emit<const N: usize>(emit: EmitOf<N>, answer: &mut Answer)
     drop(emit);
 }
 
-/// Puts why a start is refused.
+/// Puts why a start is rejected.
 fn put_start_fault(fault: StartFault, answer: &mut Answer) {
     match fault {
         StartFault::InSession => answer.text("InSession"),
@@ -88,7 +88,7 @@ fn put_start_fault(fault: StartFault, answer: &mut Answer) {
     }
 }
 
-/// Puts where a sender stands.
+/// Puts where a sender is.
 fn put_state<const N: usize>(sender: &SenderOf<N>, answer: &mut Answer)
     requires { IsLimit N }
 {

@@ -1,4 +1,4 @@
-//! What calls leave behind for the next: a sender and receivers of either limit, a reader and a message.
+//! What calls leave after for the next: a sender and receivers of either limit, a reader and a message.
 
 ghost use Rattle.lis_frame.specs.Limit.{IsLimit};
 
@@ -53,7 +53,7 @@ impl<const N: usize> Ends<N> {
     }
 }
 
-/// All that calls leave behind.
+/// All that calls leave after.
 #[derive(Drop)]
 pub(crate) struct State {
     is_long: bool,

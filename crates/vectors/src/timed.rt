@@ -19,7 +19,7 @@ const FRAMES: usize = 1_000;
 /// What a full frame carries.
 const FULL: usize = 240;
 
-/// What the words behind the program's name ask for.
+/// What the words after the program's name ask for.
 #[derive(Clone, Copy)]
 pub(crate) enum Asked {
     /// The answers of rows.
@@ -64,11 +64,11 @@ fn asked_again(what: &str, rounds: &str) -> Option<Asked> {
 /// Makes the calls that were asked for, and prints what they count.
 pub(crate) fn make_calls(rt: &HostRuntime, asked: Option<Asked>) -> ExitCode {
     match asked {
-        Some(Asked::Bytes) => tell(rt, heard(rt.alloc(), &mut rt.reader())),
+        Some(Asked::Bytes) => report(rt, heard(rt.alloc(), &mut rt.reader())),
         Some(Asked::Messages(rounds)) => {
-            tell(rt, in_messages(rt.alloc(), &mut rt.reader(), rounds))
+            report(rt, in_messages(rt.alloc(), &mut rt.reader(), rounds))
         }
-        Some(Asked::Play(rounds)) => tell(rt, played(rt.alloc(), rounds)),
+        Some(Asked::Play(rounds)) => report(rt, played(rt.alloc(), rounds)),
         Some(Asked::Rows) | None => {
             let _ = eprintln!(rt; "usage: vectors [bytes | messages | again ROUNDS | play ROUNDS]");
             ExitCode::from(2)
@@ -76,15 +76,15 @@ pub(crate) fn make_calls(rt: &HostRuntime, asked: Option<Asked>) -> ExitCode {
     }
 }
 
-/// Prints a count, and tells by the status whether there was one.
-fn tell(rt: &HostRuntime, count: Option<u64>) -> ExitCode {
+/// Prints a count, and reports by the status whether there was one.
+fn report(rt: &HostRuntime, count: Option<u64>) -> ExitCode {
     match count {
         Some(count) if println!(rt; "{count}").is_ok() => ExitCode::from(0),
         _ => ExitCode::from(3),
     }
 }
 
-/// The number of texts that a receiver hands out of all that is read; none where a read fails.
+/// The number of texts that a receiver delivers of all that is read; none where a read fails.
 fn heard<R: Read>(alloc: Global, reader: &mut R) -> Option<u64> {
     let mut receiver = Receiver::new(alloc);
     let mut piece = [0; PIECE];
@@ -94,13 +94,13 @@ fn heard<R: Read>(alloc: Global, reader: &mut R) -> Option<u64> {
         if count == 0 {
             return Some(texts);
         }
-        texts = handed_out(&mut receiver, &piece[..count], texts);
+        texts = delivered_texts(&mut receiver, &piece[..count], texts);
     }
     None
 }
 
-/// The number of texts that were handed out, with those of these bytes.
-fn handed_out(receiver: &mut Receiver, bytes: &[u8], texts: u64) -> u64 {
+/// The number of texts that were delivered, with those of these bytes.
+fn delivered_texts(receiver: &mut Receiver, bytes: &[u8], texts: u64) -> u64 {
     let (mut place, mut texts) = (0, texts);
     while place < bytes.len() {
         let hearing = receiver.bytes(&bytes[place..]);
@@ -113,7 +113,7 @@ fn handed_out(receiver: &mut Receiver, bytes: &[u8], texts: u64) -> u64 {
 }
 
 /// The number of messages in all that is read, in all rounds, each made a tree; none where a read fails or a record is
-/// refused.
+/// rejected.
 fn in_messages<R: Read>(alloc: Global, reader: &mut R, rounds: u32) -> Option<u64> {
     let mut bytes = Vec::new(alloc);
     reader.read_to_end(&mut bytes).ok()?;
@@ -131,7 +131,7 @@ fn again(alloc: Global, bytes: &[u8], rounds: u32) -> Option<u64> {
     Some(messages)
 }
 
-/// The number of messages in a record text, each made a tree; none where a record is refused.
+/// The number of messages in a record text, each made a tree; none where a record is rejected.
 fn messages_of(alloc: Global, bytes: &[u8]) -> Option<u64> {
     let read = read_messages(alloc, bytes);
     let count = read.messages.len() as u64;
@@ -140,7 +140,7 @@ fn messages_of(alloc: Global, bytes: &[u8]) -> Option<u64> {
     if is_refused { None } else { Some(count) }
 }
 
-/// The number of frames that were accepted in all rounds; none where memory was refused.
+/// The number of frames that were accepted in all rounds; none if memory runs out.
 fn played(alloc: Global, rounds: u32) -> Option<u64> {
     let mut frames = 0u64;
     for _ in 0..rounds {

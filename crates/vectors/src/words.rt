@@ -1,4 +1,4 @@
-//! A call, and reading its words: numbers, bytes, texts. A word that tells none is a trouble of the answer.
+//! A call, and reading its words: numbers, bytes, texts. A word that reports none is a trouble of the answer.
 
 use crate::answer::{Answer, Trouble};
 use hex::FromHexError;

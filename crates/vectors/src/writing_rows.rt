@@ -1,7 +1,7 @@
 //! Writing records and fields to sinks, wide ones and narrow ones that fail.
 
 ghost use Rattle.std.specs.Prelude.{◌≡◌, ◌≤◌, length, false};
-ghost use Rattle.lis_spelling.specs.Spelling.{written};
+ghost use Rattle.lis_record_write.specs.Encoding.{written};
 
 use crate::answer::Answer;
 use crate::narrow::{Narrow, WIDE};

@@ -1,4 +1,4 @@
--- What C is told of a signal.
+-- What C gets of a signal.
 use Rattle.std.specs.Prelude.{◌≡◌, ℕ, ◌≤◌, ◌<◌, List, take}
 use Rattle.lis_c.specs.declared.feed.Report.{Report}
 use Rattle.lis_c.specs.declared.out.LisSignal.{LisSignal}

@@ -6,7 +6,7 @@ use Rattle.lis_c.specs.declared.out.LisStep.{LisStep}
 use Rattle.lis_c.specs.Steps.{HoldsText}
 
 -- the answer of a receiver, in numbers
-pub record TellsStep (step : Step) (before : List ℕ) (out : LisStep) (text : List ℕ) : Type 0 where
+pub record ReportsStep (step : Step) (before : List ℕ) (out : LisStep) (text : List ℕ) : Type 0 where
   pub reply_is : out.reply ≡ reply_code step.reply
   pub note_is : out.note ≡ note_code step.note
   pub detail_is : out.detail ≡ note_detail step.note

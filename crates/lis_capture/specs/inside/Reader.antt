@@ -2,8 +2,8 @@
 use Rattle.std.specs.Prelude.{ℕ, ◌+◌, nat_lt, Bool, true, List, ◌++◌, length, Option, None, Some, if◌then◌else◌}
 use Rattle.lis_text.specs.Capped.{capped}
 use Rattle.lis_capture.specs.declared.line.Line.{Line}
-use Rattle.lis_capture.specs.declared.reader.Found.{Found}
-use Rattle.lis_capture.specs.declared.reader.Found.TheVariants as found
+use Rattle.lis_capture.specs.declared.reader.LineFound.{LineFound}
+use Rattle.lis_capture.specs.declared.reader.LineFound.TheVariants as found
 use Rattle.lis_capture.specs.Line.{longest_line, version_after}
 use Rattle.lis_capture.specs.Reader.{Known, Reading}
 
@@ -13,7 +13,7 @@ known_with known None = record known { refused = true; number = capped (known.nu
 known_with known (Some line) =
     record known { version = version_after known.version line; number = capped (known.number + 1); line = line }
 
-abbrev pub found_of : Option Line → Found
+abbrev pub found_of : Option Line → LineFound
 found_of None = found.Refused
 found_of (Some line) = found.Line
 
@@ -26,5 +26,5 @@ holding_more r text =
     if is_long (r.held ++ text) then record r { known = known_with r.known None }
     else record r { held = r.held ++ text }
 
-abbrev pub found_holding : List ℕ → Found
+abbrev pub found_holding : List ℕ → LineFound
 found_holding text = if is_long text then found.Refused else found.Nothing

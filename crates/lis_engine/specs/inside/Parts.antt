@@ -2,8 +2,8 @@
 use Rattle.std.specs.Prelude.{ℕ, List, [], decimal, Option, None, Some}
 use Rattle.std.specs.List.{flat_map}
 use Rattle.hex.specs.Hex.{encode_lower}
-use Rattle.lis_engine.specs.declared.tell.Part.{Part}
-use Rattle.lis_engine.specs.declared.tell.Part.TheVariants.{Text, Number, Digits}
+use Rattle.lis_engine.specs.declared.print.Part.{Part}
+use Rattle.lis_engine.specs.declared.print.Part.TheVariants.{Text, Number, Digits}
 
 abbrev pub part_text : Part → List ℕ
 part_text (Text bytes) = bytes.now

@@ -7,6 +7,6 @@ use Rattle.lis_engine.specs.declared.report.Report.{Report}
 use Rattle.lis_engine.specs.declared.machine.Halt.{Halt}
 
 -- the answer of a run that halted so, by whether what went out could not be sent on
-abbrev pub IsTold : {F : Type 0} → Halt F → Result (Report F) ToolFault → Bool → Type 0
-IsTold halt result false = result ≡ halt.result
-IsTold halt result true = result ≡ Err (Write halt.written)
+abbrev pub IsAnswered : {F : Type 0} → Halt F → Result (Report F) ToolFault → Bool → Type 0
+IsAnswered halt result false = result ≡ halt.result
+IsAnswered halt result true = result ≡ Err (Write halt.written)

@@ -1,4 +1,4 @@
-//! The line as a receiver has it: all of its state but the scanner. It answers what the scanner tells.
+//! The line as a receiver has it: all of its state but the scanner. It answers what the scanner reports.
 
 ghost use Rattle.std.specs.Prelude.{◌≡◌, ◌≢◌, ◌≤◌, ◌<◌, ◌+◌, ◌^◌, ℕ, length, [], IsTrue, OnOk, OnErr, None, Some};
 ghost use Rattle.std.specs.Prelude.{◌&&◌, ◌==◌, ◌%◌, false, max, nat_lt};
@@ -9,13 +9,14 @@ ghost use Rattle.lis_text.specs.Control.{NAK};
 ghost use Rattle.lis_link.specs.declared.receiver.Note.TheVariants as Notes;
 ghost use Rattle.lis_link.specs.Kept.{kept_of};
 ghost use Rattle.lis_link.specs.inside.Kept.{idle_line};
-ghost use Rattle.lis_link.specs.Receiver.{ReceiverState, bid_with, judged_by, heard_by, heard, on_receiver_timer};
+ghost use Rattle.lis_link.specs.Receiver.{ReceiverState, answered_request, classified_by, heard_by, heard};
+ghost use Rattle.lis_link.specs.Receiver.{on_receiver_timer};
 ghost use Rattle.lis_link.specs.inside.Receiver.{found_reply};
-ghost use Rattle.lis_link.specs.Stands.{IsIn, Makes, RefusesFrame, SpareAfter, KeepsRoom};
-ghost use Rattle.lis_link.specs.inside.Stands.{IsTaken, room_in};
+ghost use Rattle.lis_link.specs.Representation.{IsIn, IsStepMade, RefusesFrame, SpareAfter, KeepsRoom};
+ghost use Rattle.lis_link.specs.inside.Representation.{IsTaken, room_in};
 
 use crate::receiver::{MOST_FRAMES, Note, Readiness, Step};
-use lis_frame::{FrameFault, Heard, LentFrame};
+use lis_frame::{BorrowedFrame, FrameFault, Heard};
 use lis_text::{ACK, ENQ, LONGEST_TEXT, LinkText, List, NAK};
 use std::alloc::{AllocError, Global};
 use std::marker::Model;
@@ -24,7 +25,7 @@ use std::mem;
 /// Whether the line is open, the count of the accepted frames, how ENQ is answered, whether there is room, and the
 /// text that is held.
 #[derive(Drop)]
-pub(crate) struct Line {
+pub(crate) struct LineState {
     alloc: Global,
     is_open: bool,
     accepted: u64,
@@ -33,7 +34,7 @@ pub(crate) struct Line {
     held: Vec<u8>,
 }
 
-impl Model for Line {
+impl Model for LineState {
     ghost use Rattle.std.specs.Prelude.{◌-◌, ◌≤◌, length, vec_len, vec_capacity};
     ghost use Rattle.lis_text.specs.LinkText.{longest_text};
     ghost use Rattle.lis_link.specs.Kept.{KeptLine};
@@ -52,12 +53,12 @@ impl Model for Line {
     ghost invariant = { λ l. (length l.held.items ≤ longest_text) × (l.accepted ≤ 4294967295) };
 }
 
-impl Line {
+impl LineState {
     /// A line that isn't open, but will be where it is asked for, and has room. It reserves nothing.
     pub(crate) fn new(alloc: Global) -> Self
         ensures { result ≡ idle_line }
     {
-        Line {
+        LineState {
             alloc,
             is_open: false,
             accepted: 0,
@@ -114,7 +115,7 @@ impl Line {
         self.room = true;
     }
 
-    /// Makes room for `bytes` more bytes of held text, and for no more. If memory is refused the line is as before.
+    /// Makes room for `bytes` more bytes of held text, and for no more. If memory runs out the line is as before.
     pub(crate) fn reserve(&mut self, bytes: u64) -> Result<(), AllocError>
         requires { bytes ≤ longest_text }
         ensures ok { OnOk result (bytes ≤ self.new.spare) }
@@ -142,7 +143,7 @@ impl Line {
     /// The receiver's timer runs out.
     pub(crate) fn timer(&mut self) -> Step
         ensures step { (limit : ℕ) (scanner : Held) (r : ReceiverState) → IsIn limit (kept_of self.old scanner) r →
-            Makes limit (on_receiver_timer r) result (kept_of self.new scanner) }
+            IsStepMade limit (on_receiver_timer r) result (kept_of self.new scanner) }
         ensures spare { self.old.spare ≤ self.new.spare }
         ensures room { room_in self.new ≡ room_in self.old }
     {
@@ -163,26 +164,26 @@ impl Line {
         self.held.clear();
     }
 
-    /// Answers what the scanner tells, by the table of the receiver's steps. The text of a frame is copied once,
-    /// behind the held text.
+    /// Answers what the scanner reports, by the table of the receiver's steps. The text of a frame is copied once,
+    /// after the held text.
     ///
-    /// Memory may be refused where a frame would be accepted whose text is longer than the spare room; that is
+    /// Memory may run out where a frame would be accepted whose text is longer than the spare room; that is
     /// answered NAK, and the line is as before.
-    pub(crate) fn hear(&mut self, told: Option<Heard<'_>>) -> Step
+    pub(crate) fn hear(&mut self, reported: Option<Heard<'_>>) -> Step
         ensures step { (limit : ℕ) (scanner : Held) (r : ReceiverState) → IsIn limit (kept_of self.old scanner) r →
             result.note ≢ Notes.OutOfMemory →
-            Makes limit (heard {limit = limit} (heard_signal told.entry) r) result (kept_of self.new scanner) }
+            IsStepMade limit (heard {limit = limit} (heard_signal reported.entry) r) result (kept_of self.new scanner) }
         ensures refused { (limit : ℕ) (scanner : Held) (r : ReceiverState) → IsIn limit (kept_of self.old scanner) r →
             result.note ≡ Notes.OutOfMemory →
-            RefusesFrame limit self.old.spare (heard {limit = limit} (heard_signal told.entry) r) r result
+            RefusesFrame limit self.old.spare (heard {limit = limit} (heard_signal reported.entry) r) r result
             (kept_of self.new scanner) }
         ensures spare { (limit : ℕ) (scanner : Held) (r : ReceiverState) → IsIn limit (kept_of self.old scanner) r →
-            SpareAfter self.old.spare self.new.spare (heard {limit = limit} (heard_signal told.entry) r).taken }
+            SpareAfter self.old.spare self.new.spare (heard {limit = limit} (heard_signal reported.entry) r).taken }
         ensures room { KeepsRoom result.note result.message (room_in self.old) (room_in self.new) }
     {
-        match told {
+        match reported {
             None => Step::of(None, Note::Quiet),
-            Some(Heard::Enq) => self.bid(),
+            Some(Heard::Enq) => self.answer_request(),
             Some(Heard::Eot) => self.end(),
             Some(Heard::Good(frame)) => self.good(&frame),
             Some(Heard::Bad(fault)) => self.bad(fault),
@@ -190,9 +191,9 @@ impl Line {
     }
 
     /// Answers ENQ, by the readiness.
-    fn bid(&mut self) -> Step
+    fn answer_request(&mut self) -> Step
         ensures step { (limit : ℕ) (scanner : Held) (r : ReceiverState) → IsIn limit (kept_of self.old scanner) r →
-            Makes limit (bid_with r.readiness r) result (kept_of self.new scanner) }
+            IsStepMade limit (answered_request r.readiness r) result (kept_of self.new scanner) }
         ensures note { result.note ≢ Notes.OutOfMemory }
         ensures spare { self.old.spare ≤ self.new.spare }
         ensures room { KeepsRoom result.note result.message (room_in self.old) (room_in self.new) }
@@ -215,7 +216,7 @@ impl Line {
     /// Hears EOT.
     fn end(&mut self) -> Step
         ensures step { (limit : ℕ) (scanner : Held) (r : ReceiverState) → IsIn limit (kept_of self.old scanner) r →
-            Makes limit (heard_by {limit = limit} r.is_open Signals.Eot r) result (kept_of self.new scanner) }
+            IsStepMade limit (heard_by {limit = limit} r.is_open Signals.Eot r) result (kept_of self.new scanner) }
         ensures note { result.note ≢ Notes.OutOfMemory }
         ensures spare { self.old.spare ≤ self.new.spare }
         ensures room { KeepsRoom result.note result.message (room_in self.old) (room_in self.new) }
@@ -230,7 +231,8 @@ impl Line {
     /// Answers bytes that are no frame.
     fn bad(&mut self, fault: FrameFault) -> Step
         ensures step { (limit : ℕ) (scanner : Held) (r : ReceiverState) → IsIn limit (kept_of self.old scanner) r →
-            Makes limit (heard_by {limit = limit} r.is_open (Signals.Bad fault) r) result (kept_of self.new scanner) }
+            IsStepMade limit (heard_by {limit = limit} r.is_open (Signals.Bad fault) r) result
+            (kept_of self.new scanner) }
         ensures note { result.note ≢ Notes.OutOfMemory }
         ensures spare { self.old.spare ≤ self.new.spare }
         ensures room { KeepsRoom result.note result.message (room_in self.old) (room_in self.new) }
@@ -243,10 +245,10 @@ impl Line {
 
     /// Answers a good frame.
     #[inline(always)]
-    pub(crate) fn good(&mut self, frame: &LentFrame<'_>) -> Step
+    pub(crate) fn good(&mut self, frame: &BorrowedFrame<'_>) -> Step
         ensures step { (limit : ℕ) (scanner : Held) (r : ReceiverState) → IsIn limit (kept_of self.old scanner) r →
             result.note ≢ Notes.OutOfMemory →
-            Makes limit (heard_by {limit = limit} r.is_open (Signals.Good frame.now) r) result
+            IsStepMade limit (heard_by {limit = limit} r.is_open (Signals.Good frame.now) r) result
             (kept_of self.new scanner) }
         ensures refused { (limit : ℕ) (scanner : Held) (r : ReceiverState) → IsIn limit (kept_of self.old scanner) r →
             result.note ≡ Notes.OutOfMemory →
@@ -260,15 +262,15 @@ impl Line {
         if !self.is_open {
             return Step::of(None, Note::Quiet);
         }
-        let note = self.judge(frame.number(), frame.text().len());
+        let note = self.classify(frame.number(), frame.text().len());
         if let Note::Accepted(number) = note {
             return self.accept(frame, number);
         }
         Step::of(Some(found_reply(note)), note)
     }
 
-    /// Takes a frame: its text is held or, behind the held text, handed out.
-    fn accept(&mut self, frame: &LentFrame<'_>, number: u8) -> Step
+    /// Takes a frame: its text is held or, after the held text, delivered.
+    fn accept(&mut self, frame: &BorrowedFrame<'_>, number: u8) -> Step
         requires open { IsTrue self.old.is_open }
         requires countable { self.old.accepted < 4294967295 }
         requires short { length self.old.held + length frame.now.text ≤ longest_text }
@@ -284,7 +286,7 @@ impl Line {
         }
         self.accepted += 1;
         let message = if frame.is_last() {
-            Some(self.hand_out())
+            Some(self.deliver_held())
         } else {
             None
         };
@@ -295,8 +297,8 @@ impl Line {
         }
     }
 
-    /// Hands the held text out.
-    fn hand_out(&mut self) -> LinkText
+    /// Delivers the held text.
+    fn deliver_held(&mut self) -> LinkText
         ensures text { result ≡ self.old.held }
         ensures state { self.new ≡ record self.old { held = []; spare = 0 } }
     {
@@ -306,9 +308,9 @@ impl Line {
 
     /// What is found of a frame with this number and so many bytes of text while the line is open: the
     /// first that fits of the table.
-    fn judge(&self, number: u8, bytes: usize) -> Note
+    fn classify(&self, number: u8, bytes: usize) -> Note
         requires { bytes < 2 ^ 63 }
-        ensures value { result ≡ judged_by self.now.accepted (length self.now.held) self.now.room number bytes }
+        ensures value { result ≡ classified_by self.now.accepted (length self.now.held) self.now.room number bytes }
     {
         let number_due = (self.accepted + 1) % 8;
         if self.is_repeated(number) {

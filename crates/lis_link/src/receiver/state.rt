@@ -1,9 +1,9 @@
-//! What a receiver tells of its state.
+//! What a receiver says about its state.
 
 ghost use Rattle.std.specs.Prelude.{◌≡◌, ◌≤◌, length};
 ghost use Rattle.lis_text.specs.LinkText.{longest_text};
 ghost use Rattle.lis_link.specs.Receiver.{ReceiverState, held_length};
-ghost use Rattle.lis_link.specs.Stands.{IsIn};
+ghost use Rattle.lis_link.specs.Representation.{IsIn};
 
 use crate::receiver::ReceiverOf;
 

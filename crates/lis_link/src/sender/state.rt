@@ -1,12 +1,12 @@
-//! What a sender tells of its state.
+//! What a sender says about its state.
 
 ghost use Rattle.std.specs.Prelude.{◌≡◌};
 
 use crate::sender::{Outcome, Phase, SenderOver};
-use crate::texts::SessionTexts;
+use crate::session_texts::SessionTexts;
 
 impl<const N: usize, T: SessionTexts> SenderOver<N, T> {
-    /// Where the sender stands.
+    /// Where the sender is.
     pub fn phase(&self) -> Phase
         ensures { result ≡ self.now.phase }
     {

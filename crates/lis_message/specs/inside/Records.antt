@@ -1,24 +1,24 @@
 -- What a reader of records answers at the end of a record, and what a reader of messages adds then.
 use Rattle.std.specs.Prelude.{◌≡◌, ℕ, List, [], ◌++◌, Option, Some}
 use Rattle.std.specs.Option.{option_to_list}
-use Rattle.lis_field.specs.Shape.{RecordContent}
+use Rattle.lis_record_values.specs.Shape.{RecordContent}
 use Rattle.lis_message.specs.inside.Feeding.{Unended}
 use Rattle.lis_message.specs.Kept.{RecordsState, opened_of}
 use Rattle.lis_message.specs.Taking.{ComesNext, Completes, left_after}
-use Rattle.lis_record.specs.Lent.{Lent}
+use Rattle.lis_record.specs.Borrowed.{Borrowed}
 use Rattle.lis_tree.specs.Begun.{Begun}
 use Rattle.lis_tree.specs.Tree.{MessageTree}
 
--- what was held and this text come next, as the record that was cut
+-- what was held and this text come next, as the record that was split
 pub record EndsHeld (before after : RecordsState) (left : Option Begun) (text : List ℕ) : Type 0 where
-  pub entry : Lent RecordContent
+  pub entry : Borrowed RecordContent
   pub comes : ComesNext left (before.held ++ text) entry
   pub opened : after.opened ≡ opened_of (left_after left entry entry.content.kind)
-  pub told : after.cut ≡ Some entry
+  pub reported : after.split ≡ Some entry
   pub empty : after.held ≡ []
 
 -- A message that the record completes is added to the others.
-pub record Adds (left : Option Begun) (entry : Lent RecordContent) (before after : List MessageTree) : Type 0 where
+pub record Adds (left : Option Begun) (entry : Borrowed RecordContent) (before after : List MessageTree) : Type 0 where
   pub message : Option MessageTree
   pub completes : Completes left entry message
   pub added : after ≡ before ++ option_to_list message

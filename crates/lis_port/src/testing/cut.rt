@@ -1,4 +1,4 @@
-//! The source over memory, which gives its bytes in cuts. With it a contract's promise can be seen to
+//! The source over memory, which gives its bytes in pieces. With it a contract's promise can be seen to
 //! hold.
 
 ghost use Rattle.std.specs.Prelude.{◌≡◌, ◌+◌, ◌≤◌, ◌<◌, ◌↔◌, true, false, IfOk, IsTrue, MatchResult, drop, is_err};
@@ -9,10 +9,10 @@ ghost use Rattle.lis_port.specs.Testing.{cut_answer, cut_given, known_left, new_
 use crate::port::{Failed, Source};
 use std::marker::Model;
 
-/// What a cut source does behind its bytes.
+/// What a cut source does after its bytes.
 #[derive(Debug, Clone, Copy, PartialEq, Eq)]
 pub enum Then {
-    /// It tells the end.
+    /// It reports the end.
     End,
     /// It fails.
     Fail,
@@ -40,7 +40,7 @@ impl<'a> Model for Cut<'a> {
     ghost view = { λ c. record {
       rest = c.rest.now;
       step = c.step;
-      behind = c.then;
+      following = c.then;
       made = c.made;
       failed = c.failed;
       ended = c.ended;
@@ -50,7 +50,7 @@ impl<'a> Model for Cut<'a> {
 }
 
 impl<'a> Cut<'a> {
-    /// A source that was never read, over `bytes`, and behind them what `then` says. `step`, the most bytes that a read
+    /// A source that was never read, over `bytes`, and after them what `then` says. `step`, the most bytes that a read
     /// gives, is at least 1.
     pub fn new(bytes: &'a [u8], step: usize, then: Then) -> Self
         requires { 1 ≤ step }
@@ -72,7 +72,7 @@ impl<'a> Cut<'a> {
 }
 
 impl Source for Cut<'_> {
-    ghost left = { λ s. known_left s.behind s.rest };
+    ghost left = { λ s. known_left s.following s.rest };
 
     ghost made = { λ s. s.made };
 
@@ -88,20 +88,20 @@ impl Source for Cut<'_> {
         requires room { 0 < length buffer.old }
         requires countable { self.old.made < 4294967295 }
         ensures bound { IfOk result (λ n. n ≤ length buffer.new) }
-        ensures bytes { ReadConsumes (known_left self.old.behind self.old.rest)
-            (known_left self.new.behind self.new.rest) result buffer.new }
+        ensures bytes { ReadConsumes (known_left self.old.following self.old.rest)
+            (known_left self.new.following self.new.rest) result buffer.new }
         ensures made { self.new.made ≡ self.old.made + 1 }
         ensures failed { self.new.failed ≡ is_err result }
         ensures ended { IsTrue self.new.ended ↔ (result ≡ Ok 0) }
         ensures ready { true ≡ false → MatchResult result (λ n. 0 < n) (λ _. ⊥) }
 
         // Which bytes a read gives is known, and what stays.
-        ensures answer { result ≡ cut_answer self.old.behind self.old.rest self.old.step (length buffer.old) }
+        ensures answer { result ≡ cut_answer self.old.following self.old.rest self.old.step (length buffer.old) }
         ensures given { IfOk result (λ n. take n buffer.new
-            ≡ cut_given self.old.behind self.old.rest self.old.step (length buffer.old)) }
+            ≡ cut_given self.old.following self.old.rest self.old.step (length buffer.old)) }
         ensures rest { self.new.rest ≡ drop (min self.old.step (length buffer.old)) self.old.rest }
         ensures step { self.new.step ≡ self.old.step }
-        ensures behind { self.new.behind ≡ self.old.behind }
+        ensures following { self.new.following ≡ self.old.following }
     {
         self.made += 1;
         self.ended = false;

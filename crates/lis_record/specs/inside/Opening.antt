@@ -1,11 +1,11 @@
 -- What a text opens with that is a record.
-use Rattle.lis_field.specs.declared.kinds.Kind.{Kind}
+use Rattle.lis_record_values.specs.declared.kinds.Kind.{Kind}
 use Rattle.std.specs.Prelude.{◌≡◌, ◌≢◌, ℕ, List, ◌∷◌, ◌++◌, Some, None}
-use Rattle.lis_field.specs.Delimiters.{DelimiterBytes, IsDelimiters, delimiter_list}
-use Rattle.lis_field.specs.declared.kinds.Kind.TheVariants as kinds
+use Rattle.lis_record_values.specs.Delimiters.{DelimiterBytes, IsDelimiters, delimiter_list}
+use Rattle.lis_record_values.specs.declared.kinds.Kind.TheVariants as kinds
 use Rattle.lis_record.specs.Faults.{record_text_fault}
-use Rattle.lis_field.specs.Text.{trailing_byte}
-use Rattle.lis_field.specs.Kinds.{kind_of}
+use Rattle.lis_record_values.specs.Text.{trailing_byte}
+use Rattle.lis_record_values.specs.Kinds.{kind_of}
 
 -- A text without fault opens with the letter of a record other than a header, and its fields follow.
 pub record OpensRecord (d : DelimiterBytes) (text : List ℕ) (kind : Kind) (rest : List ℕ) : Type 0 where
@@ -16,7 +16,7 @@ pub record OpensRecord (d : DelimiterBytes) (text : List ℕ) (kind : Kind) (res
   pub second : trailing_byte d.field rest ≡ None
   pub texts : record_text_fault text ≡ None
 
--- Behind a header's letter stand delimiters, and then nothing or the field delimiter.
+-- After a header's letter are delimiters, and then nothing or the field delimiter.
 pub record DeclaresDelimiters (text : List ℕ) (d : DelimiterBytes) (rest : List ℕ) : Type 0 where
   pub whole : text ≡ delimiter_list d ++ rest
   pub marks : IsDelimiters d

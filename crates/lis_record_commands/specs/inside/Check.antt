@@ -10,12 +10,12 @@ use Rattle.lis_record_commands.specs.Check.{record_lines, finding_line, finding_
 
 -- What waits of a message that isn't closed yet: the lines of its records, those of its findings, and how many these
 -- are.
--- So many findings were told of the messages before it.
+-- So many findings were said about the messages before it.
 pub record IsChecking
-    (records findings : List ℕ) (numbering : Numbering) (found told : ℕ) (messages : List MessageTree)
+    (records findings : List ℕ) (numbering : Numbering) (found reported : ℕ) (messages : List MessageTree)
     (left : Option Begun) : Type 0 where
   pub record_lines_are : records ≡ record_lines 1 (records_of left)
   pub finding_lines_are : findings ≡ flat_map finding_line (findings_from [] 1 (records_of left))
   pub numbered : HasNumbered numbering (records_of left)
   pub found_is : found ≡ length (findings_from [] 1 (records_of left))
-  pub told_is : told ≡ finding_count messages
+  pub reported_is : reported ≡ finding_count messages

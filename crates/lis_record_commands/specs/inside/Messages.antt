@@ -4,7 +4,7 @@ use Rattle.std.specs.Prelude.{refl, ⊤}
 use Rattle.std.proofs.Common.{ap, inl}
 use Rattle.std.specs.declared.result.Result.{Result}
 use Rattle.lis_message.specs.Kept.{RecordsState}
-use Rattle.lis_message.specs.Stream.{IsCut}
+use Rattle.lis_message.specs.Stream.{IsSplit}
 use Rattle.lis_engine.specs.declared.fault.ToolFault.{ToolFault}
 use Rattle.lis_engine.specs.declared.fault.ToolFault.TheVariants.{OutOfMemory}
 use Rattle.lis_report.specs.inside.Answers.{Halt, Turn}
@@ -17,7 +17,7 @@ use Rattle.lis_tree.specs.Begun.{Begun}
 use Rattle.lis_tree.specs.Tree.{MessageTree}
 use Rattle.lis_record_commands.specs.Messages.{MessageWrites, messages_text, HasOutcome, IsReadingMessages, goes_on}
 
--- Memory was refused behind these messages, which are read of a front of the bytes.
+-- Memory ran out after these messages, which are read of a prefix of the bytes.
 pub record IsStarved (w : MessageWrites) (bytes : List ℕ) (outcome : Outcome) : Type 0 where
   pub front : List ℕ
   pub more : List ℕ
@@ -25,44 +25,44 @@ pub record IsStarved (w : MessageWrites) (bytes : List ℕ) (outcome : Outcome) 
   pub messages : List MessageTree
   pub left : Option Begun
   pub held : List ℕ
-  pub cut : IsCut front messages left held
+  pub split : IsSplit front messages left held
   pub outcome_is : outcome ≡ record { text = messages_text w 0 messages; closing = []; halt = Some (Err OutOfMemory) }
 
--- what a run comes to
-abbrev pub Comes : MessageWrites → List ℕ → Bool → Outcome → Type 0
-Comes w bytes ended outcome = HasOutcome w bytes ended outcome ⊎ IsStarved w bytes outcome
+-- what a run gives
+abbrev pub RunGives : MessageWrites → List ℕ → Bool → Outcome → Type 0
+RunGives w bytes ended outcome = HasOutcome w bytes ended outcome ⊎ IsStarved w bytes outcome
 
 -- so far the bytes are whole messages and a part of one
 abbrev pub reads_on :
-    {w : MessageWrites} {stands : List MessageTree → Option Begun → Type 0} {reader : RecordsState} {count : ℕ}
+    {w : MessageWrites} {represents : List MessageTree → Option Begun → Type 0} {reader : RecordsState} {count : ℕ}
     {bytes text : List ℕ}
-    → IsReadingMessages w stands reader count bytes text → Comes w bytes false (going text)
+    → IsReadingMessages w represents reader count bytes text → RunGives w bytes false (going text)
 reads_on {reader = reader} reading =
-    inl (goes_on reading.messages reading.left reader.held reading.cut refl (ap going reading.text_is))
+    inl (goes_on reading.messages reading.left reader.held reading.split refl (ap going reading.text_is))
 
--- The run halts at a refused record, behind the text for these bytes.
+-- The run halts at a rejected record, after the text for these bytes.
 abbrev pub RefusesBy : MessageWrites → List ℕ → Out → Out → ℕ → List ℕ → Result Halt ToolFault → Type 0
 RefusesBy w bytes old new before text (Ok halt) =
-    Puts (λ all. Halts true (Comes w bytes false) all halt.result × IsEarly true halt.result) old new before
+    Puts (λ all. Halts true (RunGives w bytes false) all halt.result × IsEarly true halt.result) old new before
     halt.written text
-RefusesBy w bytes old new before text (Err fault) = Fails (Comes w bytes false) old new before text fault
+RefusesBy w bytes old new before text (Err fault) = Fails (RunGives w bytes false) old new before text fault
 
--- what becomes of the run where a record was taken: it goes on, or memory was refused, or the sink failed
+-- what becomes of the run where a record was taken: it goes on, or memory ran out, or the sink failed
 abbrev pub turn_after : ℕ → Result (Option ℕ) ToolFault → Result Turn ToolFault
 turn_after written (Ok (Some after)) = Ok (On after)
 turn_after written (Ok None) = Ok (Off (record { written = written; result = Err OutOfMemory }))
 turn_after written (Err fault) = Err fault
 
--- a step over a front of bytes that follow these
-abbrev pub StepsOver :
-    (w : MessageWrites) (stands : List ℕ → List ℕ → Type 0) (past bytes behind : List ℕ) → Out → Out → ℕ → List ℕ
+-- a step over a prefix of bytes that follow these
+abbrev pub StepsThrough :
+    (w : MessageWrites) (represents : List ℕ → List ℕ → Type 0) (past bytes following : List ℕ) → Out → Out → ℕ → List ℕ
     → Result Turn ToolFault → Type 0
-StepsOver w stands past bytes behind old new before text result =
-    (front : List ℕ) × (bytes ≡ front ++ behind)
-    × Steps true true (stands (past ++ front)) (Comes w (past ++ bytes) false) old new before text result
+StepsThrough w represents past bytes following old new before text result =
+    (front : List ℕ) × (bytes ≡ front ++ following)
+    × Steps true true (represents (past ++ front)) (RunGives w (past ++ bytes) false) old new before text result
 
--- where the run goes on, the bytes behind are fewer
-abbrev pub IsShorter : Result Turn ToolFault → (behind bytes : List ℕ) → Type 0
-IsShorter (Ok (On after)) behind bytes = length behind < length bytes
-IsShorter (Ok (Off halt)) behind bytes = ⊤
-IsShorter (Err fault) behind bytes = ⊤
+-- where the run goes on, the bytes after are fewer
+abbrev pub IsShorter : Result Turn ToolFault → (following bytes : List ℕ) → Type 0
+IsShorter (Ok (On after)) following bytes = length following < length bytes
+IsShorter (Ok (Off halt)) following bytes = ⊤
+IsShorter (Err fault) following bytes = ⊤

@@ -8,7 +8,7 @@ use Rattle.lis_link.specs.declared.receiver.Note.TheVariants.{OutOfMemory}
 use Rattle.lis_link.specs.declared.receiver.Step.{Step}
 use Rattle.lis_link.specs.Kept.{Kept}
 use Rattle.lis_link.specs.Receiver.{ReceiverState}
-use Rattle.lis_link.specs.Stands.{IsIn}
+use Rattle.lis_link.specs.Representation.{IsIn}
 use Rattle.lis_engine.specs.declared.fault.ToolFault.{ToolFault}
 use Rattle.lis_engine.specs.declared.fault.ToolFault.TheVariants as faults
 use Rattle.lis_report.specs.inside.Answers.{Turn}
@@ -16,7 +16,7 @@ use Rattle.lis_engine.specs.declared.machine.Turn.TheVariants.{On, Off}
 use Rattle.lis_run.specs.declared.playing.Account.{Account}
 use Rattle.lis_run.specs.declared.playing.Account.TheVariants.{Lines, Texts}
 use Rattle.lis_run.specs.LineOutcome.{Writes}
-use Rattle.lis_engine.specs.Output.{Gathered, Out, most_counted}
+use Rattle.lis_engine.specs.Output.{IsBuffered, Out, most_counted}
 use Rattle.lis_run.specs.Replay.{difference_count, played, replay_writes, text_count, text_line, texts_writes}
 
 abbrev pub playing_writes : Account → ℕ → Writes
@@ -29,9 +29,9 @@ text_part Lines number text = text_line number text
 text_part Texts number text = text
 
 abbrev pub text_parts : Account → ℕ → List (List ℕ) → List ℕ
-text_parts account number handed = flat_map (text_part account number) handed
+text_parts account number delivered = flat_map (text_part account number) delivered
 
--- a receiver in this state, with these replies collected where they are compared, and so many texts handed out
+-- a receiver in this state, with these replies collected where they are compared, and so many texts delivered
 pub record IsHearing
     (account : Account) (limit : ℕ) (kept : Kept) (collected : List ℕ) (count : ℕ)
     (r : ReceiverState) (replies : List ℕ) (texts : ℕ) : Type 0 where
@@ -51,19 +51,19 @@ pub record IsPlaying
   pub few : text_count limit lines ≤ 2047 * length lines
 
 -- What taking a step of the receiver adds: its reply where replies are compared, one to the count for its text, and
--- what is written for that. Memory is wanted only where it was refused: to the receiver, or to the list of replies,
+-- what is written for that. Memory is wanted only where it was rejected: to the receiver, or to the list of replies,
 -- which then was full (its length had reached its capacity).
-abbrev pub Took :
+abbrev pub TakesStep :
     (account : Account) (number : ℕ) (step : Step) (old_replies new_replies : List ℕ) (len capacity : ℕ)
     (old_texts new_texts : ℕ)
     → (old new : Out) (before : ℕ) → Result Turn ToolFault → Type 0
-Took account number step old_replies new_replies len capacity old_texts new_texts old new before (Ok (On after)) =
+TakesStep account number step old_replies new_replies len capacity old_texts new_texts old new before (Ok (On after)) =
     (step.note ≢ OutOfMemory) × (account ≡ Lines → new_replies ≡ old_replies ++ option_to_list step.reply)
     × (new_texts ≡ min (old_texts + length (option_to_list step.message)) most_counted)
-    × Gathered old new before (Ok after) (text_parts account number (option_to_list step.message))
-Took account number step old_replies new_replies len capacity old_texts new_texts old new before (Ok (Off halt)) =
+    × IsBuffered old new before (Ok after) (text_parts account number (option_to_list step.message))
+TakesStep account number step old_replies new_replies len capacity old_texts new_texts old new before (Ok (Off halt)) =
     (halt.result ≡ Err faults.OutOfMemory) × (step.note ≢ OutOfMemory → capacity ≤ len)
-    × Gathered old new before (Ok halt.written) []
-Took account number step old_replies new_replies len capacity old_texts new_texts old new before (Err fault) =
-    (step.note ≢ OutOfMemory) × Gathered old new before (Err fault)
+    × IsBuffered old new before (Ok halt.written) []
+TakesStep account number step old_replies new_replies len capacity old_texts new_texts old new before (Err fault) =
+    (step.note ≢ OutOfMemory) × IsBuffered old new before (Err fault)
     (text_parts account number (option_to_list step.message))

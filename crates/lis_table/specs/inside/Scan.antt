@@ -1,6 +1,6 @@
 -- The table as one pass over the text makes it, byte by byte.
 use Rattle.std.specs.Prelude.{ℕ, ◌+◌, ◌^◌, ◌<◌, ◌==◌, List, [], ◌∷◌, Option, None, Some, if◌then◌else◌, cond}
-use Rattle.lis_field.specs.Delimiters.{DelimiterBytes}
+use Rattle.lis_record_values.specs.Delimiters.{DelimiterBytes}
 use Rattle.lis_table.specs.declared.table.LisPart.{LisPart}
 
 -- what begins after a byte that ends this component; none if the byte is no delimiter

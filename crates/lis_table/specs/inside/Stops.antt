@@ -1,8 +1,8 @@
 -- What is known of the places of delimiters and escape bytes in a text.
 use Rattle.std.specs.Prelude.{◌≡◌, ◌≤◌, ◌-◌, ℕ, List, Option, None, Some, ⊤, drop, length, map, take}
 use Rattle.std.specs.Simd.Lanes.{mask_l}
-use Rattle.lis_field.specs.Delimiters.{DelimiterBytes}
-use Rattle.lis_part.specs.inside.FrontReading.{stops}
+use Rattle.lis_record_values.specs.Delimiters.{DelimiterBytes}
+use Rattle.lis_record_read.specs.inside.FrontReading.{stops}
 
 -- the places among the first bytes of a text that hold a delimiter or the escape byte, as bits; none may be known
 pub record AreStops (d : DelimiterBytes) (text : List ℕ) (bits : ℕ) : Type 0 where

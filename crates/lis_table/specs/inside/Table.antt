@@ -1,8 +1,8 @@
 -- Where the first component of a record begins.
 use Rattle.std.specs.Prelude.{◌+◌}
-use Rattle.lis_field.specs.declared.kinds.Kind.{Kind}
-use Rattle.lis_field.specs.Shape.{first_number}
-use Rattle.lis_record.specs.Lent.{front_length}
+use Rattle.lis_record_values.specs.declared.kinds.Kind.{Kind}
+use Rattle.lis_record_values.specs.Shape.{first_number}
+use Rattle.lis_record.specs.Borrowed.{front_length}
 use Rattle.lis_table.specs.declared.table.LisPart.{LisPart}
 
 -- where the first component begins

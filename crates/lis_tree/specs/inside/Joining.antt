@@ -1,7 +1,7 @@
 -- Which records may join the last node of a message.
 use Rattle.std.specs.Prelude.{List, [], ◌∷◌, ⊤}
-use Rattle.lis_field.specs.declared.kinds.Kind.{Kind}
-use Rattle.lis_field.specs.declared.kinds.Kind.TheVariants as kinds
+use Rattle.lis_record_values.specs.declared.kinds.Kind.{Kind}
+use Rattle.lis_record_values.specs.declared.kinds.Kind.TheVariants as kinds
 use Rattle.lis_tree.specs.Nodes.{OrderTree}
 use Rattle.lis_tree.specs.Tree.{IsNote}
 use Rattle.lis_tree.specs.declared.tree.Group.{Group}

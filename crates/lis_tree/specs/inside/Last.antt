@@ -1,4 +1,4 @@
--- The last of a list, and what stands last below a record.
+-- The last of a list, and what is last below a record.
 use Rattle.std.specs.Prelude.{◌≡◌, ◌-◌, List, [], ◌∷◌, ◌++◌, length, slice_set}
 use Rattle.lis_tree.specs.Nodes.{Branch}
 

@@ -3,17 +3,17 @@ ghost use Rattle.std.specs.Borrow.{LendsIf, sem};
 ghost use Rattle.lis_tree.specs.contracts.tree.branch.Branch.{the_row};
 ghost use Rattle.lis_tree.specs.inside.Last.{IsLast, with_last};
 
-use super::noted::Noted;
+use super::annotated::Annotated;
 use crate::lists::{Copied, Records, copy_list};
 use lis_record::Record;
 use lis_text::List;
 use std::alloc::{AllocError, Global};
 use std::marker::Model;
 
-/// A record with its notes, and what stands below it.
+/// A record with its notes, and what is below it.
 #[derive(Debug, PartialEq, Eq, Drop)]
 pub struct Branch<T> {
-    top: Noted,
+    top: Annotated,
     below: List<T>,
 }
 
@@ -29,7 +29,7 @@ impl<T> Model for Branch<T> {
 
 impl<T> Branch<T> {
     /// The record with its notes, and nothing below it.
-    pub(crate) fn new(alloc: Global, top: Noted) -> Self
+    pub(crate) fn new(alloc: Global, top: Annotated) -> Self
         ensures { result ≡ record { top = top; below = [] } }
     {
         Branch {
@@ -49,7 +49,7 @@ impl<T> Branch<T> {
         self.top.push(note)
     }
 
-    /// The last that stands below it, to change it there.
+    /// The last that is below it, to change it there.
     pub(crate) fn last_mut(&mut self) -> Option<&mut T>
         ensures* writes_back { sem 𝓛 (LendsIf (the_row T.row) T.row self.entry result (with_last self.old) self.old) }
         ensures some { IfSome result (λ item. IsLast self.old.below item.now) }
@@ -72,7 +72,7 @@ impl<T> Branch<T> {
         self.top.notes()
     }
 
-    /// What stands below it, in order.
+    /// What is below it, in order.
     pub fn below(&self) -> &[T]
         ensures { result.now ≡ self.now.below }
     {

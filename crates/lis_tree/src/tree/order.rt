@@ -1,7 +1,7 @@
 ghost use Rattle.std.specs.Prelude.{◌≡◌};
 
+use super::annotated::ResultEntry;
 use super::branch::Branch;
-use super::noted::ResultEntry;
 
 /// An order with its notes and its results.
 pub type Order = Branch<ResultEntry>;

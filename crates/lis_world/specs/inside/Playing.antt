@@ -7,32 +7,37 @@ use Rattle.lis_frame.specs.Scanner.{Held, StandsFor}
 use Rattle.lis_link.specs.Kept.{Kept}
 use Rattle.lis_link.specs.declared.receiver.Note.TheVariants.{Accepted}
 use Rattle.lis_link.specs.Receiver.{ReceiverState, ReceiverStep}
-use Rattle.lis_link.specs.Stands.{IsIn}
+use Rattle.lis_link.specs.Representation.{IsIn}
 use Rattle.lis_world.specs.Session.{Session, with_more, changed, sends_frame}
 use Rattle.lis_link.specs.declared.sender.Outcome.{Outcome}
 use Rattle.lis_link.specs.declared.sender.Phase.{Phase}
 use Rattle.lis_link.specs.declared.sender.Phase.TheVariants as Phases
 use Rattle.lis_link.specs.Sender.{SenderState}
 use Rattle.lis_world.specs.Unit.{Load, Travelling, one_frame}
-use Rattle.lis_world.specs.World.{World, Desk}
+use Rattle.lis_world.specs.World.{World, ComputerState}
 use Rattle.lis_world.specs.Steps.{is_noticed}
 use Rattle.lis_frame.specs.Stream.{signals_after}
 
 -- the computer's side, with what the receiver keeps
-pub record KeptDesk : Type 0 where
+pub record KeptComputerState : Type 0 where
   pub receiver : Kept
   pub opened : ℕ
   pub sessions : List Session
   pub replies : List ℕ
 
 -- with a state that the receiver is in
-abbrev pub desk_at : KeptDesk → ReceiverState → Desk
-desk_at kept r = record { receiver = r; opened = kept.opened; sessions = kept.sessions; replies = kept.replies }
+abbrev pub computer_state_at : KeptComputerState → ReceiverState → ComputerState
+computer_state_at kept r = record {
+  receiver = r;
+  opened = kept.opened;
+  sessions = kept.sessions;
+  replies = kept.replies;
+}
 
 -- it is this one
-pub record IsDesk (limit : ℕ) (kept : KeptDesk) (desk : Desk) : Type 0 where
-  pub receiver_is : IsIn limit kept.receiver desk.receiver
-  pub desk_is : desk_at kept desk.receiver ≡ desk
+pub record IsComputerState (limit : ℕ) (kept : KeptComputerState) (computer_state : ComputerState) : Type 0 where
+  pub receiver_is : IsIn limit kept.receiver computer_state.receiver
+  pub computer_state_is : computer_state_at kept computer_state.receiver ≡ computer_state
 
 -- of what is heard, no frame but the one that a unit is
 abbrev pub IsOfLoad : {limit : ℕ} → Load → SignalOf limit → Type 0
@@ -54,7 +59,7 @@ pub record IsLoad (load : Load) (step : ReceiverStep) : Type 0 where
 abbrev pub TakesLoad : Load → ReceiverStep → Type 0
 TakesLoad load step = (number : ℕ) → step.note ≡ Accepted number → IsLoad load step
 
--- the session with a frame that was accepted, and the text handed out with it
+-- the session with a frame that was accepted, and the text delivered with it
 abbrev pub takes_frame : FrameContent → Option (List ℕ) → Session → Session
 takes_frame frame message x = record x { accepted = x.accepted ++ frame ∷ []; handed = with_more x.handed message }
 
@@ -69,10 +74,10 @@ follows_with acknowledged outcome x = record x { acknowledged = acknowledged; ou
 -- all that the program keeps
 pub record KeptWorld : Type 0 where
   pub sender : SenderState
-  pub desk : KeptDesk
+  pub computer_state : KeptComputerState
   pub units : List Travelling
   pub replies : List ℕ
-  pub mute : ℕ
+  pub to_drop : ℕ
   pub current : ℕ
 
 -- with a state that the receiver is in
@@ -83,15 +88,15 @@ world_at kept r =
       receiver = r;
       units = kept.units;
       replies = kept.replies;
-      mute = kept.mute;
+      to_drop = kept.to_drop;
       current = kept.current;
-      opened = kept.desk.opened;
-      sessions = kept.desk.sessions;
+      opened = kept.computer_state.opened;
+      sessions = kept.computer_state.sessions;
     }
 
 -- it is this one
 pub record IsWorld (limit : ℕ) (kept : KeptWorld) (w : World) : Type 0 where
-  pub receiver_is : IsIn limit kept.desk.receiver w.receiver
+  pub receiver_is : IsIn limit kept.computer_state.receiver w.receiver
   pub world_is : world_at kept w.receiver ≡ w
 
 -- whether damage is noticed, where one bad frame was heard of it or none
@@ -114,7 +119,7 @@ front_noticed (front ∷ units) notices = notices front.load
 
 -- parts of an event, of what the program keeps
 abbrev pub kept_forgotten : KeptWorld → KeptWorld
-kept_forgotten kept = record kept { replies = []; mute = length kept.units }
+kept_forgotten kept = record kept { replies = []; to_drop = length kept.units }
 
 abbrev pub kept_given_up : Phase → KeptWorld → KeptWorld
 kept_given_up Phases.Neutral kept = kept
@@ -126,9 +131,9 @@ kept_given_up Phases.AwaitReply kept = kept_forgotten kept
 abbrev pub kept_following : KeptWorld → KeptWorld
 kept_following kept =
     record kept {
-      desk = record kept.desk {
+      computer_state = record kept.computer_state {
         sessions = changed kept.current (follows_with kept.sender.acknowledged
-            kept.sender.outcome) kept.desk.sessions;
+            kept.sender.outcome) kept.computer_state.sessions;
       };
     }
 
@@ -138,7 +143,10 @@ kept_with load kept = record kept { units = kept.units ++ record { session = kep
 abbrev pub kept_sending : FrameContent → KeptWorld → KeptWorld
 kept_sending frame kept =
     kept_with (one_frame frame) (record kept {
-      desk = record kept.desk { sessions = changed kept.current (sends frame) kept.desk.sessions };
+      computer_state = record kept.computer_state {
+        sessions = changed kept.current (sends frame)
+            kept.computer_state.sessions;
+      };
     })
 
 -- what happens, one by one, in order
@@ -150,5 +158,5 @@ run_by after (event ∷ events) w = run_by after events (after event w)
 pub record IsPlaying {E : Type 0} (after : E → World → World) (limit : ℕ) (kept : KeptWorld) (left : List E)
     (goal : World) : Type 0 where
   pub state : ReceiverState
-  pub is_in : IsIn limit kept.desk.receiver state
+  pub is_in : IsIn limit kept.computer_state.receiver state
   pub goes_on : run_by after left (world_at kept state) ≡ goal

@@ -10,7 +10,7 @@ invariant-loop-count g l = record {
   room : length l.text ≡ length l.fn.text;
   silent : (past : List ℕ) → StandsFor g.row.N l.fn.scanner past →
       signals_after g.row.N past (take l.count l.bytes) ≡ [];
-  stands : (past : List ℕ) → StandsFor g.row.N l.fn.scanner past →
+  represents : (past : List ℕ) → StandsFor g.row.N l.fn.scanner past →
       StandsFor g.row.N l.scanner (stream_with past (take l.count l.bytes));
 }
 

@@ -1,13 +1,13 @@
--- `lis_receiver_end` takes the desk out of its block and lets go of it.
+-- `lis_receiver_end` takes the handle's state out of its block and releases it.
 use Rattle.lis_c.proofs.HandleLaws.{ends}
 use Rattle.lis_c.proofs.Handles.{receiver}
-use Rattle.lis_c.proofs.desk.let_go_receiver.Met as gone
+use Rattle.lis_c.proofs.handle_state.release_receiver.Met as gone
 use Rattle.lis_c.proofs.receiver.lis_receiver_end.Code as code
 use Rattle.lis_c.proofs.receiver.lis_receiver_end.Statement.{statement}
-use Rattle.lis_c.specs.contracts.desk.let_go_receiver as g
+use Rattle.lis_c.specs.contracts.handle_state.release_receiver as g
 use Rattle.lis_c.specs.contracts.receiver.lis_receiver_end as f
 
 pub lis_receiver_end_spec : {M : Type 1} → statement M
 lis_receiver_end_spec 𝓤 𝓛 𝓜 𝓡 wired =
     ends receiver g.Key.name 𝓤 𝓛 𝓜 𝓡 f.Key.name
-    (gone.met 𝓤 𝓛 𝓜 𝓡 (code.calls-lis_c::desk::let_go_receiver 𝓡.env wired)) (code.unfolded 𝓤 𝓛.H 𝓜 𝓡 wired)
+    (gone.met 𝓤 𝓛 𝓜 𝓡 (code.calls-lis_c::handle_state::release_receiver 𝓡.env wired)) (code.unfolded 𝓤 𝓛.H 𝓜 𝓡 wired)

@@ -1,12 +1,13 @@
 use Rattle.std.proofs.Common.{◌<◌, arith, length}
 use Rattle.std.proofs.lemmas.Bool.Decides.{nat_tests}
-use Rattle.lis_capture.proofs.LowerLemmas.{last_lowered, more_lowered, spelled}
+use Rattle.lis_capture.proofs.LowerLemmas.{last_lowered, more_lowered, lowered_encoding}
 use Rattle.lis_capture.proofs.digits.lower_many.Goals as goal
 
 pub returns-then-digits-lt16 : goal.returns-then-digits-lt16
 returns-then-digits-lt16 c =
     let some : 0 < length c.args.digits.now = grind (arith, nat_tests, c.if-is_empty.false, c.is_empty.ensures) in
-    spelled c.args.digits.now c.lower_few.new.lowered c.lower_few.result (omega arith) some c.lower_few.ensures.all
+    lowered_encoding c.args.digits.now c.lower_few.new.lowered c.lower_few.result (omega arith) some
+    c.lower_few.ensures.all
     c.lower_few.ensures.lowered
 
 pub loop-place-preserved : goal.loop-place-preserved

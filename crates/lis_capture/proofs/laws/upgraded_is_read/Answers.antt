@@ -1,6 +1,6 @@
 use Rattle.std.proofs.Common.{ap, subst}
 use Rattle.lis_capture.specs.Capture.{Lines, lines_of}
-use Rattle.lis_capture.proofs.SpellingLemmas.{AreRead, AreRead-read_lines, capture-upgraded, upgraded-upgraded_lines}
+use Rattle.lis_capture.proofs.EncodingLemmas.{AreRead, AreRead-read_lines, capture-upgraded, upgraded-upgraded_lines}
 use Rattle.lis_capture.proofs.laws.upgraded_is_read.Goals as goal
 
 pub returns : goal.returns

@@ -10,7 +10,7 @@ invariant-loop-turn g l = record {
   not_ended : g.R.Source.ended l.source ≡ false;
   working : g.W.Sink.failed l.sink ≡ false;
   so_far :
-      IsSoFar (g.M.Machine.stands l.machine) (g.R.Source.left l.fn.source) (g.R.Source.left l.source)
+      IsSoFar (g.M.Machine.represents l.machine) (g.R.Source.left l.fn.source) (g.R.Source.left l.source)
       (g.W.Sink.taken l.fn.sink)
-      (g.W.Sink.taken l.sink) l.page l.written l._turn;
+      (g.W.Sink.taken l.sink) l.outgoing l.written l._turn;
 }

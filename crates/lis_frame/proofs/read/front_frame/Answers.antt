@@ -20,7 +20,7 @@ returns-clause-frame g c =
 pub returns-clause-whole : goal.returns-clause-whole
 returns-clause-whole g c frame begins =
     let here = rw c.in-Some.ensures.cases.0 at begins in
-    let parts = front_parts g.row.N c.in-Some.number.now c.in-Some.behind.now frame here in
+    let parts = front_parts g.row.N c.in-Some.number.now c.in-Some.following.now frame here in
     let at = same_place (c.in-Some-front_text.ensures.whole frame here) in
     c.of_parts-frame.ensures
     ∙ rw (

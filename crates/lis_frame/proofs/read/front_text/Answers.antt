@@ -1,11 +1,11 @@
 use Rattle.std.proofs.Common.{◌≡◌, ◌∙◌, ◌+◌, ◌%◌, None, ap, get_or, length, refl, sym, arith}
 use Rattle.std.specs.List.{sum}
-use Rattle.lis_frame.specs.Stretch.{stretch_fault}
-use Rattle.lis_frame.specs.inside.Stretch.{stretch_of}
+use Rattle.lis_frame.specs.FrameBody.{body_fault}
+use Rattle.lis_frame.specs.inside.FrameBody.{body_of}
 use Rattle.lis_text.specs.Text.{is_forbidden, first_forbidden}
 use Rattle.lis_text.proofs.SearchLemmas.{clean-before}
 use Rattle.lis_frame.proofs.FrontLemmas.{front-frame, front_parts, same_place}
-use Rattle.lis_frame.proofs.StretchLemmas.{content_of-stretch_of, stretch_fault-parts}
+use Rattle.lis_frame.proofs.FrameBodyLemmas.{content_of-body_of, body_fault-parts}
 use Rattle.lis_frame.proofs.read.front_text.Goals as goal
 use Rattle.lis_frame.proofs.read.front_text.Goals.{then-place-via-then-place}
 use Rattle.lis_frame.proofs.read.front_text.Goals.{then-place-via-else-place+then-line_feed-ne-LF}
@@ -14,13 +14,13 @@ use Rattle.lis_frame.proofs.read.front_text.Goals.{then-place-via-else-place+els
 
 pub split_at-requires : goal.split_at-requires
 split_at-requires g c =
-    let before = clean-before is_forbidden c.args.behind.now c.in-Some.place
+    let before = clean-before is_forbidden c.args.following.now c.in-Some.place
     (sym c.text_and_sum-forbidden.ensures.first ∙ c.in-Some.is) in
     omega (arith, before.0)
 
 pub returns-clause-frame : goal.returns-clause-frame
 returns-clause-frame g c =
-    let before = clean-before is_forbidden c.args.behind.now c.in-Some.place
+    let before = clean-before is_forbidden c.args.following.now c.in-Some.place
     (sym c.text_and_sum-forbidden.ensures.first ∙ c.in-Some.is) in
     let text = c.split_at.result.0.now in
     let rest = c.split_at.result.1.now in
@@ -33,8 +33,8 @@ returns-clause-frame g c =
     rw (c.split_at.ensures.front) (sym (rw c.in-Some.is at c.text_and_sum-forbidden.ensures.sum)) in
     let total : ((c.args.number + sum text) % 256 + end) % 256
     ≡ (c.args.number + c.text_and_sum-forbidden.result.1 + end) % 256 = omega (arith, text_sum) in
-    let sound : stretch_fault g.row.N (stretch_of c.args.number text end high low close) ≡ None =
-    stretch_fault-parts c.args.number text end high low close g.row.N (omega (arith, c.split_at.ensures.front_len))
+    let sound : body_fault g.row.N (body_of c.args.number text end high low close) ≡ None =
+    body_fault-parts c.args.number text end high low close g.row.N (omega (arith, c.split_at.ensures.front_len))
     ∙ rw (
       ← c.is_shaped.ensures,
       c.if-not-is_shaped.false,
@@ -45,9 +45,9 @@ returns-clause-frame g c =
       c.if-not-is_summed.false,
     )
     refl in
-    let is = sym (content_of-stretch_of c.args.number text end high low close) in
+    let is = sym (content_of-body_of c.args.number text end high low close) in
     let place = c.in-Some.place in
-    front-frame g.row.N c.args.number place c.args.behind.now _ (omega (arith, before.0))
+    front-frame g.row.N c.args.number place c.args.following.now _ (omega (arith, before.0))
     (rw c.split_at.ensures.back at c.in-len5-up.len_at_least)
     (rw c.split_at.ensures.back at c.if-line_feed-ne-LF.false)
     (rw (c.split_at.ensures.front, c.split_at.ensures.back) at sound)
@@ -55,19 +55,19 @@ returns-clause-frame g c =
 
 pub returns-in_default-clause-whole : goal.returns-in_default-clause-whole
 returns-in_default-clause-whole g c frame begins =
-    let parts = front_parts g.row.N c.args.number c.args.behind.now frame begins in
+    let parts = front_parts g.row.N c.args.number c.args.following.now frame begins in
     sym c.in_default.is ∙ c.text_and_sum-forbidden.ensures.first ∙ parts.first_is
 
 pub returns-in_default-rest-clause-whole : goal.returns-in_default-rest-clause-whole
 returns-in_default-rest-clause-whole g c frame begins =
-    let parts = front_parts g.row.N c.args.number c.args.behind.now frame begins in
+    let parts = front_parts g.row.N c.args.number c.args.following.now frame begins in
     let at = same_place (sym c.in-Some.is ∙ c.text_and_sum-forbidden.ensures.first ∙ parts.first_is) in
     let rest_is = rw at at c.split_at.ensures.back ∙ parts.rest_is in
     absurd (omega (arith, c.in_default-rest.len_below, ap length rest_is))
 
 pub returns-then-place-clause-whole : goal.returns-then-place-clause-whole
 returns-then-place-clause-whole g c frame begins =
-    let parts = front_parts g.row.N c.args.number c.args.behind.now frame begins in
+    let parts = front_parts g.row.N c.args.number c.args.following.now frame begins in
     let at = same_place (sym c.in-Some.is ∙ c.text_and_sum-forbidden.ensures.first ∙ parts.first_is) in
     let rest_is = rw at at c.split_at.ensures.back ∙ parts.rest_is in
     let sum_is = rw (c.in-Some.is, at, parts.text_is) at c.text_and_sum-forbidden.ensures.sum in
@@ -82,5 +82,5 @@ returns-then-place-clause-whole g c frame begins =
 
 pub returns-clause-whole : goal.returns-clause-whole
 returns-clause-whole g c frame begins =
-    let parts = front_parts g.row.N c.args.number c.args.behind.now frame begins in
+    let parts = front_parts g.row.N c.args.number c.args.following.now frame begins in
     sym c.in-Some.is ∙ c.text_and_sum-forbidden.ensures.first ∙ parts.first_is

@@ -5,4 +5,4 @@ pub returns-clause-read : goal.returns-clause-read
 returns-clause-read c = every_stream
 
 pub returns-clause-longer : goal.returns-clause-longer
-returns-clause-longer c = λ front more messages left held cut. goes_on more front messages left held cut
+returns-clause-longer c = λ front more messages left held split. goes_on more front messages left held split

@@ -1,5 +1,5 @@
 use Rattle.std.proofs.Common.{◌≡◌, ◌++◌, ◌∷◌, [], List, None, Some, ap, sym, ◌∙◌}
-use Rattle.lis_field.specs.Shape.{RecordContent}
+use Rattle.lis_record_values.specs.Shape.{RecordContent}
 use Rattle.lis_message.specs.Taking.{header, inner, records_of}
 use Rattle.lis_tree.specs.Begun.{Begun}
 use Rattle.lis_message.proofs.reader.take_last.Goals as goal

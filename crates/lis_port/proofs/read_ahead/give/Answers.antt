@@ -8,10 +8,10 @@ use Rattle.lis_port.proofs.read_ahead.give.Goals as goal
 
 -- what is taken from the front of the buffer is what is left no longer
 consumed :
-    (held : List ℕ) (behind new : Option (List ℕ)) (unknown : Bool) (count : ℕ) → count ≤ length held →
-    DropsConsumable (cond unknown None (prepend_known held behind)) new (Some (length held)) count →
-    Consumes (cond unknown None (prepend_known held behind)) new (take count held)
-consumed held behind new true count fits drops = tt
+    (held : List ℕ) (following new : Option (List ℕ)) (unknown : Bool) (count : ℕ) → count ≤ length held →
+    DropsConsumable (cond unknown None (prepend_known held following)) new (Some (length held)) count →
+    Consumes (cond unknown None (prepend_known held following)) new (take count held)
+consumed held following new true count fits drops = tt
 consumed held None new false count fits drops = tt
 consumed held (Some rest) new false count fits drops =
     rw (drops fits) (rw (← take-append-le count held rest fits) (sym (take-append-drop count (held ++ rest))))

@@ -1,5 +1,5 @@
 use Rattle.std.proofs.Common.{[], ◌∷◌}
-use Rattle.lis_part.proofs.Components.{IsComponent-symbols_of, symbols_of-IsComponent}
+use Rattle.lis_record_read.proofs.Components.{IsComponent-symbols_of, symbols_of-IsComponent}
 use Rattle.lis_record.proofs.RecordTexts.{AreFieldTexts-fields_of, AreFieldTexts-none, IsField-repeats_of}
 use Rattle.lis_record.proofs.RecordTexts.{IsRepeat-components_of, components_of-IsRepeat, fields_of-AreFieldTexts}
 use Rattle.lis_record.proofs.RecordTexts.{repeats_of-IsField}

@@ -1,12 +1,12 @@
 use Rattle.std.proofs.Common.{arith}
-use Rattle.lis_record.proofs.Marks.{behind-small, first-small, marks-windows}
+use Rattle.lis_record.proofs.Marks.{following-small, first-small, marks-windows}
 use Rattle.lis_record.proofs.places.front_marks.Goals as goal
 
 pub overflow_mul-result : goal.overflow_mul-result
 overflow_mul-result c =
     omega (
       arith,
-      behind-small c.args.mark 32 c.min-count.result c.args.text.now c.bits_of_32.result
+      following-small c.args.mark 32 c.min-count.result c.args.text.now c.bits_of_32.result
           (rw c.split_at.ensures.back at c.bits_of_32.ensures),
     )
 
@@ -15,7 +15,7 @@ overflow_add-result c =
     omega (
       arith,
       first-small c.args.mark 32 c.min-count.result c.args.text.now c.bits_of_32-2.result c.bits_of_32-2.ensures,
-      behind-small c.args.mark 32 c.min-count.result c.args.text.now c.bits_of_32.result
+      following-small c.args.mark 32 c.min-count.result c.args.text.now c.bits_of_32.result
           (rw c.split_at.ensures.back at c.bits_of_32.ensures),
     )
 

@@ -1,12 +1,12 @@
 use Rattle.std.proofs.Common.{◌-◌, length, arith}
-use Rattle.lis_record.proofs.Marks.{behind-small, first-small, marks-windows}
+use Rattle.lis_record.proofs.Marks.{following-small, first-small, marks-windows}
 use Rattle.lis_record.proofs.places.short_marks.Goals as goal
 
 pub overflow_mul-result : goal.overflow_mul-result
 overflow_mul-result c =
     omega (
       arith,
-      behind-small c.args.mark 16 (length c.args.text.now - 16) c.args.text.now c.bits_of.result
+      following-small c.args.mark 16 (length c.args.text.now - 16) c.args.text.now c.bits_of.result
           (rw c.split_at.ensures.back at c.bits_of.ensures),
     )
 
@@ -15,7 +15,7 @@ overflow_add-result c =
     omega (
       arith,
       first-small c.args.mark 16 (length c.args.text.now - 16) c.args.text.now c.bits_of-2.result c.bits_of-2.ensures,
-      behind-small c.args.mark 16 (length c.args.text.now - 16) c.args.text.now c.bits_of.result
+      following-small c.args.mark 16 (length c.args.text.now - 16) c.args.text.now c.bits_of.result
           (rw c.split_at.ensures.back at c.bits_of.ensures),
     )
 

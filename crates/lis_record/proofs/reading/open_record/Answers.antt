@@ -1,5 +1,5 @@
 use Rattle.std.proofs.Common.{ℕ, ap, ◌∙◌, sym}
-use Rattle.lis_field.specs.Text.{trailing_byte}
+use Rattle.lis_record_values.specs.Text.{trailing_byte}
 use Rattle.lis_record.proofs.FaultLaws.{record_fault-empty, record_fault-kind, record_fault-text, record_fault-trailing}
 use Rattle.lis_record.proofs.reading.open_record.Goals as goal
 

@@ -15,6 +15,6 @@ returns-in-Err c =
 pub returns-in-Some : goal.returns-in-Some
 returns-in-Some c =
     let text = c.args.text.now in
-    let behind = take_rest text 4 in
+    let following = take_rest text 4 in
     delimiter_part_fault-trailing text _ _ _ _ _ (Some c.in-Some.byte) (four_bytes text (omega arith))
-    c.in-Ok.ensures.fault (rw behind at (sym c.trailing_byte.ensures ∙ c.in-Some.is))
+    c.in-Ok.ensures.fault (rw following at (sym c.trailing_byte.ensures ∙ c.in-Some.is))

@@ -1,7 +1,7 @@
 use Rattle.std.proofs.Common.{inr, refl, ◌∙◌}
-use Rattle.lis_field.proofs.FirstFaults.{some_none}
+use Rattle.lis_record_values.proofs.FirstFaults.{some_none}
 use Rattle.lis_record.proofs.FaultLaws.{header_fault-IsRecord}
-use Rattle.lis_record.proofs.Opening.{same_lent}
+use Rattle.lis_record.proofs.Opening.{same_borrowed}
 use Rattle.lis_record.specs.Faults.{header_fault}
 use Rattle.lis_record.proofs.reading.read_header.Goals as goal
 
@@ -15,7 +15,7 @@ returns-in-Ok-to_record-clause-found c = rw (c.delimiters.ensures, c.in-Ok-to_re
 
 pub returns-in-Ok-to_record-clause-only : goal.returns-in-Ok-to_record-clause-only
 returns-in-Ok-to_record-clause-only c = λ d content good r is_header.
-    let same = same_lent c.in-Ok.entry d content (c.in-Ok.ensures.only d content good r is_header) in
+    let same = same_borrowed c.in-Ok.entry d content (c.in-Ok.ensures.only d content good r is_header) in
     (c.delimiters.ensures ∙ same.0, c.in-Ok-to_record.ensures ∙ same.1)
 
 pub returns-in-Err-to_record-clause-fault : goal.returns-in-Err-to_record-clause-fault

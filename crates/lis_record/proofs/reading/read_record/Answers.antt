@@ -1,7 +1,7 @@
 use Rattle.std.proofs.Common.{inr, refl, ◌∙◌}
-use Rattle.lis_field.proofs.FirstFaults.{some_none}
+use Rattle.lis_record_values.proofs.FirstFaults.{some_none}
 use Rattle.lis_record.proofs.FaultLaws.{record_fault-IsRecord}
-use Rattle.lis_record.proofs.Opening.{same_lent}
+use Rattle.lis_record.proofs.Opening.{same_borrowed}
 use Rattle.lis_record.specs.Faults.{record_fault}
 use Rattle.lis_record.proofs.reading.read_record.Goals as goal
 
@@ -15,7 +15,7 @@ returns-in-Ok-to_record-clause-found c = rw c.in-Ok-to_record.ensures (c.in-Ok.e
 
 pub returns-in-Ok-to_record-clause-only : goal.returns-in-Ok-to_record-clause-only
 returns-in-Ok-to_record-clause-only c = λ content r other.
-    c.in-Ok-to_record.ensures ∙ (same_lent c.in-Ok.entry c.args.delimiters.now content
+    c.in-Ok-to_record.ensures ∙ (same_borrowed c.in-Ok.entry c.args.delimiters.now content
     (c.in-Ok.ensures.only content r other)).1
 
 pub returns-in-Err-to_record-clause-fault : goal.returns-in-Err-to_record-clause-fault

@@ -1,6 +1,6 @@
 use Rattle.std.proofs.Common.{ap, ◌∙◌, arith}
 use Rattle.std.proofs.lemmas.Result.{on_ok_weaker}
-use Rattle.lis_field.specs.Delimiters.{DelimiterBytes}
+use Rattle.lis_record_values.specs.Delimiters.{DelimiterBytes}
 use Rattle.lis_record_commands.proofs.ResultLaws.{added_last, added_next, next_left}
 use Rattle.lis_record_commands.proofs.results.add_each.Goals as goal
 

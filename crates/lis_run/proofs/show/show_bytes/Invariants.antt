@@ -3,7 +3,7 @@ use Rattle.std.specs.declared.result.Result.{Result}
 use Rattle.lis_frame.specs.Scanner.{StandsFor}
 use Rattle.lis_frame.specs.Stream.{stream_with, signals_after}
 use Rattle.lis_engine.specs.declared.fault.ToolFault.{ToolFault}
-use Rattle.lis_engine.specs.Output.{Gathered, Out, most_counted, out}
+use Rattle.lis_engine.specs.Output.{IsBuffered, Out, most_counted, out}
 use Rattle.lis_run.specs.Show.{signal_lines}
 use Rattle.lis_run.proofs.show.show_bytes.Given as goal
 
@@ -16,8 +16,9 @@ invariant-loop-byte g l = record {
       (past : List ℕ) → StandsFor g.row.N l.fn.scanner past →
       (here : List ℕ) × StandsFor g.row.N l.scanner here × (stream_with here l.rest ≡ stream_with past l.bytes)
       × ((new : Out) (r : Result ℕ ToolFault) →
-      Gathered (out (g.W.Sink.taken l.sink) l.page) new l.after r (signal_lines (signals_after g.row.N here l.rest)) →
-      Gathered (out (g.W.Sink.taken l.fn.sink) l.fn.page) new l.written r
+      IsBuffered (out (g.W.Sink.taken l.sink) l.outgoing) new l.after r
+      (signal_lines (signals_after g.row.N here l.rest)) →
+      IsBuffered (out (g.W.Sink.taken l.fn.sink) l.fn.outgoing) new l.written r
       (signal_lines (signals_after g.row.N past l.bytes)));
 }
 

@@ -1,5 +1,5 @@
 use Rattle.std.proofs.Common.{arith}
-use Rattle.lis_part.specs.inside.FrontReading.{stops}
+use Rattle.lis_record_read.specs.inside.FrontReading.{stops}
 use Rattle.lis_table.proofs.StopLaws.{free-more}
 use Rattle.lis_table.proofs.stops.free_by_one.Goals as goal
 

@@ -1,6 +1,6 @@
 use Rattle.std.proofs.Common.{◌≡◌, ◌≤◌, ◌-◌, false, length, take}
 use Rattle.std.specs.List.{All}
-use Rattle.lis_part.specs.inside.FrontReading.{stops}
+use Rattle.lis_record_read.specs.inside.FrontReading.{stops}
 use Rattle.lis_table.proofs.stops.free_by_one.Given as goal
 
 -- none of the bytes so far

@@ -1,4 +1,4 @@
--- What the places at the end tell of all bytes that are left.
+-- What the places at the end say about all bytes that are left.
 use Rattle.std.proofs.Common.{◌+◌, ◌-◌, ◌/◌, ◌^◌, length}
 use Rattle.lis_table.proofs.StopLaws.{end-free, end-stops, stop-free, stop-within, stops-after}
 use Rattle.lis_table.proofs.stops.last_stop.Goals as goal

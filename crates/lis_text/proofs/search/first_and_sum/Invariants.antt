@@ -7,7 +7,7 @@ use Rattle.lis_text.proofs.search.first_and_sum.Given as goal
 -- what was passed holds no byte of the set, and the lanes its sum
 pub record Summed (f : ℕ → Bool) (place : ℕ) (rest bytes sums : List ℕ) : Type 0 where
   pub passed : Passed f place rest bytes
-  pub behind : rest ≡ drop place bytes
+  pub following : rest ≡ drop place bytes
   pub total : sum_l sums % 256 ≡ sum (take place bytes) % 256
 
 abbrev pub invariant-loop-rest : goal.invariant-loop-rest

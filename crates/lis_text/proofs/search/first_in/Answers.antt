@@ -1,5 +1,5 @@
 use Rattle.std.proofs.Common.{None, Some, sym, ◌∙◌, arith}
-use Rattle.lis_text.proofs.SearchLemmas.{passed-chunk, found-chunk, position-behind}
+use Rattle.lis_text.proofs.SearchLemmas.{passed-chunk, found-chunk, position-following}
 use Rattle.lis_text.proofs.search.first_in.Goals as goal
 
 pub returns-then-bits-ne0 : goal.returns-then-bits-ne0
@@ -21,10 +21,10 @@ loop-rest-preserved g c = record {
 
 pub returns-in-None : goal.returns-in-None
 returns-in-None g c =
-    position-behind g.S.ByteSet.member c.loop-rest.place c.loop-rest.rest.now None c.in-None.ensures.place
+    position-following g.S.ByteSet.member c.loop-rest.place c.loop-rest.rest.now None c.in-None.ensures.place
     ∙ sym c.loop-rest.invariant.same
 
 pub returns-in-Some : goal.returns-in-Some
 returns-in-Some g c =
-    position-behind g.S.ByteSet.member c.loop-rest.place c.loop-rest.rest.now (Some c.in-Some.found)
+    position-following g.S.ByteSet.member c.loop-rest.place c.loop-rest.rest.now (Some c.in-Some.found)
     c.in-Some.ensures.place ∙ sym c.loop-rest.invariant.same

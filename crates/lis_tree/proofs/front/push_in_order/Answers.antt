@@ -1,7 +1,7 @@
 use Rattle.std.proofs.Common.{ap}
-use Rattle.lis_field.specs.declared.kinds.Kind.TheVariants as kinds
+use Rattle.lis_record_values.specs.declared.kinds.Kind.TheVariants as kinds
 use Rattle.lis_tree.specs.inside.Joining.{JoinsOrder}
-use Rattle.lis_tree.specs.Tree.{IsNoted, noted_records}
+use Rattle.lis_tree.specs.Tree.{IsAnnotated, annotated_records}
 use Rattle.lis_tree.proofs.Joining.{note_joins}
 use Rattle.lis_tree.proofs.Last.{on_ok, records_on, same_on, shape_on}
 use Rattle.lis_tree.proofs.front.push_in_order.Goals as goal
@@ -13,10 +13,11 @@ returns-in-Some c =
     let result = c.push-in-Some.result in
     let last = c.in-Some.ensures.some in
     record {
-      records = records_on b _ last new result noted_records c.args.entry
-          (on_ok result (λ is. ap noted_records is) c.push-in-Some.ensures.ok);
-      shape = shape_on b _ last new result kinds.O (IsNoted kinds.R) (JoinsOrder c.args.kind)
-          (on_ok result (λ is noted joins. note_joins _ new c.args.entry c.args.kind is c.requires c.in_default.not-R
-          noted joins) c.push-in-Some.ensures.ok);
+      records = records_on b _ last new result annotated_records c.args.entry
+          (on_ok result (λ is. ap annotated_records is) c.push-in-Some.ensures.ok);
+      shape = shape_on b _ last new result kinds.O (IsAnnotated kinds.R) (JoinsOrder c.args.kind)
+          (on_ok result (λ is annotated joins. note_joins _ new c.args.entry c.args.kind is c.requires
+          c.in_default.not-R
+          annotated joins) c.push-in-Some.ensures.ok);
       err = same_on b _ last new result c.push-in-Some.ensures.err;
     }

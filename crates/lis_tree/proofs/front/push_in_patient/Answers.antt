@@ -1,4 +1,4 @@
-use Rattle.lis_field.specs.declared.kinds.Kind.TheVariants as kinds
+use Rattle.lis_record_values.specs.declared.kinds.Kind.TheVariants as kinds
 use Rattle.lis_tree.specs.inside.Joining.{JoinsPatient}
 use Rattle.lis_tree.specs.Tree.{IsOrder, order_records}
 use Rattle.lis_tree.proofs.Joining.{joins_order}

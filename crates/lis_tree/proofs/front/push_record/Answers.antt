@@ -1,4 +1,4 @@
-use Rattle.lis_field.specs.declared.kinds.Kind.TheVariants as kinds
+use Rattle.lis_record_values.specs.declared.kinds.Kind.TheVariants as kinds
 use Rattle.lis_tree.specs.Tree.{IsGroup, group_records}
 use Rattle.lis_tree.proofs.Joining.{joins_last}
 use Rattle.lis_tree.proofs.Last.{branch_is, on_ok, records_on, same_on}

@@ -4,5 +4,5 @@ use Rattle.lis_tree.proofs.laws.hierarchy.Goals as goal
 pub returns-clause-viable : goal.returns-clause-viable
 returns-clause-viable c = viable_from
 
-pub returns-clause-stands : goal.returns-clause-stands
-returns-clause-stands c = from_viable
+pub returns-clause-allowed : goal.returns-clause-allowed
+returns-clause-allowed c = from_viable

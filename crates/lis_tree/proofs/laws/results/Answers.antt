@@ -1,5 +1,5 @@
-use Rattle.lis_tree.proofs.ResultLaws.{results_are_told}
+use Rattle.lis_tree.proofs.ResultLaws.{results_are_listed}
 use Rattle.lis_tree.proofs.laws.results.Goals as goal
 
 pub returns : goal.returns
-returns c = results_are_told
+returns c = results_are_listed

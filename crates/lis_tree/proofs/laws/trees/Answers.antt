@@ -1,5 +1,5 @@
 use Rattle.std.proofs.Common.{◌++◌, ◌∷◌, [], ap, ◌∙◌}
-use Rattle.lis_field.specs.declared.kinds.Kind.{Kind}
+use Rattle.lis_record_values.specs.declared.kinds.Kind.{Kind}
 use Rattle.lis_tree.proofs.Flatten.{front_tree}
 use Rattle.lis_tree.proofs.Levels.{map_append}
 use Rattle.lis_tree.proofs.ListFaults.{tree_kinds}
@@ -12,8 +12,8 @@ use Rattle.lis_tree.proofs.laws.trees.Goals as goal
 pub returns-clause-viable : goal.returns-clause-viable
 returns-clause-viable c = λ m is. viable_from (kinds_of (flatten m)) (tree_kinds m is).0
 
-pub returns-clause-stands : goal.returns-clause-stands
-returns-clause-stands c = λ m is. (tree_kinds m is).0
+pub returns-clause-allowed : goal.returns-clause-allowed
+returns-clause-allowed c = λ m is. (tree_kinds m is).0
 
 pub returns-clause-closed : goal.returns-clause-closed
 returns-clause-closed c = λ m is. (

@@ -1,5 +1,5 @@
 use Rattle.std.proofs.Common.{◌≡◌, ◌+◌, ◌^◌, ◌≤◌, length}
-use Rattle.lis_field.specs.Shape.{plain_component}
+use Rattle.lis_record_values.specs.Shape.{plain_component}
 use Rattle.lis_tree.specs.Numbers.{digits_from}
 use Rattle.lis_tree.proofs.numbering.bytes_number.Given as goal
 

@@ -1,5 +1,5 @@
 use Rattle.std.proofs.Common.{◌≡◌, ◌∷◌, ◌+◌, subst, sym, arith}
-use Rattle.lis_field.specs.declared.kinds.Kind.{Kind}
+use Rattle.lis_record_values.specs.declared.kinds.Kind.{Kind}
 use Rattle.lis_tree.specs.Findings.{findings_of}
 use Rattle.lis_tree.specs.Numbers.{CountsOf}
 use Rattle.lis_text.specs.Capped.{capped}

@@ -1,6 +1,6 @@
--- What is played comes to the world of the definition, and that is safe.
+-- What is played gives the world of the definition, and that is safe.
 use Rattle.std.proofs.Common.{ap, All, sym, ◌∙◌, subst}
-use Rattle.lis_world.specs.Safe.{IsSafe, HandsOutAll}
+use Rattle.lis_world.specs.Safe.{IsSafe, DeliversAll}
 use Rattle.lis_world.specs.Late.{late_world, is_empty}
 use Rattle.lis_world.specs.World.{World, new_world}
 use Rattle.lis_world.proofs.LateSafety.{safe_where, empty_starts}
@@ -19,7 +19,7 @@ returns-clause-safe g c = if_ok c.play_all.result (λ history is.
 
 pub returns-clause-done : goal.returns-clause-done
 returns-clause-done g c = if_ok c.play_all.result (λ history is.
-    subst (All HandsOutAll) (sym is)
+    subst (All DeliversAll) (sym is)
     (safe_where is_empty g.row.N c.requires (empty_starts g.row.N) c.args.events).1) (returns-clause-world g c)
 
 pub returns-clause-quiet : goal.returns-clause-quiet

@@ -1,6 +1,6 @@
--- What is played comes to the world of the definition, and that is safe.
+-- What is played gives the world of the definition, and that is safe.
 use Rattle.std.proofs.Common.{ap, All, sym, ◌∙◌, subst}
-use Rattle.lis_world.specs.Safe.{IsSafe, HandsOutAll}
+use Rattle.lis_world.specs.Safe.{IsSafe, DeliversAll}
 use Rattle.lis_world.specs.Steps.{world}
 use Rattle.lis_world.specs.World.{World, new_world}
 use Rattle.lis_world.proofs.Safety.{always_safe}
@@ -18,7 +18,7 @@ returns-clause-safe g c = if_ok c.play_all.result (λ history is.
 
 pub returns-clause-done : goal.returns-clause-done
 returns-clause-done g c = if_ok c.play_all.result (λ history is.
-    subst (All HandsOutAll) (sym is) (always_safe g.row.N c.requires c.args.events).1) (returns-clause-world g c)
+    subst (All DeliversAll) (sym is) (always_safe g.row.N c.requires c.args.events).1) (returns-clause-world g c)
 
 pub returns-clause-quiet : goal.returns-clause-quiet
 returns-clause-quiet g c = if_ok c.play_all.result (λ history is texts sendable are.

@@ -3,14 +3,14 @@ use Rattle.std.proofs.lemmas.Bool.{false≢true}
 use Rattle.lis_link.specs.Duties.{timer_seconds}
 use Rattle.lis_link.specs.Sender.{SenderState}
 use Rattle.uses.specs.Analyzer.{sender_step_at}
-use Rattle.uses.proofs.SessionLaws.{begun, goes_on_answered, goes_on_quiet, was_closed, was_given_up, was_over}
+use Rattle.uses.proofs.SessionLaws.{begun, goes_on_answered, goes_on_quiet, was_closed, was_given_up, was_finished}
 use Rattle.uses.proofs.analyzer.send_texts.Goals.{then-not-means_nothing, else-not-means_nothing}
 use Rattle.uses.proofs.analyzer.send_texts.Goals as goal
 
 pub loop-turn-init : goal.loop-turn-init
 loop-turn-init g c =
-    rw c.in_ok-enquiry.ensures.2 (begun _ c.args.sender.now _ (g.L.Line.deeds c.renew.new.line)
-    (g.L.Line.deeds c.put.new.line) _
+    rw c.in_ok-enquiry.ensures.2 (begun _ c.args.sender.now _ (g.L.Connection.event_log c.renew.new.line)
+    (g.L.Connection.event_log c.put.new.line) _
     (rw c.outcome-last.ensures at c.renew.ensures)
     (rw c.in_ok-enquiry.ensures.1 at c.put.ensures) c.start_timer.ensures)
 
@@ -30,8 +30,8 @@ returns-in_default-timer_seconds-clause-session g c =
     ap (λ (s : SenderState). timer_seconds s.phase) (sym after) ∙ ap timer_seconds (sym c.phase.ensures)
     ∙ sym c.timer_seconds.ensures ∙ c.in_default-timer_seconds.is in (
       c.in_ok-enquiry.ensures.0,
-      rw (c.outcome.ensures, after) (was_over _ _ _ _
-          (g.L.Line.deeds c.wait-event.new.self) _ c.loop-turn._turn c.loop-turn.sender event
+      rw (c.outcome.ensures, after) (was_finished _ _ _ _
+          (g.L.Connection.event_log c.wait-event.new.self) _ c.loop-turn._turn c.loop-turn.sender event
           c.loop-turn.invariant c.loop-turn-test.true c.in-Some.ensures.0 c.wait-event.ensures
           (rw c.in-Some.ensures.1 at c.put-in-loop-turn.ensures) none),
     )
@@ -49,8 +49,8 @@ loop-turn-preserved g c =
     let puts = rw c.in-Some.ensures.1 at c.put-in-loop-turn.ensures in
     elim c.if-not-means_nothing.branch [
       | then-not-means_nothing w ↦ rw (after, w.line-is)
-          (goes_on_answered _ _ _ _ (g.L.Line.deeds c.wait-event.new.self)
-          (g.L.Line.deeds c.put-in-loop-turn.new.line) _ c.loop-turn._turn
+          (goes_on_answered _ _ _ _ (g.L.Connection.event_log c.wait-event.new.self)
+          (g.L.Connection.event_log c.put-in-loop-turn.new.line) _ c.loop-turn._turn
           c.loop-turn.sender event c.in-Some-timer_seconds.seconds c.loop-turn.invariant c.in-Some.ensures.0
           c.wait-event.ensures puts
           w.start_timer-then-not-means_nothing.ensures some
@@ -59,7 +59,8 @@ loop-turn-preserved g c =
       | else-not-means_nothing w ↦
           let nothing = c.means_nothing.ensures.0 (rw w.if-not-means_nothing.false refl) in
           rw (after, w.line-is)
-          (goes_on_quiet _ _ _ _ (g.L.Line.deeds c.wait-event.new.self) _ c.loop-turn._turn c.loop-turn.sender event
+          (goes_on_quiet _ _ _ _ (g.L.Connection.event_log c.wait-event.new.self) _ c.loop-turn._turn c.loop-turn.sender
+          event
           c.in-Some-timer_seconds.seconds c.loop-turn.invariant c.in-Some.ensures.0 c.wait-event.ensures puts some
           (sym c.in-Some.ensures.1 ∙ nothing.0, sym phase ∙ nothing.1 ∙ c.phase-before.ensures))
     ]

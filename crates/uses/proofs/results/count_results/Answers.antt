@@ -58,7 +58,7 @@ returns-in-Err-clause-err c =
         record {
           left = _;
           held = _;
-          cut = rw (take_all c.loop-piece.piece-index c.args.pieces.now (omega (arith, c.loop-piece-test.false))) at
+          split = rw (take_all c.loop-piece.piece-index c.args.pieces.now (omega (arith, c.loop-piece-test.false))) at
               so_far.2;
           why = sym (rw so_far.1 at c.in-Err.ensures);
         },

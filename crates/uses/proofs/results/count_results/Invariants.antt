@@ -1,6 +1,6 @@
 use Rattle.std.proofs.Common.{◌≡◌, ◌+◌, List, None, take}
 use Rattle.std.specs.List.{flat_map}
-use Rattle.lis_message.specs.Stream.{IsCut}
+use Rattle.lis_message.specs.Stream.{IsSplit}
 use Rattle.lis_tree.specs.Tree.{MessageTree}
 use Rattle.lis_text.specs.Capped.{capped}
 use Rattle.uses.specs.Readings.{result_count}
@@ -13,5 +13,5 @@ invariant-loop-message l = l.count ≡ capped (l.initial.count + result_count (t
 -- the results of the messages of so many pieces are counted
 abbrev pub invariant-loop-piece : goal.invariant-loop-piece
 invariant-loop-piece l = (messages : List MessageTree) × (l.reader.fault ≡ None)
-    × IsCut (flat_map (λ piece. piece.now) (take l.piece-index l.pieces)) messages l.reader.left l.reader.held
+    × IsSplit (flat_map (λ piece. piece.now) (take l.piece-index l.pieces)) messages l.reader.left l.reader.held
     × (l.count ≡ capped (result_count messages))

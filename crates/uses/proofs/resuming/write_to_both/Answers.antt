@@ -1,6 +1,6 @@
 use Rattle.std.proofs.Common.{Err, sym, ap, ◌∙◌}
-use Rattle.lis_spelling.specs.declared.faults.WriteFault.{WriteFault}
-use Rattle.lis_spelling.specs.Writing.{is_io}
+use Rattle.lis_record_write.specs.declared.faults.WriteFault.{WriteFault}
+use Rattle.lis_record_write.specs.Writing.{is_io}
 use Rattle.uses.specs.Resuming.{both}
 use Rattle.uses.proofs.resuming.write_to_both.Goals as goal
 

@@ -9,5 +9,5 @@ append-requires-2 c =
       c.requires.mark,
       c.append_to.ensures.short,
       rw c.append.ensures at c.append_to.ensures.short,
-      length-append c.args.page.now c.args.mark.now,
+      length-append c.args.outgoing.now c.args.mark.now,
     )

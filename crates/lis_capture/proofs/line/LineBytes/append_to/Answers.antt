@@ -11,6 +11,6 @@ returns-in-Bytes-clause-short c =
     (omega (
       arith,
       short_bytes c.self.inside.keeping kept c.in-Bytes.is c.self.invariant,
-      length-append c.args.page.now (encode_lower kept),
+      length-append c.args.outgoing.now (encode_lower kept),
       length-encode_lower kept,
     ))

@@ -4,7 +4,7 @@ use Rattle.lis_capture.specs.Reader.{HasRead}
 use Rattle.lis_capture.proofs.ReaderLemmas.{ReadsOn, reads_end, reads_within, front_of_line, no_line}
 use Rattle.lis_capture.proofs.reader.LineReader.read.Goals as goal
 
--- behind the first LF a line is ended
+-- after the first LF a line is ended
 ended : (c : goal.After-end_line) (past : List ℕ) → HasRead c.args.self.now past
     → ReadsOn c.args.self.now c.end_line.new.self past (take (c.in-Some.place + 1) c.args.bytes.now) c.end_line.result
 ended c past has =

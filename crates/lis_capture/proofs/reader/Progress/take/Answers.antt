@@ -11,7 +11,7 @@ returns-clause-after c =
       version = inside.version;
       refused = inside.refused;
       number = inside.number;
-      line = inside.told;
+      line = inside.last_line;
     } in
     rw (← c.self.view_is)
     (known_taken known (line_of inside.version c.args.text.now) _ _ _

@@ -1,5 +1,5 @@
-use Rattle.lis_frame.proofs.ScannerLemmas.{stands_new}
+use Rattle.lis_frame.proofs.ScannerLemmas.{represents_new}
 use Rattle.lis_frame.proofs.scanner.ScannerOf.new.Goals as goal
 
 pub returns : goal.returns
-returns g c = stands_new g.row.N
+returns g c = represents_new g.row.N

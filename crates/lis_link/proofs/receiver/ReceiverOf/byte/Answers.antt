@@ -1,4 +1,4 @@
--- The signal of the byte is what the line hears of it, by beside.
+-- The signal of the byte is what the line hears of it, by next to.
 use Rattle.std.proofs.Common.{[], ◌∷◌, arith}
 use Rattle.lis_link.specs.Receiver.{with_heard}
 use Rattle.lis_link.proofs.HearingLaws.{beside}

@@ -1,7 +1,7 @@
 use Rattle.std.proofs.Common.{arith, length-drop, ◌∙◌}
 use Rattle.std.proofs.lemmas.List.{take_rest}
 use Rattle.lis_link.specs.Receiver.{ReceiverState}
-use Rattle.lis_link.specs.Stands.{IsIn}
+use Rattle.lis_link.specs.Representation.{IsIn}
 use Rattle.lis_link.proofs.HearingLaws.{hears_more, hears_last}
 use Rattle.lis_link.proofs.receiver.ReceiverOf.bytes.Goals as goal
 

@@ -1,6 +1,6 @@
 use Rattle.std.proofs.Common.{◌≡◌, ◌-◌, ◌≤◌, length}
 use Rattle.lis_link.specs.Receiver.{ReceiverState}
-use Rattle.lis_link.specs.Stands.{IsIn, room_of}
+use Rattle.lis_link.specs.Representation.{IsIn, room_of}
 use Rattle.lis_link.proofs.HearingLaws.{IsHearing}
 use Rattle.lis_link.proofs.receiver.ReceiverOf.bytes.Given as goal
 

@@ -6,9 +6,9 @@ use Rattle.lis_link.proofs.receiver.ReceiverOf.front.Goals as goal
 pub returns-then-count-eq0-clause-front : goal.returns-then-count-eq0-clause-front
 returns-then-count-eq0-clause-front g c r is_in =
     let was = rw (← c.self.view_is) at is_in in
-    let stands = rw c.if-count-eq0.true at (c.scan-count.ensures.after r.past was.stream_is) in
+    let represents = rw c.if-count-eq0.true at (c.scan-count.ensures.after r.past was.stream_is) in
     let here = beside g.row.N c.self.inside.line c.self.inside.scanner c.scan-count.new.self c.args.self.now r []
-    c.self.view_is is_in stands in
+    c.self.view_is is_in represents in
     front_byte g.row.N c.args.bytes.now r c.args.self.now.spare c.byte.result c.byte.new.self c.requires
     (c.byte.ensures.step r here)
     (rw (← c.self.view_is) (c.byte.ensures.refused r here))

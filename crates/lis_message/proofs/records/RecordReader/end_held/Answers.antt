@@ -1,9 +1,9 @@
 use Rattle.std.proofs.Common.{List, ℕ, ◌++◌, sym, ap, subst, ◌∙◌}
-use Rattle.lis_field.specs.declared.kinds.Kind.{Kind}
+use Rattle.lis_record_values.specs.declared.kinds.Kind.{Kind}
 use Rattle.lis_message.specs.Kept.{RecordsState, opened_of}
 use Rattle.lis_message.specs.inside.Kept.{Holding}
 use Rattle.lis_message.specs.Taking.{ComesNext, left_after}
-use Rattle.lis_message.proofs.NextRecord.{known_told}
+use Rattle.lis_message.proofs.NextRecord.{known_reported}
 use Rattle.lis_message.proofs.records.RecordReader.end_held.Goals as goal
 
 pub returns-clause-ok : goal.returns-clause-ok
@@ -19,9 +19,9 @@ returns-clause-ok c = λ left is.
           c.open_after.ensures left c.text-text.result.now c.in-Ok.entry here comes
           (sym c.delimiters.ensures) (sym c.kind.ensures)
           ∙ ap (λ (k : Kind). opened_of (left_after left c.in-Ok.entry k)) c.kind.ensures;
-      told =
-          ap (λ (h : Holding). h.cut) c.end.ensures
-          ∙ known_told c.in-Ok.entry c.delimiters.result c.kind.result c.text-text.result.now c.hold.new.self.held
+      reported =
+          ap (λ (h : Holding). h.split) c.end.ensures
+          ∙ known_reported c.in-Ok.entry c.delimiters.result c.kind.result c.text-text.result.now c.hold.new.self.held
           c.in-Ok.ensures.place c.delimiters.ensures c.kind.ensures c.text-text.ensures.value;
       empty = ap (λ (h : Holding). h.held) c.end.ensures;
     }

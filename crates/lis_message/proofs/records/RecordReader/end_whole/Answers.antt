@@ -1,5 +1,5 @@
 use Rattle.std.proofs.Common.{sym, ap, ◌∙◌}
-use Rattle.lis_field.specs.declared.kinds.Kind.{Kind}
+use Rattle.lis_record_values.specs.declared.kinds.Kind.{Kind}
 use Rattle.lis_message.specs.Kept.{RecordsState, opened_of}
 use Rattle.lis_message.specs.Taking.{left_after}
 use Rattle.lis_message.proofs.records.RecordReader.end_whole.Goals as goal

@@ -7,6 +7,6 @@ pub returns-in-Err-end_whole-clause-err : goal.returns-in-Err-end_whole-clause-e
 returns-in-Err-end_whole-clause-err c = λ left has.
     let none = nothing_held c.args.self.now.held (c.if-is_empty.ensures ∙ ap (λ (l : List ℕ). length l == 0)
     (c.text.ensures.value ∙ ap (λ (r : RecordsState). r.held) c.self.view_is)) in
-    whole_stopped left c.args.self.now.held c.in-Some.text.now c.in-Some.behind.now c.args.bytes.now
+    whole_stopped left c.args.self.now.held c.in-Some.text.now c.in-Some.following.now c.args.bytes.now
     c.in-Err-end_whole.reason none c.in-Some.ensures.lacks c.in-Some.ensures.some
     (c.in-Err-end_whole.ensures.err left has.opened)

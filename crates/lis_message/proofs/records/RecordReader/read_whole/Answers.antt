@@ -16,8 +16,8 @@ returns-in-Ok-clause-read c = λ left has.
     let none : c.args.self.now.held ≡ [] = ap (λ (r : RecordsState). r.held) (sym c.self.view_is)
     ∙ ap (λ (h : Holding). h.held) clear in
     let read = c.in-Ok.ensures.ok left has.opened in
-    let uncut = c.end_whole.ensures.cut ∙ ap (λ (r : RecordsState). r.cut) (sym c.self.view_is)
-    ∙ ap (λ (h : Holding). h.cut) clear in (
+    let uncut = c.end_whole.ensures.split ∙ ap (λ (r : RecordsState). r.split) (sym c.self.view_is)
+    ∙ ap (λ (h : Holding). h.split) clear in (
       uncut,
       record {
         text = text;
@@ -34,21 +34,22 @@ returns-in-Ok-clause-read c = λ left has.
     )
 
 pub returns-in_default-clause-refused : goal.returns-in_default-clause-refused
-returns-in_default-clause-refused c = λ left has held cut text behind lacks whole.
-    absurd (no_line c.args.bytes.now text behind c.in_default.ensures.text whole)
+returns-in_default-clause-refused c = λ left has held split text following lacks whole.
+    absurd (no_line c.args.bytes.now text following c.in_default.ensures.text whole)
 
 pub returns-then-byte-ne-CR-clause-refused : goal.returns-then-byte-ne-CR-clause-refused
-returns-then-byte-ne-CR-clause-refused c = λ left has held cut text behind lacks whole.
+returns-then-byte-ne-CR-clause-refused c = λ left has held split text following lacks whole.
     let rest = c.in-Some-split_first.rest.now in
-    bad_line left c.args.bytes.now c.split_at.result.0.now rest text behind c.in-Some.end c.in-Some-split_first.byte.now
+    bad_line left c.args.bytes.now c.split_at.result.0.now rest text following c.in-Some.end
+    c.in-Some-split_first.byte.now
     c.in-Some.ensures.place c.split_at.ensures.front
     (sym c.split_at.ensures.back ∙ c.in-Some-split_first.ensures.cases.0)
     (rw c.split_at.ensures.front c.in-Some.ensures.texts) c.if-byte-ne-CR.true whole
 
 pub returns-in-Err-clause-refused : goal.returns-in-Err-clause-refused
-returns-in-Err-clause-refused c = λ left has held cut text behind lacks whole.
+returns-in-Err-clause-refused c = λ left has held split text following lacks whole.
     let rest = c.in-Some-split_first.rest.now in
-    ended_line left c.args.bytes.now c.split_at.result.0.now rest text behind c.in-Some.end
+    ended_line left c.args.bytes.now c.split_at.result.0.now rest text following c.in-Some.end
     c.in-Some-split_first.byte.now c.in-Err.field-0
     c.split_at.ensures.front (sym c.split_at.ensures.back ∙ c.in-Some-split_first.ensures.cases.0) c.if-byte-ne-CR.false
     (rw c.split_at.ensures.front c.in-Some.ensures.texts) lacks whole

@@ -1,11 +1,11 @@
 use Rattle.std.proofs.Common.{◌≡◌, ◌+◌, ◌∷◌, ◌++◌, [], ℕ, List, length, length-append, arith, refl, subst}
-use Rattle.lis_engine.specs.Output.{Gathered, out}
-use Rattle.lis_record_commands.proofs.CheckLaws.{check_text, told_more}
+use Rattle.lis_engine.specs.Output.{IsBuffered, out}
+use Rattle.lis_record_commands.proofs.CheckLaws.{check_text, reported_more}
 use Rattle.lis_record_commands.proofs.MessageLaws.{messages_few}
 use Rattle.lis_record_commands.proofs.check.CheckMessageMachine.message.Goals as goal
 
-pub returns-clause-gathered : goal.returns-clause-gathered
-returns-clause-gathered g c = λ messages message is counted few.
+pub returns-clause-buffered : goal.returns-clause-buffered
+returns-clause-buffered g c = λ messages message is counted few.
     let self = c.args.self.now in
     let number : c.saturating_add-number.result ≡ length messages + 1 =
     omega (
@@ -17,22 +17,23 @@ returns-clause-gathered g c = λ messages message is counted few.
       length-append
           messages (message ∷ []),
     ) in
-    subst (λ (t : List ℕ). Gathered (out (g.W.Sink.taken c.args.sink.now) c.args.page.now)
-    (out (g.W.Sink.taken c.tell-result.new.sink) c.tell-result.new.page)
-    c.args.written c.tell-result.result t)
-    (check_text self.records.bytes.items self.findings.bytes.items self.numbering self.found self.told
+    subst (λ (t : List ℕ). IsBuffered (out (g.W.Sink.taken c.args.sink.now) c.args.outgoing.now)
+    (out (g.W.Sink.taken c.print-result.new.sink) c.print-result.new.outgoing)
+    c.args.written c.print-result.result t)
+    (check_text self.records.bytes.items self.findings.bytes.items self.numbering self.found self.findings_reported
     (length messages + 1) messages message is)
-    (rw (c.as_slice.ensures, c.as_slice-2.ensures, number) at c.tell-result.ensures.gathered)
+    (rw (c.as_slice.ensures, c.as_slice-2.ensures, number) at c.print-result.ensures.buffered)
 
-pub returns-clause-stood : goal.returns-clause-stood
-returns-clause-stood g c = λ messages message is few.
+pub returns-clause-represented : goal.returns-clause-represented
+returns-clause-represented g c = λ messages message is few.
     let self = c.args.self.now in
     record {
       record_lines_are = c.clear.ensures;
       finding_lines_are = c.clear-2.ensures;
       numbered = c.new-self.ensures;
       found_is = refl;
-      told_is = told_more self.records.bytes.items self.findings.bytes.items self.numbering self.found self.told
+      reported_is = reported_more self.records.bytes.items self.findings.bytes.items self.numbering self.found
+          self.findings_reported
           c.saturating_add-self.result messages message is few
           (λ short. omega (arith, short, c.saturating_add-self.ensures));
     }

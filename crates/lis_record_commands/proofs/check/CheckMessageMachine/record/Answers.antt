@@ -6,7 +6,8 @@ use Rattle.lis_record_commands.proofs.check.CheckMessageMachine.record.Goals as 
 pub returns-in_default : goal.returns-in_default
 returns-in_default c = λ messages left text is comes few.
     let self = c.args.self.now in
-    checking_on self.records.bytes.items self.findings.bytes.items self.numbering c.take.new.self self.found self.told
+    checking_on self.records.bytes.items self.findings.bytes.items self.numbering c.take.new.self self.found
+    self.findings_reported
     messages left c.args.entry.now
     c.next_place-place.result None c.add_record.new.lines.bytes.items self.findings.bytes.items self.found is few
     c.next_place-place.ensures
@@ -17,7 +18,8 @@ returns-in_default c = λ messages left text is comes few.
 pub returns : goal.returns
 returns c = λ messages left text is comes few.
     let self = c.args.self.now in
-    checking_on self.records.bytes.items self.findings.bytes.items self.numbering c.take.new.self self.found self.told
+    checking_on self.records.bytes.items self.findings.bytes.items self.numbering c.take.new.self self.found
+    self.findings_reported
     messages left c.args.entry.now
     c.next_place-place.result (Some c.in-Some.finding) c.add_record.new.lines.bytes.items
     c.add_finding.new.lines.bytes.items c.saturating_add-self.result is few

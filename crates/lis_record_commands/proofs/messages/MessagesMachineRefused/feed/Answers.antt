@@ -3,7 +3,7 @@ use Rattle.std.proofs.Common.{◌∙◌, ap, subst, append-nil, arith}
 use Rattle.std.proofs.lemmas.Bool.{eqb-true}
 use Rattle.lis_engine.specs.Output.{out}
 use Rattle.lis_engine.specs.Steps.{Puts}
-use Rattle.lis_engine.proofs.GatherLaws.{gathered_nothing}
+use Rattle.lis_engine.proofs.BufferLaws.{buffered_nothing}
 use Rattle.lis_record_commands.specs.Messages.{IsReadingMessages}
 use Rattle.lis_record_commands.proofs.RecordSteps.{all_read, steps_on}
 use Rattle.lis_record_commands.proofs.messages.MessagesMachineRefused.feed.Goals as goal
@@ -16,14 +16,14 @@ loop-rest-init g c = record {
     refl,
     record {
       more = [];
-      put = gathered_nothing _ c.args.written (omega arith);
-      behind =
+      put = buffered_nothing _ c.args.written (omega arith);
+      following =
           rw (append-nil past, append-nil text) reading;
     },
   );
 }
 
--- ---- the record stands whole in the bytes
+-- ---- the record is whole in the bytes
 
 pub loop-rest-preserved-in-Some : goal.loop-rest-preserved-in-Some
 loop-rest-preserved-in-Some g c = record {
@@ -74,11 +74,12 @@ returns-in-Err-turn-clause-steps g c = λ past text reading few.
 pub returns-clause-steps : goal.returns-clause-steps
 returns-clause-steps g c = λ past text reading few.
     let inv = c.loop-rest.invariant.goes_on past text reading few in
-    let here = IsReadingMessages g.C.MessageMachine.writes (g.C.MessageMachine.stands c.loop-rest.self.told.command)
-    c.loop-rest.self.reader c.loop-rest.self.told.count in
+    let here = IsReadingMessages g.C.MessageMachine.writes
+    (g.C.MessageMachine.represents c.loop-rest.self.counted.command)
+    c.loop-rest.self.reader c.loop-rest.self.counted.count in
     let none : length c.loop-rest.rest.now ≡ 0 = eqb-true (length c.loop-rest.rest.now) 0
     (sym c.loop-rest-test.ensures) in
     subst
-    (λ (l : List ℕ). Puts (here (past ++ l)) (out (g.W.Sink.taken c.args.sink.now) c.args.page.now)
-    (out (g.W.Sink.taken c.loop-rest.sink) c.loop-rest.page) c.args.written c.loop-rest.after text)
+    (λ (l : List ℕ). Puts (here (past ++ l)) (out (g.W.Sink.taken c.args.sink.now) c.args.outgoing.now)
+    (out (g.W.Sink.taken c.loop-rest.sink) c.loop-rest.outgoing) c.args.written c.loop-rest.after text)
     (all_read c.args.bytes.now inv.0 c.loop-rest.rest.now inv.1 none) inv.2

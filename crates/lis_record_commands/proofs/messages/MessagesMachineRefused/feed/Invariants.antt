@@ -10,13 +10,13 @@ invariant-loop-rest g l = record {
   working : g.W.Sink.failed l.sink ≡ false;
   goes_on :
       (past text : List ℕ)
-      → IsReadingMessages g.C.MessageMachine.writes (g.C.MessageMachine.stands l.fn.self.told.command)
-      l.fn.self.reader l.fn.self.told.count past text
+      → IsReadingMessages g.C.MessageMachine.writes (g.C.MessageMachine.represents l.fn.self.counted.command)
+      l.fn.self.reader l.fn.self.counted.count past text
       → length past + length l.bytes < 2 ^ 44
       → (done : List ℕ) × (l.bytes ≡ done ++ l.rest)
-      × Puts (IsReadingMessages g.C.MessageMachine.writes (g.C.MessageMachine.stands l.self.told.command)
-      l.self.reader l.self.told.count (past ++ done))
-      (out (g.W.Sink.taken l.fn.sink) l.fn.page) (out (g.W.Sink.taken l.sink) l.page) l.written l.after text;
+      × Puts (IsReadingMessages g.C.MessageMachine.writes (g.C.MessageMachine.represents l.self.counted.command)
+      l.self.reader l.self.counted.count (past ++ done))
+      (out (g.W.Sink.taken l.fn.sink) l.fn.outgoing) (out (g.W.Sink.taken l.sink) l.outgoing) l.written l.after text;
 }
 
 abbrev pub decreases-loop-rest : goal.decreases-loop-rest

@@ -9,10 +9,10 @@ invariant-loop-rest g l = record {
   working : g.W.Sink.failed l.sink ≡ false;
   at :
       (past text : List ℕ) →
-      IsLined g.C.LineMachine.writes (g.C.LineMachine.stands l.fn.self.command) l.fn.self.reader past text →
+      IsLined g.C.LineMachine.writes (g.C.LineMachine.represents l.fn.self.command) l.fn.self.reader past text →
       length past + length l.fn.bytes < 2 ^ 44 →
-      IsAt g.C.LineMachine.writes (g.C.LineMachine.stands l.self.command) l.self.reader
-      (out (g.W.Sink.taken l.fn.sink) l.fn.page) (out (g.W.Sink.taken l.sink) l.page)
+      IsAt g.C.LineMachine.writes (g.C.LineMachine.represents l.self.command) l.self.reader
+      (out (g.W.Sink.taken l.fn.sink) l.fn.outgoing) (out (g.W.Sink.taken l.sink) l.outgoing)
       l.written l.after past text l.rest l.fn.bytes;
 }
 

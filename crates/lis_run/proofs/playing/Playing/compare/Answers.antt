@@ -1,6 +1,6 @@
 use Rattle.std.proofs.Common.{◌≡◌, ◌≤◌, ℕ, List, Ok, sym, ◌∙◌, subst, arith}
 use Rattle.lis_run.specs.declared.playing.Account.TheVariants.{Lines}
-use Rattle.lis_engine.specs.Output.{Gathered, most_counted, out}
+use Rattle.lis_engine.specs.Output.{IsBuffered, most_counted, out}
 use Rattle.lis_run.specs.Replay.{difference_count}
 use Rattle.lis_run.proofs.PlayingLaws.{compared_text, difference_count-few, is_lines, passed_computer, played_computer}
 use Rattle.lis_run.proofs.playing.Playing.compare.Goals as goal
@@ -10,9 +10,9 @@ returns-clause-steps g c = λ lines playing number few.
     let compared : g.T.Teller.account ≡ Lines = sym c.account.ensures
     ∙ is_lines c.account.result c.in_default.not-Texts in
     let put = rw (c.eq-same.ensures, number, c.as_slice-got.ensures.value, playing.hearing.replies_are compared)
-    at c.in-Ok.ensures.gathered in (
-      subst (λ (t : List ℕ). Gathered (out (g.W.Sink.taken c.args.sink.now) c.args.page.now)
-          (out (g.W.Sink.taken c.gather_difference.new.sink) c.gather_difference.new.page) c.args.written
+    at c.in-Ok.ensures.buffered in (
+      subst (λ (t : List ℕ). IsBuffered (out (g.W.Sink.taken c.args.sink.now) c.args.outgoing.now)
+          (out (g.W.Sink.taken c.buffer_difference.new.sink) c.buffer_difference.new.outgoing) c.args.written
           (Ok c.in-Ok.after) t)
           (compared_text g.T.Teller.account g.row.N lines c.args.bytes.now compared) put,
       played_computer g.T.Teller.account g.row.N _ c.args.self.now.replies.items c.clear.new.self.items

@@ -14,7 +14,7 @@ invariant-loop-rest g l = record {
       IsHearing g.T.Teller.account g.row.N l.fn.self.receiver l.fn.self.replies.items l.fn.self.texts r collected
       count → count + length l.bytes ≤ 2 ^ 63 →
       IsHearingOn g.T.Teller.account g.row.N l.number l.self.receiver l.self.replies.items l.self.texts
-      (out (g.W.Sink.taken l.fn.sink) l.fn.page) (out (g.W.Sink.taken l.sink) l.page)
+      (out (g.W.Sink.taken l.fn.sink) l.fn.outgoing) (out (g.W.Sink.taken l.sink) l.outgoing)
       l.written l.after r collected count l.rest l.bytes;
 }
 

@@ -1,7 +1,7 @@
 use Rattle.std.proofs.Common.{◌+◌, ◌≤◌, ◌^◌, length, arith}
 use Rattle.lis_capture.specs.declared.line.Line.TheVariants.{Empty, Restart, SetReady, Timer, Version}
 use Rattle.lis_run.specs.Replay.{played, text_count}
-use Rattle.lis_run.proofs.PlayingLaws.{handed_text, line_steps_as, played_analyzer, played_silent}
+use Rattle.lis_run.proofs.PlayingLaws.{delivered_text, line_steps_as, played_analyzer, played_silent}
 use Rattle.lis_run.proofs.playing.PlayingLineMachine.line.Goals as goal
 
 pub returns-in-FromAnalyzer-clause-steps : goal.returns-in-FromAnalyzer-clause-steps
@@ -15,7 +15,7 @@ returns-in-FromAnalyzer-clause-steps g c = λ lines playing number few.
     c.args.self.now.replies.items c.hear.new.self.replies.items
     c.args.self.now.texts c.hear.new.self.texts c.args.self.now.differences c.hear.new.self.differences lines bytes
     playing c.hear.ensures.differences short)
-    _ _ c.args.written _ _ c.hear.result (handed_text g.T.Teller.account g.row.N lines bytes)
+    _ _ c.args.written _ _ c.hear.result (delivered_text g.T.Teller.account g.row.N lines bytes)
     (rw (number, c.read.ensures.value) at
     (c.hear.ensures.steps (played g.row.N lines).receiver (played g.row.N lines).replies (text_count g.row.N lines)
     playing.hearing (rw c.read.ensures.value room))))

@@ -7,25 +7,25 @@ use Rattle.lis_link.proofs.HearingLaws.{stream_with-append}
 use Rattle.lis_run.proofs.show.ShowMachineRefused.feed.Goals as goal
 
 pub returns-in-Ok-clause-steps : goal.returns-in-Ok-clause-steps
-returns-in-Ok-clause-steps g c = λ past text stood few.
+returns-in-Ok-clause-steps g c = λ past text represented few.
     let bytes = c.args.bytes.now in
     record {
       more = signal_lines (signals_after g.row.N (stream_with [] past) bytes);
-      put = c.in-Ok.ensures.gathered (stream_with [] past) stood.1;
-      behind = (
-        shown_more g.row.N past bytes text stood.0,
-        rw (stream_with-append past bytes []) (c.in-Ok.ensures.stands (stream_with [] past) stood.1),
+      put = c.in-Ok.ensures.buffered (stream_with [] past) represented.1;
+      following = (
+        shown_more g.row.N past bytes text represented.0,
+        rw (stream_with-append past bytes []) (c.in-Ok.ensures.represents (stream_with [] past) represented.1),
       );
     }
 
 pub returns-in-Err-clause-steps : goal.returns-in-Err-clause-steps
-returns-in-Err-clause-steps g c = λ past text stood few.
+returns-in-Err-clause-steps g c = λ past text represented few.
     let bytes = c.args.bytes.now in
     record {
       outcome = going (show g.row.N (past ++ bytes));
       meant = refl;
       more = signal_lines (signals_after g.row.N (stream_with [] past) bytes);
       rest = [];
-      joined = ap (λ l. l ++ []) (sym (shown_more g.row.N past bytes text stood.0));
-      put = c.in-Err.ensures.gathered (stream_with [] past) stood.1;
+      joined = ap (λ l. l ++ []) (sym (shown_more g.row.N past bytes text represented.0));
+      put = c.in-Err.ensures.buffered (stream_with [] past) represented.1;
     }

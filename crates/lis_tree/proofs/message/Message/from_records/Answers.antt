@@ -1,7 +1,7 @@
 use Rattle.std.proofs.Common.{◌≡◌, [], inr, refl, sym, ◌∙◌, ap, Some}
 use Rattle.std.proofs.lemmas.List.{nil_from_length}
-use Rattle.lis_field.specs.declared.faults.MessageFault.{MessageFault}
-use Rattle.lis_field.specs.declared.faults.Reason.TheVariants as reasons
+use Rattle.lis_record_values.specs.declared.faults.MessageFault.{MessageFault}
+use Rattle.lis_record_values.specs.declared.faults.Reason.TheVariants as reasons
 use Rattle.lis_tree.specs.Level.{misplaced}
 use Rattle.lis_tree.specs.Begun.{level_of}
 use Rattle.lis_tree.proofs.ListFaults.{closed_list, so_far_more, misplaced_fault, unclosed_fault, header_fault}

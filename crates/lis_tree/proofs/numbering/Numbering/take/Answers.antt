@@ -1,5 +1,5 @@
 use Rattle.std.proofs.Common.{◌≡◌, ℕ, ◌+◌, ◌++◌, ◌∷◌, [], List, length, length-append, sym, ◌∙◌, ap, subst, arith}
-use Rattle.lis_field.specs.declared.kinds.Kind.{Kind}
+use Rattle.lis_record_values.specs.declared.kinds.Kind.{Kind}
 use Rattle.lis_tree.specs.Findings.{findings_from, kinds_back}
 use Rattle.lis_tree.specs.Numbers.{CountsOf}
 use Rattle.lis_text.specs.Capped.{capped}
@@ -15,7 +15,7 @@ returns-clause-found c = λ records has.
     ∙ ap (λ l. findings_from [] 1 records ++ l)
     (sym (c.finding_on.ensures (kinds_back [] records) (1 + length records) r
     (c.count-expected.ensures.expected (kinds_back [] records) has.counts) place
-    (sym c.kind-kind.ensures) (sym c.lent_number.ensures)))
+    (sym c.kind-kind.ensures) (sym c.borrowed_number.ensures)))
 
 pub returns-clause-numbered : goal.returns-clause-numbered
 returns-clause-numbered c = λ records has.

@@ -1,9 +1,0 @@
--- `lend` lends what lies behind the handle's pointer, and the handle follows it.
-use Rattle.lis_c.proofs.HandleLaws.{lends}
-use Rattle.lis_c.proofs.Handles.{writer}
-use Rattle.lis_c.proofs.writer.LisWriter.lend.Code as code
-use Rattle.lis_c.proofs.writer.LisWriter.lend.Statement.{statement}
-use Rattle.lis_c.specs.contracts.writer.LisWriter.lend as f
-
-pub lend_spec : {M : Type 1} → statement M
-lend_spec 𝓤 𝓛 𝓜 𝓡 wired = lends writer 𝓤 𝓛 𝓜 𝓡 f.Key.name (code.unfolded 𝓤 𝓛.H 𝓜 𝓡 wired)

@@ -1,6 +1,0 @@
-use Rattle.std.proofs.Common.{◌≡◌, take}
-use Rattle.lis_field.specs.Shape.{plain_component}
-use Rattle.lis_field.proofs.component.Component.to_text.Given as goal
-
-abbrev pub invariant-loop-symbol : goal.invariant-loop-symbol
-invariant-loop-symbol l = take l.symbol-index l.symbol-items ≡ plain_component l.text.items

@@ -1,6 +1,0 @@
-use Rattle.std.proofs.Common.{◌≡◌, length, map, take}
-use Rattle.lis_field.specs.declared.symbols.Sym.TheVariants.{Char}
-use Rattle.lis_field.proofs.few.Few.from_front.Given as goal
-
-abbrev pub invariant-loop-place : goal.invariant-loop-place
-invariant-loop-place l = (length l.symbols ≡ 15) × (take l.place l.symbols ≡ map Char (take l.place l.lanes))

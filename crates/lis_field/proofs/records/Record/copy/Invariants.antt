@@ -1,5 +1,0 @@
-use Rattle.std.proofs.Common.{◌≡◌, take}
-use Rattle.lis_field.proofs.records.Record.copy.Given as goal
-
-abbrev pub invariant-loop-field : goal.invariant-loop-field
-invariant-loop-field l = l.entry ≡ record { kind = l.self.kind; fields = take l.field-index l.field-items }

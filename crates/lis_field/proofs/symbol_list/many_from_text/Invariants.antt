@@ -1,6 +1,0 @@
-use Rattle.std.proofs.Common.{◌≡◌, take}
-use Rattle.lis_field.specs.Shape.{plain_component}
-use Rattle.lis_field.proofs.symbol_list.many_from_text.Given as goal
-
-abbrev pub invariant-loop-byte : goal.invariant-loop-byte
-invariant-loop-byte l = l.many.items ≡ plain_component (take l.byte-index l.text)

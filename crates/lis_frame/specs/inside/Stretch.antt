@@ -1,6 +1,0 @@
--- The bytes between an STX and the next LF, put together of their parts.
-use Rattle.std.specs.Prelude.{ℕ, List, [], ◌∷◌, ◌++◌}
-
--- the stretch of these parts
-abbrev pub stretch_of : ℕ → List ℕ → ℕ → ℕ → ℕ → ℕ → List ℕ
-stretch_of number text end high low close = number ∷ (text ++ (end ∷ high ∷ low ∷ close ∷ []))

@@ -1,0 +1,10 @@
+use Rattle.std.proofs.Common.{◌≡◌, ◌++◌, length, map}
+use Rattle.lis_record_read.specs.FrontReading.{components_of, repeats_of, parts_following}
+use Rattle.lis_record_read.proofs.building.read_repeats.Given as goal
+
+abbrev pub invariant-loop-delimiter : goal.invariant-loop-delimiter
+invariant-loop-delimiter l = l.field ++ map (components_of l.delimiters) (parts_following l.delimiters.repeat l.rest)
+    ≡ repeats_of l.delimiters l.text
+
+abbrev pub decreases-loop-delimiter : goal.decreases-loop-delimiter
+decreases-loop-delimiter l = length l.rest
