@@ -47,10 +47,10 @@ read_too_often bytes given (Some rest) made read gave is =
     omega (arith, gave, is, ap (λ (l : List ℕ). length l) read, length-append given rest)
 
 pub not_played :
-    (w : Writes) (bytes front : List ℕ) (left old new : Option (List ℕ)) (ended : Bool) (made : ℕ) (fault : ToolFault)
+    {F : Type 0} (w : Writes) (bytes front : List ℕ) (left old new : Option (List ℕ)) (ended : Bool) (made : ℕ) (fault : ToolFault)
     → Consumes (Some bytes) left front
     → LineAnswer true w (capture (stream_with [] front) ended) ended (Err fault) old new
-    → Stopped false true (Err fault) ended false false made 4294967295 → (ended ≡ true → IsAtEnd left)
+    → Stopped {F = F} false true (Err fault) ended false false made 4294967295 → (ended ≡ true → IsAtEnd left)
     → EachGave (Some bytes) left made → WasNotPlayed bytes fault
 not_played w bytes front left old new ended made (CaptureLine line) read (refused, is, text) stopped end gave =
     refused_line bytes front left ended line read end refused is

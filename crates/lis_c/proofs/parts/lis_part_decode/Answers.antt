@@ -10,7 +10,7 @@ pub returns-in-Ok-clause-decoded : goal.returns-in-Ok-clause-decoded
 returns-in-Ok-clause-decoded c symbols is_d is_component =
     let d = delimiters_in c.args.delimiters.now in
     let known = c.in-Ok.ensures.found.0 in
-    subst (λ (l : Symbols). IsCopied (plain l) c.report_symbols.result c.args.out c.report_symbols.new.out
+    subst (λ (l : Symbols). IsCopied (plain l) c.report_symbols.result c.args.out.now c.report_symbols.new.out
     c.report_symbols.new.size)
     (c.of_text.ensures ∙ ap (λ (x : DelimiterBytes). symbols_of x c.args.part.now) known
     ∙ sym (symbols_of-IsComponent d is_d c.args.part.now symbols is_component))

@@ -8,7 +8,7 @@ returns-in-Ok-clause-part c content is_d is_record not_h =
     of_found c.record_under.result c.in-Ok.entry (borrowed (delimiters_in c.args.delimiters.now) content) c.in-Ok.is
     (c.record_under.ensures.only content is_d is_record not_h)
     (λ e. IsPart (part_at e.content c.args.field c.args.repeat c.args.component) c.copy_part.result
-    c.args.out c.copy_part.new.out c.copy_part.new.size)
+    c.args.out.now c.copy_part.new.out c.copy_part.new.size)
     c.copy_part.ensures
 
 pub returns-in-Err-clause-part : goal.returns-in-Err-clause-part
