@@ -13,6 +13,7 @@ use Rattle.lis_run.specs.CaptureRuns.{LineAnswer}
 use Rattle.lis_run.specs.LineOutcome.{Writes}
 use Rattle.lis_run.specs.Replay.{all_differences}
 use Rattle.lis_engine.specs.Runs.{EachGave, Stopped}
+use Rattle.lis_report.specs.declared.refused.Refused.{Refused}
 use Rattle.uses.specs.Played.{WasNotPlayed, WasPlayed}
 
 -- the lines of what was read up to a rejected one are those of the whole
@@ -47,10 +48,10 @@ read_too_often bytes given (Some rest) made read gave is =
     omega (arith, gave, is, ap (λ (l : List ℕ). length l) read, length-append given rest)
 
 pub not_played :
-    {F : Type 0} (w : Writes) (bytes front : List ℕ) (left old new : Option (List ℕ)) (ended : Bool) (made : ℕ) (fault : ToolFault)
+    (w : Writes) (bytes front : List ℕ) (left old new : Option (List ℕ)) (ended : Bool) (made : ℕ) (fault : ToolFault)
     → Consumes (Some bytes) left front
     → LineAnswer true w (capture (stream_with [] front) ended) ended (Err fault) old new
-    → Stopped {F = F} false true (Err fault) ended false false made 4294967295 → (ended ≡ true → IsAtEnd left)
+    → Stopped {F = Refused} false true (Err fault) ended false false made 4294967295 → (ended ≡ true → IsAtEnd left)
     → EachGave (Some bytes) left made → WasNotPlayed bytes fault
 not_played w bytes front left old new ended made (CaptureLine line) read (refused, is, text) stopped end gave =
     refused_line bytes front left ended line read end refused is
