@@ -77,7 +77,7 @@ heard_by-quiet false Eot r e = refl
 heard_by-quiet false (Good frame) r e = refl
 heard_by-quiet false (Bad fault) r e = refl
 
--- a quiet step changes nothing and hands nothing out
+-- a quiet step changes nothing and delivers nothing
 heard-quiet :
     {limit : ℕ} (signal : Option (SignalOf limit)) (r : ReceiverState) → (heard signal r).note ≡ Quiet
     → heard signal r ≡ answers None Quiet r
@@ -357,7 +357,7 @@ front_frame limit count bytes frame r spare result new bound is_frame signals ma
           (λ (s : ReceiverState). heard_on count (heard_by {limit = limit} r.is_open (Good frame) next).note
           (heard_by {limit = limit} r.is_open (Good frame) next) (on_bytes limit following s))
           state_is;
-      quiet = heard_by-quiet r.is_open (Good frame) next;
+      quiet = heard_by-quiet {limit = limit} r.is_open (Good frame) next;
       makes = makes;
       refused = refused;
       spare_after = spare_after;

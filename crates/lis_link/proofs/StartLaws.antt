@@ -1,6 +1,7 @@
 -- What a start that is not rejected says about the texts.
 use Rattle.std.proofs.Common.{◌≡◌, ℕ, ◌+◌, List, [], ◌∷◌, Option, None, Some, refl, drop, add-one}
 use Rattle.std.specs.Prelude.{All, slice_get}
+use Rattle.std.specs.Option.{option_map, option_or}
 use Rattle.std.proofs.lemmas.List.Elements.{All-nil, All-cons, All-weaker}
 use Rattle.lis_text.specs.declared.text.TextFault.{TextFault}
 use Rattle.lis_text.specs.LinkText.{longest_text}
@@ -9,7 +10,7 @@ use Rattle.lis_text.proofs.TextLemmas.{text_fault-none}
 use Rattle.lis_link.specs.declared.sender.Phase.{Phase}
 use Rattle.lis_link.specs.declared.sender.Phase.TheVariants.{Neutral, AwaitLine, Busy, Contention, AwaitReply}
 use Rattle.lis_link.specs.declared.sender.StartFault.TheVariants.{BadText}
-use Rattle.lis_link.specs.Sender.{bad_text_or, bad_text, start_fault_in}
+use Rattle.lis_link.specs.Sender.{bad_text, start_fault_in}
 use Rattle.lis_link.proofs.QueueLaws.{drop-at}
 
 abbrev pub Faultless : List ℕ → Type 0
@@ -26,7 +27,7 @@ faultless-bad_text index (text ∷ texts) e = go (text_fault longest_text text) 
     go :
         (fault : Option TextFault)
         → text_fault longest_text text ≡ fault
-        → bad_text_or fault index (bad_text (index + 1) texts) ≡ None
+        → option_or (option_map (BadText index) fault) (bad_text (index + 1) texts) ≡ None
         → (bad_text (index + 1) texts ≡ None → All Faultless texts)
         → All Faultless (text ∷ texts)
     go None is none later = All-cons Faultless text texts is (later none)

@@ -1,25 +1,16 @@
 -- Joining frames to texts: intermediate frames are held until the last frame of a message completes its text (LIS01-A2,
 -- 6.3).
-use Rattle.std.specs.Prelude.{ℕ, Bool, true, false, List, [], ◌∷◌, ◌++◌, Option, None, Some}
+use Rattle.std.specs.Prelude.{ℕ, List, [], ◌∷◌, ◌++◌, Option, None, Some, if◌then◌else◌}
 use Rattle.std.specs.Option.{option_to_list}
 use Rattle.lis_frame.specs.Frame.{FrameContent}
 
--- a frame's text after the held text: it is held on, or a whole text
-abbrev pub held_by_end : Bool → List ℕ → List ℕ
-held_by_end true joined = []
-held_by_end false joined = joined
-
-abbrev pub text_by_end : Bool → List ℕ → Option (List ℕ)
-text_by_end true joined = Some joined
-text_by_end false joined = None
-
 -- what is held after a frame
 abbrev pub held_with : List ℕ → FrameContent → List ℕ
-held_with held frame = held_by_end frame.last (held ++ frame.text)
+held_with held frame = if frame.last then [] else held ++ frame.text
 
 -- the text that a frame completes, if it is the last of its message
 abbrev pub completed : List ℕ → FrameContent → Option (List ℕ)
-completed held frame = text_by_end frame.last (held ++ frame.text)
+completed held frame = if frame.last then Some (held ++ frame.text) else None
 
 -- the whole texts of a list of frames, with this text held before them
 abbrev pub groups : List ℕ → List FrameContent → List (List ℕ)

@@ -31,7 +31,7 @@ pub record ReceiverStep : Type 0 where
   pub taken : Option FrameContent
   pub after : ReceiverState
 
--- a step that hands nothing out
+-- a step that delivers nothing
 abbrev pub answers : Option ℕ → Note → ReceiverState → ReceiverStep
 answers reply note after = record { reply = reply; message = None; note = note; taken = None; after = after }
 
@@ -85,23 +85,13 @@ on_classified r frame (Accepted number) =
 on_classified r frame (Duplicate number) = answers (Some ACK) (Duplicate number) r
 on_classified r frame note = answers (Some NAK) note r
 
--- a signal that is no ENQ, while the line is open
-abbrev pub heard_open : {limit : ℕ} → SignalOf limit → ReceiverState → ReceiverStep
-heard_open Enq r = answered_request r.readiness r
-heard_open Eot r = answers None Ended (record r { is_open = false })
-heard_open (Good frame) r = on_classified r frame (classified r frame)
-heard_open (Bad fault) r = answers (Some NAK) (Refused fault) r
-
--- while it isn't
-abbrev pub heard_neutral : {limit : ℕ} → SignalOf limit → ReceiverState → ReceiverStep
-heard_neutral Enq r = answered_request r.readiness r
-heard_neutral Eot r = answers None Quiet r
-heard_neutral (Good frame) r = answers None Quiet r
-heard_neutral (Bad fault) r = answers None Quiet r
-
+-- a signal, by whether the line is open: while it isn't, only ENQ is answered
 abbrev pub heard_by : {limit : ℕ} → Bool → SignalOf limit → ReceiverState → ReceiverStep
-heard_by true signal r = heard_open signal r
-heard_by false signal r = heard_neutral signal r
+heard_by is_open Enq r = answered_request r.readiness r
+heard_by true Eot r = answers None Ended (record r { is_open = false })
+heard_by true (Good frame) r = on_classified r frame (classified r frame)
+heard_by true (Bad fault) r = answers (Some NAK) (Refused fault) r
+heard_by false signal r = answers None Quiet r
 
 -- a byte by the signal that it gives, if it gives one
 abbrev pub heard : {limit : ℕ} → Option (SignalOf limit) → ReceiverState → ReceiverStep

@@ -1,7 +1,7 @@
 -- The sending end: its state, and the table of its steps (LIS01-A2, 6.3 to 6.6).
 use Rattle.std.specs.Prelude.{ℕ, ◌+◌, List, [], ◌∷◌, drop, Option, None, Some, if◌then◌else◌, nat_lt, ◌==◌, ◌||◌}
+use Rattle.std.specs.Option.{option_map, option_or}
 use Rattle.lis_text.specs.Control.{EOT, ENQ, ACK}
-use Rattle.lis_text.specs.declared.text.TextFault.{TextFault}
 use Rattle.lis_text.specs.LinkText.{longest_text}
 use Rattle.lis_text.specs.Text.{text_fault}
 use Rattle.lis_frame.specs.Frame.{FrameContent}
@@ -47,11 +47,8 @@ first_frame (frame ∷ frames) = Some frame
 
 -- the frame that was sent and awaits its reply
 abbrev pub awaited_in : Phase → SenderState → Option FrameContent
-awaited_in Neutral s = None
-awaited_in AwaitLine s = None
-awaited_in Busy s = None
-awaited_in Contention s = None
 awaited_in AwaitReply s = first_frame (drop s.acknowledged s.frames)
+awaited_in phase s = None
 
 abbrev pub awaited : SenderState → Option FrameContent
 awaited s = awaited_in s.phase s
@@ -86,10 +83,9 @@ reply_in AwaitLine b s =
     if b == ACK then sends_first s.frames s
     else if b == ENQ then gives Nothing (record s { phase = Contention })
     else gives Nothing (record s { phase = Busy })
-reply_in Busy b s = gives Nothing s
-reply_in Contention b s = gives Nothing s
 reply_in AwaitReply b s =
     if b == ACK || b == EOT then on_accepted s else sends_again (drop s.acknowledged s.frames) s
+reply_in phase b s = gives Nothing s
 
 abbrev pub on_reply : {limit : ℕ} → ℕ → SenderState → SenderStep limit
 on_reply b s = reply_in s.phase b s
@@ -98,32 +94,25 @@ on_reply b s = reply_in s.phase b s
 abbrev pub timer_in : {limit : ℕ} → Phase → SenderState → SenderStep limit
 timer_in Neutral s = gives Nothing s
 timer_in AwaitLine s = ends TimedOut s
-timer_in Busy s = gives Enq (record s { phase = AwaitLine })
-timer_in Contention s = gives Enq (record s { phase = AwaitLine })
 timer_in AwaitReply s = ends TimedOut s
+timer_in phase s = gives Enq (record s { phase = AwaitLine })
 
 abbrev pub on_sender_timer : {limit : ℕ} → SenderState → SenderStep limit
 on_sender_timer s = timer_in s.phase s
 
--- the sender is restarted, by phases
+-- the sender is restarted: a session that goes on is finished
 abbrev pub restart_in : Phase → SenderState → SenderState
 restart_in Neutral s = s
-restart_in AwaitLine s = finished_with Restarted s
-restart_in Busy s = finished_with Restarted s
-restart_in Contention s = finished_with Restarted s
-restart_in AwaitReply s = finished_with Restarted s
+restart_in phase s = finished_with Restarted s
 
 abbrev pub sender_restarted : SenderState → SenderState
 sender_restarted s = restart_in s.phase s
 
 -- the first text that is no link text, counted from a place on
-abbrev pub bad_text_or : Option TextFault → ℕ → Option StartFault → Option StartFault
-bad_text_or None index later = later
-bad_text_or (Some fault) index later = Some (BadText index fault)
-
 abbrev pub bad_text : ℕ → List (List ℕ) → Option StartFault
 bad_text index [] = None
-bad_text index (text ∷ texts) = bad_text_or (text_fault longest_text text) index (bad_text (index + 1) texts)
+bad_text index (text ∷ texts) =
+    option_or (option_map (BadText index) (text_fault longest_text text)) (bad_text (index + 1) texts)
 
 abbrev pub bad_texts : List (List ℕ) → Option StartFault
 bad_texts [] = Some NoText
@@ -131,10 +120,7 @@ bad_texts (text ∷ texts) = bad_text 0 (text ∷ texts)
 
 abbrev pub start_fault_in : Phase → List (List ℕ) → Option StartFault
 start_fault_in Neutral texts = bad_texts texts
-start_fault_in AwaitLine texts = Some InSession
-start_fault_in Busy texts = Some InSession
-start_fault_in Contention texts = Some InSession
-start_fault_in AwaitReply texts = Some InSession
+start_fault_in phase texts = Some InSession
 
 -- why a start is rejected, if it is
 abbrev pub start_fault : SenderState → List (List ℕ) → Option StartFault

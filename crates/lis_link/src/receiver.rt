@@ -106,7 +106,7 @@ impl<const N: usize> Model for ReceiverOf<N> {
 pub type Receiver = ReceiverOf<240>;
 
 impl Step {
-    /// A step that hands nothing out.
+    /// A step that delivers nothing.
     fn of(reply: Option<u8>, note: Note) -> Self
         ensures { result ≡ record { reply = reply; message = None; note = note } }
     {

@@ -2,7 +2,7 @@
 use Rattle.std.proofs.Common.{◌≡◌, ℕ, ◌+◌, inl, Bool, true, false, List, [], ◌∷◌, ◌++◌, length, drop, Option, None}
 use Rattle.std.proofs.Common.{Some, refl, sym, ap, subst, arith}
 use Rattle.std.specs.Prelude.{All, if◌then◌else◌, nat_lt}
-use Rattle.std.specs.Option.{option_map}
+use Rattle.std.specs.Option.{option_map, option_or}
 use Rattle.std.proofs.lemmas.Bool.{ltb-false}
 use Rattle.std.proofs.lemmas.List.{length_push, drop-append-le}
 use Rattle.std.proofs.lemmas.List.Elements.{All-nil, All-cons}
@@ -14,7 +14,8 @@ use Rattle.lis_frame.specs.Pieces.{session_frames}
 use Rattle.lis_link.specs.declared.sender.Phase.{Phase}
 use Rattle.lis_link.specs.declared.sender.Phase.TheVariants.{Neutral, AwaitLine, Busy, Contention, AwaitReply}
 use Rattle.lis_link.specs.declared.sender.StartFault.{StartFault}
-use Rattle.lis_link.specs.Sender.{SenderState, bad_text_or, bad_text, start_fault_in, start_fault, started}
+use Rattle.lis_link.specs.declared.sender.StartFault.TheVariants.{BadText}
+use Rattle.lis_link.specs.Sender.{SenderState, bad_text, start_fault_in, start_fault, started}
 use Rattle.lis_world.specs.Unit.{enquiry, Travelling}
 use Rattle.lis_world.specs.Session.{Session, new_session}
 use Rattle.lis_world.specs.World.{World}
@@ -50,7 +51,7 @@ texts_from_fault index (text ∷ texts) e = go (text_fault longest_text text) re
     go :
         (fault : Option TextFault)
         → text_fault longest_text text ≡ fault
-        → bad_text_or fault index (bad_text (index + 1) texts) ≡ None
+        → option_or (option_map (BadText index) fault) (bad_text (index + 1) texts) ≡ None
         → (bad_text (index + 1) texts ≡ None → All (IsText longest_text) texts)
         → All (IsText longest_text) (text ∷ texts)
     go None is none later = All-cons (IsText longest_text) text texts (text_from_fault text is) (later none)
