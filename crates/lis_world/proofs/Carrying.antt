@@ -1,8 +1,10 @@
 -- A session with enough rounds is done, and an undisturbed one too.
 use Rattle.std.proofs.Common.{◌≡◌, ℕ, zero, suc, ◌+◌, ◌-◌, ◌<◌, ◌≤◌, inl, inr, Bool, true, false, List, [], ◌∷◌}
 use Rattle.std.proofs.Common.{◌++◌, length, get_or, None, Some, refl, sym, ap, ◌∙◌, subst, arith}
+use Rattle.std.specs.Prelude.{All, replicate}
 use Rattle.std.proofs.lemmas.Bool.{cond-false}
 use Rattle.std.proofs.lemmas.List.{length-append, length_push}
+use Rattle.std.proofs.lemmas.List.Elements.{All-head, All-tail, All-replicate}
 use Rattle.lis_text.specs.Control.{ACK, ENQ, EOT, STX, LF}
 use Rattle.lis_frame.specs.declared.scanner.SignalOf.TheVariants.{Enq, Eot}
 use Rattle.lis_frame.specs.Limit.{IsLimit}
@@ -14,20 +16,20 @@ use Rattle.lis_link.specs.declared.sender.Phase.TheVariants.{AwaitLine}
 use Rattle.lis_link.specs.declared.receiver.Readiness.TheVariants as Readinesses
 use Rattle.lis_link.specs.Joining.{groups}
 use Rattle.lis_link.specs.Sender.{sends_first, started, most_tries}
-use Rattle.lis_link.specs.Receiver.{answered_request, heard_by}
+use Rattle.lis_link.specs.Receiver.{answered_request, heard_by, with_room}
 use Rattle.lis_link.proofs.JoiningLaws.{groups-session_frames}
 use Rattle.lis_world.specs.declared.event.Event.{Event}
 use Rattle.lis_world.specs.declared.event.Event.TheVariants.{Start, Deliver, DeliverNoRoom, Damage, Reply, DamageReply}
 use Rattle.lis_world.specs.Unit.{enquiry, ending, Travelling, load_bytes}
 use Rattle.lis_world.specs.Session.{Session, new_session, session_at}
 use Rattle.lis_world.specs.World.{World, new_world, ComputerState, computer_state_of, booked, hears, lowered, settled}
-use Rattle.lis_world.specs.Steps.{begins, delivered, delivered_no_room, damaged, is_noticed, room_at, replied}
+use Rattle.lis_world.specs.Steps.{begins, delivered, damaged, is_noticed, room_at, replied}
 use Rattle.lis_world.specs.Steps.{reply_damaged, sender_steps, after_event, runs, world}
 use Rattle.lis_world.specs.Safe.{IsPrefix}
 use Rattle.lis_world.specs.Progress.{Round, undisturbed, without_room, bad_frame, bad_reply, round_events}
-use Rattle.lis_world.specs.Progress.{rounds_events, IsBadBody, IsNoticed, AreNoticed, good_rounds, FewInARow, IsCalm}
+use Rattle.lis_world.specs.Progress.{rounds_events, IsBadBody, IsNoticed, good_rounds, FewInARow, IsCalm}
 use Rattle.lis_world.specs.Progress.{session_events, done_session, IsCarried, AreSendable, AreEnough}
-use Rattle.lis_world.specs.Progress.{undisturbed_rounds, quiet_events, CarriesThrough, RunsQuietly}
+use Rattle.lis_world.specs.Progress.{quiet_events, CarriesThrough, RunsQuietly}
 use Rattle.lis_world.proofs.Invariant.{IsSound, InPhase, Holds, kept_frames}
 use Rattle.lis_world.proofs.Room.{room_runs}
 use Rattle.lis_world.proofs.Leaving.{heard_replies}
@@ -113,16 +115,33 @@ finished_no_room :
     → IsFinished limit c frames (after_event limit DeliverNoRoom w)
 finished_no_room limit c frames w is_limit finished = go finished.traffic
   where
+    no_room : List Travelling → World
+    no_room units = room_at true (delivered limit units (room_at false w))
+
     go : EndTraffic w → IsFinished limit c frames (after_event limit DeliverNoRoom w)
     go (inl one) =
-        let d : ComputerState = room_at false (computer_state_of w) in
+        let d : ComputerState = computer_state_of (room_at false w) in
+        let after : ComputerState = hears limit one.0 (EOT ∷ []) d in
         let closed = ending_heard limit one.0 d refl in
         (closed_after limit c frames w (after_event limit DeliverNoRoom w)
-        (room_at true (hears limit one.0 (EOT ∷ []) d)) finished
+        (record after { receiver = with_room true after.receiver }) finished
         (event_holds limit DeliverNoRoom w is_limit finished.tracked.holds)
         (record { no_reply = closed.no_reply; is_closed = closed.is_closed; sessions_are = closed.sessions_are })
-        (ap (λ us. delivered_no_room limit us w) one.1)).finished
-    go (inr none) = subst (IsFinished limit c frames) (sym (ap (λ us. delivered_no_room limit us w) none.0)) finished
+        (ap no_room one.1)).finished
+    go (inr none) = subst (IsFinished limit c frames) (sym (ap no_room none.0)) (record {
+      tracked = record {
+        holds = subst (Holds limit) (ap no_room none.0) (event_holds limit DeliverNoRoom w is_limit
+            finished.tracked.holds);
+        current_is = finished.tracked.current_is;
+        length_is = finished.tracked.length_is;
+        frames_are = finished.tracked.frames_are;
+      };
+      neutral = finished.neutral;
+      outcome_is = finished.outcome_is;
+      unmuted = finished.unmuted;
+      no_reply = finished.no_reply;
+      traffic = finished.traffic;
+    })
 
 -- damage that is heard as a bad frame is not allowed for EOT
 finished_damaged :
@@ -184,14 +203,15 @@ runs-append limit (x ∷ xs) ys w = runs-append limit xs ys (after_event limit x
 finished_rounds :
     (limit c : ℕ) (frames : List FrameContent) (rounds : List Round) (w : World)
     → IsLimit limit
-    → AreNoticed limit rounds
+    → All (IsNoticed limit) rounds
     → IsFinished limit c frames w
     → IsFinished limit c frames (runs limit (rounds_events rounds) w)
 finished_rounds limit c frames [] w is_limit noticed finished = finished
 finished_rounds limit c frames (round ∷ rounds) w is_limit noticed finished =
     subst (IsFinished limit c frames) (sym (runs-append limit (round_events round) (rounds_events rounds) w))
-    (finished_rounds limit c frames rounds (runs limit (round_events round) w) is_limit noticed.1
-    (finished_round limit c frames round w is_limit noticed.0 finished))
+    (finished_rounds limit c frames rounds (runs limit (round_events round) w) is_limit
+    (All-tail (IsNoticed limit) round rounds noticed)
+    (finished_round limit c frames round w is_limit (All-head (IsNoticed limit) round rounds noticed) finished))
 
 -- a frame that awaits its reply is not acknowledged yet
 some_remaining : (limit c : ℕ) (frames : List FrameContent) (k t : ℕ) (w : World) → IsSent limit c frames k t w → 0 < k
@@ -209,7 +229,7 @@ through :
     (limit c : ℕ) (frames : List FrameContent) (rounds : List Round) (row k t : ℕ) (w : World)
     → IsLimit limit
     → length frames < 4294967295
-    → AreNoticed limit rounds
+    → All (IsNoticed limit) rounds
     → FewInARow row rounds
     → k ≤ good_rounds rounds
     → t ≤ suc row
@@ -220,9 +240,12 @@ through limit c frames [] row k t w is_limit few noticed in_a_row enough tries s
     absurd (omega arith)
 through limit c frames (undisturbed ∷ rounds) row k t w is_limit few noticed in_a_row enough tries sent =
     go (undisturbed_round limit c frames k t w is_limit few sent)
-    (through limit c frames rounds 0 (k - 1) 1 (runs limit (round_events undisturbed) w) is_limit few noticed.1
+    (through limit c frames rounds 0 (k - 1) 1 (runs limit (round_events undisturbed) w) is_limit few later
     in_a_row (omega arith) (omega arith))
   where
+    later : All (IsNoticed limit) rounds
+    later = All-tail (IsNoticed limit) undisturbed rounds noticed
+
     w2 : World
     w2 = runs limit (round_events undisturbed) w
 
@@ -230,17 +253,20 @@ through limit c frames (undisturbed ∷ rounds) row k t w is_limit few noticed i
         GoesOn limit c frames (k - 1) w2
         → (IsSent limit c frames (k - 1) 1 w2 → IsFinished limit c frames (runs limit (rounds_events rounds) w2))
         → IsFinished limit c frames (runs limit (rounds_events rounds) w2)
-    go (inl finished) later = finished_rounds limit c frames rounds w2 is_limit noticed.1 finished
-    go (inr sent2) later = later sent2
+    go (inl finished) goes_on = finished_rounds limit c frames rounds w2 is_limit later finished
+    go (inr sent2) goes_on = goes_on sent2
 through limit c frames (round ∷ rounds) row k t w is_limit few noticed in_a_row enough tries sent =
     let few_row : suc row < most_tries = in_a_row.0 in
     let few_tries : t < most_tries = omega arith in
     let w2 : World = runs limit (round_events round) w in
     subst (IsFinished limit c frames) (sym (runs-append limit (round_events round) (rounds_events rounds) w))
-    (go (disturbed_round limit c frames k t round w is_limit few few_tries noticed.0 sent)
-    (λ j n below enough2. through limit c frames rounds (suc row) j n w2 is_limit few noticed.1 in_a_row.1 enough2
-    below))
+    (go (disturbed_round limit c frames k t round w is_limit few few_tries
+    (All-head (IsNoticed limit) round rounds noticed) sent)
+    (λ j n below enough2. through limit c frames rounds (suc row) j n w2 is_limit few later in_a_row.1 enough2 below))
   where
+    later : All (IsNoticed limit) rounds
+    later = All-tail (IsNoticed limit) round rounds noticed
+
     w3 : World
     w3 = runs limit (round_events round) w
 
@@ -249,9 +275,9 @@ through limit c frames (round ∷ rounds) row k t w is_limit few noticed in_a_ro
         → ((j n : ℕ) → n ≤ suc (suc row) → j ≤ good_rounds rounds → IsSent limit c frames j n w3
         → IsFinished limit c frames (runs limit (rounds_events rounds) w3))
         → IsFinished limit c frames (runs limit (rounds_events rounds) w3)
-    go (inl (inl finished)) later = finished_rounds limit c frames rounds w3 is_limit noticed.1 finished
-    go (inl (inr sent2)) later = later (k - 1) 1 (omega arith) (omega arith) sent2
-    go (inr sent2) later = later k (t + 1) (omega arith) enough sent2
+    go (inl (inl finished)) goes_on = finished_rounds limit c frames rounds w3 is_limit later finished
+    go (inl (inr sent2)) goes_on = goes_on (k - 1) 1 (omega arith) (omega arith) sent2
+    go (inr sent2) goes_on = goes_on k (t + 1) (omega arith) enough sent2
 
 -- ENQ opens the line of a receiver that is ready
 record IsOpened (n : ℕ) (d : ComputerState) : Type 0 where
@@ -410,7 +436,7 @@ carried limit texts rounds w is_limit h calm room sendable enough =
   where
     go :
         (c : ℕ) (frames : List FrameContent) (v : World)
-        → AreNoticed limit rounds
+        → All (IsNoticed limit) rounds
         → GoesOn limit c frames (length frames) v
         → (IsSent limit c frames (length frames) 1 v → IsFinished limit c frames (runs limit (rounds_events rounds) v))
         → IsFinished limit c frames (runs limit (rounds_events rounds) v)
@@ -425,24 +451,24 @@ carries_through limit is_limit events texts rounds calm sendable enough =
     (room_runs limit events new_world refl) sendable enough)
 
 -- rounds that nothing disturbs
-noticed-undisturbed : (limit n : ℕ) → AreNoticed limit (undisturbed_rounds n)
-noticed-undisturbed limit zero = tt
-noticed-undisturbed limit (suc n) = (tt, noticed-undisturbed limit n)
-
-few-undisturbed : (n : ℕ) → FewInARow 0 (undisturbed_rounds n)
+few-undisturbed : (n : ℕ) → FewInARow 0 (replicate n undisturbed)
 few-undisturbed zero = tt
 few-undisturbed (suc n) = few-undisturbed n
 
-good-undisturbed : (n : ℕ) → good_rounds (undisturbed_rounds n) ≡ n
+good-undisturbed : (n : ℕ) → good_rounds (replicate n undisturbed) ≡ n
 good-undisturbed zero = refl
 good-undisturbed (suc n) = ap suc (good-undisturbed n)
 
 pub enough-undisturbed : (limit : ℕ) (texts : List (List ℕ))
-    → AreEnough limit texts (undisturbed_rounds (length (session_frames limit texts)))
+    → AreEnough limit texts (replicate (length (session_frames limit texts)) undisturbed)
 enough-undisturbed limit texts =
     let n : ℕ = length (session_frames limit texts) in
     let good = good-undisturbed n in
-    record { noticed = noticed-undisturbed limit n; few_in_a_row = few-undisturbed n; enough_good = omega arith }
+    record {
+      noticed = All-replicate (IsNoticed limit) n undisturbed tt;
+      few_in_a_row = few-undisturbed n;
+      enough_good = omega arith;
+    }
 
 single : (xs : List Session) (d : Session) → length xs ≡ 1 → xs ≡ get_or xs 0 d ∷ []
 single [] d e = absurd (omega arith)
@@ -454,7 +480,7 @@ runs_quietly limit is_limit texts sendable =
     let n : ℕ = length (session_frames limit texts) in
     let enough = enough-undisturbed limit texts in
     let calm : IsCalm new_world = record { no_unit = refl; neutral = refl; ready = refl } in
-    let is_carried = carried limit texts (undisturbed_rounds n) new_world is_limit (new_holds limit) calm refl
+    let is_carried = carried limit texts (replicate n undisturbed) new_world is_limit (new_holds limit) calm refl
     sendable enough in
     let after : World = world limit (quiet_events limit texts) in
     record {

@@ -1,4 +1,4 @@
--- The front unit leaves the link: delivered, with room or without, damaged, or lost.
+-- The front unit leaves the link: delivered, damaged, or lost.
 use Rattle.std.proofs.Common.{◌≡◌, ℕ, ◌+◌, ◌%◌, length, ◌⊎◌, inl, inr, Bool, true, false, List, [], ◌∷◌, ◌++◌, refl}
 use Rattle.std.proofs.Common.{sym, ap, ◌∙◌, subst, arith}
 use Rattle.std.specs.Prelude.{Contains}
@@ -16,7 +16,7 @@ use Rattle.lis_frame.specs.Frame.{frame_bytes}
 use Rattle.lis_world.specs.Unit.{Load, enquiry, ending, one_frame, Travelling, load_bytes}
 use Rattle.lis_world.specs.Session.{Session, session_at}
 use Rattle.lis_world.specs.World.{World, ComputerState, computer_state_of, hears, settled}
-use Rattle.lis_world.specs.Steps.{room_at, is_noticed, delivered, delivered_no_room, damaged, lost}
+use Rattle.lis_world.specs.Steps.{is_noticed, delivered, damaged}
 use Rattle.lis_world.proofs.Invariant.{IsSound, Leads, Front, IsLeft, Holds}
 use Rattle.lis_world.proofs.Leaving.{settled_holds}
 use Rattle.lis_world.proofs.Hearing.{at_past, hears_signals, hears-heard}
@@ -80,36 +80,19 @@ left_delivered limit s (one_frame f) d is_limit side leads =
     (signals-frame_bytes limit d.receiver.past f next.content)
     (left_frame limit s f (stream_with d.receiver.past (frame_bytes f)) d leads.0 side leads.1 next.number_is)
 
--- the room of the receiver is of no account
-side_room : (limit : ℕ) (room : Bool) (d : ComputerState) → IsSide limit d → IsSide limit (room_at room d)
-side_room limit room d side = record { sound = side.sound; line = side.line; no_reply = side.no_reply }
-
-left_room :
-    (limit s : ℕ) (load : Load) (d d' : ComputerState)
-    → IsLeft limit s load (room_at false d) d'
-    → IsLeft limit s load d (room_at true d')
-left_room limit s load d d' left = record {
-  sound = left.sound;
-  line = left.line;
-  kept = left.kept;
-  after_ending = left.after_ending;
-  after_enquiry = left.after_enquiry;
-  after_frame = left.after_frame;
-}
-
 -- what noticed damage is heard as
 noticed_cases :
     {limit : ℕ} (load : Load) (signals : List (SignalOf limit))
     → is_noticed load signals ≡ true
     → (signals ≡ []) ⊎ ((f : FrameContent) × (fault : FrameFault) × (load ≡ one_frame f) × (signals ≡ Bad fault ∷ []))
 noticed_cases load [] e = inl refl
-noticed_cases enquiry (Bad fault ∷ []) e = cc
-noticed_cases ending (Bad fault ∷ []) e = cc
+noticed_cases enquiry (x ∷ xs) e = cc
+noticed_cases ending (x ∷ xs) e = cc
 noticed_cases (one_frame f) (Bad fault ∷ []) e = inr (f, fault, refl, refl)
-noticed_cases load (Bad fault ∷ x ∷ xs) e = cc
-noticed_cases load (Enq ∷ xs) e = cc
-noticed_cases load (Eot ∷ xs) e = cc
-noticed_cases load (Good f ∷ xs) e = cc
+noticed_cases (one_frame f) (Bad fault ∷ x ∷ xs) e = cc
+noticed_cases (one_frame f) (Enq ∷ xs) e = cc
+noticed_cases (one_frame f) (Eot ∷ xs) e = cc
+noticed_cases (one_frame f) (Good g ∷ xs) e = cc
 
 left_damaged :
     (limit s : ℕ) (load : Load) (bytes : List ℕ) (d : ComputerState)
@@ -144,18 +127,6 @@ delivered_holds limit (u ∷ us) w is_limit are h =
     (left_delivered limit u.session u.load (computer_state_of w) is_limit (side_of limit w h)
     (leads_of limit w u us h are))
 
-pub delivered_no_room_holds :
-    (limit : ℕ) (units : List Travelling) (w : World) → IsLimit limit → w.units ≡ units → Holds limit w
-    → Holds limit (delivered_no_room limit units w)
-delivered_no_room_holds limit [] w is_limit are h = h
-delivered_no_room_holds limit (u ∷ us) w is_limit are h =
-    let without = room_at false (computer_state_of w) in
-    settled_holds limit w u us (room_at true (hears limit u.session (load_bytes u.load) without)) h are
-    (left_room limit u.session u.load (computer_state_of w) (hears limit u.session (load_bytes u.load) without)
-    (left_delivered limit u.session u.load without is_limit (side_room limit false (computer_state_of w)
-    (side_of limit w h))
-    (leads_of limit w u us h are)))
-
 pub damaged_holds :
     (limit : ℕ) (bytes : List ℕ) (units : List Travelling) (w : World) → w.units ≡ units → Holds limit w
     → Holds limit (damaged limit bytes units w)
@@ -166,11 +137,3 @@ damaged_holds limit bytes (u ∷ us) w are h =
     (λ noticed. settled_holds limit w u us (hears limit u.session bytes (computer_state_of w)) h are
     (left_damaged limit u.session u.load bytes (computer_state_of w) (side_of limit w h) noticed))
     (λ ignored. h)
-
-pub lost_holds : (limit : ℕ) (units : List Travelling) (w : World) → w.units ≡ units → Holds limit w
-    → Holds limit (lost units w)
-lost_holds limit [] w are h = h
-lost_holds limit (u ∷ us) w are h =
-    settled_holds limit w u us (computer_state_of w) h are (left_unheard limit u.session u.load w.receiver.past
-    (computer_state_of w)
-    (side_of limit w h))

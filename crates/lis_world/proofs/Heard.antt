@@ -9,7 +9,8 @@ use Rattle.lis_link.specs.declared.receiver.Note.{Note}
 use Rattle.lis_link.specs.declared.receiver.Note.TheVariants.{Accepted, Duplicate, Opened}
 use Rattle.lis_link.specs.Receiver.{ReceiverState, ReceiverStep, answered_request, classified, on_classified, heard_by}
 use Rattle.lis_link.specs.Receiver.{heard}
-use Rattle.lis_world.specs.World.{ComputerState, after_note}
+use Rattle.lis_world.specs.Session.{with_more}
+use Rattle.lis_world.specs.World.{ComputerState, after_note, booked}
 
 -- the stream and the room
 abbrev pub LeavesRest : ReceiverState → ReceiverStep → Type 0
@@ -39,8 +40,12 @@ pub heard_leaves : {limit : ℕ} (signal : Option (SignalOf limit)) (r : Receive
 heard_leaves None r = (refl, refl)
 heard_leaves (Some signal) r = signal_leaves r.is_open signal r
 
-pub after_note_after : (s : ℕ) (step : ReceiverStep) (d : ComputerState) (note : Note)
-    → (after_note s step note d).receiver ≡ step.after
-after_note_after s step d Opened = refl
-after_note_after s step d (Accepted n) = refl
-after_note_after s step d _ = refl
+keeps_receiver : (s : ℕ) (step : ReceiverStep) (d : ComputerState) (note : Note)
+    → (after_note s step note d).receiver ≡ d.receiver
+keeps_receiver s step d Opened = refl
+keeps_receiver s step d (Accepted n) = refl
+keeps_receiver s step d _ = refl
+
+pub booked_after : (s : ℕ) (step : ReceiverStep) (d : ComputerState) → (booked s step d).receiver ≡ step.after
+booked_after s step d =
+    keeps_receiver s step (record d { receiver = step.after; replies = with_more d.replies step.reply }) step.note

@@ -8,8 +8,8 @@ use Rattle.lis_link.specs.declared.receiver.Readiness.{Readiness}
 use Rattle.lis_link.specs.declared.receiver.Readiness.TheVariants.{Ready}
 use Rattle.lis_link.specs.declared.receiver.Note.{Note}
 use Rattle.lis_link.specs.declared.receiver.Note.TheVariants.{Quiet}
-use Rattle.lis_link.specs.Receiver.{ReceiverStep, answered_request, classified, on_classified, heard_by, heard}
-use Rattle.lis_world.specs.World.{ComputerState, after_note, booked, hears}
+use Rattle.lis_link.specs.Receiver.{answered_request, classified, on_classified, heard_by, heard}
+use Rattle.lis_world.specs.World.{ComputerState, booked, hears}
 
 -- the computer's state after other bytes
 abbrev pub at_past : List ℕ → ComputerState → ComputerState
@@ -22,11 +22,6 @@ hears_signal s signal d = booked s (heard_by d.receiver.is_open signal d.receive
 abbrev pub hears_signals : {limit : ℕ} → ℕ → List (SignalOf limit) → ComputerState → ComputerState
 hears_signals s [] d = d
 hears_signals s (signal ∷ signals) d = hears_signals s signals (hears_signal s signal d)
-
-after_note-past : (s : ℕ) (step : ReceiverStep) (p q : List ℕ) (d : ComputerState) (note : Note)
-    → after_note s step note (at_past p d) ≡ after_note s step note (at_past q d)
-after_note-past s step p q d Quiet = refl
-after_note-past s step p q d _ = refl
 
 classified-past :
     (s : ℕ) (frame : FrameContent) (past : List ℕ) (d : ComputerState) (note : Note)
@@ -74,9 +69,7 @@ hears-signals limit s (b ∷ bytes) past d = go (signal_after limit past b)
         (with_signal signal (signals_after limit (b ∷ past) bytes)) d)
     go None later = later d
     go (Some signal) later =
-        let step : ReceiverStep = heard_by d.receiver.is_open signal (record d.receiver { past = b ∷ past }) in
-        ap (hears limit s bytes)
-        (after_note-past s step past (b ∷ past) d step.note ∙ heard-past s d.receiver.is_open signal (b ∷ past) d)
+        ap (hears limit s bytes) (heard-past s d.receiver.is_open signal (b ∷ past) d)
         ∙ later (hears_signal s signal d)
 
 -- the same from where the computer's state is

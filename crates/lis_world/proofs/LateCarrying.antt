@@ -2,7 +2,7 @@
 -- both.
 use Rattle.std.proofs.Common.{◌≡◌, ℕ, Bool, true, false, List, [], ◌∷◌, ◌++◌, length, map, refl, sym, ap, ◌∙◌, subst}
 use Rattle.std.proofs.Common.{arith}
-use Rattle.std.specs.Prelude.{not, ◌||◌, ◌==◌}
+use Rattle.std.specs.Prelude.{not, ◌||◌, ◌==◌, replicate}
 use Rattle.std.proofs.lemmas.Bool.{cond-true, and_parts, and_from, eqb-true}
 use Rattle.lis_frame.specs.Limit.{IsLimit}
 use Rattle.lis_frame.specs.Pieces.{session_frames}
@@ -17,7 +17,7 @@ use Rattle.lis_world.specs.World.{World, new_world}
 use Rattle.lis_world.specs.Steps.{after_event, runs}
 use Rattle.lis_world.specs.Progress.{Round, undisturbed, without_room, bad_frame, bad_reply, round_events}
 use Rattle.lis_world.specs.Progress.{rounds_events, session_events, IsCarried, AreSendable, quiet_events}
-use Rattle.lis_world.specs.Progress.{undisturbed_rounds, done_session}
+use Rattle.lis_world.specs.Progress.{done_session}
 use Rattle.lis_world.specs.Late.{happens_late, after_late_event, runs_late, late_world, has_no_unit, has_no_reply}
 use Rattle.lis_world.specs.Late.{is_empty, is_quiet, only_endings, is_answered, reply_may_come, at_any_time}
 use Rattle.lis_world.specs.LateRecovery.{renewal, CarriesAfter, CarriesOnNewLine, CarriesOnNewLines}
@@ -151,5 +151,5 @@ pub runs_quietly_late : (limit : ℕ) → IsLimit limit → (texts : List (List 
     → (late_world is_empty limit (map Happens (quiet_events limit texts))).sessions ≡ done_session limit texts ∷ []
 runs_quietly_late limit is_limit texts sendable =
     ap (λ (w : World). w.sessions)
-    (session_runs is_empty limit texts (undisturbed_rounds (length (session_frames limit texts))) new_world refl)
+    (session_runs is_empty limit texts (replicate (length (session_frames limit texts)) undisturbed) new_world refl)
     ∙ (runs_quietly limit is_limit texts sendable).sessions_are

@@ -1,5 +1,6 @@
 -- Sessions that start on new lines start on quiet ones: while no session goes on, nothing comes on a new line.
-use Rattle.std.proofs.Common.{◌≡◌, ℕ, Bool, true, false, List, [], ◌∷◌, Option, None, Some, refl, sym, subst}
+use Rattle.std.proofs.Common.{◌≡◌, ℕ, Bool, true, false, List, [], ◌∷◌, Option, None, Some, drop, refl, sym, ap, ◌∙◌}
+use Rattle.std.proofs.Common.{subst}
 use Rattle.std.specs.Prelude.{not, ◌&&◌}
 use Rattle.lis_frame.specs.Limit.{IsLimit}
 use Rattle.lis_link.specs.declared.sender.Phase.{Phase}
@@ -13,8 +14,8 @@ use Rattle.lis_world.specs.declared.event.LateEvent.{LateEvent}
 use Rattle.lis_world.specs.declared.event.LateEvent.TheVariants.{Happens, Reconnect}
 use Rattle.lis_world.specs.Unit.{Travelling}
 use Rattle.lis_world.specs.World.{World, new_world}
-use Rattle.lis_world.specs.Steps.{with_sender, sender_steps, begins, delivered, delivered_no_room, damaged, lost}
-use Rattle.lis_world.specs.Steps.{replied, reply_damaged, reply_lost}
+use Rattle.lis_world.specs.Steps.{with_sender, sender_steps, begins, delivered, room_at, damaged, replied}
+use Rattle.lis_world.specs.Steps.{reply_damaged}
 use Rattle.lis_world.specs.Late.{reconnected, after_late_event, runs_late, late_world, reply_may_come, at_any_time}
 use Rattle.lis_world.specs.Late.{is_empty}
 use Rattle.lis_world.specs.LateDiscipline.{is_neutral, is_new_after, StartsInTime, StartInTime, SafeOnNewLines}
@@ -60,6 +61,11 @@ module _ (limit : ℕ) (w : World) (new : IsNewLine w) where
       subst (λ bs. IsNewLine (event bs)) (sym new.no_reply) (subst IsNewLine (sym nothing) new)
 
   -- each event but a start leaves a new line new
+  no_room_new : IsNewLine (room_at true (delivered limit w.units (room_at false w)))
+  no_room_new =
+      subst (λ us. IsNewLine (room_at true (delivered limit us (room_at false w)))) (sym new.no_unit)
+      (same_ends w (room_at true w) new refl refl refl)
+
   receiver_new : (v : World) → v.sender ≡ w.sender → v.units ≡ w.units → v.replies ≡ w.replies → IsNewLine v
   receiver_new v = same_ends w v new
 
@@ -126,7 +132,7 @@ module _ (limit : ℕ) (w : World) (is_new : Bool) (is_limit : IsLimit limit) (h
   )
   after_in_time (Happens DeliverNoRoom) in_time = (
     holds (Happens DeliverNoRoom),
-    λ e. without_unit limit w (new e) (λ us. delivered_no_room limit us w) refl,
+    λ e. no_room_new limit w (new e),
   )
   after_in_time (Happens (Damage bytes)) in_time = (
     holds (Happens (Damage bytes)),
@@ -134,7 +140,7 @@ module _ (limit : ℕ) (w : World) (is_new : Bool) (is_limit : IsLimit limit) (h
   )
   after_in_time (Happens Lose) in_time = (
     holds (Happens Lose),
-    λ e. without_unit limit w (new e) (λ us. lost us w) refl,
+    λ e. without_unit limit w (new e) (λ us. damaged limit [] us w) refl,
   )
   after_in_time (Happens Reply) in_time = (
     holds (Happens Reply),
@@ -146,7 +152,7 @@ module _ (limit : ℕ) (w : World) (is_new : Bool) (is_limit : IsLimit limit) (h
   )
   after_in_time (Happens LoseReply) in_time = (
     holds (Happens LoseReply),
-    λ e. without_reply limit w (new e) (λ bs. reply_lost bs w) refl,
+    λ e. same_ends w _ (new e) refl refl (ap (drop 1) (new e).no_reply ∙ sym (new e).no_reply),
   )
   after_in_time (Happens SenderTimer) in_time = (holds (Happens SenderTimer), λ e. timer_new limit w (new e))
   after_in_time (Happens ReceiverTimer) in_time = (

@@ -18,7 +18,7 @@ use Rattle.lis_link.specs.declared.sender.StartFault.{StartFault}
 use Rattle.lis_link.specs.declared.sender.Outcome.{Outcome}
 use Rattle.lis_link.specs.Sender.{SenderStep, gives, reply_in, on_reply, timer_in, on_sender_timer, restart_in}
 use Rattle.lis_link.specs.Sender.{sender_restarted, start_fault}
-use Rattle.lis_link.specs.Receiver.{ReceiverState, receiver_restarted, on_receiver_timer, with_readiness}
+use Rattle.lis_link.specs.Receiver.{ReceiverState, receiver_restarted, on_receiver_timer, with_readiness, with_room}
 use Rattle.lis_link.specs.declared.receiver.Readiness.TheVariants as Readinesses
 use Rattle.lis_world.specs.declared.event.Event.{Event}
 use Rattle.lis_world.specs.declared.event.Event.TheVariants.{Start, Deliver, DeliverNoRoom, Damage, Lose, Reply}
@@ -28,9 +28,8 @@ use Rattle.lis_world.specs.declared.event.LateEvent.{LateEvent}
 use Rattle.lis_world.specs.declared.event.LateEvent.TheVariants.{Happens, Reconnect}
 use Rattle.lis_world.specs.Unit.{Load, enquiry, ending, one_frame, load_bytes, Travelling}
 use Rattle.lis_world.specs.World.{World, new_world, ComputerState, computer_state_of, hears, lowered, settled}
-use Rattle.lis_world.specs.Steps.{with_sender, emitted, sender_steps, begins, delivered, delivered_no_room, room_at}
-use Rattle.lis_world.specs.Steps.{is_noticed, damaged, lost, replied, reply_damaged, reply_lost, forgotten, given_up}
-use Rattle.lis_world.specs.Steps.{after_event}
+use Rattle.lis_world.specs.Steps.{with_sender, emitted, sender_steps, begins, delivered, room_at, is_noticed, damaged}
+use Rattle.lis_world.specs.Steps.{replied, reply_damaged, forgotten, given_up, after_event}
 use Rattle.lis_world.specs.Safe.{Safe}
 use Rattle.lis_world.specs.Late.{reconnected, happens_late, after_late_event, runs_late, late_world, is_empty}
 use Rattle.lis_world.specs.Late.{is_ending, only_endings, is_quiet, reply_may_come, is_answered, SafeWhere}
@@ -127,11 +126,12 @@ deaf_delivered limit (u ∷ us) w is h =
     deaf_settled limit us (hears limit u.session (load_bytes u.load) (computer_state_of w)) w is h
 
 deaf_no_room : (limit : ℕ) (units : List Travelling) (w : World) → IsDeaf w
-    → Holds limit (delivered_no_room limit units (forgotten w)) → HoldsHushed limit (delivered_no_room limit units w)
-deaf_no_room limit [] w is h = hushed_deaf limit w is h
+    → Holds limit (room_at true (delivered limit units (room_at false (forgotten w))))
+    → HoldsHushed limit (room_at true (delivered limit units (room_at false w)))
+deaf_no_room limit [] w is h = hushed_deaf limit (room_at true w) is h
 deaf_no_room limit (u ∷ us) w is h =
-    deaf_settled limit us
-    (room_at true (hears limit u.session (load_bytes u.load) (room_at false (computer_state_of w)))) w is h
+    let after : ComputerState = hears limit u.session (load_bytes u.load) (computer_state_of (room_at false w)) in
+    deaf_settled limit us (record after { receiver = with_room true after.receiver }) w is h
 
 deaf_damaged :
     (limit : ℕ) (bytes : List ℕ) (units : List Travelling) (w : World) → IsDeaf w
@@ -149,11 +149,6 @@ deaf_damaged limit bytes (u ∷ us) w is before h = go (is_noticed u.load (signa
         → HoldsHushed limit (if noticed then settled us computer_state w else w)
     go true h = deaf_settled limit us computer_state w is h
     go false h = hushed_deaf limit w is h
-
-deaf_lost : (limit : ℕ) (units : List Travelling) (w : World) → IsDeaf w
-    → Holds limit (lost units (forgotten w)) → HoldsHushed limit (lost units w)
-deaf_lost limit [] w is h = hushed_deaf limit w is h
-deaf_lost limit (u ∷ us) w is h = deaf_settled limit us (computer_state_of w) w is h
 
 -- a reply comes, and changes nothing
 deaf_heard :
@@ -189,10 +184,9 @@ deaf_reply_damaged limit damage (b ∷ bs) w is h =
     (λ yes. hushed_deaf limit w is h)
     (λ no. deaf_heard limit damage bs w is h)
 
-deaf_reply_lost : (limit : ℕ) (replies : List ℕ) (w : World) → IsDeaf w
-    → Holds limit (forgotten w) → HoldsHushed limit (reply_lost replies w)
-deaf_reply_lost limit [] w is h = hushed_deaf limit w is h
-deaf_reply_lost limit (b ∷ bs) w is h = hushed_deaf limit (record w { replies = bs }) is h
+deaf_reply_lost : (limit : ℕ) (w : World) → IsDeaf w
+    → Holds limit (forgotten w) → HoldsHushed limit (record w { replies = drop 1 w.replies })
+deaf_reply_lost limit w is h = hushed_deaf limit (record w { replies = drop 1 w.replies }) is h
 
 -- the receiver alone changes
 deaf_receiver : (limit : ℕ) (r : ReceiverState) (w : World) → IsDeaf w
@@ -397,11 +391,6 @@ unmuted_delivered : (limit : ℕ) (units : List Travelling) (w : World) → w.to
 unmuted_delivered limit [] w unmuted = unmuted
 unmuted_delivered limit (u ∷ us) w unmuted = ap lowered unmuted
 
-unmuted_no_room : (limit : ℕ) (units : List Travelling) (w : World) → w.to_drop ≡ 0
-    → (delivered_no_room limit units w).to_drop ≡ 0
-unmuted_no_room limit [] w unmuted = unmuted
-unmuted_no_room limit (u ∷ us) w unmuted = ap lowered unmuted
-
 unmuted_damaged : (limit : ℕ) (bytes : List ℕ) (units : List Travelling) (w : World) → w.to_drop ≡ 0
     → (damaged limit bytes units w).to_drop ≡ 0
 unmuted_damaged limit bytes [] w unmuted = unmuted
@@ -410,10 +399,6 @@ unmuted_damaged limit bytes (u ∷ us) w unmuted =
     (settled us (hears limit u.session bytes (computer_state_of w)) w) w (λ v. v.to_drop ≡ 0)
     (λ noticed. ap lowered unmuted)
     (λ other. unmuted)
-
-unmuted_lost : (units : List Travelling) (w : World) → w.to_drop ≡ 0 → (lost units w).to_drop ≡ 0
-unmuted_lost [] w unmuted = unmuted
-unmuted_lost (u ∷ us) w unmuted = ap lowered unmuted
 
 unmuted_replied : (limit : ℕ) (replies : List ℕ) (w : World) → w.to_drop ≡ 0 → (replied limit replies w).to_drop ≡ 0
 unmuted_replied limit [] w unmuted = unmuted
@@ -429,10 +414,6 @@ unmuted_reply_damaged limit damage (b ∷ bs) w unmuted =
     (λ yes. unmuted)
     (λ no. unmuted_stepped {limit = limit} (on_reply damage w.sender) (record w { replies = bs }) unmuted)
 
-unmuted_reply_lost : (replies : List ℕ) (w : World) → w.to_drop ≡ 0 → (reply_lost replies w).to_drop ≡ 0
-unmuted_reply_lost [] w unmuted = unmuted
-unmuted_reply_lost (b ∷ bs) w unmuted = unmuted
-
 unmuted_after :
     (may_start : World → Bool) (limit : ℕ) (event : Event) (w : World)
     → w.to_drop ≡ 0
@@ -442,12 +423,12 @@ unmuted_after may_start limit (Start texts) w unmuted =
     (λ may. unmuted_begun limit (start_fault w.sender texts) texts w unmuted)
     (λ may_not. unmuted)
 unmuted_after may_start limit Deliver w unmuted = unmuted_delivered limit w.units w unmuted
-unmuted_after may_start limit DeliverNoRoom w unmuted = unmuted_no_room limit w.units w unmuted
+unmuted_after may_start limit DeliverNoRoom w unmuted = unmuted_delivered limit w.units (room_at false w) unmuted
 unmuted_after may_start limit (Damage bytes) w unmuted = unmuted_damaged limit bytes w.units w unmuted
-unmuted_after may_start limit Lose w unmuted = unmuted_lost w.units w unmuted
+unmuted_after may_start limit Lose w unmuted = unmuted_damaged limit [] w.units w unmuted
 unmuted_after may_start limit Reply w unmuted = unmuted_replied limit w.replies w unmuted
 unmuted_after may_start limit (DamageReply damage) w unmuted = unmuted_reply_damaged limit damage w.replies w unmuted
-unmuted_after may_start limit LoseReply w unmuted = unmuted_reply_lost w.replies w unmuted
+unmuted_after may_start limit LoseReply w unmuted = unmuted
 unmuted_after may_start limit SenderTimer w unmuted =
     unmuted_stepped {limit = limit} (on_sender_timer w.sender) w unmuted
 unmuted_after may_start limit ReceiverTimer w unmuted = unmuted
@@ -477,7 +458,7 @@ hushed_after may_start limit DeliverNoRoom w is_limit safely h =
 hushed_after may_start limit (Damage bytes) w is_limit safely h =
     usual limit (Damage bytes) w is_limit h (deaf_damaged limit bytes w.units w)
 hushed_after may_start limit Lose w is_limit safely h =
-    usual limit Lose w is_limit h (λ is before. deaf_lost limit w.units w is)
+    usual limit Lose w is_limit h (λ is before. deaf_damaged limit [] w.units w is before)
 hushed_after may_start limit Reply w is_limit safely h =
     usual limit Reply w is_limit h
     (λ is before after. deaf_replied limit w.replies w is before)
@@ -486,7 +467,7 @@ hushed_after may_start limit (DamageReply damage) w is_limit safely h =
     (λ is before after. deaf_reply_damaged limit damage w.replies w is before)
 hushed_after may_start limit LoseReply w is_limit safely h =
     usual limit LoseReply w is_limit h
-    (λ is before after. deaf_reply_lost limit w.replies w is before)
+    (λ is before after. deaf_reply_lost limit w is before)
 hushed_after may_start limit SenderTimer w is_limit safely h =
     timer_late limit w (is_deaf w.sender.phase w.sender.outcome) refl h.hushed
 hushed_after may_start limit ReceiverTimer w is_limit safely h =

@@ -1,5 +1,6 @@
 -- What a loss gives: the sender's timer ends the session, and a later one is carried through.
-use Rattle.std.proofs.Common.{◌≡◌, ℕ, zero, suc, ◌<◌, ◌⊎◌, inl, inr, true, List, [], ◌∷◌, ◌++◌, length, Some}
+use Rattle.std.proofs.Common.{◌≡◌, ℕ, zero, suc, ◌<◌, ◌⊎◌, inl, inr, true, false, List, [], ◌∷◌, ◌++◌, length, drop}
+use Rattle.std.proofs.Common.{Some}
 use Rattle.std.proofs.Common.{refl, sym, ap, ◌∙◌, subst, arith}
 use Rattle.std.specs.Prelude.{All}
 use Rattle.std.proofs.lemmas.Bool.{cond-true}
@@ -17,10 +18,8 @@ use Rattle.lis_world.specs.declared.event.Event.TheVariants.{RestartSender, Rest
 use Rattle.lis_world.specs.Unit.{ending, Travelling, load_bytes}
 use Rattle.lis_world.specs.Session.{Session, session_at, changed, follows}
 use Rattle.lis_world.specs.World.{World, ComputerState, computer_state_of, hears, replies_with, settled}
-use Rattle.lis_world.specs.Steps.{put_on_link, with_sender, sender_steps, begins, delivered, delivered_no_room}
-use Rattle.lis_world.specs.Steps.{is_noticed}
-use Rattle.lis_world.specs.Steps.{damaged, lost, replied, reply_damaged, reply_lost, forgotten, given_up, after_event}
-use Rattle.lis_world.specs.Steps.{runs, world}
+use Rattle.lis_world.specs.Steps.{put_on_link, with_sender, sender_steps, begins, delivered, room_at, is_noticed}
+use Rattle.lis_world.specs.Steps.{damaged, replied, reply_damaged, forgotten, given_up, after_event, runs, world}
 use Rattle.lis_world.specs.Recovery.{Loss, unit_is_lost, unit_is_unheard, reply_is_lost, loss_events, IsUnheard}
 use Rattle.lis_world.specs.Recovery.{IsAwaitingOne, is_other, IsTimedOut, lost_events, OvercomesLoss}
 use Rattle.lis_world.proofs.SessionLemmas.{length-changed, at-changed_same}
@@ -159,24 +158,22 @@ cut_unheard limit w u bytes is_limit h awaits alone none =
 lost_after :
     (limit : ℕ) (w v : World) → IsLimit limit → IsGone limit w v
     → IsCutOff limit w (after_event limit LoseReply v)
-lost_after limit w v is_limit gone = go (one_reply_left limit v gone.holds gone.awaits gone.no_unit)
+lost_after limit w v is_limit gone =
+    record {
+      gone = record {
+        holds = event_holds limit LoseReply v is_limit gone.holds;
+        awaits = gone.awaits;
+        sender_same = gone.sender_same;
+        current_same = gone.current_same;
+        no_unit = gone.no_unit;
+        kept = gone.kept;
+      };
+      no_reply = go (one_reply_left limit v gone.holds gone.awaits gone.no_unit);
+    }
   where
-    go : AtMostOne v.replies → IsCutOff limit w (after_event limit LoseReply v)
-    go (inl none) =
-        subst (IsCutOff limit w) (sym (ap (λ rs. reply_lost rs v) none)) (record { gone = gone; no_reply = none })
-    go (inr one) =
-        let is : after_event limit LoseReply v ≡ record v { replies = [] } = ap (λ rs. reply_lost rs v) one.1 in
-        subst (IsCutOff limit w) (sym is) (record {
-          gone = record {
-            holds = subst (Holds limit) is (event_holds limit LoseReply v is_limit gone.holds);
-            awaits = gone.awaits;
-            sender_same = gone.sender_same;
-            current_same = gone.current_same;
-            no_unit = gone.no_unit;
-            kept = gone.kept;
-          };
-          no_reply = refl;
-        })
+    go : AtMostOne v.replies → drop 1 v.replies ≡ []
+    go (inl none) = ap (drop 1) none
+    go (inr one) = ap (drop 1) one.1
 
 gone_delivered :
     (limit : ℕ) (w : World) (u : Travelling) → IsLimit limit → Holds limit w → Awaits w → w.units ≡ u ∷ []
@@ -194,9 +191,7 @@ cut_off :
     → IsLimit limit → Holds limit w → IsAwaitingOne w → IsUnheard limit w loss
     → IsCutOff limit w (runs limit (loss_events loss) w)
 cut_off limit unit_is_lost w is_limit h one silent =
-    cut_settled limit w (after_event limit Lose w) (computer_state_of w) one.awaits
-    (no_reply_yet limit w one.unit h one.awaits one.alone) refl (kept_refl w.sessions)
-    (event_holds limit Lose w is_limit h) (ap (λ us. lost us w) one.alone)
+    cut_unheard limit w one.unit [] is_limit h one.awaits one.alone refl
 cut_off limit (unit_is_unheard bytes) w is_limit h one silent =
     cut_unheard limit w one.unit bytes is_limit h one.awaits one.alone silent
 cut_off limit reply_is_lost w is_limit h one silent =
@@ -242,14 +237,17 @@ cut_still limit (Start texts) w v is_limit other cut =
 cut_still limit Deliver w v is_limit other cut =
     cut_same limit w v _ (ap (λ us. delivered limit us v) cut.gone.no_unit) cut
 cut_still limit DeliverNoRoom w v is_limit other cut =
-    cut_same limit w v _ (ap (λ us. delivered_no_room limit us v) cut.gone.no_unit) cut
+    let is = ap (λ us. room_at true (delivered limit us (room_at false v))) cut.gone.no_unit in
+    cut_receiver limit w v _ (event_holds limit DeliverNoRoom v is_limit cut.gone.holds)
+    (is ∙ ap (λ (x : World). record v { receiver = x.receiver }) (sym is)) cut
 cut_still limit (Damage bytes) w v is_limit other cut =
     cut_same limit w v _ (ap (λ us. damaged limit bytes us v) cut.gone.no_unit) cut
-cut_still limit Lose w v is_limit other cut = cut_same limit w v _ (ap (λ us. lost us v) cut.gone.no_unit) cut
+cut_still limit Lose w v is_limit other cut =
+    cut_same limit w v _ (ap (λ us. damaged limit [] us v) cut.gone.no_unit) cut
 cut_still limit Reply w v is_limit other cut = cut_same limit w v _ (ap (λ rs. replied limit rs v) cut.no_reply) cut
 cut_still limit (DamageReply damage) w v is_limit other cut =
     cut_same limit w v _ (ap (λ rs. reply_damaged limit damage rs v) cut.no_reply) cut
-cut_still limit LoseReply w v is_limit other cut = cut_same limit w v _ (ap (λ rs. reply_lost rs v) cut.no_reply) cut
+cut_still limit LoseReply w v is_limit other cut = lost_after limit w v is_limit cut.gone
 cut_still limit SenderTimer w v is_limit other cut = cc
 cut_still limit ReceiverTimer w v is_limit other cut =
     cut_receiver limit w v _ (event_holds limit ReceiverTimer v is_limit cut.gone.holds) refl cut

@@ -22,11 +22,10 @@ use Rattle.lis_link.specs.Representation.{IsIn, IsStep, IsStepMade}
 use Rattle.lis_link.proofs.HearingLaws.{on_byte-quiet}
 use Rattle.lis_world.specs.declared.event.Event.{Event}
 use Rattle.lis_world.specs.declared.event.LateEvent.{LateEvent}
-use Rattle.lis_world.proofs.Heard.{heard_leaves, after_note_after}
+use Rattle.lis_world.proofs.Heard.{heard_leaves, booked_after}
 use Rattle.lis_world.specs.Unit.{Load, one_frame}
-use Rattle.lis_world.specs.World.{World, ComputerState, booked, after_note, hears}
-use Rattle.lis_world.specs.Steps.{after_event}
-use Rattle.lis_world.specs.Steps.{room_at, runs}
+use Rattle.lis_world.specs.World.{World, ComputerState, booked, hears}
+use Rattle.lis_world.specs.Steps.{delivered, room_at, after_event, runs}
 use Rattle.lis_world.specs.Late.{after_late_event, runs_late}
 use Rattle.lis_world.specs.inside.Playing.{KeptWorld, world_at, IsWorld, IsPlaying, run_by, KeptComputerState}
 use Rattle.lis_world.specs.inside.Playing.{computer_state_at}
@@ -66,19 +65,9 @@ heard_as : {limit : ℕ} (signal : Option (SignalOf limit)) (r : ReceiverState) 
 heard_as None r number e = absurd cc
 heard_as (Some signal) r number e = heard_by_as r.is_open signal r number e
 
--- the computer's state after a step has the step's receiver, whatever receiver it had
-after_note-receiver : (s : ℕ) (step : ReceiverStep) (kept : KeptComputerState) (p q : ReceiverState) (note : Note)
-    → record (after_note s step note (computer_state_at kept p)) { receiver = step.after } ≡ after_note s step note
-    (computer_state_at kept q)
-after_note-receiver s step kept p q Opened = refl
-after_note-receiver s step kept p q (Accepted n) = refl
-after_note-receiver s step kept p q _ = refl
-
-after_note-same : (s : ℕ) (step : ReceiverStep) (kept : KeptComputerState) (p q : ReceiverState) (note : Note)
-    → after_note s step note (computer_state_at kept p) ≡ after_note s step note (computer_state_at kept q)
-after_note-same s step kept p q Opened = refl
-after_note-same s step kept p q (Accepted n) = refl
-after_note-same s step kept p q _ = refl
+-- the computer's state after a step has the step's receiver
+with_its_receiver : (d : ComputerState) (r : ReceiverState) → d.receiver ≡ r → record d { receiver = r } ≡ d
+with_its_receiver d r is = ap (λ q. record d { receiver = q }) (sym is)
 
 later_signals :
     {limit : ℕ} (load : Load) (signal : Option (SignalOf limit)) (signals : List (SignalOf limit))
@@ -129,8 +118,6 @@ hears_at_once limit s load (b ∷ bytes) r kept only =
           goes_on =
               ap (hears limit s bytes) computer_state_is
               ∙ following.goes_on
-              ∙ ap (hears limit s (drop heard_it.count bytes))
-              (after_note-same s heard_it.step kept next r heard_it.step.note)
               ∙ ap (λ n. hears limit s (drop n (b ∷ bytes)) (booked s heard_it.step (computer_state_at kept r)))
               count_is;
           takes = following.takes;
@@ -174,11 +161,11 @@ heard_computer_state :
 heard_computer_state limit s load old heard_it new r step result takes makes same_computer_state same_receiver
     is_booked =
     let goal : ComputerState = booked s step (computer_state_at old r) in
+    let after : goal.receiver ≡ step.after = booked_after s step (computer_state_at old r) in
     let here : computer_state_at new step.after ≡ goal =
     is_booked step step.after makes.answer takes
     ∙ ap (λ k. record (booked s step (computer_state_at k step.after)) { receiver = step.after }) same_computer_state
-    ∙ after_note-receiver s step old step.after r step.note in
-    let after : goal.receiver ≡ step.after = after_note_after s step (computer_state_at old r) step.note in
+    ∙ with_its_receiver goal step.after after in
     record {
       receiver_is =
           subst (λ k. IsIn limit k goal.receiver) (sym same_receiver)
@@ -212,7 +199,7 @@ hearing_next (Ok x) limit s load left goal old heard_it new result hearing count
     (makes memory) same_computer_state same_receiver is_booked in
     let booked_it : ComputerState = booked s meant.step (computer_state_at old hearing.state) in
     let after : booked_it.receiver ≡ meant.step.after =
-    after_note_after s meant.step (computer_state_at old hearing.state) meant.step.note in
+    booked_after s meant.step (computer_state_at old hearing.state) in
     record {
       state = booked_it.receiver;
       is_in = computer_state.receiver_is;
@@ -259,29 +246,45 @@ pub with_receiver : (first second : KeptComputerState) (kept : Kept) → first �
     → record first { receiver = kept } ≡ record second { receiver = kept }
 with_receiver first second kept same = ap (λ (d : KeptComputerState). record d { receiver = kept }) same
 
--- bytes that came while there was no room
+-- the receiver has room, or none
+room_set :
+    (limit : ℕ) (room : Bool) (kept : KeptWorld) (side : KeptComputerState) (r : ReceiverState)
+    → IsComputerState limit side (record (computer_state_at kept.computer_state r) { receiver = with_room room r })
+    → IsWorld limit (record kept { computer_state = side }) (room_at room (world_at kept r))
+room_set limit room kept side r set = record {
+  receiver_is = set.receiver_is;
+  world_is =
+      ap
+      (λ (d : ComputerState).
+      record (world_at kept r) { receiver = d.receiver; opened = d.opened; sessions = d.sessions })
+      set.computer_state_is;
+}
+
+-- the front unit came while there was no room
 pub without_room :
-    {A E : Type 0} (outcome : Result A E) (limit s : ℕ) (bytes : List ℕ) (old without heard_it new : KeptComputerState)
+    {A E : Type 0} (outcome : Result A E) (limit : ℕ) (old came : KeptWorld) (closed opened : KeptComputerState)
     (r : ReceiverState)
-    → IsComputerState limit without (room_at false (computer_state_at old r))
+    → IsComputerState limit closed (record (computer_state_at old.computer_state r) { receiver = with_room false r })
     → ((q : ReceiverState)
-    → IsIn limit without.receiver q
-    → OnOk outcome (IsComputerState limit heard_it
-    (hears limit s bytes (record (computer_state_at without q) { replies = [] }))))
+    → IsIn limit closed.receiver q
+    → OnOk outcome
+    (IsWorld limit came (delivered limit old.units (world_at (record old { computer_state = closed }) q))))
     → ((q : ReceiverState)
-    → IsIn limit heard_it.receiver q
-    → IsComputerState limit new (record (computer_state_at heard_it q) { receiver = with_room true q }))
+    → IsIn limit came.computer_state.receiver q
+    → IsComputerState limit opened
+    (record (computer_state_at came.computer_state q) { receiver = with_room true q }))
     → IsOk outcome
-    → IsComputerState limit new
-    (room_at true (hears limit s bytes (room_at false (record (computer_state_at old r) { replies = [] }))))
-without_room (Ok x) limit s bytes old without heard_it new r closed comes opens is_ok =
-    let came =
-    subst (λ (d : ComputerState). IsComputerState limit heard_it (hears limit s bytes (record d { replies = [] })))
-    closed.computer_state_is
-    (comes (with_room false r) closed.receiver_is) in
-    subst (λ (d : ComputerState). IsComputerState limit new (room_at true d)) came.computer_state_is
-    (opens _ came.receiver_is)
-without_room (Err x) limit s bytes old without heard_it new r closed comes opens is_ok = absurd cc
+    → IsWorld limit (record came { computer_state = opened })
+    (room_at true (delivered limit old.units (room_at false (world_at old r))))
+without_room (Ok x) limit old came closed opened r closes comes opens is_ok =
+    let shut = room_set limit false old closed r closes in
+    let there : World = delivered limit old.units (room_at false (world_at old r)) in
+    let after =
+    subst (λ (w : World). IsWorld limit came (delivered limit old.units w)) shut.world_is
+    (comes (with_room false r) shut.receiver_is) in
+    subst (λ (w : World). IsWorld limit (record came { computer_state = opened }) (room_at true w)) after.world_is
+    (room_set limit true came opened there.receiver (opens there.receiver after.receiver_is))
+without_room (Err x) limit old came closed opened r closes comes opens is_ok = absurd cc
 
 -- what follows of a value, where there is one
 pub if_ok : {A E : Type 0} {P Q : A → Type 0} (result : Result A E) → ((value : A) → P value → Q value)

@@ -1,6 +1,8 @@
 -- No state of the two ends blocks the line for good: a sender comes to rest, the link empties, and a session is
 -- carried through.
-use Rattle.std.proofs.Common.{◌≡◌, ℕ, suc, ◌-◌, ◌≤◌, List, [], ◌∷◌, ◌++◌, length, map, refl, sym, ap, ◌∙◌, subst, arith}
+use Rattle.std.proofs.Common.{◌≡◌, ℕ, suc, ◌-◌, ◌≤◌, true, false, List, [], ◌∷◌, ◌++◌, length, map, refl, sym, ap, ◌∙◌}
+use Rattle.std.proofs.Common.{subst, arith}
+use Rattle.std.specs.Prelude.{replicate}
 use Rattle.std.proofs.lemmas.List.{nil_from_length}
 use Rattle.lis_frame.specs.Limit.{IsLimit}
 use Rattle.lis_link.specs.declared.sender.Phase.{Phase}
@@ -12,10 +14,10 @@ use Rattle.lis_world.specs.declared.event.Event.{Event}
 use Rattle.lis_world.specs.declared.event.Event.TheVariants.{SenderTimer, Ready}
 use Rattle.lis_world.specs.Unit.{Travelling}
 use Rattle.lis_world.specs.World.{World, new_world}
-use Rattle.lis_world.specs.Steps.{emitted, with_sender, delivered, delivered_no_room, lost, given_up, after_event, runs}
+use Rattle.lis_world.specs.Steps.{emitted, with_sender, delivered, room_at, damaged, given_up, after_event, runs}
 use Rattle.lis_world.specs.Steps.{world}
 use Rattle.lis_frame.specs.Pieces.{session_frames}
-use Rattle.lis_world.specs.Progress.{IsCalm, undisturbed_rounds}
+use Rattle.lis_world.specs.Progress.{undisturbed, IsCalm}
 use Rattle.lis_world.specs.Recovery.{CarriesNext, Leaving, comes, comes_without_room, is_lost, leaving_event}
 use Rattle.lis_world.specs.Recovery.{emptying_events, Rest, restart, two_timers, rest_events, Recovers, RecoversQuietly}
 use Rattle.lis_world.proofs.Carrying.{runs-append, carries_through, enough-undisturbed}
@@ -44,20 +46,16 @@ fewer_delivered :
 fewer_delivered limit [] w are = still_none w are
 fewer_delivered limit (u ∷ us) w are = one_left w (delivered limit (u ∷ us) w) u us are refl refl
 
-fewer_no_room :
-    (limit : ℕ) (units : List Travelling) (w : World) → w.units ≡ units
-    → IsFewer w (delivered_no_room limit units w)
-fewer_no_room limit [] w are = still_none w are
-fewer_no_room limit (u ∷ us) w are = one_left w (delivered_no_room limit (u ∷ us) w) u us are refl refl
-
-fewer_lost : (units : List Travelling) (w : World) → w.units ≡ units → IsFewer w (lost units w)
-fewer_lost [] w are = still_none w are
-fewer_lost (u ∷ us) w are = one_left w (lost (u ∷ us) w) u us are refl refl
+fewer_lost : (limit : ℕ) (units : List Travelling) (w : World) → w.units ≡ units → IsFewer w (damaged limit [] units w)
+fewer_lost limit [] w are = still_none w are
+fewer_lost limit (u ∷ us) w are = one_left w (damaged limit [] (u ∷ us) w) u us are refl refl
 
 fewer_left : (limit : ℕ) (leaving : Leaving) (w : World) → IsFewer w (after_event limit (leaving_event leaving) w)
 fewer_left limit comes w = fewer_delivered limit w.units w refl
-fewer_left limit comes_without_room w = fewer_no_room limit w.units w refl
-fewer_left limit is_lost w = fewer_lost w.units w refl
+fewer_left limit comes_without_room w =
+    let fewer = fewer_delivered limit w.units (room_at false w) refl in
+    record { sender_same = fewer.sender_same; one_fewer = fewer.one_fewer }
+fewer_left limit is_lost w = fewer_lost limit w.units w refl
 
 -- no session goes on, and no more than so many units are on the link
 record IsEmptying (n : ℕ) (w : World) : Type 0 where
@@ -112,7 +110,7 @@ emptied_carries_next limit events leavings is_limit neutral few =
 -- ---- a sender comes to rest
 
 sender-emitted : {limit : ℕ} (emit : EmitOf limit) (w : World) → (emitted emit w).sender ≡ w.sender
-sender-emitted Emits.Nothing w = refl
+sender-emitted Emits.Enq w = refl
 sender-emitted emit w = refl
 
 pub sender-timer :
@@ -169,4 +167,4 @@ recovers limit is_limit events rest leavings few =
 pub recovers_quietly : (limit : ℕ) → IsLimit limit → RecoversQuietly limit
 recovers_quietly limit is_limit events rest leavings texts few are =
     recovers limit is_limit events rest leavings few texts
-    (undisturbed_rounds (length (session_frames limit texts))) are (enough-undisturbed limit texts)
+    (replicate (length (session_frames limit texts)) undisturbed) are (enough-undisturbed limit texts)

@@ -18,7 +18,7 @@ use Rattle.lis_link.specs.Sender.{on_reply, most_tries}
 use Rattle.lis_world.specs.Unit.{Travelling}
 use Rattle.lis_world.specs.Session.{session_at, changed, follows}
 use Rattle.lis_world.specs.World.{World}
-use Rattle.lis_world.specs.Steps.{with_sender, sender_steps, replied, reply_damaged, reply_lost}
+use Rattle.lis_world.specs.Steps.{with_sender, sender_steps, replied, reply_damaged}
 use Rattle.lis_world.proofs.Invariant.{RequestTraffic, FrameTraffic}
 use Rattle.lis_world.proofs.Invariant.{Unsent, AllEndings, Requests, IsYes, FrameAnswer, IsRequesting, IsWaiting}
 use Rattle.lis_world.proofs.Invariant.{IsAwaiting, KeepsFrames, InPhase, Holds, kept_frames}
@@ -510,8 +510,8 @@ without_reply limit b bs w AwaitReply are awaiting =
     go (inr one) = (one.0, inl (answered one.1))
 
 pub reply_lost_holds : (limit : ℕ) (replies : List ℕ) (w : World) → w.replies ≡ replies → Holds limit w
-    → Holds limit (reply_lost replies w)
-reply_lost_holds limit [] w are h = h
+    → Holds limit (record w { replies = drop 1 replies })
+reply_lost_holds limit [] w are h = subst (λ bs. Holds limit (record w { replies = bs })) are h
 reply_lost_holds limit (b ∷ bs) w are h =
     holds_of limit (record w { replies = bs }) (base_replies limit bs w (base_of limit w h)) h.current
     (without_reply limit b bs w w.sender.phase are h.phase)

@@ -16,11 +16,11 @@ use Rattle.lis_world.specs.declared.event.Event.{Event}
 use Rattle.lis_world.specs.declared.event.Event.TheVariants.{Start, Deliver, DeliverNoRoom, Damage, Lose, Reply}
 use Rattle.lis_world.specs.declared.event.Event.TheVariants.{DamageReply, LoseReply, SenderTimer, ReceiverTimer}
 use Rattle.lis_world.specs.declared.event.Event.TheVariants.{RestartSender, RestartReceiver, Ready, Busy, Contending}
-use Rattle.lis_world.proofs.Heard.{heard_leaves, after_note_after}
+use Rattle.lis_world.proofs.Heard.{heard_leaves, booked_after}
 use Rattle.lis_world.specs.Unit.{Travelling, load_bytes}
 use Rattle.lis_world.specs.World.{World, ComputerState, computer_state_of, booked, hears, settled}
-use Rattle.lis_world.specs.Steps.{emitted, with_sender, sender_steps, begins, delivered, delivered_no_room, is_noticed}
-use Rattle.lis_world.specs.Steps.{damaged, lost, replied, reply_damaged, reply_lost, given_up, after_event, runs}
+use Rattle.lis_world.specs.Steps.{emitted, with_sender, sender_steps, begins, delivered, is_noticed, damaged}
+use Rattle.lis_world.specs.Steps.{replied, reply_damaged, given_up, after_event, runs}
 
 -- hearing bytes leaves the room as it is
 room-hears : (limit s : ℕ) (bytes : List ℕ) (d : ComputerState) → (hears limit s bytes d).receiver.room
@@ -29,7 +29,7 @@ room-hears limit s [] d = refl
 room-hears limit s (b ∷ bytes) d =
     let step : ReceiverStep = on_byte limit b d.receiver in
     room-hears limit s bytes (booked s step d)
-    ∙ ap (λ (r : ReceiverState). r.room) (after_note_after s step d step.note)
+    ∙ ap (λ (r : ReceiverState). r.room) (booked_after s step d)
     ∙ (heard_leaves (signal_after limit d.receiver.past b) (record d.receiver { past = b ∷ d.receiver.past })).1
 
 room-timer : (is_open : Bool) (r : ReceiverState) → (timer_by is_open r).after.room ≡ r.room
@@ -44,11 +44,6 @@ room-delivered : (limit : ℕ) (units : List Travelling) (w : World) → HasRoom
 room-delivered limit [] w has = has
 room-delivered limit (u ∷ us) w has = room-hears limit u.session (load_bytes u.load) (computer_state_of w) ∙ has
 
-room-delivered_no_room :
-    (limit : ℕ) (units : List Travelling) (w : World) → HasRoom w → HasRoom (delivered_no_room limit units w)
-room-delivered_no_room limit [] w has = has
-room-delivered_no_room limit (u ∷ us) w has = refl
-
 room-damaged :
     (limit : ℕ) (bytes : List ℕ) (units : List Travelling) (w : World) → HasRoom w
     → HasRoom (damaged limit bytes units w)
@@ -58,12 +53,8 @@ room-damaged limit bytes (u ∷ us) w has =
     (settled us (hears limit u.session bytes (computer_state_of w)) w) w HasRoom
     (λ noticed. room-hears limit u.session bytes (computer_state_of w) ∙ has) (λ ignored. has)
 
-room-lost : (units : List Travelling) (w : World) → HasRoom w → HasRoom (lost units w)
-room-lost [] w has = has
-room-lost (u ∷ us) w has = has
-
 room-emitted : {limit : ℕ} (emit : EmitOf limit) (w : World) → HasRoom w → HasRoom (emitted emit w)
-room-emitted Emits.Nothing w has = has
+room-emitted Emits.Enq w has = has
 room-emitted emit w has = has
 
 room-replied : (limit : ℕ) (replies : List ℕ) (w : World) → HasRoom w → HasRoom (replied limit replies w)
@@ -81,12 +72,8 @@ room-reply_damaged limit damage (b ∷ replies) w has =
     cond_both (damage == ACK || damage == EOT) w (sender_steps step (record w { replies = replies })) HasRoom
     (λ ignored. has) (λ taken. room-emitted step.emit (with_sender step.after (record w { replies = replies })) has)
 
-room-reply_lost : (replies : List ℕ) (w : World) → HasRoom w → HasRoom (reply_lost replies w)
-room-reply_lost [] w has = has
-room-reply_lost (b ∷ replies) w has = has
-
 room-given_up : (phase : Phase) (w : World) → HasRoom w → HasRoom (given_up phase w)
-room-given_up Phases.Neutral w has = has
+room-given_up Phases.AwaitLine w has = has
 room-given_up phase w has = has
 
 room-begins :
@@ -100,12 +87,12 @@ pub room_after :
     → (after_event limit event w).receiver.room ≡ true
 room_after limit (Start texts) w has = room-begins limit (start_fault w.sender texts) texts w has
 room_after limit Deliver w has = room-delivered limit w.units w has
-room_after limit DeliverNoRoom w has = room-delivered_no_room limit w.units w has
+room_after limit DeliverNoRoom w has = refl
 room_after limit (Damage bytes) w has = room-damaged limit bytes w.units w has
-room_after limit Lose w has = room-lost w.units w has
+room_after limit Lose w has = room-damaged limit [] w.units w has
 room_after limit Reply w has = room-replied limit w.replies w has
 room_after limit (DamageReply damage) w has = room-reply_damaged limit damage w.replies w has
-room_after limit LoseReply w has = room-reply_lost w.replies w has
+room_after limit LoseReply w has = has
 room_after limit SenderTimer w has =
     let step = on_sender_timer {limit = limit} w.sender in
     room-emitted step.emit (with_sender step.after (given_up w.sender.phase w)) (room-given_up w.sender.phase w has)

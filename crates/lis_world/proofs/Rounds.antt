@@ -21,13 +21,13 @@ use Rattle.lis_link.specs.Joining.{rest}
 use Rattle.lis_link.specs.Sender.{SenderState, finished_with, gives, ends, sends_first, sends_again, on_accepted}
 use Rattle.lis_link.specs.Sender.{reply_in}
 use Rattle.lis_link.specs.Sender.{on_reply, most_tries}
-use Rattle.lis_link.specs.Receiver.{classified, on_classified, heard_by, held_text, most_frames}
+use Rattle.lis_link.specs.Receiver.{classified, on_classified, heard_by, held_text, most_frames, with_room}
 use Rattle.lis_world.specs.declared.event.Event.TheVariants.{Deliver, DeliverNoRoom, Damage, Reply, DamageReply}
 use Rattle.lis_frame.specs.Frame.{frame_bytes}
 use Rattle.lis_world.specs.Unit.{Load, ending, one_frame, Travelling}
 use Rattle.lis_world.specs.Session.{Session, session_at, changed, follows, sends_frame, takes}
 use Rattle.lis_world.specs.World.{World, ComputerState, computer_state_of, booked, hears, settled}
-use Rattle.lis_world.specs.Steps.{sender_steps, delivered, delivered_no_room, damaged, is_noticed, room_at, replied}
+use Rattle.lis_world.specs.Steps.{sender_steps, delivered, damaged, is_noticed, room_at, replied}
 use Rattle.lis_world.specs.Steps.{reply_damaged, after_event, runs}
 use Rattle.lis_world.specs.Progress.{Round, undisturbed, without_room, bad_frame, bad_reply, round_events, IsBadBody}
 use Rattle.lis_world.specs.Progress.{IsNoticed}
@@ -500,8 +500,9 @@ delivered_no_room_answered :
 delivered_no_room_answered limit c frames k t w is_limit few sent =
     let f = sent.frame in
     let due = due_in limit c frames k t w is_limit few sent in
-    let d : ComputerState = room_at false (computer_state_of w) in
+    let d : ComputerState = computer_state_of (room_at false w) in
     let after : ComputerState = hears limit w.current (frame_bytes f) d in
+    let again : ComputerState = record after { receiver = with_room true after.receiver } in
     let is_due : IsDue limit w.current false due.before f d = record {
       no_reply = refl;
       is_open = sent.is_open;
@@ -518,10 +519,10 @@ delivered_no_room_answered limit c frames k t w is_limit few sent =
     (signals-frame_bytes limit w.receiver.past f due.content) found.2 in (
       found.0,
       found.1,
-      answered_after limit c frames k t found.0 w (after_event limit DeliverNoRoom w) (room_at true after) sent
+      answered_after limit c frames k t found.0 w (after_event limit DeliverNoRoom w) again sent
           (event_holds limit DeliverNoRoom w is_limit sent.tracked.holds)
           (record { reply_is = heard.reply_is; is_open = heard.is_open; room_is = refl; length_is = heard.length_is })
-          (ap (λ us. delivered_no_room limit us w) sent.unit_is),
+          (ap (λ us. room_at true (delivered limit us (room_at false w))) sent.unit_is),
     )
 
 damaged_answered :

@@ -1,5 +1,6 @@
 -- The invariant holds from the first event on, and what it says is safe.
-use Rattle.std.proofs.Common.{◌≡◌, ℕ, ◌+◌, ◌≤◌, List, [], ◌∷◌, ◌++◌, length, refl, sym, ap, ◌∙◌, subst, arith}
+use Rattle.std.proofs.Common.{◌≡◌, ℕ, ◌+◌, ◌≤◌, Bool, true, false, List, [], ◌∷◌, ◌++◌, length, refl, sym}
+use Rattle.std.proofs.Common.{ap, ◌∙◌, subst, arith}
 use Rattle.std.proofs.lemmas.List.{append-nil, append_assoc, length-append, nil_from_length}
 use Rattle.std.proofs.lemmas.List.Elements.{All-nil, All-from_get_or}
 use Rattle.lis_frame.specs.Limit.{IsLimit}
@@ -16,21 +17,28 @@ use Rattle.lis_world.specs.declared.event.Event.TheVariants.{DamageReply, LoseRe
 use Rattle.lis_world.specs.declared.event.Event.TheVariants.{RestartSender, RestartReceiver, Ready, Busy, Contending}
 use Rattle.lis_world.specs.Session.{Session, new_session, session_at}
 use Rattle.lis_world.specs.World.{World, new_world}
-use Rattle.lis_world.specs.Steps.{after_event, runs, world}
+use Rattle.lis_world.specs.Steps.{room_at, delivered, after_event, runs, world}
 use Rattle.lis_world.specs.Safe.{IsPrefix, IsSafe, DeliversAll, Safe, AlwaysSafe}
 use Rattle.lis_world.proofs.Invariant.{IsSound, Holds}
-use Rattle.lis_world.proofs.Delivery.{delivered_holds, delivered_no_room_holds, damaged_holds, lost_holds}
+use Rattle.lis_world.proofs.Delivery.{delivered_holds, damaged_holds}
 use Rattle.lis_world.proofs.Replies.{replied_holds, reply_damaged_holds, reply_lost_holds}
 use Rattle.lis_world.proofs.Timers.{sender_timer_holds, restart_holds, no_more_open_holds, after_receiver_timer}
 use Rattle.lis_world.proofs.Starting.{sound_new, begins_holds}
+
+-- the room of the receiver is of no account
+room_holds : (limit : ℕ) (room : Bool) (w : World) → Holds limit w → Holds limit (room_at room w)
+room_holds limit room w h = no_more_open_holds limit w _ (record { was_open = λ e. e; accepted_same = refl }) h
 
 pub event_holds : (limit : ℕ) (event : Event) (w : World) → IsLimit limit → Holds limit w
     → Holds limit (after_event limit event w)
 event_holds limit (Start texts) w is_limit h = begins_holds limit texts w (start_fault w.sender texts) refl h
 event_holds limit Deliver w is_limit h = delivered_holds limit w.units w is_limit refl h
-event_holds limit DeliverNoRoom w is_limit h = delivered_no_room_holds limit w.units w is_limit refl h
+event_holds limit DeliverNoRoom w is_limit h =
+    let without = room_at false w in
+    room_holds limit true (delivered limit w.units without)
+    (delivered_holds limit w.units without is_limit refl (room_holds limit false w h))
 event_holds limit (Damage bytes) w is_limit h = damaged_holds limit bytes w.units w refl h
-event_holds limit Lose w is_limit h = lost_holds limit w.units w refl h
+event_holds limit Lose w is_limit h = damaged_holds limit [] w.units w refl h
 event_holds limit Reply w is_limit h = replied_holds limit w.replies w refl h
 event_holds limit (DamageReply damage) w is_limit h = reply_damaged_holds limit damage w.replies w refl h
 event_holds limit LoseReply w is_limit h = reply_lost_holds limit w.replies w refl h

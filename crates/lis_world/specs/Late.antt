@@ -10,7 +10,7 @@ use Rattle.lis_world.specs.declared.event.Event.{Event}
 use Rattle.lis_world.specs.declared.event.Event.TheVariants.{Start, SenderTimer, RestartSender}
 use Rattle.lis_world.specs.declared.event.LateEvent.{LateEvent}
 use Rattle.lis_world.specs.declared.event.LateEvent.TheVariants.{Happens, Reconnect}
-use Rattle.lis_world.specs.Unit.{Load, enquiry, ending, one_frame, Travelling}
+use Rattle.lis_world.specs.Unit.{Load, ending, Travelling}
 use Rattle.lis_world.specs.World.{World, new_world}
 use Rattle.lis_world.specs.Steps.{with_sender, sender_steps, after_event}
 use Rattle.lis_world.specs.Safe.{Safe}
@@ -56,9 +56,8 @@ is_empty w = has_no_unit w && has_no_reply w
 
 -- it holds no reply, and no unit but EOT, which nobody answers
 abbrev pub is_ending : Load → Bool
-is_ending enquiry = false
 is_ending ending = true
-is_ending (one_frame frame) = false
+is_ending load = false
 
 abbrev pub only_endings : List Travelling → Bool
 only_endings [] = true

@@ -2,7 +2,7 @@
 -- line anew before it starts the next session.
 use Rattle.std.specs.Prelude.{◌≡◌, ℕ, Bool, true, false, List, [], ◌∷◌, None, not, ◌&&◌}
 use Rattle.lis_link.specs.declared.sender.Phase.{Phase}
-use Rattle.lis_link.specs.declared.sender.Phase.TheVariants as Phases
+use Rattle.lis_link.specs.declared.sender.Phase.TheVariants.{Neutral}
 use Rattle.lis_link.specs.Sender.{start_fault}
 use Rattle.lis_world.specs.declared.event.Event.TheVariants.{Start}
 use Rattle.lis_world.specs.declared.event.LateEvent.{LateEvent}
@@ -13,11 +13,8 @@ use Rattle.lis_world.specs.Late.{after_late_event, late_world, reply_may_come, a
 
 -- no session goes on
 abbrev pub is_neutral : Phase → Bool
-is_neutral Phases.Neutral = true
-is_neutral Phases.AwaitLine = false
-is_neutral Phases.Busy = false
-is_neutral Phases.Contention = false
-is_neutral Phases.AwaitReply = false
+is_neutral Neutral = true
+is_neutral phase = false
 
 -- whether the line is new since the last session, after one more event; one that is connected anew during a session is
 -- not

@@ -1,5 +1,5 @@
 -- When a session is carried through: enough undisturbed rounds, and never six disturbed ones in a row.
-use Rattle.std.specs.Prelude.{◌≡◌, ◌≢◌, ℕ, zero, suc, ◌<◌, ◌≤◌, false, List, [], ◌∷◌, ◌++◌, length, None, Some}
+use Rattle.std.specs.Prelude.{◌≡◌, ◌≢◌, ℕ, suc, ◌<◌, ◌≤◌, false, List, [], ◌∷◌, ◌++◌, length, replicate, None, Some}
 use Rattle.std.specs.Prelude.{All}
 use Rattle.lis_text.specs.Control.{STX, EOT, ACK, LF}
 use Rattle.lis_frame.specs.declared.frame.FrameFault.{FrameFault}
@@ -42,14 +42,9 @@ pub record IsBadBody (limit : ℕ) (body : List ℕ) : Type 0 where
   pub is_bad : body_fault limit body ≡ Some fault
 
 abbrev pub IsNoticed : ℕ → Round → Type 0
-IsNoticed limit undisturbed = Unit {0}
-IsNoticed limit without_room = Unit {0}
 IsNoticed limit (bad_frame body) = IsBadBody limit body
 IsNoticed limit (bad_reply b) = (b ≢ ACK) × (b ≢ EOT)
-
-abbrev pub AreNoticed : ℕ → List Round → Type 0
-AreNoticed limit [] = Unit {0}
-AreNoticed limit (round ∷ rounds) = IsNoticed limit round × AreNoticed limit rounds
+IsNoticed limit round = Unit {0}
 
 -- how many rounds are undisturbed
 abbrev pub good_rounds : List Round → ℕ
@@ -99,18 +94,13 @@ pub record AreSendable (w : World) (texts : List (List ℕ)) : Type 0 where
 
 -- enough rounds
 pub record AreEnough (limit : ℕ) (texts : List (List ℕ)) (rounds : List Round) : Type 0 where
-  pub noticed : AreNoticed limit rounds
+  pub noticed : All (IsNoticed limit) rounds
   pub few_in_a_row : FewInARow 0 rounds
   pub enough_good : length (session_frames limit texts) ≤ good_rounds rounds
 
--- so many undisturbed rounds
-abbrev pub undisturbed_rounds : ℕ → List Round
-undisturbed_rounds zero = []
-undisturbed_rounds (suc n) = undisturbed ∷ undisturbed_rounds n
-
 -- one session on an undisturbed link: as many rounds as there are frames
 abbrev pub quiet_events : ℕ → List (List ℕ) → List Event
-quiet_events limit texts = session_events texts (undisturbed_rounds (length (session_frames limit texts)))
+quiet_events limit texts = session_events texts (replicate (length (session_frames limit texts)) undisturbed)
 
 -- the world after it
 pub record IsQuietEnd (limit : ℕ) (texts : List (List ℕ)) (after : World) : Type 0 where

@@ -84,9 +84,8 @@ loss_events (unit_is_unheard bytes) = Damage bytes ∷ []
 loss_events reply_is_lost = Deliver ∷ LoseReply ∷ []
 
 abbrev pub IsUnheard : ℕ → World → Loss → Type 0
-IsUnheard limit w unit_is_lost = Unit {0}
 IsUnheard limit w (unit_is_unheard bytes) = signals_after limit w.receiver.past bytes ≡ []
-IsUnheard limit w reply_is_lost = Unit {0}
+IsUnheard limit w loss = Unit {0}
 
 -- the sender awaits the reply to the one unit on the link
 pub record IsAwaitingOne (w : World) : Type 0 where

@@ -1,6 +1,6 @@
 -- What each event does to the world; one that isn't allowed does nothing.
-use Rattle.std.specs.Prelude.{ℕ, Bool, true, false, List, [], ◌∷◌, ◌++◌, length, Option, None, Some, if◌then◌else◌}
-use Rattle.std.specs.Prelude.{◌==◌, ◌||◌}
+use Rattle.std.specs.Prelude.{ℕ, Bool, true, false, List, [], ◌∷◌, ◌++◌, length, drop, Option, None, Some}
+use Rattle.std.specs.Prelude.{if◌then◌else◌, ◌==◌, ◌||◌}
 use Rattle.lis_text.specs.Control.{EOT, ACK}
 use Rattle.lis_frame.specs.declared.scanner.SignalOf.{SignalOf}
 use Rattle.lis_frame.specs.declared.scanner.SignalOf.TheVariants.{Bad}
@@ -20,19 +20,18 @@ use Rattle.lis_world.specs.declared.event.Event.TheVariants.{DamageReply, LoseRe
 use Rattle.lis_world.specs.declared.event.Event.TheVariants.{RestartSender, RestartReceiver, Ready, Busy, Contending}
 use Rattle.lis_world.specs.Unit.{Load, enquiry, ending, one_frame, Travelling, load_bytes}
 use Rattle.lis_world.specs.Session.{new_session, changed, follows, sends_frame}
-use Rattle.lis_world.specs.World.{World, new_world, ComputerState, computer_state_of, hears, settled}
+use Rattle.lis_world.specs.World.{World, new_world, computer_state_of, hears, settled}
 
 -- a unit of the present session goes on the link, after what is there
 abbrev pub put_on_link : Load → World → World
 put_on_link load w = record w { units = w.units ++ record { session = w.current; load = load } ∷ [] }
 
 abbrev pub emitted : {limit : ℕ} → EmitOf limit → World → World
-emitted Emits.Nothing w = w
 emitted Emits.Enq w = put_on_link enquiry w
 emitted Emits.Eot w = put_on_link ending w
-emitted Emits.Nak w = w
 emitted (Emits.Frame frame) w = put_on_link (one_frame frame)
     (record w { sessions = changed w.current (sends_frame frame) w.sessions })
+emitted emit w = w
 
 -- the sender's new state, booked to its session
 abbrev pub with_sender : SenderState → World → World
@@ -57,39 +56,23 @@ delivered limit [] w = w
 delivered limit (front ∷ units) w = settled units (hears limit front.session (load_bytes front.load)
     (computer_state_of w)) w
 
--- the same while the receiver has no room
-abbrev pub room_at : Bool → ComputerState → ComputerState
-room_at room computer_state = record computer_state { receiver = with_room room computer_state.receiver }
+-- whether the receiver has room
+abbrev pub room_at : Bool → World → World
+room_at room w = record w { receiver = with_room room w.receiver }
 
-abbrev pub delivered_no_room : ℕ → List Travelling → World → World
-delivered_no_room limit [] w = w
-delivered_no_room limit (front ∷ units) w =
-    settled units (room_at true (hears limit front.session (load_bytes front.load)
-    (room_at false (computer_state_of w)))) w
-
--- damage is noticed where what is heard of it is nothing or, of a frame, one bad frame
-abbrev pub is_frame : Load → Bool
-is_frame enquiry = false
-is_frame ending = false
-is_frame (one_frame frame) = true
-
+-- damage is noticed if what is heard of it is nothing or, of a frame, one bad frame
 abbrev pub is_noticed : {limit : ℕ} → Load → List (SignalOf limit) → Bool
 is_noticed load [] = true
-is_noticed load (Bad fault ∷ []) = is_frame load
+is_noticed (one_frame frame) (Bad fault ∷ []) = true
 is_noticed load signals = false
 
--- these bytes come in the place of the front unit
+-- these bytes come in the place of the front unit; none do if it is lost
 abbrev pub damaged : ℕ → List ℕ → List Travelling → World → World
 damaged limit bytes [] w = w
 damaged limit bytes (front ∷ units) w =
     if is_noticed front.load (signals_after limit w.receiver.past bytes) then
     settled units (hears limit front.session bytes (computer_state_of w)) w
     else w
-
--- the front unit is taken away
-abbrev pub lost : List Travelling → World → World
-lost [] w = w
-lost (front ∷ units) w = settled units (computer_state_of w) w
 
 -- the front reply reaches the sender
 abbrev pub replied : ℕ → List ℕ → World → World
@@ -100,12 +83,7 @@ replied limit (b ∷ replies) w = sender_steps {limit = limit} (on_reply b w.sen
 abbrev pub reply_damaged : ℕ → ℕ → List ℕ → World → World
 reply_damaged limit damage [] w = w
 reply_damaged limit damage (b ∷ replies) w =
-    if damage == ACK || damage == EOT then w
-    else sender_steps {limit = limit} (on_reply damage w.sender) (record w { replies = replies })
-
-abbrev pub reply_lost : List ℕ → World → World
-reply_lost [] w = w
-reply_lost (b ∷ replies) w = record w { replies = replies }
+    if damage == ACK || damage == EOT then w else replied limit (damage ∷ replies) w
 
 -- no reply to a unit that is on its way reaches the sender in time
 abbrev pub forgotten : World → World
@@ -113,22 +91,20 @@ forgotten w = record w { replies = []; to_drop = length w.units }
 
 -- the timer of a sender that awaits a reply
 abbrev pub given_up : Phase → World → World
-given_up Phases.Neutral w = w
 given_up Phases.AwaitLine w = forgotten w
-given_up Phases.Busy w = w
-given_up Phases.Contention w = w
 given_up Phases.AwaitReply w = forgotten w
+given_up phase w = w
 
 -- one event
 abbrev pub after_event : ℕ → Event → World → World
 after_event limit (Start texts) w = begins limit (start_fault w.sender texts) texts w
 after_event limit Deliver w = delivered limit w.units w
-after_event limit DeliverNoRoom w = delivered_no_room limit w.units w
+after_event limit DeliverNoRoom w = room_at true (delivered limit w.units (room_at false w))
 after_event limit (Damage bytes) w = damaged limit bytes w.units w
-after_event limit Lose w = lost w.units w
+after_event limit Lose w = damaged limit [] w.units w
 after_event limit Reply w = replied limit w.replies w
 after_event limit (DamageReply damage) w = reply_damaged limit damage w.replies w
-after_event limit LoseReply w = reply_lost w.replies w
+after_event limit LoseReply w = record w { replies = drop 1 w.replies }
 after_event limit SenderTimer w = sender_steps {limit = limit} (on_sender_timer w.sender) (given_up w.sender.phase w)
 after_event limit ReceiverTimer w = record w { receiver = (on_receiver_timer w.receiver).after }
 after_event limit RestartSender w = with_sender (sender_restarted w.sender) (forgotten w)

@@ -21,17 +21,16 @@ pub record World : Type 0 where
   pub sessions : List Session
 
 abbrev pub new_world : World
-new_world =
-    record {
-      sender = new_sender;
-      receiver = new_receiver;
-      units = [];
-      replies = [];
-      to_drop = 0;
-      current = 0;
-      opened = 0;
-      sessions = [];
-    }
+new_world = record {
+  sender = new_sender;
+  receiver = new_receiver;
+  units = [];
+  replies = [];
+  to_drop = 0;
+  current = 0;
+  opened = 0;
+  sessions = [];
+}
 
 -- the computer's side while the bytes of one unit come, with the replies that these cause
 pub record ComputerState : Type 0 where
@@ -43,39 +42,21 @@ pub record ComputerState : Type 0 where
 abbrev pub computer_state_of : World → ComputerState
 computer_state_of w = record { receiver = w.receiver; opened = w.opened; sessions = w.sessions; replies = [] }
 
--- a step of the receiver, by its note, while a unit of this session comes: an ENQ that opens the line makes the session
+-- a step of the receiver while a unit of this session comes, by its note: an ENQ that opens the line makes the session
 -- the one that owns it, and what is accepted is booked to the owner
 abbrev pub after_note : ℕ → ReceiverStep → Note → ComputerState → ComputerState
-after_note session step Opened computer_state =
-    record {
-      receiver = step.after;
-      opened = session;
-      sessions = computer_state.sessions;
-      replies = with_more computer_state.replies step.reply;
-    }
-after_note session step (Accepted number) computer_state =
-    record {
-      receiver = step.after;
-      opened = computer_state.opened;
-      sessions = changed computer_state.opened (takes step) computer_state.sessions;
-      replies = with_more computer_state.replies step.reply;
-    }
-after_note session step note computer_state =
-    record {
-      receiver = step.after;
-      opened = computer_state.opened;
-      sessions = computer_state.sessions;
-      replies = with_more computer_state.replies step.reply;
-    }
+after_note session step Opened side = record side { opened = session }
+after_note session step (Accepted n) side = record side { sessions = changed side.opened (takes step) side.sessions }
+after_note session step note side = side
 
 abbrev pub booked : ℕ → ReceiverStep → ComputerState → ComputerState
-booked session step computer_state = after_note session step step.note computer_state
+booked session step side = after_note session step step.note
+    (record side { receiver = step.after; replies = with_more side.replies step.reply })
 
 -- bytes that come while a unit of this session does
 abbrev pub hears : ℕ → ℕ → List ℕ → ComputerState → ComputerState
-hears limit session [] computer_state = computer_state
-hears limit session (b ∷ bytes) computer_state = hears limit session bytes
-    (booked session (on_byte limit b computer_state.receiver) computer_state)
+hears limit session [] side = side
+hears limit session (b ∷ bytes) side = hears limit session bytes (booked session (on_byte limit b side.receiver) side)
 
 -- the replies on the link, with those that a unit caused: none of them where the unit's reply comes too late
 abbrev pub replies_with : ℕ → List ℕ → List ℕ → List ℕ
@@ -88,12 +69,11 @@ lowered (suc to_drop) = to_drop
 
 -- the front unit has left the link, and this is the computer's side after it
 abbrev pub settled : List Travelling → ComputerState → World → World
-settled units computer_state w =
-    record w {
-      receiver = computer_state.receiver;
-      units = units;
-      replies = replies_with w.to_drop computer_state.replies w.replies;
-      to_drop = lowered w.to_drop;
-      opened = computer_state.opened;
-      sessions = computer_state.sessions;
-    }
+settled units side w = record w {
+  receiver = side.receiver;
+  units = units;
+  replies = replies_with w.to_drop side.replies w.replies;
+  to_drop = lowered w.to_drop;
+  opened = side.opened;
+  sessions = side.sessions;
+}

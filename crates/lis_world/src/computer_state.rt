@@ -10,7 +10,7 @@ ghost use Rattle.lis_link.specs.Representation.{IsIn, IsStep};
 ghost use Rattle.lis_frame.specs.Stream.{signals_after};
 ghost use Rattle.lis_world.specs.Session.{changed};
 ghost use Rattle.lis_world.specs.Unit.{load_bytes, one_frame};
-ghost use Rattle.lis_world.specs.Steps.{is_noticed, room_at};
+ghost use Rattle.lis_world.specs.Steps.{is_noticed};
 ghost use Rattle.lis_world.specs.World.{booked, hears};
 ghost use Rattle.lis_world.specs.inside.Playing.{IsComputerState, computer_state_at, OnlyLoad, TakesLoad, takes_frame};
 ghost use Rattle.lis_world.specs.inside.Playing.{follows_with};
@@ -119,18 +119,6 @@ impl<const N: usize> ComputerStateOf<N> {
             LoadOf::Frame(frame) if N == 240 => self.hear_frame::<247>(unit, frame),
             LoadOf::Frame(frame) => self.hear_frame::<64_000>(unit, frame),
         }
-    }
-
-    /// The same while the receiver has no room.
-    pub(crate) fn deliver_no_room(&mut self, unit: &TravellingOf<N>) -> Result<(), AllocError>
-        ensures { (r : ReceiverState) → IsIn N self.old.receiver r →
-            OnOk result (IsComputerState N self.new (room_at true (hears N unit.now.session (load_bytes unit.now.load)
-            (room_at false (record (computer_state_at self.old r) { replies = [] }))))) }
-    {
-        self.set_room(false);
-        self.deliver(unit)?;
-        self.set_room(true);
-        Ok(())
     }
 
     /// These bytes come in the place of a unit, if that is noticed.

@@ -13,9 +13,9 @@ ghost use Rattle.lis_world.specs.Session.{new_session};
 ghost use Rattle.lis_world.specs.Unit.{enquiry};
 ghost use Rattle.lis_world.specs.World.{new_world, replies_with, lowered};
 ghost use Rattle.lis_world.specs.Steps.{emitted, with_sender, sender_steps, begins, is_noticed, delivered};
-ghost use Rattle.lis_world.specs.Steps.{delivered_no_room, damaged, lost, replied, reply_damaged, reply_lost};
-ghost use Rattle.lis_world.specs.Steps.{after_event};
-ghost use Rattle.lis_world.specs.declared.event.Event.TheVariants.{SenderTimer, RestartSender};
+ghost use Rattle.lis_world.specs.Steps.{damaged, replied, reply_damaged, after_event};
+ghost use Rattle.lis_world.specs.declared.event.Event.TheVariants.{DeliverNoRoom, LoseReply, SenderTimer};
+ghost use Rattle.lis_world.specs.declared.event.Event.TheVariants.{RestartSender};
 
 use crate::computer_state::ComputerStateOf;
 use crate::event::Event;
@@ -160,13 +160,12 @@ impl<const N: usize> RunOf<N> {
     /// The same while the receiver has no room.
     fn deliver_no_room(&mut self) -> Result<(), AllocError>
         ensures { (r : ReceiverState) → IsIn N self.old.computer_state.receiver r →
-            OnOk result (IsWorld N self.new (delivered_no_room N self.old.units (world_at self.old r))) }
+            OnOk result (IsWorld N self.new (after_event N DeliverNoRoom (world_at self.old r))) }
     {
-        let Some(unit) = self.units.pop_front() else {
-            return Ok(());
-        };
-        self.computer_state.deliver_no_room(&unit)?;
-        self.settle()
+        self.computer_state.set_room(false);
+        self.deliver()?;
+        self.computer_state.set_room(true);
+        Ok(())
     }
 
     /// These bytes come in the front unit's place, if that is noticed.
@@ -198,7 +197,7 @@ impl<const N: usize> RunOf<N> {
     /// The front unit is lost.
     fn lose(&mut self) -> Result<(), AllocError>
         ensures { (r : ReceiverState) → IsIn N self.old.computer_state.receiver r →
-            OnOk result (IsWorld N self.new (lost self.old.units (world_at self.old r))) }
+            OnOk result (IsWorld N self.new (damaged N [] self.old.units (world_at self.old r))) }
     {
         let Some(_) = self.units.pop_front() else {
             return Ok(());
@@ -237,7 +236,7 @@ impl<const N: usize> RunOf<N> {
     /// The front reply is lost.
     fn lose_reply(&mut self)
         ensures { (r : ReceiverState) → IsIn N self.old.computer_state.receiver r →
-            IsWorld N self.new (reply_lost self.old.replies (world_at self.old r)) }
+            IsWorld N self.new (after_event N LoseReply (world_at self.old r)) }
     {
         self.replies.pop_front();
     }

@@ -1,7 +1,7 @@
 //! What travels to the receiver.
 
 ghost use Rattle.std.specs.Prelude.{◌≡◌};
-ghost use Rattle.lis_world.specs.Steps.{is_frame};
+ghost use Rattle.lis_world.specs.inside.Loads.{is_frame};
 
 use lis_frame::FrameOf;
 use std::marker::Model;
