@@ -19,6 +19,8 @@ PUBLIC_FN = re.compile(r"^( *)pub (?:(?:const|unsafe|extern \"C\") )*fn (\w+)")
 METHOD = re.compile(r"^(    )(?:unsafe )?fn (\w+)")
 BLOCK = re.compile(r"^(?:unsafe )?(impl\b|pub trait )(.*)")
 COLUMN_0 = re.compile(r"^[^\s)}]")
+# What names nothing: a text in quotes, and the name of a field where a record is declared or made.
+LABEL = re.compile(r'"[^"]*"|^  pub \w+(?= :)|(?:[{;]|^)\s*\w+(?= = )', re.M)
 
 
 class Definition:
@@ -128,7 +130,8 @@ class Book:
         return {it.split(".")[0] for it in self.imports}
 
     def named_by(self, definition):
-        return self.named_in(definition.module, self.imports[definition.module], "\n".join(definition.text))
+        text = LABEL.sub(" ", "\n".join(definition.text))
+        return self.named_in(definition.module, self.imports[definition.module], text)
 
     def closure(self, start):
         """All that must be read for these definitions; and the types and the kit's names beside it."""
