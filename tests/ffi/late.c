@@ -1,5 +1,5 @@
-/* Replies that come late: late MODE SESSIONS, over examples/c's analyzer and host, with timers of a few hundred
- * milliseconds, on many lines of this machine at once. Between the two a relay holds bytes back, also for longer than
+/* Replies that come late: late MODE SESSIONS SLOWER, over examples/c's analyzer and host, with timers of a few hundred
+ * milliseconds, SLOWER times as long on a machine that has too much to do, on many lines of this machine at once. Between the two a relay holds bytes back, also for longer than
  * the sender's timer, and damages frames. MODE is
  *
  *   connect   TCP; the analyzer takes a new connection after a session that failed
@@ -260,12 +260,12 @@ static void begin(struct lane *lane, unsigned number) {
 }
 
 int main(int count, char **words) {
-    while (count == 3 && mode < OLD && strcmp(words[1], names[mode]) != 0)
+    while (count == 4 && mode < OLD && strcmp(words[1], names[mode]) != 0)
         mode++;
-    if (count != 3 || strcmp(words[1], names[mode]) != 0)
+    if (count != 4 || strcmp(words[1], names[mode]) != 0)
         return 2;
     signal(SIGPIPE, SIG_IGN);
-    percent = mode == HOST ? 4 : 1;
+    percent = (mode == HOST ? 4 : 1) * atoi(words[3]);
     per_lane = (atoi(words[2]) + LANES - 1) / LANES;
     for (unsigned i = 0; i < LANES; i++)
         begin(&lanes[i], i + 1);

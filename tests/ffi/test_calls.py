@@ -39,6 +39,30 @@ class Calls(kit.Test):
             return self.gives((error.status, error.index, error.place), (status, index, place))
         return self.gives("nothing was rejected", status)
 
+    def test_words(self):
+        """What an error prints."""
+        words = {
+            b"H|\\^&\rR|1\r": "record 2: NO_PARENT: the record has no parent in the message",
+            b"H|\\^&\rP|1\x02\r": "record 2: BAD_RECORD: the text is not a record: "
+                                 "the text has a byte that no text may hold, byte 3 from 0",
+            b"H|\\^&\rX|1\r": "record 2: BAD_RECORD: the text is not a record: "
+                              "no letter of such a record, or no field delimiter after it",
+        }
+        for stream, wanted in words.items():
+            try:
+                list(messages([stream]))
+            except MessageError as error:
+                self.gives(str(error), wanted)
+        forbidden = "FORBIDDEN: the text has a byte that no text may hold"
+        for call, wanted in ((lambda: frame_bytes(1, True, b"a\x02"), f"{forbidden} (place 1)"),
+                             (lambda: Scanner(frame_limit=241),
+                              "BAD_NUMBER: the number is not one of those that are known")):
+            try:
+                call()
+            except LinkError as error:
+                self.gives(str(error), wanted)
+        self.gives(self.calls, 5)
+
     def test_frames(self):
         self.gives(frame_bytes(1, True, b"H|\\^&\r"), FIRST)
         self.rejects(lambda: frame_bytes(8, True, b""), Status.BAD_NUMBER, None, 0)

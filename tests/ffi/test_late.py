@@ -19,10 +19,11 @@ def build(test, archive, host, program):
     return test.runs([*flags, "-pthread", f"-I{ROOT}/examples/c", *files, archive, "-o", program])
 
 
-def tally(test, program, mode, sessions):
+def tally(test, program, mode, sessions, slower=1):
     """How many sessions were done too early; the sessions are as many as asked for, and some of them fail."""
     try:
-        ran = subprocess.run([program, mode, str(sessions)], capture_output=True, text=True, timeout=120)
+        words = [program, mode, str(sessions), str(slower)]
+        ran = subprocess.run(words, capture_output=True, text=True, timeout=120 * slower)
     except subprocess.TimeoutExpired:
         return test.check(False, f"late {mode}: not over after 120 seconds")
     found = TALLY.fullmatch(ran.stdout)
@@ -34,6 +35,13 @@ def tally(test, program, mode, sessions):
     return wrong
 
 
+def is_safe(test, program, mode, sessions):
+    """Whether no session is done too early. These lines promise that a reply comes within a time; a machine that has
+    too much to do breaks that promise. So a session that is done too early is tried again with timers six times as
+    long: a fault of the code shows there too."""
+    return tally(test, program, mode, sessions) == 0 or tally(test, program, mode, sessions, slower=6) == 0
+
+
 class Late(kit.Test):
     def test_replies(self):
         archive, work = kit.built("archive"), kit.folder_of(self)
@@ -43,8 +51,8 @@ class Late(kit.Test):
             file.write(host.replace(IN_TIME, "(false && is_late(work))"))
         if build(self, archive, os.path.join(IN_C, "host.c"), f"{work}/late"):
             for mode, sessions in (("connect", 1000), ("serial", 1000), ("host", 320)):
-                wrong = tally(self, f"{work}/late", mode, sessions)
-                self.check(wrong == 0, f"late {mode}: {wrong} sessions are done before the host has their texts")
+                self.check(is_safe(self, f"{work}/late", mode, sessions),
+                           f"late {mode}: sessions are done before the host has their texts")
             self.check(tally(self, f"{work}/late", "old", 320),
                        "late old: no session is done too early on an old connection")
         if build(self, archive, f"{work}/late_host.c", f"{work}/late_host"):

@@ -99,3 +99,13 @@ fn assert_says<T: Display>(rt: &impl Abort, alloc: Global, fault: &T, want: &str
     assert!(rt; reported.as_str() == want);
     drop(reported);
 }
+
+#[test]
+fn a_message_goes_on_where_its_sink_failed(rt: HostRuntime) {
+    let goes_on = |place, fault| MessageWriteFault { place, fault }.resume();
+    assert!(rt; goes_on(3, WriteFault::Io(7)) == Some((3, 7)));
+    // Also if nothing of the record is out.
+    assert!(rt; goes_on(1, WriteFault::Io(0)) == Some((1, 0)));
+    assert!(rt; goes_on(u64::MAX, WriteFault::Io(7)).is_none());
+    assert!(rt; goes_on(3, WriteFault::CharNotText(4)).is_none());
+}

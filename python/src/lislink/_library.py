@@ -118,6 +118,8 @@ _CALLS: Dict[str, Any] = {
     "receiver_held": (_COUNT, _POINTER),
     "receiver_text_len": (_SIZE, _POINTER),
     "receiver_text": (_BYTE, _POINTER, _POINTER, _SIZE),
+    "status_text": (ctypes.c_char_p, _BYTE),
+    "reason_text": (ctypes.c_char_p, _BYTE),
 }
 for _kind in ("scanner", "sender", "receiver", "reader", "writer"):
     _CALLS.update(
@@ -161,6 +163,12 @@ def _load() -> Dict[str, Callable[..., Any]]:
         raise LibraryMissing(
             f"{path}: {error}; `make library` builds {_NAME}, and LISLINK_LIBRARY names it"
         ) from None
+
+
+def words_of(kind: str, number: int) -> str:
+    """The library's words for a status or a reason."""
+    words: bytes = calls()[f"{kind}_text"](number)
+    return words.decode()
 
 
 def calls() -> Dict[str, Callable[..., Any]]:

@@ -100,6 +100,11 @@ class LinkError(Exception):
         super().__init__(Status(status).name, *(one for one in (index, place) if one is not None))
         self.status, self.index, self.place = Status(status), index, place
 
+    def __str__(self) -> str:
+        told = {"index": self.index, "place": self.place if self.status is Status.FORBIDDEN else None}
+        where = ", ".join(f"{name} {it}" for name, it in told.items() if it is not None)
+        return f"{self.status.name}: {_library.words_of('status', self.status)}{f' ({where})' if where else ''}"
+
 
 class WrongThread(RuntimeError):
     """A handle was used from another thread than the one that made it."""

@@ -35,6 +35,13 @@ class MessageError(Exception):
         super().__init__(number, Reason(reason).name, detail, place)
         self.number, self.reason, self.detail, self.place = number, Reason(reason), detail, place
 
+    def __str__(self) -> str:
+        words = f"record {self.number}: {self.reason.name}: {_library.words_of('reason', self.reason)}"
+        if self.reason is not Reason.BAD_RECORD:
+            return words
+        where = f", byte {self.place} from 0" if self.detail == Status.FORBIDDEN else ""
+        return f"{words}: {_library.words_of('status', self.detail)}{where}"
+
 
 class Record:
     """A record without its CR: a header, or any other record under the delimiters of its message's header."""
