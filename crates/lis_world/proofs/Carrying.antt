@@ -2,6 +2,7 @@
 use Rattle.std.proofs.Common.{◌≡◌, ℕ, zero, suc, ◌+◌, ◌-◌, ◌<◌, ◌≤◌, inl, inr, Bool, true, false, List, [], ◌∷◌}
 use Rattle.std.proofs.Common.{◌++◌, length, get_or, None, Some, refl, sym, ap, ◌∙◌, subst, arith}
 use Rattle.std.specs.Prelude.{All, replicate}
+use Rattle.std.specs.List.{flat_map}
 use Rattle.std.proofs.lemmas.Bool.{cond-false}
 use Rattle.std.proofs.lemmas.List.{length-append, length_push}
 use Rattle.std.proofs.lemmas.List.Elements.{All-head, All-tail, All-replicate}
@@ -27,7 +28,7 @@ use Rattle.lis_world.specs.Steps.{begins, delivered, damaged, is_noticed, room_a
 use Rattle.lis_world.specs.Steps.{reply_damaged, sender_steps, after_event, runs, world}
 use Rattle.lis_world.specs.Safe.{IsPrefix}
 use Rattle.lis_world.specs.Progress.{Round, undisturbed, without_room, bad_frame, bad_reply, round_events}
-use Rattle.lis_world.specs.Progress.{rounds_events, IsBadBody, IsNoticed, good_rounds, FewInARow, IsCalm}
+use Rattle.lis_world.specs.Progress.{IsBadBody, IsNoticed, good_rounds, FewInARow, IsCalm}
 use Rattle.lis_world.specs.Progress.{session_events, done_session, IsCarried, AreSendable, AreEnough}
 use Rattle.lis_world.specs.Progress.{quiet_events, CarriesThrough, RunsQuietly}
 use Rattle.lis_world.proofs.Invariant.{IsSound, InPhase, Holds, kept_frames}
@@ -205,10 +206,10 @@ finished_rounds :
     → IsLimit limit
     → All (IsNoticed limit) rounds
     → IsFinished limit c frames w
-    → IsFinished limit c frames (runs limit (rounds_events rounds) w)
+    → IsFinished limit c frames (runs limit (flat_map round_events rounds) w)
 finished_rounds limit c frames [] w is_limit noticed finished = finished
 finished_rounds limit c frames (round ∷ rounds) w is_limit noticed finished =
-    subst (IsFinished limit c frames) (sym (runs-append limit (round_events round) (rounds_events rounds) w))
+    subst (IsFinished limit c frames) (sym (runs-append limit (round_events round) (flat_map round_events rounds) w))
     (finished_rounds limit c frames rounds (runs limit (round_events round) w) is_limit
     (All-tail (IsNoticed limit) round rounds noticed)
     (finished_round limit c frames round w is_limit (All-head (IsNoticed limit) round rounds noticed) finished))
@@ -234,7 +235,7 @@ through :
     → k ≤ good_rounds rounds
     → t ≤ suc row
     → IsSent limit c frames k t w
-    → IsFinished limit c frames (runs limit (rounds_events rounds) w)
+    → IsFinished limit c frames (runs limit (flat_map round_events rounds) w)
 through limit c frames [] row k t w is_limit few noticed in_a_row enough tries sent =
     let some = some_remaining limit c frames k t w sent in
     absurd (omega arith)
@@ -251,15 +252,16 @@ through limit c frames (undisturbed ∷ rounds) row k t w is_limit few noticed i
 
     go :
         GoesOn limit c frames (k - 1) w2
-        → (IsSent limit c frames (k - 1) 1 w2 → IsFinished limit c frames (runs limit (rounds_events rounds) w2))
-        → IsFinished limit c frames (runs limit (rounds_events rounds) w2)
+        → (IsSent limit c frames (k - 1) 1 w2
+        → IsFinished limit c frames (runs limit (flat_map round_events rounds) w2))
+        → IsFinished limit c frames (runs limit (flat_map round_events rounds) w2)
     go (inl finished) goes_on = finished_rounds limit c frames rounds w2 is_limit later finished
     go (inr sent2) goes_on = goes_on sent2
 through limit c frames (round ∷ rounds) row k t w is_limit few noticed in_a_row enough tries sent =
     let few_row : suc row < most_tries = in_a_row.0 in
     let few_tries : t < most_tries = omega arith in
     let w2 : World = runs limit (round_events round) w in
-    subst (IsFinished limit c frames) (sym (runs-append limit (round_events round) (rounds_events rounds) w))
+    subst (IsFinished limit c frames) (sym (runs-append limit (round_events round) (flat_map round_events rounds) w))
     (go (disturbed_round limit c frames k t round w is_limit few few_tries
     (All-head (IsNoticed limit) round rounds noticed) sent)
     (λ j n below enough2. through limit c frames rounds (suc row) j n w2 is_limit few later in_a_row.1 enough2 below))
@@ -273,8 +275,8 @@ through limit c frames (round ∷ rounds) row k t w is_limit few noticed in_a_ro
     go :
         GoesOnOrAgain limit c frames k t w3
         → ((j n : ℕ) → n ≤ suc (suc row) → j ≤ good_rounds rounds → IsSent limit c frames j n w3
-        → IsFinished limit c frames (runs limit (rounds_events rounds) w3))
-        → IsFinished limit c frames (runs limit (rounds_events rounds) w3)
+        → IsFinished limit c frames (runs limit (flat_map round_events rounds) w3))
+        → IsFinished limit c frames (runs limit (flat_map round_events rounds) w3)
     go (inl (inl finished)) goes_on = finished_rounds limit c frames rounds w3 is_limit later finished
     go (inl (inr sent2)) goes_on = goes_on (k - 1) 1 (omega arith) (omega arith) sent2
     go (inr sent2) goes_on = goes_on k (t + 1) (omega arith) enough sent2
@@ -418,28 +420,31 @@ carried limit texts rounds w is_limit h calm room sendable enough =
     let can = can_start w.sender texts sendable.not_refused in
     let few = few-session_frames limit texts is_limit can.sendable sendable.few in
     let w2 : World = runs limit (Deliver ∷ Reply ∷ []) w1 in
-    let finished : IsFinished limit c frames (runs limit (rounds_events rounds) w2) =
+    let finished : IsFinished limit c frames (runs limit (flat_map round_events rounds) w2) =
     go c frames w2 enough.noticed (begun limit texts w is_limit h calm room holds1)
     (λ sent. through limit c frames rounds 0 (length frames) 1 w2 is_limit few enough.noticed enough.few_in_a_row
     enough.enough_good (omega arith) sent) in
-    let over : IsSessionFinished limit c frames (runs limit (rounds_events rounds ++ Deliver ∷ []) w2) =
-    subst (IsSessionFinished limit c frames) (sym (runs-append limit (rounds_events rounds) (Deliver ∷ []) w2))
-    (finished_delivered limit c frames (runs limit (rounds_events rounds) w2) is_limit finished) in
-    let result : IsCarried limit texts w (runs limit (rounds_events rounds ++ Deliver ∷ []) w2) = record {
+    let over : IsSessionFinished limit c frames (runs limit (flat_map round_events rounds ++ Deliver ∷ []) w2) =
+    subst (IsSessionFinished limit c frames) (sym (runs-append limit (flat_map round_events rounds) (Deliver ∷ []) w2))
+    (finished_delivered limit c frames (runs limit (flat_map round_events rounds) w2) is_limit finished) in
+    let result : IsCarried limit texts w (runs limit (flat_map round_events rounds ++ Deliver ∷ []) w2) = record {
       one_more = over.finished.tracked.length_is;
-      session_is = session_finished limit c texts (runs limit (rounds_events rounds ++ Deliver ∷ []) w2) over.finished;
+      session_is =
+          session_finished limit c texts (runs limit (flat_map round_events rounds ++ Deliver ∷ []) w2) over.finished;
       sender_neutral = over.finished.neutral;
       receiver_neutral = over.closed;
     } in
-    subst (λ v. IsCarried limit texts w (runs limit (Deliver ∷ Reply ∷ (rounds_events rounds ++ Deliver ∷ [])) v))
+    subst
+    (λ v. IsCarried limit texts w (runs limit (Deliver ∷ Reply ∷ (flat_map round_events rounds ++ Deliver ∷ [])) v))
     (sym e1) result
   where
     go :
         (c : ℕ) (frames : List FrameContent) (v : World)
         → All (IsNoticed limit) rounds
         → GoesOn limit c frames (length frames) v
-        → (IsSent limit c frames (length frames) 1 v → IsFinished limit c frames (runs limit (rounds_events rounds) v))
-        → IsFinished limit c frames (runs limit (rounds_events rounds) v)
+        → (IsSent limit c frames (length frames) 1 v
+        → IsFinished limit c frames (runs limit (flat_map round_events rounds) v))
+        → IsFinished limit c frames (runs limit (flat_map round_events rounds) v)
     go c frames v noticed (inl finished) later = finished_rounds limit c frames rounds v is_limit noticed finished
     go c frames v noticed (inr sent) later = later sent
 

@@ -3,6 +3,7 @@
 use Rattle.std.proofs.Common.{◌≡◌, ℕ, Bool, true, false, List, [], ◌∷◌, ◌++◌, length, map, refl, sym, ap, ◌∙◌, subst}
 use Rattle.std.proofs.Common.{arith}
 use Rattle.std.specs.Prelude.{not, ◌||◌, ◌==◌, replicate}
+use Rattle.std.specs.List.{flat_map}
 use Rattle.std.proofs.lemmas.Bool.{cond-true, and_parts, and_from, eqb-true}
 use Rattle.lis_frame.specs.Limit.{IsLimit}
 use Rattle.lis_frame.specs.Pieces.{session_frames}
@@ -16,7 +17,7 @@ use Rattle.lis_world.specs.Unit.{Travelling}
 use Rattle.lis_world.specs.World.{World, new_world}
 use Rattle.lis_world.specs.Steps.{after_event, runs}
 use Rattle.lis_world.specs.Progress.{Round, undisturbed, without_room, bad_frame, bad_reply, round_events}
-use Rattle.lis_world.specs.Progress.{rounds_events, session_events, IsCarried, AreSendable, quiet_events}
+use Rattle.lis_world.specs.Progress.{session_events, IsCarried, AreSendable, quiet_events}
 use Rattle.lis_world.specs.Progress.{done_session}
 use Rattle.lis_world.specs.Late.{happens_late, after_late_event, runs_late, late_world, has_no_unit, has_no_reply}
 use Rattle.lis_world.specs.Late.{is_empty, is_quiet, only_endings, is_answered, reply_may_come, at_any_time}
@@ -49,10 +50,10 @@ module _ (may_start : World → Bool) (limit : ℕ) where
   plain_round (bad_frame body) = (λ w. refl, (λ w. refl, tt))
   plain_round (bad_reply b) = (λ w. refl, (λ w. refl, tt))
 
-  plain_rounds : (rounds : List Round) → ArePlain may_start limit (rounds_events rounds)
+  plain_rounds : (rounds : List Round) → ArePlain may_start limit (flat_map round_events rounds)
   plain_rounds [] = tt
   plain_rounds (round ∷ rounds) =
-      plain_append (round_events round) (rounds_events rounds) (plain_round round) (plain_rounds rounds)
+      plain_append (round_events round) (flat_map round_events rounds) (plain_round round) (plain_rounds rounds)
 
   plain_runs :
       (events : List Event) (w : World) → ArePlain may_start limit events
@@ -73,12 +74,12 @@ module _ (may_start : World → Bool) (limit : ℕ) where
       → runs_late may_start limit (map Happens (session_events texts rounds)) w
       ≡ runs limit (session_events texts rounds) w
   session_runs texts rounds w may =
-      let left : List Event = Deliver ∷ Reply ∷ (rounds_events rounds ++ Deliver ∷ []) in
+      let left : List Event = Deliver ∷ Reply ∷ (flat_map round_events rounds ++ Deliver ∷ []) in
       let plain : ArePlain may_start limit left = (
         λ v. refl,
         (
           λ v. refl,
-          plain_append (rounds_events rounds) (Deliver ∷ []) (plain_rounds rounds)
+          plain_append (flat_map round_events rounds) (Deliver ∷ []) (plain_rounds rounds)
               (λ v. refl, tt),
         ),
       ) in

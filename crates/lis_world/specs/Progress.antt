@@ -1,6 +1,7 @@
 -- When a session is carried through: enough undisturbed rounds, and never six disturbed ones in a row.
 use Rattle.std.specs.Prelude.{◌≡◌, ◌≢◌, ℕ, suc, ◌<◌, ◌≤◌, false, List, [], ◌∷◌, ◌++◌, length, replicate, None, Some}
 use Rattle.std.specs.Prelude.{All}
+use Rattle.std.specs.List.{flat_map}
 use Rattle.lis_text.specs.Control.{STX, EOT, ACK, LF}
 use Rattle.lis_frame.specs.declared.frame.FrameFault.{FrameFault}
 use Rattle.lis_text.specs.LinkText.{most_texts}
@@ -30,10 +31,6 @@ round_events undisturbed = Deliver ∷ Reply ∷ []
 round_events without_room = DeliverNoRoom ∷ Reply ∷ []
 round_events (bad_frame body) = Damage (STX ∷ (body ++ LF ∷ [])) ∷ Reply ∷ []
 round_events (bad_reply b) = Deliver ∷ DamageReply b ∷ []
-
-abbrev pub rounds_events : List Round → List Event
-rounds_events [] = []
-rounds_events (round ∷ rounds) = round_events round ++ rounds_events rounds
 
 -- the disturbance is noticed: the frame body holds no mark and is no frame, the reply byte is neither ACK nor EOT
 pub record IsBadBody (limit : ℕ) (body : List ℕ) : Type 0 where
@@ -66,19 +63,18 @@ pub record IsCalm (w : World) : Type 0 where
 
 -- one session
 abbrev pub session_events : List (List ℕ) → List Round → List Event
-session_events texts rounds = Start texts ∷ Deliver ∷ Reply ∷ (rounds_events rounds ++ Deliver ∷ [])
+session_events texts rounds = Start texts ∷ Deliver ∷ Reply ∷ (flat_map round_events rounds ++ Deliver ∷ [])
 
 -- a session of these texts in which everything was sent, accepted, acknowledged and delivered
 abbrev pub done_session : ℕ → List (List ℕ) → Session
-done_session limit texts =
-    record {
-      texts = texts;
-      sent = session_frames limit texts;
-      accepted = session_frames limit texts;
-      acknowledged = length (session_frames limit texts);
-      handed = texts;
-      outcome = Some Done;
-    }
+done_session limit texts = record {
+  texts = texts;
+  sent = session_frames limit texts;
+  accepted = session_frames limit texts;
+  acknowledged = length (session_frames limit texts);
+  handed = texts;
+  outcome = Some Done;
+}
 
 -- the last session is that one, and both ends are neutral
 pub record IsCarried (limit : ℕ) (texts : List (List ℕ)) (before after : World) : Type 0 where
