@@ -14,7 +14,7 @@ mod report;
 
 pub use buffering::make_room;
 pub use fault::{ToolFault, Written};
-pub use machine::{Fate, Halt, Machine, Turn, run};
+pub use machine::{Closed, Fate, Halt, Machine, Turn, run};
 pub use output_buffer::{NUMBER_ROOM, OUTPUT_ROOM, OutputBuffer};
 pub use ports::SourceFor;
 pub use print::{CountsLine, Part, Print};

@@ -38,6 +38,9 @@ pub enum Turn<F> {
 /// What becomes of a run after a step, or why it stopped there.
 pub type Fate<F> = Result<Turn<F>, ToolFault>;
 
+/// How a run halts at the end of its input, or why it stopped there.
+pub type Closed<F> = Result<Halt<F>, ToolFault>;
+
 /// A command. It is fed with the bytes that are read, and writes what they give. `F` says why it rejects
 /// input.
 pub trait Machine<F>: Drop {
@@ -72,12 +75,7 @@ pub trait Machine<F>: Drop {
         ensures failed { W.failed sink.new ≡ is_err result };
 
     /// Takes the end of the input.
-    fn end<W: Sink>(
-        self,
-        sink: &mut W,
-        outgoing: &mut OutputBuffer,
-        written: u64,
-    ) -> Result<Halt<F>, ToolFault>
+    fn end<W: Sink>(self, sink: &mut W, outgoing: &mut OutputBuffer, written: u64) -> Closed<F>
         requires { W.failed sink.old ≡ false }
         ensures ends { (past text : List ℕ) → represents self past text → length past < 2 ^ 44 →
             Ends takes_memory (means past true) (out (W.taken sink.old) outgoing.old)
@@ -185,7 +183,7 @@ fn end_machine<F: Copy, M: Machine<F>, W: Sink>(
     sink: &mut W,
     outgoing: &mut OutputBuffer,
     written: u64,
-) -> Result<Halt<F>, ToolFault>
+) -> Closed<F>
     requires working { W.failed sink.old ≡ false }
     requires empty { outgoing.old ≡ [] }
     ensures ends { (past text : List ℕ) → M.represents machine past text → length past < 2 ^ 44 →

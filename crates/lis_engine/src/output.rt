@@ -4,12 +4,12 @@ ghost use Rattle.std.specs.Prelude.{◌≡◌, false, is_err, IfErr, OnOk};
 ghost use Rattle.std.specs.Io.KnownBytes.{Keeps};
 ghost use Rattle.lis_engine.specs.Output.{Put};
 
-use crate::fault::ToolFault;
+use crate::fault::{ToolFault, Written};
 use lis_port::{Failed, Sink};
 
 /// Puts bytes out, after `written` bytes of this run, and answers the count with them.
 #[inline(always)]
-pub(crate) fn put<W: Sink>(sink: &mut W, written: u64, bytes: &[u8]) -> Result<u64, ToolFault>
+pub(crate) fn put<W: Sink>(sink: &mut W, written: u64, bytes: &[u8]) -> Written
     requires { W.failed sink.old ≡ false }
     ensures put { Put (W.taken sink.old) (W.taken sink.new) written result bytes.now }
     ensures failed { W.failed sink.new ≡ is_err result }

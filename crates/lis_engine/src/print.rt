@@ -7,7 +7,7 @@ ghost use Rattle.lis_engine.specs.Parts.{joined};
 ghost use Rattle.lis_engine.specs.inside.Parts.{part_text, parts_text, text_if_any};
 
 use crate::buffering::{CHUNK, buffer_chunk, make_room, put_buffer};
-use crate::fault::ToolFault;
+use crate::fault::Written;
 use crate::output::put;
 use crate::output_buffer::{NUMBER_ROOM, OutputBuffer};
 use lis_port::Sink;
@@ -18,12 +18,7 @@ pub trait Print {
     ghost text: { Self → List ℕ };
 
     /// Buffers the text, after `written` bytes of the run.
-    fn print<W: Sink>(
-        &self,
-        sink: &mut W,
-        outgoing: &mut OutputBuffer,
-        written: u64,
-    ) -> Result<u64, ToolFault>
+    fn print<W: Sink>(&self, sink: &mut W, outgoing: &mut OutputBuffer, written: u64) -> Written
         requires { W.failed sink.old ≡ false }
         ensures buffered { IsBuffered (out (W.taken sink.old) outgoing.old) (out (W.taken sink.new) outgoing.new)
             written result
@@ -36,12 +31,7 @@ impl<T: Print> Print for Option<T> {
     ghost text = { text_if_any T.text };
 
     #[inline(always)]
-    fn print<W: Sink>(
-        &self,
-        sink: &mut W,
-        outgoing: &mut OutputBuffer,
-        written: u64,
-    ) -> Result<u64, ToolFault> {
+    fn print<W: Sink>(&self, sink: &mut W, outgoing: &mut OutputBuffer, written: u64) -> Written {
         match self {
             None => Ok(written),
             Some(it) => it.print(sink, outgoing, written),
@@ -54,12 +44,7 @@ impl<T: Print> Print for &T {
     ghost text = { λ it. T.text it.now };
 
     #[inline(always)]
-    fn print<W: Sink>(
-        &self,
-        sink: &mut W,
-        outgoing: &mut OutputBuffer,
-        written: u64,
-    ) -> Result<u64, ToolFault> {
+    fn print<W: Sink>(&self, sink: &mut W, outgoing: &mut OutputBuffer, written: u64) -> Written {
         T::print(self, sink, outgoing, written)
     }
 }
@@ -69,12 +54,7 @@ impl<A: Print, B: Print> Print for (A, B) {
     ghost text = { λ both. A.text both.0 ++ B.text both.1 };
 
     #[inline(always)]
-    fn print<W: Sink>(
-        &self,
-        sink: &mut W,
-        outgoing: &mut OutputBuffer,
-        written: u64,
-    ) -> Result<u64, ToolFault> {
+    fn print<W: Sink>(&self, sink: &mut W, outgoing: &mut OutputBuffer, written: u64) -> Written {
         let (first, second) = self;
         match first.print(sink, outgoing, written) {
             Ok(after) => second.print(sink, outgoing, after),
@@ -99,12 +79,7 @@ impl Print for Part<'_> {
     ghost text = { part_text };
 
     #[inline(always)]
-    fn print<W: Sink>(
-        &self,
-        sink: &mut W,
-        outgoing: &mut OutputBuffer,
-        written: u64,
-    ) -> Result<u64, ToolFault> {
+    fn print<W: Sink>(&self, sink: &mut W, outgoing: &mut OutputBuffer, written: u64) -> Written {
         match self {
             Part::Text(text) => {
                 if text.len() <= outgoing.room() {
@@ -140,12 +115,7 @@ impl Print for HexDigits<'_> {
     ghost text = { λ digits. encode_lower digits.bytes.now };
 
     #[inline(always)]
-    fn print<W: Sink>(
-        &self,
-        sink: &mut W,
-        outgoing: &mut OutputBuffer,
-        written: u64,
-    ) -> Result<u64, ToolFault> {
+    fn print<W: Sink>(&self, sink: &mut W, outgoing: &mut OutputBuffer, written: u64) -> Written {
         let mut rest = self.bytes;
         let mut after = written;
         while rest.len() > CHUNK {
@@ -164,12 +134,7 @@ impl Print for HexDigits<'_> {
 impl Print for &[Part<'_>] {
     ghost text = { λ parts. parts_text parts.now };
 
-    fn print<W: Sink>(
-        &self,
-        sink: &mut W,
-        outgoing: &mut OutputBuffer,
-        written: u64,
-    ) -> Result<u64, ToolFault> {
+    fn print<W: Sink>(&self, sink: &mut W, outgoing: &mut OutputBuffer, written: u64) -> Written {
         let parts = *self;
         let mut after = written;
         for part in parts {
@@ -195,12 +160,7 @@ impl Print for CountsLine {
     ghost text = { λ it. joined (it.word.now ∷ decimal it.count ∷ it.other_word.now ∷ decimal it.other_count
         ∷ codes "\n" ∷ []) };
 
-    fn print<W: Sink>(
-        &self,
-        sink: &mut W,
-        outgoing: &mut OutputBuffer,
-        written: u64,
-    ) -> Result<u64, ToolFault> {
+    fn print<W: Sink>(&self, sink: &mut W, outgoing: &mut OutputBuffer, written: u64) -> Written {
         let parts = [
             Part::Text(self.word),
             Part::Number(self.count),

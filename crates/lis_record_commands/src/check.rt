@@ -10,7 +10,7 @@ ghost use Rattle.lis_tree.specs.Tree.{MessageTree};
 
 use crate::held_text::HeldText;
 use crate::messages::{Closing, MessageMachine, report_following, run_messages};
-use lis_engine::{CountsLine, OutputBuffer, Part, Print, SourceFor, ToolFault};
+use lis_engine::{CountsLine, OutputBuffer, Part, Print, SourceFor, Written};
 use lis_message::{BorrowedRecord, MessageFault};
 use lis_port::Sink;
 use lis_record_values::Kind;
@@ -92,7 +92,7 @@ impl MessageMachine for Check {
         outgoing: &mut OutputBuffer,
         written: u64,
         before: u64,
-    ) -> Result<u64, ToolFault> {
+    ) -> Written {
         let number = before.saturating_add(1);
         let records = Part::Text(self.records.as_slice());
         let findings = Part::Text(self.findings.as_slice());
@@ -130,12 +130,7 @@ impl Print for FirstLine {
     ghost text = { λ line. message_line line.number };
 
     #[inline(always)]
-    fn print<W: Sink>(
-        &self,
-        sink: &mut W,
-        outgoing: &mut OutputBuffer,
-        written: u64,
-    ) -> Result<u64, ToolFault> {
+    fn print<W: Sink>(&self, sink: &mut W, outgoing: &mut OutputBuffer, written: u64) -> Written {
         let number = (Part::Number(self.number), Part::Text(b"\n"));
         (Part::Text(b"message "), number).print(sink, outgoing, written)
     }

@@ -16,11 +16,11 @@ ghost use Rattle.lis_record_commands.specs.inside.Messages.{turn_after};
 ghost use Rattle.lis_tree.specs.Begun.{Begun};
 ghost use Rattle.lis_tree.specs.Tree.{MessageTree};
 
-use lis_engine::{CountsLine, Machine, OutputBuffer, Print, SourceFor, ToolFault};
+use lis_engine::{CountsLine, Machine, OutputBuffer, Print, SourceFor, ToolFault, Written};
 use lis_message::{BorrowedRecord, MessageFault, Reason, RecordFound, RecordReader};
 use lis_port::Sink;
 use lis_record_values::Kind;
-use lis_report::{Ended, Halt, Refused, Report, Turn};
+use lis_report::{Closed, Ended, Fate, Halt, Refused, Report, Turn};
 use std::alloc::{AllocError, Global};
 
 /// A command that takes record text message by message. Contracts see the messages in their order, and the records of
@@ -46,7 +46,7 @@ pub trait MessageMachine: Drop {
         outgoing: &mut OutputBuffer,
         written: u64,
         before: u64,
-    ) -> Result<u64, ToolFault>
+    ) -> Written
         requires { W.failed sink.old ≡ false }
         ensures buffered { (messages : List MessageTree) (message : MessageTree)
             → represents self.old messages (whole_begun message) →
@@ -166,7 +166,7 @@ impl<C: MessageMachine> Counted<C> {
         outgoing: &mut OutputBuffer,
         written: u64,
         fault: Option<MessageFault>,
-    ) -> Result<Halt, ToolFault>
+    ) -> Closed
         requires { W.failed sink.old ≡ false }
         ensures ends { (messages : List MessageTree) (left : Option Begun)
             → C.represents self.now.command messages left → self.now.count ≡ length messages → length messages < 2 ^ 44
@@ -194,7 +194,7 @@ impl<C: MessageMachine> Counted<C> {
         outgoing: &mut OutputBuffer,
         written: u64,
         fault: MessageFault,
-    ) -> Result<Halt, ToolFault>
+    ) -> Closed
         requires { W.failed sink.old ≡ false }
         ensures refuses { (messages : List MessageTree) (left : Option Begun) (bytes text : List ℕ)
             → C.represents self.now.command messages left →
@@ -218,7 +218,7 @@ impl<C: MessageMachine> Counted<C> {
 
 /// The run ends after `written` bytes, as memory ran out.
 #[inline(never)]
-fn starved(written: u64) -> Result<Turn, ToolFault>
+fn starved(written: u64) -> Fate
     ensures { result ≡ turn_after written (Ok None) }
 {
     Ok(Turn::Off(Halt {
@@ -228,7 +228,7 @@ fn starved(written: u64) -> Result<Turn, ToolFault>
 }
 
 /// What becomes of the run after `written` bytes, where a record was taken.
-fn as_turn(written: u64, taken: Result<Option<u64>, ToolFault>) -> Result<Turn, ToolFault>
+fn as_turn(written: u64, taken: Result<Option<u64>, ToolFault>) -> Fate
     ensures turn { result ≡ turn_after written taken }
     ensures failed { is_err result ≡ is_err taken }
 {
@@ -301,7 +301,7 @@ impl<C: MessageMachine> Messages<C> {
         outgoing: &mut OutputBuffer,
         written: u64,
         bytes: &'a [u8],
-    ) -> (&'a [u8], Result<Turn, ToolFault>)
+    ) -> (&'a [u8], Fate)
         requires working { W.failed sink.old ≡ false }
         requires some { 0 < length bytes.now }
         ensures steps { (past text : List ℕ) → IsReadingMessages C.writes (C.represents self.old.counted.command)
@@ -360,7 +360,7 @@ impl<C: MessageMachine> Machine<Refused> for Messages<C> {
         outgoing: &mut OutputBuffer,
         written: u64,
         bytes: &[u8],
-    ) -> Result<Turn, ToolFault> {
+    ) -> Fate {
         let mut rest = bytes;
         let mut after = written;
         while !rest.is_empty() {
@@ -384,12 +384,7 @@ impl<C: MessageMachine> Machine<Refused> for Messages<C> {
         Ok(Turn::On(after))
     }
 
-    fn end<W: Sink>(
-        self,
-        sink: &mut W,
-        outgoing: &mut OutputBuffer,
-        written: u64,
-    ) -> Result<Halt, ToolFault> {
+    fn end<W: Sink>(self, sink: &mut W, outgoing: &mut OutputBuffer, written: u64) -> Closed {
         let Messages { counted, reader } = self;
         match reader.finish() {
             Ok(()) => counted.end(sink, outgoing, written, None),

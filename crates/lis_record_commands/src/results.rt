@@ -13,7 +13,7 @@ ghost use Rattle.lis_tree.specs.Tree.{MessageTree};
 
 use crate::held_text::HeldText;
 use crate::messages::{Closing, MessageMachine, report_following, run_messages};
-use lis_engine::{OutputBuffer, Part, Print, SourceFor, ToolFault};
+use lis_engine::{OutputBuffer, Part, Print, SourceFor, Written};
 use lis_message::{BorrowedRecord, MessageFault};
 use lis_port::Sink;
 use lis_record_values::Kind;
@@ -84,7 +84,7 @@ impl MessageMachine for Results {
         outgoing: &mut OutputBuffer,
         written: u64,
         _before: u64,
-    ) -> Result<u64, ToolFault> {
+    ) -> Written {
         let result = Part::Text(self.lines.as_slice()).print(sink, outgoing, written);
         self.lines.clear();
         self.sample.clear();

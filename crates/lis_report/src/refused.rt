@@ -3,7 +3,7 @@
 ghost use Rattle.std.specs.Prelude.{◌≡◌};
 ghost use Rattle.lis_report.specs.Codes.{printed_reason, refused_line};
 
-use lis_engine::{OutputBuffer, Part, Print, ToolFault};
+use lis_engine::{OutputBuffer, Part, Print, Written};
 use lis_port::Sink;
 use lis_record_values::{MessageFault, Reason, RecordFault};
 use std::fmt;
@@ -32,6 +32,9 @@ pub type Turn = lis_engine::Turn<Refused>;
 /// What becomes of a command's run after a step, or why it stopped there.
 pub type Fate = lis_engine::Fate<Refused>;
 
+/// How a command's run halts at the end of its input, or why it stopped there.
+pub type Closed = lis_engine::Closed<Refused>;
+
 impl fmt::Display for Refused {
     fn fmt<W: fmt::Write>(&self, f: &mut fmt::Formatter<W>) -> fmt::Result {
         let code = printed_reason(self.fault.reason);
@@ -43,12 +46,7 @@ impl fmt::Display for Refused {
 impl Print for Refused {
     ghost text = { λ it. refused_line it.message it.fault };
 
-    fn print<W: Sink>(
-        &self,
-        sink: &mut W,
-        outgoing: &mut OutputBuffer,
-        written: u64,
-    ) -> Result<u64, ToolFault> {
+    fn print<W: Sink>(&self, sink: &mut W, outgoing: &mut OutputBuffer, written: u64) -> Written {
         let parts = [
             Part::Text(b"refused "),
             Part::Number(self.message),

@@ -16,7 +16,7 @@ ghost use Rattle.std.proofs.Common.{ap, sym, ◌∙◌};
 use lis_capture::{Line, LineFound, LineReader, MOST_BYTES};
 use lis_engine::{Machine, OutputBuffer, SourceFor, ToolFault};
 use lis_port::Sink;
-use lis_report::{Ended, Fate, Halt, Refused, Turn};
+use lis_report::{Closed, Ended, Fate, Halt, Refused, Turn};
 
 /// A command that takes a capture line by line. Contracts see the lines newest first.
 pub trait LineMachine: Drop {
@@ -53,12 +53,7 @@ pub trait LineMachine: Drop {
         ensures failed { W.failed sink.new ≡ is_err result };
 
     /// Takes the end of the input.
-    fn end<W: Sink>(
-        self,
-        sink: &mut W,
-        outgoing: &mut OutputBuffer,
-        written: u64,
-    ) -> Result<Halt, ToolFault>
+    fn end<W: Sink>(self, sink: &mut W, outgoing: &mut OutputBuffer, written: u64) -> Closed
         requires { W.failed sink.old ≡ false }
         ensures ends { (lines : List LineContent) → represents self lines → length lines < 2 ^ 44 →
             LineEnds (writes.report lines) (out (W.taken sink.old) outgoing.old) (out (W.taken sink.new) outgoing.new)
@@ -187,12 +182,7 @@ impl<C: LineMachine> Machine<Refused> for Lines<C> {
         Ok(Turn::On(after))
     }
 
-    fn end<W: Sink>(
-        self,
-        sink: &mut W,
-        outgoing: &mut OutputBuffer,
-        written: u64,
-    ) -> Result<Halt, ToolFault> {
+    fn end<W: Sink>(self, sink: &mut W, outgoing: &mut OutputBuffer, written: u64) -> Closed {
         let mut lines = self;
         match lines.reader.finish() {
             LineFound::Nothing => lines.command.end(sink, outgoing, written),

@@ -18,10 +18,10 @@ ghost use Rattle.lis_run.specs.Replay.{delivered, having_heard, replay_writes, r
 use crate::lines::LineMachine;
 use crate::replay::{TextLine, buffer_difference};
 use lis_capture::{Line, LineReader, MOST_BYTES};
-use lis_engine::{CountsLine, OutputBuffer, Part, Print, ToolFault};
+use lis_engine::{CountsLine, OutputBuffer, Part, Print, ToolFault, Written};
 use lis_link::{Hearing, Note, ReceiverOf, Step};
 use lis_port::Sink;
-use lis_report::{Halt, Report, Turn};
+use lis_report::{Closed, Fate, Halt, Report, Turn};
 use lis_text::LinkText;
 use std::alloc::Global;
 
@@ -103,7 +103,7 @@ impl<const N: usize, T: Teller> Playing<N, T> {
         written: u64,
         number: u64,
         bytes: &[u8],
-    ) -> Result<Turn, ToolFault>
+    ) -> Fate
         requires { W.failed sink.old ≡ false }
         ensures steps { (r : ReceiverState) (collected : List ℕ) (count : ℕ) →
             IsHearing T.account N self.old.receiver self.old.replies.items self.old.texts r collected count
@@ -142,7 +142,7 @@ impl<const N: usize, T: Teller> Playing<N, T> {
         written: u64,
         number: u64,
         step: Step,
-    ) -> Result<Turn, ToolFault>
+    ) -> Fate
         requires { W.failed sink.old ≡ false }
         ensures step_taken { TakesStep T.account number step self.old.replies.items self.new.replies.items
             (vec_len self.old.replies) (vec_capacity self.old.replies) self.old.texts self.new.texts
@@ -216,7 +216,7 @@ impl<const N: usize, T: Teller> Playing<N, T> {
         written: u64,
         number: u64,
         bytes: &[u8],
-    ) -> Result<Turn, ToolFault>
+    ) -> Fate
         requires { W.failed sink.old ≡ false }
         ensures steps { (lines : List LineContent) →
             IsPlaying T.account N self.old.receiver self.old.replies.items self.old.texts self.old.differences lines →
@@ -245,12 +245,7 @@ impl<const N: usize, T: Teller> Playing<N, T> {
     }
 
     /// Buffers the closing lines of `replay`.
-    fn close<W: Sink>(
-        &self,
-        sink: &mut W,
-        outgoing: &mut OutputBuffer,
-        written: u64,
-    ) -> Result<Halt, ToolFault>
+    fn close<W: Sink>(&self, sink: &mut W, outgoing: &mut OutputBuffer, written: u64) -> Closed
         requires working { W.failed sink.old ≡ false }
         requires lines { T.account ≡ accounts.Lines }
         ensures ends { (lines : List LineContent) →
@@ -304,7 +299,7 @@ impl<const N: usize, T: Teller> LineMachine for Playing<N, T> {
         number: u64,
         line: &Line<'a>,
         room: &'a mut [u8; MOST_BYTES],
-    ) -> Result<Turn, ToolFault> {
+    ) -> Fate {
         match line {
             Line::Empty => Ok(Turn::On(written)),
             Line::Version => Ok(Turn::On(written)),
@@ -337,12 +332,7 @@ impl<const N: usize, T: Teller> LineMachine for Playing<N, T> {
         }
     }
 
-    fn end<W: Sink>(
-        self,
-        sink: &mut W,
-        outgoing: &mut OutputBuffer,
-        written: u64,
-    ) -> Result<Halt, ToolFault> {
+    fn end<W: Sink>(self, sink: &mut W, outgoing: &mut OutputBuffer, written: u64) -> Closed {
         match self.teller.account() {
             Account::Texts => Ok(Halt {
                 written,
@@ -386,12 +376,7 @@ impl Print for DeliveredText<'_> {
     ghost text = { λ it. text_parts it.account it.number (option_to_list it.message.now) };
 
     #[inline(always)]
-    fn print<W: Sink>(
-        &self,
-        sink: &mut W,
-        outgoing: &mut OutputBuffer,
-        written: u64,
-    ) -> Result<u64, ToolFault> {
+    fn print<W: Sink>(&self, sink: &mut W, outgoing: &mut OutputBuffer, written: u64) -> Written {
         let Some(text) = self.message else {
             return Ok(written);
         };

@@ -10,7 +10,7 @@ ghost use Rattle.lis_engine.specs.Runs.{AreFresh, Stops};
 
 use crate::lines::run_lines;
 use crate::playing::{InLines, Playing};
-use lis_engine::{OutputBuffer, Part, Print, SourceFor, ToolFault, make_room};
+use lis_engine::{OutputBuffer, Part, Print, SourceFor, Written, make_room};
 use lis_port::Sink;
 use lis_report::Ended;
 use std::alloc::Global;
@@ -70,12 +70,7 @@ pub(crate) struct TextLine<'a> {
 impl Print for TextLine<'_> {
     ghost text = { λ line. text_line line.number line.text.now };
 
-    fn print<W: Sink>(
-        &self,
-        sink: &mut W,
-        outgoing: &mut OutputBuffer,
-        written: u64,
-    ) -> Result<u64, ToolFault> {
+    fn print<W: Sink>(&self, sink: &mut W, outgoing: &mut OutputBuffer, written: u64) -> Written {
         let after = make_room(sink, outgoing, written, TEXT_LINE_ROOM)?;
         outgoing.append(b"text ");
         outgoing.append_number(self.number);
@@ -96,7 +91,7 @@ pub(crate) fn buffer_difference<'x, W: Sink>(
     want: &'x [u8],
     got: &'x [u8],
     same: bool,
-) -> Result<u64, ToolFault>
+) -> Written
     requires { W.failed sink.old ≡ false }
     ensures buffered { IsBuffered (out (W.taken sink.old) outgoing.old) (out (W.taken sink.new) outgoing.new) written
         result

@@ -15,10 +15,10 @@ ghost use Rattle.lis_engine.specs.Outcome.{going};
 ghost use Rattle.lis_engine.specs.inside.Parts.{part_text, text_if_any};
 ghost use Rattle.std.proofs.Common.{ap};
 
-use lis_engine::{Machine, OutputBuffer, Part, Print, SourceFor, ToolFault, Written, make_room};
+use lis_engine::{Machine, OutputBuffer, Part, Print, SourceFor, Written, make_room};
 use lis_frame::{BorrowedFrame, FrameFault, Heard, ScannerOf};
 use lis_port::Sink;
-use lis_report::{Ended, Fate, Halt, Refused, Report, Turn};
+use lis_report::{Closed, Ended, Fate, Halt, Refused, Report, Turn};
 
 /// The room that the beginning of a frame's line has: as far as the length of its text, and a space.
 const FRAME_ROOM: usize = 100;
@@ -106,12 +106,7 @@ impl<const N: usize> Machine<Refused> for Show<N> {
         }
     }
 
-    fn end<W: Sink>(
-        self,
-        _sink: &mut W,
-        _outgoing: &mut OutputBuffer,
-        written: u64,
-    ) -> Result<Halt, ToolFault> {
+    fn end<W: Sink>(self, _sink: &mut W, _outgoing: &mut OutputBuffer, written: u64) -> Closed {
         Ok(Halt {
             written,
             result: Ok(Report::of(false)),
@@ -179,7 +174,7 @@ fn print_frame<W: Sink>(
 {
     match frame {
         None => Ok(written),
-        Some(frame) => report_frame(sink, outgoing, written, &frame),
+        Some(frame) => FrameLine(&frame).print(sink, outgoing, written),
     }
 }
 
@@ -201,48 +196,41 @@ fn show_byte<const N: usize, W: Sink>(
 {
     let result = match scanner.peek(byte) {
         None => Ok(written),
-        Some(heard) => report_heard(sink, outgoing, written, &heard),
+        Some(heard) => HeardLine(&heard).print(sink, outgoing, written),
     };
     scanner.take(byte);
     result
 }
 
-/// Buffers the line of a signal.
-fn report_heard<W: Sink>(
-    sink: &mut W,
-    outgoing: &mut OutputBuffer,
-    written: u64,
-    heard: &Heard<'_>,
-) -> Written
-    requires { W.failed sink.old ≡ false }
-    ensures buffered { IsBuffered (out (W.taken sink.old) outgoing.old) (out (W.taken sink.new) outgoing.new) written
-        result
-        (heard_line heard.now) }
-    ensures failed { W.failed sink.new ≡ is_err result }
-{
-    match heard {
-        Heard::Enq => Part::Text(b"ENQ\n").print(sink, outgoing, written),
-        Heard::Eot => Part::Text(b"EOT\n").print(sink, outgoing, written),
-        Heard::Good(frame) => report_frame(sink, outgoing, written, frame),
-        Heard::Bad(fault) => report_fault(sink, outgoing, written, *fault),
+/// The line of a signal.
+#[derive(Clone, Copy)]
+struct HeardLine<'a>(&'a Heard<'a>);
+
+impl Print for HeardLine<'_> {
+    ghost text = { λ line. heard_line line.0.now };
+
+    fn print<W: Sink>(&self, sink: &mut W, outgoing: &mut OutputBuffer, written: u64) -> Written {
+        match self.0 {
+            Heard::Enq => Part::Text(b"ENQ\n").print(sink, outgoing, written),
+            Heard::Eot => Part::Text(b"EOT\n").print(sink, outgoing, written),
+            Heard::Good(frame) => FrameLine(frame).print(sink, outgoing, written),
+            Heard::Bad(fault) => BadLine(*fault).print(sink, outgoing, written),
+        }
     }
 }
 
-/// Buffers the line of a frame.
-fn report_frame<W: Sink>(
-    sink: &mut W,
-    outgoing: &mut OutputBuffer,
-    written: u64,
-    frame: &BorrowedFrame<'_>,
-) -> Written
-    requires { W.failed sink.old ≡ false }
-    ensures buffered { IsBuffered (out (W.taken sink.old) outgoing.old) (out (W.taken sink.new) outgoing.new) written
-        result
-        (frame_line frame.now) }
-    ensures failed { W.failed sink.new ≡ is_err result }
-{
-    let digits = digits_part(frame.text());
-    ((FrameStart(frame), digits), Part::Text(b"\n")).print(sink, outgoing, written)
+/// The line of a frame.
+#[derive(Clone, Copy)]
+struct FrameLine<'a>(&'a BorrowedFrame<'a>);
+
+impl Print for FrameLine<'_> {
+    ghost text = { λ line. frame_line line.0.now };
+
+    fn print<W: Sink>(&self, sink: &mut W, outgoing: &mut OutputBuffer, written: u64) -> Written {
+        let FrameLine(frame) = self;
+        let digits = digits_part(frame.text());
+        ((FrameStart(frame), digits), Part::Text(b"\n")).print(sink, outgoing, written)
+    }
 }
 
 /// The line of a frame as far as the length of its text.
@@ -293,24 +281,20 @@ fn digits_part(bytes: &[u8]) -> Option<(Part<'_>, Part<'_>)>
     Some((Part::Text(b" "), Part::Digits(bytes)))
 }
 
-/// Buffers the line of a bad frame.
-fn report_fault<W: Sink>(
-    sink: &mut W,
-    outgoing: &mut OutputBuffer,
-    written: u64,
-    fault: FrameFault,
-) -> Written
-    requires { W.failed sink.old ≡ false }
-    ensures buffered { IsBuffered (out (W.taken sink.old) outgoing.old) (out (W.taken sink.new) outgoing.new) written
-        result
-        (bad_line fault) }
-    ensures failed { W.failed sink.new ≡ is_err result }
-{
-    let after = make_room(sink, outgoing, written, FRAME_ROOM)?;
-    outgoing.append(b"bad ");
-    append_fault(outgoing, fault);
-    outgoing.append(b"\n");
-    Ok(after)
+/// The line of a bad frame.
+#[derive(Clone, Copy)]
+struct BadLine(FrameFault);
+
+impl Print for BadLine {
+    ghost text = { λ line. bad_line line.0 };
+
+    fn print<W: Sink>(&self, sink: &mut W, outgoing: &mut OutputBuffer, written: u64) -> Written {
+        let after = make_room(sink, outgoing, written, FRAME_ROOM)?;
+        outgoing.append(b"bad ");
+        append_fault(outgoing, self.0);
+        outgoing.append(b"\n");
+        Ok(after)
+    }
 }
 
 /// Puts the code of a fault after the output buffer, with the place of a byte that a text may not hold.

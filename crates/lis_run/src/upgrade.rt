@@ -11,9 +11,9 @@ ghost use Rattle.lis_run.specs.inside.Upgrade.{is_begun};
 
 use crate::lines::{LineMachine, run_lines};
 use lis_capture::{LONGEST_ENCODING, Line, LineReader, MOST_BYTES};
-use lis_engine::{OutputBuffer, Part, Print, SourceFor, ToolFault, make_room};
+use lis_engine::{OutputBuffer, Part, Print, SourceFor, Written, make_room};
 use lis_port::Sink;
-use lis_report::{Ended, Halt, Report, Turn};
+use lis_report::{Closed, Ended, Fate, Halt, Report, Turn};
 
 /// Writes a capture as one of version 2: the line `capture 2`, and then each of its lines, with digits in
 /// lower case and without CR. Where a line is malformed, the lines before it are written. It takes no memory.
@@ -56,19 +56,14 @@ impl LineMachine for Upgrade {
         _number: u64,
         line: &Line<'a>,
         _room: &'a mut [u8; MOST_BYTES],
-    ) -> Result<Turn, ToolFault> {
+    ) -> Fate {
         let opening = opening_after(self.begun);
         self.begun = true;
         let after = (opening, AddedLine(line)).print(sink, outgoing, written)?;
         Ok(Turn::On(after))
     }
 
-    fn end<W: Sink>(
-        self,
-        sink: &mut W,
-        outgoing: &mut OutputBuffer,
-        written: u64,
-    ) -> Result<Halt, ToolFault> {
+    fn end<W: Sink>(self, sink: &mut W, outgoing: &mut OutputBuffer, written: u64) -> Closed {
         let written = opening_after(self.begun).print(sink, outgoing, written)?;
         Ok(Halt {
             written,
@@ -96,12 +91,7 @@ impl Print for AddedLine<'_, '_> {
     ghost text = { λ added. added_encoding added.0.now };
 
     #[inline(always)]
-    fn print<W: Sink>(
-        &self,
-        sink: &mut W,
-        outgoing: &mut OutputBuffer,
-        written: u64,
-    ) -> Result<u64, ToolFault> {
+    fn print<W: Sink>(&self, sink: &mut W, outgoing: &mut OutputBuffer, written: u64) -> Written {
         let AddedLine(line) = self;
         if let Line::Version = line {
             return Ok(written);
