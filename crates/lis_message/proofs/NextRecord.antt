@@ -155,10 +155,6 @@ line_stopped left held text following bytes reason lacks whole (inr why) =
 pub nothing_held : (held : List ℕ) → true ≡ (length held == 0) → held ≡ []
 nothing_held held empty = nil_from_length held (eqb-true (length held) 0 (sym empty))
 
-pub nothing_kept : (h : Holding) → h.held ≡ [] → h.split ≡ None → h ≡ record { held = []; split = None }
-nothing_kept h held split =
-    ap (λ l. record { held = l; split = h.split }) held ∙ ap (λ k. record { held = []; split = k }) split
-
 -- the stream may end here
 pub ends_fine : (left : Option Begun) (held : List ℕ) → is_some (opened_of left) ≡ false → held ≡ []
     → Ok tt ≡ answer_at_end left held
@@ -199,7 +195,7 @@ known_reported entry d k text held is marks kind same =
 
 -- ---- where the last record was released
 
-record_same : (before other after : RecordsState) (left : Option Begun) (bytes following : List ℕ)
+abbrev record_same : (before other after : RecordsState) (left : Option Begun) (bytes following : List ℕ)
     (entry : Borrowed RecordContent) → before.held ≡ other.held → ReadsRecord before after left bytes following entry
     → ReadsRecord other after left bytes following entry
 record_same before other after left bytes following entry same r = record {
@@ -225,8 +221,12 @@ reads_same before other after left bytes following found.Nothing same open' r = 
 }
 reads_same before other after left bytes following (found.Record entry) same open' r =
     (r.0, record_same before other after left bytes following entry same r.1)
-reads_same before other after left bytes following found.Held same open' r =
-    (r.0, r.1, record_same before other after left bytes following r.0 same r.2)
+reads_same before other after left bytes following found.Held same open' r = (
+  r.0,
+  r.1,
+  record_same before other after left bytes following r.0 same r.2,
+  r.3 ∙ ap (λ (h : List ℕ). h ++ r.2.text) same,
+)
 reads_same before other after left bytes following (found.Refused fault) same open' r = record {
   none_read = r.none_read;
   place = r.place;

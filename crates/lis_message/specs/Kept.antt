@@ -25,9 +25,11 @@ abbrev pub opened_of : Option Begun → Option Opened
 opened_of None = None
 opened_of (Some begun) = Some (opened_with begun)
 
--- next to it, bytes of a record that isn't ended, the last record where it was split, and the fault that was met
+-- next to it, bytes of a record that isn't ended, the last record where it was split, its text, and the fault that was
+-- met
 pub record RecordsState : Type 0 where
   pub opened : Option Opened
   pub held : List ℕ
   pub split : Option (Borrowed RecordContent)
+  pub split_text : List ℕ
   pub fault : Option MessageFault

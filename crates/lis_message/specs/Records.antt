@@ -65,13 +65,14 @@ pub record Refuses (before after : RecordsState) (left : Option Begun) (bytes fo
   pub opened : after.opened ≡ before.opened
   pub uncut : after.split ≡ None
 
--- What it answers to bytes, and what it then keeps: a record that was split too, and no other.
+-- What it answers to bytes, and what it then keeps: a record that was split too, with its text, and no other.
 abbrev pub Reads : RecordsState → RecordsState → Option Begun → (bytes following : List ℕ) → RecordFound → Type 0
 Reads before after left bytes following found.Nothing = ReadsOn before after left bytes following
 Reads before after left bytes following (found.Record entry) =
     (after.split ≡ None) × ReadsRecord before after left bytes following entry
 Reads before after left bytes following found.Held =
-    (entry : Borrowed RecordContent) × (after.split ≡ Some entry) × ReadsRecord before after left bytes following entry
+    (entry : Borrowed RecordContent) × (after.split ≡ Some entry)
+    × (r : ReadsRecord before after left bytes following entry) × (after.split_text ≡ before.held ++ r.text)
 Reads before after left bytes following (found.Refused fault) = Refuses before after left bytes following fault
 
 -- Unless it reports a fault, it reads some of the bytes, where there are any. A record that was split can be had then.

@@ -14,7 +14,7 @@ ghost use Rattle.lis_message.specs.Taking.{ComesNext, left_after};
 ghost use Rattle.lis_message.specs.inside.Taking.{front_refusal};
 ghost use Rattle.lis_record_write.specs.declared.writing.TheConstants.{RECORD_LIMIT};
 ghost use Rattle.lis_record.specs.Borrowed.{Borrowed, record_in};
-ghost use Rattle.lis_record_values.specs.Text.{bad_byte_place};
+ghost use Rattle.lis_record_values.specs.Text.{bad_byte_place, record_limit};
 ghost use Rattle.lis_record_values.specs.Shape.{RecordContent};
 ghost use Rattle.lis_tree.specs.Begun.{Begun};
 ghost use Rattle.lis_record_values.specs.declared.faults.Reason.TheVariants as reasons;
@@ -223,7 +223,7 @@ impl Model for HeldBytes {
 
 impl HeldBytes {
     fn new(alloc: Global) -> Self
-        ensures { result ≡ record { held = []; split = None } }
+        ensures { result ≡ record { held = []; split = None; split_text = [] } }
     {
         HeldBytes {
             bytes: Vec::new(alloc),
@@ -246,7 +246,7 @@ impl HeldBytes {
     /// Whether nothing is held, no last record either.
     #[inline(always)]
     fn is_clear(&self) -> bool
-        ensures { IsTrue result ↔ (self.now ≡ record { held = []; split = None }) }
+        ensures { IsTrue result ↔ ((self.now.held ≡ []) × (self.now.split ≡ None)) }
     {
         self.known.is_none() && self.bytes.is_empty()
     }
@@ -254,7 +254,7 @@ impl HeldBytes {
     /// Releases the last record.
     #[inline(always)]
     fn forget_split(&mut self)
-        ensures { self.new ≡ record { held = self.old.held; split = None } }
+        ensures { self.new ≡ record { held = self.old.held; split = None; split_text = [] } }
     {
         if self.known.is_some() {
             self.bytes.clear();
@@ -263,7 +263,7 @@ impl HeldBytes {
     }
 
     fn clear(&mut self)
-        ensures { self.new ≡ record { held = []; split = None } }
+        ensures { self.new ≡ record { held = []; split = None; split_text = [] } }
     {
         self.bytes.clear();
         self.known = None;
@@ -273,7 +273,11 @@ impl HeldBytes {
     #[inline(never)]
     fn hold(&mut self, bytes: &[u8]) -> Result<(), Reason>
         requires { self.old.split ≡ None }
-        ensures ok { OnOk result (self.new ≡ record { held = self.old.held ++ bytes.now; split = None }) }
+        ensures ok { OnOk result (self.new ≡ record {
+          held = self.old.held ++ bytes.now;
+          split = None;
+          split_text = [];
+        }) }
         ensures short { OnOk result (length (self.old.held ++ bytes.now) ≤ RECORD_LIMIT) }
         ensures err { IfErr result (λ e. (e ≡ reasons.OutOfMemory)
             ⊎ ((e ≡ reasons.RecordTooLong) × (RECORD_LIMIT < length (self.old.held ++ bytes.now)))) }
@@ -290,7 +294,11 @@ impl HeldBytes {
     /// What is held is a record of this kind under these delimiters.
     fn end(&mut self, delimiters: Delimiters, kind: Kind)
         requires { self.old.split ≡ None }
-        ensures { self.new ≡ record { held = []; split = Some (record_in delimiters kind self.old.held) } }
+        ensures { self.new ≡ record {
+          held = [];
+          split = Some (record_in delimiters kind self.old.held);
+          split_text = self.old.held;
+        } }
     {
         self.known = Some(Known { delimiters, kind });
     }
@@ -303,6 +311,19 @@ impl HeldBytes {
             return None;
         };
         Some(BorrowedRecord::in_text(known.delimiters, known.kind, self.bytes.as_slice()))
+    }
+
+    /// Its text; empty where there is none.
+    fn split_text(&self) -> &[u8]
+        ensures value { result.now ≡ self.now.split_text }
+        ensures bound { length result.now ≤ RECORD_LIMIT }
+        ensures place { IfSome self.now.split (λ entry.
+            entry ≡ record_in entry.delimiters entry.content.kind result.now) }
+    {
+        match self.known {
+            None => &[],
+            Some(_) => self.bytes.as_slice(),
+        }
     }
 }
 
@@ -334,13 +355,19 @@ impl Model for RecordReader {
 
     ghost Value = { RecordsState };
 
-    ghost view = { λ r. record { opened = r.opened; held = r.kept.held; split = r.kept.split; fault = r.fault } };
+    ghost view = { λ r. record {
+      opened = r.opened;
+      held = r.kept.held;
+      split = r.kept.split;
+      split_text = r.kept.split_text;
+      fault = r.fault;
+    } };
 }
 
 impl RecordReader {
     /// A reader at the start of a stream. It takes no memory yet.
     pub fn new(alloc: Global) -> Self
-        ensures state { result ≡ record { opened = None; held = []; split = None; fault = None } }
+        ensures state { result ≡ record { opened = None; held = []; split = None; split_text = []; fault = None } }
         ensures left { HasLeft result None }
     {
         RecordReader {
@@ -420,6 +447,16 @@ impl RecordReader {
         ensures { result ≡ self.now.split }
     {
         self.kept.split()
+    }
+
+    /// The text of that record, without its CR; empty where there is none.
+    pub fn split_text(&self) -> &[u8]
+        ensures value { result.now ≡ self.now.split_text }
+        ensures bound { length result.now ≤ record_limit }
+        ensures place { IfSome self.now.split (λ entry.
+            entry ≡ record_in entry.delimiters entry.content.kind result.now) }
+    {
+        self.kept.split_text()
     }
 
     /// The place of the next record in its message, from 1 for a header.

@@ -15,6 +15,7 @@ pub record EndsHeld (before after : RecordsState) (left : Option Begun) (text : 
   pub comes : ComesNext left (before.held ++ text) entry
   pub opened : after.opened ≡ opened_of (left_after left entry entry.content.kind)
   pub reported : after.split ≡ Some entry
+  pub text_is : after.split_text ≡ before.held ++ text
   pub empty : after.held ≡ []
 
 -- A message that the record completes is added to the others.

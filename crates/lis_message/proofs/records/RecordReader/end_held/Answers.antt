@@ -23,5 +23,8 @@ returns-clause-ok c = λ left is.
           ap (λ (h : Holding). h.split) c.end.ensures
           ∙ known_reported c.in-Ok.entry c.delimiters.result c.kind.result c.text-text.result.now c.hold.new.self.held
           c.in-Ok.ensures.place c.delimiters.ensures c.kind.ensures c.text-text.ensures.value;
+      text_is =
+          ap (λ (h : Holding). h.split_text) c.end.ensures ∙ ap (λ (h : Holding). h.held) c.in_default.ensures.ok
+          ∙ ap (λ (r : RecordsState). r.held ++ c.args.text.now) c.self.view_is;
       empty = ap (λ (h : Holding). h.held) c.end.ensures;
     }

@@ -10,3 +10,19 @@ returns-in-Err-end_whole-clause-err c = λ left has.
     whole_stopped left c.args.self.now.held c.in-Some.text.now c.in-Some.following.now c.args.bytes.now
     c.in-Err-end_whole.reason none c.in-Some.ensures.lacks c.in-Some.ensures.some
     (c.in-Err-end_whole.ensures.err left has.opened)
+
+pub returns-in-Ok-end_held-clause-ok : goal.returns-in-Ok-end_held-clause-ok
+returns-in-Ok-end_held-clause-ok c = λ left has.
+    let ended = c.in-Ok-end_held.ensures.ok left has.opened in (
+      ended.entry,
+      ended.reported,
+      record {
+        text = c.in-Some.text.now;
+        whole = c.in-Some.ensures.some;
+        lacks = c.in-Some.ensures.lacks;
+        comes = ended.comes;
+        left_then = record { no_fault = c.end_held.ensures.fault ∙ has.no_fault; opened = ended.opened };
+        empty = ended.empty;
+      },
+      ended.text_is,
+    )

@@ -1,6 +1,5 @@
 use Rattle.std.proofs.Common.{◌≡◌, ◌∷◌, ◌++◌, [], ℕ, List, sym, ap, subst, ◌∙◌, drop, take-append-drop}
 use Rattle.lis_message.specs.Kept.{RecordsState}
-use Rattle.lis_message.specs.inside.Kept.{Holding}
 use Rattle.lis_message.specs.Taking.{ComesNext}
 use Rattle.lis_message.proofs.Lines.{text_lacks}
 use Rattle.lis_message.proofs.WholeRecords.{bad_line, ended_line, no_line}
@@ -13,11 +12,9 @@ returns-in-Ok-clause-read c = λ left has.
     let end = c.in-Some.end in
     let rest = c.in-Some-split_first.rest.now in
     let clear = c.is_clear.ensures.0 c.if-not-is_clear.false in
-    let none : c.args.self.now.held ≡ [] = ap (λ (r : RecordsState). r.held) (sym c.self.view_is)
-    ∙ ap (λ (h : Holding). h.held) clear in
+    let none : c.args.self.now.held ≡ [] = ap (λ (r : RecordsState). r.held) (sym c.self.view_is) ∙ clear.0 in
     let read = c.in-Ok.ensures.ok left has.opened in
-    let uncut = c.end_whole.ensures.split ∙ ap (λ (r : RecordsState). r.split) (sym c.self.view_is)
-    ∙ ap (λ (h : Holding). h.split) clear in (
+    let uncut = c.end_whole.ensures.split ∙ ap (λ (r : RecordsState). r.split) (sym c.self.view_is) ∙ clear.1 in (
       uncut,
       record {
         text = text;
