@@ -130,10 +130,7 @@ module _ (limit : ℕ) (w : World) (is_new : Bool) (is_limit : IsLimit limit) (h
     holds (Happens Deliver),
     λ e. without_unit limit w (new e) (λ us. delivered limit us w) refl,
   )
-  after_in_time (Happens DeliverNoRoom) in_time = (
-    holds (Happens DeliverNoRoom),
-    λ e. no_room_new limit w (new e),
-  )
+  after_in_time (Happens DeliverNoRoom) in_time = (holds (Happens DeliverNoRoom), λ e. no_room_new limit w (new e))
   after_in_time (Happens (Damage bytes)) in_time = (
     holds (Happens (Damage bytes)),
     λ e. without_unit limit w (new e) (λ us. damaged limit bytes us w) refl,
@@ -164,14 +161,8 @@ module _ (limit : ℕ) (w : World) (is_new : Bool) (is_limit : IsLimit limit) (h
     holds (Happens RestartReceiver),
     λ e. receiver_new limit w (new e) _ refl refl refl,
   )
-  after_in_time (Happens Ready) in_time = (
-    holds (Happens Ready),
-    λ e. receiver_new limit w (new e) _ refl refl refl,
-  )
-  after_in_time (Happens Busy) in_time = (
-    holds (Happens Busy),
-    λ e. receiver_new limit w (new e) _ refl refl refl,
-  )
+  after_in_time (Happens Ready) in_time = (holds (Happens Ready), λ e. receiver_new limit w (new e) _ refl refl refl)
+  after_in_time (Happens Busy) in_time = (holds (Happens Busy), λ e. receiver_new limit w (new e) _ refl refl refl)
   after_in_time (Happens Contending) in_time = (
     holds (Happens Contending),
     λ e. receiver_new limit w (new e) _ refl refl refl,
