@@ -16,7 +16,8 @@ use Rattle.lis_world.specs.Unit.{Travelling}
 use Rattle.lis_world.specs.World.{World, new_world}
 use Rattle.lis_world.specs.Steps.{with_sender, sender_steps, begins, delivered, room_at, damaged, replied}
 use Rattle.lis_world.specs.Steps.{reply_damaged}
-use Rattle.lis_world.specs.Late.{reconnected, after_late_event, runs_late, late_world, reply_may_come, at_any_time}
+use Rattle.lis_world.specs.Late.{reconnected, after_late_event, late_world, reply_may_come, at_any_time}
+use Rattle.lis_world.specs.inside.Playing.{runs_late}
 use Rattle.lis_world.specs.Late.{is_empty}
 use Rattle.lis_world.specs.LateDiscipline.{is_neutral, is_new_after, StartsInTime, StartInTime, SafeOnNewLines}
 use Rattle.lis_world.proofs.Invariant.{Holds, AllEndings}
