@@ -25,7 +25,8 @@ use Rattle.lis_world.specs.Unit.{enquiry, ending, Travelling, load_bytes}
 use Rattle.lis_world.specs.Session.{Session, new_session, session_at}
 use Rattle.lis_world.specs.World.{World, new_world, ComputerState, computer_state_of, booked, hears, lowered, settled}
 use Rattle.lis_world.specs.Steps.{begins, delivered, damaged, is_noticed, room_at, replied}
-use Rattle.lis_world.specs.Steps.{reply_damaged, sender_steps, after_event, runs, world}
+use Rattle.lis_world.specs.Steps.{reply_damaged, sender_steps, after_event, world}
+use Rattle.lis_world.specs.inside.Playing.{runs}
 use Rattle.lis_world.specs.Safe.{IsPrefix}
 use Rattle.lis_world.specs.Progress.{Round, undisturbed, without_room, bad_frame, bad_reply, round_events}
 use Rattle.lis_world.specs.Progress.{IsBadBody, IsNoticed, good_rounds, FewInARow, IsCalm}

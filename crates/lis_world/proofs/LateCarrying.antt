@@ -15,11 +15,12 @@ use Rattle.lis_world.specs.declared.event.LateEvent.{LateEvent}
 use Rattle.lis_world.specs.declared.event.LateEvent.TheVariants.{Happens}
 use Rattle.lis_world.specs.Unit.{Travelling}
 use Rattle.lis_world.specs.World.{World, new_world}
-use Rattle.lis_world.specs.Steps.{after_event, runs}
+use Rattle.lis_world.specs.Steps.{after_event}
+use Rattle.lis_world.specs.inside.Playing.{runs, runs_late}
 use Rattle.lis_world.specs.Progress.{Round, undisturbed, without_room, bad_frame, bad_reply, round_events}
 use Rattle.lis_world.specs.Progress.{session_events, IsCarried, AreSendable, quiet_events}
 use Rattle.lis_world.specs.Progress.{done_session}
-use Rattle.lis_world.specs.Late.{happens_late, after_late_event, runs_late, late_world, has_no_unit, has_no_reply}
+use Rattle.lis_world.specs.Late.{happens_late, after_late_event, late_world, has_no_unit, has_no_reply}
 use Rattle.lis_world.specs.Late.{is_empty, is_quiet, only_endings, is_answered, reply_may_come, at_any_time}
 use Rattle.lis_world.specs.LateRecovery.{renewal, CarriesAfter, CarriesOnNewLine, CarriesOnNewLines}
 use Rattle.lis_world.proofs.Invariant.{Holds}

@@ -16,7 +16,8 @@ use Rattle.lis_world.specs.Unit.{Travelling}
 use Rattle.lis_world.specs.World.{World, new_world}
 use Rattle.lis_world.specs.Steps.{with_sender, sender_steps, begins, delivered, room_at, damaged, replied}
 use Rattle.lis_world.specs.Steps.{reply_damaged}
-use Rattle.lis_world.specs.Late.{reconnected, after_late_event, runs_late, late_world, reply_may_come, at_any_time}
+use Rattle.lis_world.specs.Late.{reconnected, after_late_event, late_world, reply_may_come, at_any_time}
+use Rattle.lis_world.specs.inside.Playing.{runs_late}
 use Rattle.lis_world.specs.Late.{is_empty}
 use Rattle.lis_world.specs.LateDiscipline.{is_neutral, is_new_after, StartsInTime, StartInTime, SafeOnNewLines}
 use Rattle.lis_world.proofs.Invariant.{Holds, AllEndings}
@@ -130,10 +131,7 @@ module _ (limit : ℕ) (w : World) (is_new : Bool) (is_limit : IsLimit limit) (h
     holds (Happens Deliver),
     λ e. without_unit limit w (new e) (λ us. delivered limit us w) refl,
   )
-  after_in_time (Happens DeliverNoRoom) in_time = (
-    holds (Happens DeliverNoRoom),
-    λ e. no_room_new limit w (new e),
-  )
+  after_in_time (Happens DeliverNoRoom) in_time = (holds (Happens DeliverNoRoom), λ e. no_room_new limit w (new e))
   after_in_time (Happens (Damage bytes)) in_time = (
     holds (Happens (Damage bytes)),
     λ e. without_unit limit w (new e) (λ us. damaged limit bytes us w) refl,
@@ -164,14 +162,8 @@ module _ (limit : ℕ) (w : World) (is_new : Bool) (is_limit : IsLimit limit) (h
     holds (Happens RestartReceiver),
     λ e. receiver_new limit w (new e) _ refl refl refl,
   )
-  after_in_time (Happens Ready) in_time = (
-    holds (Happens Ready),
-    λ e. receiver_new limit w (new e) _ refl refl refl,
-  )
-  after_in_time (Happens Busy) in_time = (
-    holds (Happens Busy),
-    λ e. receiver_new limit w (new e) _ refl refl refl,
-  )
+  after_in_time (Happens Ready) in_time = (holds (Happens Ready), λ e. receiver_new limit w (new e) _ refl refl refl)
+  after_in_time (Happens Busy) in_time = (holds (Happens Busy), λ e. receiver_new limit w (new e) _ refl refl refl)
   after_in_time (Happens Contending) in_time = (
     holds (Happens Contending),
     λ e. receiver_new limit w (new e) _ refl refl refl,

@@ -26,17 +26,7 @@ ComesTo may_start events sessions = (late_world may_start 240 events).sessions �
 -- the ACK to the ENQ of a session that timed out comes during the next session, which takes it as the answer to its own
 -- ENQ; the ACK to that ENQ then acknowledges its frame, which is lost
 abbrev early_start : List Event
-early_start =
-    start 0x41
-    ∷ Deliver
-    ∷ SenderTimer
-    ∷ start 0x42
-    ∷ Reply
-    ∷ Deliver
-    ∷ Deliver
-    ∷ Reply
-    ∷ Lose
-    ∷ []
+early_start = start 0x41 ∷ Deliver ∷ SenderTimer ∷ start 0x42 ∷ Reply ∷ Deliver ∷ Deliver ∷ Reply ∷ Lose ∷ []
 
 abbrev timed_out_letter : ℕ → Session
 timed_out_letter letter = record (begun_letter letter) { outcome = Some TimedOut }
@@ -78,17 +68,16 @@ a_late_reply_changes_nothing : ComesTo is_empty
 unfolding signal_after open_body body_fault session_frames pieces frame_bytes
 a_late_reply_changes_nothing = refl
 
-after_an_ending : ComesTo is_quiet
-    (map Happens (start 0x41 ∷ Deliver ∷ SenderTimer ∷ Reply ∷ start 0x42 ∷ Deliver ∷ Deliver ∷ Reply ∷ Deliver
-    ∷ Reply ∷ []))
+abbrev start_after_an_ending : List Event
+start_after_an_ending =
+    start 0x41 ∷ Deliver ∷ SenderTimer ∷ Reply ∷ start 0x42 ∷ Deliver ∷ Deliver ∷ Reply ∷ Deliver ∷ Reply ∷ []
+
+after_an_ending : ComesTo is_quiet (map Happens start_after_an_ending)
     (timed_out_letter 0x41 ∷ done_letter 0x42 ∷ [])
 unfolding signal_after open_body body_fault session_frames pieces frame_bytes
 after_an_ending = refl
 
-an_ending_is_not_empty : ComesTo is_empty
-    (map Happens (start 0x41 ∷ Deliver ∷ SenderTimer ∷ Reply ∷ start 0x42 ∷ Deliver ∷ Deliver ∷ Reply ∷ Deliver
-    ∷ Reply ∷ []))
-    (timed_out_letter 0x41 ∷ [])
+an_ending_is_not_empty : ComesTo is_empty (map Happens start_after_an_ending) (timed_out_letter 0x41 ∷ [])
 unfolding signal_after open_body body_fault session_frames pieces frame_bytes
 an_ending_is_not_empty = refl
 
@@ -151,30 +140,10 @@ not_at_any_time = not_safe at_any_time early_start an_early_start_takes_a_late_r
 
 -- the late reply is still on the link, or the unit that it answers is
 abbrev start_before_a_reply : List Event
-start_before_a_reply =
-    start 0x41
-    ∷ Deliver
-    ∷ SenderTimer
-    ∷ Deliver
-    ∷ start 0x42
-    ∷ Reply
-    ∷ Deliver
-    ∷ Reply
-    ∷ Lose
-    ∷ []
+start_before_a_reply = start 0x41 ∷ Deliver ∷ SenderTimer ∷ Deliver ∷ start 0x42 ∷ Reply ∷ Deliver ∷ Reply ∷ Lose ∷ []
 
 abbrev start_after_a_unit : List Event
-start_after_a_unit =
-    start 0x41
-    ∷ SenderTimer
-    ∷ start 0x42
-    ∷ Deliver
-    ∷ Reply
-    ∷ Deliver
-    ∷ Deliver
-    ∷ Reply
-    ∷ Lose
-    ∷ []
+start_after_a_unit = start 0x41 ∷ SenderTimer ∷ start 0x42 ∷ Deliver ∷ Reply ∷ Deliver ∷ Deliver ∷ Reply ∷ Lose ∷ []
 
 a_late_reply_is_taken : ComesTo has_no_unit (map Happens start_before_a_reply)
     (timed_out_letter 0x41 ∷ untaken_done 0x42 ∷ [])

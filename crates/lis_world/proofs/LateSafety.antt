@@ -31,7 +31,8 @@ use Rattle.lis_world.specs.World.{World, new_world, ComputerState, computer_stat
 use Rattle.lis_world.specs.Steps.{with_sender, emitted, sender_steps, begins, delivered, room_at, is_noticed, damaged}
 use Rattle.lis_world.specs.Steps.{replied, reply_damaged, forgotten, given_up, after_event}
 use Rattle.lis_world.specs.Safe.{Safe}
-use Rattle.lis_world.specs.Late.{reconnected, happens_late, after_late_event, runs_late, late_world, is_empty}
+use Rattle.lis_world.specs.Late.{reconnected, happens_late, after_late_event, late_world, is_empty}
+use Rattle.lis_world.specs.inside.Playing.{runs_late}
 use Rattle.lis_world.specs.Late.{is_ending, only_endings, is_quiet, reply_may_come, is_answered, SafeWhere}
 use Rattle.lis_world.proofs.Invariant.{AllEndings, InPhase, Holds, kept_frames}
 use Rattle.lis_world.proofs.Base.{base_of, holds_of, base_forgotten, with_sender_same}

@@ -19,7 +19,8 @@ use Rattle.lis_world.specs.Unit.{ending, Travelling, load_bytes}
 use Rattle.lis_world.specs.Session.{Session, session_at, changed, follows}
 use Rattle.lis_world.specs.World.{World, ComputerState, computer_state_of, hears, replies_with, settled}
 use Rattle.lis_world.specs.Steps.{put_on_link, with_sender, sender_steps, begins, delivered, room_at, is_noticed}
-use Rattle.lis_world.specs.Steps.{damaged, replied, reply_damaged, forgotten, given_up, after_event, runs, world}
+use Rattle.lis_world.specs.Steps.{damaged, replied, reply_damaged, forgotten, given_up, after_event, world}
+use Rattle.lis_world.specs.inside.Playing.{runs}
 use Rattle.lis_world.specs.Recovery.{Loss, unit_is_lost, unit_is_unheard, reply_is_lost, loss_events, IsUnheard}
 use Rattle.lis_world.specs.Recovery.{IsAwaitingOne, is_other, IsTimedOut, lost_events, OvercomesLoss}
 use Rattle.lis_world.proofs.SessionLemmas.{length-changed, at-changed_same}

@@ -20,13 +20,10 @@ use Rattle.lis_link.specs.Receiver.{heard, on_byte, on_bytes, heard_on, with_hea
 use Rattle.lis_link.specs.Kept.{Kept}
 use Rattle.lis_link.specs.Representation.{IsIn, IsStep, IsStepMade}
 use Rattle.lis_link.proofs.HearingLaws.{on_byte-quiet}
-use Rattle.lis_world.specs.declared.event.Event.{Event}
-use Rattle.lis_world.specs.declared.event.LateEvent.{LateEvent}
 use Rattle.lis_world.proofs.Heard.{heard_leaves, booked_after}
 use Rattle.lis_world.specs.Unit.{Load, one_frame}
 use Rattle.lis_world.specs.World.{World, ComputerState, booked, hears}
-use Rattle.lis_world.specs.Steps.{delivered, room_at, after_event, runs}
-use Rattle.lis_world.specs.Late.{after_late_event, runs_late}
+use Rattle.lis_world.specs.Steps.{delivered, room_at}
 use Rattle.lis_world.specs.inside.Playing.{KeptWorld, world_at, IsWorld, IsPlaying, run_by, KeptComputerState}
 use Rattle.lis_world.specs.inside.Playing.{computer_state_at}
 use Rattle.lis_world.specs.inside.Playing.{IsComputerState, OnlyLoad, IsLoad, TakesLoad}
@@ -319,15 +316,3 @@ pub played :
 played {after = after} limit kept left goal playing none =
     ap (λ (w : World). w.sessions)
     (ap (λ es. run_by after es (world_at kept playing.state)) (sym none) ∙ playing.goes_on)
-
--- in each of the two worlds
-pub run_by-runs : (limit : ℕ) (events : List Event) (w : World)
-    → run_by (after_event limit) events w ≡ runs limit events w
-run_by-runs limit [] w = refl
-run_by-runs limit (event ∷ events) w = run_by-runs limit events (after_event limit event w)
-
-pub run_by-runs_late : (may_start : World → Bool) (limit : ℕ) (events : List LateEvent) (w : World)
-    → run_by (after_late_event may_start limit) events w ≡ runs_late may_start limit events w
-run_by-runs_late may_start limit [] w = refl
-run_by-runs_late may_start limit (event ∷ events) w =
-    run_by-runs_late may_start limit events (after_late_event may_start limit event w)

@@ -14,7 +14,8 @@ use Rattle.lis_world.specs.declared.event.Event.{Event}
 use Rattle.lis_world.specs.declared.event.Event.TheVariants.{SenderTimer, Ready}
 use Rattle.lis_world.specs.Unit.{Travelling}
 use Rattle.lis_world.specs.World.{World, new_world}
-use Rattle.lis_world.specs.Steps.{emitted, with_sender, delivered, room_at, damaged, given_up, after_event, runs}
+use Rattle.lis_world.specs.Steps.{emitted, with_sender, delivered, room_at, damaged, given_up, after_event}
+use Rattle.lis_world.specs.inside.Playing.{runs}
 use Rattle.lis_world.specs.Steps.{world}
 use Rattle.lis_frame.specs.Pieces.{session_frames}
 use Rattle.lis_world.specs.Progress.{undisturbed, IsCalm}

@@ -20,7 +20,8 @@ use Rattle.lis_world.proofs.Heard.{heard_leaves, booked_after}
 use Rattle.lis_world.specs.Unit.{Travelling, load_bytes}
 use Rattle.lis_world.specs.World.{World, ComputerState, computer_state_of, booked, hears, settled}
 use Rattle.lis_world.specs.Steps.{emitted, with_sender, sender_steps, begins, delivered, is_noticed, damaged}
-use Rattle.lis_world.specs.Steps.{replied, reply_damaged, given_up, after_event, runs}
+use Rattle.lis_world.specs.Steps.{replied, reply_damaged, given_up, after_event}
+use Rattle.lis_world.specs.inside.Playing.{runs}
 
 -- hearing bytes leaves the room as it is
 room-hears : (limit s : ℕ) (bytes : List ℕ) (d : ComputerState) → (hears limit s bytes d).receiver.room

@@ -28,7 +28,8 @@ use Rattle.lis_world.specs.Unit.{Load, ending, one_frame, Travelling}
 use Rattle.lis_world.specs.Session.{Session, session_at, changed, follows, sends_frame, takes}
 use Rattle.lis_world.specs.World.{World, ComputerState, computer_state_of, booked, hears, settled}
 use Rattle.lis_world.specs.Steps.{sender_steps, delivered, damaged, is_noticed, room_at, replied}
-use Rattle.lis_world.specs.Steps.{reply_damaged, after_event, runs}
+use Rattle.lis_world.specs.Steps.{reply_damaged, after_event}
+use Rattle.lis_world.specs.inside.Playing.{runs}
 use Rattle.lis_world.specs.Progress.{Round, undisturbed, without_room, bad_frame, bad_reply, round_events, IsBadBody}
 use Rattle.lis_world.specs.Progress.{IsNoticed}
 use Rattle.lis_world.proofs.SessionLemmas.{length-changed, kept-changed}

@@ -17,7 +17,8 @@ use Rattle.lis_world.specs.declared.event.Event.TheVariants.{DamageReply, LoseRe
 use Rattle.lis_world.specs.declared.event.Event.TheVariants.{RestartSender, RestartReceiver, Ready, Busy, Contending}
 use Rattle.lis_world.specs.Session.{Session, new_session, session_at}
 use Rattle.lis_world.specs.World.{World, new_world}
-use Rattle.lis_world.specs.Steps.{room_at, delivered, after_event, runs, world}
+use Rattle.lis_world.specs.Steps.{room_at, delivered, after_event, world}
+use Rattle.lis_world.specs.inside.Playing.{runs}
 use Rattle.lis_world.specs.Safe.{IsPrefix, IsSafe, DeliversAll, Safe, AlwaysSafe}
 use Rattle.lis_world.proofs.Invariant.{IsSound, Holds}
 use Rattle.lis_world.proofs.Delivery.{delivered_holds, damaged_holds}

@@ -2,6 +2,7 @@
 -- whatever phase the sender then is. So it matters when a session starts; that is a parameter here.
 use Rattle.std.specs.Prelude.{ℕ, Bool, true, false, List, [], ◌∷◌, length, Option, None, Some, if◌then◌else◌, not}
 use Rattle.std.specs.Prelude.{◌==◌, ◌&&◌, ◌||◌}
+use Rattle.std.specs.List.{fold}
 use Rattle.lis_link.specs.declared.sender.Outcome.{Outcome}
 use Rattle.lis_link.specs.declared.sender.Outcome.TheVariants.{Done, TimedOut, SixTries, Restarted}
 use Rattle.lis_link.specs.Sender.{on_sender_timer, sender_restarted}
@@ -32,14 +33,9 @@ abbrev pub after_late_event : (World → Bool) → ℕ → LateEvent → World �
 after_late_event may_start limit (Happens event) w = happens_late may_start limit event w
 after_late_event may_start limit Reconnect w = reconnected w
 
--- a list of events, in order
-abbrev pub runs_late : (World → Bool) → ℕ → List LateEvent → World → World
-runs_late may_start limit [] w = w
-runs_late may_start limit (event ∷ events) w =
-    runs_late may_start limit events (after_late_event may_start limit event w)
-
+-- a list of events, in order, from the first on
 abbrev pub late_world : (World → Bool) → ℕ → List LateEvent → World
-late_world may_start limit events = runs_late may_start limit events new_world
+late_world may_start limit events = fold (λ w event. after_late_event may_start limit event w) new_world events
 
 -- ---- when a session may start
 

@@ -1,6 +1,7 @@
 -- What each event does to the world; one that isn't allowed does nothing.
 use Rattle.std.specs.Prelude.{ℕ, Bool, true, false, List, [], ◌∷◌, ◌++◌, length, drop, Option, None, Some}
 use Rattle.std.specs.Prelude.{if◌then◌else◌, ◌==◌, ◌||◌}
+use Rattle.std.specs.List.{fold}
 use Rattle.lis_text.specs.Control.{EOT, ACK}
 use Rattle.lis_frame.specs.declared.scanner.SignalOf.{SignalOf}
 use Rattle.lis_frame.specs.declared.scanner.SignalOf.TheVariants.{Bad}
@@ -113,10 +114,6 @@ after_event limit Ready w = record w { receiver = with_readiness Readinesses.Rea
 after_event limit Busy w = record w { receiver = with_readiness Readinesses.Busy w.receiver }
 after_event limit Contending w = record w { receiver = with_readiness Readinesses.Contending w.receiver }
 
--- a list of events, in order
-abbrev pub runs : ℕ → List Event → World → World
-runs limit [] w = w
-runs limit (event ∷ events) w = runs limit events (after_event limit event w)
-
+-- a list of events, in order, from the first on
 abbrev pub world : ℕ → List Event → World
-world limit events = runs limit events new_world
+world limit events = fold (λ w event. after_event limit event w) new_world events

@@ -1,5 +1,6 @@
 -- What the program that plays events keeps.
 use Rattle.std.specs.Prelude.{◌≡◌, ⊤, ℕ, Bool, true, false, List, length, [], ◌∷◌, ◌++◌, Option, Some}
+use Rattle.std.specs.List.{fold}
 use Rattle.lis_frame.specs.declared.scanner.SignalOf.{SignalOf}
 use Rattle.lis_frame.specs.declared.scanner.SignalOf.TheVariants.{Enq, Eot, Good, Bad}
 use Rattle.lis_frame.specs.Frame.{FrameContent}
@@ -15,7 +16,10 @@ use Rattle.lis_link.specs.declared.sender.Phase.TheVariants as Phases
 use Rattle.lis_link.specs.Sender.{SenderState}
 use Rattle.lis_world.specs.Unit.{Load, Travelling, one_frame}
 use Rattle.lis_world.specs.World.{World, ComputerState}
-use Rattle.lis_world.specs.Steps.{is_noticed}
+use Rattle.lis_world.specs.Steps.{is_noticed, after_event}
+use Rattle.lis_world.specs.Late.{after_late_event}
+use Rattle.lis_world.specs.declared.event.Event.{Event}
+use Rattle.lis_world.specs.declared.event.LateEvent.{LateEvent}
 use Rattle.lis_frame.specs.Stream.{signals_after}
 
 -- the computer's side, with what the receiver keeps
@@ -151,8 +155,13 @@ kept_sending frame kept =
 
 -- what happens, one by one, in order
 abbrev pub run_by : {E : Type 0} → (E → World → World) → List E → World → World
-run_by after [] w = w
-run_by after (event ∷ events) w = run_by after events (after event w)
+run_by after events w = fold (λ v event. after event v) w events
+
+abbrev pub runs : ℕ → List Event → World → World
+runs limit events w = run_by (after_event limit) events w
+
+abbrev pub runs_late : (World → Bool) → ℕ → List LateEvent → World → World
+runs_late may_start limit events w = run_by (after_late_event may_start limit) events w
 
 -- while events are played: those that are left, played from here, lead to the same world
 pub record IsPlaying {E : Type 0} (after : E → World → World) (limit : ℕ) (kept : KeptWorld) (left : List E)

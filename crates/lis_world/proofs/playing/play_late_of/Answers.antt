@@ -2,15 +2,13 @@
 use Rattle.std.proofs.Common.{ap, All, sym, ◌∙◌, subst}
 use Rattle.lis_world.specs.Safe.{IsSafe, DeliversAll}
 use Rattle.lis_world.specs.Late.{late_world, is_empty}
-use Rattle.lis_world.specs.World.{World, new_world}
 use Rattle.lis_world.proofs.LateSafety.{safe_where, empty_starts}
 use Rattle.lis_world.proofs.LateCarrying.{runs_quietly_late}
-use Rattle.lis_world.proofs.PlayingLaws.{run_by-runs_late, if_ok}
+use Rattle.lis_world.proofs.PlayingLaws.{if_ok}
 use Rattle.lis_world.proofs.playing.play_late_of.Goals as goal
 
 pub returns-clause-world : goal.returns-clause-world
-returns-clause-world g c = if_ok c.play_all.result (λ history is.
-    is ∙ ap (λ (w : World). w.sessions) (run_by-runs_late is_empty g.row.N c.args.events new_world)) c.play_all.ensures
+returns-clause-world g c = c.play_all.ensures
 
 pub returns-clause-safe : goal.returns-clause-safe
 returns-clause-safe g c = if_ok c.play_all.result (λ history is.
