@@ -1,6 +1,7 @@
 -- The CR at the end of a line.
-use Rattle.std.proofs.Common.{◌≡◌, ℕ, ◌≤◌, ◌==◌, Bool, true, false, List, [], ◌∷◌, ◌++◌, length, refl, ap, arith}
-use Rattle.std.proofs.Common.{if◌then◌else◌}
+use Rattle.std.proofs.Common.{◌≡◌, ℕ, ◌-◌, ◌≤◌, ◌==◌, Bool, true, false, List, [], ◌∷◌, ◌++◌, length, refl, ap}
+use Rattle.std.proofs.Common.{arith, drop, if◌then◌else◌, length-drop, take}
+use Rattle.std.proofs.lemmas.List.{length-take}
 use Rattle.lis_text.specs.Control.{CR}
 use Rattle.lis_capture.specs.Line.{without_return}
 
@@ -23,3 +24,16 @@ pub without_return-length : (text : List ℕ) → length (without_return text) �
 without_return-length [] = omega arith
 without_return-length (b ∷ []) = by_test (b == CR) b
 without_return-length (b ∷ c ∷ text) = omega (arith, without_return-length (c ∷ text))
+
+-- what is after the mark of a line
+pub few_digits : (text : List ℕ) → length text ≤ 4096
+    → length (take (length (without_return text) - 2) (drop 2 (without_return text))) ≤ 4094
+few_digits text short =
+    let rest = drop 2 (without_return text) in
+    omega (
+      arith,
+      short,
+      without_return-length text,
+      length-take (length (without_return text) - 2) rest,
+      length-drop 2 (without_return text),
+    )

@@ -1,6 +1,7 @@
 -- What a reader of captures keeps.
-use Rattle.std.specs.Prelude.{◌≡◌, ℕ, Bool, true, false, List, [], ◌∷◌}
+use Rattle.std.specs.Prelude.{◌≡◌, ℕ, ◌<◌, ◌≤◌, Bool, true, false, List, [], ◌∷◌, length, take}
 use Rattle.lis_text.specs.Capped.{capped}
+use Rattle.lis_frame.specs.Stream.{stream_with}
 use Rattle.lis_capture.specs.declared.line.CaptureVersion.{CaptureVersion}
 use Rattle.lis_capture.specs.declared.line.Line.{Line}
 use Rattle.lis_capture.specs.declared.line.Line.TheVariants.{Empty}
@@ -43,3 +44,11 @@ abbrev pub found_lines : Lines → LineFound → Line → Lines
 found_lines read found.Nothing line = read
 found_lines read found.Line line = record { lines = line ∷ read.lines; refused = false }
 found_lines read found.Refused line = record { lines = read.lines; refused = true }
+
+-- the reader has read so many of further bytes, which end a line that says something
+pub record CopiesLine (old new : Reading) (bytes : List ℕ) (count : ℕ) : Type 0 where
+  pub some : 0 < count
+  pub within : count ≤ length bytes
+  pub found_is : (past : List ℕ) → HasRead old past → capture (stream_with past (take count bytes)) false
+      ≡ found_lines (capture past false) found.Line new.known.line
+  pub after : (past : List ℕ) → HasRead old past → HasRead new (stream_with past (take count bytes))

@@ -1,10 +1,11 @@
 //! Commands that take a capture line by line.
 
-ghost use Rattle.std.specs.Prelude.{◌≡◌, ◌+◌, ◌∷◌, [], ◌^◌, ◌<◌, ℕ, Bool, true, false, List, length, is_err};
+ghost use Rattle.std.specs.Prelude.{◌≡◌, ◌+◌, ◌∷◌, ◌++◌, [], ◌^◌, ◌<◌, ℕ, Bool, true, false, List, length, is_err};
+ghost use Rattle.std.specs.Prelude.{IfNone, IfSome};
 ghost use Rattle.lis_frame.specs.Stream.{stream_with};
 ghost use Rattle.lis_capture.specs.declared.line.Line.{Line as LineContent};
 ghost use Rattle.lis_capture.specs.Capture.{capture};
-ghost use Rattle.lis_capture.specs.Reader.{HasRead};
+ghost use Rattle.lis_capture.specs.Reader.{CopiesLine, HasRead};
 ghost use Rattle.lis_run.specs.CaptureRuns.{CaptureRan};
 ghost use Rattle.lis_run.specs.LineOutcome.{IsLined, Writes, capture_outcome, lines_outcome};
 ghost use Rattle.lis_engine.specs.Steps.{LineEnds, LineSteps};
@@ -32,6 +33,26 @@ pub trait LineMachine: Drop {
     /// A new reader, which keeps of a line what the command takes: its bytes, or their digits.
     fn reader() -> LineReader
         ensures { HasRead result [] };
+
+    /// Takes the next line of these bytes and puts what it gives after the output buffer, where the command can do both
+    /// at once; answers how many bytes the line has. Else nothing is taken.
+    #[inline(always)]
+    fn copy_line(
+        &mut self,
+        reader: &mut LineReader,
+        outgoing: &mut OutputBuffer,
+        bytes: &[u8],
+    ) -> Option<usize>
+        ensures read { IfSome result (λ count. CopiesLine reader.old reader.new bytes.now count) }
+        ensures represented { IfSome result (λ count. (lines : List LineContent) → represents self.old lines →
+            represents self.new (reader.new.known.line ∷ lines)) }
+        ensures written { IfSome result (λ count. (lines : List LineContent) → represents self.old lines →
+            outgoing.new ≡ outgoing.old ++ writes.line lines reader.new.known.line) }
+        ensures none { IfNone result ((self.new ≡ self.old) × (reader.new ≡ reader.old)
+            × (outgoing.new ≡ outgoing.old)) }
+    {
+        None
+    }
 
     /// Takes the line of this number, after `written` bytes of the run; there is room for its bytes where their digits
     /// are kept. It halts the run only if memory runs out.
@@ -164,6 +185,11 @@ impl<C: LineMachine> Machine<Refused> for Lines<C> {
         let mut rest = bytes;
         let mut after = written;
         while !rest.is_empty() {
+            if let Some(count) = self.command.copy_line(&mut self.reader, outgoing, rest) {
+                let (_, following) = rest.split_at(count);
+                rest = following;
+                continue;
+            }
             let (count, found) = self.reader.read(rest);
             match found {
                 LineFound::Nothing => return Ok(Turn::On(after)),
