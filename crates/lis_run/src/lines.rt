@@ -123,12 +123,7 @@ impl<C: LineMachine> Lines<C> {
 
     /// The command takes the line that was read last.
     #[inline(always)]
-    fn take_line<W: Sink>(
-        &mut self,
-        sink: &mut W,
-        outgoing: &mut OutputBuffer,
-        written: u64,
-    ) -> Fate
+    fn take<W: Sink>(&mut self, sink: &mut W, outgoing: &mut OutputBuffer, written: u64) -> Fate
         requires { W.failed sink.old ≡ false }
         ensures steps { (lines : List LineContent) → C.represents self.old.command lines
             → self.old.reader.known.number ≡ length lines + 1 →
@@ -194,7 +189,7 @@ impl<C: LineMachine> Machine<Refused> for Lines<C> {
             match found {
                 LineFound::Nothing => return Ok(Turn::On(after)),
                 LineFound::Refused => return Ok(Turn::Off(self.refused(after))),
-                LineFound::Line => match self.take_line(sink, outgoing, after) {
+                LineFound::Line => match self.take(sink, outgoing, after) {
                     Ok(Turn::On(next)) => {
                         after = next;
                         let (_, left) = rest.split_at(count);
@@ -213,7 +208,7 @@ impl<C: LineMachine> Machine<Refused> for Lines<C> {
         match lines.reader.finish() {
             LineFound::Nothing => lines.command.end(sink, outgoing, written),
             LineFound::Refused => Ok(lines.refused(written)),
-            LineFound::Line => match lines.take_line(sink, outgoing, written) {
+            LineFound::Line => match lines.take(sink, outgoing, written) {
                 Ok(Turn::On(after)) => lines.command.end(sink, outgoing, after),
                 Ok(Turn::Off(halt)) => Ok(halt),
                 Err(fault) => Err(fault),
