@@ -1,5 +1,7 @@
 -- What a reader of captures keeps.
-use Rattle.std.specs.Prelude.{◌≡◌, ℕ, ◌<◌, ◌≤◌, Bool, true, false, List, [], ◌∷◌, length, take}
+use Rattle.std.specs.Prelude.{◌≡◌, ℕ, ◌<◌, ◌≤◌, Bool, true, false, List, [], ◌∷◌, length, take, Option, IfSome}
+use Rattle.memchr.specs.Find.{IsFirstByte, is_byte}
+use Rattle.lis_text.specs.Control.{LF}
 use Rattle.lis_text.specs.Capped.{capped}
 use Rattle.lis_frame.specs.Stream.{stream_with}
 use Rattle.lis_capture.specs.declared.line.CaptureVersion.{CaptureVersion}
@@ -7,6 +9,7 @@ use Rattle.lis_capture.specs.declared.line.Line.{Line}
 use Rattle.lis_capture.specs.declared.line.Line.TheVariants.{Empty}
 use Rattle.lis_capture.specs.declared.reader.LineFound.{LineFound}
 use Rattle.lis_capture.specs.declared.reader.LineFound.TheVariants as found
+use Rattle.lis_capture.specs.Line.{line_of, reports_bytes}
 use Rattle.lis_capture.specs.Capture.{Lines, begun, capture, number_of, version_of}
 
 -- what is to be known of the lines so far: their version, whether one is rejected, the number of the last one, and what
@@ -52,3 +55,9 @@ pub record CopiesLine (old new : Reading) (bytes : List ℕ) (count : ℕ) : Typ
   pub found_is : (past : List ℕ) → HasRead old past → capture (stream_with past (take count bytes)) false
       ≡ found_lines (capture past false) found.Line new.known.line
   pub after : (past : List ℕ) → HasRead old past → HasRead new (stream_with past (take count bytes))
+
+-- the bytes end no line, or their first LF ends one that reports no bytes
+pub record EndsOther (version : CaptureVersion) (bytes : List ℕ) : Type 0 where
+  pub place : Option ℕ
+  pub first : IsFirstByte (is_byte LF) bytes place
+  pub other : IfSome place (λ p. reports_bytes (line_of version (take p bytes)) ≡ false)

@@ -5,7 +5,8 @@ ghost use Rattle.std.specs.Prelude.{false, unwrap_or};
 ghost use Rattle.std.specs.Option.{option_map};
 ghost use Rattle.lis_capture.specs.declared.line.Line.TheVariants.{Empty};
 ghost use Rattle.lis_capture.specs.Digits.{bytes_of};
-ghost use Rattle.lis_capture.specs.Line.{added_line, line_of, plain_line, said, version_after, without_return};
+ghost use Rattle.lis_capture.specs.Line.{added_line, line_of, plain_line, reports_bytes, said, version_after};
+ghost use Rattle.lis_capture.specs.Line.{without_return};
 ghost use Rattle.hex.specs.Hex.{encode_lower};
 ghost use Rattle.lis_capture.specs.Kept.{KeptAs, kept_bytes};
 ghost use Rattle.lis_capture.specs.inside.Kept.{kept_room};
@@ -300,6 +301,8 @@ impl LastLine {
         requires { length outgoing.old + LONGEST_ENCODING ≤ OUTPUT_ROOM }
         ensures copied { result ≡ true → IsCopied text.now self.new outgoing.old outgoing.new }
         ensures unread { result ≡ false → (self.new ≡ self.old) × (outgoing.new ≡ outgoing.old) }
+        ensures other { result ≡ false → length text.now ≤ LONGEST_LINE →
+            reports_bytes (plain_line (without_return text.now)) ≡ false }
     {
         match without_return(text) {
             _ if text.len() > LONGEST_LINE => false,

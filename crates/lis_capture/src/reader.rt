@@ -5,9 +5,9 @@ ghost use Rattle.std.specs.Prelude.{length, take, ℕ};
 ghost use Rattle.memchr.specs.Find.{IsFirstByte, is_byte};
 ghost use Rattle.lis_frame.specs.Stream.{stream_with};
 ghost use Rattle.lis_capture.specs.Capture.{Lines, capture};
-ghost use Rattle.lis_capture.specs.Line.{line_of};
+ghost use Rattle.lis_capture.specs.Line.{line_of, reports_bytes};
 ghost use Rattle.lis_capture.specs.Encoding.{added_encoding};
-ghost use Rattle.lis_capture.specs.Reader.{CopiesLine, HasRead, found_lines, known_of};
+ghost use Rattle.lis_capture.specs.Reader.{CopiesLine, EndsOther, HasRead, found_lines, known_of};
 ghost use Rattle.lis_capture.specs.inside.Reader.{found_holding, found_of, holding_more, known_with};
 
 use crate::encoding::LONGEST_ENCODING;
@@ -132,6 +132,8 @@ impl LineReader {
         ensures some { IfSome result (λ count. CopiesLine self.old self.new bytes.now count) }
         ensures written { IfSome result (λ count. outgoing.new ≡ outgoing.old ++ added_encoding self.new.known.line) }
         ensures none { IfNone result ((self.new ≡ self.old) × (outgoing.new ≡ outgoing.old)) }
+        ensures other { IfNone result (self.old.known.refused ≡ false → self.old.held ≡ [] →
+            EndsOther self.old.known.version bytes.now) }
     {
         if self.progress.refused || !self.held.is_empty() {
             return None;
@@ -240,6 +242,7 @@ impl Progress {
         ensures found { result ≡ true → LineFound.Line ≡ found_of (line_of self.old.version text.now) }
         ensures written { result ≡ true → outgoing.new ≡ outgoing.old ++ added_encoding self.new.line }
         ensures none { result ≡ false → (self.new ≡ self.old) × (outgoing.new ≡ outgoing.old) }
+        ensures other { result ≡ false → reports_bytes (line_of self.old.version text.now) ≡ false }
     {
         if !self.last_line.copy(text, outgoing) {
             return false;
