@@ -3,7 +3,7 @@ use Rattle.std.proofs.Common.{◌<◌, ◌≤◌, ◌==◌, append-nil}
 use Rattle.std.proofs.Common.{◌≡◌, ℕ, ◌+◌, Bool, true, false, List, [], ◌∷◌, ◌++◌, Option, None, Some, is_some}
 use Rattle.std.proofs.Common.{unwrap_or, length, slice_index, take, refl, sym, ◌∙◌, ap, subst, arith, if◌then◌else◌}
 use Rattle.std.proofs.lemmas.Bool.{eqb-true, le-ltb}
-use Rattle.std.proofs.lemmas.List.{take_all, take_more}
+use Rattle.std.proofs.lemmas.List.{nil_from_length, take_all, take_more}
 use Rattle.lis_text.specs.Control.{LF}
 use Rattle.lis_frame.specs.Stream.{stream_with}
 use Rattle.memchr.specs.Find.{IsFirstByte, is_byte}
@@ -14,7 +14,7 @@ use Rattle.lis_capture.specs.declared.reader.LineFound.TheVariants as found
 use Rattle.lis_capture.specs.Line.{line_of, longest_line, version_after}
 use Rattle.lis_capture.specs.Capture.{Lines, begun, capture, number_of, version_of, with_said}
 use Rattle.lis_text.specs.Capped.{capped}
-use Rattle.lis_capture.specs.Reader.{HasRead, Known, Reading, found_lines, known_of}
+use Rattle.lis_capture.specs.Reader.{CopiesLine, HasRead, Known, Reading, found_lines, known_of}
 use Rattle.lis_capture.specs.inside.Reader.{found_holding, found_of, holding_more, is_long, known_with}
 use Rattle.lis_capture.proofs.CaptureLemmas.{begun-ended, begun-within, capture-ended, capture-last, capture-long}
 use Rattle.lis_capture.proofs.CaptureLemmas.{capture-within}
@@ -128,6 +128,19 @@ module _ (before : Reading) (past : List ℕ) (has : HasRead before past) (fine 
         };
       }
 
+  -- the same of a line none of whose bytes are held
+  pub reads_line :
+      (after : Reading) (text : List ℕ) → has_end text ≡ false → before.held ≡ []
+      → after.known ≡ known_with before.known (line_of before.known.version text) → after.held ≡ []
+      → found.Line ≡ found_of (line_of before.known.version text)
+      → ReadsOn before after past (text ++ LF ∷ []) found.Line
+  reads_line after text none empty known_is held_is found_is =
+      reads_end after text found.Line none
+      (subst (λ (h : List ℕ). after.known ≡ known_with before.known (line_of before.known.version (h ++ text)))
+      (sym empty) known_is)
+      held_is
+      (subst (λ (h : List ℕ). found.Line ≡ found_of (line_of before.known.version (h ++ text))) (sym empty) found_is)
+
   -- the end ends a line that has a byte
   pub ends_last :
       (after : Known) (result : LineFound) → (length before.held == 0) ≡ false
@@ -206,3 +219,25 @@ front_of_line bytes place first =
 pub no_line : (bytes : List ℕ) → IsFirstByte (is_byte LF) bytes None → has_end bytes ≡ false
 no_line bytes none = subst (λ (l : List ℕ). has_end l ≡ false) (take_all (length bytes) bytes (omega arith))
     (has_end-before bytes (length bytes) (omega arith) none)
+
+-- a line that is whole in bytes, where none are held
+pub copies_line :
+    (before after : Reading) (bytes : List ℕ) (place : ℕ) → IsFirstByte (is_byte LF) bytes (Some place)
+    → before.known.refused ≡ false → length before.held ≡ 0 → after.held ≡ before.held
+    → after.known ≡ known_with before.known (line_of before.known.version (take place bytes))
+    → found.Line ≡ found_of (line_of before.known.version (take place bytes))
+    → CopiesLine before after bytes (place + 1)
+copies_line before after bytes place first fine none held_is known_is found_is =
+    let front = front_of_line bytes place first in
+    let inside = first.0.high in
+    let empty : before.held ≡ [] = nil_from_length before.held none in
+    let reads : (past : List ℕ) → HasRead before past
+    → ReadsOn before after past (take (place + 1) bytes) found.Line = λ past has.
+    rw front.1 (reads_line before past has fine after (take place bytes) front.0 empty known_is (held_is ∙ empty)
+    found_is) in
+    record {
+      some = omega arith;
+      within = omega (arith, inside);
+      found_is = λ past has. (reads past has).found_is;
+      after = λ past has. (reads past has).has_read;
+    }

@@ -1,5 +1,6 @@
 -- What a line of a capture says.
-use Rattle.std.specs.Prelude.{ℕ, ◌==◌, nat_lt, List, [], ◌∷◌, length, codes, Option, None, Some, if◌then◌else◌}
+use Rattle.std.specs.Prelude.{ℕ, ◌==◌, nat_lt, Bool, true, false, List, [], ◌∷◌, length, codes, Option, None, Some}
+use Rattle.std.specs.Prelude.{if◌then◌else◌}
 use Rattle.std.specs.Option.{option_or}
 use Rattle.std.specs.Str.{bytes_eq}
 use Rattle.lis_text.specs.Control.{CR}
@@ -43,6 +44,13 @@ added_line text =
     else if bytes_eq text (codes "S busy") then Some (SetReady Busy)
     else if bytes_eq text (codes "S contending") then Some (SetReady Contending)
     else None
+
+-- whether it has a mark: it reports bytes
+abbrev pub reports_bytes : Option Line → Bool
+reports_bytes None = false
+reports_bytes (Some (FromAnalyzer bytes)) = true
+reports_bytes (Some (FromComputer bytes)) = true
+reports_bytes (Some line) = false
 
 -- what a text says, by the version that the lines before it report; `capture 2` is the first line or none
 abbrev pub said : CaptureVersion → List ℕ → Option Line

@@ -1,11 +1,15 @@
 -- What a reader of captures keeps.
-use Rattle.std.specs.Prelude.{◌≡◌, ℕ, Bool, true, false, List, [], ◌∷◌}
+use Rattle.std.specs.Prelude.{◌≡◌, ℕ, ◌<◌, ◌≤◌, Bool, true, false, List, [], ◌∷◌, length, take, Option, IfSome}
+use Rattle.memchr.specs.Find.{IsFirstByte, is_byte}
+use Rattle.lis_text.specs.Control.{LF}
 use Rattle.lis_text.specs.Capped.{capped}
+use Rattle.lis_frame.specs.Stream.{stream_with}
 use Rattle.lis_capture.specs.declared.line.CaptureVersion.{CaptureVersion}
 use Rattle.lis_capture.specs.declared.line.Line.{Line}
 use Rattle.lis_capture.specs.declared.line.Line.TheVariants.{Empty}
 use Rattle.lis_capture.specs.declared.reader.LineFound.{LineFound}
 use Rattle.lis_capture.specs.declared.reader.LineFound.TheVariants as found
+use Rattle.lis_capture.specs.Line.{line_of, reports_bytes}
 use Rattle.lis_capture.specs.Capture.{Lines, begun, capture, number_of, version_of}
 
 -- what is to be known of the lines so far: their version, whether one is rejected, the number of the last one, and what
@@ -43,3 +47,17 @@ abbrev pub found_lines : Lines → LineFound → Line → Lines
 found_lines read found.Nothing line = read
 found_lines read found.Line line = record { lines = line ∷ read.lines; refused = false }
 found_lines read found.Refused line = record { lines = read.lines; refused = true }
+
+-- the reader has read so many of further bytes, which end a line that says something
+pub record CopiesLine (old new : Reading) (bytes : List ℕ) (count : ℕ) : Type 0 where
+  pub some : 0 < count
+  pub within : count ≤ length bytes
+  pub found_is : (past : List ℕ) → HasRead old past → capture (stream_with past (take count bytes)) false
+      ≡ found_lines (capture past false) found.Line new.known.line
+  pub after : (past : List ℕ) → HasRead old past → HasRead new (stream_with past (take count bytes))
+
+-- the bytes end no line, or their first LF ends one that reports no bytes
+pub record EndsOther (version : CaptureVersion) (bytes : List ℕ) : Type 0 where
+  pub place : Option ℕ
+  pub first : IsFirstByte (is_byte LF) bytes place
+  pub other : IfSome place (λ p. reports_bytes (line_of version (take p bytes)) ≡ false)

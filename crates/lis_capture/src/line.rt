@@ -1,17 +1,21 @@
 //! What a line of a capture says.
 
 ghost use Rattle.std.specs.Prelude.{◌≡◌, ◌+◌, ◌*◌, ◌≤◌, ◌++◌, [], None, Some, if◌then◌else◌, true, length, is_some};
-ghost use Rattle.std.specs.Prelude.{unwrap_or};
+ghost use Rattle.std.specs.Prelude.{false, unwrap_or};
 ghost use Rattle.std.specs.Option.{option_map};
 ghost use Rattle.lis_capture.specs.declared.line.Line.TheVariants.{Empty};
 ghost use Rattle.lis_capture.specs.Digits.{bytes_of};
-ghost use Rattle.lis_capture.specs.Line.{added_line, line_of, plain_line, said, version_after, without_return};
+ghost use Rattle.lis_capture.specs.Line.{added_line, line_of, plain_line, reports_bytes, said, version_after};
+ghost use Rattle.lis_capture.specs.Line.{without_return};
 ghost use Rattle.hex.specs.Hex.{encode_lower};
 ghost use Rattle.lis_capture.specs.Kept.{KeptAs, kept_bytes};
 ghost use Rattle.lis_capture.specs.inside.Kept.{kept_room};
 ghost use Rattle.lis_capture.specs.LastLine.{line_with};
+ghost use Rattle.lis_capture.specs.Encoding.{line_encoding};
+ghost use Rattle.lis_capture.specs.inside.Reader.{IsCopied};
 
 use crate::digits::{decode, lower};
+use crate::encoding::LONGEST_ENCODING;
 use lis_engine::{OUTPUT_ROOM, OutputBuffer};
 use lis_link::Readiness;
 use lis_text::CR;
@@ -168,6 +172,7 @@ impl LastLine {
     }
 
     /// The line.
+    #[inline(always)]
     pub(crate) fn line(&self) -> Line<'_>
         ensures { result ≡ self.now }
     {
@@ -287,6 +292,44 @@ impl LastLine {
             self.kind = kind;
         }
         reported
+    }
+
+    /// Reads a text that is a mark and pairs of digits, as most are, and puts it after an output buffer in lower case,
+    /// with LF after it; answers whether it is one. Of another text nothing is read.
+    #[inline(always)]
+    pub(crate) fn copy(&mut self, text: &[u8], outgoing: &mut OutputBuffer) -> bool
+        requires { length outgoing.old + LONGEST_ENCODING ≤ OUTPUT_ROOM }
+        ensures copied { result ≡ true → IsCopied text.now self.new outgoing.old outgoing.new }
+        ensures unread { result ≡ false → (self.new ≡ self.old) × (outgoing.new ≡ outgoing.old) }
+        ensures other { result ≡ false → length text.now ≤ LONGEST_LINE →
+            reports_bytes (plain_line (without_return text.now)) ≡ false }
+    {
+        match without_return(text) {
+            _ if text.len() > LONGEST_LINE => false,
+            [b'>', b' ', digits @ ..] => {
+                self.copy_digits(LineKind::FromAnalyzer, digits, outgoing)
+            }
+            [b'<', b' ', digits @ ..] => {
+                self.copy_digits(LineKind::FromComputer, digits, outgoing)
+            }
+            _ => false,
+        }
+    }
+
+    /// The same of the digits of a line of this kind.
+    #[inline(always)]
+    fn copy_digits(&mut self, kind: LineKind, digits: &[u8], outgoing: &mut OutputBuffer) -> bool
+        requires short { length digits.now ≤ 4094 }
+        requires room { length outgoing.old + LONGEST_ENCODING ≤ OUTPUT_ROOM }
+        ensures read { result ≡ is_some (bytes_of digits.now) }
+        ensures line { self.new ≡ unwrap_or (option_map (line_with kind) (bytes_of digits.now)) self.old }
+        ensures written { outgoing.new ≡ outgoing.old ++ (if result then line_encoding self.new else []) }
+    {
+        if !self.read_digits(kind, digits) {
+            return false;
+        }
+        self.line().append_to(outgoing);
+        true
     }
 
     /// Reports a line that has no bytes.

@@ -1,15 +1,19 @@
 //! Reading a capture from slices of its bytes, line by line.
 
-ghost use Rattle.std.specs.Prelude.{◌≡◌, ◌<◌, ◌≤◌, ◌++◌, [], IsTrue, None, List, false, true, length, take, ℕ};
+ghost use Rattle.std.specs.Prelude.{◌≡◌, ◌+◌, ◌<◌, ◌≤◌, ◌++◌, [], IsTrue, IfNone, IfSome, None, List, false, true};
+ghost use Rattle.std.specs.Prelude.{length, take, ℕ};
 ghost use Rattle.memchr.specs.Find.{IsFirstByte, is_byte};
 ghost use Rattle.lis_frame.specs.Stream.{stream_with};
 ghost use Rattle.lis_capture.specs.Capture.{Lines, capture};
-ghost use Rattle.lis_capture.specs.Line.{line_of};
-ghost use Rattle.lis_capture.specs.Reader.{HasRead, found_lines, known_of};
+ghost use Rattle.lis_capture.specs.Line.{line_of, reports_bytes};
+ghost use Rattle.lis_capture.specs.Encoding.{added_encoding};
+ghost use Rattle.lis_capture.specs.Reader.{CopiesLine, EndsOther, HasRead, found_lines, known_of};
 ghost use Rattle.lis_capture.specs.inside.Reader.{found_holding, found_of, holding_more, known_with};
 
+use crate::encoding::LONGEST_ENCODING;
 use crate::line::{CaptureVersion, Keeping, LONGEST_LINE, LastLine, Line, version_after};
 use arrayvec::ArrayVec;
+use lis_engine::{OUTPUT_ROOM, OutputBuffer};
 use lis_text::LF;
 use memchr::memchr;
 use std::marker::Model;
@@ -119,6 +123,29 @@ impl LineReader {
         }
     }
 
+    /// Reads the next line, and puts it after the bytes of an output buffer as [`Line::append_to`] does, where it is
+    /// whole in these bytes and reports bytes, as most do; answers how many bytes it read. Else it reads nothing. There
+    /// must be room for [`LONGEST_ENCODING`] bytes.
+    #[inline(always)]
+    pub fn copy(&mut self, bytes: &[u8], outgoing: &mut OutputBuffer) -> Option<usize>
+        requires { length outgoing.old + LONGEST_ENCODING ≤ OUTPUT_ROOM }
+        ensures some { IfSome result (λ count. CopiesLine self.old self.new bytes.now count) }
+        ensures written { IfSome result (λ count. outgoing.new ≡ outgoing.old ++ added_encoding self.new.known.line) }
+        ensures none { IfNone result ((self.new ≡ self.old) × (outgoing.new ≡ outgoing.old)) }
+        ensures other { IfNone result (self.old.known.refused ≡ false → self.old.held ≡ [] →
+            EndsOther self.old.known.version bytes.now) }
+    {
+        if self.progress.refused || !self.held.is_empty() {
+            return None;
+        }
+        let place = first_line_feed(bytes)?;
+        let (text, _) = bytes.split_at(place);
+        if !self.progress.copy(text, outgoing) {
+            return None;
+        }
+        Some(place + 1)
+    }
+
     /// Reads the end of the input, which ends a line that has a byte. After a rejected line it rejects
     /// again.
     pub fn finish(&mut self) -> LineFound
@@ -206,6 +233,27 @@ fn first_line_feed(bytes: &[u8]) -> Option<usize>
 }
 
 impl Progress {
+    /// Takes a line that is a mark and pairs of digits, and puts it after an output buffer; answers whether it is one.
+    /// Of another line nothing is taken.
+    #[inline(always)]
+    fn copy(&mut self, text: &[u8], outgoing: &mut OutputBuffer) -> bool
+        requires { length outgoing.old + LONGEST_ENCODING ≤ OUTPUT_ROOM }
+        ensures after { result ≡ true → self.new ≡ known_with self.old (line_of self.old.version text.now) }
+        ensures found { result ≡ true → LineFound.Line ≡ found_of (line_of self.old.version text.now) }
+        ensures written { result ≡ true → outgoing.new ≡ outgoing.old ++ added_encoding self.new.line }
+        ensures none { result ≡ false → (self.new ≡ self.old) × (outgoing.new ≡ outgoing.old) }
+        ensures other { result ≡ false → reports_bytes (line_of self.old.version text.now) ≡ false }
+    {
+        if !self.last_line.copy(text, outgoing) {
+            return false;
+        }
+        if let CaptureVersion::Unsaid = self.version {
+            self.version = CaptureVersion::First;
+        }
+        self.number = self.number.saturating_add(1);
+        true
+    }
+
     /// Takes a line.
     #[inline(always)]
     fn take(&mut self, text: &[u8]) -> LineFound

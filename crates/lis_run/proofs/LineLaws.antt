@@ -24,7 +24,7 @@ use Rattle.lis_engine.specs.declared.machine.Turn.TheVariants.{Off}
 use Rattle.lis_run.specs.LineOutcome.{IsLined, Writes, capture_outcome, lines_outcome, lines_text}
 use Rattle.lis_engine.specs.Steps.{LineEnds, LineSteps, Ends, Fails, Halts, Puts}
 use Rattle.lis_engine.specs.Outcome.{whole}
-use Rattle.lis_engine.specs.Output.{IsBuffered, Out, most_counted}
+use Rattle.lis_engine.specs.Output.{IsBuffered, Out, most_counted, out}
 use Rattle.lis_engine.proofs.BufferLaws.{buffered_nothing, buffered_then}
 use Rattle.lis_run.proofs.ShowLaws.{front_stream}
 use Rattle.lis_link.proofs.HearingLaws.{stream_with-append}
@@ -198,6 +198,15 @@ at_start w represents reader old before past text bytes fits lined few =
       put = buffered_nothing old before fits;
       text_is = append-nil text ∙ lined.text_is;
     }
+
+-- the same, where nothing has changed
+pub kept :
+    {w : Writes} {S : Type 0} (represents : S → List Line → Type 0) {self now : S} {reader next : Reading} {old : Out}
+    {taken : Option (List ℕ)} {waits there : List ℕ} {before after : ℕ} {past text rest bytes : List ℕ}
+    → (now ≡ self) × (next ≡ reader) × (there ≡ waits)
+    → IsAt w (represents self) reader old (out taken waits) before after past text rest bytes
+    → IsAt w (represents now) next old (out taken there) before after past text rest bytes
+kept represents (self_is, reader_is, waits_is) at = rw (self_is, reader_is, waits_is) at
 
 -- all was read
 pub at_end_of :

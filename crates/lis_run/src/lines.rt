@@ -1,10 +1,11 @@
 //! Commands that take a capture line by line.
 
-ghost use Rattle.std.specs.Prelude.{◌≡◌, ◌+◌, ◌∷◌, [], ◌^◌, ◌<◌, ℕ, Bool, true, false, List, length, is_err};
+ghost use Rattle.std.specs.Prelude.{◌≡◌, ◌+◌, ◌∷◌, ◌++◌, [], ◌^◌, ◌<◌, ℕ, Bool, true, false, List, length, is_err};
+ghost use Rattle.std.specs.Prelude.{IfNone, IfSome};
 ghost use Rattle.lis_frame.specs.Stream.{stream_with};
 ghost use Rattle.lis_capture.specs.declared.line.Line.{Line as LineContent};
 ghost use Rattle.lis_capture.specs.Capture.{capture};
-ghost use Rattle.lis_capture.specs.Reader.{HasRead};
+ghost use Rattle.lis_capture.specs.Reader.{CopiesLine, HasRead};
 ghost use Rattle.lis_run.specs.CaptureRuns.{CaptureRan};
 ghost use Rattle.lis_run.specs.LineOutcome.{IsLined, Writes, capture_outcome, lines_outcome};
 ghost use Rattle.lis_engine.specs.Steps.{LineEnds, LineSteps};
@@ -32,6 +33,26 @@ pub trait LineMachine: Drop {
     /// A new reader, which keeps of a line what the command takes: its bytes, or their digits.
     fn reader() -> LineReader
         ensures { HasRead result [] };
+
+    /// Takes the next line of these bytes and puts what it gives after the output buffer, where the command can do both
+    /// at once; answers how many bytes the line has. Else nothing is taken.
+    #[inline(always)]
+    fn copy_line(
+        &mut self,
+        reader: &mut LineReader,
+        outgoing: &mut OutputBuffer,
+        bytes: &[u8],
+    ) -> Option<usize>
+        ensures read { IfSome result (λ count. CopiesLine reader.old reader.new bytes.now count) }
+        ensures represented { IfSome result (λ count. (lines : List LineContent) → represents self.old lines →
+            represents self.new (reader.new.known.line ∷ lines)) }
+        ensures written { IfSome result (λ count. (lines : List LineContent) → represents self.old lines →
+            outgoing.new ≡ outgoing.old ++ writes.line lines reader.new.known.line) }
+        ensures none { IfNone result ((self.new ≡ self.old) × (reader.new ≡ reader.old)
+            × (outgoing.new ≡ outgoing.old)) }
+    {
+        None
+    }
 
     /// Takes the line of this number, after `written` bytes of the run; there is room for its bytes where their digits
     /// are kept. It halts the run only if memory runs out.
@@ -102,12 +123,7 @@ impl<C: LineMachine> Lines<C> {
 
     /// The command takes the line that was read last.
     #[inline(always)]
-    fn take_line<W: Sink>(
-        &mut self,
-        sink: &mut W,
-        outgoing: &mut OutputBuffer,
-        written: u64,
-    ) -> Fate
+    fn take<W: Sink>(&mut self, sink: &mut W, outgoing: &mut OutputBuffer, written: u64) -> Fate
         requires { W.failed sink.old ≡ false }
         ensures steps { (lines : List LineContent) → C.represents self.old.command lines
             → self.old.reader.known.number ≡ length lines + 1 →
@@ -164,11 +180,16 @@ impl<C: LineMachine> Machine<Refused> for Lines<C> {
         let mut rest = bytes;
         let mut after = written;
         while !rest.is_empty() {
+            if let Some(count) = self.command.copy_line(&mut self.reader, outgoing, rest) {
+                let (_, following) = rest.split_at(count);
+                rest = following;
+                continue;
+            }
             let (count, found) = self.reader.read(rest);
             match found {
                 LineFound::Nothing => return Ok(Turn::On(after)),
                 LineFound::Refused => return Ok(Turn::Off(self.refused(after))),
-                LineFound::Line => match self.take_line(sink, outgoing, after) {
+                LineFound::Line => match self.take(sink, outgoing, after) {
                     Ok(Turn::On(next)) => {
                         after = next;
                         let (_, left) = rest.split_at(count);
@@ -187,7 +208,7 @@ impl<C: LineMachine> Machine<Refused> for Lines<C> {
         match lines.reader.finish() {
             LineFound::Nothing => lines.command.end(sink, outgoing, written),
             LineFound::Refused => Ok(lines.refused(written)),
-            LineFound::Line => match lines.take_line(sink, outgoing, written) {
+            LineFound::Line => match lines.take(sink, outgoing, written) {
                 Ok(Turn::On(after)) => lines.command.end(sink, outgoing, after),
                 Ok(Turn::Off(halt)) => Ok(halt),
                 Err(fault) => Err(fault),

@@ -303,20 +303,14 @@ impl<const N: usize, T: Teller> LineMachine for Playing<N, T> {
         match line {
             Line::Empty => Ok(Turn::On(written)),
             Line::Version => Ok(Turn::On(written)),
-            Line::FromAnalyzer(bytes) => self.hear(
-                sink,
-                outgoing,
-                written,
-                number,
-                bytes.read(room),
-            ),
-            Line::FromComputer(bytes) => self.compare(
-                sink,
-                outgoing,
-                written,
-                number,
-                bytes.read(room),
-            ),
+            Line::FromAnalyzer(bytes) => {
+                let heard = bytes.read(room);
+                self.hear(sink, outgoing, written, number, heard)
+            }
+            Line::FromComputer(bytes) => {
+                let sent = bytes.read(room);
+                self.compare(sink, outgoing, written, number, sent)
+            }
             Line::Timer => {
                 let _ = self.receiver.timer();
                 Ok(Turn::On(written))

@@ -48,6 +48,19 @@ impl LineMachine for Upgrade {
     }
 
     #[inline(always)]
+    fn copy_line(
+        &mut self,
+        reader: &mut LineReader,
+        outgoing: &mut OutputBuffer,
+        bytes: &[u8],
+    ) -> Option<usize> {
+        if !self.begun || outgoing.room() < LONGEST_ENCODING {
+            return None;
+        }
+        reader.copy(bytes, outgoing)
+    }
+
+    #[inline(always)]
     fn line<'a, W: Sink>(
         &mut self,
         sink: &mut W,

@@ -1,10 +1,14 @@
 -- What a reader of captures keeps after one more line, or after more bytes of a line.
-use Rattle.std.specs.Prelude.{ℕ, ◌+◌, nat_lt, Bool, true, List, ◌++◌, length, Option, None, Some, if◌then◌else◌}
+use Rattle.std.specs.Prelude.{◌≡◌, ℕ, ◌+◌, nat_lt, Bool, true, List, ◌++◌, length, Option, None, Some}
+use Rattle.std.specs.Prelude.{if◌then◌else◌}
 use Rattle.lis_text.specs.Capped.{capped}
 use Rattle.lis_capture.specs.declared.line.Line.{Line}
 use Rattle.lis_capture.specs.declared.reader.LineFound.{LineFound}
 use Rattle.lis_capture.specs.declared.reader.LineFound.TheVariants as found
-use Rattle.lis_capture.specs.Line.{longest_line, version_after}
+use Rattle.lis_capture.specs.declared.line.CaptureVersion.{CaptureVersion}
+use Rattle.lis_capture.specs.declared.line.Line.TheVariants.{Empty}
+use Rattle.lis_capture.specs.Encoding.{added_encoding}
+use Rattle.lis_capture.specs.Line.{line_of, longest_line, version_after}
 use Rattle.lis_capture.specs.Reader.{Known, Reading}
 
 -- a line more, by what it says
@@ -28,3 +32,9 @@ holding_more r text =
 
 abbrev pub found_holding : List ℕ → LineFound
 found_holding text = if is_long text then found.Refused else found.Nothing
+
+-- a text that says this line in either version, which leaves the version as an empty line does, was put out
+pub record IsCopied (text : List ℕ) (line : Line) (old new : List ℕ) : Type 0 where
+  pub is_said : (version : CaptureVersion) → line_of version text ≡ Some line
+  pub version_is : (version : CaptureVersion) → version_after version line ≡ version_after version Empty
+  pub written : new ≡ old ++ added_encoding line

@@ -1,6 +1,3 @@
-use Rattle.std.proofs.Common.{arith}
-use Rattle.lis_engine.specs.Output.{out}
-use Rattle.lis_engine.proofs.BufferLaws.{buffered_unless}
 use Rattle.lis_run.proofs.replay.buffer_difference.Goals as goal
 
 pub returns-clause-buffered : goal.returns-clause-buffered

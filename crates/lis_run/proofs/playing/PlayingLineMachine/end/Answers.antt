@@ -1,6 +1,6 @@
 use Rattle.std.proofs.Common.{◌≤◌, sym, ◌∙◌, arith}
 use Rattle.lis_engine.specs.Output.{most_counted}
-use Rattle.lis_run.proofs.PlayingLaws.{lines_end, texts_end}
+use Rattle.lis_run.proofs.PlayingLaws.{texts_end}
 use Rattle.lis_run.proofs.playing.PlayingLineMachine.end.Goals as goal
 
 pub returns-in-Texts-clause-ends : goal.returns-in-Texts-clause-ends

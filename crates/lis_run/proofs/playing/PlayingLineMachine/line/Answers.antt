@@ -7,7 +7,7 @@ use Rattle.lis_run.proofs.playing.PlayingLineMachine.line.Goals as goal
 pub returns-in-FromAnalyzer-clause-steps : goal.returns-in-FromAnalyzer-clause-steps
 returns-in-FromAnalyzer-clause-steps g c = λ lines playing number few.
     let bytes = c.in-FromAnalyzer.bytes in
-    let short : length bytes ≤ 2047 = rw c.read.ensures.value at c.read.ensures.short in
+    let short : length bytes ≤ 2047 = rw c.read-heard.ensures.value at c.read-heard.ensures.short in
     let room : text_count g.row.N lines + length bytes ≤ 2 ^ 63 = omega (arith, playing.few, short, number, few) in
     rw c.in-FromAnalyzer.is
     (line_steps_as _ _
@@ -16,9 +16,9 @@ returns-in-FromAnalyzer-clause-steps g c = λ lines playing number few.
     c.args.self.now.texts c.hear.new.self.texts c.args.self.now.differences c.hear.new.self.differences lines bytes
     playing c.hear.ensures.differences short)
     _ _ c.args.written _ _ c.hear.result (delivered_text g.T.Teller.account g.row.N lines bytes)
-    (rw (number, c.read.ensures.value) at
+    (rw (number, c.read-heard.ensures.value) at
     (c.hear.ensures.steps (played g.row.N lines).receiver (played g.row.N lines).replies (text_count g.row.N lines)
-    playing.hearing (rw c.read.ensures.value room))))
+    playing.hearing (rw c.read-heard.ensures.value room))))
 
 pub returns-in-Timer-clause-steps : goal.returns-in-Timer-clause-steps
 returns-in-Timer-clause-steps g c = λ lines playing number few.
