@@ -53,20 +53,20 @@ pub extern "C" fn lis_reader_next(
     s.borrow().next(bytes, out, parts, table)
 }
 
-/// Puts all components of the record that `lis_reader_read` found last to the front of `parts`, as `lis_record_parts`
+/// Puts all components of the record that `lis_reader_read` found last to the front of `out`, as `lis_record_parts`
 /// does, in one pass over its text; their offsets are in that text, which `lis_reader_text` copies. `OK`; `TOO_SHORT`,
 /// and as many are put as there is room for; `NO_RECORD` if none was found last, and `table` is 0 and no part is put.
 #[unsafe(no_mangle)]
 pub extern "C" fn lis_reader_parts(
     s: &mut LisReader,
-    parts: &mut [LisPart],
+    out: &mut [LisPart],
     table: &mut LisTable,
 ) -> u8
-    ensures parts { IsSplitTable s.old.state.reader.split s.old.state.reader.split_text result parts.old parts.new
+    ensures parts { IsSplitTable s.old.state.reader.split s.old.state.reader.split_text result out.old out.new
         table.new }
     ensures same { s.new.state ≡ s.old.state }
 {
-    s.borrow().last_parts(parts, table)
+    s.borrow().last_parts(out, table)
 }
 
 impl ReaderHandleState {
