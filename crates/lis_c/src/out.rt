@@ -8,8 +8,9 @@ ghost use Rattle.lis_c.specs.Status.{OK, copy_status};
 ghost use Rattle.lis_link.specs.Duties.{emitted_bytes};
 
 use crate::status;
-use lis_frame::FrameFault;
+use lis_frame::{FrameFault, frame_bytes_of};
 use lis_link::EmitOf;
+use lis_text::{ENQ, EOT, NAK};
 
 /// Bytes for the link: the first `len` of `bytes`, at most 247.
 #[repr(C)]
@@ -35,11 +36,19 @@ pub(crate) fn put_emit<const N: usize, const B: usize>(out: &mut LisBytes, emit:
     requires bound { B ≤ 64000 }
     ensures { HoldsEmitted N out.new (emitted_bytes emit.now) }
 {
-    let bytes = emit.bytes_of::<B>();
-    if bytes.len() > out.bytes.len() {
-        put(out, &[]);
-    } else {
-        put(out, bytes.as_slice());
+    match emit {
+        EmitOf::Nothing => put(out, &[]),
+        EmitOf::Enq => put(out, &[ENQ]),
+        EmitOf::Eot => put(out, &[EOT]),
+        EmitOf::Nak => put(out, &[NAK]),
+        EmitOf::Frame(frame) => {
+            let bytes = frame_bytes_of::<N, B>(frame);
+            if bytes.len() > out.bytes.len() {
+                put(out, &[]);
+            } else {
+                put(out, bytes.as_slice());
+            }
+        }
     }
 }
 
