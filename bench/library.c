@@ -91,13 +91,20 @@ static size_t each_part(lis_reader *reader, const lis_found *found) {
     return count;
 }
 
-static size_t read_each(lis_reader *reader, size_t piece, bool with_parts) {
+/* The same by one call. */
+static size_t all_parts(lis_reader *reader) {
+    lis_table table;
+    check(lis_reader_parts(reader, parts, MOST_PARTS, &table) == LIS_STATUS_OK, "all parts");
+    return table.count;
+}
+
+static size_t read_each(lis_reader *reader, size_t piece, int how) {
     size_t count = 0;
     for (size_t at = 0, read; at < len; at += read) {
         lis_found found;
         read = lis_reader_read(reader, data + at, len - at < piece ? len - at : piece, &found);
         if (found.kind == LIS_FOUND_RECORD)
-            count += with_parts ? each_part(reader, &found) : 1;
+            count += how == 0 ? 1 : how == 1 ? each_part(reader, &found) : all_parts(reader);
     }
     return count;
 }
@@ -166,16 +173,17 @@ static size_t read_records(size_t piece, int how) {
     switch (how) {
     case 0:
     case 1:
-        count = read_each(&reader, piece, how == 1);
-        break;
     case 2:
-        count = read_lines(&reader, piece);
+        count = read_each(&reader, piece, how);
         break;
     case 3:
+        count = read_lines(&reader, piece);
+        break;
+    case 4:
         count = read_alone();
         break;
     default:
-        count = read_pieces(&reader, how == 4 ? piece : 16 * piece);
+        count = read_pieces(&reader, how == 5 ? piece : 16 * piece);
         break;
     }
     lis_reader_end(reader);
@@ -217,6 +225,7 @@ static size_t call_records(size_t how) {
 int main(int count, char **words) {
     static const char *const link[] = {"lis_receiver_hear and _text, 4 KiB", "the same, 64 KiB"};
     static const char *const records[] = {"lis_reader_read, 4 KiB", "lis_reader_read, lis_reader_part, 4 KiB",
+                                          "lis_reader_read, lis_reader_parts, 4 KiB",
                                           "lis_reader_read, lis_record_parts, 4 KiB", "lis_record_parts alone",
                                           "lis_reader_records, 4 KiB", "the same, 64 KiB"};
     rounds = count > 1 ? (size_t)atoi(words[1]) : 7;
@@ -228,10 +237,10 @@ int main(int count, char **words) {
     make_link("R|%0237u\r");
     measure("full frames", link, 2, call_hear);
     make_records();
-    measure("results", records, 6, call_records);
+    measure("results", records, 7, call_records);
     make_delimiters();
     double begun = now();
-    read_records(len, 3);
+    read_records(len, 4);
     printf("one record of 65,536 delimiters: %.5f s for all parts at once\n", now() - begun);
     free(data);
     return 0;

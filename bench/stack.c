@@ -24,6 +24,8 @@ static lis_found found;
 static lis_place place;
 static lis_delimiters delimiters;
 static lis_record record;
+static lis_part parts[8];
+static lis_table table;
 static uint8_t out[256];
 static size_t size;
 
@@ -44,6 +46,8 @@ static void reader_read(void) {
     for (size_t at = 0; at < sizeof message - 1;) {
         at += lis_reader_read(&reader, message + at, sizeof message - 1 - at, &found);
         lis_reader_part(&reader, 4, 1, 1, out, sizeof out, &size);
+        lis_reader_parts(&reader, parts, 8, &table);
+        lis_reader_text(&reader, out, sizeof out, &size);
     }
 }
 static void record_read(void) { lis_header_read(message, 5, &delimiters, &record); }

@@ -94,7 +94,7 @@ LIS_ENUM(lis_status) {
     LIS_STATUS_OUT_OF_MEMORY = 6,
     LIS_STATUS_BAD_NUMBER = 7,          /* the number is not one of those that are known */
     LIS_STATUS_TOO_SHORT = 8,           /* the buffer is too short */
-    LIS_STATUS_NO_RECORD = 9,           /* the text has no byte, or no record is begun */
+    LIS_STATUS_NO_RECORD = 9,           /* the text has no byte, or no record is begun or was found last */
     LIS_STATUS_BAD_LETTER = 10,         /* the byte is no letter of such a record, or no field delimiter follows it */
     LIS_STATUS_BAD_DELIMITERS = 11,     /* the bytes are no four delimiters */
     LIS_STATUS_ABSENT = 12,             /* there is no such part */
@@ -481,11 +481,13 @@ size_t lis_reader_align(void);
 void lis_reader_init(void *at);
 void lis_reader_end(lis_reader s);
 /* Reads on: the bytes before the first CR, or a CR that comes first, which ends a record; answers how many it read.
- * `out` is always written. A record's parts can be read until the next call. If a record can't be read, none of these
- * bytes count as read: stop there, for the reader gives that fault for good; to read another stream, call _end and
- * _init. It holds one record's bytes at most. */
+ * `out` is always written. If it has LIS_FOUND_NOTHING, the reader holds the bytes that were read. A record's text and
+ * parts can be read until the next call. If a record can't be read, none of these bytes count as read: stop there, for
+ * the reader gives that fault for good; to read another stream, call _end and _init. It holds one record's bytes at
+ * most. */
 size_t lis_reader_read(lis_reader *s, const uint8_t *bytes, size_t bytes_len, lis_found *out);
-/* A component of the record that was read last, as by lis_record_part. */
+/* A component of the record that was read last, as by lis_record_part. Each call reads the record from its beginning:
+ * lis_reader_parts gives all components in one pass. */
 lis_status lis_reader_part(lis_reader *s, size_t field, size_t repeat, size_t component, uint8_t *out, size_t out_len,
                            size_t *size);
 /* The parts of a record that was read: how many they are, how many bytes its text has, and its delimiters. */
@@ -494,6 +496,17 @@ typedef struct lis_table {
     size_t len;
     lis_delimiters delimiters;
 } lis_table;
+
+/* Puts all components of the record that lis_reader_read found last to the front of `out`, as lis_record_parts does, in
+ * one pass; they are in the text that lis_reader_text copies. LIS_STATUS_OK; LIS_STATUS_TOO_SHORT, and as many are
+ * written as `out` has room for (`table->count` is how many there are; an array as long as the text is never too
+ * short); LIS_STATUS_NO_RECORD if none was found last, and all of `table` is 0. What is past them in `out` stays as it
+ * was. `table` is always written. */
+lis_status lis_reader_parts(lis_reader *s, lis_part *out, size_t out_len, lis_table *table);
+/* Copies the text of that record, without its CR, to the front of `out`. LIS_STATUS_OK; LIS_STATUS_NO_RECORD as above;
+ * LIS_STATUS_TOO_SHORT, and nothing is copied: a buffer of `table->len` or LIS_LIMIT_RECORD_BYTES never is too short.
+ * `size` is always written, 0 but with OK. */
+lis_status lis_reader_text(lis_reader *s, uint8_t *out, size_t out_len, size_t *size);
 
 /* Reads the next record if it is whole in the bytes, with its CR, and puts all its parts to the front of `parts`, as
  * lis_record_parts does; answers how many bytes it read. Its text is those bytes without the last one, and the offsets

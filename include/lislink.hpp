@@ -444,7 +444,8 @@ class reader {
     detail::owner<lis_reader, lis_reader_size, lis_reader_align, lis_reader_init, lis_reader_end> own_;
     lis_found found_{};
     lis_delimiters delimiters_{'|', '\\', '^', '&'};
-    std::string held_;               // the bytes of a record that began in an earlier piece
+    std::size_t before_ = 0;         // how many bytes of the record came in earlier pieces: the library holds them
+    std::string copy_;               // the text of a record that began in an earlier piece
     std::string_view text_;          // of the record that was read last
     std::vector<lis_part> parts_;
     std::size_t count_ = 0;
@@ -454,10 +455,14 @@ class reader {
 
     // The record that ended: its text, and the delimiters that a header declares.
     void take(std::string_view text) {
-        if (!held_.empty())
-            held_ += text;
-        text_ = held_.empty() ? text : held_;
+        std::size_t before = std::exchange(before_, 0), size = 0;
         split_ = false;
+        text_ = text;
+        if (before > 0) {
+            copy_.resize(before + text.size());
+            lis_reader_text(get(), detail::at(copy_), copy_.size(), &size);
+            text_ = copy_;
+        }
         lis_record header;
         if (found_.letter == 'H')
             lis_header_read(detail::at(text_), text_.size(), &delimiters_, &header);
@@ -469,18 +474,14 @@ class reader {
             return;
         if (parts_.size() < text_.size())
             parts_.resize(text_.size());
-        const std::uint8_t *text = detail::at(text_);
-        if (found_.letter == 'H')
-            lis_header_parts(text, text_.size(), parts_.data(), parts_.size(), &count_);
-        else
-            lis_record_parts(&delimiters_, text, text_.size(), parts_.data(), parts_.size(), &count_);
+        lis_table table;
+        lis_reader_parts(get(), parts_.data(), parts_.size(), &table);
+        count_ = table.count;
         split_ = true;
     }
 
     // Reads on to the end of a record; false if there is none in these bytes, or one that can't be read.
     bool next(std::string_view &bytes) {
-        if (found_.kind == LIS_FOUND_RECORD)
-            held_.clear();
         std::string_view rest = bytes;
         while (!rest.empty()) {
             rest.remove_prefix(lis_reader_read(get(), detail::at(rest), rest.size(), &found_));
@@ -492,7 +493,7 @@ class reader {
                 return true;
             }
         }
-        held_ += bytes;
+        before_ += bytes.size();
         bytes = rest;
         return false;
     }

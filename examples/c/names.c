@@ -19,7 +19,7 @@ const char *lis_status_text(lis_status status) {
         [LIS_STATUS_OUT_OF_MEMORY] = "out of memory",
         [LIS_STATUS_BAD_NUMBER] = "the number is not one of those that are known",
         [LIS_STATUS_TOO_SHORT] = "the buffer is too short",
-        [LIS_STATUS_NO_RECORD] = "the text is empty, or no record is begun",
+        [LIS_STATUS_NO_RECORD] = "the text is empty, or there is no record",
         [LIS_STATUS_BAD_LETTER] = "no letter of such a record, or no field delimiter after it",
         [LIS_STATUS_BAD_DELIMITERS] = "the bytes are no four delimiters",
         [LIS_STATUS_ABSENT] = "there is no such part",

@@ -117,6 +117,10 @@ static void of_reader(void) {
     SAME(found.kind, LIS_FOUND_RECORD);
     SAME(lis_reader_part(&reader, 3, 0, 0, NULL, 0, &size), LIS_STATUS_OK);
     SAME(lis_reader_part(&reader, 4, 0, 0, NULL, 0, &size), LIS_STATUS_ABSENT);
+    SAME(lis_reader_parts(&reader, NULL, 0, &table), LIS_STATUS_TOO_SHORT);
+    SAME(table.count, 1);
+    SAME(lis_reader_text(&reader, NULL, 0, &size), LIS_STATUS_TOO_SHORT);
+    SAME(size, 0);
     lis_reader_end(reader);
     lis_reader_init(reader.at);
     SAME(lis_reader_next(&reader, NULL, 0, &found, NULL, 0, &table), 0);

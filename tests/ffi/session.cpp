@@ -163,8 +163,10 @@ static void of_long_frames() {
     sender.set_frame_limit(LIS_LIMIT_LONG_FRAME_TEXT);
     lislink::connection old = sender.connected(), line = sender.connected();
     sender.add(text);
-    SAME(sender.start() == "\x05" && sender.reply(line, 6) == bytes && sender.reply(old, 6).empty());
+    SAME(sender.start() == "\x05" && sender.reply(line, 21).empty() && sender.phase() == LIS_PHASE_BUSY);
+    SAME(sender.timer() == "\x05" && sender.reply(line, 6) == bytes && sender.reply(old, 6).empty());
     SAME(sender.reply(line, 21) == bytes && sender.reply(line, 6) == "\x04" && sender.outcome() == LIS_OUTCOME_DONE);
+    SAME(sender.reply(line, 6).empty());
     std::string out;
     std::size_t place = 0;
     SAME(lislink::try_long_frame(1, true, std::string(63994, 'a'), out, place) == LIS_STATUS_TOO_LONG && out.empty());

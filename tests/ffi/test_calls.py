@@ -198,6 +198,10 @@ class Calls(kit.Test):
             for piece in (b"R|1\r", b"", b"L|1\r"):
                 self.gives(error_of(lambda: list(reader.feed(piece))), fault)
             self.gives(error_of(reader.finish), fault)
+        with Reader() as reader:
+            self.gives(list(reader.letters(b"H*!+-\rP*1")), ["H"])
+            row, = reader.feed(b"*a+b\r")
+            self.gives((row.text, row.delimiters, row.fields), (b"P*1*a+b", b"*!+-", [[[b"1"]], [[b"a", b"b"]]]))
 
     def test_messages(self):
         stream = b"H|\\^&\rP|1\rO|1|S7||^^^GLU\\^^^NA\rR|1|^^^GLU|5&X0D&\rL|1|N\r"

@@ -33,6 +33,29 @@ static size_t add_components(lis_reader *reader, size_t field, size_t repeat, ui
     return component;
 }
 
+/* All parts at once, in the record's text, mean what lis_reader_part answers for each. */
+static void check_table(lis_reader *reader, uint8_t *room) {
+    lis_table table;
+    size_t size, alone;
+    lis_reader_parts(reader, NULL, 0, &table);
+    lis_part *parts = block((table.count + 1) * sizeof *parts);
+    uint8_t *text = block(table.len);
+    CHECK(lis_reader_parts(reader, parts, table.count, &table) == LIS_STATUS_OK);
+    CHECK(lis_reader_text(reader, text, table.len, &size) == LIS_STATUS_OK && size == table.len);
+    for (size_t i = 0; i < table.count && i < 60; i++) {
+        const lis_part *part = &parts[i];
+        uint8_t *bytes = block(part->len + 1u);
+        CHECK(lis_part_decode(&table.delimiters, text + part->offset, part->len, bytes, part->len, &size)
+              == LIS_STATUS_OK);
+        CHECK(lis_reader_part(reader, part->field, part->repeat, part->component, room, LIS_LIMIT_RECORD_BYTES, &alone)
+              == LIS_STATUS_OK);
+        CHECK(alone == size && memcmp(bytes, room, size) == 0);
+        free(bytes);
+    }
+    free(text);
+    free(parts);
+}
+
 static void add_record(lis_reader *reader, const lis_found *found, uint8_t *room, uint64_t *sum) {
     size_t first = found->letter == 'H' ? 3 : 2, most = found->fields < 40 ? found->fields : 40;
     for (size_t field = 0; field < first + most + 1; field++) {
@@ -41,6 +64,7 @@ static void add_record(lis_reader *reader, const lis_found *found, uint8_t *room
             repeat++;
         CHECK(repeat == 0 || (field >= first && field < first + found->fields));
     }
+    check_table(reader, room);
 }
 
 /* A fault is for good, and none of the bytes count as read. */

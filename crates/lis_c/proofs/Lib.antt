@@ -1,3 +1,4 @@
+pub mod EmitLaws
 pub mod FeedLaws
 pub mod HandleLaws
 pub mod Handles

@@ -1,20 +1,10 @@
 -- The bytes that go on the link.
-use Rattle.std.specs.Prelude.{◌≡◌, ◌≢◌, ℕ, List, [], ◌∷◌, length, take, if◌then◌else◌, nat_lt, ◌&&◌}
+use Rattle.std.specs.Prelude.{◌≡◌, ◌≢◌, ℕ, List, [], length, take, if◌then◌else◌, nat_lt, ◌&&◌}
 use Rattle.std.specs.Prelude.{Option, None, Some}
-use Rattle.lis_text.specs.Control.{ENQ, EOT, NAK}
 use Rattle.lis_frame.specs.Frame.{FrameContent, frame_bytes}
-use Rattle.lis_link.specs.declared.sender.EmitOf.{EmitOf}
-use Rattle.lis_link.specs.declared.sender.EmitOf.TheVariants as Emits
 use Rattle.lis_c.specs.Records.{IsCopied}
 use Rattle.lis_c.specs.Status.{ABSENT, OK, copy_status}
 use Rattle.lis_c.specs.declared.out.LisBytes.{LisBytes}
-
-abbrev pub emitted_bytes : {limit : ℕ} → EmitOf limit → List ℕ
-emitted_bytes Emits.Nothing = []
-emitted_bytes Emits.Enq = ENQ ∷ []
-emitted_bytes Emits.Eot = EOT ∷ []
-emitted_bytes Emits.Nak = NAK ∷ []
-emitted_bytes (Emits.Frame frame) = frame_bytes frame
 
 -- what goes on the link, if the caller's struct has room for it, else nothing; with the usual limit it always has
 abbrev pub fits_in : ℕ → List ℕ → List ℕ

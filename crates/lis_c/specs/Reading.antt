@@ -1,6 +1,6 @@
 -- What C gets of the records of a stream.
-use Rattle.std.specs.Prelude.{◌≡◌, ℕ, ◌-◌, ◌==◌, List, [], Option, None, Some, Result, Ok, Err, if◌then◌else◌, length}
-use Rattle.std.specs.Prelude.{position, take}
+use Rattle.std.specs.Prelude.{◌≡◌, ◌≢◌, ℕ, ◌-◌, ◌==◌, List, [], Option, None, Some, Result, Ok, Err, length, take}
+use Rattle.std.specs.Prelude.{if◌then◌else◌, position}
 use Rattle.lis_text.specs.Control.{CR}
 use Rattle.lis_record_values.specs.Kinds.{letter_of}
 use Rattle.lis_record_values.specs.Shape.{RecordContent}
@@ -13,8 +13,8 @@ use Rattle.lis_message.specs.declared.records.RecordFound.{RecordFound}
 use Rattle.lis_message.specs.declared.records.RecordFound.TheVariants as founds
 use Rattle.lis_message.specs.Kept.{RecordsState}
 use Rattle.lis_message.specs.Records.{Reads}
-use Rattle.lis_c.specs.Records.{IsPart, part_at, record_place, record_status}
-use Rattle.lis_c.specs.Status.{OK, UNFINISHED, ABSENT}
+use Rattle.lis_c.specs.Records.{IsCopied, IsPart, part_at, record_place, record_status}
+use Rattle.lis_c.specs.Status.{OK, UNFINISHED, ABSENT, NO_RECORD, copy_status}
 use Rattle.lis_c.specs.declared.reader.LisFound.{LisFound}
 
 -- the bytes before the first CR, or a CR that is first: by the place of the first CR, and how many bytes there are
@@ -83,7 +83,7 @@ ReadsPiece before after left bytes count out =
 
 -- at the start of a stream: no message is open, nothing is held, no record was split, and no fault was met
 abbrev pub new_reader : RecordsState
-new_reader = record { opened = None; held = []; split = None; fault = None }
+new_reader = record { opened = None; held = []; split = None; split_text = []; fault = None }
 
 -- a part of the record that was read last
 abbrev pub IsSplitPart : Option (Borrowed RecordContent) → (field repeat component : ℕ) → (status : ℕ)
@@ -91,6 +91,15 @@ abbrev pub IsSplitPart : Option (Borrowed RecordContent) → (field repeat compo
 IsSplitPart None field repeat component status before after size = (status ≡ ABSENT) × (after ≡ before) × (size ≡ 0)
 IsSplitPart (Some entry) field repeat component status before after size =
     IsPart (part_at entry.content field repeat component) status before after size
+
+-- the text of the record that was read last is copied to the front of a buffer; if there is none, or it does not fit,
+-- nothing is
+abbrev pub IsSplitText : Option (Borrowed RecordContent) → (text : List ℕ) → (status : ℕ) (before after : List ℕ)
+    (size : ℕ) → Type 0
+IsSplitText None text status before after size = (status ≡ NO_RECORD) × (after ≡ before) × (size ≡ 0)
+IsSplitText (Some entry) text status before after size =
+    IsCopied text status before after size × (status ≡ copy_status (length before) (length text))
+    × (status ≢ OK → after ≡ before)
 
 -- the end of the stream
 abbrev pub AtEnd : Result (Unit {0}) MessageFault → ℕ → LisFound → Type 0

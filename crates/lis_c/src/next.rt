@@ -1,7 +1,8 @@
-//! The next record of a stream with all its parts, for programs in C (LIS02-A2, Delimiters). It takes no memory.
+//! The next record of a stream and the last one, each with all its parts, for programs in C (LIS02-A2, Delimiters). No
+//! call takes memory.
 
 ghost use Rattle.std.specs.Prelude.{◌≡◌, ◌<◌, ◌≤◌, ◌∷◌, ◌++◌, [], ℕ, List, None, Option, length};
-ghost use Rattle.lis_c.specs.Next.{ReadsNext, ReportsTable, no_table};
+ghost use Rattle.lis_c.specs.Next.{IsSplitTable, ReadsNext, ReportsTable, no_table};
 ghost use Rattle.lis_c.specs.Reading.{nothing};
 ghost use Rattle.lis_record_values.specs.Text.{record_limit};
 ghost use Rattle.lis_message.specs.Records.{HasLeft, IsRecordRefused};
@@ -11,6 +12,7 @@ ghost use Rattle.lis_tree.specs.Begun.{Begun};
 use crate::handle_state::ReaderHandleState;
 use crate::reader::{LisFound, LisReader, clear, report};
 use crate::records::{LisDelimiters, report_delimiters};
+use crate::status;
 use lis_record::{BorrowedRecord, RECORD_LIMIT};
 use lis_table::{LisPart, put_places};
 
@@ -51,6 +53,22 @@ pub extern "C" fn lis_reader_next(
     s.borrow().next(bytes, out, parts, table)
 }
 
+/// Puts all components of the record that `lis_reader_read` found last to the front of `out`, as `lis_record_parts`
+/// does, in one pass over its text; their offsets are in that text, which `lis_reader_text` copies. `OK`; `TOO_SHORT`,
+/// and as many are put as there is room for; `NO_RECORD` if none was found last, and `table` is 0 and no part is put.
+#[unsafe(no_mangle)]
+pub extern "C" fn lis_reader_parts(
+    s: &mut LisReader,
+    out: &mut [LisPart],
+    table: &mut LisTable,
+) -> u8
+    ensures parts { IsSplitTable s.old.state.reader.split s.old.state.reader.split_text result out.old out.new
+        table.new }
+    ensures same { s.new.state ≡ s.old.state }
+{
+    s.borrow().last_parts(out, table)
+}
+
 impl ReaderHandleState {
     fn next(
         &mut self,
@@ -78,6 +96,21 @@ impl ReaderHandleState {
                 report_table(&entry, text, parts, table);
                 count
             }
+        }
+    }
+
+    fn last_parts(&self, parts: &mut [LisPart], table: &mut LisTable) -> u8
+        ensures { IsSplitTable self.now.reader.split self.now.reader.split_text result parts.old parts.new table.new }
+    {
+        clear_table(table);
+        let Some(entry) = self.reader.split() else {
+            return status::NO_RECORD;
+        };
+        report_table(&entry, self.reader.split_text(), parts, table);
+        if table.count > parts.len() {
+            status::TOO_SHORT
+        } else {
+            status::OK
         }
     }
 }

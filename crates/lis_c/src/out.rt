@@ -1,14 +1,15 @@
 //! Where an answer is put: structs of the caller's, each of one size, so that no length is owed, and a buffer.
 
-ghost use Rattle.std.specs.Prelude.{◌≡◌, ◌≢◌, ◌≤◌, length};
+ghost use Rattle.std.specs.Prelude.{◌≡◌, ◌≢◌, ◌≤◌, ◌+◌, length};
 ghost use Rattle.lis_c.specs.Codes.{fault_code, fault_place};
-ghost use Rattle.lis_c.specs.Emitted.{HoldsBytes, emitted_bytes};
+ghost use Rattle.lis_c.specs.Emitted.{HoldsBytes, HoldsEmitted};
 ghost use Rattle.lis_c.specs.Records.{IsCopied};
 ghost use Rattle.lis_c.specs.Status.{OK, copy_status};
+ghost use Rattle.lis_link.specs.Duties.{emitted_bytes};
 
 use crate::status;
-use lis_frame::{FrameFault, frame_bytes};
-use lis_link::{Emit, EmitOf};
+use lis_frame::{FrameFault, frame_bytes_of};
+use lis_link::EmitOf;
 use lis_text::{ENQ, EOT, NAK};
 
 /// Bytes for the link: the first `len` of `bytes`, at most 247.
@@ -28,16 +29,26 @@ pub(crate) fn put(out: &mut LisBytes, bytes: &[u8])
     out.len = bytes.len();
 }
 
-/// Puts what an emit is on the link.
-pub(crate) fn put_emit(out: &mut LisBytes, emit: &Emit)
-    ensures { HoldsBytes out.new (emitted_bytes emit.now) }
+#[tactic(auto, using(crate::proofs::EmitLaws::has_no_room, crate::proofs::EmitLaws::has_room))]
+/// Puts what an emit is on the link; nothing if it is a frame of more bytes than there is room for.
+pub(crate) fn put_emit<const N: usize, const B: usize>(out: &mut LisBytes, emit: &EmitOf<N>)
+    requires room { B ≡ N + 7 }
+    requires bound { B ≤ 64000 }
+    ensures { HoldsEmitted N out.new (emitted_bytes emit.now) }
 {
     match emit {
         EmitOf::Nothing => put(out, &[]),
         EmitOf::Enq => put(out, &[ENQ]),
         EmitOf::Eot => put(out, &[EOT]),
         EmitOf::Nak => put(out, &[NAK]),
-        EmitOf::Frame(frame) => put(out, frame_bytes(frame).as_slice()),
+        EmitOf::Frame(frame) => {
+            let bytes = frame_bytes_of::<N, B>(frame);
+            if bytes.len() > out.bytes.len() {
+                put(out, &[]);
+            } else {
+                put(out, bytes.as_slice());
+            }
+        }
     }
 }
 

@@ -1,15 +1,16 @@
 //! The reader of records for programs in C: a stream in pieces, each record in its place (LIS02-A2).
 
-ghost use Rattle.std.specs.Prelude.{◌≡◌, ◌==◌, ◌≤◌, ◌<◌, Option, IfSome, length, position};
-ghost use Rattle.lis_c.specs.Status.{UNFINISHED};
+ghost use Rattle.std.specs.Prelude.{◌≡◌, ◌≢◌, ◌==◌, ◌≤◌, ◌<◌, Option, IfSome, length, position};
+ghost use Rattle.lis_c.specs.Status.{TOO_SHORT, UNFINISHED};
 ghost use Rattle.lis_c.specs.declared.handle_state.ReaderHandleState.{ReaderHandleState};
 ghost use Rattle.lis_c.specs.New.{IsNewReader, type_align};
-ghost use Rattle.lis_c.specs.Reading.{AtEnd, IsSplitPart, ReadsAndReports, ReadsPiece};
+ghost use Rattle.lis_c.specs.Reading.{AtEnd, IsSplitPart, IsSplitText, ReadsAndReports, ReadsPiece};
 ghost use Rattle.lis_c.specs.Reading.{detail_of, nothing, piece_length, place_of, reason_code, reported_fault};
 ghost use Rattle.lis_c.specs.Reading.{reported_record};
 ghost use Rattle.lis_c.specs.contracts.handle_state.ReaderHandleState.{the_row as handle_state_row};
 ghost use Rattle.lis_message.specs.Feeding.{answer_at_end};
 ghost use Rattle.lis_message.specs.Records.{HasLeft};
+ghost use Rattle.lis_record_values.specs.Text.{record_limit};
 ghost use Rattle.lis_tree.specs.Begun.{Begun};
 ghost use Rattle.lis_text.specs.Control.{CR};
 ghost use Rattle.std.specs.Borrow.{sem};
@@ -17,6 +18,7 @@ ghost use Rattle.std.specs.Mem.{type_size};
 ghost use Rattle.std.specs.Ptr.{room_at};
 
 use crate::handle_state::{ReaderHandleState, release_reader};
+use crate::out::copy_text;
 use crate::records::{copy_part, record_place, record_status};
 use crate::status;
 use lis_message::{BorrowedRecord, MessageFault, Reason, RecordFound};
@@ -26,7 +28,7 @@ use std::marker::Model;
 use std::mem::{align_of, size_of};
 
 /// What reading on found: 0 nothing, 1 a record, 2 a record that can't be read. A record has its letter in upper case
-/// and the number of its fields; `lis_reader_part` has its parts until the next read. One that can't be read has its
+/// and the number of its fields; `lis_reader_parts` has its parts until the next read. One that can't be read has its
 /// number in its message, from 1 for a header, the reason, and its detail: the status of a text that is no record
 /// with the place of a byte, or the letter of a record without a parent. All else is 0.
 #[repr(C)]
@@ -112,7 +114,8 @@ pub extern "C" fn lis_reader_read(s: &mut LisReader, bytes: &[u8], out: &mut Lis
     s.borrow().read(piece, out)
 }
 
-/// Copies the bytes of a component of the record that was read last, as `lis_record_part` does.
+/// Copies the bytes of a component of the record that was read last, as `lis_record_part` does. Each call reads the
+/// record from its beginning: `lis_reader_parts` gives all components in one pass.
 #[unsafe(no_mangle)]
 pub extern "C" fn lis_reader_part(
     s: &mut LisReader,
@@ -130,6 +133,18 @@ pub extern "C" fn lis_reader_part(
         None => status::ABSENT,
         Some(entry) => copy_part(&entry, field, repeat, component, out, size),
     }
+}
+
+/// Copies the text of the record that was read last, without its CR, to the front of a buffer, and says how many bytes
+/// it has: `OK`; `NO_RECORD` if none was found last; or `TOO_SHORT`, which a buffer of 65,536 bytes never is, and then
+/// nothing is copied.
+#[unsafe(no_mangle)]
+pub extern "C" fn lis_reader_text(s: &mut LisReader, out: &mut [u8], size: &mut usize) -> u8
+    ensures text { IsSplitText s.old.state.reader.split s.old.state.reader.split_text result out.old out.new size.new }
+    ensures fits { record_limit ≤ length out.old → result ≢ TOO_SHORT }
+    ensures same { s.new.state ≡ s.old.state }
+{
+    s.borrow().last_text(out, size)
 }
 
 /// The end of the stream: `OK`, or `UNFINISHED` where a message isn't closed or a record isn't ended, or the fault that
@@ -181,6 +196,17 @@ impl ReaderHandleState {
             RecordFound::Refused(fault) => refuse(fault, out),
         }
         piece.len().saturating_sub(following.len())
+    }
+
+    fn last_text(&self, out: &mut [u8], size: &mut usize) -> u8
+        ensures text { IsSplitText self.now.reader.split self.now.reader.split_text result out.old out.new size.new }
+        ensures fits { record_limit ≤ length out.old → result ≢ TOO_SHORT }
+    {
+        *size = 0;
+        match self.reader.split() {
+            None => status::NO_RECORD,
+            Some(_) => copy_text(self.reader.split_text(), out, size),
+        }
     }
 }
 

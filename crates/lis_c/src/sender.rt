@@ -3,7 +3,8 @@
 ghost use Rattle.std.specs.Prelude.{◌≡◌, ◌≢◌, ◌++◌, ◌∷◌, [], MatchResult, Some, length};
 ghost use Rattle.lis_c.specs.declared.handle_state.SenderHandleState.{SenderHandleState};
 ghost use Rattle.lis_c.specs.Codes.{outcome_code, phase_code};
-ghost use Rattle.lis_c.specs.Emitted.{FrameCopied, HoldsBytes, HoldsEmitted, emitted_bytes};
+ghost use Rattle.lis_c.specs.Emitted.{FrameCopied, HoldsBytes, HoldsEmitted};
+ghost use Rattle.lis_link.specs.Duties.{emitted_bytes};
 ghost use Rattle.lis_c.specs.Limits.{sender_limit, sender_limit_status, sender_state, with_state};
 ghost use Rattle.lis_c.specs.Borrowed.{borrowed_bytes, borrowed_status};
 ghost use Rattle.lis_c.specs.New.{IsNewSender, type_align};

@@ -1,18 +1,18 @@
 //! A sender of the usual limit on a frame's text, or of the long one.
 
 ghost use Rattle.std.specs.Prelude.{◌≡◌, ◌≤◌, ◌+◌, None, Some, MatchResult};
-ghost use Rattle.lis_c.specs.Emitted.{FrameCopied, HoldsEmitted, emitted_bytes};
+ghost use Rattle.lis_c.specs.Emitted.{FrameCopied, HoldsEmitted};
 ghost use Rattle.lis_c.specs.Limits.{sender_limit, sender_state, with_state};
 ghost use Rattle.lis_c.specs.inside.Borrowed.{session_texts};
+ghost use Rattle.lis_link.specs.Duties.{emitted_bytes};
 ghost use Rattle.lis_link.specs.Sender.{awaited, new_sender, on_reply, on_sender_timer, sender_restarted};
 ghost use Rattle.lis_link.specs.Sender.{start_fault, started};
 
 use crate::borrowed::OwnOrCallerTexts;
-use crate::out::{LisBytes, copy_text, put, put_emit};
+use crate::out::{LisBytes, copy_text, put_emit};
 use crate::status;
 use lis_frame::frame_bytes_of;
-use lis_link::{EmitOf, Outcome, Phase, SenderOver, StartRefusedOf};
-use lis_text::{ENQ, EOT, NAK};
+use lis_link::{Outcome, Phase, SenderOver, StartRefusedOf};
 
 /// A sender of either limit.
 #[derive(Drop)]
@@ -68,7 +68,7 @@ impl AnySender {
             (on_reply {limit = sender_limit self.old} byte (sender_state self.old)).after }
     {
         match self {
-            AnySender::Usual(sender) => put_emit(out, &sender.reply(byte)),
+            AnySender::Usual(sender) => put_emit::<240, 247>(out, &sender.reply(byte)),
             AnySender::Long(sender) => reply_long(sender, byte, out),
         }
     }
@@ -81,7 +81,7 @@ impl AnySender {
             (on_sender_timer {limit = sender_limit self.old} (sender_state self.old)).after }
     {
         match self {
-            AnySender::Usual(sender) => put_emit(out, &sender.timer()),
+            AnySender::Usual(sender) => put_emit::<240, 247>(out, &sender.timer()),
             AnySender::Long(sender) => timer_long(sender, out),
         }
     }
@@ -143,7 +143,7 @@ fn reply_long(sender: &mut SenderOver<63_993, OwnOrCallerTexts>, byte: u8, out: 
     ensures emit { HoldsEmitted 63993 out.new (emitted_bytes (on_reply {limit = 63993} byte sender.old).emit) }
     ensures after { sender.new ≡ (on_reply {limit = 63993} byte sender.old).after }
 {
-    put_long_emit(out, &sender.reply(byte));
+    put_emit::<63_993, 64_000>(out, &sender.reply(byte));
 }
 
 /// The timer for the long limit.
@@ -152,27 +152,7 @@ fn timer_long(sender: &mut SenderOver<63_993, OwnOrCallerTexts>, out: &mut LisBy
     ensures emit { HoldsEmitted 63993 out.new (emitted_bytes (on_sender_timer {limit = 63993} sender.old).emit) }
     ensures after { sender.new ≡ (on_sender_timer {limit = 63993} sender.old).after }
 {
-    put_long_emit(out, &sender.timer());
-}
-
-/// Puts what is to be sent; nothing if it is a frame of more bytes than there is room for.
-fn put_long_emit(out: &mut LisBytes, emit: &EmitOf<63_993>)
-    ensures { HoldsEmitted 63993 out.new (emitted_bytes emit.now) }
-{
-    match emit {
-        EmitOf::Nothing => put(out, &[]),
-        EmitOf::Enq => put(out, &[ENQ]),
-        EmitOf::Eot => put(out, &[EOT]),
-        EmitOf::Nak => put(out, &[NAK]),
-        EmitOf::Frame(frame) => {
-            let bytes = frame_bytes_of::<63_993, 64_000>(frame);
-            if bytes.len() > out.bytes.len() {
-                put(out, &[]);
-            } else {
-                put(out, bytes.as_slice());
-            }
-        }
-    }
+    put_emit::<63_993, 64_000>(out, &sender.timer());
 }
 
 /// Copies the frame that awaits its reply to the front of a buffer.

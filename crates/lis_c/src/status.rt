@@ -24,7 +24,7 @@ pub(crate) const OUT_OF_MEMORY: u8 = 6;
 pub(crate) const BAD_NUMBER: u8 = 7;
 /// The buffer is too short.
 pub(crate) const TOO_SHORT: u8 = 8;
-/// The text has no byte, or no record is begun.
+/// The text has no byte, or no record is begun or was found last.
 pub(crate) const NO_RECORD: u8 = 9;
 /// The byte is no letter of such a record, or what follows it isn't the field delimiter.
 pub(crate) const BAD_LETTER: u8 = 10;

@@ -9,6 +9,8 @@ use std::process::Abort;
 const STREAM: &[u8] =
     b"H|\\^&|||Analyzer\rP|1\rO|1|S7\rR|1|^^^GLU|5.4\rL|1|N\rH;!:%;a\rp;1;x!y\rL;1;N\r";
 
+const HEADER: &[u8] = b"H|\\^&";
+
 /// What is written down of its records: the letter of each, the number of its fields and its field 3.
 const WRITTEN: &[u8] = b"H3P1O2S7R3^^^GLUL2NH1aP2x!yL2N";
 
@@ -74,9 +76,9 @@ fn a_record_that_is_refused_is_not_borrowed(rt: HostRuntime) {
 #[test]
 fn bytes_of_a_record_that_is_borrowed_are_not_held(rt: HostRuntime) {
     let mut reader = RecordReader::new(rt.alloc());
-    assert!(rt; matches!(reader.read(b"H|\\^&"), (_, RecordFound::Nothing)));
-    assert!(rt; reader.held() == 5);
+    assert!(rt; matches!(reader.read(HEADER), (_, RecordFound::Nothing)));
+    assert!(rt; reader.held() == 5 && reader.split_text().is_empty());
     assert!(rt; matches!(reader.read(b"\r"), (_, RecordFound::Held)));
-    assert!(rt; reader.held() == 0);
+    assert!(rt; reader.held() == 0 && reader.split_text() == HEADER);
     drop(reader);
 }

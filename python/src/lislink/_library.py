@@ -67,6 +67,10 @@ class Found(ctypes.Structure):
     ]
 
 
+class Table(ctypes.Structure):
+    _fields_ = [("count", ctypes.c_size_t), ("len", ctypes.c_size_t), ("delimiters", Delimiters)]
+
+
 class RecordOut(ctypes.Structure):
     _fields_ = [("letter", ctypes.c_uint8), ("fields", ctypes.c_size_t), ("place", ctypes.c_size_t)]
 
@@ -87,6 +91,8 @@ _CALLS: Dict[str, Any] = {
     "reader_records": (_SIZE, _POINTER, _POINTER, _SIZE, _POINTER, _SIZE, _POINTER, _SIZE, _POINTER),
     "part_decode": (_BYTE, _POINTER, _POINTER, _SIZE, _POINTER, _SIZE, _POINTER),
     "reader_part": (_BYTE, _POINTER, _SIZE, _SIZE, _SIZE, _POINTER, _SIZE, _POINTER),
+    "reader_parts": (_BYTE, _POINTER, _POINTER, _SIZE, _POINTER),
+    "reader_text": (_BYTE, _POINTER, _POINTER, _SIZE, _POINTER),
     "reader_finish": (_BYTE, _POINTER, _POINTER),
     "writer_start": (_BYTE, _POINTER, _POINTER),
     "writer_record": (_BYTE, _POINTER, _BYTE),

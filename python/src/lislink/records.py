@@ -127,8 +127,8 @@ class Reader(Owner):
         self._taken = 0
         self._left: Iterator[Tuple[Any, ...]] = iter(())
         self._source: Tuple[bytes, int, int] = b"", 0, 0
-        #: The bytes of a record that isn't ended: the library holds them too.
-        self._before = bytearray()
+        #: Whether the library holds bytes of a record that isn't ended.
+        self._holds = False
         self._marks: Marks = marks_of(b"|\\^&")
 
     @property
@@ -161,7 +161,7 @@ class Reader(Owner):
 
     def _read_whole(self) -> bool:
         """Reads records that are whole in the piece by one call; whether there are any."""
-        if self._before:
+        if self._holds:
             return False
         count, piece, at = ctypes.c_size_t(), self._piece, self._at
         room = (_ROOM.entries, TOGETHER, _ROOM.parts, RECORD_BYTES)
@@ -179,15 +179,20 @@ class Reader(Owner):
             self.read = self._taken
             raise MessageError(out.number, out.reason, out.detail, out.place)
         if out.kind == 0:
-            self._before += self._piece[at : self._at]
+            self._holds = self._holds or self._at > at
             return None
-        text = bytes(self._before)
-        self._before.clear()
-        letter, fields = chr(out.letter), out.fields
-        self._call("read", 0, 0, ctypes.byref(out))  # the library gives the record up
-        if letter == "H":
-            self._marks = marks_of(Record(text).delimiters)
-        return Row(letter, text, self._marks, fields, None)
+        self._holds = False
+        return self._last_row(out)
+
+    def _last_row(self, out: _library.Found) -> Row:
+        """The record that was read by itself, which the library then gives up."""
+        table, size = _library.Table(), ctypes.c_size_t()
+        self._call("parts", _ROOM.parts, RECORD_BYTES, ctypes.byref(table))
+        text = (ctypes.c_uint8 * table.len)()
+        self._call("text", text, table.len, ctypes.byref(size))
+        letter, fields, self._marks = chr(out.letter), out.fields, marks_of(bytes(table.delimiters))
+        self._call("read", 0, 0, ctypes.byref(out))
+        return Row(letter, bytes(text), self._marks, fields, table.count)
 
     def letters(self, data: bytes) -> Iterator[str]:
         """The same without the fields: the letters of the records that further bytes end."""

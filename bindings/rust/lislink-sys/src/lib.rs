@@ -428,6 +428,18 @@ extern "C" {
         out_len: usize,
         size: *mut usize,
     ) -> lis_status;
+    pub fn lis_reader_parts(
+        s: *mut lis_reader,
+        out: *mut lis_part,
+        out_len: usize,
+        table: *mut lis_table,
+    ) -> lis_status;
+    pub fn lis_reader_text(
+        s: *mut lis_reader,
+        out: *mut u8,
+        out_len: usize,
+        size: *mut usize,
+    ) -> lis_status;
     pub fn lis_reader_next(
         s: *mut lis_reader,
         bytes: *const u8,

@@ -134,6 +134,12 @@ fn of_long_frames() {
     };
     assert_eq!(receiver.hear(&stream, keep, |reply| reply == 6), Heard::All);
     assert_eq!(kept, text);
+    let mut sender = Sender::with_frame_limit(FrameLimit::Long).expect("the long limit");
+    let line = sender.connected();
+    sender.add(&text).expect("memory");
+    assert_eq!(&sender.start().expect("a session")[..], b"\x05");
+    assert_eq!(sender.reply_any(line, 6), bytes);
+    assert_eq!(sender.reply_any(line, 6), b"\x04");
 }
 
 fn main() {

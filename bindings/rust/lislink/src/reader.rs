@@ -118,8 +118,6 @@ impl Record {
 /// Reads the records of a stream that comes in pieces.
 pub struct Reader {
     block: Block<sys::lis_reader>,
-    delimiters: Delimiters,
-    held: Vec<u8>,
     parts: Vec<sys::lis_part>,
 }
 
@@ -132,8 +130,7 @@ impl Default for Reader {
 impl Reader {
     /// A reader at the start of a stream.
     pub fn new() -> Self {
-        let delimiters = Delimiters::usual();
-        Reader { block: Block::new(), delimiters, held: Vec::new(), parts: Vec::new() }
+        Reader { block: Block::new(), parts: Vec::new() }
     }
 
     /// The records that end in these bytes. One that can't be read is the last, and the reader then gives that fault
@@ -151,29 +148,26 @@ impl Reader {
         }
     }
 
-    /// The record that ended, whose bytes are held.
-    fn record(&mut self, found: &sys::lis_found) -> Record {
-        let text = std::mem::take(&mut self.held);
-        let (at, len, mut count) = (text.as_ptr(), text.len(), 0);
-        let mut by = self.delimiters.to_sys();
-        // A record has fewer parts than bytes.
-        if self.parts.len() < len {
-            self.parts.resize(len, no_part());
-        }
+    /// All parts of the record that ended, as far as there is room.
+    fn table(&mut self) -> sys::lis_table {
+        let mut table = sys::lis_table { count: 0, len: 0, delimiters: no_delimiters() };
         let (to, room) = (self.parts.as_mut_ptr(), self.parts.len());
-        if found.letter == b'H' {
-            let mut header = sys::lis_record { letter: 0, fields: 0, place: 0 };
-            unsafe {
-                sys::lis_header_read(at, len, &mut by, &mut header);
-                sys::lis_header_parts(at, len, to, room, &mut count);
-            }
-            self.delimiters = Delimiters::from_sys(by);
-        } else {
-            unsafe { sys::lis_record_parts(&by, at, len, to, room, &mut count) };
+        unsafe { sys::lis_reader_parts(self.block.get(), to, room, &mut table) };
+        table
+    }
+
+    /// The record that ended, whose bytes the library holds.
+    fn record(&mut self, found: &sys::lis_found) -> Record {
+        let mut table = self.table();
+        if table.count > self.parts.len() {
+            self.parts.resize(table.count, no_part());
+            table = self.table();
         }
-        let parts = self.parts[..count].to_vec();
-        let (letter, fields, delimiters) = (found.letter, found.fields, self.delimiters);
-        Record { text, parts, letter, fields, delimiters }
+        let (mut text, mut size) = (vec![0; table.len], 0);
+        unsafe { sys::lis_reader_text(self.block.get(), text.as_mut_ptr(), table.len, &mut size) };
+        let parts = self.parts[..table.count].to_vec();
+        let delimiters = Delimiters::from_sys(table.delimiters);
+        Record { text, parts, letter: found.letter, fields: found.fields, delimiters }
     }
 }
 
@@ -192,15 +186,14 @@ impl Iterator for Records<'_> {
             let (reader, rest) = (self.reader.block.get(), self.rest);
             let read =
                 unsafe { sys::lis_reader_read(reader, rest.as_ptr(), rest.len(), &mut found) };
-            let (piece, rest) = rest.split_at(read);
-            self.rest = rest;
+            self.rest = &rest[read..];
             match found.kind {
                 sys::LIS_FOUND_RECORD => return Some(Ok(self.reader.record(&found))),
                 sys::LIS_FOUND_REFUSED => {
                     self.rest = &[];
                     return Some(Err(fault_of(&found)));
                 }
-                _ => self.reader.held.extend_from_slice(piece),
+                _ => {}
             }
         }
         None
@@ -209,6 +202,10 @@ impl Iterator for Records<'_> {
 
 fn no_part() -> sys::lis_part {
     sys::lis_part { offset: 0, len: 0, field: 0, repeat: 0, component: 0, flags: 0 }
+}
+
+fn no_delimiters() -> sys::lis_delimiters {
+    sys::lis_delimiters { field: 0, repeat: 0, component: 0, escape: 0 }
 }
 
 fn nothing() -> sys::lis_found {

@@ -1,5 +1,5 @@
 //! The sender, and the connection that it uses.
-use crate::{block::Block, Bytes, Error, Outcome, Phase};
+use crate::{block::Block, Bytes, Error, FrameLimit, Outcome, Phase};
 use lislink_sys as sys;
 use std::marker::PhantomData;
 use std::time::Duration;
@@ -26,6 +26,8 @@ impl<'t> From<&'t [u8]> for Text<'t> {
 pub struct Sender<'t> {
     line: sys::lis_line,
     _block: Block<sys::lis_sender>,
+    limit: FrameLimit,
+    sent: Vec<u8>,
     texts: PhantomData<&'t [u8]>,
 }
 
@@ -45,7 +47,18 @@ impl<'t> Sender<'t> {
         let sender = block.handle();
         let mut line = sys::lis_line { sender, connection: 0, spent: true };
         unsafe { sys::lis_line_init(&mut line, sender) };
-        Sender { line, _block: block, texts: PhantomData }
+        let limit = FrameLimit::Usual;
+        Sender { line, _block: block, limit, sent: Vec::new(), texts: PhantomData }
+    }
+
+    /// The same for frames whose texts are within a limit. With the long one take the bytes to be sent from
+    /// [`reply_any`](Self::reply_any): [`Bytes`] has no room for a long frame, so [`reply`](Self::reply) leaves it out.
+    pub fn with_frame_limit(limit: FrameLimit) -> Result<Self, Error> {
+        let mut sender = Self::new();
+        let status = unsafe { sys::lis_sender_set_limit(&mut sender.line.sender, limit.bytes()) };
+        Error::of(status, 0, 0)?;
+        sender.limit = limit;
+        Ok(sender)
     }
 
     /// A new connection was made; or a serial line was waited for, longer than the computer takes to answer, and what
@@ -91,6 +104,20 @@ impl<'t> Sender<'t> {
         let mut out = Bytes::none();
         unsafe { sys::lis_line_reply(&mut self.line, from.0, byte, out.get()) };
         out
+    }
+
+    /// The same for frames of either limit.
+    pub fn reply_any(&mut self, from: Connection, byte: u8) -> &[u8] {
+        let out = self.reply(from, byte);
+        self.sent.clear();
+        self.sent.extend_from_slice(&out);
+        if out.is_empty() && self.limit == FrameLimit::Long {
+            self.sent.resize(sys::LIS_LIMIT_LONG_FRAME_BYTES as usize, 0);
+            let (to, room, mut size) = (self.sent.as_mut_ptr(), self.sent.len(), 0);
+            unsafe { sys::lis_line_frame(&mut self.line, from.0, to, room, &mut size) };
+            self.sent.truncate(size);
+        }
+        &self.sent
     }
 
     /// The phase's timer ran out.

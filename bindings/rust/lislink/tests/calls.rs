@@ -1,5 +1,8 @@
 //! What the scripted session doesn't show: threads, texts that stay, panics, contention.
-use lislink::{Connection, Heard, Note, Outcome, Phase, Ready, Receiver, Sender, Status, Text};
+use lislink::{
+    long_frame, Connection, FrameLimit, Heard, Note, Outcome, Phase, Reader, Ready, Receiver,
+    Sender, Status, Text,
+};
 use std::panic::{catch_unwind, AssertUnwindSafe};
 use std::thread;
 use std::time::{Duration, Instant};
@@ -66,6 +69,74 @@ fn a_reply_of_an_earlier_connection_is_dropped() {
     assert!(sender.reply(old, 6).is_empty());
     assert_eq!(sender.phase(), Phase::AwaitLine);
     done(&mut sender, new);
+}
+
+#[test]
+fn a_sender_of_long_frames_sends_them() {
+    let texts = [vec![b'a'; 5000], vec![b'b'; 240]];
+    let mut sender = Sender::with_frame_limit(FrameLimit::Long).unwrap();
+    let (old, line) = (sender.connected(), sender.connected());
+    for text in &texts {
+        sender.add(text).unwrap();
+    }
+    assert_eq!(&sender.start().unwrap()[..], b"\x05");
+    assert_eq!(sender.reply_any(line, 21), b"");
+    assert_eq!((sender.phase(), &sender.timer()[..]), (Phase::Busy, &b"\x05"[..]));
+    let frames = [1, 2].map(|number| long_frame(number, true, &texts[usize::from(number) - 1]));
+    let [first, second] = frames.map(Result::unwrap);
+    assert_eq!(sender.reply_any(line, 6), first);
+    assert_eq!(sender.reply_any(old, 6), b"");
+    assert_eq!(sender.reply_any(line, 21), first);
+    assert!(sender.reply(line, 21).is_empty());
+    assert_eq!(sender.reply_any(line, 6), second);
+    assert_eq!(sender.reply_any(line, 6), b"\x04");
+    assert_eq!((sender.outcome(), sender.acknowledged()), (Outcome::Done, 2));
+    assert_eq!(sender.reply_any(line, 6), b"");
+}
+
+#[test]
+fn a_sender_of_usual_frames_cuts_a_long_text() {
+    let mut sender = Sender::with_frame_limit(FrameLimit::Usual).unwrap();
+    sender.add(&[b'a'; 5000]).unwrap();
+    let line = sender.connected();
+    sender.start().unwrap();
+    let first = long_frame(1, false, &[b'a'; 240]).unwrap();
+    assert_eq!(sender.reply_any(line, 6), first);
+    assert_eq!(&sender.reply(line, 21)[..], first);
+}
+
+#[test]
+fn a_record_in_pieces_has_its_text_and_parts() {
+    let stream = b"H*!+-*a+b*-F-\rp*\x20*1!2\rl\r";
+    for size in [1, 3, stream.len()] {
+        let mut reader = Reader::new();
+        let mut records = Vec::new();
+        for piece in stream.chunks(size) {
+            records.extend(reader.feed(piece).map(Result::unwrap));
+        }
+        let texts: Vec<_> = records.iter().map(|it| (it.letter(), it.text())).collect();
+        assert_eq!(texts, [('H', &b"H*!+-*a+b*-F-"[..]), ('P', b"p*\x20*1!2"), ('L', b"l")]);
+        let [header, patient, last] = &records[..] else { panic!("three records") };
+        assert_eq!(header.part(3, 0, 1).as_deref(), Some(&b"b"[..]));
+        assert_eq!(header.part(4, 0, 0).as_deref(), Some(&b"*"[..]));
+        assert_eq!(patient.part(3, 1, 0).as_deref(), Some(&b"2"[..]));
+        assert_eq!(patient.delimiters(), header.delimiters());
+        assert_eq!((header.parts().len(), patient.parts().len(), last.parts().len()), (3, 3, 0));
+        assert_eq!((patient.fields(), last.fields()), (2, 0));
+    }
+}
+
+#[test]
+fn all_parts_of_a_long_record_take_milliseconds() {
+    let mut reader = Reader::new();
+    let text = [b"P".as_slice(), &[b'|'; 65535]].concat();
+    assert_eq!(reader.feed(b"H|\\^&\r").count(), 1);
+    assert_eq!(reader.feed(&text).count(), 0);
+    let begun = Instant::now();
+    let record = reader.feed(b"\r").next().unwrap().unwrap();
+    assert_eq!((record.text(), record.parts().len()), (&text[..], 65535));
+    assert!(record.parts().last().is_some_and(|it| it.field == 65536 && it.raw.is_empty()));
+    assert!(begun.elapsed() < Duration::from_millis(250));
 }
 
 #[test]

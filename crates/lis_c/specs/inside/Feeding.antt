@@ -1,4 +1,4 @@
--- Bytes that are read up to the first that gives a signal.
+-- What is reported of bytes that are read up to the first that gives a signal, with the text of a frame.
 use Rattle.std.specs.Prelude.{ℕ, List, Option}
 use Rattle.lis_frame.specs.declared.scanner.SignalOf.{SignalOf}
 use Rattle.lis_c.specs.inside.Reports.{Reports}

@@ -1,4 +1,4 @@
--- What C gets of a signal.
+-- How a report is put into the caller's signal, and its text into it or next to it.
 use Rattle.std.specs.Prelude.{◌≡◌, ℕ, ◌≤◌, ◌<◌, List, take}
 use Rattle.lis_c.specs.declared.feed.Report.{Report}
 use Rattle.lis_c.specs.declared.out.LisSignal.{LisSignal}
