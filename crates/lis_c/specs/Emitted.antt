@@ -1,9 +1,9 @@
 -- The bytes that go on the link.
-use Rattle.std.specs.Prelude.{◌≡◌, ◌≢◌, ℕ, List, [], length, take, if◌then◌else◌, nat_lt, ◌&&◌}
+use Rattle.std.specs.Prelude.{◌≡◌, ℕ, List, [], length, take, if◌then◌else◌, nat_lt, ◌&&◌}
 use Rattle.std.specs.Prelude.{Option, None, Some}
 use Rattle.lis_frame.specs.Frame.{FrameContent, frame_bytes}
-use Rattle.lis_c.specs.Records.{IsCopied}
-use Rattle.lis_c.specs.Status.{ABSENT, OK, copy_status}
+use Rattle.lis_c.specs.Records.{IsTextCopied}
+use Rattle.lis_c.specs.Status.{ABSENT}
 use Rattle.lis_c.specs.declared.out.LisBytes.{LisBytes}
 
 -- what goes on the link, if the caller's struct has room for it, else nothing; with the usual limit it always has
@@ -21,6 +21,4 @@ HoldsEmitted limit out bytes = HoldsBytes out (fits_in limit bytes)
 -- the frame that awaits its reply is copied to the front of a buffer; if none does, or it does not fit, nothing is
 abbrev pub FrameCopied : Option FrameContent → (status : ℕ) (old out : List ℕ) (size : ℕ) → Type 0
 FrameCopied None status old out size = (status ≡ ABSENT) × (out ≡ old) × (size ≡ 0)
-FrameCopied (Some frame) status old out size =
-    IsCopied (frame_bytes frame) status old out size × (status ≡ copy_status (length old) (length (frame_bytes frame)))
-    × (status ≢ OK → out ≡ old)
+FrameCopied (Some frame) status old out size = IsTextCopied (frame_bytes frame) status old out size

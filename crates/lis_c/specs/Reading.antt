@@ -1,5 +1,5 @@
 -- What C gets of the records of a stream.
-use Rattle.std.specs.Prelude.{◌≡◌, ◌≢◌, ℕ, ◌-◌, ◌==◌, List, [], Option, None, Some, Result, Ok, Err, length, take}
+use Rattle.std.specs.Prelude.{◌≡◌, ℕ, ◌-◌, ◌==◌, List, [], Option, None, Some, Result, Ok, Err, length, take}
 use Rattle.std.specs.Prelude.{if◌then◌else◌, position}
 use Rattle.lis_text.specs.Control.{CR}
 use Rattle.lis_record_values.specs.Kinds.{letter_of}
@@ -13,8 +13,8 @@ use Rattle.lis_message.specs.declared.records.RecordFound.{RecordFound}
 use Rattle.lis_message.specs.declared.records.RecordFound.TheVariants as founds
 use Rattle.lis_message.specs.Kept.{RecordsState}
 use Rattle.lis_message.specs.Records.{Reads}
-use Rattle.lis_c.specs.Records.{IsCopied, IsPart, part_at, record_place, record_status}
-use Rattle.lis_c.specs.Status.{OK, UNFINISHED, ABSENT, NO_RECORD, copy_status}
+use Rattle.lis_c.specs.Records.{IsPart, IsTextCopied, part_at, record_place, record_status}
+use Rattle.lis_c.specs.Status.{OK, UNFINISHED, ABSENT, NO_RECORD}
 use Rattle.lis_c.specs.declared.reader.LisFound.{LisFound}
 
 -- the bytes before the first CR, or a CR that is first: by the place of the first CR, and how many bytes there are
@@ -97,9 +97,7 @@ IsSplitPart (Some entry) field repeat component status before after size =
 abbrev pub IsSplitText : Option (Borrowed RecordContent) → (text : List ℕ) → (status : ℕ) (before after : List ℕ)
     (size : ℕ) → Type 0
 IsSplitText None text status before after size = (status ≡ NO_RECORD) × (after ≡ before) × (size ≡ 0)
-IsSplitText (Some entry) text status before after size =
-    IsCopied text status before after size × (status ≡ copy_status (length before) (length text))
-    × (status ≢ OK → after ≡ before)
+IsSplitText (Some entry) text status before after size = IsTextCopied text status before after size
 
 -- the end of the stream
 abbrev pub AtEnd : Result (Unit {0}) MessageFault → ℕ → LisFound → Type 0

@@ -1,5 +1,6 @@
 -- What C gets of a record's parts.
-use Rattle.std.specs.Prelude.{◌≡◌, ℕ, ◌<◌, ◌≤◌, ◌⊎◌, List, [], ◌∷◌, ◌++◌, Option, None, Some, drop, length, slice_get}
+use Rattle.std.specs.Prelude.{◌≡◌, ◌≢◌, ℕ, ◌<◌, ◌≤◌, ◌⊎◌, List, [], ◌∷◌, ◌++◌, Option, None, Some, drop, length}
+use Rattle.std.specs.Prelude.{slice_get}
 use Rattle.std.specs.List.{flat_map}
 use Rattle.lis_record_values.specs.declared.symbols.Sym.{Sym}
 use Rattle.lis_record_values.specs.declared.symbols.Sym.TheVariants.{Char, Raw, On, Off}
@@ -9,7 +10,7 @@ use Rattle.lis_record_values.specs.Shape.{Components, RecordContent, Repeats, Sy
 use Rattle.lis_record_values.specs.declared.faults.RecordFault.{RecordFault}
 use Rattle.lis_record_values.specs.declared.faults.RecordFault.TheVariants as RecordFaults
 use Rattle.lis_c.specs.Status.{ABSENT, BAD_DELIMITERS, BAD_LETTER, FORBIDDEN, NO_RECORD, OK, OUT_OF_MEMORY, TOO_LONG}
-use Rattle.lis_c.specs.Status.{TOO_SHORT}
+use Rattle.lis_c.specs.Status.{TOO_SHORT, copy_status}
 use Rattle.lis_c.specs.declared.records.LisDelimiters.{LisDelimiters}
 use Rattle.lis_c.specs.declared.records.LisRecord.{LisRecord}
 
@@ -78,6 +79,12 @@ abbrev pub IsCopied : List ℕ → (status : ℕ) (before after : List ℕ) (siz
 IsCopied bytes status before after size =
     ((status ≡ OK) × (after ≡ bytes ++ drop size before) × (size ≡ length bytes) × (size ≤ length before))
     ⊎ ((status ≡ TOO_SHORT) × (length before < length bytes) × (size ≡ 0))
+
+-- a whole text is copied so if it fits; if it doesn't, the buffer stays
+abbrev pub IsTextCopied : List ℕ → (status : ℕ) (before after : List ℕ) (size : ℕ) → Type 0
+IsTextCopied text status before after size =
+    IsCopied text status before after size × (status ≡ copy_status (length before) (length text))
+    × (status ≢ OK → after ≡ before)
 
 -- if there is no such part the buffer stays
 abbrev pub IsPart : Option Symbols → (status : ℕ) (before after : List ℕ) (size : ℕ) → Type 0

@@ -12,7 +12,7 @@ use Rattle.lis_record_values.specs.declared.faults.Reason.TheVariants as Reasons
 use Rattle.lis_tree.specs.declared.position.Position.{Position}
 use Rattle.lis_tree.specs.Position.{position_level}
 use Rattle.lis_tree.specs.Level.{Level, outside, closed, misplaced, next_level}
-use Rattle.lis_c.specs.Records.{IsCopied}
+use Rattle.lis_c.specs.Records.{IsTextCopied}
 use Rattle.lis_c.specs.Status.{ABSENT, AddStatus, BAD_LETTER, FORBIDDEN, NO_RECORD, OK, OUT_OF_MEMORY, PUT_NOT_HEADER}
 use Rattle.lis_c.specs.Status.{PUT_NO_PARENT, PUT_SECOND_HEADER, TOO_LONG, UNFINISHED}
 use Rattle.lis_c.specs.declared.record_builder.RecordBuilder.{RecordBuilder}
@@ -123,4 +123,4 @@ pub record IsPut (old new : WriterHandleState) : Type 0 where
 -- a text by its place
 abbrev pub IsTextAt : Option (List ℕ) → (status : ℕ) (before after : List ℕ) (size : ℕ) → Type 0
 IsTextAt None status before after size = (status ≡ ABSENT) × (after ≡ before) × (size ≡ 0)
-IsTextAt (Some text) status before after size = IsCopied text status before after size
+IsTextAt (Some text) status before after size = IsTextCopied text status before after size
