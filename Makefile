@@ -29,7 +29,7 @@ VERSION = $(shell cat VERSION)
 .PHONY: build check demo test mutants harmless soak plant bench bench-check library linked install uninstall deb fuzz
 
 build:
-	@echo 'Proving and building the program: 11 to 18 minutes the first time on four processors, then seconds.'
+	@echo 'Proving and building the program: 11 to 18 minutes the first time on four processors, then under one.'
 	@tools/prove lislink $(PROGRAM)
 
 demo:
