@@ -73,7 +73,7 @@ plant:
 	cd crates/$(CRATE) && rt plant
 
 library:
-	@echo 'Proving and building the library: 12 to 18 minutes the first time on four processors, then one.'
+	@echo 'Proving and building the library: 12 to 18 minutes the first time on four processors, then up to 5.'
 	@tools/prove lis_c $(ARCHIVE)
 	$(MAKE) --no-print-directory linked
 
