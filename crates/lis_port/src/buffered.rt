@@ -4,14 +4,14 @@ ghost use Rattle.std.specs.Prelude.{◌≡◌, false};
 ghost use Rattle.std.specs.Io.Buffered.{writer_contents, writer_inner};
 
 use crate::port::{Failed, Sink};
+use crate::writing::Writing;
 use std::io::{BufWriter, Write};
 
 /// A sink over a buffered writer, which it can flush. An error of the writer and a write that takes
 /// nothing are `Failed` at once; an interrupted write the buffer makes again, but over a `Once`.
 #[derive(Drop)]
 pub struct Buffered<W: Write + Drop> {
-    writer: BufWriter<W>,
-    failed: bool,
+    writing: Writing<BufWriter<W>>,
 }
 
 impl<W: Write + Drop> Buffered<W> {
@@ -22,8 +22,10 @@ impl<W: Write + Drop> Buffered<W> {
         ensures failed { ⟦<Buffered<W> as Sink>⟧.failed result ≡ false }
     {
         Buffered {
-            writer,
-            failed: false,
+            writing: Writing {
+                writer,
+                failed: false,
+            },
         }
     }
 
@@ -32,35 +34,29 @@ impl<W: Write + Drop> Buffered<W> {
         ensures taken { writer_contents W.contents result ≡ ⟦<Buffered<W> as Sink>⟧.taken self }
         ensures sent { W.contents (writer_inner result) ≡ ⟦<Buffered<W> as Sink>⟧.sent self }
     {
-        let Buffered { writer, failed: _ } = self;
-        writer
+        self.writing.writer
     }
 }
 
 impl<W: Write + Drop> Sink for Buffered<W> {
-    ghost taken = { λ s. writer_contents W.contents s.writer };
+    ghost taken = { λ s. writer_contents W.contents s.writing.writer };
 
-    ghost sent = { λ s. W.contents (writer_inner s.writer) };
+    ghost sent = { λ s. W.contents (writer_inner s.writing.writer) };
 
-    ghost failed = { λ s. s.failed };
+    ghost failed = { λ s. s.writing.failed };
 
     fn write(&mut self, bytes: &[u8]) -> Result<usize, Failed> {
-        match self.writer.write(bytes) {
-            Ok(count) if count > 0 => Ok(count),
-            _ => {
-                self.failed = true;
-                Err(Failed)
-            }
-        }
+        self.writing.write(bytes)
     }
 
+    // What `Writing` promises of a flush is less: it doesn't know what its writer holds back.
     fn flush(&mut self) -> Result<(), Failed> {
-        let result = self.writer.flush().map_err(|_| Failed);
-        self.failed = result.is_err();
+        let result = self.writing.writer.flush().map_err(|_| Failed);
+        self.writing.failed = result.is_err();
         result
     }
 
     fn failed(&self) -> bool {
-        self.failed
+        self.writing.failed()
     }
 }

@@ -6,16 +6,14 @@ ghost use Rattle.std.specs.Io.KnownBytes.{ReadConsumes};
 ghost use Rattle.lis_port.specs.declared.port.Failed.{Failed};
 
 use crate::port::{Failed, Source};
+use crate::reading::Reading;
 use std::io::{BufRead, BufReader, Read};
 
 /// A source over a buffered reader: it knows whether bytes are there, and a read that finds some asks for no
 /// more. An error of the reader, of whatever kind, is `Failed` at once.
 #[derive(Drop)]
 pub struct ReadAhead<R> {
-    reader: BufReader<R>,
-    made: u32,
-    failed: bool,
-    ended: bool,
+    reading: Reading<BufReader<R>>,
 }
 
 impl<R: Read> ReadAhead<R> {
@@ -28,10 +26,12 @@ impl<R: Read> ReadAhead<R> {
         ensures may_wait { ⟦<ReadAhead<R> as Source>⟧.may_wait result ≡ (length (reader_buffer reader) == 0) }
     {
         ReadAhead {
-            reader,
-            made: 0,
-            failed: false,
-            ended: false,
+            reading: Reading {
+                reader,
+                made: 0,
+                failed: false,
+                ended: false,
+            },
         }
     }
 
@@ -39,13 +39,7 @@ impl<R: Read> ReadAhead<R> {
     pub fn into_inner(self) -> BufReader<R>
         ensures { reader_remaining R.remaining result ≡ ⟦<ReadAhead<R> as Source>⟧.left self }
     {
-        let ReadAhead {
-            reader,
-            made: _,
-            failed: _,
-            ended: _,
-        } = self;
-        reader
+        self.reading.into_inner()
     }
 }
 
@@ -66,43 +60,38 @@ fn give<R: Read>(reader: &mut BufReader<R>, buffer: &mut [u8]) -> usize
 }
 
 impl<R: Read> Source for ReadAhead<R> {
-    ghost left = { λ s. reader_remaining R.remaining s.reader };
+    ghost left = { λ s. reader_remaining R.remaining s.reading.reader };
 
-    ghost made = { λ s. s.made };
+    ghost made = { λ s. s.reading.made };
 
-    ghost failed = { λ s. s.failed };
+    ghost failed = { λ s. s.reading.failed };
 
-    ghost ended = { λ s. s.ended };
+    ghost ended = { λ s. s.reading.ended };
 
-    ghost may_wait = { λ s. length (reader_buffer s.reader) == 0 };
+    ghost may_wait = { λ s. length (reader_buffer s.reading.reader) == 0 };
 
     fn read(&mut self, buffer: &mut [u8]) -> Result<usize, Failed> {
-        self.made += 1;
-        self.ended = false;
-        if !self.reader.buffer().is_empty() {
-            return Ok(give(&mut self.reader, buffer));
+        if self.reading.reader.buffer().is_empty() {
+            return self.reading.read(buffer);
         }
-        let Ok(count) = self.reader.read(buffer) else {
-            self.failed = true;
-            return Err(Failed);
-        };
-        self.ended = count == 0;
-        Ok(count)
+        self.reading.made += 1;
+        self.reading.ended = false;
+        Ok(give(&mut self.reading.reader, buffer))
     }
 
     fn made(&self) -> u32 {
-        self.made
+        self.reading.made()
     }
 
     fn failed(&self) -> bool {
-        self.failed
+        self.reading.failed()
     }
 
     fn ended(&self) -> bool {
-        self.ended
+        self.reading.ended()
     }
 
     fn may_wait(&self) -> bool {
-        self.reader.buffer().is_empty()
+        self.reading.reader.buffer().is_empty()
     }
 }

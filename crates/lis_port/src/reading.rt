@@ -8,10 +8,10 @@ use std::io::Read;
 /// A source over a reader. An error of the reader, of whatever kind, is `Failed` at once.
 #[derive(Drop)]
 pub struct Reading<R> {
-    reader: R,
-    made: u32,
-    failed: bool,
-    ended: bool,
+    pub(crate) reader: R,
+    pub(crate) made: u32,
+    pub(crate) failed: bool,
+    pub(crate) ended: bool,
 }
 
 impl<R: Read> Reading<R> {
@@ -34,13 +34,7 @@ impl<R: Read> Reading<R> {
     pub fn into_inner(self) -> R
         ensures { R.remaining result ≡ ⟦<Reading<R> as Source>⟧.left self }
     {
-        let Reading {
-            reader,
-            made: _,
-            failed: _,
-            ended: _,
-        } = self;
-        reader
+        self.reader
     }
 }
 

@@ -9,8 +9,8 @@ use std::io::Write;
 /// kind, and a write that takes nothing are `Failed` at once.
 #[derive(Drop)]
 pub struct Writing<W> {
-    writer: W,
-    failed: bool,
+    pub(crate) writer: W,
+    pub(crate) failed: bool,
 }
 
 impl<W: Write> Writing<W> {
@@ -30,8 +30,7 @@ impl<W: Write> Writing<W> {
     pub fn into_inner(self) -> W
         ensures { W.contents result ≡ ⟦<Writing<W> as Sink>⟧.taken self }
     {
-        let Writing { writer, failed: _ } = self;
-        writer
+        self.writer
     }
 }
 
