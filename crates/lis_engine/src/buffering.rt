@@ -17,43 +17,37 @@ use lis_port::{Failed, Sink, Source, read_sent};
 /// The bytes that are turned into digits at a time.
 pub(crate) const CHUNK: usize = 1024;
 
-/// Puts out the output buffer, after `written` bytes of this run, and releases it.
-// It is seldom called, and within the loops of its callers it would take their registers.
-#[inline(never)]
-pub(crate) fn put_buffer<W: Sink>(
-    sink: &mut W,
-    outgoing: &mut OutputBuffer,
-    written: u64,
-) -> Written
-    requires { W.failed sink.old ≡ false }
-    ensures put { Put (W.taken sink.old) (W.taken sink.new) written result outgoing.old }
-    ensures empty { outgoing.new ≡ [] }
-    ensures failed { W.failed sink.new ≡ is_err result }
-{
-    let result = put(sink, written, outgoing.as_slice());
-    outgoing.clear();
-    result
+impl OutputBuffer {
+    /// Puts out the bytes, after `written` bytes of this run, and releases them.
+    // It is seldom called, and within the loops of its callers it would take their registers.
+    #[inline(never)]
+    pub(crate) fn put_buffer<W: Sink>(&mut self, sink: &mut W, written: u64) -> Written
+        requires { W.failed sink.old ≡ false }
+        ensures put { Put (W.taken sink.old) (W.taken sink.new) written result self.old }
+        ensures empty { self.new ≡ [] }
+        ensures failed { W.failed sink.new ≡ is_err result }
+    {
+        let result = put(sink, written, self.as_slice());
+        self.clear();
+        result
+    }
+
+    /// Puts out the bytes, after `written` bytes of this run, and sends on all that went out.
+    pub(crate) fn send_buffer<W: Sink>(&mut self, sink: &mut W, written: u64) -> Written
+        requires { W.failed sink.old ≡ false }
+        ensures ok { IfOk result (λ after. Put (W.taken sink.old) (W.taken sink.new) written (Ok after) self.old) }
+        ensures sent { OnOk result (W.sent sink.new ≡ W.taken sink.new) }
+        ensures empty { self.new ≡ [] }
+        ensures err { IfErr result (λ fault. PartWentOut (W.taken sink.old) (W.taken sink.new) written fault self.old) }
+        ensures failed { W.failed sink.new ≡ is_err result }
+    {
+        let after = self.put_buffer(sink, written)?;
+        send(sink, after)?;
+        Ok(after)
+    }
 }
 
-/// Puts out the output buffer, after `written` bytes of this run, and sends on all that went out.
-pub(crate) fn send_buffer<W: Sink>(
-    sink: &mut W,
-    outgoing: &mut OutputBuffer,
-    written: u64,
-) -> Written
-    requires { W.failed sink.old ≡ false }
-    ensures ok { IfOk result (λ after. Put (W.taken sink.old) (W.taken sink.new) written (Ok after) outgoing.old) }
-    ensures sent { OnOk result (W.sent sink.new ≡ W.taken sink.new) }
-    ensures empty { outgoing.new ≡ [] }
-    ensures err { IfErr result (λ fault. PartWentOut (W.taken sink.old) (W.taken sink.new) written fault outgoing.old) }
-    ensures failed { W.failed sink.new ≡ is_err result }
-{
-    let after = put_buffer(sink, outgoing, written)?;
-    send(sink, after)?;
-    Ok(after)
-}
-
-/// The same, where the next read of a source may wait for bytes.
+/// Puts out the output buffer and sends on all that went out, where the next read of a source may wait for bytes.
 #[inline(always)]
 pub(crate) fn send_buffer_before_a_wait<R: Source, W: Sink>(
     source: &R,
@@ -70,7 +64,7 @@ pub(crate) fn send_buffer_before_a_wait<R: Source, W: Sink>(
     ensures failed { W.failed sink.new ≡ is_err result }
 {
     if source.may_wait() {
-        return send_buffer(sink, outgoing, written);
+        return outgoing.send_buffer(sink, written);
     }
     Ok(written)
 }
@@ -118,7 +112,7 @@ pub fn make_room<W: Sink>(
     if count <= outgoing.room() {
         return Ok(written);
     }
-    put_buffer(sink, outgoing, written)
+    outgoing.put_buffer(sink, written)
 }
 
 /// Buffers the pairs of hexadecimal digits of a chunk of bytes.

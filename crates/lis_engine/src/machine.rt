@@ -11,7 +11,7 @@ ghost use Rattle.lis_engine.specs.inside.Steps.{IsAnswered};
 ghost use Rattle.lis_engine.specs.declared.machine.Halt.{Halt};
 ghost use Rattle.lis_engine.specs.declared.machine.Turn.TheVariants.{Off};
 
-use crate::buffering::{put_buffer, read_settled, send_buffer, send_buffer_before_a_wait};
+use crate::buffering::{read_settled, send_buffer_before_a_wait};
 use crate::fault::ToolFault;
 use crate::output::send;
 use crate::output_buffer::OutputBuffer;
@@ -141,7 +141,7 @@ pub fn run<F: Copy, M: Machine<F>, R: Source, W: Sink>(
             Err(fault) => return Err(fault),
         }
     }
-    match send_buffer(sink, &mut outgoing, written) {
+    match outgoing.send_buffer(sink, written) {
         Ok(_) => Err(ToolFault::TooManyReads),
         Err(fault) => Err(fault),
     }
@@ -166,7 +166,7 @@ fn feed_machine<F: Copy, M: Machine<F>, W: Sink>(
 {
     match machine.feed(sink, outgoing, written, bytes) {
         Ok(Turn::On(after)) => Ok(Turn::On(after)),
-        Ok(Turn::Off(halt)) => match put_buffer(sink, outgoing, halt.written) {
+        Ok(Turn::Off(halt)) => match outgoing.put_buffer(sink, halt.written) {
             Ok(written) => Ok(Turn::Off(Halt {
                 written,
                 result: halt.result,
@@ -195,7 +195,7 @@ fn end_machine<F: Copy, M: Machine<F>, W: Sink>(
 {
     let closes = machine.closes();
     match machine.end(sink, outgoing, written) {
-        Ok(halt) if closes => match put_buffer(sink, outgoing, halt.written) {
+        Ok(halt) if closes => match outgoing.put_buffer(sink, halt.written) {
             Ok(written) => Ok(Halt {
                 written,
                 result: halt.result,

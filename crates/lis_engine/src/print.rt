@@ -6,7 +6,7 @@ ghost use Rattle.lis_engine.specs.Output.{IsBuffered, out};
 ghost use Rattle.lis_engine.specs.Parts.{joined};
 ghost use Rattle.lis_engine.specs.inside.Parts.{part_text, parts_text, text_if_any};
 
-use crate::buffering::{CHUNK, buffer_chunk, make_room, put_buffer};
+use crate::buffering::{CHUNK, buffer_chunk, make_room};
 use crate::fault::Written;
 use crate::output::put;
 use crate::output_buffer::{NUMBER_ROOM, OutputBuffer};
@@ -86,7 +86,7 @@ impl Print for Part<'_> {
                     outgoing.append(text);
                     return Ok(written);
                 }
-                match put_buffer(sink, outgoing, written) {
+                match outgoing.put_buffer(sink, written) {
                     Ok(after) => put(sink, after, text),
                     Err(fault) => Err(fault),
                 }
