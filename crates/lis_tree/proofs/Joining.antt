@@ -25,16 +25,7 @@ level_following : (level : Level) (front : List Group) (g : Group) → groups_le
 level_following level [] g = refl
 level_following level (f ∷ front) g = level_following (group_level f) front g
 
--- right under a header or a query only a note
-bare_note : (k : Kind) → IsBelow k → misplaced in_header k ≡ None → IsNote k
-bare_note kinds.H other may = cc
-bare_note kinds.P other may = absurd (other.0 refl)
-bare_note kinds.O other may = cc
-bare_note kinds.R other may = cc
-bare_note kinds.Q other may = absurd (other.1 refl)
-bare_note kinds.L other may = absurd (other.2 refl)
-bare_note k other may = tt
-
+-- right under a query only a note, and the same right under a header
 query_note : (k : Kind) → IsBelow k → misplaced in_query k ≡ None → IsNote k
 query_note kinds.H other may = cc
 query_note kinds.P other may = absurd (other.0 refl)
@@ -43,6 +34,12 @@ query_note kinds.R other may = cc
 query_note kinds.Q other may = absurd (other.1 refl)
 query_note kinds.L other may = absurd (other.2 refl)
 query_note k other may = tt
+
+same_may : (k : Kind) → misplaced in_header k ≡ misplaced in_query k
+same_may kinds.H = refl
+same_may kinds.O = refl
+same_may kinds.R = refl
+same_may k = refl
 
 patient_joined : (orders : List OrderTree) (k : Kind) → IsBelow k → misplaced (orders_level in_patient orders) k ≡ None
     → JoinsPatient orders k
@@ -73,7 +70,8 @@ joins_last f g k last p q l may =
 pub joins_header : (f : Branch Group) (k : Kind) → f.below ≡ [] → k ≢ kinds.P → k ≢ kinds.Q → k ≢ kinds.L
     → misplaced (front_level f) k ≡ None → IsNote k
 joins_header f k none p q l may =
-    bare_note k (p, q, l) (ap (λ (gs : List Group). misplaced (groups_level in_header gs) k) (sym none) ∙ may)
+    query_note k (p, q, l)
+    (sym (same_may k) ∙ ap (λ (gs : List Group). misplaced (groups_level in_header gs) k) (sym none) ∙ may)
 
 -- a record that joins a patient with orders, and is no order, joins the last
 pub joins_order : (orders : List OrderTree) (o : OrderTree) (k : Kind) → IsLast orders o → k ≢ kinds.O
@@ -88,13 +86,12 @@ note_of kinds.R other joins = absurd (other refl)
 note_of k other joins = joins
 
 -- a note that joins a result
-pub note_joins : (n m : Annotated) (r : RecordContent) (k : Kind) → m
-    ≡ record { head = n.head; notes = n.notes ++ r ∷ [] }
-    → r.kind ≡ k → k ≢ kinds.R → IsAnnotated kinds.R n → JoinsOrder k → IsAnnotated kinds.R m
-note_joins n m r k is kind other annotated joins = subst (IsAnnotated kinds.R) (sym is) (record {
+pub note_joins : (n m : Annotated) (r : RecordContent) → m ≡ record { head = n.head; notes = n.notes ++ r ∷ [] }
+    → r.kind ≢ kinds.R → IsAnnotated kinds.R n → JoinsOrder r.kind → IsAnnotated kinds.R m
+note_joins n m r is other annotated joins = subst (IsAnnotated kinds.R) (sym is) (record {
   head = annotated.head;
   notes = All-append (λ (s : RecordContent). IsNote s.kind) n.notes (r ∷ []) annotated.notes
-      (subst IsNote (sym kind) (note_of k other joins), tt);
+      (note_of r.kind other joins, tt);
 })
 
 -- the last patient or query says where the next record is

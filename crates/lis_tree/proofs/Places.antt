@@ -25,12 +25,24 @@ abbrev numbers_after : List Kind → List RecordContent → List (Option ℕ)
 numbers_after earlier [] = []
 numbers_after earlier (r ∷ records) = number_after r.kind earlier ∷ numbers_after (r.kind ∷ earlier) records
 
--- so many patients, queries, orders and results are after the parent of the next one
-record At (earlier : List Kind) (p q o r : ℕ) : Type 0 where
-  patients : siblings kinds.P earlier ≡ p
-  queries : siblings kinds.Q earlier ≡ q
-  orders : siblings kinds.O earlier ≡ o
-  results : siblings kinds.R earlier ≡ r
+-- how many patients, queries, orders and results are after the parent of the next one
+record Counts : Type 0 where
+  patients : ℕ
+  queries : ℕ
+  orders : ℕ
+  results : ℕ
+
+abbrev counts : List Kind → Counts
+counts earlier = record {
+  patients = siblings kinds.P earlier;
+  queries = siblings kinds.Q earlier;
+  orders = siblings kinds.O earlier;
+  results = siblings kinds.R earlier;
+}
+
+-- they are so many
+abbrev At : (earlier : List Kind) (p q o r : ℕ) → Type 0
+At earlier p q o r = counts earlier ≡ record { patients = p; queries = q; orders = o; results = r }
 
 -- after so many these records have these numbers
 abbrev IsNext : (p q o r : ℕ) → List RecordContent → List (Option ℕ) → Type 0
@@ -45,36 +57,9 @@ note_step : (p q o r c : ℕ) (k : Kind) (earlier : List Kind) → IsNote k → 
     → siblings kinds.C earlier + 1 ≡ c
     → (number_after k earlier ≡ comment_number c k) × At (k ∷ earlier) p q o r
     × (siblings kinds.C (k ∷ earlier) + 1 ≡ next_comment c k)
-note_step p q o r c kinds.C earlier note at is = (
-  ap (λ (n : ℕ). Some n) is,
-  record {
-    patients = at.patients;
-    queries = at.queries;
-    orders = at.orders;
-    results = at.results;
-  },
-  ap (λ (n : ℕ). n + 1) is,
-)
-note_step p q o r c kinds.M earlier note at is = (
-  refl,
-  record {
-    patients = at.patients;
-    queries = at.queries;
-    orders = at.orders;
-    results = at.results;
-  },
-  is,
-)
-note_step p q o r c kinds.S earlier note at is = (
-  refl,
-  record {
-    patients = at.patients;
-    queries = at.queries;
-    orders = at.orders;
-    results = at.results;
-  },
-  is,
-)
+note_step p q o r c kinds.C earlier note at is = (ap (λ (n : ℕ). Some n) is, at, ap (λ (n : ℕ). n + 1) is)
+note_step p q o r c kinds.M earlier note at is = (refl, at, is)
+note_step p q o r c kinds.S earlier note at is = (refl, at, is)
 note_step p q o r c k earlier note at is = absurd note
 
 module _ (p q o r : ℕ) (rest : List RecordContent) (numbers : List (Option ℕ)) (next : IsNext p q o r rest numbers)
@@ -111,13 +96,9 @@ results_next p q o rest numbers next (e ∷ es) are r earlier at =
     ap (numbers_after earlier) (append_assoc (annotated_records e) (flat_map annotated_records es) rest)
     ∙ after_annotated p q o (r + 1) (flat_map annotated_records es ++ rest) (result_numbers (r + 1 + 1) es ++ numbers)
     (results_next p q o rest numbers next es are.1 (r + 1)) e kinds.R are.0 earlier
-    (record {
-      patients = at.patients;
-      queries = at.queries;
-      orders = at.orders;
-      results = ap (λ (n : ℕ). n + 1) at.results;
-    }) refl
-    ∙ ap (λ (n : ℕ). (Some (n + 1) ∷ note_numbers 1 e.notes) ++ (result_numbers (r + 1 + 1) es ++ numbers)) at.results
+    (ap (λ (c : Counts). record c { results = c.results + 1 }) at) refl
+    ∙ ap (λ (c : Counts). (Some (c.results + 1) ∷ note_numbers 1 e.notes)
+    ++ (result_numbers (r + 1 + 1) es ++ numbers)) at
     ∙ sym (append_assoc (Some (r + 1) ∷ note_numbers 1 e.notes) (result_numbers (r + 1 + 1) es) numbers)
 
 orders_next : (p q : ℕ) (rest : List RecordContent) (numbers : List (Option ℕ))
@@ -132,13 +113,9 @@ orders_next p q rest numbers next (x ∷ os) are o r earlier at =
     ∙ after_annotated p q (o + 1) 0 (flat_map annotated_records x.below ++ later) (result_numbers 1 x.below ++ reported)
     (results_next p q (o + 1) later reported (orders_next p q rest numbers next os are.1 (o + 1)) x.below are.0.below 0)
     x.top kinds.O are.0.top earlier
-    (record {
-      patients = at.patients;
-      queries = at.queries;
-      orders = ap (λ (n : ℕ). n + 1) at.orders;
-      results = refl;
-    }) refl
-    ∙ ap (λ (n : ℕ). (Some (n + 1) ∷ note_numbers 1 x.top.notes) ++ (result_numbers 1 x.below ++ reported)) at.orders
+    (ap (λ (c : Counts). record c { orders = c.orders + 1; results = 0 }) at) refl
+    ∙ ap (λ (c : Counts). (Some (c.orders + 1) ∷ note_numbers 1 x.top.notes)
+    ++ (result_numbers 1 x.below ++ reported)) at
     ∙ three (Some (o + 1) ∷ note_numbers 1 x.top.notes) (result_numbers 1 x.below) (order_numbers (o + 1 + 1) os)
     numbers
 
@@ -154,13 +131,9 @@ groups_next rest numbers next (groups.Patient x ∷ gs) are p q o r earlier at =
     ∙ after_annotated (p + 1) q 0 r (flat_map order_records x.below ++ later) (order_numbers 1 x.below ++ reported)
     (orders_next (p + 1) q later reported (groups_next rest numbers next gs are.1 (p + 1) q) x.below are.0.below 0 r)
     x.top kinds.P are.0.top earlier
-    (record {
-      patients = ap (λ (n : ℕ). n + 1) at.patients;
-      queries = at.queries;
-      orders = refl;
-      results = at.results;
-    }) refl
-    ∙ ap (λ (n : ℕ). (Some (n + 1) ∷ note_numbers 1 x.top.notes) ++ (order_numbers 1 x.below ++ reported)) at.patients
+    (ap (λ (c : Counts). record c { patients = c.patients + 1; orders = 0 }) at) refl
+    ∙ ap (λ (c : Counts). (Some (c.patients + 1) ∷ note_numbers 1 x.top.notes)
+    ++ (order_numbers 1 x.below ++ reported)) at
     ∙ three (Some (p + 1) ∷ note_numbers 1 x.top.notes) (order_numbers 1 x.below)
     (group_numbers (p + 1 + 1) (q + 1) gs) numbers
 groups_next rest numbers next (groups.Query x ∷ gs) are p q o r earlier at =
@@ -169,13 +142,8 @@ groups_next rest numbers next (groups.Query x ∷ gs) are p q o r earlier at =
     ap (numbers_after earlier) (append_assoc (annotated_records x) (flat_map group_records gs) rest)
     ∙ after_annotated p (q + 1) o r later reported (groups_next rest numbers next gs are.1 p (q + 1) o r)
     x kinds.Q are.0 earlier
-    (record {
-      patients = at.patients;
-      queries = ap (λ (n : ℕ). n + 1) at.queries;
-      orders = at.orders;
-      results = at.results;
-    }) refl
-    ∙ ap (λ (n : ℕ). (Some (n + 1) ∷ note_numbers 1 x.notes) ++ reported) at.queries
+    (ap (λ (c : Counts). record c { queries = c.queries + 1 }) at) refl
+    ∙ ap (λ (c : Counts). (Some (c.queries + 1) ∷ note_numbers 1 x.notes) ++ reported) at
     ∙ sym (append_assoc (Some (q + 1) ∷ note_numbers 1 x.notes) (group_numbers (p + 1) (q + 1 + 1) gs) numbers)
 
 closing_next : (closing : RecordContent) → closing.kind ≡ kinds.L → (p q o r : ℕ)
@@ -189,7 +157,7 @@ numbers_are m is =
     ∙ after_annotated 0 0 0 0 rest (group_numbers 1 1 m.groups ++ Some 1 ∷ [])
     (groups_next (m.closing ∷ []) (Some 1 ∷ []) (closing_next m.closing is.closing) m.groups is.groups 0 0 0 0)
     (record { head = m.header; notes = m.notes }) kinds.H (record { head = is.header; notes = is.notes }) []
-    (record { patients = refl; queries = refl; orders = refl; results = refl }) refl
+    refl refl
     ∙ sym (append_assoc (None ∷ note_numbers 1 m.notes) (group_numbers 1 1 m.groups) (Some 1 ∷ []))
 
 -- ---- the findings

@@ -4,7 +4,6 @@ use Rattle.lis_record_values.specs.declared.kinds.Kind.TheVariants as kinds
 use Rattle.lis_record_values.specs.Delimiters.{DelimiterBytes}
 use Rattle.lis_record_values.specs.Shape.{RecordContent}
 use Rattle.lis_tree.specs.declared.tree.Group.{Group}
-use Rattle.lis_tree.specs.declared.tree.Group.TheVariants as groups
 use Rattle.lis_tree.specs.Nodes.{Branch}
 use Rattle.lis_tree.specs.Tree.{IsBranch, IsGroup, MessageTree, branch_records, group_records}
 

@@ -35,18 +35,12 @@ pub(crate) fn position(front: &Front) -> Position
 }
 
 /// Adds a result to an order; a note joins the last result, or the order where it has none.
-fn push_in_order(
-    alloc: Global,
-    order: &mut Order,
-    kind: Kind,
-    entry: Record,
-) -> Result<(), AllocError>
-    requires { entry.kind ≡ kind }
+fn push_in_order(alloc: Global, order: &mut Order, entry: Record) -> Result<(), AllocError>
     ensures records { OnOk result (order_records order.new ≡ order_records order.old ++ entry ∷ []) }
-    ensures shape { OnOk result (IsOrder order.old → JoinsOrder kind → IsOrder order.new) }
+    ensures shape { OnOk result (IsOrder order.old → JoinsOrder entry.kind → IsOrder order.new) }
     ensures err { OnErr result (order.new ≡ order.old) }
 {
-    if let Kind::R = kind {
+    if let Kind::R = entry.kind() {
         return order.push(Annotated::new(alloc, entry));
     }
     match order.last_mut() {
@@ -56,60 +50,43 @@ fn push_in_order(
 }
 
 /// Adds an order to a patient; another record joins the last order, or the patient where it has none.
-fn push_in_patient(
-    alloc: Global,
-    patient: &mut Patient,
-    kind: Kind,
-    entry: Record,
-) -> Result<(), AllocError>
-    requires { entry.kind ≡ kind }
+fn push_in_patient(alloc: Global, patient: &mut Patient, entry: Record) -> Result<(), AllocError>
     ensures records { OnOk result (patient_records patient.new ≡ patient_records patient.old ++ entry ∷ []) }
-    ensures shape { OnOk result (IsPatient patient.old → JoinsPatient patient.old.below kind → IsPatient patient.new) }
+    ensures shape { OnOk result (IsPatient patient.old → JoinsPatient patient.old.below entry.kind
+        → IsPatient patient.new) }
     ensures err { OnErr result (patient.new ≡ patient.old) }
 {
-    if let Kind::O = kind {
+    if let Kind::O = entry.kind() {
         return patient.push(Order::new(alloc, Annotated::new(alloc, entry)));
     }
     match patient.last_mut() {
-        Some(last) => push_in_order(alloc, last, kind, entry),
+        Some(last) => push_in_order(alloc, last, entry),
         None => patient.push_note(entry),
     }
 }
 
 /// Adds a record to a patient, or a note to a query.
-fn push_in_group(
-    alloc: Global,
-    group: &mut Group,
-    kind: Kind,
-    entry: Record,
-) -> Result<(), AllocError>
-    requires { entry.kind ≡ kind }
+fn push_in_group(alloc: Global, group: &mut Group, entry: Record) -> Result<(), AllocError>
     ensures records { OnOk result (group_records group.new ≡ group_records group.old ++ entry ∷ []) }
-    ensures shape { OnOk result (IsGroup group.old → JoinsGroup group.old kind → IsGroup group.new) }
+    ensures shape { OnOk result (IsGroup group.old → JoinsGroup group.old entry.kind → IsGroup group.new) }
     ensures err { OnErr result (group.new ≡ group.old) }
 {
     match group {
-        Group::Patient(patient) => push_in_patient(alloc, patient, kind, entry),
+        Group::Patient(patient) => push_in_patient(alloc, patient, entry),
         Group::Query(query) => query.push(entry),
     }
 }
 
 /// Adds a patient or a query to a message; another record, which may be there, joins the last of these, or the
 /// header where there is none. If memory runs out all is as before.
-pub(crate) fn push_record(
-    alloc: Global,
-    front: &mut Front,
-    kind: Kind,
-    entry: Record,
-) -> Result<(), AllocError>
-    requires kind { entry.kind ≡ kind }
-    requires placed { misplaced (front_level front.old) kind ≡ None }
-    requires open { kind ≢ kinds.L }
+pub(crate) fn push_record(alloc: Global, front: &mut Front, entry: Record) -> Result<(), AllocError>
+    requires placed { misplaced (front_level front.old) entry.kind ≡ None }
+    requires open { entry.kind ≢ kinds.L }
     ensures records { OnOk result (front_records front.new ≡ front_records front.old ++ entry ∷ []) }
     ensures shape { OnOk result (IsFront front.old → IsFront front.new) }
     ensures err { OnErr result (front.new ≡ front.old) }
 {
-    match kind {
+    match entry.kind() {
         Kind::P => {
             return front.push(Group::Patient(Patient::new(alloc, Annotated::new(alloc, entry))));
         }
@@ -117,7 +94,7 @@ pub(crate) fn push_record(
         _ => {}
     }
     match front.last_mut() {
-        Some(last) => push_in_group(alloc, last, kind, entry),
+        Some(last) => push_in_group(alloc, last, entry),
         None => front.push_note(entry),
     }
 }

@@ -84,8 +84,9 @@ impl OpenMessage {
             ≡ record { delimiters = self.old.delimiters; records = self.old.records ++ entry ∷ [] }) }
         ensures err { OnErr result (self.new ≡ self.old) }
     {
-        let kind = entry.kind();
-        push_record(alloc, &mut self.front, kind, entry)?;
+        // proof: what a record is made of is known once it is asked.
+        let _ = entry.kind();
+        push_record(alloc, &mut self.front, entry)?;
         self.count = self.count.saturating_add(1);
         Ok(())
     }

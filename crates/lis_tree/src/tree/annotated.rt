@@ -44,10 +44,7 @@ impl Annotated {
         ensures ok { OnOk result (self.new ≡ record { head = self.old.head; notes = self.old.notes ++ note ∷ [] }) }
         ensures err { OnErr result (self.new ≡ self.old) }
     {
-        match self.notes.push(note) {
-            Ok(()) => Ok(()),
-            Err(_) => Err(AllocError),
-        }
+        Ok(self.notes.push(note)?)
     }
 
     /// The record.

@@ -86,10 +86,7 @@ impl<T: Drop> Branch<T> {
         ensures ok { OnOk result (self.new ≡ record { top = self.old.top; below = self.old.below ++ item ∷ [] }) }
         ensures err { OnErr result (self.new ≡ self.old) }
     {
-        match self.below.push(item) {
-            Ok(()) => Ok(()),
-            Err(_) => Err(AllocError),
-        }
+        Ok(self.below.push(item)?)
     }
 }
 

@@ -1,4 +1,4 @@
-use Rattle.std.proofs.Common.{ap}
+use Rattle.std.proofs.Common.{ap, ◌∙◌}
 use Rattle.lis_record_values.specs.declared.kinds.Kind.TheVariants as kinds
 use Rattle.lis_tree.specs.inside.Joining.{JoinsOrder}
 use Rattle.lis_tree.specs.Tree.{IsAnnotated, annotated_records}
@@ -15,9 +15,8 @@ returns-in-Some c =
     record {
       records = records_on b _ last new result annotated_records c.args.entry
           (on_ok result (λ is. ap annotated_records is) c.push-in-Some.ensures.ok);
-      shape = shape_on b _ last new result kinds.O (IsAnnotated kinds.R) (JoinsOrder c.args.kind)
-          (on_ok result (λ is annotated joins. note_joins _ new c.args.entry c.args.kind is c.requires
-          c.in_default.not-R
-          annotated joins) c.push-in-Some.ensures.ok);
+      shape = shape_on b _ last new result kinds.O (IsAnnotated kinds.R) (JoinsOrder c.args.entry.kind)
+          (on_ok result (λ is annotated joins. note_joins _ new c.args.entry is
+          (λ e. c.in_default.not-R (c.kind.ensures.kind ∙ e)) annotated joins) c.push-in-Some.ensures.ok);
       err = same_on b _ last new result c.push-in-Some.ensures.err;
     }

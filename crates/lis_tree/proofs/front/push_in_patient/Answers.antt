@@ -1,3 +1,4 @@
+use Rattle.std.proofs.Common.{◌∙◌}
 use Rattle.lis_record_values.specs.declared.kinds.Kind.TheVariants as kinds
 use Rattle.lis_tree.specs.inside.Joining.{JoinsPatient}
 use Rattle.lis_tree.specs.Tree.{IsOrder, order_records}
@@ -13,8 +14,9 @@ returns-in-Some c =
     let last = c.in-Some.ensures.some in
     record {
       records = records_on b _ last new result order_records c.args.entry c.push_in_order.ensures.records;
-      shape = shape_on b _ last new result kinds.P IsOrder (JoinsPatient b.below c.args.kind)
-          (on_ok result (λ keeps is joins. keeps is (joins_order b.below _ c.args.kind last c.in_default.not-O joins))
+      shape = shape_on b _ last new result kinds.P IsOrder (JoinsPatient b.below c.args.entry.kind)
+          (on_ok result (λ keeps is joins. keeps is (joins_order b.below _ c.args.entry.kind last
+          (λ e. c.in_default.not-O (c.kind.ensures.kind ∙ e)) joins))
           c.push_in_order.ensures.shape);
       err = same_on b _ last new result c.push_in_order.ensures.err;
     }
