@@ -70,6 +70,7 @@ fn the_longest_frame_is_made_and_taken_at_once(rt: HostRuntime) {
         panic!(rt; "not two frames");
     };
     let mut receiver = ReceiverOf::<63_993>::new(rt.alloc());
+    // Its answer is what the receiver's own tests are about; here it opens the session.
     let _ = receiver.byte(ENQ);
     assert_taken(&rt, &mut receiver, first, (64_000, b"\x1781\r\n", 1));
     assert_taken(&rt, &mut receiver, second, (8, SECOND, 2));

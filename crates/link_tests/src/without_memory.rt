@@ -1,4 +1,4 @@
-//! Calls that take no memory, on values that have an allocator. The tests come in pairs: one makes its values, the
+//! Calls that take no memory, on values that have an allocator. The tests are a pair: one makes the values, the
 //! other makes the calls on them too. `tests/faults` counts the growths of memory of both, those of memory that is
 //! released at once among them: they must be as many.
 
@@ -59,16 +59,6 @@ fn a_receiver(rt: &impl Abort, alloc: Global, asked: bool) {
     drop(receiver);
 }
 
-#[test]
-fn a_receiver_given(rt: HostRuntime) {
-    a_receiver(&rt, rt.alloc(), false);
-}
-
-#[test]
-fn a_receiver_asked(rt: HostRuntime) {
-    a_receiver(&rt, rt.alloc(), true);
-}
-
 /// A session of two texts, from its start to its end.
 fn ask_sender(rt: &impl Abort, texts: Texts) {
     let mut sender = Sender::new();
@@ -94,22 +84,23 @@ fn a_sender(rt: &impl Abort, alloc: Global, asked: bool) {
     }
 }
 
-#[test]
-fn a_sender_given(rt: HostRuntime) {
-    a_sender(&rt, rt.alloc(), false);
+/// Makes all of these values, and the calls on them and new values where they are asked.
+fn all_values(rt: &impl Abort, alloc: Global, asked: bool) {
+    a_receiver(rt, alloc, asked);
+    a_sender(rt, alloc, asked);
+    if asked {
+        drop(LinkText::new(alloc));
+        drop(Texts::new(alloc));
+        drop(Receiver::new(alloc));
+    }
 }
 
 #[test]
-fn a_sender_asked(rt: HostRuntime) {
-    a_sender(&rt, rt.alloc(), true);
+fn all_values_given(rt: HostRuntime) {
+    all_values(&rt, rt.alloc(), false);
 }
 
 #[test]
-fn new_values_given(_rt: HostRuntime) {}
-
-#[test]
-fn new_values_asked(rt: HostRuntime) {
-    drop(LinkText::new(rt.alloc()));
-    drop(Texts::new(rt.alloc()));
-    drop(Receiver::new(rt.alloc()));
+fn all_values_asked(rt: HostRuntime) {
+    all_values(&rt, rt.alloc(), true);
 }

@@ -5,47 +5,44 @@ use std::alloc::Global;
 use std::mem::drop;
 use std::process::Abort;
 
-/// Feeds a header and so many comments.
-fn feed_many(reader: &mut MessageReader, comments: u32) {
+/// How many texts a message of a header, so many comments and a terminator has.
+fn text_count(rt: &impl Abort, alloc: Global, comments: u32) -> Result<usize, TextsFault> {
+    let mut reader = MessageReader::new(alloc);
     drop(reader.feed(b"H|\\^&\r"));
     for _ in 0..comments {
         drop(reader.feed(b"C"));
         drop(reader.feed(b"\r"));
     }
+    let fed = reader.feed(b"L\r");
+    let count = text_count_of(rt, alloc, fed.messages.get(0), comments as u64 + 2);
+    drop(fed);
+    assert!(rt; reader.finish().is_ok());
+    count
+}
+
+/// How many texts a message has. Fails where there is none of so many records.
+fn text_count_of(
+    rt: &impl Abort,
+    alloc: Global,
+    message: Option<&Message>,
+    records: u64,
+) -> Result<usize, TextsFault> {
+    let message = message.expect(rt, "a message");
+    assert!(rt; message.len() == records);
+    let texts = message_texts(alloc, message)?;
+    let count = texts.len();
+    drop(texts);
+    Ok(count)
 }
 
 #[test]
 fn too_many_records_have_no_texts(rt: HostRuntime) {
-    let mut reader = MessageReader::new(rt.alloc());
-    feed_many(&mut reader, 65_535);
-    let fed = reader.feed(b"L\r");
-    assert_too_many(&rt, rt.alloc(), fed.messages.get(0));
-    drop(fed);
-    assert!(rt; reader.finish().is_ok());
-}
-
-/// Fails where there is no message of 65,537 records, or it has texts.
-fn assert_too_many(rt: &impl Abort, alloc: Global, message: Option<&Message>) {
-    let message = message.expect(rt, "a message");
-    assert!(rt; message.len() == 65_537);
-    assert!(rt; message_texts(alloc, message).err() == Some(TextsFault::TooMany));
-}
-
-/// Fails where there is no message of 65,536 records, or it lacks a text.
-fn assert_texts(rt: &impl Abort, alloc: Global, message: Option<&Message>) {
-    let texts = message_texts(alloc, message.expect(rt, "a message")).expect(rt, "texts");
-    assert!(rt; texts.len() == 65_536);
-    drop(texts);
+    assert!(rt; text_count(&rt, rt.alloc(), 65_535) == Err(TextsFault::TooMany));
 }
 
 #[test]
 fn as_many_records_as_there_may_be_texts_have_texts(rt: HostRuntime) {
-    let mut reader = MessageReader::new(rt.alloc());
-    feed_many(&mut reader, 65_534);
-    let fed = reader.feed(b"L\r");
-    assert_texts(&rt, rt.alloc(), fed.messages.get(0));
-    drop(fed);
-    assert!(rt; reader.finish().is_ok());
+    assert!(rt; text_count(&rt, rt.alloc(), 65_534) == Ok(65_536));
 }
 
 /// Two patients, the first with two orders, and notes and a query between. Each patient, each order and each result

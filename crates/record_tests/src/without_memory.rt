@@ -1,5 +1,5 @@
 //! Calls that take no memory, on values that have an allocator, and values that are made with memory for so many
-//! parts. The tests come in pairs: one makes its values, the other makes the calls on them too, or puts the parts into
+//! parts. The tests are a pair: one makes the values, the other makes the calls on them too, or puts the parts into
 //! them. `tests/faults` counts the growths of memory of both, those of memory that is released at once among them:
 //! they must be as many.
 
@@ -14,7 +14,7 @@ use std::process::Abort;
 
 const MESSAGE: &[u8] = b"H|\\^&\rP|1\rO|1|S7\rR|1|^^^GLU|5.4\rC|1|I|fasting\rL|1|N\r";
 
-/// A reader of messages that holds a record, and one that met a fault.
+/// A reader of messages that holds a record, one that met a fault, and a new one.
 fn a_reader(rt: &impl Abort, alloc: Global, asked: bool) {
     let mut reader = MessageReader::new(alloc);
     assert!(rt; reader.feed(b"H|\\^&\rP|1\rC|1|un").fault.is_none());
@@ -25,20 +25,11 @@ fn a_reader(rt: &impl Abort, alloc: Global, asked: bool) {
         assert!(rt; failed.feed(b"L|1\r").fault.is_some());
         assert!(rt; reader.finish().is_err());
         assert!(rt; failed.finish().is_err());
+        drop(MessageReader::new(alloc));
     } else {
         drop(reader);
         drop(failed);
     }
-}
-
-#[test]
-fn a_reader_given(rt: HostRuntime) {
-    a_reader(&rt, rt.alloc(), false);
-}
-
-#[test]
-fn a_reader_asked(rt: HostRuntime) {
-    a_reader(&rt, rt.alloc(), true);
 }
 
 /// Reads a piece to its end, and counts its records.
@@ -74,16 +65,6 @@ fn some_records(rt: &impl Abort, alloc: Global, asked: bool) {
     drop(reader);
 }
 
-#[test]
-fn some_records_given(rt: HostRuntime) {
-    some_records(&rt, rt.alloc(), false);
-}
-
-#[test]
-fn some_records_asked(rt: HostRuntime) {
-    some_records(&rt, rt.alloc(), true);
-}
-
 /// A message is written, and its results are gone over.
 fn ask_message(rt: &impl Abort, message: &Message) {
     let mut sink = Discard;
@@ -105,25 +86,6 @@ fn a_message(rt: &impl Abort, alloc: Global, asked: bool) {
     drop(messages);
 }
 
-#[test]
-fn a_message_given(rt: HostRuntime) {
-    a_message(&rt, rt.alloc(), false);
-}
-
-#[test]
-fn a_message_asked(rt: HostRuntime) {
-    a_message(&rt, rt.alloc(), true);
-}
-
-#[test]
-fn new_readers_given(_rt: HostRuntime) {}
-
-#[test]
-fn new_readers_asked(rt: HostRuntime) {
-    drop(MessageReader::new(rt.alloc()));
-    drop(RecordReader::new(rt.alloc()));
-}
-
 /// A component with memory for so many symbols.
 fn a_component(rt: &impl Abort, alloc: Global, filled: bool) {
     let mut component = Component::with_capacity(alloc, 40).expect(rt, "memory");
@@ -133,16 +95,6 @@ fn a_component(rt: &impl Abort, alloc: Global, filled: bool) {
         }
     }
     drop(component);
-}
-
-#[test]
-fn a_component_given(rt: HostRuntime) {
-    a_component(&rt, rt.alloc(), false);
-}
-
-#[test]
-fn a_component_asked(rt: HostRuntime) {
-    a_component(&rt, rt.alloc(), true);
 }
 
 /// A repeat of one letter. It takes no memory.
@@ -163,16 +115,6 @@ fn a_field(rt: &impl Abort, alloc: Global, filled: bool) {
     drop(field);
 }
 
-#[test]
-fn a_field_given(rt: HostRuntime) {
-    a_field(&rt, rt.alloc(), false);
-}
-
-#[test]
-fn a_field_asked(rt: HostRuntime) {
-    a_field(&rt, rt.alloc(), true);
-}
-
 /// A record with memory for so many fields.
 fn a_record(rt: &impl Abort, alloc: Global, filled: bool) {
     let mut record = Record::with_capacity(alloc, Kind::C, 9).expect(rt, "memory");
@@ -185,12 +127,22 @@ fn a_record(rt: &impl Abort, alloc: Global, filled: bool) {
     drop(record);
 }
 
-#[test]
-fn a_record_given(rt: HostRuntime) {
-    a_record(&rt, rt.alloc(), false);
+/// Makes all of these values, and the calls on them where they are asked.
+fn all_values(rt: &impl Abort, alloc: Global, asked: bool) {
+    a_reader(rt, alloc, asked);
+    some_records(rt, alloc, asked);
+    a_message(rt, alloc, asked);
+    a_component(rt, alloc, asked);
+    a_field(rt, alloc, asked);
+    a_record(rt, alloc, asked);
 }
 
 #[test]
-fn a_record_asked(rt: HostRuntime) {
-    a_record(&rt, rt.alloc(), true);
+fn all_values_given(rt: HostRuntime) {
+    all_values(&rt, rt.alloc(), false);
+}
+
+#[test]
+fn all_values_asked(rt: HostRuntime) {
+    all_values(&rt, rt.alloc(), true);
 }
