@@ -7,31 +7,25 @@ use crate::frame_rows::put_frame;
 use crate::sender_rows::put_outcome;
 use crate::words::{Call, byte_of, link_text_of, texts_of};
 use lis_frame::FramesOf;
-use lis_world::{
-    Event, Events, HistoryOf, LateEvent, LateEvents, PlayFault, SessionOf, play_late_of, play_of,
-};
+use lis_world::{Event, HistoryOf, LateEvent, List, PlayFault, SessionOf, play_late_of, play_of};
 use std::mem::drop;
 
 /// Answers a call on a link.
 pub(crate) fn link_call<const N: usize>(call: Call<'_>, answer: &mut Answer)
     requires { IsLimit N }
 {
-    if call.name != "play" {
-        return answer.no_call();
+    if let Some(events) = events_of::<Event>(call, answer) {
+        put_played(play_of::<N>(answer.alloc, events), answer);
     }
-    let history = play_of::<N>(answer.alloc, events_of(call.words, answer));
-    put_played(history, answer);
 }
 
 /// Answers a call on a line that answers late.
 pub(crate) fn late_call<const N: usize>(call: Call<'_>, answer: &mut Answer)
     requires { IsLimit N }
 {
-    if call.name != "play" {
-        return answer.no_call();
+    if let Some(events) = events_of::<LateEvent>(call, answer) {
+        put_played(play_late_of::<N>(answer.alloc, events), answer);
     }
-    let history = play_late_of::<N>(answer.alloc, late_events_of(call.words, answer));
-    put_played(history, answer);
 }
 
 /// Puts what was played, if memory was there.
@@ -44,46 +38,46 @@ fn put_played<const N: usize>(played: Result<HistoryOf<N>, PlayFault>, answer: &
     }
 }
 
-/// The events that words report.
-fn events_of(words: &[&str], answer: &mut Answer) -> Events {
-    let mut events = Events::new(answer.alloc);
-    for word in words {
-        match event_of(*word, answer) {
+/// The events that the words of a call report; without them it is no call.
+fn events_of<E: FromWord>(call: Call<'_>, answer: &mut Answer) -> Option<List<E>> {
+    if call.name != "play" {
+        answer.no_call();
+        return None;
+    }
+    let mut events = List::new(answer.alloc);
+    for word in call.words {
+        match E::from_word(*word, answer) {
             Some(event) => answer.needs(events.push(event)),
             None => answer.no_call(),
         }
     }
-    events
+    Some(events)
 }
 
-/// The events on a line that answers late that words report.
-fn late_events_of(words: &[&str], answer: &mut Answer) -> LateEvents {
-    let mut events = LateEvents::new(answer.alloc);
-    for word in words {
-        match late_event_of(*word, answer) {
-            Some(event) => answer.needs(events.push(event)),
-            None => answer.no_call(),
+/// An event that a word can report.
+trait FromWord: Sized + Drop {
+    /// The event that a word reports, if it reports one.
+    fn from_word(word: &str, answer: &mut Answer) -> Option<Self>;
+}
+
+impl FromWord for LateEvent {
+    fn from_word(word: &str, answer: &mut Answer) -> Option<Self> {
+        match word {
+            "Reconnect" => Some(LateEvent::Reconnect),
+            _ => Event::from_word(word, answer).map(LateEvent::Happens),
         }
     }
-    events
 }
 
-/// The event on a line that answers late that a word reports.
-fn late_event_of(word: &str, answer: &mut Answer) -> Option<LateEvent> {
-    match word {
-        "Reconnect" => Some(LateEvent::Reconnect),
-        _ => event_of(word, answer).map(LateEvent::Happens),
-    }
-}
-
-/// The event that a word reports.
-fn event_of(word: &str, answer: &mut Answer) -> Option<Event> {
-    match word.split_once(':') {
-        None => plain_event_of(word),
-        Some(("Start", texts)) => Some(Event::Start(texts_of(texts, answer))),
-        Some(("Damage", bytes)) => Some(Event::Damage(link_text_of(bytes, answer))),
-        Some(("DamageReply", byte)) => Some(Event::DamageReply(byte_of(byte, answer))),
-        _ => None,
+impl FromWord for Event {
+    fn from_word(word: &str, answer: &mut Answer) -> Option<Self> {
+        match word.split_once(':') {
+            None => plain_event_of(word),
+            Some(("Start", texts)) => Some(Event::Start(texts_of(texts, answer))),
+            Some(("Damage", bytes)) => Some(Event::Damage(link_text_of(bytes, answer))),
+            Some(("DamageReply", byte)) => Some(Event::DamageReply(byte_of(byte, answer))),
+            _ => None,
+        }
     }
 }
 
