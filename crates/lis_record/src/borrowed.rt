@@ -336,7 +336,8 @@ impl<'a> Model for BorrowedRecord<'a> {
 
     ghost Value = { Borrowed RecordContent };
 
-    ghost view = { λ r. borrowed r.delimiters (record { kind = r.kind; fields = fields_of r.delimiters r.fields.now }) };
+    ghost view = { λ r. borrowed r.delimiters
+        (record { kind = r.kind; fields = fields_of r.delimiters r.fields.now }) };
 }
 
 impl<'a> BorrowedRecord<'a> {

@@ -1,6 +1,7 @@
-use Rattle.std.proofs.Common.{◌≡◌, ◌*◌, ◌+◌, ◌%◌, ◌^◌, drop, arith}
+use Rattle.std.proofs.Common.{◌≡◌, ◌*◌, ◌+◌, ◌-◌, ◌%◌, ◌^◌, drop, arith}
 use Rattle.std.specs.Int.Count.{count_trailing_zeros}
-use Rattle.lis_record.proofs.LeftMarks.{left-first, nothing_passed, part_begun, part_passed, parts_split}
+use Rattle.lis_record.proofs.LeftMarks.{left-first, marks-from, nothing_passed, part_begun, part_passed}
+use Rattle.lis_record.proofs.LeftMarks.{parts_split}
 use Rattle.lis_record.proofs.known_parts.split_parts.Invariants.{next-mark}
 use Rattle.lis_record.proofs.known_parts.split_parts.Goals as goal
 
@@ -32,9 +33,9 @@ loop-ahead-preserved c =
       some = omega arith;
       passed = i.passed + 1;
       sum = omega (arith, i.sum, c.loop-ahead-test.true);
-      marks = rw same next.others;
-      parts = part_begun d text left i.place end next (i.passed + 1)
-          (part_passed d text left i.place end next i.passed i.parts);
+      marks = record { count = i.place + i.marks.count - (end + 1); are = rw same next.others };
+      parts = part_begun d text left i.place i.marks.count end next (i.passed + 1)
+          (part_passed d text left i.place i.marks.count end next i.passed i.parts);
     }
 
 pub split_at-requires : goal.split_at-requires
@@ -43,8 +44,9 @@ split_at-requires c = omega (arith, (next-mark c.loop-ahead.invariant c.if-left-
 pub returns-clause-split : goal.returns-clause-split
 returns-clause-split c =
     let i = c.loop-ahead.invariant in
-    parts_split c.args.delimiter c.args.text.now c.loop-ahead.left i.place (count_trailing_zeros 64 c.loop-ahead.left)
-    (next-mark i c.if-left-eq0-2.false) i.passed c.args.count c.split_at.result.0.now c.split_at.result.1.now i.parts
+    parts_split c.args.delimiter c.args.text.now c.loop-ahead.left i.place i.marks.count
+    (count_trailing_zeros 64 c.loop-ahead.left) (next-mark i c.if-left-eq0-2.false) i.passed c.args.count
+    c.split_at.result.0.now c.split_at.result.1.now i.parts
     (omega (arith, i.sum, c.loop-ahead-test.false)) i.some c.split_at.ensures.front c.split_at.ensures.back
 
 pub returns-clause-first : goal.returns-clause-first
@@ -54,4 +56,7 @@ returns-clause-first c =
 
 pub returns-clause-marks : goal.returns-clause-marks
 returns-clause-marks c =
-    rw c.split_at.ensures.back (next-mark c.loop-ahead.invariant c.if-left-eq0-2.false).marks
+    let i = c.loop-ahead.invariant in
+    rw c.split_at.ensures.back
+    (marks-from c.args.delimiter c.args.text.now c.loop-ahead.left i.place i.marks.count
+    (count_trailing_zeros 64 c.loop-ahead.left) i.marks.are (next-mark i c.if-left-eq0-2.false))
