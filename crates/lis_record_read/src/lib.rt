@@ -9,5 +9,5 @@ mod text_parts;
 
 pub use building::{is_plain, read_field, read_fields};
 pub use escapes::{BorrowedSymbols, escape_meaning, first_pair, letter_symbol};
-pub use search::{bits_of, first_bad_byte, place_of};
+pub use search::{bits_of, first_bad_byte, place_of, stop_bits};
 pub use text_parts::{count_parts, first_part};

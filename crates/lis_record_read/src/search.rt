@@ -1,7 +1,7 @@
 //! Places of bytes in a text, looked for sixteen bytes at a time (LIS02-A2, Character Codes).
 
 ghost use Rattle.std.specs.Prelude.{◌≡◌, ◌≤◌, ◌<◌, ◌==◌, ◌∷◌, IfNone, IfSome, None, Some, drop, length, map, not};
-ghost use Rattle.std.specs.Prelude.{◌-◌, count_by, position, take};
+ghost use Rattle.std.specs.Prelude.{◌-◌, ◌||◌, count_by, position, take};
 ghost use Rattle.std.specs.List.{position_from};
 ghost use Rattle.std.specs.Simd.Lanes.{mask_l};
 ghost use Rattle.lis_record_read.specs.FrontReading.{parts_following, parts_of};
@@ -158,9 +158,10 @@ fn place_by_one(text: &[u8], mark: u8) -> Option<usize>
 
 /// The places among sixteen bytes that hold a field, repeat or component delimiter, or this byte, as bits.
 #[inline(always)]
-fn stop_bits(delimiters: Delimiters, other: u8, bytes: &[u8]) -> u64
+pub fn stop_bits(delimiters: Delimiters, other: u8, bytes: &[u8]) -> u64
     requires { 16 ≤ length bytes.now }
-    ensures { result ≡ mask_l (map (stops delimiters other) (take 16 bytes.now)) }
+    ensures { result ≡ mask_l (map (λ b. (b == delimiters.field || b == delimiters.repeat)
+        || (b == delimiters.component || b == other)) (take 16 bytes.now)) }
 {
     let sixteen = u8x16::from_slice(bytes);
     let outer = sixteen.simd_eq(u8x16::splat(delimiters.field()))

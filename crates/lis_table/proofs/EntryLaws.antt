@@ -1,5 +1,5 @@
 -- The bytes that the table names are read as the record's components, one by one and in order.
-use Rattle.std.proofs.Common.{◌≡◌, ℕ, ◌+◌, ◌==◌, List, [], ◌∷◌, ◌++◌, length, map, take, drop, refl, sym, ap, ◌∙◌}
+use Rattle.std.proofs.Common.{◌≡◌, ℕ, ◌+◌, List, [], ◌∷◌, ◌++◌, length, map, take, drop, refl, sym, ap, ◌∙◌}
 use Rattle.std.proofs.Common.{append_assoc, append-nil, arith}
 use Rattle.std.specs.List.{join_with_byte}
 use Rattle.std.proofs.Math.Seq.{drop-append_seam, take-append_seam}
@@ -10,7 +10,6 @@ use Rattle.lis_record_values.specs.Delimiters.{DelimiterBytes}
 use Rattle.lis_record_values.specs.Shape.{first_number}
 use Rattle.lis_record_read.specs.FrontReading.{components_of, parts_following, parts_of, repeats_of, symbols_of}
 use Rattle.lis_record.specs.Borrowed.{front_length, record_in}
-use Rattle.lis_table.specs.declared.table.LisPart.{LisPart}
 use Rattle.lis_table.specs.Entries.{Entry, component_entries, entries_of, entry_at, field_entries, repeat_entries}
 use Rattle.lis_table.specs.Table.{component_places, field_places, place_of, repeat_places, table_of}
 

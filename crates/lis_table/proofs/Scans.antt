@@ -12,7 +12,7 @@ use Rattle.lis_record_read.specs.FrontReading.{parts_following, parts_of}
 use Rattle.lis_table.specs.declared.table.LisPart.{LisPart}
 use Rattle.lis_table.specs.Table.{component_places, field_places, place_of, repeat_places, table_of}
 use Rattle.lis_table.specs.inside.Table.{first_place}
-use Rattle.lis_table.specs.inside.Scan.{longer, next_place, scanned}
+use Rattle.lis_table.specs.inside.Scan.{longer, scanned}
 
 -- the first part, and the others
 abbrev first : List (List ℕ) → List ℕ

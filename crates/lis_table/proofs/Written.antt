@@ -1,15 +1,14 @@
 -- A table that is written entry by entry, as far as it has room; and bytes that end no component.
-use Rattle.std.proofs.Common.{◌≡◌, ◌≤◌, ℕ, zero, suc, ◌+◌, ◌-◌, ◌^◌, ◌<◌, ◌==◌, ◌||◌, Bool, true, false, List, [], ◌∷◌}
+use Rattle.std.proofs.Common.{◌≡◌, ℕ, zero, suc, ◌+◌, ◌==◌, ◌||◌, Bool, true, false, List, [], ◌∷◌}
 use Rattle.std.proofs.Common.{◌++◌}
-use Rattle.std.proofs.Common.{length, take, drop, refl, sym, ap, ◌∙◌, arith, add-one, inl, inr}
-use Rattle.std.specs.Prelude.{Option, slice_set}
+use Rattle.std.proofs.Common.{length, take, drop, refl, sym, ap, ◌∙◌, arith, add-one}
+use Rattle.std.specs.Prelude.{slice_set}
 use Rattle.std.specs.List.{All}
 use Rattle.std.proofs.lemmas.List.{drop-drop, length-drop, take_all}
 use Rattle.std.proofs.lemmas.List.Elements.{All-head, All-tail}
 use Rattle.lis_record_values.specs.Delimiters.{DelimiterBytes}
 use Rattle.lis_table.specs.declared.table.LisPart.{LisPart}
-use Rattle.lis_table.specs.inside.Scan.{IsRoomy, longer, scanned}
-use Rattle.lis_table.specs.inside.Stops.{AreStops, KnowsEnd}
+use Rattle.lis_table.specs.inside.Scan.{longer, scanned}
 use Rattle.lis_record_read.specs.inside.FrontReading.{stops}
 
 take-none : (n : ℕ) → take {A = LisPart} n [] ≡ []
@@ -97,16 +96,3 @@ module _ (d : DelimiterBytes) where
       ∙ ap (λ (q : LisPart). scanned d q (xs ++ ys)) longer_is
       ∙ scanned-free (record p { len = p.len + 1 }) xs ys (All-tail (λ b. stops d d.escape b ≡ false) x xs free)
       ∙ ap (λ (q : LisPart). scanned d q ys) (with_len p (p.len + 1 + length xs) (p.len + suc (length xs)) size)
-
--- ---- the pass so far
-
--- so many components were put, this one is begun, and this text is left
-pub record IsUnderWay (d : DelimiterBytes) (begun : LisPart) (text : List ℕ) (before : List LisPart) (p : LisPart)
-    (rest : List ℕ) (marks : ℕ) (end : Option ℕ) (out : List LisPart) (count : ℕ) : Type 0 where
-  pub left : drop count (scanned d begun text) ≡ scanned d p rest
-  pub put : out ≡ written (scanned d begun text) before count
-  pub marked : AreStops d rest marks
-  pub ends : KnowsEnd d rest end
-  pub room : IsRoomy p (length rest)
-  pub few : count + length rest ≤ length text
-  pub short : length text < 2 ^ 31

@@ -1,13 +1,14 @@
 //! The components of a record as a table, made in one pass over its text (LIS02-A2, Delimiters).
 
-ghost use Rattle.std.specs.Prelude.{◌≡◌, ◌≤◌, ◌<◌, ◌+◌, ◌++◌, MatchOption, Some, drop, length, slice_set, take};
+ghost use Rattle.std.specs.Prelude.{◌≡◌, ◌≤◌, ◌<◌, ◌+◌, ◌-◌, ◌^◌, ◌++◌, IfNone, IfSome, drop, length, slice_set};
+ghost use Rattle.std.specs.Prelude.{take};
 ghost use Rattle.lis_record_values.specs.Text.{record_limit};
 ghost use Rattle.lis_record.specs.Borrowed.{front_length};
 ghost use Rattle.lis_table.specs.Table.{table_of};
 ghost use Rattle.lis_table.specs.inside.Table.{first_place};
-ghost use Rattle.lis_table.specs.inside.Scan.{IsRoomy, longer, next_place, scanned};
+ghost use Rattle.lis_table.specs.inside.Scan.{IsRoomy, longer, next_place, scanned, up_to};
 
-use crate::stops::{end_stops, next_stop};
+use crate::stops::stops_ahead;
 use lis_record_values::{Delimiters, Kind};
 
 /// Where a component is in its record's text, and which it is: the number of its field, as the standard counts, and
@@ -49,57 +50,16 @@ fn first_place(kind: Kind) -> LisPart
     }
 }
 
-/// What begins after a byte, if it ends the component.
+/// The component that was begun, with the bytes of its text before a place.
 #[inline(always)]
-fn next_place(delimiters: Delimiters, place: LisPart, byte: u8) -> Option<LisPart>
-    requires { IsRoomy place 1 }
-    ensures { result ≡ next_place delimiters place byte }
+fn up_to(begun: LisPart, end: usize) -> LisPart
+    requires begun { begun.offset ≤ end }
+    requires end { end < 2 ^ 31 }
+    ensures { result ≡ up_to begun end }
 {
-    let next = LisPart {
-        offset: place.offset + place.len + 1,
-        len: 0,
-        field: place.field,
-        repeat: place.repeat,
-        component: 0,
-        flags: 0,
-    };
-    if byte == delimiters.field() {
-        return Some(LisPart {
-            field: place.field + 1,
-            repeat: 0,
-            ..next
-        });
-    }
-    if byte == delimiters.repeat() {
-        return Some(LisPart {
-            repeat: place.repeat + 1,
-            ..next
-        });
-    }
-    if byte == delimiters.component() {
-        return Some(LisPart {
-            component: place.component + 1,
-            ..next
-        });
-    }
-    None
-}
-
-/// The component with one more byte.
-#[inline(always)]
-fn longer(delimiters: Delimiters, place: LisPart, byte: u8) -> LisPart
-    requires { IsRoomy place 1 }
-    ensures { result ≡ longer delimiters place byte }
-{
-    let flags = if byte == delimiters.escape() {
-        1
-    } else {
-        place.flags
-    };
     LisPart {
-        len: place.len + 1,
-        flags,
-        ..place
+        len: end as u32 - begun.offset,
+        ..begun
     }
 }
 
@@ -113,37 +73,88 @@ fn put(out: &mut [LisPart], at: usize, place: LisPart)
     }
 }
 
-/// Puts the components of what is left of a text to the table, the first of which was begun; answers how many they are.
+/// Begins the next component after the byte at a place, in the same field and repeat.
+#[inline(always)]
+fn begin_after(begun: &mut LisPart, at: usize)
+    requires { at < 2 ^ 31 }
+    ensures { begun.new ≡ record begun.old { offset = at + 1; flags = 0 } }
+{
+    begun.offset = at as u32 + 1;
+    begun.flags = 0;
+}
+
+/// Takes the byte at a place: it ends the component that was begun, which is put, or it is one of its bytes; answers
+/// how many were put.
+#[inline(always)]
+fn take_byte(
+    delimiters: Delimiters,
+    byte: u8,
+    at: usize,
+    begun: &mut LisPart,
+    out: &mut [LisPart],
+    count: usize,
+) -> usize
+    requires at { (begun.old.offset ≤ at) × (at < 2 ^ 31) × (count ≤ at) }
+    requires room { IsRoomy (up_to begun.old at) 1 }
+    ensures ends { IfSome (next_place delimiters (up_to begun.old at) byte) (λ next.
+        (up_to begun.new (at + 1) ≡ next) × (begun.new.offset ≡ at + 1) × (result ≡ count + 1)
+        × (out.new ≡ slice_set out.old count (up_to begun.old at))) }
+    ensures goes_on { IfNone (next_place delimiters (up_to begun.old at) byte)
+        ((up_to begun.new (at + 1) ≡ longer delimiters (up_to begun.old at) byte)
+        × (begun.new.offset ≡ begun.old.offset) × (result ≡ count) × (out.new ≡ out.old)) }
+{
+    if byte == delimiters.field() {
+        put(out, count, up_to(*begun, at));
+        begin_after(begun, at);
+        begun.field += 1;
+        begun.repeat = 0;
+        begun.component = 0;
+        return count + 1;
+    }
+    if byte == delimiters.repeat() {
+        put(out, count, up_to(*begun, at));
+        begin_after(begun, at);
+        begun.repeat += 1;
+        begun.component = 0;
+        return count + 1;
+    }
+    if byte == delimiters.component() {
+        put(out, count, up_to(*begun, at));
+        begin_after(begun, at);
+        begun.component += 1;
+        return count + 1;
+    }
+    if byte == delimiters.escape() {
+        begun.flags = 1;
+    }
+    count
+}
+
+/// Puts the components of a text from a place on to the table, the first of which begins there; answers how many they
+/// are.
 #[inline(always)]
 fn put_from(delimiters: Delimiters, first: LisPart, text: &[u8], out: &mut [LisPart]) -> usize
-    requires { IsRoomy first (length text.now) }
-    ensures count { result ≡ length (scanned delimiters first text.now) }
-    ensures put { out.new ≡ take (length out.old) (scanned delimiters first text.now) ++ drop result out.old }
+    requires begins { (first.offset ≤ length text.now) × (first.len ≡ 0) }
+    requires room { IsRoomy first (length text.now - first.offset) }
+    requires short { length text.now < 2 ^ 31 }
+    ensures count { result ≡ length (scanned delimiters first (drop first.offset text.now)) }
+    ensures put { out.new ≡ take (length out.old) (scanned delimiters first (drop first.offset text.now))
+        ++ drop result out.old }
 {
-    let mut place = first;
-    let mut rest = text;
-    let mut marks = 0;
-    let end = end_stops(delimiters, text);
+    let mut begun = first;
     let mut count: usize = 0;
-    'bytes: loop {
-        let (free, known) = next_stop(delimiters, rest, marks, end);
-        let (_, following) = rest.split_at(free);
-        place.len += free as u32;
-        let Some((byte, more)) = following.split_first() else {
-            break 'bytes;
-        };
-        match next_place(delimiters, place, *byte) {
-            Some(next) => {
-                put(out, count, place);
-                count += 1;
-                place = next;
-            }
-            None => place = longer(delimiters, place, *byte),
+    let mut from = first.offset as usize;
+    while from < text.len() {
+        let (mut stops, size) = stops_ahead(delimiters, text, from);
+        // The lowest bit is the next place; then it is cleared.
+        while stops != 0 {
+            let at = from + stops.trailing_zeros() as usize;
+            stops -= 1 << stops.trailing_zeros();
+            count = take_byte(delimiters, text[at], at, &mut begun, out, count);
         }
-        rest = more;
-        marks = known;
+        from += size;
     }
-    put(out, count, place);
+    put(out, count, up_to(begun, text.len()));
     count + 1
 }
 
@@ -159,6 +170,5 @@ pub fn put_places(delimiters: Delimiters, kind: Kind, text: &[u8], out: &mut [Li
     if text.len() <= before {
         return 0;
     }
-    let (_, fields) = text.split_at(before + 1);
-    put_from(delimiters, first_place(kind), fields, out)
+    put_from(delimiters, first_place(kind), text, out)
 }

@@ -1,5 +1,5 @@
 -- The table as one pass over the text makes it, byte by byte.
-use Rattle.std.specs.Prelude.{ℕ, ◌+◌, ◌^◌, ◌<◌, ◌==◌, List, [], ◌∷◌, Option, None, Some, if◌then◌else◌, cond}
+use Rattle.std.specs.Prelude.{ℕ, ◌+◌, ◌-◌, ◌^◌, ◌<◌, ◌==◌, List, [], ◌∷◌, Option, None, Some, if◌then◌else◌}
 use Rattle.lis_record_values.specs.Delimiters.{DelimiterBytes}
 use Rattle.lis_table.specs.declared.table.LisPart.{LisPart}
 
@@ -45,6 +45,10 @@ scanned_by p (Some next) longer others = p ∷ others next
 abbrev pub scanned : DelimiterBytes → LisPart → List ℕ → List LisPart
 scanned d p [] = p ∷ []
 scanned d p (b ∷ bs) = scanned_by p (next_place d p b) (longer d p b) (λ q. scanned d q bs)
+
+-- the component that was begun, with the bytes of its text before a place
+abbrev pub up_to : LisPart → ℕ → LisPart
+up_to begun end = record begun { len = end - begun.offset }
 
 -- the numbers of a component fit while so many bytes are left
 pub record IsRoomy (p : LisPart) (left : ℕ) : Type 0 where

@@ -1,11 +1,20 @@
-use Rattle.std.proofs.Common.{◌≡◌, ◌≤◌, ◌+◌, ◌++◌, drop, length, take}
-use Rattle.lis_table.specs.inside.Scan.{IsRoomy, scanned}
-use Rattle.lis_table.specs.inside.Stops.{AreStops}
+use Rattle.std.proofs.Common.{◌-◌, drop, length}
+use Rattle.lis_table.specs.inside.Scan.{scanned}
+use Rattle.lis_table.proofs.UnderWay.{IsAmong, IsUnderWay}
 use Rattle.lis_table.proofs.table.put_from.Given as goal
-use Rattle.lis_table.proofs.Written.{IsUnderWay}
 
-abbrev pub invariant-bytes : goal.invariant-bytes
-invariant-bytes l = IsUnderWay l.delimiters l.fn.first l.fn.text l.fn.out l.place l.rest l.marks l.end l.out l.count
+abbrev pub invariant-loop-from : goal.invariant-loop-from
+invariant-loop-from l =
+    IsUnderWay l.delimiters (scanned l.delimiters l.fn.first (drop l.fn.first.offset l.fn.text)) l.fn.text l.fn.out
+    l.begun l.from l.out l.count
 
-abbrev pub decreases-bytes : goal.decreases-bytes
-decreases-bytes l = length l.rest
+abbrev pub decreases-loop-from : goal.decreases-loop-from
+decreases-loop-from l = length l.text - l.from
+
+abbrev pub invariant-loop-stops : goal.invariant-loop-stops
+invariant-loop-stops l =
+    IsAmong l.delimiters (scanned l.delimiters l.fn.first (drop l.fn.first.offset l.fn.text)) l.fn.text l.fn.out
+    l.begun l.from l.stops l.size l.out l.count
+
+abbrev pub decreases-loop-stops : goal.decreases-loop-stops
+decreases-loop-stops l = l.stops
