@@ -65,34 +65,30 @@ module _ (stream : List ℕ) (ms : List MessageTree) (split : IsSplit stream ms 
         ended None (b ∷ h) e f why = cc
         ended (Some b) h e f why = cc
 
--- what the laws of messages say
-pub record MessageLaws : Type 0 where
-  pub split :
-      (ms : List MessageTree) → AllByRecursion IsTree ms → AllByRecursion IsWritable ms
-      → IsSplit (flat_map message_bytes ms) ms None []
-  pub alone :
-      (ms : List MessageTree) → AllByRecursion IsTree ms → AllByRecursion IsWritable ms
-      → (others : List MessageTree) (left : Option Begun) (held : List ℕ)
-      → IsSplit (flat_map message_bytes ms) others left held
-      → (others ≡ ms) × (left ≡ None) × (held ≡ [])
-  pub none :
-      (stream : List ℕ) (m n : List MessageTree) (fault : MessageFault) (l : Option Begun) (h : List ℕ)
-      → IsRefused stream m fault → IsSplit stream n l h → ⊥
+-- so, by the laws of messages, what was delivered is split into the messages, and read as them
+module _
+    (split : (ms : List MessageTree) → AllByRecursion IsTree ms → AllByRecursion IsWritable ms
+    → IsSplit (flat_map message_bytes ms) ms None [])
+    (alone : (ms : List MessageTree) → AllByRecursion IsTree ms → AllByRecursion IsWritable ms
+    → (others : List MessageTree) (left : Option Begun) (held : List ℕ)
+    → IsSplit (flat_map message_bytes ms) others left held
+    → (others ≡ ms) × (left ≡ None) × (held ≡ []))
+    (none : (stream : List ℕ) (m n : List MessageTree) (fault : MessageFault) (l : Option Begun) (h : List ℕ)
+    → IsRefused stream m fault → IsSplit stream n l h → ⊥)
+    (sessions : List Session) (all : All DeliversAll sessions)
+  where
+    pub carry : Carry sessions
+    carry x messages has =
+        let bytes = carried_bytes sessions all x messages has in (
+          bytes,
+          subst (λ (l : List ℕ). IsSplit l messages None []) (sym bytes)
+              (split messages has.trees (writable messages has.fit)),
+        )
 
--- so what was delivered is split into the messages, and read as them
-module _ (laws : MessageLaws) (sessions : List Session) (all : All DeliversAll sessions) where
-  pub carry : Carry sessions
-  carry x messages has =
-      let bytes = carried_bytes sessions all x messages has in (
-        bytes,
-        subst (λ (l : List ℕ). IsSplit l messages None []) (sym bytes)
-            (laws.split messages has.trees (writable messages has.fit)),
-      )
-
-  pub are_read_back : AreReadBack sessions
-  are_read_back x messages has =
-      let bytes = carried_bytes sessions all x messages has in
-      read_alone (delivered_bytes x) messages (carry x messages has).1
-      (λ others left held other. laws.alone messages has.trees (writable messages has.fit) others left held
-      (subst (λ (l : List ℕ). IsSplit l others left held) bytes other))
-      (λ n f refused whole. laws.none (delivered_bytes x) n messages f None [] refused whole)
+    pub are_read_back : AreReadBack sessions
+    are_read_back x messages has =
+        let bytes = carried_bytes sessions all x messages has in
+        read_alone (delivered_bytes x) messages (carry x messages has).1
+        (λ others left held other. alone messages has.trees (writable messages has.fit) others left held
+        (subst (λ (l : List ℕ). IsSplit l others left held) bytes other))
+        (λ n f refused whole. none (delivered_bytes x) n messages f None [] refused whole)
