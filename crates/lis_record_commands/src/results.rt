@@ -123,10 +123,12 @@ fn add_printed(lines: &mut HeldText, entry: &BorrowedRecord<'_>) -> Result<(), A
         ++ fields_following entry.now.delimiters entry.now.content printed_fields) }
 {
     let mut fields = entry.fields();
+    // The record's number is not printed.
     let _number = fields.next();
     if !lines.add_fields(&mut fields, 5)? {
         return add_each(lines, &entry.again());
     }
+    // Nor is field 8, the nature of abnormality testing.
     let _nature = fields.next();
     lines.add_next(entry.delimiters().field(), &mut fields)
 }
@@ -140,10 +142,12 @@ fn add_each(lines: &mut HeldText, entry: &BorrowedRecord<'_>) -> Result<(), Allo
 {
     let mark = entry.delimiters().field();
     let mut fields = entry.fields();
+    // The record's number is not printed.
     let _number = fields.next();
     for _field in 0..5usize {
         lines.add_next(mark, &mut fields)?;
     }
+    // Nor is field 8, the nature of abnormality testing.
     let _nature = fields.next();
     lines.add_next(mark, &mut fields)
 }

@@ -268,6 +268,7 @@ fn sent_by_computer(
             drop(text);
         }
     }
+    // The line ends: there is no text more.
     let _ = next_text(&mut line, &mut receiver);
     drop(receiver);
     let sent = sent_on(rt, alloc, &line);

@@ -58,6 +58,7 @@ impl SlowConnection {
         }
         drop(message);
         if let Some(reply) = reply {
+            // Where memory runs out the reply is lost, as on a line.
             let _ = self.replies.push_back(reply);
         }
     }

@@ -21,6 +21,7 @@ fn main(rt: HostRuntime) -> ExitCode {
         return exit_code(&rt, Err(ToolFault::OutOfMemory));
     };
     let Some(command) = command(words.as_slice()) else {
+        // Where standard error is closed there is nowhere to say it.
         let _ = eprintln!(rt; "usage: lislink COMMAND");
         return ExitCode::from(2);
     };
@@ -45,6 +46,7 @@ fn main(rt: HostRuntime) -> ExitCode {
 /// Reports a rejected record on standard error.
 fn print_refused(rt: &HostRuntime, report: Report) {
     if let Some(refused) = report.refused {
+        // Where standard error is closed there is nowhere to say it.
         let _ = eprintln!(rt; "lislink: {refused}");
     }
 }
@@ -55,6 +57,7 @@ fn exit_code(rt: &HostRuntime, ended: Ended) -> ExitCode
     ensures fault { OnErr ended (exit_status result ≡ 3) }
 {
     if let Err(fault) = ended {
+        // Where standard error is closed the exit status says it alone.
         let _ = eprintln!(rt; "{fault}");
     }
     ExitCode::from(status_of(&ended))
