@@ -1,14 +1,15 @@
 /* Replies that come late: late MODE SESSIONS SLOWER, over examples/c's analyzer and host, with timers of a few hundred
- * milliseconds, SLOWER times as long on a machine that has too much to do, on many lines of this machine at once. Between the two a relay holds bytes back, also for longer than
- * the sender's timer, and damages frames. MODE is
+ * milliseconds, SLOWER times as long on a machine that has too much to do, on many lines of this machine at once.
+ * Between the two a relay holds bytes back, also for longer than the sender's timer, and damages frames. MODE is
  *
  *   connect   TCP; the analyzer takes a new connection after a session that failed
  *   serial    a pseudo-terminal; it opens the port anew, which waits and drops what came
  *   host      no relay, one connection, a computer that is slow to keep a text: it sends no reply that is late
  *   old       as connect, but the old connection is used again, as it must not be
  *
- * It prints 'sessions S done D false F late L': F counts the sessions that were done before the host had kept each of
- * their texts, L those that failed. */
+ * It prints 'sessions S done D false F late L slow W': F counts the sessions that were done before the host had kept each
+ * of their texts, L those that failed. A line promises that a reply comes within a time: W counts where the machine made
+ * the relay or the host wait so long that the line may have broken its promise. */
 #include "../../examples/c/loops.h"
 #include <arpa/inet.h>
 #include <fcntl.h>
@@ -29,7 +30,7 @@ static const char *const names[] = {"connect", "serial", "host", "old"};
 
 static enum mode mode;
 static int percent, per_lane;
-static atomic_int sessions, done, wrong, failed;
+static atomic_int sessions, done, wrong, failed, slow;
 
 /* Bytes on their way, each with the time when it may go on. */
 struct queue {
@@ -143,18 +144,34 @@ static bool take(struct lane *lane, int line, struct queue *queue, bool replies)
     return true;
 }
 
+/* Counts a wait that is no part of what a line does: a third of the sender's timer, or longer. */
+static void note_wait(long long since) {
+    slow += milliseconds() - since > timer() / 3;
+}
+
 /* Carries bytes between an analyzer and its host until one of them closes the line. */
 static void carry(struct lane *lane, int analyzers, int hosts) {
     static _Thread_local struct queue there, back;
     there.len = back.len = 0;
+    long long asked = 0;    /* when the host got what it hasn't replied to; EOT has no reply */
     for (bool open = true; open;) {
         struct pollfd ready[] = {{analyzers, POLLIN, 0}, {hosts, POLLIN, 0}};
+        long long begun = milliseconds();
         poll(ready, 2, 1);
         if (ready[0].revents)
             open = take(lane, analyzers, &there, false);
-        if (open && ready[1].revents)
+        if (open && ready[1].revents) {
             open = take(lane, hosts, &back, true);
+            if (asked)
+                note_wait(asked);
+            asked = 0;
+        }
+        size_t held = there.len;
+        uint8_t last = held > 0 ? there.bytes[held - 1] : 0;
         open = open && send_on(&there, hosts) && send_on(&back, analyzers);
+        if (there.len < held && last != 4 && !asked)
+            asked = milliseconds();
+        note_wait(begun);
     }
 }
 
@@ -274,6 +291,6 @@ int main(int count, char **words) {
             fail("pthread_create");
     for (int i = 0; i < LANES; i++)
         pthread_join(lanes[i].analyzer, NULL);
-    printf("sessions %d done %d false %d late %d\n", sessions, done, wrong, failed);
+    printf("sessions %d done %d false %d late %d slow %d\n", sessions, done, wrong, failed, slow);
     return 0;
 }

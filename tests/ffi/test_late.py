@@ -7,7 +7,7 @@ import subprocess
 from tests import ROOT, kit
 from tests.ffi.c import C11, IN_C, SANITIZERS
 
-TALLY = re.compile(r"sessions (\d+) done (\d+) false (\d+) late (\d+)\n")
+TALLY = re.compile(r"sessions (\d+) done (\d+) false (\d+) late (\d+) slow (\d+)\n")
 IN_TIME = "(step.reply != 0 && is_late(work))"
 
 
@@ -20,26 +20,34 @@ def build(test, archive, host, program):
 
 
 def tally(test, program, mode, sessions, slower=1):
-    """How many sessions were done too early; the sessions are as many as asked for, and some of them fail."""
+    """How many sessions were done too early, and how often the machine was too slow for the line's promise; the sessions
+    are as many as asked for, and some of them fail."""
     try:
         words = [program, mode, str(sessions), str(slower)]
         ran = subprocess.run(words, capture_output=True, text=True, timeout=120 * slower)
     except subprocess.TimeoutExpired:
-        return test.check(False, f"late {mode}: not over after 120 seconds")
+        test.check(False, f"late {mode}: not over after {120 * slower} seconds")
+        return 0, 1
     found = TALLY.fullmatch(ran.stdout)
     if not test.check(ran.returncode == 0 and found, f"late {mode}: {ran.returncode} {ran.stdout}{ran.stderr}"):
-        return None
-    all_of_them, done, wrong, failed = (int(it) for it in found.groups())
+        return 0, 1
+    all_of_them, done, wrong, failed, slow = (int(it) for it in found.groups())
     power = all_of_them >= sessions and done > sessions / 10 and failed > sessions / 20
     test.check(power, f"late {mode}: too few sessions, or too few of a kind: {ran.stdout}")
-    return wrong
+    return wrong, slow
 
 
 def is_safe(test, program, mode, sessions):
     """Whether no session is done too early. These lines promise that a reply comes within a time; a machine that has
-    too much to do breaks that promise. So a session that is done too early is tried again with timers six times as
-    long: a fault of the code shows there too."""
-    return tally(test, program, mode, sessions) == 0 or tally(test, program, mode, sessions, slower=6) == 0
+    too much to do breaks that promise, and the program counts how often. If that may be the reason of all that were
+    done too early, timers six times as long are tried, which show a fault of the code too; if it may be the reason
+    there too, nothing is known, and the test is skipped."""
+    for slower in (1, 6):
+        wrong, slow = tally(test, program, mode, sessions, slower)
+        if wrong == 0 or wrong > slow:
+            return wrong == 0
+    print(f"skipped: late replies by {mode}, since this machine has too much to do", flush=True)
+    return True
 
 
 class Late(kit.Test):
@@ -53,7 +61,7 @@ class Late(kit.Test):
             for mode, sessions in (("connect", 1000), ("serial", 1000), ("host", 320)):
                 self.check(is_safe(self, f"{work}/late", mode, sessions),
                            f"late {mode}: sessions are done before the host has their texts")
-            self.check(tally(self, f"{work}/late", "old", 320),
+            self.check(tally(self, f"{work}/late", "old", 320)[0],
                        "late old: no session is done too early on an old connection")
         if build(self, archive, f"{work}/late_host.c", f"{work}/late_host"):
-            self.check(tally(self, f"{work}/late_host", "host", 320), "late host: late replies do no harm")
+            self.check(tally(self, f"{work}/late_host", "host", 320)[0], "late host: late replies do no harm")
