@@ -173,7 +173,12 @@ FAULTS = {
     "test_postgres.Postgres.test_later_tables": Edit(
         "host/sql.py", "elif found[0] != str(SCHEMA):", "elif not found[0]:"
     ),
-    "test_postgres.Postgres.test_names": Edit("host/postgresql.py", "if not taken:", "if taken is None:"),
+    "test_postgres.Postgres.test_name_of_a_killed_host": Edit(
+        "host/postgresql.py", "_NAME_SECONDS = 3.0", "_NAME_SECONDS = 0.0"
+    ),
+    "test_postgres.Postgres.test_names": Edit(
+        "host/postgresql.py", 'raise StoreError(f"another host has the name {self.host}")', "break"
+    ),
     "test_postgres.Postgres.test_start_while_another_commits": Edit(
         "host/postgresql.py", "fetchone()[0] is not None", "fetchone()[0] == 0"
     ),

@@ -197,6 +197,20 @@ class Postgres(HostTest):
         self.same("the first goes on", len(Found(store).whole), 3)
         self.same("the host's status", host.stop(), 0)
 
+    def test_name_of_a_killed_host(self):
+        """A host that was killed has its name for another moment: the next one waits for it."""
+        store = self.server.address("killed")
+        Host(store).stop()
+        held = "SELECT pg_advisory_lock(5402, hashtext('killed')); SELECT pg_sleep(1)"
+        with self.server.psql("killed", "-c", held):
+            asked = "SELECT count(*) FROM pg_locks WHERE locktype = 'advisory' AND classid = 5402"
+            there = hosts.wait_for(lambda: self.server.asks("killed", asked) == "1")
+            try:
+                status, why = Host(store, "--host-name", "killed").stop(), ""
+            except RuntimeError as error:
+                status, why = None, str(error)
+        self.same(f"a start while the name is still taken {why}", (there, status), (True, 0))
+
     def test_start_while_another_commits(self):
         """A host starts while another holds the table as a commit does, and waits for none: each would wait for the
         other."""

@@ -3,6 +3,7 @@
 It needs psycopg 3 or psycopg2 (Debian: python3-psycopg, python3-psycopg2).
 """
 import importlib
+import time
 from typing import Any, Optional, Sequence
 
 from .sql import SqlStore
@@ -10,6 +11,8 @@ from .store import StoreError, Unit
 
 #: The advisory locks: one for the numbers of messages and the tables, one for each host by its name.
 _NUMBERS, _HOSTS = 5401, 5402
+#: A host that was killed has its name until the server notices: a start waits so long for it.
+_NAME_SECONDS = 3.0
 #: A server that doesn't answer, or a host that stops inside a transaction, holds nobody for longer than this.
 _SESSION = (
     "SET lock_timeout = '5s'",
@@ -66,9 +69,15 @@ class PostgresStore(SqlStore):
         if self.run("SELECT current_setting('synchronous_commit')").fetchone()[0] == "off":
             self.run("SET synchronous_commit = on")
         if self.host:
-            taken = self.run("SELECT pg_try_advisory_lock(?, hashtext(?))", (_HOSTS, self.host)).fetchone()[0]
-            if not taken:
+            self._take_name()
+
+    def _take_name(self) -> None:
+        """Takes the host's name, which the server gives back when the connection ends."""
+        until = time.monotonic() + _NAME_SECONDS
+        while not self.run("SELECT pg_try_advisory_lock(?, hashtext(?))", (_HOSTS, self.host)).fetchone()[0]:
+            if time.monotonic() >= until:
                 raise StoreError(f"another host has the name {self.host}")
+            time.sleep(0.1)
 
     def run(self, statement: str, values: Sequence[Any] = ()) -> Any:
         if self._db is None:
