@@ -41,7 +41,8 @@ pub struct ScriptedConnection<'a> {
 impl<'a> ScriptedConnection<'a> {
     /// A line on which nothing was done. It takes no memory yet.
     pub fn new(alloc: Global, events: &'a [Event]) -> Self
-        ensures { log_of result.is_whole result.entries.items ≡ Some [] }
+        ensures log { log_of result.is_whole result.entries.items ≡ Some [] }
+        ensures events { result.events ≡ events.entry }
     {
         ScriptedConnection {
             alloc,
@@ -54,7 +55,10 @@ impl<'a> ScriptedConnection<'a> {
 
     /// The same line, whose store answers the next texts by these: whether it keeps them.
     pub fn with_answers(self, answers: &'a [bool]) -> Self
-        ensures { log_of result.is_whole result.entries.items ≡ log_of self.entry.is_whole self.entry.entries.items }
+        ensures log { log_of result.is_whole result.entries.items
+            ≡ log_of self.entry.is_whole self.entry.entries.items }
+        ensures answers { result.answers ≡ answers.entry }
+        ensures events { result.events ≡ self.entry.events }
     {
         ScriptedConnection { answers, ..self }
     }
