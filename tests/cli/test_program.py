@@ -30,6 +30,7 @@ RUNS = (
     ("no input", "show", b"", 0, "", ""),
     ("a session", "show", "session.link", 0, LINES, ""),
     ("a session of longer frames", "show --long", "session.link", 0, LINES, ""),
+    ("more lines than are buffered", "show", b"\x021A\x0375\r\n" * 2000, 0, "frame 1 end 1 41\n" * 2000, ""),
     ("a bad frame and a torn one", "show", b"\x02\n\x021A\x17", 0, "bad F2\n", ""),
     ("a replay", "replay", "two-sessions.capture", 0, REPLAYED, ""),
     ("a replay of longer frames", "replay --long", "two-sessions.capture", 0, REPLAYED, ""),

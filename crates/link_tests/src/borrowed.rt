@@ -26,6 +26,7 @@ fn texts_are_sent_from_where_they_are(rt: HostRuntime) {
     let mut sender = BorrowingSender::new();
     assert!(rt; sender.start_fault(&borrowed).is_none());
     assert!(rt; sender.start(borrowed).is_ok());
+    assert!(rt; sender.awaited().is_none());
     assert_sent(&rt, &mut sender);
 }
 

@@ -132,6 +132,7 @@ fn a_source_that_reads_ahead_reports_its_end(rt: HostRuntime) {
     assert!(rt; buffer.as_slice() == b"cb".as_slice());
     assert!(rt; source.read(&mut buffer) == Ok(0));
     assert!(rt; source.ended() && !source.failed());
+    assert!(rt; source.made() == 3);
 }
 
 #[test]

@@ -1,8 +1,10 @@
 //! What no contract and no conformance row says: a field that is put from where it is, a field's encoding in pieces,
 //! and how long a record is.
 
-use lis_port::Slow;
-use lis_record::{Delimiters, FieldEncoding, Kind, Record, borrow_record, encoded_length};
+use lis_port::{Discard, Slow};
+use lis_record::{
+    Delimiters, FieldEncoding, Kind, RECORD_LIMIT, Record, borrow_record, encoded_length, put_field,
+};
 use lis_record_values::Field;
 use std::mem::drop;
 use std::process::Abort;
@@ -37,6 +39,19 @@ fn the_length_of_an_encoding_is_reported(rt: HostRuntime) {
     let length = encoded_length(&Delimiters::usual(), &record);
     drop(record);
     assert!(rt; length == 33);
+}
+
+#[test]
+fn a_field_longer_than_a_record_is_put_and_counted(rt: HostRuntime) {
+    let text = [b'a'; RECORD_LIMIT + 1];
+    let field = Field::from_text(rt.alloc(), &text).expect(&rt, "a field");
+    assert!(rt; put_field(&mut Discard, &Delimiters::usual(), &field).is_ok());
+    drop(field);
+    let record = Record::from_texts(rt.alloc(), Kind::C, &[&text]).expect(&rt, "a record");
+    let length = encoded_length(&Delimiters::usual(), &record);
+    drop(record);
+    // The letter, a delimiter and the text.
+    assert!(rt; length == 65_539);
 }
 
 #[test]

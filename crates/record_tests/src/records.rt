@@ -67,8 +67,9 @@ fn a_record_that_is_refused_is_not_borrowed(rt: HostRuntime) {
     let mut reader = RecordReader::new(rt.alloc());
     assert!(rt; matches!(reader.read(b"P|"), (_, RecordFound::Nothing)));
     assert!(rt; matches!(reader.read(b"1\r"), (_, RecordFound::Refused(_))));
-    assert!(rt; reader.split().is_none());
+    assert!(rt; reader.split().is_none() && reader.held() == 0);
     // Nothing is read on.
+    assert!(rt; reader.read_whole(b"H|\\^&\r").is_none());
     assert!(rt; matches!(reader.read(b"H|\\^&\r"), (_, RecordFound::Refused(_))));
     drop(reader);
 }
