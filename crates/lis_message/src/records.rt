@@ -418,6 +418,7 @@ impl RecordReader {
         ensures read { IfSome result (λ found. (left : Option Begun) → HasLeft self.old left
             → Reads self.old self.new left bytes.now found.1.now (IsFound found.0)) }
         ensures some { IfSome result (λ found. length found.1.now < length bytes.now) }
+        ensures clear { OnSome result ((self.old.fault ≡ None) × (self.old.held ≡ []) × (self.old.split ≡ None)) }
         ensures none { IfNone result (self.new ≡ self.old) }
         ensures refused { IfNone result ((left : Option Begun) → HasLeft self.old left → self.old.held ≡ []
             → self.old.split ≡ None → (text following : List ℕ) → LacksReturn text → bytes.now ≡ text ++ 13 ∷ following
