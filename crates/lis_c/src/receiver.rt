@@ -1,9 +1,9 @@
 //! The receiver for programs in C.
 
-ghost use Rattle.std.specs.Prelude.{◌≡◌, ◌≢◌, ◌≤◌, ◌<◌, ◌∷◌, ◌++◌, [], drop, length, take};
+ghost use Rattle.std.specs.Prelude.{◌≡◌, ◌≢◌, ◌≤◌, ◌<◌, ◌∷◌, ◌++◌, [], drop, length, max, take};
 ghost use Rattle.lis_c.specs.declared.handle_state.ReceiverHandleState.{ReceiverHandleState};
 ghost use Rattle.lis_c.specs.Codes.{readiness_code};
-ghost use Rattle.lis_c.specs.Limits.{LimitStatus, NewReceiver, Receives, receiver_limit, spare_of};
+ghost use Rattle.lis_c.specs.Limits.{LimitStatus, NewReceiver, Receives, kept_by, receiver_limit, spare_of};
 ghost use Rattle.lis_c.specs.New.{IsNewReceiver, type_align};
 ghost use Rattle.lis_c.specs.Status.{BAD_NUMBER, OK, OUT_OF_MEMORY, ReserveStatus, copy_status};
 ghost use Rattle.lis_c.specs.Steps.{IsNotOutOfMemory, IsOutOfMemory, ReportsRefusedFrame, MakesStep};
@@ -203,8 +203,10 @@ pub extern "C" fn lis_receiver_set_ready(s: &mut LisReceiver, readiness: u8) -> 
 pub extern "C" fn lis_receiver_reserve(s: &mut LisReceiver, bytes: u64) -> u8
     ensures status { ReserveStatus result bytes }
     ensures spare { result ≡ OK → bytes ≤ spare_of s.new.state.receiver }
+    ensures exact { result ≡ OK → spare_of s.new.state.receiver ≡ max (spare_of s.old.state.receiver) bytes }
     ensures kept { spare_of s.old.state.receiver ≤ spare_of s.new.state.receiver }
     ensures refused { result ≡ OUT_OF_MEMORY → spare_of s.old.state.receiver < bytes }
+    ensures same { result ≢ OK → kept_by s.new.state.receiver ≡ kept_by s.old.state.receiver }
     ensures state { (r : ReceiverState) → Receives s.old.state.receiver r → Receives s.new.state.receiver r }
     ensures text { s.new.state.text ≡ s.old.state.text }
     ensures limit { receiver_limit s.new.state.receiver ≡ receiver_limit s.old.state.receiver }

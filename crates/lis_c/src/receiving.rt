@@ -1,6 +1,6 @@
 //! A receiver of the usual limit on a frame's text, or of the long one.
 
-ghost use Rattle.std.specs.Prelude.{◌≡◌, ◌≢◌, ◌≤◌, ◌<◌, ◌∷◌, length, take, IfOk, OnErr, OnOk};
+ghost use Rattle.std.specs.Prelude.{◌≡◌, ◌≢◌, ◌≤◌, ◌<◌, ◌∷◌, length, max, take, IfOk, OnErr, OnOk};
 ghost use Rattle.lis_c.specs.Limits.{NewReceiver, Receives, kept_by, receiver_limit, spare_of};
 ghost use Rattle.lis_link.specs.declared.receiver.Note.TheVariants as Notes;
 ghost use Rattle.lis_link.specs.Receiver.{ReceiverState, held_length, on_byte, on_bytes, on_receiver_timer};
@@ -88,7 +88,9 @@ impl AnyReceiver {
     pub(crate) fn reserve(&mut self, bytes: u64) -> Result<(), AllocError>
         requires { bytes ≤ longest_text }
         ensures ok { OnOk result (bytes ≤ spare_of self.new) }
+        ensures exact { OnOk result (spare_of self.new ≡ max (spare_of self.old) bytes) }
         ensures refused { OnErr result (spare_of self.old < bytes) }
+        ensures same { OnErr result (kept_by self.new ≡ kept_by self.old) }
         ensures state { (r : ReceiverState) → Receives self.old r → Receives self.new r }
         ensures spare { spare_of self.old ≤ spare_of self.new }
         ensures limit { receiver_limit self.new ≡ receiver_limit self.old }
