@@ -46,6 +46,8 @@ pub extern "C" fn lis_reader_next(
         ReadsNext s.old.state.reader s.new.state.reader left bytes.now result out.new parts.old parts.new table.new }
     ensures none { result ≡ 0 → (s.new.state ≡ s.old.state) × (out.new ≡ nothing) × (parts.new ≡ parts.old)
         × (table.new ≡ no_table) }
+    ensures clear { 0 < result → (s.old.state.reader.fault ≡ None) × (s.old.state.reader.held ≡ [])
+        × (s.old.state.reader.split ≡ None) }
     ensures refused { result ≡ 0 → (left : Option Begun) → HasLeft s.old.state.reader left
         → s.old.state.reader.held ≡ [] → s.old.state.reader.split ≡ None → (text following : List ℕ) → LacksReturn text
         → bytes.now ≡ text ++ 13 ∷ following → IsRecordRefused left text }
@@ -81,6 +83,8 @@ impl ReaderHandleState {
             ReadsNext self.old.reader self.new.reader left bytes.now result out.new parts.old parts.new table.new }
         ensures none { result ≡ 0 → (self.new ≡ self.old) × (out.new ≡ nothing) × (parts.new ≡ parts.old)
             × (table.new ≡ no_table) }
+        ensures clear { 0 < result → (self.old.reader.fault ≡ None) × (self.old.reader.held ≡ [])
+            × (self.old.reader.split ≡ None) }
         ensures refused { result ≡ 0 → (left : Option Begun) → HasLeft self.old.reader left
             → self.old.reader.held ≡ [] → self.old.reader.split ≡ None → (text following : List ℕ) → LacksReturn text
             → bytes.now ≡ text ++ 13 ∷ following → IsRecordRefused left text }
