@@ -5,8 +5,8 @@ use Rattle.lis_engine.specs.declared.fault.ToolFault.{ToolFault}
 use Rattle.lis_report.specs.Answers.{Report}
 use Rattle.lis_run.specs.CaptureRuns.{CaptureRan}
 use Rattle.lis_run.specs.Replay.{replay_writes, texts_writes}
-use Rattle.lis_engine.specs.Runs.{KnownPorts, Shown}
-use Rattle.lis_run.specs.Show.{show}
+use Rattle.lis_engine.specs.Runs.{HasRun, KnownPorts, Shown}
+use Rattle.lis_run.specs.Show.{Shows, show}
 use Rattle.lis_run.specs.Upgrade.{upgrade_writes}
 use Rattle.lis_commands.specs.declared.commands.Command.{Command}
 use Rattle.lis_commands.specs.declared.commands.Command.TheVariants.{Show, Check, Results, Replay, Texts, Upgrade}
@@ -17,7 +17,8 @@ use Rattle.lis_commands.specs.Words.{limit_by}
 
 -- how it ran, by what is known of its ports before and after it
 abbrev pub CommandRan : Command → (old new : KnownPorts) → Result Report ToolFault → Type 0
-CommandRan (Show long) old new result = Shown (show (limit_by long)) old new result
+CommandRan (Show long) old new result =
+    HasRun false (Shows (limit_by long)) old new result × Shown (show (limit_by long)) old new result
 CommandRan Check old new result = MessagesRan check_writes old new result
 CommandRan Results old new result = MessagesRan results_writes old new result
 CommandRan (Replay long) old new result = CaptureRan true (replay_writes (limit_by long)) old new result
