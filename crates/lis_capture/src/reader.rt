@@ -153,6 +153,7 @@ impl LineReader {
         ensures found { (past : List ℕ) → HasRead self.old past →
             capture past true ≡ found_lines (capture past false) result self.new.known.line }
         ensures known { (past : List ℕ) → HasRead self.old past → self.new.known ≡ known_of (capture past true) }
+        ensures held { self.old.known.refused ≡ false → self.new.held ≡ [] }
     {
         if self.progress.refused {
             return LineFound::Refused;
