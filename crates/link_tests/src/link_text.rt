@@ -21,7 +21,8 @@ fn texts_are_at_most_65536(rt: HostRuntime) {
 
 #[test]
 fn a_link_text_is_tested_for_its_length_first(rt: HostRuntime) {
-    let long = vec![in rt.alloc(); 0x41; 1_048_577].expect(&rt, "memory");
+    let mut long = vec![in rt.alloc(); 0x41; 1_048_576].expect(&rt, "memory");
+    assert!(rt; long.push(b'\n').is_ok());
     assert!(rt; check_text(long.as_slice()) == Err(TextFault::TooLong));
     let (most, _) = long.as_slice().split_at(1_048_576);
     assert!(rt; check_text(most).is_ok());
