@@ -69,6 +69,15 @@ fn assert_read(rt: &impl Abort, capture: &[u8], want: (u64, bool)) {
 }
 
 #[test]
+fn the_last_line_is_reported_once(rt: HostRuntime) {
+    let mut reader = LineReader::new();
+    assert!(rt; reader.read(b"> 05") == (4, LineFound::Nothing));
+    assert!(rt; reader.finish() == LineFound::Line);
+    assert!(rt; reader.finish() == LineFound::Nothing);
+    assert!(rt; reader.number() == 1);
+}
+
+#[test]
 fn lines_of_both_versions(rt: HostRuntime) {
     for (capture, want) in &CAPTURES {
         assert_read(&rt, *capture, *want);

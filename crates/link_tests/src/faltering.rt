@@ -41,24 +41,28 @@ fn a_faltering_writer_fails_at_a_flush(rt: HostRuntime) {
     assert!(rt; room.as_slice() == b"abcd".as_slice());
 }
 
+/// How a writer fails, each with the kind that `Once` reports.
+const REPORTED: [(ErrorKind, ErrorKind); 2] = [
+    (ErrorKind::Interrupted, ErrorKind::Other),
+    (ErrorKind::BrokenPipe, ErrorKind::BrokenPipe),
+];
+
 #[test]
-fn an_interrupted_write_is_reported_once(rt: HostRuntime) {
-    let mut room = [0; 4];
-    let mut writer = Once::new(Faltering::new(room.as_mut_slice(), 0, ErrorKind::Interrupted));
-    let failed = writer.write(b"ab");
-    assert!(rt; failed.is_err_and(|error| error.kind() == ErrorKind::Other));
-    assert!(rt; matches!(writer.write(b"cd"), Ok(2)));
-    assert!(rt; matches!(writer.write(b"efg"), Ok(2)));
-    assert!(rt; room.as_slice() == b"cdef".as_slice());
+fn a_write_that_fails_is_reported_once(rt: HostRuntime) {
+    for (kind, reported) in &REPORTED {
+        let mut room = [0; 4];
+        let mut writer = Once::new(Faltering::new(room.as_mut_slice(), 0, *kind));
+        let failed = writer.write(b"ab");
+        assert!(rt; failed.is_err_and(|error| error.kind() == *reported));
+        assert!(rt; matches!(writer.write(b"cd"), Ok(2)));
+        assert!(rt; matches!(writer.write(b"efg"), Ok(2)));
+        assert!(rt; room.as_slice() == b"cdef".as_slice());
+    }
 }
 
 #[test]
 fn a_flush_that_fails_is_reported_once(rt: HostRuntime) {
-    let kinds = [
-        (ErrorKind::Interrupted, ErrorKind::Other),
-        (ErrorKind::BrokenPipe, ErrorKind::BrokenPipe),
-    ];
-    for (kind, reported) in &kinds {
+    for (kind, reported) in &REPORTED {
         let mut room = [0; 4];
         let mut writer = Once::new(Faltering::new(room.as_mut_slice(), 1, *kind));
         assert!(rt; matches!(writer.write(b"ab"), Ok(2)));
@@ -133,6 +137,16 @@ fn a_source_that_reads_ahead_reports_its_end(rt: HostRuntime) {
     assert!(rt; source.read(&mut buffer) == Ok(0));
     assert!(rt; source.ended() && !source.failed());
     assert!(rt; source.made() == 3);
+}
+
+#[test]
+fn all_that_was_read_ahead_is_given(rt: HostRuntime) {
+    let mut buffer = [0; 2];
+    let reader = BufReader::with_capacity(rt.alloc(), 4, b"abcd".as_slice());
+    let mut source = ReadAhead::new(reader.expect(&rt, "memory"));
+    assert!(rt; source.read(&mut buffer[..1]) == Ok(1));
+    assert!(rt; source.read(&mut buffer) == Ok(2));
+    assert!(rt; buffer.as_slice() == b"bc".as_slice());
 }
 
 #[test]

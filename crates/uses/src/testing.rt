@@ -1,9 +1,9 @@
 //! Devices for tests: a line in memory on which the events of a script happen, with a store, and a log of all that was
 //! done on it.
 
-ghost use Rattle.std.specs.Prelude.{◌≡◌, ◌∷◌, [], None, Some, MatchOption, if◌then◌else◌, map};
-ghost use Rattle.uses.specs.Connection.{GoesOn, keeping};
-ghost use Rattle.uses.specs.Scripted.{log_event_of, log_of};
+ghost use Rattle.std.specs.Prelude.{◌≡◌, ◌∷◌, [], None, Some, MatchOption, drop, if◌then◌else◌, map};
+ghost use Rattle.uses.specs.Connection.{GoesOn, keeping, reconnected, sent, timed, waited};
+ghost use Rattle.uses.specs.Scripted.{log_event_of, log_of, next_answer, next_event};
 
 use crate::connection::{Connection, Event, Host};
 use lis_text::LinkText;
@@ -43,6 +43,7 @@ impl<'a> ScriptedConnection<'a> {
     pub fn new(alloc: Global, events: &'a [Event]) -> Self
         ensures log { log_of result.is_whole result.entries.items ≡ Some [] }
         ensures events { result.events ≡ events.entry }
+        ensures answers { result.answers.now ≡ [] }
     {
         ScriptedConnection {
             alloc,
@@ -77,8 +78,9 @@ impl<'a> ScriptedConnection<'a> {
 
     /// Adds an entry to the log.
     fn add(&mut self, entry: Entry)
-        ensures { GoesOn (log_of self.old.is_whole self.old.entries.items)
+        ensures log { GoesOn (log_of self.old.is_whole self.old.entries.items)
             (log_of self.new.is_whole self.new.entries.items) (log_event_of entry ∷ []) }
+        ensures script { (self.new.events ≡ self.old.events) × (self.new.answers ≡ self.old.answers) }
     {
         if self.is_whole {
             self.is_whole = self.entries.push(entry).is_ok();
@@ -89,22 +91,40 @@ impl<'a> ScriptedConnection<'a> {
 impl Connection for ScriptedConnection<'_> {
     ghost event_log = { λ line. log_of line.is_whole line.entries.items };
 
-    fn send(&mut self, bytes: &[u8]) {
+    fn send(&mut self, bytes: &[u8])
+        ensures log { GoesOn (log_of self.old.is_whole self.old.entries.items)
+            (log_of self.new.is_whole self.new.entries.items) (sent bytes.now ∷ []) }
+        ensures script { (self.new.events ≡ self.old.events) × (self.new.answers ≡ self.old.answers) }
+    {
         match Vec::from_slice(self.alloc, bytes) {
             Ok(bytes) => self.add(Entry::Sent(bytes)),
             Err(_) => self.is_whole = false,
         }
     }
 
-    fn start_timer(&mut self, seconds: u32) {
+    fn start_timer(&mut self, seconds: u32)
+        ensures log { GoesOn (log_of self.old.is_whole self.old.entries.items)
+            (log_of self.new.is_whole self.new.entries.items) (timed seconds ∷ []) }
+        ensures script { (self.new.events ≡ self.old.events) × (self.new.answers ≡ self.old.answers) }
+    {
         self.add(Entry::Timed(seconds));
     }
 
-    fn reconnect(&mut self) {
+    fn reconnect(&mut self)
+        ensures log { GoesOn (log_of self.old.is_whole self.old.entries.items)
+            (log_of self.new.is_whole self.new.entries.items) (reconnected ∷ []) }
+        ensures script { (self.new.events ≡ self.old.events) × (self.new.answers ≡ self.old.answers) }
+    {
         self.add(Entry::Reconnected);
     }
 
-    fn wait(&mut self) -> Event {
+    fn wait(&mut self) -> Event
+        ensures log { GoesOn (log_of self.old.is_whole self.old.entries.items)
+            (log_of self.new.is_whole self.new.entries.items) (waited result ∷ []) }
+        ensures event { result ≡ next_event self.old.events.now }
+        ensures events { self.new.events.now ≡ drop 1 self.old.events.now }
+        ensures answers { self.new.answers ≡ self.old.answers }
+    {
         let event = match self.events.split_first() {
             Some((event, rest)) => {
                 self.events = rest;
@@ -118,7 +138,13 @@ impl Connection for ScriptedConnection<'_> {
 }
 
 impl Host for ScriptedConnection<'_> {
-    fn keep(&mut self, text: &LinkText) -> bool {
+    fn keep(&mut self, text: &LinkText) -> bool
+        ensures log { GoesOn (log_of self.old.is_whole self.old.entries.items)
+            (log_of self.new.is_whole self.new.entries.items) (keeping text.now result ∷ []) }
+        ensures answer { result ≡ next_answer self.old.answers.now }
+        ensures answers { self.new.answers.now ≡ drop 1 self.old.answers.now }
+        ensures events { self.new.events ≡ self.old.events }
+    {
         let is_kept = match self.answers.split_first() {
             Some((answer, rest)) => {
                 self.answers = rest;
