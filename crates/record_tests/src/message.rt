@@ -1,6 +1,9 @@
-//! What no contract and no conformance row says: messages of very many records, a message's results, its copy.
+//! What no contract and no conformance row says: messages of very many records, a message's results, its copy, and what
+//! follows a query.
 
 use lis_message::{Message, MessageReader, PlacedResult, TextsFault, message_texts, read_messages};
+use lis_record::Kind;
+use lis_tree::Position;
 use std::alloc::Global;
 use std::mem::drop;
 use std::process::Abort;
@@ -88,4 +91,9 @@ fn a_copied_message_is_the_same(rt: HostRuntime) {
     let fed = read_messages(rt.alloc(), PANEL);
     assert_copied(&rt, rt.alloc(), fed.messages.get(0));
     drop(fed);
+}
+
+#[test]
+fn what_follows_a_query_is_under_it(rt: HostRuntime) {
+    assert!(rt; Position::InHeader.after(Kind::Q) == Some(Position::InQuery));
 }
