@@ -289,6 +289,12 @@ class Refusals(kit.Test):
     def test_commands(self):
         try_commands(self.shim, self.lislink, self)
 
+    def test_room_is_used_again(self):
+        for name in ("replay", "texts"):
+            once, often = (self.shim.run([self.lislink, name], SESSION * count, armed=1).table["growths"]
+                           for count in (1, 600))
+            self.need(0 < once == often, lambda: f"{name} takes memory for each text: {once} growths, then {often}")
+
     def test_lists(self):
         try_tests(self.shim, kit.built("record_tests"), self)
 
