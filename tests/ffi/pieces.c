@@ -80,6 +80,7 @@ static void check_refused(lis_reader *s) {
     if (lis_reader_read(s, bytes + 6, 3, &found) != 3 || lis_reader_read(s, bytes + 9, 1, &found) != 0) fail("read it");
     if (found.kind != LIS_FOUND_REFUSED || found.reason != LIS_REASON_NO_PARENT) fail("reason");
     if (lis_reader_records(s, bytes, 12, entries, RECORDS, parts, ROOM, &count) != 0 || count != 0) fail("after it");
+    if (lis_reader_records(s, bytes + 10, 2, entries, RECORDS, parts, ROOM, &count) != 0 || count != 0) fail("an end");
 }
 
 int main(void) {
