@@ -1,5 +1,6 @@
 -- What a reader of captures keeps.
-use Rattle.std.specs.Prelude.{◌≡◌, ℕ, ◌<◌, ◌≤◌, Bool, true, false, List, [], ◌∷◌, length, take, Option, IfSome}
+use Rattle.std.specs.Prelude.{◌≡◌, ℕ, ◌+◌, ◌<◌, ◌≤◌, Bool, true, false, List, [], ◌∷◌, length, take, Option, IfSome}
+use Rattle.std.specs.Prelude.{MatchOption}
 use Rattle.memchr.specs.Find.{IsFirstByte, is_byte}
 use Rattle.lis_text.specs.Control.{LF}
 use Rattle.lis_text.specs.Capped.{capped}
@@ -47,6 +48,12 @@ abbrev pub found_lines : Lines → LineFound → Line → Lines
 found_lines read found.Nothing line = read
 found_lines read found.Line line = record { lines = line ∷ read.lines; refused = false }
 found_lines read found.Refused line = record { lines = read.lines; refused = true }
+
+-- so many of these bytes: with the first LF, or all where there is none
+pub record ReadsLine (bytes : List ℕ) (count : ℕ) : Type 0 where
+  pub place : Option ℕ
+  pub first : IsFirstByte (is_byte LF) bytes place
+  pub count_is : MatchOption place (count ≡ length bytes) (λ p. count ≡ p + 1)
 
 -- the reader has read so many of further bytes, which end a line that says something
 pub record CopiesLine (old new : Reading) (bytes : List ℕ) (count : ℕ) : Type 0 where

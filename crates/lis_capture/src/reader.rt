@@ -7,7 +7,7 @@ ghost use Rattle.lis_frame.specs.Stream.{stream_with};
 ghost use Rattle.lis_capture.specs.Capture.{Lines, capture};
 ghost use Rattle.lis_capture.specs.Line.{line_of, reports_bytes};
 ghost use Rattle.lis_capture.specs.Encoding.{added_encoding};
-ghost use Rattle.lis_capture.specs.Reader.{CopiesLine, EndsOther, HasRead, found_lines, known_of};
+ghost use Rattle.lis_capture.specs.Reader.{CopiesLine, EndsOther, HasRead, ReadsLine, found_lines, known_of};
 ghost use Rattle.lis_capture.specs.inside.Reader.{found_holding, found_of, holding_more, known_with};
 
 use crate::encoding::LONGEST_ENCODING;
@@ -105,6 +105,7 @@ impl LineReader {
         ensures all { result.1 ≡ LineFound.Nothing → result.0 ≡ length bytes.now }
         ensures some { result.1 ≡ LineFound.Line → 0 < result.0 }
         ensures refused { IsTrue self.old.known.refused → (result.0 ≡ 0) × (result.1 ≡ LineFound.Refused) }
+        ensures line { self.old.known.refused ≡ false → ReadsLine bytes.now result.0 }
         ensures found { (past : List ℕ) → HasRead self.old past →
             capture (stream_with past (take result.0 bytes.now)) false
             ≡ found_lines (capture past false) result.1 self.new.known.line }
