@@ -55,6 +55,21 @@ def is_without_texts(answer, wanted):
     return rest.split(" written=", 1)[1] == parts[1]
 
 
+class Build(Plain):
+    """A message of its records. Memory runs out at a later record for each later growth, and never at the header, which
+    takes none."""
+
+    before = 1
+
+    def holds(self, answers):
+        found = re.fullmatch(r"fault (\d+)\.OutOfMemory", answers[0])
+        if not found:
+            return Plain.holds(self, answers)
+        earlier, self.before = self.before, int(found[1])
+        # The call has the delimiters and the records.
+        return earlier < self.before <= len(self.call.split()) - 2 and Plain.holds(self, answers)
+
+
 class Start(Plain):
     """A start of a sender: the texts are refused before it, or the answer behind it."""
 
@@ -235,5 +250,5 @@ def split_messages(text):
     return text.split(" message ")[1:]
 
 
-TRIALS = {"sender.start": Start, "receiver.bytes": Hear, "receiver.reserve": Reserve, "message.feed": Feed,
-          "message.read": Read}
+TRIALS = {"sender.start": Start, "receiver.bytes": Hear, "receiver.reserve": Reserve, "message.build": Build,
+          "message.feed": Feed, "message.read": Read}
