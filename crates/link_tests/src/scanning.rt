@@ -80,3 +80,22 @@ fn scanning_pieces_reports_what_the_stream_reports(rt: HostRuntime) {
     assert_cut::<240>(&rt, &long, (1, 0, Some(FrameFault::TooLong)));
     assert_cut::<63_993>(&rt, &long, (1, 241, None));
 }
+
+#[test]
+fn a_mark_is_found_at_each_place_of_a_long_run(rt: HostRuntime) {
+    // A frame is open, and letters follow with a mark: LF reports a bad frame, STX begins anew.
+    for place in 1..200 {
+        for (mark, want) in &[
+            (10, (1, 0, Some(FrameFault::Shape))),
+            (2, (0, 0, None)),
+            (4, (1, 0, None)),
+            (5, (1, 0, None)),
+        ] {
+            let mut bytes = [b'A'; 200];
+            bytes[0] = 2;
+            bytes[place] = *mark;
+            let mut scanner = ScannerOf::<240>::new();
+            assert!(rt; scanned(&mut scanner, &bytes, (0, 0, None)) == *want);
+        }
+    }
+}

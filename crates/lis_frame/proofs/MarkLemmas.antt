@@ -1,6 +1,7 @@
 -- The bytes that are read wherever they are: sixteen tested at once.
-use Rattle.std.proofs.Common.{◌≡◌, ℕ, ◌%◌, ◌^◌, Bool, true, false, cond, eqb, List, length, map, replicate, bit_or}
-use Rattle.std.proofs.Common.{refl, ap, ◌∙◌, arith}
+use Rattle.std.proofs.Common.{◌≡◌, ℕ, ◌+◌, ◌*◌, ◌%◌, ◌^◌, Bool, true, false, cond, eqb, leb, List, [], ◌∷◌, length}
+use Rattle.std.proofs.Common.{map, replicate, bit_or, refl, ap, ◌∙◌, arith}
+use Rattle.std.proofs.lemmas.Bool.Decides.{nat_tests}
 use Rattle.std.specs.Prelude.{◌||◌}
 use Rattle.std.specs.Simd.Lanes.{zip2, mask_l, top}
 use Rattle.std.proofs.lemmas.Simd.{zip2_splat, zip2_of_maps, map-map, mask_l-mod}
@@ -59,3 +60,16 @@ lanes-marks xs long =
     ∙ ap (λ (ms : List Bool). mask_l ms % 2 ^ 64) (map-map (top 7) lane_of_mark xs
     ∙ same_map (λ b. top 7 (lane_of_mark b)) is_mark lane_of_mark_top xs)
     ∙ mask_l-mod (map is_mark xs) 64 (omega (arith, length-map xs is_mark))
+
+-- where no byte is under 11, none is a mark
+pub none_mark : (xs : List ℕ) → mask_l (map (λ b. leb b 10) xs) ≡ 0 → mask_l (map is_mark xs) ≡ 0
+none_mark [] none = refl
+none_mark (b ∷ xs) none = by (leb b 10) refl none (none_mark xs)
+  where
+    by :
+        (low : Bool) → leb b 10 ≡ low → cond low 1 0 + 2 * mask_l (map (λ b. leb b 10) xs) ≡ 0 →
+        (mask_l (map (λ b. leb b 10) xs) ≡ 0 → mask_l (map is_mark xs) ≡ 0) → mask_l (map is_mark (b ∷ xs)) ≡ 0
+    by true t none later = absurd (omega arith)
+    by false t none later =
+        let other : is_mark b ≡ false = grind (arith, nat_tests, t) in
+        rw other (omega (arith, later (omega arith)))

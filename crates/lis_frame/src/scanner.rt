@@ -12,7 +12,7 @@ use crate::borrowed::BorrowedFrame;
 use crate::frame::{FrameFault, FrameOf};
 use crate::frame_body::FrameBodyOf;
 use crate::read::front_frame;
-use lis_text::{ByteSet, ENQ, EOT, LF, STX, first_in};
+use lis_text::{ByteSet, ENQ, EOT, LF, STX, are_over, first_in};
 use std::marker::Model;
 use std::simd::prelude::*;
 
@@ -79,6 +79,12 @@ impl ByteSet for Marks {
         let ends = sixteen.simd_eq(u8x16::splat(EOT)) | sixteen.simd_eq(u8x16::splat(ENQ));
         (starts | ends).to_bitmask()
     }
+
+    #[inline(always)]
+    fn lacks(bytes: &[u8]) -> bool {
+        // No byte over LF is a mark.
+        are_over(bytes, LF)
+    }
 }
 
 /// How many bytes are before the next mark.
@@ -86,6 +92,13 @@ fn until_mark(bytes: &[u8]) -> usize
     ensures length { result ≡ unmarked_length bytes.now }
     ensures bound { result ≤ length bytes.now }
 {
+    // Where there are no frames, many runs are short.
+    if bytes.len() >= 16 {
+        let bits = Marks::bits(bytes);
+        if bits != 0 {
+            return bits.trailing_zeros() as usize;
+        }
+    }
     match first_in::<Marks>(bytes) {
         Some(place) => place,
         None => bytes.len(),

@@ -1,4 +1,5 @@
 pub mod ListLemmas
 pub mod SearchLemmas
+pub mod OverLemmas
 pub mod SumLemmas
 pub mod TextLemmas

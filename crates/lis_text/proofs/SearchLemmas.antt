@@ -1,7 +1,8 @@
 -- The first place that passes a test, by the lanes of a vector.
 use Rattle.std.proofs.Common.{append-nil, ◌≡◌, ℕ, zero, suc, ◌+◌, ◌-◌, ◌*◌, ◌≤◌, ◌<◌, Bool, true, false, cond, List, []}
 use Rattle.std.proofs.Common.{◌∷◌, ◌++◌, Option, None, Some, length, map, take, drop, length-take, take-append-drop}
-use Rattle.std.proofs.Common.{refl, sym, arith, zero-add, add-zero}
+use Rattle.std.proofs.Common.{refl, ap, sym, ◌∙◌, arith, length-drop, zero-add, add-zero}
+use Rattle.std.proofs.lemmas.List.{drop-drop}
 use Rattle.std.specs.Prelude.{nat_lt, not}
 use Rattle.std.specs.List.{position_from, prefix_len}
 use Rattle.std.specs.Option.{option_map}
@@ -10,6 +11,7 @@ use Rattle.std.specs.Int.Count.{count_trailing_zeros}
 use Rattle.std.proofs.lemmas.Simd.{leading_from_mask_l, trailing_mask_l}
 use Rattle.std.proofs.lemmas.List.Sums.{prefix_len-le-length}
 use Rattle.std.proofs.lemmas.Bool.Decides.{nat_tests}
+use Rattle.lis_text.specs.inside.Search.{Passed}
 
 -- a run in which no byte passes is passed over
 position-none :
@@ -111,11 +113,6 @@ module _ (f : ℕ → Bool) (xs : List ℕ) where
           cc
       by false t = grind (arith, nat_tests, t, prefix_len-le-length (λ x. not (f x)) xs)
 
--- what was passed holds no byte of the set
-pub record Passed (f : ℕ → Bool) (place : ℕ) (rest bytes : List ℕ) : Type 0 where
-  pub fits : place + length rest ≡ length bytes
-  pub same : position_from f 0 bytes ≡ position_from f place rest
-
 -- the same by the mask of a vector's lanes
 pub passed-chunk :
     (f : ℕ → Bool) (i n : ℕ) (xs : List ℕ) → n ≤ length xs → mask_l (map f (take n xs)) ≡ 0 →
@@ -124,6 +121,20 @@ passed-chunk f i n xs room none =
     let long : length (take n xs) ≡ n = omega (arith, length-take n xs) in
     let passed = position-none f i (take n xs) (drop n xs) (leading_from_mask_l f (take n xs) none) in
     rw (take-append-drop n xs, long) at passed
+
+-- a run that holds no byte of the set is passed over
+pub passes :
+    (f : ℕ → Bool) (n place : ℕ) (rest following bytes : List ℕ) → Passed f place rest bytes → n ≤ length rest
+    → following ≡ drop n rest → mask_l (map f (take n rest)) ≡ 0 → Passed f (place + n) following bytes
+passes f n place rest following bytes passed room is none = record {
+  following = is ∙ ap (drop n) passed.following ∙ drop-drop n place bytes;
+  fits = rw is (omega (arith, length-drop n rest, room, passed.fits));
+  same = rw is (passed.same ∙ passed-chunk f place n rest room none);
+}
+
+-- nothing was passed yet
+pub passed_none : (f : ℕ → Bool) (bytes : List ℕ) → Passed f 0 bytes bytes
+passed_none f bytes = record { following = refl; fits = omega arith; same = refl }
 
 positive : (m : ℕ) → (m ≡ 0 → ⊥) → 0 < m
 positive zero some = absurd (some refl)

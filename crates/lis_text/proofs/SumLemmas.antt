@@ -1,13 +1,14 @@
 -- Sums modulo 256: kept apart in the lanes of a vector, and of the bytes before a place.
 use Rattle.std.proofs.Common.{◌≡◌, ℕ, zero, suc, ◌+◌, ◌-◌, ◌%◌, Bool, true, false, cond, List, [], ◌∷◌}
-use Rattle.std.proofs.Common.{length, map, take, drop, replicate, refl, ap, ◌∙◌, arith, zero-add, take-add}
+use Rattle.std.proofs.Common.{length, map, take, drop, replicate, refl, ap, sym, ◌∙◌, ◌≤◌, arith, zero-add, take-add}
 use Rattle.std.specs.Prelude.{nat_lt}
 use Rattle.std.specs.List.{sum, range_with_len}
 use Rattle.std.specs.Simd.Lanes.{zip2, fold_l, sel_l, sum_l, top}
 use mir.Syntax.{w8}
-use Rattle.std.proofs.lemmas.Simd.{tops_compared, zip2_splat}
+use Rattle.std.proofs.lemmas.Simd.{length-zip2, tops_compared, zip2_splat}
 use Rattle.std.proofs.lemmas.List.Sums.{sum_by-cons, sum_by-append}
 use Rattle.std.proofs.lemmas.Bool.Decides.{nat_tests}
+use Rattle.lis_text.proofs.OverLemmas.{part_long, parts_are}
 
 pub sum_l-sum : (xs : List ℕ) → sum_l xs ≡ sum xs
 sum_l-sum [] = refl
@@ -90,7 +91,7 @@ sum-before place count bytes =
 -- by what the lanes hold of the bytes before a place, the sum of those before a further one
 pub lanes-before :
     (place count : ℕ) (bytes lanes more : List ℕ) → length lanes ≡ length more →
-    sum_l lanes % 256 ≡ sum (take place bytes) % 256 → sum_l more ≡ sum (take count (drop place bytes)) →
+    sum_l lanes % 256 ≡ sum (take place bytes) % 256 → sum_l more % 256 ≡ sum (take count (drop place bytes)) % 256 →
     sum_l (zip2 {C = ℕ} (λ (a b : ℕ). (a + b) % 256) lanes more) % 256 ≡ sum (take (place + count) bytes) % 256
 lanes-before place count bytes lanes more long total added =
     omega (arith, zip-wrapped lanes more long, total, added, sum-before place count bytes)
@@ -102,3 +103,49 @@ pub wrapped-before :
     (fold_l (λ (s x : ℕ). (s + x) % 256) 0 lanes + more) % 256 ≡ sum (take (place + count) bytes) % 256
 wrapped-before place count bytes lanes more total added =
     omega (arith, fold-lanes lanes, total, added, sum-before place count bytes)
+
+-- four times sixteen bytes, added lane by lane
+pub four-summed :
+    (bytes second third fourth : List ℕ) → 64 ≤ length bytes → second ≡ drop 16 bytes → third ≡ drop 16 second
+    → fourth ≡ drop 16 third
+    → (sum_l (zip2 {C = ℕ} (λ (a b : ℕ). (a + b) % 256)
+    (zip2 {C = ℕ} (λ (a b : ℕ). (a + b) % 256) (take 16 bytes) (take 16 second))
+    (zip2 {C = ℕ} (λ (a b : ℕ). (a + b) % 256) (take 16 third) (take 16 fourth))) % 256
+    ≡ sum (take 64 bytes) % 256)
+    × (length (zip2 {C = ℕ} (λ (a b : ℕ). (a + b) % 256)
+    (zip2 {C = ℕ} (λ (a b : ℕ). (a + b) % 256) (take 16 bytes) (take 16 second))
+    (zip2 {C = ℕ} (λ (a b : ℕ). (a + b) % 256) (take 16 third) (take 16 fourth))) ≡ 16)
+four-summed bytes second third fourth many is_second is_third is_fourth =
+    let plus : ℕ → ℕ → ℕ = λ (a b : ℕ). (a + b) % 256 in
+    let at = parts_are bytes second third fourth is_second is_third is_fourth in
+    let a = part_long 0 bytes bytes refl (omega arith) in
+    let b = part_long 16 bytes second is_second (omega arith) in
+    let c = part_long 32 bytes third at.0 (omega arith) in
+    let d = part_long 48 bytes fourth at.1 (omega arith) in
+    let front_long = length-zip2 plus (take 16 bytes) (take 16 second) (a ∙ sym b) ∙ a in
+    let back_long = length-zip2 plus (take 16 third) (take 16 fourth) (c ∙ sym d) ∙ c in
+    let all_long = length-zip2 plus (zip2 plus (take 16 bytes) (take 16 second))
+    (zip2 plus (take 16 third) (take 16 fourth)) (front_long ∙ sym back_long) ∙ front_long in
+    let front = zip-wrapped (take 16 bytes) (take 16 second) (a ∙ sym b) in
+    let back = zip-wrapped (take 16 third) (take 16 fourth) (c ∙ sym d) in
+    let all = zip-wrapped (zip2 plus (take 16 bytes) (take 16 second)) (zip2 plus (take 16 third) (take 16 fourth))
+    (front_long ∙ sym back_long) in
+    let first = sum_l-sum (take 16 bytes) in
+    let next = sum_l-sum (take 16 second) ∙ ap (λ (l : List ℕ). sum (take 16 l)) is_second in
+    let further = sum_l-sum (take 16 third) ∙ ap (λ (l : List ℕ). sum (take 16 l)) at.0 in
+    let last = sum_l-sum (take 16 fourth) ∙ ap (λ (l : List ℕ). sum (take 16 l)) at.1 in (
+      omega (
+        arith,
+        all,
+        front,
+        back,
+        first,
+        next,
+        further,
+        last,
+        sum-before 16 16 bytes,
+        sum-before 32 16 bytes,
+        sum-before 48 16 bytes,
+      ),
+      all_long,
+    )

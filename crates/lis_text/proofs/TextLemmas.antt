@@ -94,7 +94,7 @@ lanes-forbidden xs long =
     ∙ mask_l-mod (map is_forbidden xs) 64 (omega (arith, length-map xs is_forbidden))
 
 -- where no byte is under 24, none is forbidden
-none_low : (xs : List ℕ) → mask_l (map (λ b. leb b 23) xs) ≡ 0 → 0 ≡ mask_l (map is_forbidden xs)
+pub none_low : (xs : List ℕ) → mask_l (map (λ b. leb b 23) xs) ≡ 0 → 0 ≡ mask_l (map is_forbidden xs)
 none_low [] none = refl
 none_low (b ∷ xs) none = by (leb b 23) refl none (none_low xs)
   where

@@ -3,3 +3,4 @@ pub mod Control
 pub mod Text
 pub mod LinkText
 pub mod Capped
+pub mod inside

@@ -12,5 +12,5 @@ mod text;
 pub use control::{ACK, CR, ENQ, EOT, ETB, ETX, LF, NAK, STX};
 pub use link_text::{LONGEST_TEXT, LinkText, MOST_TEXTS, TextRefused, Texts, check_text};
 pub use list::List;
-pub use search::{ByteSet, first_and_sum, first_in, sum_of};
+pub use search::{ByteSet, are_over, first_and_sum, first_in, sum_of};
 pub use text::{TextFault, check_bytes, first_forbidden, text_and_sum};

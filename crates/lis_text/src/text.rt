@@ -5,7 +5,7 @@ ghost use Rattle.std.specs.List.{sum};
 ghost use Rattle.std.specs.Option.{unwrap_or};
 ghost use Rattle.lis_text.specs.Text.{first_forbidden, is_forbidden, text_fault};
 
-use crate::search::{ByteSet, first_and_sum, first_in};
+use crate::search::{ByteSet, are_over, first_and_sum, first_in};
 use std::simd::prelude::*;
 use thiserror::Error;
 
@@ -41,6 +41,12 @@ impl ByteSet for ForbiddenBytes {
         let line_feed = sixteen.simd_eq(u8x16::splat(10));
         let high = sixteen.simd_ge(u8x16::splat(16)) & sixteen.simd_le(u8x16::splat(23));
         (low | line_feed | high).to_bitmask()
+    }
+
+    #[inline(always)]
+    fn lacks(bytes: &[u8]) -> bool {
+        // No byte over 23 is forbidden.
+        are_over(bytes, 23)
     }
 }
 

@@ -1,5 +1,5 @@
 use Rattle.std.proofs.Common.{ℕ, None, Some, not, sym, ◌∙◌, arith}
-use Rattle.lis_text.proofs.SearchLemmas.{passed-chunk, found-chunk, position-following}
+use Rattle.lis_text.proofs.SearchLemmas.{passes, found-chunk, position-following}
 use Rattle.lis_record_values.specs.Text.{is_text_byte}
 use Rattle.lis_record_read.proofs.BadBytes.{found_bound}
 use Rattle.lis_record_read.proofs.search.first_bad.Goals as goal
@@ -13,14 +13,10 @@ returns-then-bits-ne0 c =
     c.loop-rest-test.true (rw bits at c.if-bits-ne0.true)))
 
 pub loop-rest-preserved : goal.loop-rest-preserved
-loop-rest-preserved c = record {
-  fits = omega (arith, c.split_at.ensures.back_len, c.loop-rest.invariant.fits);
-  same =
-      rw c.split_at.ensures.back
-      (c.loop-rest.invariant.same
-      ∙ passed-chunk (λ b. not (is_text_byte b)) c.loop-rest.place 32 c.loop-rest.rest.now c.loop-rest-test.true
-      (rw c.in-Some.ensures at c.if-bits-ne0.false));
-}
+loop-rest-preserved c =
+    passes (λ b. not (is_text_byte b)) 32 c.loop-rest.place c.loop-rest.rest.now c.split_at.result.1.now
+    c.args.bytes.now c.loop-rest.invariant c.loop-rest-test.true c.split_at.ensures.back
+    (rw c.in-Some.ensures at c.if-bits-ne0.false)
 
 pub returns-in-None : goal.returns-in-None
 returns-in-None c =

@@ -1,5 +1,5 @@
 use Rattle.std.proofs.Common.{length}
-use Rattle.lis_text.proofs.SearchLemmas.{Passed}
+use Rattle.lis_text.specs.inside.Search.{Passed}
 use Rattle.lis_text.proofs.search.first_in.Given as goal
 
 abbrev pub invariant-loop-rest : goal.invariant-loop-rest

@@ -1,0 +1,112 @@
+-- Sixty-four bytes that are over a limit, by the least of each four that are sixteen apart.
+use Rattle.std.proofs.Common.{◌≡◌, ℕ, zero, suc, ◌+◌, ◌*◌, ◌%◌, ◌^◌, ◌≤◌, ◌<◌, Bool, true, false, cond, leb, ltb}
+use Rattle.std.proofs.Common.{List, [], ◌∷◌, ◌++◌, length, map, take, drop, replicate, length-take, length-drop}
+use Rattle.std.proofs.Common.{refl, ap, sym, ◌∙◌, arith}
+use Rattle.std.proofs.Math.Seq.{take-add}
+use Rattle.std.proofs.lemmas.List.{drop-drop}
+use Rattle.std.specs.Simd.Lanes.{mask_l, sel_l, top, zip2}
+use mir.Syntax.{w8}
+use Rattle.std.proofs.lemmas.Simd.{bitmask_splat}
+use Rattle.std.proofs.lemmas.Bool.Decides.{nat_tests}
+
+-- the lesser of two vectors
+abbrev pub lesser : List ℕ → List ℕ → List ℕ
+lesser xs ys = sel_l (map (top 7) (zip2 {C = ℕ} (λ a b. cond (ltb a b) 255 0) xs ys)) xs ys
+
+length-lesser : (n : ℕ) (xs ys : List ℕ) → length xs ≡ n → length ys ≡ n → length (lesser xs ys) ≡ n
+length-lesser n [] [] one two = one
+length-lesser n [] (y ∷ ys) one two = absurd (omega arith)
+length-lesser n (x ∷ xs) [] one two = absurd (omega arith)
+length-lesser zero (x ∷ xs) (y ∷ ys) one two = absurd (omega arith)
+length-lesser (suc n) (x ∷ xs) (y ∷ ys) one two = ap suc (length-lesser n xs ys (omega arith) (omega arith))
+
+-- the places that hold a byte up to the limit, as bits
+abbrev low : ℕ → List ℕ → ℕ
+low limit xs = mask_l (map (λ b. leb b limit) xs)
+
+both_over :
+    (limit x y rest : ℕ) (m : Bool) → ltb x y ≡ m
+    → cond (leb (cond (top 7 (cond m 255 0)) x y) limit) 1 0 + 2 * rest ≡ 0
+    → (leb x limit ≡ false) × (leb y limit ≡ false) × (rest ≡ 0)
+both_over limit x y rest true less none = by (leb x limit) refl none
+  where
+    by : (t : Bool) → leb x limit ≡ t → cond t 1 0 + 2 * rest ≡ 0
+        → (leb x limit ≡ false) × (leb y limit ≡ false) × (rest ≡ 0)
+    by true is none = absurd (omega arith)
+    by false is none = (is, grind (arith, nat_tests, is, less), omega arith)
+both_over limit x y rest false less none = by (leb y limit) refl none
+  where
+    by : (t : Bool) → leb y limit ≡ t → cond t 1 0 + 2 * rest ≡ 0
+        → (leb x limit ≡ false) × (leb y limit ≡ false) × (rest ≡ 0)
+    by true is none = absurd (omega arith)
+    by false is none = (grind (arith, nat_tests, is, less), is, omega arith)
+
+-- where none of the lesser is up to the limit, none of both is
+none_low : (limit n : ℕ) (xs ys : List ℕ) → length xs ≡ n → length ys ≡ n → low limit (lesser xs ys) ≡ 0
+    → (low limit xs ≡ 0) × (low limit ys ≡ 0)
+none_low limit n [] [] one two none = (refl, refl)
+none_low limit n [] (y ∷ ys) one two none = absurd (omega arith)
+none_low limit n (x ∷ xs) [] one two none = absurd (omega arith)
+none_low limit zero (x ∷ xs) (y ∷ ys) one two none = absurd (omega arith)
+none_low limit (suc n) (x ∷ xs) (y ∷ ys) one two none =
+    let heads = both_over limit x y (low limit (lesser xs ys)) (ltb x y) refl none in
+    let tails = none_low limit n xs ys (omega arith) (omega arith) heads.2 in (
+      rw heads.0 (omega (arith, tails.0)),
+      rw heads.1 (omega (arith, tails.1)),
+    )
+
+none_joined : (limit : ℕ) (xs ys : List ℕ) → low limit xs ≡ 0 → low limit ys ≡ 0 → low limit (xs ++ ys) ≡ 0
+none_joined limit [] ys first second = second
+none_joined limit (x ∷ xs) ys first second = by (leb x limit) first (λ none. none_joined limit xs ys none second)
+  where
+    by : (t : Bool) → cond t 1 0 + 2 * low limit xs ≡ 0 → (low limit xs ≡ 0 → low limit (xs ++ ys) ≡ 0)
+        → cond t 1 0 + 2 * low limit (xs ++ ys) ≡ 0
+    by true first later = absurd (omega arith)
+    by false first later = omega (arith, later (omega arith))
+
+-- four times sixteen bytes, each sixteen after those before them
+pub parts_are :
+    (bytes second third fourth : List ℕ) → second ≡ drop 16 bytes → third ≡ drop 16 second → fourth ≡ drop 16 third
+    → (third ≡ drop 32 bytes) × (fourth ≡ drop 48 bytes)
+parts_are bytes second third fourth is_second is_third is_fourth =
+    let third_is : third ≡ drop 32 bytes = is_third ∙ ap (drop 16) is_second ∙ drop-drop 16 16 bytes in
+    (third_is, is_fourth ∙ ap (drop 16) third_is ∙ drop-drop 16 32 bytes)
+
+pub part_long : (n : ℕ) (bytes part : List ℕ) → part ≡ drop n bytes → n + 16 ≤ length bytes → length (take 16 part) ≡ 16
+part_long n bytes part is many = rw is (omega (arith, length-take 16 (drop n bytes), length-drop n bytes))
+
+four_parts : (bytes : List ℕ) → take 64 bytes
+    ≡ take 16 bytes ++ (take 16 (drop 16 bytes) ++ (take 16 (drop 32 bytes) ++ take 16 (drop 48 bytes)))
+four_parts bytes =
+    take-add 16 48 bytes
+    ∙ ap (λ (l : List ℕ). take 16 bytes ++ l)
+    (take-add 16 32 (drop 16 bytes)
+    ∙ ap (λ (l : List ℕ). take 16 (drop 16 bytes) ++ l)
+    (ap (take 32) (drop-drop 16 16 bytes) ∙ take-add 16 16 (drop 32 bytes)
+    ∙ ap (λ (l : List ℕ). take 16 (drop 32 bytes) ++ take 16 l) (drop-drop 16 32 bytes)))
+
+pub four_over :
+    (limit : ℕ) (bytes second third fourth : List ℕ) → limit < 256 → 64 ≤ length bytes → second ≡ drop 16 bytes
+    → third ≡ drop 16 second → fourth ≡ drop 16 third
+    → mask_l (map (top 7) (zip2 {C = ℕ} (λ a b. cond (leb a b) 255 0)
+    (lesser (lesser (take 16 bytes) (take 16 second)) (lesser (take 16 third) (take 16 fourth))) (replicate 16 limit)))
+    % 2 ^ 64 ≡ 0
+    → low limit (take 64 bytes) ≡ 0
+four_over limit bytes second third fourth fits many is_second is_third is_fourth none =
+    let at = parts_are bytes second third fourth is_second is_third is_fourth in
+    let a = part_long 0 bytes bytes refl (omega arith) in
+    let b = part_long 16 bytes second is_second (omega arith) in
+    let c = part_long 32 bytes third at.0 (omega arith) in
+    let d = part_long 48 bytes fourth at.1 (omega arith) in
+    let front = lesser (take 16 bytes) (take 16 second) in
+    let back = lesser (take 16 third) (take 16 fourth) in
+    let front_long = length-lesser 16 (take 16 bytes) (take 16 second) a b in
+    let back_long = length-lesser 16 (take 16 third) (take 16 fourth) c d in
+    let all_long = length-lesser 16 front back front_long back_long in
+    let least : low limit (lesser front back) ≡ 0 =
+    sym (bitmask_splat w8 leb (lesser front back) 16 limit all_long (omega arith)) ∙ none in
+    let halves = none_low limit 16 front back front_long back_long least in
+    let first = none_low limit 16 (take 16 bytes) (take 16 second) a b halves.0 in
+    let last = none_low limit 16 (take 16 third) (take 16 fourth) c d halves.1 in
+    rw (four_parts bytes, ← is_second, ← at.0, ← at.1)
+    (none_joined limit _ _ first.0 (none_joined limit _ _ first.1 (none_joined limit _ _ last.0 last.1)))
