@@ -95,6 +95,11 @@ impl OutputBuffer {
         ensures value { self.new ≡ self.old ++ decimal number }
         ensures short { length self.new ≤ length self.old + NUMBER_ROOM }
     {
+        // Many numbers have one digit: no call is made for them.
+        if number < 10 {
+            self.append(&[b'0' + number as u8]);
+            return;
+        }
         let mut buffer = Buffer::new();
         self.append(buffer.format(number).as_bytes());
     }
