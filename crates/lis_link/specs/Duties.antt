@@ -22,3 +22,7 @@ timer_seconds AwaitLine = Some 15
 timer_seconds AwaitReply = Some 15
 timer_seconds Busy = Some 10
 timer_seconds Contention = Some 1
+
+-- the seconds that a receiver whose line is open waits for a frame or EOT
+abbrev pub receiver_seconds : ℕ
+receiver_seconds = 30

@@ -1,6 +1,6 @@
 //! The source over a buffered reader.
 
-ghost use Rattle.std.specs.Prelude.{◌≡◌, ◌≢◌, ◌<◌, ◌≤◌, ◌==◌, [], Ok, false, length};
+ghost use Rattle.std.specs.Prelude.{◌≡◌, ◌≢◌, ◌<◌, ◌≤◌, ◌==◌, [], Ok, false, length, min};
 ghost use Rattle.std.specs.Io.Buffered.{reader_buffer, reader_remaining};
 ghost use Rattle.std.specs.Io.KnownBytes.{ReadConsumes};
 ghost use Rattle.lis_port.specs.declared.port.Failed.{Failed};
@@ -43,11 +43,12 @@ impl<R: Read> ReadAhead<R> {
     }
 }
 
-/// Gives bytes that are there.
+/// Gives bytes that are there, as many as there is room for.
 fn give<R: Read>(reader: &mut BufReader<R>, buffer: &mut [u8]) -> usize
     requires there { reader_buffer reader.old ≢ [] }
     requires room { 0 < length buffer.old }
     ensures some { 0 < result }
+    ensures all { result ≡ min (length (reader_buffer reader.old)) (length buffer.new) }
     ensures bound { result ≤ length buffer.new }
     ensures bytes { ReadConsumes {E = Failed} (reader_remaining R.remaining reader.old)
         (reader_remaining R.remaining reader.new) (Ok result) buffer.new }
