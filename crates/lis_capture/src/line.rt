@@ -97,6 +97,7 @@ impl<'a> LineBytes<'a> {
             Keeping::Bytes => self.kept,
             Keeping::Digits => {
                 let (bytes, _) = room.split_at_mut(self.kept.len() / 2);
+                // What is kept as digits is pairs of them, so all are read.
                 let _read = decode(self.kept, bytes);
                 bytes
             }

@@ -312,6 +312,7 @@ impl<const N: usize, T: Teller> LineMachine for Playing<N, T> {
                 self.compare(sink, outgoing, written, number, sent)
             }
             Line::Timer => {
+                // It gives no reply and no text, and no line is written of its note.
                 let _ = self.receiver.timer();
                 Ok(Turn::On(written))
             }

@@ -239,7 +239,8 @@ impl<const N: usize> ComputerStateOf<N> {
     fn hear(&mut self, unit: &TravellingOf<N>, bytes: &[u8]) -> Result<(), AllocError>
         ensures { (r : ReceiverState) → IsIn N self.old.receiver r →
             OnlyLoad unit.now.load (signals_after N r.past bytes.now) →
-            OnOk result (IsComputerState N self.new (hears N unit.now.session bytes.now (computer_state_at self.old r))) }
+            OnOk result (IsComputerState N self.new
+            (hears N unit.now.session bytes.now (computer_state_at self.old r))) }
     {
         let mut taken = 0;
         while taken < bytes.len() {
