@@ -6,7 +6,10 @@ import subprocess
 HERE = os.path.dirname(os.path.abspath(__file__))
 ROOT = os.path.dirname(HERE)
 # The instructions that the kit's compiler may use, so that all programs have the same.
-RUSTC = ["rustc", "--edition", "2024", "-O", "-C", "codegen-units=1", "-C", "panic=abort", "-C", "target-cpu=x86-64-v2"]
+RUSTC = ["rustc", "--edition", "2024", "-O", "-C", "codegen-units=1", "-C", "panic=abort", "--check-cfg", "cfg(tuned)"]
+SAME = ["-C", "target-cpu=x86-64-v2"]
+# Those of newer processors, which the tuned peer has.
+NEWER = ["-C", "target-cpu=x86-64-v3", "--cfg", "tuned"]
 
 
 def proved(name):
@@ -25,11 +28,22 @@ def vectors():
     return proved("vectors")
 
 
+def compiled(work, name, options):
+    program = os.path.join(work, name)
+    subprocess.run([*RUSTC, *options, "-o", program, os.path.join(HERE, "peer/main.rs")], check=True)
+    return program
+
+
 def peer(work):
     """The independent program, compiled."""
-    program = os.path.join(work, "peer")
-    subprocess.run([*RUSTC, "-o", program, os.path.join(HERE, "peer/main.rs")], check=True)
-    return program
+    return compiled(work, "peer", SAME)
+
+
+def tuned(work):
+    """The same with loops for AVX2 by hand, compiled; none on a processor that has no AVX2."""
+    with open("/proc/cpuinfo", encoding="ascii", errors="replace") as lines:
+        has_avx2 = any(line.startswith("flags") and " avx2 " in line for line in lines)
+    return compiled(work, "tuned", NEWER) if has_avx2 else None
 
 
 def printed_by(*words):

@@ -13,6 +13,18 @@ pub fn find(bytes: &[u8], fits: impl Fn(u8) -> bool) -> Option<usize> {
     bytes[passed..].iter().position(|byte| fits(*byte)).map(|place| passed + place)
 }
 
+/// The place of the first byte that fits, and the sum of the bytes before it.
+#[inline(always)]
+pub fn find_and_sum(bytes: &[u8], fits: impl Fn(u8) -> bool) -> Option<(usize, u8)> {
+    let place = find(bytes, fits)?;
+    Some((place, bytes[..place].iter().fold(0, |sum, byte| sum.wrapping_add(*byte))))
+}
+
+/// What is between the bytes that are a delimiter.
+pub fn split(bytes: &[u8], delimiter: u8) -> impl Iterator<Item = &[u8]> {
+    bytes.split(move |byte| *byte == delimiter)
+}
+
 /// Whether a byte fits.
 #[inline(always)]
 pub fn any(bytes: &[u8], fits: impl Fn(u8) -> bool) -> bool {
@@ -27,7 +39,7 @@ pub fn count(bytes: &[u8], wanted: u8) -> usize {
 
 /// Writes two lower-case digits for each byte. Both are made at once, the high one in the low half of a word.
 #[inline]
-fn write_digits(bytes: &[u8], digits: &mut [u8]) {
+pub fn write_digits(bytes: &[u8], digits: &mut [u8]) {
     for (pair, byte) in digits.as_chunks_mut().0.iter_mut().zip(bytes) {
         let values = u16::from(byte >> 4) | u16::from(byte & 15) << 8;
         let letters = (values + 0x0606) >> 4 & 0x0101;

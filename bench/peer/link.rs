@@ -1,6 +1,6 @@
 //! The bytes of the link: signals, frames and what is wrong with one.
 
-use crate::bytes::{digit_value, find};
+use crate::bytes::{digit_value, find, find_and_sum};
 
 pub const STX: u8 = 0x02;
 pub const ETX: u8 = 0x03;
@@ -59,8 +59,8 @@ fn is_mark(byte: u8) -> bool {
 impl<'a> Frame<'a> {
     /// The frame of a number's digit, a text without forbidden bytes, an end and the two digits of the sum.
     #[inline]
-    fn summed(digit: u8, text: &'a [u8], end: u8, sum: [u8; 2]) -> Option<Frame<'a>> {
-        let value = text.iter().fold(digit.wrapping_add(end), |sum, byte| sum.wrapping_add(*byte));
+    fn summed(digit: u8, text: &'a [u8], text_sum: u8, end: u8, sum: [u8; 2]) -> Option<Frame<'a>> {
+        let value = text_sum.wrapping_add(digit).wrapping_add(end);
         let good = digit_value(sum[0]) == value >> 4 && digit_value(sum[1]) == value & 15;
         good.then_some(Frame { number: digit - b'0', last: end == ETX, text })
     }
@@ -71,12 +71,13 @@ impl<'a> Frame<'a> {
 #[inline]
 fn front_frame(bytes: &[u8], limit: usize) -> Option<(Frame<'_>, &[u8])> {
     let (digit @ b'0'..=b'7', rest) = bytes.split_first()? else { return None };
-    let (text, rest) = rest.split_at(find(rest, is_forbidden)?);
+    let (place, text_sum) = find_and_sum(rest, is_forbidden)?;
+    let (text, rest) = rest.split_at(place);
     let (&[end @ (ETB | ETX), high, low, CR, LF], rest) = rest.split_first_chunk()? else { return None };
     if text.len() > limit {
         return None;
     }
-    Some((Frame::summed(*digit, text, end, [high, low])?, rest))
+    Some((Frame::summed(*digit, text, text_sum, end, [high, low])?, rest))
 }
 
 /// Reads the bytes between STX and LF.
@@ -94,7 +95,8 @@ fn read_frame(stretch: &[u8], limit: usize) -> Result<Frame<'_>, Fault> {
     if let Some(place) = find(text, is_forbidden) {
         return Err(Fault::Text(place));
     }
-    Frame::summed(*digit, text, end, [high, low]).ok_or(Fault::Sum)
+    let text_sum = text.iter().fold(0, |sum: u8, byte| sum.wrapping_add(*byte));
+    Frame::summed(*digit, text, text_sum, end, [high, low]).ok_or(Fault::Sum)
 }
 
 /// Reads a stream cut anywhere. A frame that stands whole in the bytes handed in is lent from there; one that was cut

@@ -2,7 +2,7 @@
 //! come of it once it is whole.
 
 use crate::Report;
-use crate::bytes::{Lines, any, count};
+use crate::bytes::{Lines, any, count, split};
 use crate::link::CR;
 use crate::ports::{Output, Piece, Stop, each_piece};
 use std::fmt;
@@ -58,8 +58,7 @@ impl<'a> Record<'a> {
 
     /// The fields, the first of which has number 2.
     pub fn fields(&self) -> Option<impl Iterator<Item = &'a [u8]> + use<'a>> {
-        let delimiter = self.delimiters.field;
-        Some(self.fields.get(1..)?.split(move |byte| *byte == delimiter))
+        Some(split(self.fields.get(1..)?, self.delimiters.field))
     }
 
     fn field(&self, number: usize) -> Option<&'a [u8]> {
