@@ -100,10 +100,10 @@ def of_commands(found):
 
 
 def of_limits(found):
-    """What the bare loops make, and what AVX2 does: about what is left to gain."""
+    """What the bare loops make, and what AVX2 does."""
     rows = [row for row in found.rows if ratio_of(row, "bare")]
     if rows:
-        yield from ["### What is left to gain", "", "Times the peer, of the rows that the peer has a bare loop for:", ""]
+        yield from ["### Bare loops", "", "Times the peer, of the rows that the peer has a bare loop for:", ""]
         of = [["peer", "ours"], ["peer", "bare"], ["peer", "tuned"], ["bare", "ours"]]
         yield from table(["command", "input", "`lislink`", "bare loop", "tuned peer", "`lislink`, times the bare loop"],
                          [[f"`{row.command}`", row.made.name, *(f"{it.middle:.2f}" if it else NONE

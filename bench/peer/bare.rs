@@ -1,6 +1,6 @@
-//! Bare loops: what `show`, `replay`, `texts` and `upgrade` print of good frames and whole lines, by the least that
-//! safe code can do: each byte is looked at once or twice, sixteen at a time, and nothing else may come, at which the
-//! program stops. How much faster they are than the whole program is about what is left to gain on this processor.
+//! Bare loops: what `show`, `replay`, `texts` and `upgrade` print of good frames and whole lines, by plain safe loops.
+//! Nothing else may come, at which the program stops. They show what plain code gains where it has no other case to
+//! mind; they are no bound on what a program can do.
 
 use crate::link::{ACK, CR, ENQ, EOT, ETB, ETX, LF, STX};
 use crate::ports::{Input, Output, Stop};
