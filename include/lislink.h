@@ -102,7 +102,7 @@ LIS_ENUM(lis_status) {
     LIS_STATUS_PUT_NOT_HEADER = 14,     /* outside a message a header comes first */
     LIS_STATUS_PUT_NO_PARENT = 15,      /* an order belongs under a patient, a result under an order */
     LIS_STATUS_PUT_SECOND_HEADER = 16,  /* the message has its header */
-    LIS_STATUS_OLD_LINE = 17            /* a session failed on this connection; of lis_line_start alone */
+    LIS_STATUS_OLD_LINE = 17            /* no connection yet, or a session failed on it; of lis_line_start */
 } LIS_ENUM_END(lis_status);
 
 /* Bytes for the link: the first `len` of `bytes`; 0 if nothing is to be sent. */
@@ -486,8 +486,8 @@ void lis_reader_end(lis_reader s);
  * the reader gives that fault for good; to read another stream, call _end and _init. It holds one record's bytes at
  * most. */
 size_t lis_reader_read(lis_reader *s, const uint8_t *bytes, size_t bytes_len, lis_found *out);
-/* A component of the record that was read last, as by lis_record_part. Each call reads the record from its beginning:
- * lis_reader_parts gives all components in one pass. */
+/* A component of the record that was read last, as by lis_record_part; LIS_STATUS_NO_RECORD if none was found last. Each
+ * call reads the record from its beginning: lis_reader_parts gives all components in one pass. */
 lis_status lis_reader_part(lis_reader *s, size_t field, size_t repeat, size_t component, uint8_t *out, size_t out_len,
                            size_t *size);
 /* The parts of a record that was read: how many they are, how many bytes its text has, and its delimiters. */
@@ -563,10 +563,11 @@ lis_status lis_writer_field(lis_writer *s, const uint8_t *bytes, size_t bytes_le
  * LIS_STATUS_FORBIDDEN and `field` is the number of the first field at fault, LIS_STATUS_TOO_LONG, LIS_STATUS_FULL or
  * LIS_STATUS_OUT_OF_MEMORY. `field` is always written, else 0. After a closing record the next message begins. */
 lis_status lis_writer_put(lis_writer *s, size_t *field);
-/* How many texts there are, one for each record; a copy of one with its CR, by its place from 0: LIS_STATUS_OK,
- * LIS_STATUS_ABSENT, or LIS_STATUS_TOO_SHORT, which a buffer of LIS_LIMIT_RECORD_BYTES + 1 bytes never is. `size` is
- * always written, 0 but with OK. */
+/* How many texts there are, one for each record; how many bytes one has with its CR, by its place from 0 (0 if there
+ * are not so many texts); a copy of one: LIS_STATUS_OK, LIS_STATUS_ABSENT, or LIS_STATUS_TOO_SHORT, which a buffer of
+ * that length, or of LIS_LIMIT_RECORD_BYTES + 1 bytes, never is. `size` is always written, 0 but with OK. */
 size_t lis_writer_texts(lis_writer *s);
+size_t lis_writer_text_len(lis_writer *s, size_t place);
 lis_status lis_writer_text(lis_writer *s, size_t place, uint8_t *out, size_t out_len, size_t *size);
 
 /* ---- Words, for logs. These calls are plain C (examples/c/names.c), tested and not proved. ---- */

@@ -289,7 +289,8 @@ public:
     void add(std::string_view text) { detail::check(try_add(text)); }
     std::string_view start() {
         std::string_view enq;
-        detail::check(try_start(enq), fault_.index, fault_.place);
+        lis_status status = try_start(enq);
+        detail::check(status, fault_.index, fault_.place);
         return enq;
     }
 #endif
@@ -652,11 +653,10 @@ public:
     std::size_t size() noexcept { return lis_writer_texts(get()); }
     // The text of a record that was put, with its CR; none if there are not so many.
     std::optional<std::string> text(std::size_t place) {
-        std::string out(LIS_LIMIT_RECORD_BYTES + 1, '\0');
+        std::string out(lis_writer_text_len(get(), place), '\0');
         std::size_t size = 0;
         if (lis_writer_text(get(), place, detail::at(out), out.size(), &size) != LIS_STATUS_OK)
             return std::nullopt;
-        out.resize(size);
         return out;
     }
 };

@@ -27,7 +27,7 @@ const char *lis_status_text(lis_status status) {
         [LIS_STATUS_PUT_NOT_HEADER] = "outside a message a header comes first",
         [LIS_STATUS_PUT_NO_PARENT] = "the record has no parent in the message",
         [LIS_STATUS_PUT_SECOND_HEADER] = "the message has its header",
-        [LIS_STATUS_OLD_LINE] = "a session failed on this connection: take a new one",
+        [LIS_STATUS_OLD_LINE] = "a session starts on a new connection: none was made yet, or a session failed on this one",
     };
     return WORDS(words, status);
 }

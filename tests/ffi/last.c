@@ -49,6 +49,8 @@ static void has_none(of_reader *s) {
     lis_part part, before;
     uint8_t byte = 0xa5;
     size_t size = 7;
+    CHECK(lis_reader_part(&s->handle, 2, 0, 0, &byte, 1, &size) == LIS_STATUS_NO_RECORD && size == 0 && byte == 0xa5);
+    size = 7;
     memset(&before, 0xa5, sizeof before);
     part = before;
     memset(&s->table, 0xa5, sizeof s->table);

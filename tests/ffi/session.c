@@ -51,6 +51,9 @@ static void write_message(lis_writer *writer) {
     for (size_t i = 0; i < 5; i++)
         SAME(lis_writer_text(writer, i, texts[i], sizeof texts[i], &sizes[i]) == LIS_STATUS_OK);
     SAME(lis_writer_text(writer, 5, texts[0], sizeof texts[0], &field) == LIS_STATUS_ABSENT);
+    for (size_t i = 0; i < 5; i++)
+        SAME(lis_writer_text_len(writer, i) == sizes[i] && sizes[i] > 0);
+    SAME(lis_writer_text_len(writer, 5) == 0);
 }
 
 /* What goes back: the reply, 0 for none; a text is kept as long as `room` is over 0. */

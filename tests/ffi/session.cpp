@@ -81,6 +81,25 @@ static void fail_to_keep(lislink::sender &sender, lislink::receiver &receiver, c
     sender.clear();
 }
 
+// An error of start names the text and the byte that no text may hold.
+static void throw_in_start(lislink::sender &sender) {
+    sender.connected();
+    add(sender, {"H|\\^&\r", "P|1\nx\r"});
+    try {
+        sender.start();
+        SAME(!"LF is refused");
+    } catch (const lislink::error &refused) {
+        SAME(refused.status() == LIS_STATUS_FORBIDDEN && refused.index() == 1 && refused.place() == 3);
+    }
+    sender.clear();
+}
+
+// A text of a writer has the room that it needs, not that of the longest record.
+static void keep_little_room(lislink::writer &writer) {
+    for (std::size_t place = 0; place < writer.size(); place++)
+        SAME(writer.text(place).value().capacity() < 256);
+}
+
 static void throw_in_keep(lislink::receiver &receiver) {
     std::string replies;
     auto send = [&](std::uint8_t byte) { replies.push_back(static_cast<char>(byte)); };
@@ -179,6 +198,8 @@ int main() {
     std::vector<std::string> texts = texts_of(writer);
     lislink::sender first, sender = std::move(first);
     lislink::receiver other, receiver = std::move(other);
+    keep_little_room(writer);
+    throw_in_start(sender);
     fail_to_keep(sender, receiver, texts);
     throw_in_keep(receiver);
     std::string store;

@@ -14,7 +14,7 @@ use Rattle.lis_message.specs.declared.records.RecordFound.TheVariants as founds
 use Rattle.lis_message.specs.Kept.{RecordsState}
 use Rattle.lis_message.specs.Records.{Reads}
 use Rattle.lis_c.specs.Records.{IsPart, IsTextCopied, part_at, record_place, record_status}
-use Rattle.lis_c.specs.Status.{OK, UNFINISHED, ABSENT, NO_RECORD}
+use Rattle.lis_c.specs.Status.{OK, UNFINISHED, NO_RECORD}
 use Rattle.lis_c.specs.declared.reader.LisFound.{LisFound}
 
 -- the bytes before the first CR, or a CR that is first: by the place of the first CR, and how many bytes there are
@@ -88,7 +88,8 @@ new_reader = record { opened = None; held = []; split = None; split_text = []; f
 -- a part of the record that was read last
 abbrev pub IsSplitPart : Option (Borrowed RecordContent) → (field repeat component : ℕ) → (status : ℕ)
     (before after : List ℕ) (size : ℕ) → Type 0
-IsSplitPart None field repeat component status before after size = (status ≡ ABSENT) × (after ≡ before) × (size ≡ 0)
+IsSplitPart None field repeat component status before after size =
+    (status ≡ NO_RECORD) × (after ≡ before) × (size ≡ 0)
 IsSplitPart (Some entry) field repeat component status before after size =
     IsPart (part_at entry.content field repeat component) status before after size
 

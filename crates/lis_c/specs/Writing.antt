@@ -120,6 +120,11 @@ pub record IsPut (old new : WriterHandleState) : Type 0 where
   pub none_left : new.record_builder ≡ None
   pub text : new.texts ≡ old.texts ++ written old.delimiters record_builder.entry ∷ []
 
+-- the length of a text by its place
+abbrev pub length_if_any : Option (List ℕ) → ℕ
+length_if_any None = 0
+length_if_any (Some text) = length text
+
 -- a text by its place
 abbrev pub IsTextAt : Option (List ℕ) → (status : ℕ) (before after : List ℕ) (size : ℕ) → Type 0
 IsTextAt None status before after size = (status ≡ ABSENT) × (after ≡ before) × (size ≡ 0)

@@ -1,6 +1,5 @@
 -- What proofs and private functions speak of. No public contract cites it.
 pub mod Feeding
-pub mod Borrowed
 pub mod Reports
 pub mod Signals
 pub mod Steps

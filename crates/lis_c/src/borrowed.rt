@@ -2,7 +2,7 @@
 
 ghost use Rattle.std.specs.Prelude.{◌≡◌, ◌≤◌, length};
 ghost use Rattle.lis_c.specs.Borrowed.{borrowed_bytes};
-ghost use Rattle.lis_c.specs.inside.Borrowed.{session_texts};
+ghost use Rattle.lis_c.specs.Borrowed.{session_texts};
 
 use lis_link::SessionTexts;
 use lis_text::Texts;

@@ -114,8 +114,8 @@ pub extern "C" fn lis_reader_read(s: &mut LisReader, bytes: &[u8], out: &mut Lis
     s.borrow().read(piece, out)
 }
 
-/// Copies the bytes of a component of the record that was read last, as `lis_record_part` does. Each call reads the
-/// record from its beginning: `lis_reader_parts` gives all components in one pass.
+/// Copies the bytes of a component of the record that was read last, as `lis_record_part` does; `NO_RECORD` if none was
+/// found last. Each call reads the record from its beginning: `lis_reader_parts` gives all components in one pass.
 #[unsafe(no_mangle)]
 pub extern "C" fn lis_reader_part(
     s: &mut LisReader,
@@ -129,10 +129,10 @@ pub extern "C" fn lis_reader_part(
     ensures same { s.new.state ≡ s.old.state }
 {
     *size = 0;
-    match s.borrow().reader.split() {
-        None => status::ABSENT,
-        Some(entry) => copy_part(&entry, field, repeat, component, out, size),
-    }
+    let Some(entry) = s.borrow().reader.split() else {
+        return status::NO_RECORD;
+    };
+    copy_part(&entry, field, repeat, component, out, size)
 }
 
 /// Copies the text of the record that was read last, without its CR, to the front of a buffer, and says how many bytes

@@ -3,7 +3,7 @@
 ghost use Rattle.std.specs.Prelude.{◌≡◌, ◌≤◌, ◌+◌, None, Some, MatchResult};
 ghost use Rattle.lis_c.specs.Emitted.{FrameCopied, HoldsEmitted};
 ghost use Rattle.lis_c.specs.Limits.{sender_limit, sender_state, with_state};
-ghost use Rattle.lis_c.specs.inside.Borrowed.{session_texts};
+ghost use Rattle.lis_c.specs.Borrowed.{session_texts};
 ghost use Rattle.lis_link.specs.Duties.{emitted_bytes};
 ghost use Rattle.lis_link.specs.Sender.{awaited, new_sender, on_reply, on_sender_timer, sender_restarted};
 ghost use Rattle.lis_link.specs.Sender.{start_fault, started};

@@ -5,7 +5,8 @@ ghost use Rattle.lis_c.specs.declared.record_builder.WriterHandleState.{WriterHa
 ghost use Rattle.lis_c.specs.New.{IsNewWriter, type_align};
 ghost use Rattle.lis_c.specs.Records.{delimiters_in};
 ghost use Rattle.lis_c.specs.Status.{BAD_DELIMITERS, BAD_LETTER, OK};
-ghost use Rattle.lis_c.specs.Writing.{BeginStatus, IsPut, IsTextAt, PartStatus, PutStatus, put_fault};
+ghost use Rattle.lis_c.specs.Writing.{BeginStatus, IsPut, IsTextAt, PartStatus, PutStatus, length_if_any};
+ghost use Rattle.lis_c.specs.Writing.{put_fault};
 ghost use Rattle.lis_c.specs.contracts.record_builder.WriterHandleState.{the_row as handle_state_row};
 ghost use Rattle.lis_record_values.specs.Delimiters.{IsDelimiters};
 ghost use Rattle.lis_record_values.specs.Kinds.{kind_of};
@@ -155,6 +156,18 @@ pub extern "C" fn lis_writer_texts(s: &mut LisWriter) -> usize
     ensures same { s.new.state ≡ s.old.state }
 {
     s.borrow().texts.len()
+}
+
+/// How many bytes a text has, by its place from 0; 0 if there are not so many texts, for no text is empty.
+#[unsafe(no_mangle)]
+pub extern "C" fn lis_writer_text_len(s: &mut LisWriter, place: usize) -> usize
+    ensures value { result ≡ length_if_any (slice_get s.old.state.texts place) }
+    ensures same { s.new.state ≡ s.old.state }
+{
+    match s.borrow().texts.get(place) {
+        None => 0,
+        Some(text) => text.len(),
+    }
 }
 
 /// Copies a text, by its place from 0, to the front of a buffer, and says how many bytes it has: `OK`, `ABSENT`, or

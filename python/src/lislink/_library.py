@@ -100,6 +100,7 @@ _CALLS: Dict[str, Any] = {
     "writer_field": (_BYTE, _POINTER, _POINTER, _SIZE),
     "writer_put": (_BYTE, _POINTER, _POINTER),
     "writer_texts": (_SIZE, _POINTER),
+    "writer_text_len": (_SIZE, _POINTER, _SIZE),
     "writer_text": (_BYTE, _POINTER, _SIZE, _POINTER, _SIZE, _POINTER),
     "sender_set_limit": (_BYTE, _POINTER, _SIZE),
     "sender_frame": (_BYTE, _POINTER, _POINTER, _SIZE, _POINTER),

@@ -474,6 +474,7 @@ extern "C" {
     pub fn lis_writer_field(s: *mut lis_writer, bytes: *const u8, bytes_len: usize) -> lis_status;
     pub fn lis_writer_put(s: *mut lis_writer, field: *mut usize) -> lis_status;
     pub fn lis_writer_texts(s: *mut lis_writer) -> usize;
+    pub fn lis_writer_text_len(s: *mut lis_writer, place: usize) -> usize;
     pub fn lis_writer_text(
         s: *mut lis_writer,
         place: usize,

@@ -89,11 +89,11 @@ impl Writer {
 
     /// The text of a record, with its CR.
     pub fn text(&mut self, place: usize) -> Option<Vec<u8>> {
-        let (mut out, mut size) = (vec![0; sys::LIS_LIMIT_RECORD_BYTES as usize + 1], 0);
+        let len = unsafe { sys::lis_writer_text_len(self.0.get(), place) };
+        let (mut out, mut size) = (vec![0; len], 0);
         let status = unsafe {
             sys::lis_writer_text(self.0.get(), place, out.as_mut_ptr(), out.len(), &mut size)
         };
-        out.truncate(size);
         (Status::of(status) == Status::Ok).then_some(out)
     }
 
