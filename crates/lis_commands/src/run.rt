@@ -1,7 +1,7 @@
 //! A command, run by its name.
 
 ghost use Rattle.std.specs.Prelude.{◌≡◌, ◌≤◌, false, IfOk};
-ghost use Rattle.lis_engine.specs.Runs.{AreFresh, Stops};
+ghost use Rattle.lis_engine.specs.Runs.{AreFresh, Stops, ports};
 ghost use Rattle.lis_commands.specs.Commands.{CommandRan, closes, refuses};
 
 use crate::commands::Command;
@@ -25,11 +25,13 @@ pub fn run_command<R: SourceFor<W>, W: Sink>(
     sink: &mut W,
     reads: u32,
 ) -> Ended
-    requires { AreFresh (R.known_ports source.old sink.old) }
-    ensures ran { CommandRan command (R.known_ports source.old sink.old) (R.known_ports source.new sink.new) result }
-    ensures stops { Stops (refuses command) (closes command) (R.known_ports source.old sink.old)
-        (R.known_ports source.new sink.new)
-        reads result }
+    requires { AreFresh (ports R.left R.made R.ended R.failed W.taken W.sent W.failed source.old sink.old) }
+    ensures ran { CommandRan command
+        (ports R.left R.made R.ended R.failed W.taken W.sent W.failed source.old sink.old)
+        (ports R.left R.made R.ended R.failed W.taken W.sent W.failed source.new sink.new) result }
+    ensures stops { Stops (refuses command) (closes command)
+        (ports R.left R.made R.ended R.failed W.taken W.sent W.failed source.old sink.old)
+        (ports R.left R.made R.ended R.failed W.taken W.sent W.failed source.new sink.new) reads result }
     ensures status { IfOk result (λ report. report.status ≤ 1) }
 {
     match command {

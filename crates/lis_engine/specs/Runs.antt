@@ -26,6 +26,20 @@ pub record KnownPorts : Type 0 where
   pub sent : Option (List ℕ)
   pub sink_failed : Bool
 
+-- what is known of them by what each of the two types says of its own values
+abbrev pub ports : {R W : Type 0} → (left : R → Option (List ℕ)) (made : R → ℕ) (ended source_failed : R → Bool)
+    (taken sent : W → Option (List ℕ)) (sink_failed : W → Bool)
+    → R → W → KnownPorts
+ports left made ended source_failed taken sent sink_failed source sink = record {
+  left = left source;
+  made = made source;
+  ended = ended source;
+  source_failed = source_failed source;
+  taken = taken sink;
+  sent = sent sink;
+  sink_failed = sink_failed sink;
+}
+
 abbrev pub AreFresh : KnownPorts → Type 0
 AreFresh known_ports = IsFresh known_ports.made known_ports.ended known_ports.source_failed known_ports.sink_failed
 
@@ -106,7 +120,7 @@ pub record StopsBy {F : Type 0}
   pub all_read : ended ≡ true → IsAtEnd left
   pub bounded : made ≤ reads
 
--- each read but the last gave a byte at least: so more reads than were allowed come of a long input alone
+-- at most one read more than bytes were read: so more reads than were allowed come of a long input alone
 abbrev pub EachGave : Option (List ℕ) → Option (List ℕ) → (made : ℕ) → Type 0
 EachGave left_old left_new made = (given : List ℕ) × Consumes left_old left_new given × (made ≤ length given + 1)
 

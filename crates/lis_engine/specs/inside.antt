@@ -1,5 +1,4 @@
 -- What proofs and private functions speak of. No public contract cites it.
 pub mod Output
-pub mod Parts
 pub mod Reads
 pub mod Steps

@@ -3,8 +3,7 @@
 ghost use Rattle.std.specs.Prelude.{◌≡◌, ◌++◌, ◌∷◌, [], ℕ, List, codes, decimal, false, is_err};
 ghost use Rattle.hex.specs.Hex.{encode_lower};
 ghost use Rattle.lis_engine.specs.Output.{IsBuffered, out};
-ghost use Rattle.lis_engine.specs.Parts.{joined};
-ghost use Rattle.lis_engine.specs.inside.Parts.{part_text, parts_text, text_if_any};
+ghost use Rattle.lis_engine.specs.Parts.{joined, part_text, parts_text, text_if_any};
 
 use crate::buffering::{CHUNK, buffer_chunk, make_room};
 use crate::fault::Written;

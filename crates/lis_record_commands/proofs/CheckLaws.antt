@@ -20,7 +20,7 @@ use Rattle.lis_tree.specs.Tree.{MessageTree, flatten}
 use Rattle.lis_report.specs.Codes.{refused_line}
 use Rattle.lis_report.specs.declared.refused.Refused.{Refused}
 use Rattle.lis_report.specs.Answers.{Report}
-use Rattle.lis_engine.specs.inside.Parts.{text_if_any}
+use Rattle.lis_engine.specs.Parts.{text_if_any}
 use Rattle.lis_record_commands.specs.Check.{check_writes, finding_count, finding_line, message_line, record_line}
 use Rattle.lis_record_commands.specs.Check.{record_lines, sums_line}
 use Rattle.lis_record_commands.specs.inside.Check.{IsChecking}

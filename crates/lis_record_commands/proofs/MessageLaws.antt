@@ -20,7 +20,7 @@ use Rattle.lis_engine.specs.Steps.{LineEnds, Halts, IsEarly, Puts, Ends}
 use Rattle.lis_engine.specs.Output.{IsBuffered, Out}
 use Rattle.lis_engine.proofs.BufferLaws.{buffered_then}
 use Rattle.lis_record_commands.specs.Messages.{MessageWrites, messages_text, whole_outcome, record_count, report_after}
-use Rattle.lis_record_commands.specs.inside.Messages.{RunGives}
+use Rattle.lis_record_commands.specs.Messages.{RunGives}
 
 -- no byte is no message
 pub split_nothing : IsSplit [] [] None []

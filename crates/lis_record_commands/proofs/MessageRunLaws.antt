@@ -21,7 +21,7 @@ use Rattle.lis_engine.specs.Runs.{HasRun, KnownPorts, WroteOutcome}
 use Rattle.lis_record_commands.specs.MessageRuns.{MessageAnswer, MessagesRan}
 use Rattle.lis_record_commands.specs.Messages.{MessageWrites, HasOutcome, complete, ended_early, goes_on, messages_text}
 use Rattle.lis_record_commands.specs.Messages.{whole_outcome, refused, report_after}
-use Rattle.lis_record_commands.specs.inside.Messages.{RunGives, IsStarved}
+use Rattle.lis_record_commands.specs.Messages.{RunGives, IsStarved}
 use Rattle.lis_record_commands.proofs.MessageLaws.{split_whole, messages_text-append, nothing_left}
 
 -- ---- a prefix of the bytes, and all of them

@@ -30,7 +30,8 @@ use Rattle.lis_engine.specs.Output.{IsBuffered, Out, most_counted}
 use Rattle.lis_engine.proofs.BufferLaws.{buffered_nothing, buffered_then}
 use Rattle.lis_record_commands.specs.Messages.{IsReadingMessages, MessageWrites, messages_text, whole_outcome}
 use Rattle.lis_record_commands.specs.Messages.{record_count, refused, report_after, whole_begun, with_record}
-use Rattle.lis_record_commands.specs.inside.Messages.{RunGives, RefusesBy, StepsThrough}
+use Rattle.lis_record_commands.specs.inside.Messages.{RefusesBy, StepsThrough}
+use Rattle.lis_record_commands.specs.Messages.{RunGives}
 use Rattle.lis_record_commands.proofs.MessageLaws.{split_few, ends_through, is_refused, messages_few}
 use Rattle.lis_record_commands.proofs.MessageLaws.{messages_text-append}
 use Rattle.lis_record_commands.proofs.MessageLaws.{refuses_through}

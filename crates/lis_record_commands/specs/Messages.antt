@@ -1,5 +1,6 @@
 -- What a stream of record text gives, for a command that writes something for each of its messages (LIS02-A2).
-use Rattle.std.specs.Prelude.{◌≡◌, ℕ, ◌+◌, Bool, true, false, List, [], ◌∷◌, ◌++◌, length, Option, None, Some, Ok}
+use Rattle.std.specs.Prelude.{◌≡◌, ℕ, ◌+◌, Bool, true, false, List, [], ◌∷◌, ◌++◌, ◌⊎◌, length, Option, None, Some, Ok}
+use Rattle.std.specs.Prelude.{Err}
 use Rattle.lis_record_values.specs.Shape.{RecordContent}
 use Rattle.lis_message.specs.Feeding.{EndsEarly}
 use Rattle.lis_message.specs.Kept.{RecordsState}
@@ -9,6 +10,7 @@ use Rattle.lis_message.specs.Taking.{begun_with, records_of}
 use Rattle.lis_record.specs.Borrowed.{Borrowed}
 use Rattle.lis_report.specs.Answers.{Report, Outcome}
 use Rattle.lis_engine.specs.Outcome.{going}
+use Rattle.lis_engine.specs.declared.fault.ToolFault.TheVariants.{OutOfMemory}
 use Rattle.lis_tree.specs.Begun.{Begun}
 use Rattle.lis_record_values.specs.declared.faults.MessageFault.{MessageFault}
 use Rattle.lis_tree.specs.Tree.{MessageTree, flatten}
@@ -53,6 +55,21 @@ pub data HasOutcome (w : MessageWrites) (bytes : List ℕ) (ended : Bool) (outco
       → outcome ≡ whole_outcome w messages (Some fault) → HasOutcome w bytes ended outcome
   complete : (messages : List MessageTree) → IsSplit bytes messages None [] → ended ≡ true
       → outcome ≡ whole_outcome w messages None → HasOutcome w bytes ended outcome
+
+-- memory ran out after these messages, which are read of a prefix of the bytes
+pub record IsStarved (w : MessageWrites) (bytes : List ℕ) (outcome : Outcome) : Type 0 where
+  pub front : List ℕ
+  pub more : List ℕ
+  pub joined : bytes ≡ front ++ more
+  pub messages : List MessageTree
+  pub left : Option Begun
+  pub held : List ℕ
+  pub split : IsSplit front messages left held
+  pub outcome_is : outcome ≡ record { text = messages_text w 0 messages; closing = []; halt = Some (Err OutOfMemory) }
+
+-- what a run gives
+abbrev pub RunGives : MessageWrites → List ℕ → Bool → Outcome → Type 0
+RunGives w bytes ended outcome = HasOutcome w bytes ended outcome ⊎ IsStarved w bytes outcome
 
 -- ---- while it runs
 

@@ -1,7 +1,7 @@
 //! The command `check`: messages, their records and what is to be looked at in them (LIS02-A2).
 
 ghost use Rattle.std.specs.Prelude.{◌≡◌, ◌^◌, ◌<◌, ◌≤◌, ◌++◌, [], List, None, OnOk, true, false, is_err, length, IfOk};
-ghost use Rattle.lis_engine.specs.Runs.{AreFresh, Stops};
+ghost use Rattle.lis_engine.specs.Runs.{AreFresh, Stops, ports};
 ghost use Rattle.lis_record_commands.specs.Check.{check_writes, finding_count, finding_line, message_line, record_line};
 ghost use Rattle.lis_record_commands.specs.inside.Check.{IsChecking};
 ghost use Rattle.lis_record_commands.specs.MessageRuns.{MessagesRan};
@@ -29,11 +29,13 @@ pub fn run_check<R: SourceFor<W>, W: Sink>(
     sink: &mut W,
     reads: u32,
 ) -> Ended
-    requires { AreFresh (R.known_ports source.old sink.old) }
-    ensures ran { MessagesRan check_writes (R.known_ports source.old sink.old) (R.known_ports source.new sink.new)
-        result }
-    ensures stops { Stops true true (R.known_ports source.old sink.old) (R.known_ports source.new sink.new) reads
-        result }
+    requires { AreFresh (ports R.left R.made R.ended R.failed W.taken W.sent W.failed source.old sink.old) }
+    ensures ran { MessagesRan check_writes
+        (ports R.left R.made R.ended R.failed W.taken W.sent W.failed source.old sink.old)
+        (ports R.left R.made R.ended R.failed W.taken W.sent W.failed source.new sink.new) result }
+    ensures stops { Stops true true
+        (ports R.left R.made R.ended R.failed W.taken W.sent W.failed source.old sink.old)
+        (ports R.left R.made R.ended R.failed W.taken W.sent W.failed source.new sink.new) reads result }
     ensures status { IfOk result (λ report. report.status ≤ 1) }
 {
     run_messages(alloc, Check::new(alloc), source, sink, reads)

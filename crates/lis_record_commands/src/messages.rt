@@ -7,12 +7,11 @@ ghost use Rattle.lis_message.specs.Feeding.{StopsReading};
 ghost use Rattle.lis_message.specs.Taking.{ComesNext, Completes, left_after, records_of};
 ghost use Rattle.lis_engine.specs.Steps.{LineEnds, LineSteps};
 ghost use Rattle.lis_engine.specs.Output.{IsBuffered, out};
-ghost use Rattle.lis_engine.specs.Runs.{AreFresh, Stops};
+ghost use Rattle.lis_engine.specs.Runs.{AreFresh, Stops, ports};
 ghost use Rattle.lis_record_commands.specs.MessageRuns.{MessagesRan};
 ghost use Rattle.lis_record_commands.specs.Messages.{IsReadingMessages, MessageWrites, messages_text, record_count};
-ghost use Rattle.lis_record_commands.specs.Messages.{report_after, whole_begun, with_record};
-ghost use Rattle.lis_record_commands.specs.inside.Messages.{RunGives, IsShorter, RefusesBy, StepsThrough, reads_on};
-ghost use Rattle.lis_record_commands.specs.inside.Messages.{turn_after};
+ghost use Rattle.lis_record_commands.specs.Messages.{RunGives, report_after, whole_begun, with_record};
+ghost use Rattle.lis_record_commands.specs.inside.Messages.{IsShorter, RefusesBy, StepsThrough, reads_on, turn_after};
 ghost use Rattle.lis_tree.specs.Begun.{Begun};
 ghost use Rattle.lis_tree.specs.Tree.{MessageTree};
 
@@ -103,10 +102,13 @@ pub(crate) fn run_messages<C: MessageMachine, R: SourceFor<W>, W: Sink>(
     reads: u32,
 ) -> Ended
     requires new { C.represents command [] None }
-    requires fresh { AreFresh (R.known_ports source.old sink.old) }
-    ensures ran { MessagesRan C.writes (R.known_ports source.old sink.old) (R.known_ports source.new sink.new) result }
-    ensures stops { Stops true true (R.known_ports source.old sink.old) (R.known_ports source.new sink.new) reads
-        result }
+    requires fresh { AreFresh (ports R.left R.made R.ended R.failed W.taken W.sent W.failed source.old sink.old) }
+    ensures ran { MessagesRan C.writes
+        (ports R.left R.made R.ended R.failed W.taken W.sent W.failed source.old sink.old)
+        (ports R.left R.made R.ended R.failed W.taken W.sent W.failed source.new sink.new) result }
+    ensures stops { Stops true true
+        (ports R.left R.made R.ended R.failed W.taken W.sent W.failed source.old sink.old)
+        (ports R.left R.made R.ended R.failed W.taken W.sent W.failed source.new sink.new) reads result }
 {
     source.run(sink, Messages::new(alloc, command), reads)
 }

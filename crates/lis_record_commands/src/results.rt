@@ -3,7 +3,7 @@
 ghost use Rattle.std.specs.Prelude.{◌≡◌, ◌^◌, ◌<◌, ◌≤◌, ◌++◌, ◌∷◌, List, Option, None, OnOk, true, length, IfOk};
 ghost use Rattle.lis_record_values.specs.declared.kinds.Kind.TheVariants as kinds;
 ghost use Rattle.lis_record_values.specs.Shape.{Repeats};
-ghost use Rattle.lis_engine.specs.Runs.{AreFresh, Stops};
+ghost use Rattle.lis_engine.specs.Runs.{AreFresh, Stops, ports};
 ghost use Rattle.lis_record_commands.specs.MessageRuns.{MessagesRan};
 ghost use Rattle.lis_record_commands.specs.Messages.{report_after};
 ghost use Rattle.lis_record_commands.specs.Results.{field_text, fields_following, result_line, results_writes};
@@ -31,11 +31,13 @@ pub fn run_results<R: SourceFor<W>, W: Sink>(
     sink: &mut W,
     reads: u32,
 ) -> Ended
-    requires { AreFresh (R.known_ports source.old sink.old) }
-    ensures ran { MessagesRan results_writes (R.known_ports source.old sink.old) (R.known_ports source.new sink.new)
-        result }
-    ensures stops { Stops true true (R.known_ports source.old sink.old) (R.known_ports source.new sink.new) reads
-        result }
+    requires { AreFresh (ports R.left R.made R.ended R.failed W.taken W.sent W.failed source.old sink.old) }
+    ensures ran { MessagesRan results_writes
+        (ports R.left R.made R.ended R.failed W.taken W.sent W.failed source.old sink.old)
+        (ports R.left R.made R.ended R.failed W.taken W.sent W.failed source.new sink.new) result }
+    ensures stops { Stops true true
+        (ports R.left R.made R.ended R.failed W.taken W.sent W.failed source.old sink.old)
+        (ports R.left R.made R.ended R.failed W.taken W.sent W.failed source.new sink.new) reads result }
     ensures status { IfOk result (λ report. report.status ≤ 1) }
 {
     run_messages(alloc, Results::new(alloc), source, sink, reads)

@@ -13,7 +13,7 @@ use Rattle.lis_engine.specs.declared.fault.ToolFault.TheVariants.{CaptureLine, R
 use Rattle.lis_report.specs.Answers.{Report}
 use Rattle.lis_engine.specs.Outcome.{at_end, whole}
 use Rattle.lis_report.specs.Answers.{Outcome}
-use Rattle.lis_engine.specs.inside.Parts.{text_if_any}
+use Rattle.lis_engine.specs.Parts.{text_if_any}
 use Rattle.lis_engine.specs.Output.{IsBuffered, Out, WentOut}
 use Rattle.lis_engine.proofs.BufferLaws.{buffered_stops}
 use Rattle.lis_engine.specs.Runs.{HasRun, KnownPorts, Shown, WroteOutcome, WroteText}

@@ -11,7 +11,7 @@ ghost use Rattle.lis_run.specs.LineOutcome.{IsLined, Writes, capture_outcome, li
 ghost use Rattle.lis_engine.specs.Steps.{LineEnds, LineSteps};
 ghost use Rattle.lis_engine.specs.Outcome.{going};
 ghost use Rattle.lis_engine.specs.Output.{out};
-ghost use Rattle.lis_engine.specs.Runs.{AreFresh, Stops};
+ghost use Rattle.lis_engine.specs.Runs.{AreFresh, Stops, ports};
 ghost use Rattle.std.proofs.Common.{ap, sym, ◌∙◌};
 
 use lis_capture::{Line, LineFound, LineReader, MOST_BYTES};
@@ -91,11 +91,13 @@ pub(crate) fn run_lines<C: LineMachine, R: SourceFor<W>, W: Sink>(
     reads: u32,
 ) -> Ended
     requires new { C.represents command [] }
-    requires fresh { AreFresh (R.known_ports source.old sink.old) }
-    ensures ran { CaptureRan C.takes_memory C.writes (R.known_ports source.old sink.old)
-        (R.known_ports source.new sink.new) result }
-    ensures stops { Stops false true (R.known_ports source.old sink.old) (R.known_ports source.new sink.new) reads
-        result }
+    requires fresh { AreFresh (ports R.left R.made R.ended R.failed W.taken W.sent W.failed source.old sink.old) }
+    ensures ran { CaptureRan C.takes_memory C.writes
+        (ports R.left R.made R.ended R.failed W.taken W.sent W.failed source.old sink.old)
+        (ports R.left R.made R.ended R.failed W.taken W.sent W.failed source.new sink.new) result }
+    ensures stops { Stops false true
+        (ports R.left R.made R.ended R.failed W.taken W.sent W.failed source.old sink.old)
+        (ports R.left R.made R.ended R.failed W.taken W.sent W.failed source.new sink.new) reads result }
 {
     source.run(sink, Lines::new(command), reads)
 }

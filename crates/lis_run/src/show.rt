@@ -7,12 +7,12 @@ ghost use Rattle.lis_frame.specs.Scanner.{StandsFor};
 ghost use Rattle.lis_frame.specs.Stream.{signal_after, signals_after, stream_with, with_signal};
 ghost use Rattle.lis_engine.specs.declared.output_buffer.TheConstants.{OUTPUT_ROOM};
 ghost use Rattle.lis_engine.specs.Output.{IsBuffered, most_counted, out};
-ghost use Rattle.lis_engine.specs.Runs.{AreFresh, HasRun, Shown, Stops};
+ghost use Rattle.lis_engine.specs.Runs.{AreFresh, HasRun, Shown, Stops, ports};
 ghost use Rattle.lis_run.specs.Show.{bad_line, digits_part, frame_line, frame_start, Shows, printed_fault, show};
 ghost use Rattle.lis_run.specs.Show.{signal_lines};
 ghost use Rattle.lis_run.specs.inside.Show.{heard_line};
 ghost use Rattle.lis_engine.specs.Outcome.{going};
-ghost use Rattle.lis_engine.specs.inside.Parts.{part_text, text_if_any};
+ghost use Rattle.lis_engine.specs.Parts.{part_text, text_if_any};
 ghost use Rattle.std.proofs.Common.{ap};
 
 use lis_engine::{Machine, OutputBuffer, Part, Print, SourceFor, Written, make_room};
@@ -36,12 +36,16 @@ pub fn run_show_of<const N: usize, R: SourceFor<W>, W: Sink>(
     reads: u32,
 ) -> Ended
     requires limit { IsLimit N }
-    requires fresh { AreFresh (R.known_ports source.old sink.old) }
-    ensures ran { HasRun false (Shows N) (R.known_ports source.old sink.old) (R.known_ports source.new sink.new)
-        result }
-    ensures stops { Stops false false (R.known_ports source.old sink.old) (R.known_ports source.new sink.new) reads
-        result }
-    ensures shown { Shown (show N) (R.known_ports source.old sink.old) (R.known_ports source.new sink.new) result }
+    requires fresh { AreFresh (ports R.left R.made R.ended R.failed W.taken W.sent W.failed source.old sink.old) }
+    ensures ran { HasRun false (Shows N)
+        (ports R.left R.made R.ended R.failed W.taken W.sent W.failed source.old sink.old)
+        (ports R.left R.made R.ended R.failed W.taken W.sent W.failed source.new sink.new) result }
+    ensures stops { Stops false false
+        (ports R.left R.made R.ended R.failed W.taken W.sent W.failed source.old sink.old)
+        (ports R.left R.made R.ended R.failed W.taken W.sent W.failed source.new sink.new) reads result }
+    ensures shown { Shown (show N)
+        (ports R.left R.made R.ended R.failed W.taken W.sent W.failed source.old sink.old)
+        (ports R.left R.made R.ended R.failed W.taken W.sent W.failed source.new sink.new) result }
     ensures status { IfOk result (λ report. report.status ≡ 0) }
 {
     source.run(sink, Show::<N>::new(), reads)
@@ -51,12 +55,16 @@ pub fn run_show_of<const N: usize, R: SourceFor<W>, W: Sink>(
 ///
 /// The source was never read, and neither it nor the sink has failed.
 pub fn run_show<R: SourceFor<W>, W: Sink>(source: &mut R, sink: &mut W, reads: u32) -> Ended
-    requires { AreFresh (R.known_ports source.old sink.old) }
-    ensures ran { HasRun false (Shows 240) (R.known_ports source.old sink.old) (R.known_ports source.new sink.new)
-        result }
-    ensures stops { Stops false false (R.known_ports source.old sink.old) (R.known_ports source.new sink.new) reads
-        result }
-    ensures shown { Shown (show 240) (R.known_ports source.old sink.old) (R.known_ports source.new sink.new) result }
+    requires { AreFresh (ports R.left R.made R.ended R.failed W.taken W.sent W.failed source.old sink.old) }
+    ensures ran { HasRun false (Shows 240)
+        (ports R.left R.made R.ended R.failed W.taken W.sent W.failed source.old sink.old)
+        (ports R.left R.made R.ended R.failed W.taken W.sent W.failed source.new sink.new) result }
+    ensures stops { Stops false false
+        (ports R.left R.made R.ended R.failed W.taken W.sent W.failed source.old sink.old)
+        (ports R.left R.made R.ended R.failed W.taken W.sent W.failed source.new sink.new) reads result }
+    ensures shown { Shown (show 240)
+        (ports R.left R.made R.ended R.failed W.taken W.sent W.failed source.old sink.old)
+        (ports R.left R.made R.ended R.failed W.taken W.sent W.failed source.new sink.new) result }
     ensures status { IfOk result (λ report. report.status ≡ 0) }
 {
     run_show_of::<240, R, W>(source, sink, reads)

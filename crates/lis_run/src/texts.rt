@@ -4,7 +4,7 @@ ghost use Rattle.std.specs.Prelude.{◌≡◌, false, true, IfOk};
 ghost use Rattle.lis_frame.specs.Limit.{IsLimit};
 ghost use Rattle.lis_run.specs.CaptureRuns.{CaptureRan};
 ghost use Rattle.lis_run.specs.Replay.{texts_writes};
-ghost use Rattle.lis_engine.specs.Runs.{AreFresh, Stops};
+ghost use Rattle.lis_engine.specs.Runs.{AreFresh, Stops, ports};
 
 use crate::lines::run_lines;
 use crate::playing::{InTexts, Playing};
@@ -24,11 +24,13 @@ pub fn run_texts_of<const N: usize, R: SourceFor<W>, W: Sink>(
     reads: u32,
 ) -> Ended
     requires limit { IsLimit N }
-    requires fresh { AreFresh (R.known_ports source.old sink.old) }
-    ensures ran { CaptureRan true (texts_writes N) (R.known_ports source.old sink.old)
-        (R.known_ports source.new sink.new) result }
-    ensures stops { Stops false true (R.known_ports source.old sink.old) (R.known_ports source.new sink.new) reads
-        result }
+    requires fresh { AreFresh (ports R.left R.made R.ended R.failed W.taken W.sent W.failed source.old sink.old) }
+    ensures ran { CaptureRan true (texts_writes N)
+        (ports R.left R.made R.ended R.failed W.taken W.sent W.failed source.old sink.old)
+        (ports R.left R.made R.ended R.failed W.taken W.sent W.failed source.new sink.new) result }
+    ensures stops { Stops false true
+        (ports R.left R.made R.ended R.failed W.taken W.sent W.failed source.old sink.old)
+        (ports R.left R.made R.ended R.failed W.taken W.sent W.failed source.new sink.new) reads result }
     ensures status { IfOk result (λ report. report.status ≡ 0) }
 {
     let playing = Playing::<N, InTexts>::new(alloc, InTexts);
@@ -44,11 +46,13 @@ pub fn run_texts<R: SourceFor<W>, W: Sink>(
     sink: &mut W,
     reads: u32,
 ) -> Ended
-    requires { AreFresh (R.known_ports source.old sink.old) }
-    ensures ran { CaptureRan true (texts_writes 240) (R.known_ports source.old sink.old)
-        (R.known_ports source.new sink.new) result }
-    ensures stops { Stops false true (R.known_ports source.old sink.old) (R.known_ports source.new sink.new) reads
-        result }
+    requires { AreFresh (ports R.left R.made R.ended R.failed W.taken W.sent W.failed source.old sink.old) }
+    ensures ran { CaptureRan true (texts_writes 240)
+        (ports R.left R.made R.ended R.failed W.taken W.sent W.failed source.old sink.old)
+        (ports R.left R.made R.ended R.failed W.taken W.sent W.failed source.new sink.new) result }
+    ensures stops { Stops false true
+        (ports R.left R.made R.ended R.failed W.taken W.sent W.failed source.old sink.old)
+        (ports R.left R.made R.ended R.failed W.taken W.sent W.failed source.new sink.new) reads result }
     ensures status { IfOk result (λ report. report.status ≡ 0) }
 {
     run_texts_of::<240, R, W>(alloc, source, sink, reads)

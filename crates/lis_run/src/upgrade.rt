@@ -4,8 +4,8 @@ ghost use Rattle.std.specs.Prelude.{◌≡◌, ◌≤◌, ◌++◌, [], List, tr
 ghost use Rattle.lis_capture.specs.declared.line.Line.{Line as LineContent};
 ghost use Rattle.lis_capture.specs.Encoding.{added_encoding};
 ghost use Rattle.lis_run.specs.CaptureRuns.{CaptureRan};
-ghost use Rattle.lis_engine.specs.inside.Parts.{part_text, text_if_any};
-ghost use Rattle.lis_engine.specs.Runs.{AreFresh, Stops};
+ghost use Rattle.lis_engine.specs.Parts.{part_text, text_if_any};
+ghost use Rattle.lis_engine.specs.Runs.{AreFresh, Stops, ports};
 ghost use Rattle.lis_run.specs.Upgrade.{opening, upgrade_writes};
 ghost use Rattle.lis_run.specs.inside.Upgrade.{is_begun};
 
@@ -20,11 +20,13 @@ use lis_report::{Closed, Ended, Fate, Halt, Report, Turn};
 ///
 /// The source was never read, and neither it nor the sink has failed.
 pub fn run_upgrade<R: SourceFor<W>, W: Sink>(source: &mut R, sink: &mut W, reads: u32) -> Ended
-    requires { AreFresh (R.known_ports source.old sink.old) }
-    ensures ran { CaptureRan false upgrade_writes (R.known_ports source.old sink.old)
-        (R.known_ports source.new sink.new) result }
-    ensures stops { Stops false true (R.known_ports source.old sink.old) (R.known_ports source.new sink.new) reads
-        result }
+    requires { AreFresh (ports R.left R.made R.ended R.failed W.taken W.sent W.failed source.old sink.old) }
+    ensures ran { CaptureRan false upgrade_writes
+        (ports R.left R.made R.ended R.failed W.taken W.sent W.failed source.old sink.old)
+        (ports R.left R.made R.ended R.failed W.taken W.sent W.failed source.new sink.new) result }
+    ensures stops { Stops false true
+        (ports R.left R.made R.ended R.failed W.taken W.sent W.failed source.old sink.old)
+        (ports R.left R.made R.ended R.failed W.taken W.sent W.failed source.new sink.new) reads result }
     ensures status { IfOk result (λ report. report.status ≡ 0) }
 {
     run_lines(Upgrade { begun: false }, source, sink, reads)

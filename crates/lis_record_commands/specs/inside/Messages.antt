@@ -4,7 +4,6 @@ use Rattle.std.specs.Prelude.{refl, ⊤}
 use Rattle.std.proofs.Common.{ap, inl}
 use Rattle.std.specs.declared.result.Result.{Result}
 use Rattle.lis_message.specs.Kept.{RecordsState}
-use Rattle.lis_message.specs.Stream.{IsSplit}
 use Rattle.lis_engine.specs.declared.fault.ToolFault.{ToolFault}
 use Rattle.lis_engine.specs.declared.fault.ToolFault.TheVariants.{OutOfMemory}
 use Rattle.lis_report.specs.inside.Answers.{Halt, Turn}
@@ -15,22 +14,7 @@ use Rattle.lis_engine.specs.Output.{Out}
 use Rattle.lis_engine.specs.Steps.{Fails, Halts, IsEarly, Puts, Steps}
 use Rattle.lis_tree.specs.Begun.{Begun}
 use Rattle.lis_tree.specs.Tree.{MessageTree}
-use Rattle.lis_record_commands.specs.Messages.{MessageWrites, messages_text, HasOutcome, IsReadingMessages, goes_on}
-
--- Memory ran out after these messages, which are read of a prefix of the bytes.
-pub record IsStarved (w : MessageWrites) (bytes : List ℕ) (outcome : Outcome) : Type 0 where
-  pub front : List ℕ
-  pub more : List ℕ
-  pub joined : bytes ≡ front ++ more
-  pub messages : List MessageTree
-  pub left : Option Begun
-  pub held : List ℕ
-  pub split : IsSplit front messages left held
-  pub outcome_is : outcome ≡ record { text = messages_text w 0 messages; closing = []; halt = Some (Err OutOfMemory) }
-
--- what a run gives
-abbrev pub RunGives : MessageWrites → List ℕ → Bool → Outcome → Type 0
-RunGives w bytes ended outcome = HasOutcome w bytes ended outcome ⊎ IsStarved w bytes outcome
+use Rattle.lis_record_commands.specs.Messages.{MessageWrites, IsReadingMessages, RunGives, goes_on}
 
 -- so far the bytes are whole messages and a part of one
 abbrev pub reads_on :

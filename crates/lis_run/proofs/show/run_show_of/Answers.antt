@@ -6,5 +6,4 @@ returns-clause-shown g c = shown_ran g.row.N _ _ c.run.result c.run.ensures.ran
 
 pub returns-clause-status : goal.returns-clause-status
 returns-clause-status g c =
-    shown_status g.row.N (g.R.SourceFor.known_ports c.args.source.now c.args.sink.now)
-    (g.R.SourceFor.known_ports c.run.new.self c.run.new.sink) c.run.result c.run.ensures.ran
+    shown_status g.row.N _ _ c.run.result c.run.ensures.ran

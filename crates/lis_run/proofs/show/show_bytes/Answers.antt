@@ -2,7 +2,7 @@ use Rattle.std.proofs.Common.{[], ◌∷◌, Ok, Err, take, drop, ◌∙◌, ari
 use Rattle.lis_frame.specs.Scanner.{StandsFor}
 use Rattle.lis_frame.specs.Stream.{signal_after, signals_after, stream_with, with_signal}
 use Rattle.lis_run.specs.Show.{frame_line, signal_lines}
-use Rattle.lis_engine.specs.inside.Parts.{text_if_any}
+use Rattle.lis_engine.specs.Parts.{text_if_any}
 use Rattle.lis_engine.specs.Output.{out}
 use Rattle.lis_engine.proofs.BufferLaws.{buffered_then, buffered_none}
 use Rattle.lis_run.proofs.ShowLaws.{byte_stops, front_lines, front_stops, front_stream, no_lines, signal_lines-with}

@@ -1,7 +1,7 @@
 use Rattle.std.proofs.Common.{◌≡◌, ◌+◌, ◌<◌, ◌≤◌, ◌∷◌, ◌++◌, [], ℕ, List, Ok, Err, drop, drop-cons, get_or, add-one}
 use Rattle.std.proofs.Common.{length, length-drop, arith, refl}
 use Rattle.lis_engine.specs.declared.print.Part.{Part}
-use Rattle.lis_engine.specs.inside.Parts.{part_text, parts_text}
+use Rattle.lis_engine.specs.Parts.{part_text, parts_text}
 use Rattle.lis_engine.specs.Output.{out}
 use Rattle.lis_engine.proofs.BufferLaws.{buffered_then, buffered_stops, buffered_none}
 use Rattle.lis_engine.proofs.print.RefSlicePartPrint.print.Goals as goal

@@ -2,7 +2,7 @@ use Rattle.std.proofs.Common.{◌≡◌, ◌≤◌, ℕ, false, drop}
 use Rattle.std.specs.declared.result.Result.{Result}
 use Rattle.lis_engine.specs.declared.fault.ToolFault.{ToolFault}
 use Rattle.lis_engine.specs.Output.{IsBuffered, Out, most_counted, out}
-use Rattle.lis_engine.specs.inside.Parts.{parts_text}
+use Rattle.lis_engine.specs.Parts.{parts_text}
 use Rattle.lis_engine.proofs.print.RefSlicePartPrint.print.Given as goal
 
 -- whatever puts the rest out from here puts all out from the start
