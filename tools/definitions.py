@@ -16,8 +16,13 @@ HEAD = re.compile(r"^((?:(?:abbrev|unfoldable|opaque|pub|record|data) )+)(\S+)")
 IMPORT = re.compile(r"^\s*(?:ghost )?use Rattle\.([\w.]+)(?:\.\{([^}]*)\})?(?: as (\w+))?;?\s*$")
 TOKEN = re.compile(r"[A-Za-z_][\w']*(?:\.[A-Za-z_]\w*)*|[^\sA-Za-z0-9_(){}\[\],;.◌]+")
 PUBLIC_FN = re.compile(r"^( *)pub (?:(?:const|unsafe|extern \"C\") )*fn (\w+)")
+GHOST = re.compile(r"^    ghost (\w+)\s*[:=]")
+TYPE = re.compile(r"^(?:(pub)|pub\([^)]*\))?\s*(?:struct|enum|type|trait|const) (\w+)")
+ALIAS = re.compile(r"^pub type (\w+).* = (?:\w+::)*(\w+)")
 METHOD = re.compile(r"^(    )(?:unsafe )?fn (\w+)")
 BLOCK = re.compile(r"^(?:unsafe )?(impl\b|pub trait )(.*)")
+# The modules of the definitions that the prover makes of the code: its types, and what they are in memory.
+OF_CODE = re.compile(r"\.specs\.(?:declared|contracts)\.")
 COLUMN_0 = re.compile(r"^[^\s)}]")
 # What names nothing: a text in quotes, and the name of a field where a record is declared or made.
 LABEL = re.compile(r'"[^"]*"|^  pub \w+(?= :)|(?:[{;]|^)\s*\w+(?= = )', re.M)
@@ -53,7 +58,8 @@ def imports_of(lines):
         for name in (it.strip() for it in (names or "").split(",")):
             if name:
                 of, _, local = name.partition(" as ")
-                found[(local or of).strip("◌")] = (module, of)
+                # A name of several words, as if◌then◌else◌, is found by its first.
+                found[(local or of).strip("◌").partition("◌")[0]] = (module, of)
         if not names:
             found[alias or module.rsplit(".", 1)[-1]] = (module, "")
     return found
@@ -64,12 +70,38 @@ def read(path):
         return file.read().split("\n")
 
 
+def member_text(lines, start):
+    """The lines of a ghost member, to its end."""
+    end = start
+    while not lines[end].rstrip().endswith(";"):
+        end += 1
+    return lines[start:end + 1]
+
+
+def laws_of_traits(root):
+    """The ghost members that are laws: a trait states them of its other members, and an impl proves them. To believe a
+    contract one reads the statement, which is in the trait, and not the proof."""
+    found = set()
+    for path in glob.glob(f"{root}/crates/*/src/**/*.rt", recursive=True):
+        trait = None
+        for number, line in enumerate(lines := read(path)):
+            if COLUMN_0.match(line):
+                trait = {} if line.startswith(("pub trait", "trait", "pub(crate) trait")) else None
+            member = trait is not None and GHOST.match(line)
+            if member:
+                trait[member[1]] = " ".join(member_text(lines, number))
+                others = trait.keys() - {member[1]}
+                if any(re.search(rf"\b{it}\b", trait[member[1]]) for it in others):
+                    found.add(member[1])
+    return found
+
+
 class Book:
     """All definitions of the crates, by module and name."""
 
     def __init__(self, root=ROOT):
         self.root, self.definitions, self.imports, self.constructors = root, {}, {}, {}
-        self.local = {}
+        self.local, self.laws = {}, laws_of_traits(root)
         for path in sorted(glob.glob(f"{root}/crates/*/specs/**/*.antt", recursive=True)):
             self.read_specs(path)
 
@@ -118,8 +150,8 @@ class Book:
         found = self.find(module, name)
         if found:
             yield found
-        elif ".specs.declared." in module:
-            crate, _, inner = module.partition(".specs.declared.")
+        elif OF_CODE.search(module):
+            crate, inner = OF_CODE.split(module)
             yield "type", crate, re.sub(r"\.TheVariants$", "", inner)
         elif module.split(".")[0] in self.crates():
             return
@@ -162,13 +194,20 @@ class Exports:
 
 class Contracts:
     """The contracts of a crate's functions that others can call, with the names that each cites; and the names that the
-    models of its public types cite."""
+    models of its public types cite, and the ghost members of its traits and of their impls."""
 
     def __init__(self, book, crate):
         self.book, self.crate, self.cited, self.models = book, crate, {}, set()
+        #: the names of the clauses of each function; of ghost members; and what public aliases are names of
+        self.clauses, self.members, self.aliases = {}, set(), {}
         self.exports, source = Exports(book.root, crate), f"{book.root}/crates/{crate}/src"
-        for path in sorted(glob.glob(f"{source}/**/*.rt", recursive=True)):
-            self.read(read(path), os.path.relpath(path, source).removesuffix(".rt"))
+        files = {path: read(path) for path in sorted(glob.glob(f"{source}/**/*.rt", recursive=True))}
+        # The crate's types, each with whether it is public.
+        self.types = {it[2]: bool(it[1]) for lines in files.values() for it in map(TYPE.match, lines) if it}
+        for it in (it for lines in files.values() for it in map(ALIAS.match, lines) if it):
+            self.aliases[it[1]] = self.aliases.get(it[2], it[2])
+        for path, lines in files.items():
+            self.read(lines, os.path.relpath(path, source).removesuffix(".rt"))
 
     def read(self, lines, module):
         imports, block, of, number = imports_of(lines), None, "", 0
@@ -181,6 +220,10 @@ class Contracts:
             is_public = not block or self.exports.has(module, names_of(of)[1] or "")
             if block == "impl" and re.search(r"\bModel for\b", of) and is_public:
                 self.models.update(self.book.named_in(None, imports, line))
+            member = block and GHOST.match(line)
+            self.members.update([member[1], *names_of(of)] if member else [])
+            if member and member[1] not in self.book.laws and self.can_be_had(block, module, of):
+                self.models.update(self.book.named_in(None, imports, self.member(lines, number)))
             is_method = block == "trait" or block and " for " in of
             found = PUBLIC_FN.match(line) or (METHOD.match(line) if is_method else None)
             if found:
@@ -189,6 +232,17 @@ class Contracts:
                     self.note(module, of if block else "", found[2], imports, header)
             else:
                 number += 1
+
+    def can_be_had(self, block, module, of):
+        """Whether others can name a trait, or have a value of an impl's type: it is public, or another crate's, as an
+        Option or a slice."""
+        name = names_of(of)[1] or ""
+        is_public = self.exports.has(module, name) and self.types.get(name, block == "trait")
+        return is_public or (name not in self.types and block == "impl" and not self.exports.all)
+
+    @staticmethod
+    def member(lines, start):
+        return "\n".join(member_text(lines, start))
 
     @staticmethod
     def header(lines, start, indent):
@@ -203,4 +257,6 @@ class Contracts:
 
     def note(self, module, of, name, imports, header):
         clauses = header[re.search(r"\n\s*(requires|ensures)\b|$", header).start():]
-        self.cited[module.rsplit("/", 1)[-1], of, name] = list(self.book.named_in(None, imports, clauses))
+        key = module.rsplit("/", 1)[-1], of, name
+        self.cited[key] = list(self.book.named_in(None, imports, clauses))
+        self.clauses[key] = re.findall(r"\b(?:requires|ensures)\*? (\w+) \{", clauses)

@@ -1,6 +1,33 @@
 """The pages that are made of the sources are up to date, and what they are made of is right; the scripts of tools/
 check."""
+import os
+import shutil
+import subprocess
+import sys
+import tempfile
+
 from tests import kit
+
+# What tools/trust must say of a wrong change: the file, its text, the wrong one, and a part of what is said.
+WRONG = [
+    ("docs/promises.table", "`laws::safe_of` of `lis_world` (over", "`laws::safe_of` of `lis_link` (over",
+     "laws::safe_of, which lis_link has not"),
+    ("docs/promises.table", "`failed`; `split`, `next_place`", "`failed`; `cut`, `next_place`",
+     "cut, which is no public function"),
+    ("docs/promises.table", "`read_sent`: `sent`", "`read_sent`: `empty`", "empty, which is no clause"),
+    ("docs/DEFINITIONS.md", "## `Steps`:", "## `LeadsTo`:", "LeadsTo, which no public contract cites"),
+    ("crates/lis_engine/src/print.rt", "use Rattle.lis_engine.specs.Output.{IsBuffered, out};",
+     "use Rattle.lis_engine.specs.Output.{IsBuffered, out};\nghost use Rattle.lis_run.specs.inside.Show.{heard_line};",
+     "heard_line is cited by a public contract"),
+    ("crates/lis_engine/src/print.rt", "    ghost text = { part_text };",
+     "    ghost text = { λ part. heard_line part };", "heard_line is cited by a public contract"),
+]
+# What changes nothing that is promised.
+HARMLESS = [
+    ("docs/promises.table", "`lis_port`: `ok`, `err`", "`lis_port`: `err`, `ok`"),
+    ("crates/lis_run/src/show.rt", "    ghost text = { λ line. heard_line line.0.now };",
+     "    ghost text = { λ heard. heard_line heard.0.now };"),
+]
 
 
 class Tools(kit.Test):
@@ -9,6 +36,36 @@ class Tools(kit.Test):
 
     def test_trust(self):
         self.counts("tools/trust")
+
+    def test_trust_sees_what_is_wrong(self):
+        """A promise that names what its crate has not, and a ghost member that makes a definition public."""
+        with tempfile.TemporaryDirectory() as folder:
+            for it in ("tools", "docs", "crates", "tests/proofs"):
+                shutil.copytree(os.path.join(kit.ROOT, it), os.path.join(folder, it),
+                                ignore=shutil.ignore_patterns("out", "must-fail", "mutants", "harmless"))
+            shutil.copy(os.path.join(kit.ROOT, "crates.txt"), folder)
+            told = self.said_of(folder, [it[:3] for it in WRONG])
+            for *_, new, said in WRONG:
+                self.check(any(said in line for line in told), f"{new}: {told}")
+            told = self.said_of(folder, HARMLESS)
+            self.check(not any("cites" in line or "is cited" in line for line in told), told)
+
+    def said_of(self, folder, changes):
+        """What tools/trust says of a copy of the repository with some texts changed."""
+        before = {}
+        for file, old, new in changes:
+            path = os.path.join(folder, file)
+            with open(path, encoding="utf-8") as it:
+                text = it.read()
+            before.setdefault(path, text)
+            self.check(text.count(old) == 1, f"{file} has {old!r} {text.count(old)} times")
+            with open(path, "w", encoding="utf-8") as it:
+                it.write(text.replace(old, new))
+        ran = subprocess.run([sys.executable, "tools/trust"], cwd=folder, capture_output=True, text=True)
+        for path, text in before.items():
+            with open(path, "w", encoding="utf-8") as it:
+                it.write(text)
+        return ran.stdout.splitlines()
 
     def test_api(self):
         self.counts("tools/api")
