@@ -75,3 +75,50 @@ class Tools(kit.Test):
 
     def test_version(self):
         self.counts("tools/version")
+
+
+# A kit that proves in no time: its `rt ci` makes a program of the crates' names.
+RT = """#!/bin/sh
+[ "$1" = ci ] || { echo a kit; exit; }
+echo 'rt: lis_port proved'
+mkdir -p crates/lislink/out
+ls crates > crates/lislink/out/lislink
+"""
+
+
+class Prove(kit.Test):
+    """tools/prove, over a kit that only says that it proves."""
+
+    def test_what_is_built_is_known(self):
+        with tempfile.TemporaryDirectory() as folder:
+            for it in ("tools", "crates", "tests/proofs"):
+                shutil.copytree(os.path.join(kit.ROOT, it), os.path.join(folder, it), ignore=shutil.ignore_patterns("out"))
+            for it in ("crates.txt", "HANDLES"):
+                shutil.copy(os.path.join(kit.ROOT, it), folder)
+            os.mkdir(f"{folder}/bin")
+            self.write(f"{folder}/bin/rt", RT)
+            os.chmod(f"{folder}/bin/rt", 0o755)
+            self.builds(folder, True, "the first time")
+            self.builds(folder, False, "nothing has changed")
+            self.write(f"{folder}/crates/lis_link/must-fail/another.edit", "file: src/lib.rt\n")
+            self.builds(folder, False, "only a mutant is new")
+            self.write(f"{folder}/crates/lis_c/src/lib.rt", "// a crate that the program doesn't use\n")
+            self.builds(folder, False, "only another crate has changed")
+            self.write(f"{folder}/crates/lis_text/src/lib.rt", "// a change\n")
+            self.builds(folder, True, "a crate has changed")
+            self.write(f"{folder}/build/lislink", "another program")
+            self.builds(folder, True, "the program is another")
+            self.write(f"{folder}/bin/rt", RT.replace("a kit", "another kit"))
+            self.builds(folder, True, "the kit is another")
+
+    @staticmethod
+    def write(path, text):
+        with open(path, "w", encoding="utf-8") as file:
+            file.write(text)
+
+    def builds(self, folder, wanted, why):
+        """Whether a call of tools/prove proves and builds, or finds what it built before."""
+        env = {**os.environ, "PATH": f"{folder}/bin:{os.environ['PATH']}"}
+        ran = subprocess.run([sys.executable, "tools/prove", "lislink", "build/lislink"], cwd=folder, env=env,
+                             capture_output=True, text=True)
+        self.check(ran.returncode == 0 and ("1 of " in ran.stdout) == wanted, f"{why}: {ran.stdout}{ran.stderr}")
