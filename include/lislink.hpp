@@ -383,6 +383,41 @@ class receiver {
     }
 
 public:
+    // A step that is answered later: keep its text, send its reply, and call sent(). If that isn't called, no reply may
+    // go out, and the receiver restarts; so an error between the two acknowledges nothing. Meanwhile the receiver hears
+    // no more, and stays where it is.
+    class [[nodiscard]] answer_due {
+        receiver *its_;    // null once nothing is due
+        lis_step step_;
+        std::string_view text_;
+        friend class receiver;
+        answer_due(receiver &its, const lis_step &step) noexcept
+            : its_(step.reply != 0 || step.has_text ? &its : nullptr), step_(step) {}
+
+    public:
+        answer_due(answer_due &&other) noexcept
+            : its_(std::exchange(other.its_, nullptr)), step_(other.step_), text_(other.text_) {}
+        answer_due &operator=(answer_due &&) = delete;
+        ~answer_due() { drop(); }
+
+        const lis_step &step() const noexcept { return step_; }
+        // The text that is complete, to be kept before the reply is sent.
+        std::optional<std::string_view> text() const noexcept {
+            return step_.has_text ? std::optional(text_) : std::nullopt;
+        }
+        // The byte that is to be sent.
+        std::optional<std::uint8_t> reply() const noexcept {
+            return step_.reply != 0 ? std::optional(step_.reply) : std::nullopt;
+        }
+        // The text was kept, and the reply was sent.
+        void sent() noexcept { its_ = nullptr; }
+        // No reply goes out.
+        void drop() noexcept {
+            if (receiver *its = std::exchange(its_, nullptr))
+                its->restart();
+        }
+    };
+
 #if defined(__cpp_exceptions)
     receiver() = default;
 #endif
@@ -403,6 +438,23 @@ public:
                 return false;
         }
         return true;
+    }
+
+    // Hears bytes up to the first step that means something, and takes them from the front of `bytes`. Its reply may be
+    // sent later; without a step all bytes are taken. If there is no memory for a text, the receiver restarts, and the
+    // note says so.
+    answer_due next_step(std::string_view &bytes) {
+        lis_step step{};
+        if (!bytes.empty())
+            bytes.remove_prefix(lis_receiver_hear(get(), detail::at(bytes), bytes.size(), &step));
+        if (step.has_text && !copy_text()) {
+            restart();
+            step = lis_step{};
+            step.note = LIS_NOTE_OUT_OF_MEMORY;
+        }
+        answer_due made(*this, step);
+        made.text_ = text_;
+        return made;
     }
 
     // The same for bytes that came after a time, when the line was last seen empty: a reply that could come after the

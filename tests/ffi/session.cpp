@@ -100,6 +100,30 @@ static void keep_little_room(lislink::writer &writer) {
         SAME(writer.text(place).value().capacity() < 256);
 }
 
+// A reply that is sent later; and one that isn't said to be sent, so that the receiver restarts.
+static void answer_later(lislink::receiver &receiver) {
+    const std::string stream = "\x05\x02" "1H|\\^&\r\x03" "E5\r\n\x04";
+    std::string_view bytes = stream;
+    std::string replies, kept;
+    while (!bytes.empty()) {
+        auto answer = receiver.next_step(bytes);
+        kept += answer.text().value_or(std::string_view());
+        replies += answer.reply() ? std::string(1, static_cast<char>(*answer.reply())) : "-";
+        answer.sent();
+    }
+    SAME(kept == "H|\\^&\r" && replies == "\x06\x06-" && !receiver.is_open());
+    bytes = stream;
+    receiver.next_step(bytes).sent();
+    SAME(receiver.is_open());
+    {
+        auto answer = receiver.next_step(bytes), moved = std::move(answer);
+        SAME(moved.step().note == LIS_NOTE_ACCEPTED && moved.text() && receiver.is_open());
+    }
+    SAME(!receiver.is_open());
+    bytes = "no signal";
+    SAME(!receiver.next_step(bytes).reply() && bytes.empty());
+}
+
 static void throw_in_keep(lislink::receiver &receiver) {
     std::string replies;
     auto send = [&](std::uint8_t byte) { replies.push_back(static_cast<char>(byte)); };
@@ -202,6 +226,7 @@ int main() {
     throw_in_start(sender);
     fail_to_keep(sender, receiver, texts);
     throw_in_keep(receiver);
+    answer_later(receiver);
     std::string store;
     add(sender, texts);
     carry(sender, receiver, [&](std::string_view text) { store += text; });

@@ -11,7 +11,7 @@ import time
 from tests import ROOT, kit
 from tests.ffi.c import C11, IN_C, SANITIZERS, python_over, shared
 
-RECEIVE = os.path.join(ROOT, "examples/python/quick_receive.py")
+RECEIVE, LATER = (os.path.join(ROOT, f"examples/python/{it}_receive.py") for it in ("quick", "async"))
 PROGRAMS = {"quick_send": ["examples/c/quick_send.c"], "quick_receive": ["examples/c/quick_receive.c"],
             "host": ["tests/ffi/host.c", "examples/c/host.c"]}
 TEXTS = [b"H|\\^&|||Analyzer\r", b"P|1\r", b"O|1|S7\r", b"R|1|^^^GLU|" + b"5" * 200 + b"\r", b"L|1|N\r"]
@@ -99,11 +99,12 @@ def whole(start, path, said):
 def of_receivers(test, work, how):
     path = f"{work}/kept"
     starts = {"quick_receive.c": lambda to: InC([f"{work}/quick_receive", to]),
-              "quick_receive.py": lambda to: InPython([sys.executable, RECEIVE, "0", to], **how)}
+              "quick_receive.py": lambda to: InPython([sys.executable, RECEIVE, "0", to], **how),
+              "async_receive.py": lambda to: InPython([sys.executable, LATER, "0", to], **how)}
     for name, start in starts.items():
         for cut in range(len(TEXTS) + 1):
             test.check(killed(start, path, cut), f"{name}, killed after {cut} texts")
-        said = b"H P O R L\n" if name.endswith(".py") else b""
+        said = b"H P O R L\n" if name == "quick_receive.py" else b""
         test.check(whole(start, path, said), f"{name}, a whole session")
         sample = start("/dev/full")
         test.check(ask(sample.line, ENQ, ACK) and ask(sample.line, frame(1, TEXTS[0]), b""),

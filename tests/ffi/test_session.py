@@ -19,21 +19,22 @@ LANGUAGES = {"C": (("gcc", "clang"), ["-std=c99"], "session.c"),
              "C++": (("g++", "clang++"), ["-std=c++17"], "session.cpp")}
 
 
-def receives(test, program, path, build):
-    """The example that receives: killed after each text, in a whole session, and with a text that can't be kept; and
-    stopped for so long that its reply would be late."""
+def receives(test, name, program, path, build, goes_on=True):
+    """An example that receives: killed after each text, in a whole session, and with a text that can't be kept (after
+    which it goes on or ends); and stopped for so long that its reply would be late."""
     def start(to):
         return samples.InPython([program, "0", to], env={**os.environ, "LD_LIBRARY_PATH": build})
     late = samples.paused(start(f"{path}-late"))
     for cut in range(len(samples.TEXTS) + 1):
-        test.check(samples.killed(start, path, cut), f"receive.rs, killed after {cut} texts")
-    test.check(samples.whole(start, path, b""), "receive.rs, a whole session")
+        test.check(samples.killed(start, path, cut), f"{name}, killed after {cut} texts")
+    test.check(samples.whole(start, path, b""), f"{name}, a whole session")
     full = start("/dev/full")
     good = samples.ask(full.line, samples.ENQ, samples.ACK)
     good = good and samples.ask(full.line, samples.frame(1, samples.TEXTS[0]), b"")
-    test.check(good and samples.ask(full.line, samples.ENQ, samples.ACK), "receive.rs: a text that can't be kept")
+    good = good and (not goes_on or samples.ask(full.line, samples.ENQ, samples.ACK))
+    test.check(good, f"{name}: a text that can't be kept")
     full.end()
-    test.check(samples.is_silent_late(*late), "receive.rs, stopped for 12 seconds, sends no late reply")
+    test.check(samples.is_silent_late(*late), f"{name}, stopped for 12 seconds, sends no late reply")
 
 
 class Session(kit.Test):
@@ -72,6 +73,16 @@ class Session(kit.Test):
         if self.runs(words):
             self.runs([f"{work}/status"], "")
 
+    def test_later(self):
+        """The sample that receives with callbacks."""
+        if not shutil.which("g++"):
+            self.skipTest("examples/cpp/later.cpp, since there is no g++")
+        work = kit.folder_of(self)
+        words = ["g++", "-std=c++17", *WARNINGS, *SANITIZERS, f"{ROOT}/examples/cpp/later.cpp",
+                 os.path.join(self.build, "liblislink.a"), "-o", f"{work}/later"]
+        if self.runs(words):
+            receives(self, "later.cpp", f"{work}/later", f"{work}/kept", self.build)
+
     def test_rust_is_up_to_date(self):
         self.assertTrue(self.runs([sys.executable, os.path.join(RUST, "generate"), "--check"]))
 
@@ -84,5 +95,7 @@ class Session(kit.Test):
                                     "CARGO_NET_OFFLINE": "true", "RUSTFLAGS": "-D warnings"}}
         self.runs(["cargo", "test", "--quiet", "--offline", "--locked"], **how)
         self.runs(["cargo", "run", "--quiet", "--offline", "--locked", "--example", "session"], self.said, **how)
-        self.runs(["cargo", "build", "--quiet", "--offline", "--locked", "--example", "receive"], **how)
-        receives(self, f"{work}/rust/debug/examples/receive", f"{work}/kept", self.build)
+        for name in ("receive", "later"):
+            self.runs(["cargo", "build", "--quiet", "--offline", "--locked", "--example", name], **how)
+            receives(self, f"{name}.rs", f"{work}/rust/debug/examples/{name}", f"{work}/{name}", self.build,
+                     goes_on=name == "receive")

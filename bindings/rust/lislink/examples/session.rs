@@ -138,8 +138,8 @@ fn of_long_frames() {
     let line = sender.connected();
     sender.add(&text).expect("memory");
     assert_eq!(&sender.start().expect("a session")[..], b"\x05");
-    assert_eq!(sender.reply_any(line, 6), bytes);
-    assert_eq!(sender.reply_any(line, 6), b"\x04");
+    assert_eq!(sender.reply(line, 6), bytes);
+    assert_eq!(sender.reply(line, 6), b"\x04");
 }
 
 fn main() {

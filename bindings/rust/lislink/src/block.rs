@@ -57,7 +57,7 @@ impl<H: Handle> Block<H> {
         &mut self.0
     }
 
-    /// A copy of the handle, for what is owned with the block.
+    /// A copy of the handle, for what is owned with the block, and for calls that change nothing.
     pub(crate) fn handle(&self) -> H {
         self.0
     }

@@ -21,7 +21,7 @@ mod writer;
 pub use codes::{Fault, Note, Outcome, Phase, Ready, Reason, Status};
 pub use frame::{frame, long_frame, Bytes, FrameLimit, Scanner, Signal};
 pub use reader::{MessageError, Part, Reader, Record, Records};
-pub use receiver::{Heard, Receiver, Step};
+pub use receiver::{Answer, Heard, Receiver, Step};
 pub use sender::{Connection, Sender, Text};
 pub use writer::{Delimiters, Writer};
 

@@ -36,6 +36,47 @@ impl Default for Receiver {
     }
 }
 
+/// A step that is answered later: keep its text, send its reply, and say [`sent`](Self::sent). If that isn't said, no
+/// reply may go out, and the receiver restarts as this is dropped; so an error between the two acknowledges nothing.
+#[must_use = "keep the text, send the reply, and then say `sent`; else the receiver restarts"]
+pub struct Answer<'a> {
+    receiver: &'a mut Receiver,
+    step: Step,
+    has_text: bool,
+    reply: Option<u8>,
+    is_due: bool,
+}
+
+impl Answer<'_> {
+    /// What the bytes meant.
+    pub fn step(&self) -> Step {
+        self.step
+    }
+
+    /// The text that is complete, to be kept before the reply is sent.
+    pub fn text(&self) -> Option<&[u8]> {
+        self.has_text.then_some(&self.receiver.text[..])
+    }
+
+    /// The byte that is to be sent.
+    pub fn reply(&self) -> Option<u8> {
+        self.reply
+    }
+
+    /// The text was kept, and the reply was sent.
+    pub fn sent(mut self) {
+        self.is_due = false;
+    }
+}
+
+impl Drop for Answer<'_> {
+    fn drop(&mut self) {
+        if self.is_due {
+            self.receiver.restart();
+        }
+    }
+}
+
 /// Restarts the receiver unless all went well, also if a closure panics.
 struct Guard<'a> {
     receiver: &'a mut Receiver,
@@ -116,8 +157,33 @@ impl Receiver {
         Heard::All
     }
 
+    /// Hears bytes up to the first step that means something, and takes them from the front of `bytes`. Its reply may be
+    /// sent later, as after an `await`; until then the receiver hears no more. Without a step all bytes are taken. If
+    /// there is no memory for a text, the receiver restarts, and the note says so.
+    pub fn next_step(&mut self, bytes: &mut &[u8]) -> Answer<'_> {
+        let mut step = no_step();
+        if !bytes.is_empty() {
+            let receiver = self.block.get();
+            let heard =
+                unsafe { sys::lis_receiver_hear(receiver, bytes.as_ptr(), bytes.len(), &mut step) };
+            *bytes = &bytes[heard..];
+        }
+        if step.has_text && !self.copy_text() {
+            self.restart();
+            step = sys::lis_step { note: sys::LIS_NOTE_OUT_OF_MEMORY, ..no_step() };
+        }
+        let reply = Some(step.reply).filter(|&byte| byte != 0);
+        let is_due = reply.is_some() || step.has_text;
+        Answer { receiver: self, step: step_of(&step), has_text: step.has_text, reply, is_due }
+    }
+
     /// Whether the text that is complete is kept.
     fn keeps(&mut self, keep: &mut impl FnMut(&[u8]) -> bool) -> bool {
+        self.copy_text() && keep(&self.text)
+    }
+
+    /// Copies the text that is complete; whether there is memory for it.
+    fn copy_text(&mut self) -> bool {
         let receiver = self.block.get();
         let len = unsafe { sys::lis_receiver_text_len(receiver) };
         self.text.clear();
@@ -126,7 +192,7 @@ impl Receiver {
         }
         self.text.resize(len, 0);
         let status = unsafe { sys::lis_receiver_text(receiver, self.text.as_mut_ptr(), len) };
-        status == sys::LIS_STATUS_OK && keep(&self.text)
+        status == sys::LIS_STATUS_OK
     }
 
     /// The receiver's timer ran out, 30 seconds after the last step that meant something.
@@ -159,18 +225,18 @@ impl Receiver {
     }
 
     /// Whether the line is open, and so the receiver's timer runs.
-    pub fn is_open(&mut self) -> bool {
-        unsafe { sys::lis_receiver_is_open(self.block.get()) }
+    pub fn is_open(&self) -> bool {
+        unsafe { sys::lis_receiver_is_open(&mut self.block.handle()) }
     }
 
     /// How many frames were accepted since the line was opened.
-    pub fn accepted(&mut self) -> u64 {
-        unsafe { sys::lis_receiver_accepted(self.block.get()) }
+    pub fn accepted(&self) -> u64 {
+        unsafe { sys::lis_receiver_accepted(&mut self.block.handle()) }
     }
 
     /// How many bytes are held of a text that isn't complete.
-    pub fn held(&mut self) -> u64 {
-        unsafe { sys::lis_receiver_held(self.block.get()) }
+    pub fn held(&self) -> u64 {
+        unsafe { sys::lis_receiver_held(&mut self.block.handle()) }
     }
 }
 

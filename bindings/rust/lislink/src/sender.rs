@@ -51,8 +51,7 @@ impl<'t> Sender<'t> {
         Sender { line, _block: block, limit, sent: Vec::new(), texts: PhantomData }
     }
 
-    /// The same for frames whose texts are within a limit. With the long one take the bytes to be sent from
-    /// [`reply_any`](Self::reply_any): [`Bytes`] has no room for a long frame, so [`reply`](Self::reply) leaves it out.
+    /// The same for frames whose texts are within a limit.
     pub fn with_frame_limit(limit: FrameLimit) -> Result<Self, Error> {
         let mut sender = Self::new();
         let status = unsafe { sys::lis_sender_set_limit(&mut sender.line.sender, limit.bytes()) };
@@ -99,18 +98,13 @@ impl<'t> Sender<'t> {
         Ok(out)
     }
 
-    /// A byte came over a connection.
-    pub fn reply(&mut self, from: Connection, byte: u8) -> Bytes {
+    /// A byte came over a connection. The bytes to be sent are good until the next call.
+    pub fn reply(&mut self, from: Connection, byte: u8) -> &[u8] {
         let mut out = Bytes::none();
         unsafe { sys::lis_line_reply(&mut self.line, from.0, byte, out.get()) };
-        out
-    }
-
-    /// The same for frames of either limit.
-    pub fn reply_any(&mut self, from: Connection, byte: u8) -> &[u8] {
-        let out = self.reply(from, byte);
         self.sent.clear();
         self.sent.extend_from_slice(&out);
+        // `Bytes` has no room for a long frame.
         if out.is_empty() && self.limit == FrameLimit::Long {
             self.sent.resize(sys::LIS_LIMIT_LONG_FRAME_BYTES as usize, 0);
             let (to, room, mut size) = (self.sent.as_mut_ptr(), self.sent.len(), 0);
@@ -133,27 +127,32 @@ impl<'t> Sender<'t> {
     }
 
     /// What the sender waits for.
-    pub fn phase(&mut self) -> Phase {
-        Phase::of(unsafe { sys::lis_sender_phase(&mut self.line.sender) })
+    pub fn phase(&self) -> Phase {
+        Phase::of(unsafe { sys::lis_sender_phase(&mut self.handle()) })
     }
 
     /// How the last session ended.
-    pub fn outcome(&mut self) -> Outcome {
-        Outcome::of(unsafe { sys::lis_sender_outcome(&mut self.line.sender) })
+    pub fn outcome(&self) -> Outcome {
+        Outcome::of(unsafe { sys::lis_sender_outcome(&mut self.handle()) })
     }
 
     /// How many frames of the session are acknowledged.
-    pub fn acknowledged(&mut self) -> u64 {
-        unsafe { sys::lis_sender_acknowledged(&mut self.line.sender) }
+    pub fn acknowledged(&self) -> u64 {
+        unsafe { sys::lis_sender_acknowledged(&mut self.handle()) }
     }
 
     /// How long the phase lasts before its timer runs out.
-    pub fn patience(&mut self) -> Option<Duration> {
+    pub fn patience(&self) -> Option<Duration> {
         match self.phase() {
             Phase::Neutral => None,
             Phase::Busy => Some(Duration::from_secs(sys::LIS_SECONDS_BUSY)),
             Phase::Contention => Some(Duration::from_secs(sys::LIS_SECONDS_CONTENTION)),
             _ => Some(Duration::from_secs(sys::LIS_SECONDS_REPLY)),
         }
+    }
+
+    /// A copy of the handle, for calls that change nothing.
+    fn handle(&self) -> sys::lis_sender {
+        self.line.sender
     }
 }

@@ -83,22 +83,22 @@ impl Writer {
     }
 
     /// How many records were put.
-    pub fn texts_len(&mut self) -> usize {
-        unsafe { sys::lis_writer_texts(self.0.get()) }
+    pub fn texts_len(&self) -> usize {
+        unsafe { sys::lis_writer_texts(&mut self.0.handle()) }
     }
 
     /// The text of a record, with its CR.
-    pub fn text(&mut self, place: usize) -> Option<Vec<u8>> {
-        let len = unsafe { sys::lis_writer_text_len(self.0.get(), place) };
+    pub fn text(&self, place: usize) -> Option<Vec<u8>> {
+        let mut writer = self.0.handle();
+        let len = unsafe { sys::lis_writer_text_len(&mut writer, place) };
         let (mut out, mut size) = (vec![0; len], 0);
-        let status = unsafe {
-            sys::lis_writer_text(self.0.get(), place, out.as_mut_ptr(), out.len(), &mut size)
-        };
+        let status =
+            unsafe { sys::lis_writer_text(&mut writer, place, out.as_mut_ptr(), len, &mut size) };
         (Status::of(status) == Status::Ok).then_some(out)
     }
 
     /// The texts of the records, in their order.
-    pub fn texts(&mut self) -> impl Iterator<Item = Vec<u8>> + '_ {
+    pub fn texts(&self) -> impl Iterator<Item = Vec<u8>> + '_ {
         (0..self.texts_len()).map_while(|place| self.text(place))
     }
 }

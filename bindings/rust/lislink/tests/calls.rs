@@ -39,8 +39,8 @@ fn each_may_move_to_another_thread() {
 }
 
 fn done(sender: &mut Sender, line: Connection) {
-    assert_eq!(&sender.reply(line, 6)[..], HEADER);
-    assert_eq!(&sender.reply(line, 6)[..], b"\x04");
+    assert_eq!(sender.reply(line, 6), HEADER);
+    assert_eq!(sender.reply(line, 6), b"\x04");
     assert_eq!(sender.outcome(), Outcome::Done);
 }
 
@@ -80,18 +80,18 @@ fn a_sender_of_long_frames_sends_them() {
         sender.add(text).unwrap();
     }
     assert_eq!(&sender.start().unwrap()[..], b"\x05");
-    assert_eq!(sender.reply_any(line, 21), b"");
+    assert_eq!(sender.reply(line, 21), b"");
     assert_eq!((sender.phase(), &sender.timer()[..]), (Phase::Busy, &b"\x05"[..]));
     let frames = [1, 2].map(|number| long_frame(number, true, &texts[usize::from(number) - 1]));
     let [first, second] = frames.map(Result::unwrap);
-    assert_eq!(sender.reply_any(line, 6), first);
-    assert_eq!(sender.reply_any(old, 6), b"");
-    assert_eq!(sender.reply_any(line, 21), first);
-    assert!(sender.reply(line, 21).is_empty());
-    assert_eq!(sender.reply_any(line, 6), second);
-    assert_eq!(sender.reply_any(line, 6), b"\x04");
+    assert_eq!(sender.reply(line, 6), first);
+    assert_eq!(sender.reply(old, 6), b"");
+    assert_eq!(sender.reply(line, 21), first);
+    assert_eq!(sender.reply(line, 21), first);
+    assert_eq!(sender.reply(line, 6), second);
+    assert_eq!(sender.reply(line, 6), b"\x04");
     assert_eq!((sender.outcome(), sender.acknowledged()), (Outcome::Done, 2));
-    assert_eq!(sender.reply_any(line, 6), b"");
+    assert_eq!(sender.reply(line, 6), b"");
 }
 
 #[test]
@@ -101,8 +101,8 @@ fn a_sender_of_usual_frames_cuts_a_long_text() {
     let line = sender.connected();
     sender.start().unwrap();
     let first = long_frame(1, false, &[b'a'; 240]).unwrap();
-    assert_eq!(sender.reply_any(line, 6), first);
-    assert_eq!(&sender.reply(line, 21)[..], first);
+    assert_eq!(sender.reply(line, 6), first);
+    assert_eq!(sender.reply(line, 21), first);
 }
 
 #[test]
@@ -193,4 +193,60 @@ fn a_receiver_says_what_it_heard() {
     assert_eq!(receiver.reserve(1_048_577).err().map(|it| it.status), Some(Status::TooLong));
     assert_eq!((receiver.accepted(), receiver.held()), (0, 0));
     assert_eq!((receiver.timer().note, receiver.timer().note), (Note::TimedOut, Note::Quiet));
+}
+
+/// What a loop does that answers later: it keeps the text, and sends the reply, unless one of these fails.
+fn answered(
+    receiver: &mut Receiver,
+    mut bytes: &[u8],
+    store: &mut Vec<u8>,
+    mut send: impl FnMut(u8) -> std::io::Result<()>,
+) -> std::io::Result<()> {
+    while !bytes.is_empty() {
+        let answer = receiver.next_step(&mut bytes);
+        if let Some(text) = answer.text() {
+            store.extend_from_slice(text);
+        }
+        if let Some(reply) = answer.reply() {
+            send(reply)?;
+        }
+        answer.sent();
+    }
+    Ok(())
+}
+
+#[test]
+fn a_reply_may_be_sent_later() {
+    let (mut receiver, mut store, mut replies) = (Receiver::new(), Vec::new(), Vec::new());
+    let stream = [b"\x05", HEADER, b"\x04"].concat();
+    let send = |reply| {
+        replies.push(reply);
+        Ok(())
+    };
+    answered(&mut receiver, &stream, &mut store, send).unwrap();
+    assert_eq!((&store[..], &replies[..]), (&b"H|\\^&\r"[..], &b"\x06\x06"[..]));
+    assert!(!receiver.is_open());
+}
+
+#[test]
+fn a_reply_that_is_not_said_to_be_sent_ends_the_session() {
+    let (mut receiver, mut store, mut count) = (Receiver::new(), Vec::new(), 0);
+    let stream = [b"\x05", HEADER].concat();
+    let send = |_| {
+        count += 1;
+        if count < 2 {
+            Ok(())
+        } else {
+            Err(std::io::Error::other("the line is gone"))
+        }
+    };
+    let fault = answered(&mut receiver, &stream, &mut store, send).unwrap_err();
+    assert_eq!((fault.to_string(), receiver.is_open()), ("the line is gone".to_string(), false));
+    let mut enq: &[u8] = b"\x05";
+    receiver.next_step(&mut enq).sent();
+    assert!(receiver.is_open() && enq.is_empty());
+    let mut bytes = HEADER;
+    let note = receiver.next_step(&mut bytes).step().note;
+    assert_eq!((note, receiver.is_open(), bytes.len()), (Note::Accepted, false, 0));
+    assert_eq!(receiver.next_step(&mut bytes).reply(), None);
 }

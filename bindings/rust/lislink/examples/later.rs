@@ -1,0 +1,92 @@
+//! Receives in an `async` function: keeping a text and sending its reply are both awaited. later PORT FILE; PORT 0 is one
+//! that is free, and is printed. An error between the two drops the answer, so the receiver restarts, and no reply goes
+//! out.
+//!
+//! The futures here are the standard library's, and are ready at once. With a runtime as tokio, `Line` is its `TcpStream`
+//! with a `read` and a `write_all` that wait, and `keep` is what its `spawn_blocking` runs; `receive` stays as it is.
+
+use lislink::Receiver;
+use std::fs::{File, OpenOptions};
+use std::future::Future;
+use std::io::{self, Read, Write};
+use std::net::{TcpListener, TcpStream};
+use std::os::unix::fs::OpenOptionsExt;
+use std::pin::pin;
+use std::task::{Context, Poll, Waker};
+use std::time::{Duration, Instant};
+
+/// A reply that goes out later could come after the analyzer's timer, which is 15 seconds.
+const LATE: Duration = Duration::from_secs(10);
+
+/// A line of some runtime.
+trait Line {
+    async fn read(&mut self, bytes: &mut [u8]) -> io::Result<usize>;
+    async fn send(&mut self, reply: u8) -> io::Result<()>;
+}
+
+impl Line for TcpStream {
+    async fn read(&mut self, bytes: &mut [u8]) -> io::Result<usize> {
+        Read::read(self, bytes)
+    }
+
+    async fn send(&mut self, reply: u8) -> io::Result<()> {
+        self.write_all(&[reply])
+    }
+}
+
+async fn keep(store: &mut File, text: &[u8]) -> io::Result<()> {
+    store.write_all(text)?;
+    store.sync_all()
+}
+
+/// Keeps each text and replies, until the line is closed.
+async fn receive(line: &mut impl Line, store: &mut File) -> io::Result<()> {
+    let (mut receiver, mut room) = (Receiver::new(), [0; 4096]);
+    let mut seen_empty = Instant::now();
+    loop {
+        let before = Instant::now();
+        let got = line.read(&mut room).await?;
+        if got == 0 {
+            return Ok(());
+        }
+        let mut bytes = &room[..got];
+        while !bytes.is_empty() {
+            let answer = receiver.next_step(&mut bytes);
+            if let Some(text) = answer.text() {
+                keep(store, text).await?;
+            }
+            match answer.reply() {
+                Some(_) if seen_empty.elapsed() > LATE => break, // the analyzer sends this session again
+                Some(reply) => line.send(reply).await?,
+                None => (),
+            }
+            answer.sent();
+        }
+        if got < room.len() {
+            seen_empty = before; // what comes next came after this read began
+        }
+    }
+}
+
+/// Runs a future to its end: a runtime's part.
+fn block_on<T>(future: impl Future<Output = T>) -> T {
+    let (mut future, mut context) = (pin!(future), Context::from_waker(Waker::noop()));
+    loop {
+        if let Poll::Ready(done) = future.as_mut().poll(&mut context) {
+            return done;
+        }
+    }
+}
+
+fn main() -> io::Result<()> {
+    let words: Vec<String> = std::env::args().collect();
+    let [_, port, path] = words.as_slice() else {
+        return Err(io::Error::other("usage: later PORT FILE"));
+    };
+    let port: u16 = port.parse().map_err(io::Error::other)?;
+    let mut store = OpenOptions::new().append(true).create(true).mode(0o600).open(path)?;
+    let server = TcpListener::bind(("127.0.0.1", port))?;
+    println!("port {}", server.local_addr()?.port());
+    let (mut line, _) = server.accept()?;
+    block_on(receive(&mut line, &mut store))
+}

@@ -1,0 +1,138 @@
+// Receives from an analyzer with callbacks: later PORT FILE; PORT 0 is one that is free, and is printed. Keeping a text
+// and sending a reply end later, each by a call of its handler, as with asio. An error between the two drops the answer,
+// so the receiver restarts, and no reply goes out.
+//
+// The event loop here is a queue of handlers over blocking calls. With asio, `line` is its socket with async_read_some
+// and async_write, and `store` posts to a thread pool; `session` stays as it is.
+#include <lislink.hpp>
+
+#include <arpa/inet.h>
+#include <chrono>
+#include <cstdio>
+#include <cstdlib>
+#include <deque>
+#include <fcntl.h>
+#include <functional>
+#include <optional>
+#include <sys/socket.h>
+#include <unistd.h>
+
+using clock_type = std::chrono::steady_clock;
+using handler = std::function<void(bool good)>;
+
+// A reply that goes out later could come after the analyzer's timer, which is 15 seconds.
+static constexpr auto late = std::chrono::seconds(10);
+
+static std::deque<std::function<void()>> events;
+
+struct store {
+    int file;
+
+    void async_keep(std::string_view text, handler done) {
+        off_t end = lseek(file, 0, SEEK_END);
+        bool good = write(file, text.data(), text.size()) == static_cast<ssize_t>(text.size()) && fsync(file) == 0;
+        if (!good && ftruncate(file, end) != 0)    // no half of a text stays
+            std::perror("later");
+        events.push_back([done, good] { done(good); });
+    }
+};
+
+struct line {
+    int socket;
+
+    void async_read(char *room, std::size_t size, std::function<void(std::size_t)> done) {
+        ssize_t got = read(socket, room, size);
+        events.push_back([done, got] { done(got > 0 ? static_cast<std::size_t>(got) : 0); });
+    }
+    void async_send(std::uint8_t reply, handler done) {
+        bool good = send(socket, &reply, 1, MSG_NOSIGNAL) == 1;
+        events.push_back([done, good] { done(good); });
+    }
+};
+
+class session {
+    line &line_;
+    store &store_;
+    lislink::receiver receiver_;
+    std::optional<lislink::receiver::answer_due> answer_;    // of the step that is being answered
+    char room_[4096];
+    std::string_view bytes_;                                 // what is not heard yet
+    bool all_read_ = false;                                  // whether the last read left none
+    clock_type::time_point before_ = clock_type::now(), seen_empty_ = before_;
+
+    // The step is answered, or what it kept or sent failed; the next step, or the next bytes.
+    void answered(bool good) {
+        if (good)
+            answer_->sent();
+        else
+            bytes_ = {};    // the analyzer sends this session again
+        answer_.reset();
+        hear();
+    }
+
+    void reply() {
+        if (!answer_->reply())
+            return answered(true);
+        if (clock_type::now() - seen_empty_ > late)
+            return answered(false);
+        line_.async_send(*answer_->reply(), [this](bool good) { answered(good); });
+    }
+
+    void hear() {
+        while (!bytes_.empty()) {
+            answer_.emplace(receiver_.next_step(bytes_));
+            if (answer_->text())
+                return store_.async_keep(*answer_->text(), [this](bool good) { good ? reply() : answered(false); });
+            if (answer_->reply())
+                return reply();
+            answer_.reset();
+        }
+        if (all_read_)
+            seen_empty_ = before_;    // what comes next came after that read began
+        listen();
+    }
+
+public:
+    session(line &its_line, store &its_store) : line_(its_line), store_(its_store) {}
+
+    void listen() {
+        before_ = clock_type::now();
+        line_.async_read(room_, sizeof room_, [this](std::size_t got) {
+            bytes_ = std::string_view(room_, got);
+            all_read_ = got < sizeof room_;
+            if (got > 0)
+                hear();
+        });
+    }
+};
+
+static int accept_one(unsigned short port) {
+    int server = socket(AF_INET, SOCK_STREAM, 0);
+    sockaddr_in at{};
+    socklen_t size = sizeof at;
+    at.sin_family = AF_INET;
+    at.sin_port = htons(port);
+    at.sin_addr.s_addr = htonl(INADDR_LOOPBACK);
+    if (server < 0 || bind(server, reinterpret_cast<sockaddr *>(&at), sizeof at) != 0 || listen(server, 1) != 0
+        || getsockname(server, reinterpret_cast<sockaddr *>(&at), &size) != 0)
+        return -1;
+    std::printf("port %d\n", ntohs(at.sin_port));
+    std::fflush(stdout);
+    return accept(server, nullptr, nullptr);
+}
+
+int main(int count, char **words) {
+    if (count != 3)
+        return std::fputs("usage: later PORT FILE\n", stderr), 2;
+    store kept{open(words[2], O_WRONLY | O_APPEND | O_CREAT, 0600)};
+    line analyzer{kept.file < 0 ? -1 : accept_one(static_cast<unsigned short>(std::atoi(words[1])))};
+    if (analyzer.socket < 0)
+        return std::perror("later"), 1;
+    session its(analyzer, kept);
+    its.listen();
+    for (; !events.empty(); events.pop_front()) {
+        auto event = events.front();
+        event();
+    }
+    return 0;
+}

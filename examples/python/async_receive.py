@@ -1,0 +1,65 @@
+#!/usr/bin/env python3
+"""Receives from analyzers on a TCP port with asyncio: keeping a text and sending its reply are both awaited, so other
+lines go on meanwhile.
+
+    async_receive.py PORT FILE          PORT 0 is one that is free, and is printed
+
+A step is answered before the receiver hears on: keep, then reply. An error between the two ends the connection, and no
+reply goes out.
+"""
+import asyncio
+import os
+import sys
+
+import lislink
+
+LATE = 10  # seconds: a reply that goes out later could come after the analyzer's timer, which is 15
+
+
+def keep(store, text):
+    store.write(text)
+    store.flush()
+    os.fsync(store.fileno())
+
+
+async def receive(reader, writer, store):
+    loop = asyncio.get_running_loop()
+    seen_empty = loop.time()
+    with lislink.Receiver() as receiver:
+        while True:
+            before = loop.time()
+            data = await reader.read(4096)
+            if not data:
+                return
+            for step in receiver.hear(data):
+                if step.text is not None:
+                    await loop.run_in_executor(None, keep, store, step.text)
+                if step.reply and loop.time() - seen_empty > LATE:
+                    return                      # the analyzer connects anew, and sends this session again
+                writer.write(step.reply)
+                await writer.drain()
+            if len(data) < 4096:                # what comes next came after this read began
+                seen_empty = before
+
+
+async def main():
+    with open(sys.argv[2], "ab") as store:
+        done = asyncio.Event()
+
+        async def serve(reader, writer):
+            try:
+                await receive(reader, writer, store)
+            except OSError as fault:
+                print(f"no reply was sent: {fault}", file=sys.stderr)
+            finally:
+                writer.close()
+                done.set()
+
+        server = await asyncio.start_server(serve, "127.0.0.1", int(sys.argv[1]))
+        print("port", server.sockets[0].getsockname()[1], flush=True)
+        await done.wait()                       # a sample serves one connection to its end; a host goes on
+        server.close()
+
+
+if __name__ == "__main__":
+    asyncio.run(main())
