@@ -26,7 +26,7 @@ PAGES = ["README.md", "CONTRIBUTING.md", "CHANGELOG.md", "SECURITY.md", "docs/*.
 SOURCES = {
     "rust": ["crates/uses/src/*.rt", "crates/quick_results/src/*.rt", "bindings/rust/**/*.rs"],
     "c": ["examples/c/*.c", "bindings/**/*.c"],
-    "cpp": ["tests/**/*.cpp"],
+    "cpp": ["examples/cpp/*.cpp", "tests/**/*.cpp"],
     "python": ["examples/python/*.py", "python/src/lislink/**/*.py"],
 }
 # What a command begins with: a block with such a line is a block of a shell.
