@@ -13,6 +13,7 @@ PROGRAMS = {"values": (["values.c", "names.c", "pieces.c", "heap.c"], re.escape(
             "null": (["../../tests/ffi/null.c", "heap.c"], r"\d+ compared\n"),
             "long": (["../../tests/ffi/long.c"], r"\d+ compared\n"),
             "parts": (["../../tests/ffi/parts.c", "heap.c"], r"\d+ compared\n"),
+            "room": (["../../tests/ffi/room.c"], r"499 texts, 0 calls of the heap for the last 497\n"),
             "last": (["../../tests/ffi/last.c", "heap.c"], r"\d+ compared\n"),
             "serial": (["../../tests/ffi/serial.c", "serial.c"], r"in out\n"),
             "line": (["../../tests/ffi/line.c", "connection.c", "heap.c"], r"\d+ compared\n"),

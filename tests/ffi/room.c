@@ -1,0 +1,54 @@
+/* The room of a text is used again: once two texts of a length were delivered, a receiver takes no more memory for texts
+ * that are no longer. Counts the calls of the heap. */
+#include "../../examples/c/refusing_heap.h"
+#include <stdio.h>
+#include <string.h>
+
+/* The link bytes of a frame with a text of 200 bytes. */
+static size_t frame(uint8_t *out, unsigned number) {
+    uint8_t sum = 0;
+    out[0] = 2;
+    out[1] = (uint8_t)('0' + number % 8);
+    memset(out + 2, 'a', 199);
+    out[201] = '\r';
+    out[202] = 3;
+    for (size_t at = 1; at <= 202; at++)
+        sum = (uint8_t)(sum + out[at]);
+    snprintf((char *)out + 203, 3, "%02X", sum);
+    out[205] = '\r';
+    out[206] = '\n';
+    return 207;
+}
+
+/* How many texts of a session are delivered, from the frame of one number to that before another. */
+static unsigned hears(lis_receiver *receiver, unsigned from, unsigned to) {
+    uint8_t bytes[207];
+    unsigned texts = 0;
+    for (unsigned number = from; number < to; number++) {
+        size_t len = frame(bytes, number);
+        for (size_t heard = 0; heard < len;) {
+            lis_step step;
+            heard += lis_receiver_hear(receiver, bytes + heard, len - heard, &step);
+            texts += step.has_text && step.reply == 6 && lis_receiver_text_len(receiver) == 200;
+        }
+    }
+    return texts;
+}
+
+int main(void) {
+    void *at = aligned_alloc(lis_receiver_align(), lis_receiver_size());
+    const uint8_t enq = 5;
+    lis_receiver receiver = {at};
+    lis_step step;
+    lis_receiver_init(at);
+    if (lis_receiver_reserve(&receiver, 1000) != LIS_STATUS_OK)
+        return 1;
+    lis_receiver_hear(&receiver, &enq, 1, &step);
+    unsigned first = hears(&receiver, 1, 3);
+    size_t before = calls;
+    unsigned more = hears(&receiver, 3, 500);
+    printf("%u texts, %zu calls of the heap for the last %u\n", first + more, calls - before, more);
+    lis_receiver_end(receiver);
+    free(at);
+    return live != 0;
+}
