@@ -16,7 +16,7 @@ use Rattle.lis_report.specs.Answers.{Outcome}
 use Rattle.lis_engine.specs.Parts.{text_if_any}
 use Rattle.lis_engine.specs.Output.{IsBuffered, Out, WentOut}
 use Rattle.lis_engine.proofs.BufferLaws.{buffered_stops}
-use Rattle.lis_engine.specs.Runs.{HasRun, KnownPorts, Shown, WroteOutcome, WroteText}
+use Rattle.lis_engine.specs.Runs.{HasRun, KnownPorts, Ran, Shown, WroteOutcome, WroteText}
 use Rattle.lis_run.specs.Show.{Shows, clean, frame_line, show, signal_line, signal_lines}
 use Rattle.lis_link.proofs.HearingLaws.{stream_with-append}
 
@@ -131,12 +131,14 @@ shown_ran limit old new result ran =
 
 -- and of its status
 pub shown_status :
-    (limit : ℕ) (old new : KnownPorts) (result : Result Report ToolFault) → HasRun false (Shows limit) old new result
+    (limit : ℕ) {left_old left_new taken_old taken_new : Option (List ℕ)} {ended : Bool}
+    (result : Result Report ToolFault)
+    → Ran false (Shows limit) left_old left_new taken_old taken_new ended result
     → IfOk result (λ report. report.status ≡ 0)
-shown_status limit old new (Ok report) ran =
-    status_of new.ended (sym (ap (λ (o : Outcome). o.halt) ran.meant) ∙ ran.wrote.0)
+shown_status limit {ended = ended} (Ok report) ran =
+    status_of ended (sym (ap (λ (o : Outcome). o.halt) ran.meant) ∙ ran.wrote.0)
   where
     status_of : (e : Bool) → at_end e clean ≡ Some (Ok report) → report.status ≡ 0
     status_of true is = cc
     status_of false is = cc
-shown_status limit old new (Err fault) ran = tt
+shown_status limit (Err fault) ran = tt
