@@ -29,7 +29,7 @@ VERSION = $(shell cat VERSION)
 .PHONY: build check demo test mutants harmless soak plant bench bench-check library linked install uninstall deb fuzz
 
 build:
-	@echo 'Proving and building the program: 11 to 18 minutes the first time on four processors, then under one.'
+	@echo 'Proving and building the program: 11 to 18 minutes on four processors, a second if nothing has changed.'
 	@tools/prove lislink $(PROGRAM)
 
 demo:
@@ -73,7 +73,7 @@ plant:
 	cd crates/$(CRATE) && rt plant
 
 library:
-	@echo 'Proving and building the library: 12 to 18 minutes the first time on four processors, then up to 5.'
+	@echo 'Proving and building the library: 12 to 18 minutes on four processors, a second if nothing has changed.'
 	@tools/prove lis_c $(ARCHIVE)
 	$(MAKE) --no-print-directory linked
 
