@@ -2,11 +2,12 @@
 // and sending a reply end later, each by a call of its handler, as with asio. An error between the two drops the answer,
 // so the receiver restarts, and no reply goes out.
 //
-// The event loop here is a queue of handlers over blocking calls. With asio, `line` is its socket with async_read_some
-// and async_write, and `store` posts to a thread pool; `session` stays as it is.
+// The event loop here is a queue of handlers over blocking calls. With asio, `line` is its socket with async_read_some,
+// a timer that cancels it after a second, and async_write, and `store` posts to a thread pool; `session` stays as it is.
 #include <lislink.hpp>
 
 #include <arpa/inet.h>
+#include <cerrno>
 #include <chrono>
 #include <cstdio>
 #include <cstdlib>
@@ -15,6 +16,7 @@
 #include <functional>
 #include <optional>
 #include <sys/socket.h>
+#include <sys/time.h>
 #include <unistd.h>
 
 using clock_type = std::chrono::steady_clock;
@@ -40,9 +42,11 @@ struct store {
 struct line {
     int socket;
 
-    void async_read(char *room, std::size_t size, std::function<void(std::size_t)> done) {
+    // How many bytes came, 0 at the end; none if nothing came for a second.
+    void async_read(char *room, std::size_t size, std::function<void(std::optional<std::size_t>)> done) {
         ssize_t got = read(socket, room, size);
-        events.push_back([done, got] { done(got > 0 ? static_cast<std::size_t>(got) : 0); });
+        bool nothing = got < 0 && (errno == EAGAIN || errno == EWOULDBLOCK || errno == EINTR);
+        events.push_back([=] { done(nothing ? std::nullopt : std::optional<std::size_t>(got > 0 ? got : 0)); });
     }
     void async_send(std::uint8_t reply, handler done) {
         bool good = send(socket, &reply, 1, MSG_NOSIGNAL) == 1;
@@ -58,7 +62,7 @@ class session {
     char room_[4096];
     std::string_view bytes_;                                 // what is not heard yet
     bool all_read_ = false;                                  // whether the last read left none
-    clock_type::time_point before_ = clock_type::now(), seen_empty_ = before_;
+    clock_type::time_point before_ = clock_type::now(), seen_empty_ = before_;    // bytes came after that
 
     // The step is answered, or what it kept or sent failed; the next step, or the next bytes.
     void answered(bool good) {
@@ -88,7 +92,7 @@ class session {
             answer_.reset();
         }
         if (all_read_)
-            seen_empty_ = before_;    // what comes next came after that read began
+            seen_empty_ = before_;
         listen();
     }
 
@@ -97,11 +101,12 @@ public:
 
     void listen() {
         before_ = clock_type::now();
-        line_.async_read(room_, sizeof room_, [this](std::size_t got) {
-            bytes_ = std::string_view(room_, got);
-            all_read_ = got < sizeof room_;
-            if (got > 0)
-                hear();
+        line_.async_read(room_, sizeof room_, [this](std::optional<std::size_t> got) {
+            if (got == 0u)
+                return;
+            bytes_ = std::string_view(room_, got.value_or(0));
+            all_read_ = bytes_.size() < sizeof room_;
+            hear();
         });
     }
 };
@@ -118,7 +123,9 @@ static int accept_one(unsigned short port) {
         return -1;
     std::printf("port %d\n", ntohs(at.sin_port));
     std::fflush(stdout);
-    return accept(server, nullptr, nullptr);
+    int socket_of_line = accept(server, nullptr, nullptr);
+    const timeval pause{1, 0};
+    return setsockopt(socket_of_line, SOL_SOCKET, SO_RCVTIMEO, &pause, sizeof pause) == 0 ? socket_of_line : -1;
 }
 
 int main(int count, char **words) {

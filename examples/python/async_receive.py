@@ -14,6 +14,7 @@ import sys
 import lislink
 
 LATE = 10  # seconds: a reply that goes out later could come after the analyzer's timer, which is 15
+PAUSE = 1  # second: a line that is idle is looked at so often
 
 
 def keep(store, text):
@@ -24,21 +25,27 @@ def keep(store, text):
 
 async def receive(reader, writer, store):
     loop = asyncio.get_running_loop()
-    seen_empty = loop.time()
+    seen_empty = loop.time()                    # bytes came after this
     with lislink.Receiver() as receiver:
         while True:
-            before = loop.time()
-            data = await reader.read(4096)
+            before, is_late = loop.time(), False
+            try:
+                data = await asyncio.wait_for(reader.read(4096), PAUSE)
+            except asyncio.TimeoutError:
+                seen_empty = before
+                continue
             if not data:
                 return
             for step in receiver.hear(data):
-                if step.text is not None:
+                if step.text is not None and not is_late:
                     await loop.run_in_executor(None, keep, store, step.text)
-                if step.reply and loop.time() - seen_empty > LATE:
-                    return                      # the analyzer connects anew, and sends this session again
-                writer.write(step.reply)
-                await writer.drain()
-            if len(data) < 4096:                # what comes next came after this read began
+                is_late = is_late or loop.time() - seen_empty > LATE
+                if not is_late:
+                    writer.write(step.reply)
+                    await writer.drain()
+            if is_late:
+                receiver.restart()              # the analyzer sends this session again
+            if len(data) < 4096:
                 seen_empty = before
 
 

@@ -186,8 +186,10 @@ class Samples(kit.Test):
         if not library or not all(built):
             return
         how, late = python_over(library), paused(InC([f"{work}/quick_receive", f"{work}/late"]))
+        late_too = paused(InPython([sys.executable, LATER, "0", f"{work}/late_too"], **how))
         of_receivers(self, work, how)
         of_host(self, work)
         of_sender(self, work, how)
         of_short_write(self, work)
         self.check(is_silent_late(*late), "quick_receive.c, stopped for 12 seconds, sends a late reply")
+        self.check(is_silent_late(*late_too), "async_receive.py, stopped for 12 seconds, sends a late reply")

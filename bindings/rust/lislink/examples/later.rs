@@ -2,13 +2,13 @@
 //! that is free, and is printed. An error between the two drops the answer, so the receiver restarts, and no reply goes
 //! out.
 //!
-//! The futures here are the standard library's, and are ready at once. With a runtime as tokio, `Line` is its `TcpStream`
-//! with a `read` and a `write_all` that wait, and `keep` is what its `spawn_blocking` runs; `receive` stays as it is.
+//! The futures here are ready at once. With a runtime as tokio, `read` is `timeout(PAUSE, line.read(bytes))`, `send` is
+//! `line.write_all`, and `keep` is what `spawn_blocking` runs; `receive` stays as it is.
 
 use lislink::Receiver;
 use std::fs::{File, OpenOptions};
 use std::future::Future;
-use std::io::{self, Read, Write};
+use std::io::{self, ErrorKind, Read, Write};
 use std::net::{TcpListener, TcpStream};
 use std::os::unix::fs::OpenOptionsExt;
 use std::pin::pin;
@@ -18,15 +18,25 @@ use std::time::{Duration, Instant};
 /// A reply that goes out later could come after the analyzer's timer, which is 15 seconds.
 const LATE: Duration = Duration::from_secs(10);
 
+/// How long a read waits: a line that is idle is looked at so often.
+const PAUSE: Duration = Duration::from_secs(1);
+
 /// A line of some runtime.
 trait Line {
-    async fn read(&mut self, bytes: &mut [u8]) -> io::Result<usize>;
+    /// How many bytes came; none if nothing came for a while.
+    async fn read(&mut self, bytes: &mut [u8]) -> io::Result<Option<usize>>;
     async fn send(&mut self, reply: u8) -> io::Result<()>;
 }
 
 impl Line for TcpStream {
-    async fn read(&mut self, bytes: &mut [u8]) -> io::Result<usize> {
-        Read::read(self, bytes)
+    async fn read(&mut self, bytes: &mut [u8]) -> io::Result<Option<usize>> {
+        match Read::read(self, bytes) {
+            Ok(got) => Ok(Some(got)),
+            Err(fault) => match fault.kind() {
+                ErrorKind::WouldBlock | ErrorKind::TimedOut | ErrorKind::Interrupted => Ok(None),
+                _ => Err(fault),
+            },
+        }
     }
 
     async fn send(&mut self, reply: u8) -> io::Result<()> {
@@ -42,10 +52,13 @@ async fn keep(store: &mut File, text: &[u8]) -> io::Result<()> {
 /// Keeps each text and replies, until the line is closed.
 async fn receive(line: &mut impl Line, store: &mut File) -> io::Result<()> {
     let (mut receiver, mut room) = (Receiver::new(), [0; 4096]);
-    let mut seen_empty = Instant::now();
+    let mut seen_empty = Instant::now(); // bytes came after this
     loop {
         let before = Instant::now();
-        let got = line.read(&mut room).await?;
+        let Some(got) = line.read(&mut room).await? else {
+            seen_empty = before;
+            continue;
+        };
         if got == 0 {
             return Ok(());
         }
@@ -63,7 +76,7 @@ async fn receive(line: &mut impl Line, store: &mut File) -> io::Result<()> {
             answer.sent();
         }
         if got < room.len() {
-            seen_empty = before; // what comes next came after this read began
+            seen_empty = before;
         }
     }
 }
@@ -88,5 +101,6 @@ fn main() -> io::Result<()> {
     let server = TcpListener::bind(("127.0.0.1", port))?;
     println!("port {}", server.local_addr()?.port());
     let (mut line, _) = server.accept()?;
+    line.set_read_timeout(Some(PAUSE))?;
     block_on(receive(&mut line, &mut store))
 }
