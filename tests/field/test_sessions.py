@@ -4,10 +4,11 @@ import os
 import random
 import re
 
-from lislink import Note
+from lislink import Note, Receiver, frame_bytes
 from lislink.capture import read_capture
 from lislink.field.faults import code_of
 from lislink.field.ladder import Ladder
+from lislink.field.looks import looks_of
 from lislink.field.page import page_of
 from lislink.message import Fault, Found
 from tests import ROOT
@@ -115,7 +116,74 @@ def of_record_row(test, sample, path, seen, words, helps):
             test.same(f"{sample}: --all does it too", lislab("normalize", "--all", path).status, 0)
 
 
+def capture_of(*pieces):
+    """A capture: bytes are the analyzer's, digits the computer's."""
+    return "".join(f"< {one}\n" if isinstance(one, str) else f"> {one.hex()}\n" for one in pieces).encode()
+
+
+def session(*numbers, reply="06"):
+    """The lines of a session whose frames have these numbers, each answered so."""
+    told = [b"\x05", "06"]
+    for number in numbers:
+        told += [frame_bytes(number, True, b"H|\\^&\r" if number == numbers[0] else b"L|1|N\r"), reply]
+    return [*told, b"\x04"]
+
+
+def answered(units, chance):
+    """The capture of units, of which the computer answers most as a receiver does."""
+    told = []
+    with Receiver() as receiver:
+        for unit in units:
+            told.append(unit)
+            reply = b"".join(step.reply for step in receiver.hear(unit))
+            if reply and chance.random() < 0.95:
+                told.append(reply.hex())
+    return capture_of(*told)
+
+
 class Sessions(FieldTest):
+    def test_none_accepted(self):
+        """A session with frames of which none was accepted looks wrong, also next to a good one."""
+        good = session(1, 2)
+        shown = lislab("ladder", "-", data=capture_of(*good, *good))
+        self.same("two good sessions", (shown.status, "Nothing looks wrong." in shown.text), (0, True))
+        empty = lislab("ladder", "-", data=capture_of(*good, b"\x05", "06", b"\x04"))
+        self.same("a session without frames", (empty.status, "Nothing looks wrong." in empty.text), (0, True))
+        for name, bad in (("after a good one", good + session(3, 3, 3, reply="15")),
+                          ("before a good one", session(3, 3, reply="15") + good)):
+            shown = lislab("ladder", "-", data=capture_of(*bad))
+            self.same(f"every frame of a session {name} is out of turn", shown.status, 1)
+            self.has(f"why: {name}", shown.text, "in 1 of 2 sessions no frame was accepted")
+            self.has(f"why: {name}", shown.text, "frames: out of turn, 1 is due)")
+        shown = lislab("ladder", "-", data=capture_of(*session(3, 3, reply="15")))
+        self.has("one session alone", shown.text, "no frame of the session was accepted (2 frames: out of turn, 1 is due)")
+        text = frame_bytes(1, True, b"H|\\^&\r").replace(b"\x03", b"\x03f", 1)
+        shown = lislab("ladder", "-", data=capture_of(*good, b"\x05", "06", text, "15", b"\x04"))
+        self.has("no frame of a session is whole", shown.text, "in 1 of 2 sessions no frame was accepted (1 frame: ")
+
+    def test_out_of_turn(self):
+        """A frame that is rejected as out of turn is told, also where others of its session were accepted."""
+        text = frame_bytes(3, True, b"C|1\r")
+        shown = lislab("ladder", "-", data=capture_of(*session(1)[:4], text, "15", *session(1, 2)[4:]))
+        self.same("a frame out of turn", shown.status, 1)
+        self.has("a frame out of turn, told", shown.text, "1 of 3 frames rejected: out of turn, 2 is due (line 5)")
+
+    def test_marked_rows(self):
+        """Where a row is marked X something looks wrong, over random captures and those of the samples."""
+        chance = random.Random(23)
+        units = [b"\x05", b"\x04", b"\x021H|\\^&\r\x03E5\r\n", b"\x022L|1|N\r\x0305\r\n", b"\x023L|1|N\r\x0306\r\n"]
+        trials = [answered(chance.choices(units, k=chance.randrange(1, 12)), chance) for _ in range(600)]
+        trials += [bytes_of(path) for path in glob.glob(os.path.join(DIALECTS, "*.capture"))]
+        marked, untold = 0, []
+        for data in trials:
+            ladder = Ladder(read_capture(data))
+            is_marked = any(row.level == "bad" for row in ladder.rows)
+            marked += is_marked
+            if is_marked and not any(look.level in ("bad", "warn") for look in looks_of(ladder)):
+                untold.append(data)
+        self.same("where a row is marked something looks wrong", untold[:3], [])
+        self.check(300 < marked < len(trials), "captures with marked rows, and without", str(marked))
+
     def test_captures(self):
         paths = sorted(
             glob.glob(os.path.join(ROOT, "samples", "*.capture")) + glob.glob(os.path.join(DIALECTS, "*.capture"))

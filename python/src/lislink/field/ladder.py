@@ -14,7 +14,7 @@ ENQ, ACK, NAK, EOT, STX = 5, 6, 0x15, 4, 2
 
 class Row(NamedTuple):
     """A row of a ladder. `side` is `>` for the analyzer, `<` for the computer, `-` for an event. `level` is `good`,
-    `plain`, `warn` or `bad`. `reply` is what the proved receiver answers to it."""
+    `plain`, `warn` or `bad`. `reply` is what the proved receiver answers to it, `heard` what it meant to it."""
 
     line: int
     time: Optional[int]
@@ -30,6 +30,7 @@ class Row(NamedTuple):
     cause: Optional[Cause] = None
     number: int = -1
     last: bool = True
+    heard: Note = Note.QUIET
 
 
 class Text(NamedTuple):
@@ -230,7 +231,7 @@ class Ladder:
             self._signal(number, time, signal, note, raw, reply, receiver)
         else:
             why = self._why(receiver, signal, step, raw[1:-1], note)
-            self._frame(number, time, signal, raw, note is Note.ACCEPTED, reply, why)
+            self._frame(number, time, signal, raw, note, reply, why)
 
     def _frame(
         self,
@@ -238,7 +239,7 @@ class Ladder:
         time: Optional[int],
         signal: Signal,
         raw: bytes,
-        is_accepted: bool,
+        note: Note,
         reply: bytes,
         said: Tuple[str, str, Optional[Cause]],
     ) -> None:
@@ -248,7 +249,7 @@ class Ladder:
             end = "" if signal.last else " intermediate (ETB)"
             title = f"frame {signal.number}{end} {len(signal.text)} bytes '{words(signal.text)}'"
             kind = "frame"
-            if is_accepted:
+            if note is Note.ACCEPTED:
                 self._last_text = signal.text
         else:
             title, kind = f"no frame: {words(raw)}", "bad"
@@ -268,6 +269,7 @@ class Ladder:
                 cause,
                 signal.number if signal.kind is Kind.FRAME else -1,
                 signal.last,
+                note,
             )
         )
 
@@ -295,14 +297,16 @@ class Ladder:
                     Cause("lost", "lost"),
                 )
             return f"duplicate of {signal.number}: acknowledged, not taken again", "warn", None
-        told = {
-            Note.OUT_OF_TURN: f"rejected: out of turn, {due} is due",
-            Note.NO_ROOM: "rejected: no room",
-            Note.TEXT_TOO_LONG: "rejected: the text passes 1,048,576 bytes",
-            Note.TOO_MANY: "rejected: too many frames",
-            Note.REFUSED_MEMORY: "rejected: out of memory",
-        }
-        return told.get(note, "the line isn't open (no ENQ before): no reply"), "bad", None
+        cause = {
+            Note.OUT_OF_TURN: Cause("out-of-turn", f"out of turn, {due} is due"),
+            Note.NO_ROOM: Cause("no-room", "no room"),
+            Note.TEXT_TOO_LONG: Cause("text-too-long", "the text passes 1,048,576 bytes"),
+            Note.TOO_MANY: Cause("too-many", "too many frames"),
+            Note.REFUSED_MEMORY: Cause("memory", "out of memory"),
+        }.get(note)
+        if cause:
+            return f"rejected: {cause.words}", "bad", cause
+        return "the line isn't open (no ENQ before): no reply", "bad", None
 
     def _signal(
         self,
@@ -321,7 +325,8 @@ class Ladder:
             why, level = (
                 ("the session is ended", "good") if note is Note.ENDED else ("the line isn't open", "plain")
             )
-        self.rows.append(Row(number, time, ">", signal.kind.name, signal.kind.name, why, level, raw, b"", reply))
+        name = signal.kind.name
+        self.rows.append(Row(number, time, ">", name, name, why, level, raw, b"", reply, heard=note))
 
     def _reply(self, number: int, data: bytes, time: Optional[int]) -> None:
         wanted, self._due = self._due, b""

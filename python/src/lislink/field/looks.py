@@ -17,8 +17,9 @@ def looks_of(ladder: Ladder) -> List[Look]:
     for one in (
         _no_protocol,
         _no_text,
+        _none_accepted,
         _same_number,
-        _from_zero,
+        _begins_wrong,
         _lost,
         _never_ended,
         _bad_frames,
@@ -141,9 +142,49 @@ def _no_text(ladder: Ladder) -> Iterator[Look]:
         "no-text",
         "bad",
         "no text at all came through: every frame was rejected, dropped or repeated",
-        "the rows below say why for each frame",
+        "the rows say why for each frame",
         [],
     )
+
+
+def _sessions(ladder: Ladder) -> Iterator[List[Row]]:
+    """The rows of each session, from the ENQ that opened it to the next one."""
+    session: List[Row] = []
+    for row in ladder.rows:
+        if row.heard is Note.OPENED:
+            if session:
+                yield session
+            session = [row]
+        elif session:
+            session.append(row)
+    if session:
+        yield session
+
+
+def _none_accepted(ladder: Ladder) -> Iterator[Look]:
+    """Sessions with frames of which none was accepted, whatever the other sessions gave."""
+    count, rows, why = 0, [], Counter()  # type: int, List[Row], Counter[str]
+    for session in _sessions(ladder):
+        count += 1
+        frames = [row for row in session if row.kind == "dropped" or row.heard is not Note.QUIET and _is_frame(row)]
+        if frames and not any(row.heard is Note.ACCEPTED for row in frames):
+            rows.append(session[0])
+            why.update(row.cause.words if row.cause else "no LF ended it" for row in frames)
+    if rows:
+        reasons = "; ".join(f"{_many(times, 'frame')}: {words}" for words, times in why.most_common(3))
+        where = "no frame of the session" if count == 1 else f"in {len(rows)} of {count} sessions no frame"
+        yield Look(
+            "none-accepted",
+            "bad",
+            f"{where} was accepted ({reasons}" + ("; and others)" if len(why) > 3 else ")"),
+            "all that was sent in it is lost, unless the analyzer sends it again in a later session",
+            _lines(rows)[:5],
+        )
+
+
+def _is_frame(row: Row) -> bool:
+    """Whether a row is a frame, or what should be one."""
+    return row.kind in ("frame", "bad")
 
 
 def _frames(ladder: Ladder) -> List[Row]:
@@ -164,15 +205,15 @@ def _same_number(ladder: Ladder) -> Iterator[Look]:
         )
 
 
-def _from_zero(ladder: Ladder) -> Iterator[Look]:
+def _begins_wrong(ladder: Ladder) -> Iterator[Look]:
     before: Optional[Row] = None
     for row in ladder.units():
-        if row.kind == "frame" and before is not None and before.kind == "ENQ" and row.number == 0:
+        if row.heard is Note.OUT_OF_TURN and before is not None and before.kind == "ENQ":
             yield Look(
-                "from-zero",
+                "begins-wrong",
                 "bad",
-                "the first frame after ENQ has number 0: 1 is due",
-                "the sender must begin with 1 after each ENQ; a receiver must not take 0",
+                f"the first frame after ENQ has number {row.number}: 1 is due",
+                f"the sender must begin with 1 after each ENQ; a receiver must not take {row.number}",
                 [row.line],
             )
             return
@@ -210,22 +251,20 @@ _ADVICE = {
     "flow-control": "turn XON/XOFF off at both ends",
     "number": "another dialect of the link: frames need a number",
     "no-cr": "the sender must end a frame in CR and LF",
+    "out-of-turn": "the sender must begin with 1 after each ENQ, and count on by one after each ACK",
 }
 
 
 def _bad_frames(ladder: Ladder) -> Iterator[Look]:
-    rows = [row for row in ladder.rows if row.kind == "bad" and row.cause is not None]
+    frames = [row for row in ladder.units() if _is_frame(row)]
+    rows = [row for row in frames if row.cause is not None and row.cause.name != "lost"]
     good = len(_frames(ladder))
     causes = Counter(_kind(row) for row in rows)
     for name, count in causes.most_common():
         mine = [row for row in rows if _kind(row) == name]
         cause = mine[0].cause
         assert cause is not None
-        share = (
-            f"all {count} frames"
-            if count == good + len(rows) and count > 1
-            else f"{count} of {good + len(rows)} frames"
-        )
+        share = f"all {count} frames" if count == len(frames) > 1 else f"{count} of {_many(len(frames), 'frame')}"
         if name == "sum":
             yield _sums(ladder, mine, share, good)
         else:
@@ -442,6 +481,8 @@ def _no_answer(ladder: Ladder) -> Iterator[Look]:
             before = row
         elif row.side == "<":
             before = None
+    if before is not None and before.reply:
+        rows.append(before)
     if rows:
         yield Look(
             "no-answer",
