@@ -175,14 +175,15 @@ def run_normalize(ask: argparse.Namespace) -> int:
     if ask.explain:
         for row in normalize.explain(data):
             print(row)
-        return LOOKS_WRONG if any(True for _ in normalize.rejected_lines(data)) else GOOD
+        is_good = not any(normalize.rejected_lines(data)) and not any(normalize.changed_lines(data, data))
+        return GOOD if is_good else LOOKS_WRONG
     asked: Set[str] = {name for name in normalize.CHANGES if getattr(ask, name.replace("-", "_"))}
     asked |= set(normalize.ALL) if ask.all else set()
     out, told, needed = normalize.normalize(data, asked)
     write_output(ask.output, out)
     for one in told:
         say(f"line {one.line}: {one.what}")
-    left = list(normalize.rejected_lines(out))
+    left = list(normalize.rejected_lines(out)) + list(normalize.changed_lines(data, out))
     for row in left:
         say(row)
     if left:

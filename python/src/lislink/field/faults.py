@@ -6,6 +6,7 @@ from typing import List, NamedTuple, Optional
 
 from ..link import FRAME_TEXT, FrameFault, LinkError, Status, frame_bytes
 from ..records import MessageError, Reason
+from .endings import ending_at
 from .log import CONTROL
 
 _NAMES = {number: name for name, number in reversed(list(CONTROL.items()))}
@@ -192,16 +193,27 @@ def cause_of_record(error: MessageError, record: bytes, is_rest: bool = False) -
 
 def _unfinished(record: bytes, is_rest: bool) -> RecordCause:
     bare = record.rstrip(b"\n")
+    if in_words := _in_words(record):
+        return in_words
     if b"\n" in bare or is_rest and record.endswith(b"\n"):
         return RecordCause("lf", "records end in LF alone: no CR ends them", ["--lf"])
-    if b"<CR>" in record:
-        return RecordCause("cr-in-words", "the word <CR> is in place of a CR", ["--cr-words"])
     if record and not record.strip(b"\x1a\0\n"):
         return RecordCause("ctrl-z", "bytes after the last CR", ["--ctrl-z", "--nul"])
     if is_rest and record:
         options = ["--last-cr"] if record[:1] in b"Ll" else ["--last-cr", "--last-l"]
         return RecordCause("last-cr", "the last record lacks its CR", options)
     return RecordCause("no-l", "the input ends before the message does: L is missing", ["--last-l"])
+
+
+def _in_words(record: bytes) -> Optional[RecordCause]:
+    """The cause if a word for CR ends a record within these bytes, which no CR ends."""
+    ending = ending_at(record)
+    if ending is None:
+        return None
+    text = f"the word {ending.shown} is in place of a CR"
+    if ending.is_sure:
+        return RecordCause("cr-in-words", text, ["--cr-words"])
+    return RecordCause("cr-in-words", text + ", on one line where it may be part of a value too", [])
 
 
 def _bad_delimiters(record: bytes) -> RecordCause:
@@ -221,15 +233,15 @@ def _bad_record(status: Status, error: MessageError, record: bytes) -> RecordCau
     if status is Status.NO_RECORD:
         return RecordCause("empty", "an empty record: CR after CR, or a blank line", ["--blank"])
     if status is Status.BAD_DELIMITERS:
-        return _bad_delimiters(record)
+        return _in_words(record) or _bad_delimiters(record)
     if status is Status.FORBIDDEN:
         byte = record[error.place : error.place + 1]
         options = {b"\0": ["--nul"], b"\x1a": ["--ctrl-z"], b"\n": ["--lf"]}.get(byte, [])
         return RecordCause("byte", f"the byte {words(byte)} at place {error.place} is no text", options)
     if status is Status.TOO_LONG:
         return RecordCause("long", "a record of over 65,536 bytes", [])
-    if b"<CR>" in record:
-        return RecordCause("cr-in-words", "the word <CR> is in place of a CR", ["--cr-words"])
+    if in_words := _in_words(record):
+        return in_words
     if record[:2] in (b"\xff\xfe", b"\xfe\xff"):
         return RecordCause("utf-16", "the file is UTF-16: two bytes a character", ["--bom"])
     if record[:1] == b"\n":

@@ -1,8 +1,11 @@
 """Record files of dialects made readable: each change is asked for by its own option and told with its line."""
+import bisect
 import re
 from typing import Dict, Iterator, List, NamedTuple, Set, Tuple
 
 from ..message import Fault, read_all
+from .compare import changes_of_results
+from .endings import Ending, ending_of
 from .faults import cause_of_record, code_of, words
 from .looks import record_at
 
@@ -11,7 +14,7 @@ CHANGES: Dict[str, str] = {
     "bom": "a byte order mark at the beginning is left out (a file in UTF-16 becomes Latin-1)",
     "nul": "NUL bytes are left out",
     "ctrl-z": "Ctrl-Z is left out",
-    "cr-words": "the word <CR> becomes a CR",
+    "cr-words": "a word for CR at the end of a record (<CR>, [CR], \\r, ^M) becomes a CR",
     "unframe": "STX, frame number, ETX or ETB, checksum, ENQ and EOT are left out around records",
     "crlf": "CR LF becomes CR",
     "lf": "LF becomes CR",
@@ -23,8 +26,12 @@ CHANGES: Dict[str, str] = {
     "last-l": "a message without an end gets L|1|N",
     "orders": "an order O|n is put above a result that has none, a patient P|n above an order: such results carry no sample",
 }
-#: Those that `--all` asks for: no result changes its meaning by them.
+#: Those that `--all` asks for. What they do to the results is compared, and a change is told.
 ALL = tuple(name for name in CHANGES if name != "orders")
+
+
+#: How many changed results are printed.
+MOST_TOLD = 20
 
 
 class Told(NamedTuple):
@@ -96,11 +103,22 @@ def _bytes(work: Work) -> None:
                     f"{shown} was left out" + (f", {lines.count(line)} times" if lines.count(line) > 1 else ""),
                 )
             work.data = work.data.replace(byte, b"")
-    if b"<CR>" in work.data and work.wants("cr-words", _line_at(work.data, work.data.index(b"<CR>"))):
-        for number, row in enumerate(re.split(rb"\r\n|\r|\n", work.data), 1):
-            if b"<CR>" in row:
-                work.tell(number, f"<CR> became a CR, {row.count(b'<CR>')} times")
-        work.data = re.sub(rb"<CR>(?:\r\n|\n)?", b"\r", work.data)
+    ending = ending_of(work.data)
+    if ending is not None and ending.is_sure and work.wants("cr-words", _line_at(work.data, _first(ending, work.data))):
+        for line in sorted(_lines_of(ending, work.data)):
+            work.tell(line, f"{ending.shown} became a CR")
+        work.data = re.sub(ending.places.pattern + rb"[ \t]*(?:\r\n|\r|\n)?", b"\r", work.data, flags=ending.places.flags)
+
+
+def _first(ending: Ending, data: bytes) -> int:
+    found = ending.places.search(data)
+    return found.start() if found else 0
+
+
+def _lines_of(ending: Ending, data: bytes) -> Set[int]:
+    """The lines in which a word ends a record."""
+    ends = [found.end() for found in re.finditer(rb"\r\n|\r|\n", data)]
+    return {bisect.bisect_right(ends, found.start()) + 1 for found in ending.places.finditer(data)}
 
 
 def _split(work: Work) -> Iterator[Record]:
@@ -264,7 +282,7 @@ def rejected_lines(data: bytes) -> Iterator[str]:
 def explain(data: bytes) -> Iterator[str]:
     """What is wrong with the records, which options mend it, and what is left with them."""
     before = list(rejected_lines(data))
-    if not before:
+    if not before and not any(changed_lines(data, data)):
         yield "nothing is wrong: all records are read"
         return
     yield from before
@@ -275,7 +293,7 @@ def explain(data: bytes) -> Iterator[str]:
     asked: Set[str] = set()
     needed: Dict[str, int] = {}
     out, _, more = normalize(data, asked)
-    while any(True for _ in rejected_lines(out)):
+    while any(rejected_lines(out)) or any(changed_lines(data, out)):
         fresh = [name for name in ALL if name in more and name not in asked]
         if not fresh:
             break
@@ -285,11 +303,25 @@ def explain(data: bytes) -> Iterator[str]:
     for name in CHANGES:
         if name in needed:
             yield f"line {needed[name]}: --{name}: {CHANGES[name]}"
-    left = list(rejected_lines(out))
+    left, changed = list(rejected_lines(out)), list(changed_lines(data, out))
     if "orders" in more and left:
         yield f"line {more['orders']}: --orders: {CHANGES['orders']}"
-    if not left:
-        yield "mended by: lislab normalize " + " ".join(f"--{name}" for name in CHANGES if name in needed)
-    else:
+    if left:
         yield "still rejected with these options:" if needed else "no option mends it without a loss:"
         yield from ("  " + line for line in left)
+    if changed:
+        yield "not what the file has:" if not needed else "these options don't keep each result:"
+        yield from ("  " + line for line in changed)
+    if not left and not changed:
+        yield "mended by: lislab normalize " + " ".join(f"--{name}" for name in CHANGES if name in needed)
+
+
+def changed_lines(before: bytes, after: bytes) -> Iterator[str]:
+    """What became of the results of a file: a line for each that is gone, changed or new."""
+    told = 0
+    for line, what in changes_of_results(before, after):
+        told += 1
+        if told <= MOST_TOLD:
+            yield f"line {line}: {what}" if line else what
+    if told > MOST_TOLD:
+        yield f"and {told - MOST_TOLD} results more"
