@@ -1,6 +1,7 @@
 """Logs of tools: each gives the capture of the one session that all were made of."""
 import base64
 import glob
+import itertools
 import json
 import os
 import random
@@ -139,6 +140,32 @@ def written_otherwise(rows):
         + "\n"
         for mark, _, data in rows
     ).encode()
+
+
+def notations():
+    """How programs write a control byte into text: what makes it of the byte, and whether it is read."""
+    letters = {13: "\\r", 10: "\\n"}
+    return {
+        "[02]": (lambda byte: f"[{byte:02X}]", True),
+        "[0x02]": (lambda byte: f"[0x{byte:02x}]", True),
+        "{02}": (lambda byte: f"{{{byte:02X}}}", True),
+        "(02)": (lambda byte: f"({byte:02X})", True),
+        "<0x02>": (lambda byte: f"<0x{byte:02X}>", True),
+        "Java": (lambda byte: letters.get(byte, f"\\u{byte:04x}"), True),
+        "Java, all by number": (lambda byte: f"\\u{byte:04X}", True),
+        "C": (lambda byte: letters.get(byte, f"\\x{byte:02x}"), True),
+        "=02": (lambda byte: f"={byte:02X}", False),
+        "%02": (lambda byte: f"%{byte:02X}", False),
+        "^B": (lambda byte: f"^{chr(byte + 64)}", False),
+        "<2>": (lambda byte: f"<{byte}>", False),
+    }
+
+
+def heads(mark, number):
+    """How a line of a log may begin."""
+    yield f"{'RX' if mark == '>' else 'TX'}: "
+    yield f"2026-11-20 09:15:{number:02}.000 [{'RECV' if mark == '>' else 'SEND'}] "
+    yield "Analyzer -> Host: " if mark == ">" else "Host -> Analyzer: "
 
 
 def errors():
@@ -292,6 +319,42 @@ class Logs(FieldTest):
         out = self.path("never")
         lislab("capture", self.path("log", b"nothing here\n"), "-o", out)
         self.check(not os.path.exists(out), "no file is made of nothing")
+
+    def test_notations(self):
+        """Control bytes in text: each log is read whole, or is an error; no frame is left out, and no byte is wrong."""
+        wanted = bytes_of(SESSION).decode()
+        session = [(mark, data) for mark, _, data in timed_session()]
+        for name, (write, is_read) in notations().items():
+            ways = [("\\", ""), ("\\\\", ""), ("\\\\", '"')] if name in ("Java", "C") else [("\\", "")]
+            for (backslash, quote), head in itertools.product(ways, range(3)):
+                shown = lambda byte: backslash if byte == 92 else chr(byte) if 32 <= byte < 127 else write(byte)
+                text = "".join(
+                    f"{list(heads(mark, number))[head]}{quote}{''.join(map(shown, data))}{quote}\n"
+                    for number, (mark, data) in enumerate(session)
+                )
+                ran = lislab("capture", self.path("log", text.encode()))
+                where = f"{name}, {backslash}, {quote}, head {head}: {ran.error}"
+                self.same(where, (ran.status, ran.text), (0, wanted) if is_read else (3, ""))
+        for name, write in (("JSON", json.dumps), ("JSON, bare", lambda text: json.dumps(text)[1:-1])):
+            text = "".join(f"{'in' if mark == '>' else 'out'}: {write(data.decode())}\n" for mark, data in session)
+            self.same(name, lislab("capture", self.path("log", text.encode())).text, wanted)
+
+    def test_left_out(self):
+        """A line that is left out is told; one that holds bytes of the line and can't be read is an error."""
+        hexed = "".join(f"{'RX' if mark == '>' else 'TX'}: {data.hex(' ')}\n" for mark, _, data in timed_session())
+        ran = lislab("capture", self.path("log", b"port opened\n" + hexed.encode() + b"RX: closed\n"))
+        self.same("a line without bytes", (ran.status, ran.text), (0, bytes_of(SESSION).decode()))
+        self.has("a line without bytes, told", ran.error, "lines without bytes were left out, 2 of them: 1, 12")
+        for row in ("RX: 02 31 4g 7c 5c 5e 26 0d", "RX: #021H|\\^&#0D", "TX 1 R|1|^^^GLU|5.4"):
+            ran = lislab("capture", self.path("log", hexed.encode() + row.encode() + b"\n"))
+            self.same(f"a row that can't be read: {row}", (ran.status, ran.text), (3, ""))
+            self.has(f"a row that can't be read: {row}", ran.error, "line 11: bytes that can't be read")
+        rows = [{"dir": "rx", "data": "05"}, {"dir": "tx", "data": "06"}, {"event": "closed"}]
+        ran = lislab("capture", self.path("log", "".join(json.dumps(row) + "\n" for row in rows).encode()))
+        self.has("JSON without bytes, told", ran.error, "lines without bytes were left out, 1 of them: 3")
+        rows[2] = {"dir": "rx", "data": [2, 49, 72]}
+        ran = lislab("capture", self.path("log", "".join(json.dumps(row) + "\n" for row in rows).encode()))
+        self.same("JSON with a list of numbers", (ran.status, ran.text), (3, ""))
 
     def test_options(self):
         """The side of the analyzer, the timer, modes and times."""

@@ -37,6 +37,14 @@ class Log(NamedTuple):
     remarks: List[str]
 
 
+def left_out(lines: List[int]) -> List[str]:
+    """A remark on the lines that were left out of a log, if there are some."""
+    if not lines:
+        return []
+    shown = ", ".join(map(str, lines[:20])) + (", .." if len(lines) > 20 else "")
+    return [f"lines without bytes were left out, {len(lines)} of them: {shown}"]
+
+
 _MONTHS = {name: number for number, name in enumerate("jan feb mar apr may jun jul aug sep oct nov dec".split(), 1)}
 _FRAME = re.compile(rb"\x02[0-7][\x20-\xff\t\r]*[\x03\x17][0-9A-Fa-f]{2}\r")
 

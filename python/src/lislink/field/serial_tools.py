@@ -4,7 +4,7 @@ import ast
 import re
 from typing import Dict, List, Optional
 
-from .log import Log, LogError, Piece, find_time, hex_row, likeness
+from .log import Log, LogError, Piece, find_time, hex_row, left_out, likeness
 
 _SOCAT = re.compile(r"([<>]) (\d+/\d+/\d+ \d+:\d+:\d+)\.(\d+) +length=(\d+) from=\d+ to=\d+\s*$")
 
@@ -136,8 +136,8 @@ def portmon(text: str) -> Log:
 def irp_table(text: str) -> Log:
     """Tables with IRP_MJ_READ and IRP_MJ_WRITE, as Eltima's Serial Port Monitor exports them: the first column of pairs
     behind the function is the bytes."""
-    pieces = []
-    for line in text.splitlines():
+    pieces, left = [], []
+    for number, line in enumerate(text.splitlines(), 1):
         found = re.search(r"\bIRP_MJ_(READ|WRITE)\b(.*)$", line)
         cells = re.split(r"\t|\"?[,;]\"?|\s{2,}", found[2]) if found else []
         data = next(
@@ -146,7 +146,9 @@ def irp_table(text: str) -> Log:
         )
         if found and data:
             pieces.append(Piece(find_time(line), found[1].lower(), bytes.fromhex(data)))
-    return Log("irp-table", pieces, [])
+        elif found:
+            left.append(number)
+    return Log("irp-table", pieces, left_out(left))
 
 
 #: A line above rows of bytes: its side in one of the groups.
@@ -200,7 +202,6 @@ def blocks(text: str) -> Log:
     """Logs in which a line with the side and the time is above rows of bytes: Eltima's Serial Port Monitor, the Free
     Serial Port Monitor, jpnevulator, ngrep -x, the Advanced Serial Port Logger and others."""
     pieces: List[Piece] = []
-    remarks: List[str] = []
     side, time, fresh = "", None, False  # type: str, Optional[int], bool
     left = []
     for number, line in enumerate(text.splitlines(), 1):
@@ -220,9 +221,7 @@ def blocks(text: str) -> Log:
             if re.match(r"\s+(?:[0-9a-fA-F]{2}\s+){2,}", line):
                 raise LogError(f"a row of bytes that isn't whole: {line[:60]!r}", number)
             left.append(number)
-    if left:
-        remarks.append("lines without bytes were left out: " + ", ".join(map(str, left[:20])))
-    return Log("blocks", pieces, remarks)
+    return Log("blocks", pieces, left_out(left))
 
 
 def slsnif(text: str) -> Log:

@@ -7,7 +7,7 @@ import json
 import re
 from typing import Callable, Dict, List, NamedTuple, Optional, Tuple
 
-from .log import CONTROL, Log, LogError, Piece, encode, find_time, hex_row
+from .log import CONTROL, Log, LogError, Piece, encode, find_time, hex_row, left_out
 
 _NAMES = "|".join(sorted(CONTROL, key=len, reverse=True))
 #: A control byte in words: <STX>, [STX], {STX}, (STX), <0x02>, <02>, \x02, or a control picture.
@@ -134,11 +134,60 @@ def words(text: str) -> bytes:
     return told + encode(text[at:])
 
 
+#: How escapes with a backslash are written: with a doubled backslash for one, as in C, Java and JSON; with a backslash as
+#: it is; or for the control bytes by their numbers alone.
+_DOUBLED, _ALONE, _NUMBERS = "doubled", "alone", "numbers"
+_ESCAPE = re.compile(r"\\(?:[xX](?P<x>[0-9A-Fa-f]{2})|u00(?P<u>[0-9A-Fa-f]{2})|(?P<letter>[rntabfve0\\\"'/]))")
+_LETTERS = {"r": 13, "n": 10, "t": 9, "a": 7, "b": 8, "f": 12, "v": 11, "e": 27, "0": 0}
+
+
+def escaped_words(text: str, way: str) -> bytes:
+    """Text with the escapes of C, Java or JSON, and control bytes in words."""
+
+    def meant(found: "re.Match[str]") -> str:
+        if found["letter"] is None:
+            return f"<0x{found['x'] or found['u']}>"
+        if found["letter"] in _LETTERS:
+            return f"<0x{_LETTERS[found['letter']]:02X}>"
+        return found["letter"] if way == _DOUBLED else found[0]
+
+    return words(_ESCAPE.sub(meant, text)) if way != _NUMBERS else words(text)
+
+
+def _way_of(text: str) -> str:
+    """How a log writes its escapes: so that most of its frames have the right checksum."""
+    rows = re.findall(r"\\(?:[xX]|u00)02.*", text)
+    if not rows or not re.search(r"\\[rn\\]", text):
+        return _NUMBERS
+    ways = (_DOUBLED, _ALONE, _NUMBERS)
+    return max(ways, key=lambda way: sum(_good_frames(escaped_words(row, way)) for row in rows))
+
+
+def _good_frames(data: bytes) -> int:
+    """How many frames with the right checksum are in these bytes."""
+    frames = re.findall(rb"\x02([0-7][^\x02]*?[\x03\x17])([0-9A-Fa-f]{2})(?=\r|\Z|[^0-9A-Fa-f])", data, re.S)
+    return sum(sum(body) % 256 == int(digits, 16) for body, digits in frames)
+
+
+def _plain_brackets(text: str) -> str:
+    """A log in which brackets that may also be a counter's are around control bytes (`[02]1H|`, `(02)`), with these as
+    `<0x02>`."""
+    found = re.search(r"([\[{(])(?:0x|\$)?02[\])}](?=[0-7][A-Za-z])", text, re.I)
+    if found is None:
+        return text
+    end = {"[": "]", "{": "}", "(": ")"}[found[1]]
+    pair = re.escape(found[1]) + r"(?:0x|\$)?([0-9A-Fa-f]{2})" + re.escape(end)
+    return re.sub(pair, r"<0x\1>", text, flags=re.I)
+
+
 def _worded(text: str) -> Optional[bytes]:
-    bare = text.rstrip("\r\n")
-    if re.match(r"""(["'])(.*)\1\s*$""", bare):
-        bare = bare.strip()[1:-1]
+    bare = _unquoted(text)
     return words(bare) if bare.strip() else None
+
+
+def _unquoted(text: str) -> str:
+    bare = text.rstrip("\r\n")
+    return bare.strip()[1:-1] if re.match(r"""(["'])(.*)\1\s*$""", bare) else bare
 
 
 GRAMMARS = [
@@ -170,8 +219,12 @@ def traces(text: str) -> Log:
     """A log with a line for each piece."""
     if re.match(r"\s*<(?:!doctype|html)", text, re.I):
         text = _of_html(text)
+    text = _plain_brackets(text)
     kind = _kind(text)
     grammar = next(one for one in GRAMMARS if one.name == kind)
+    way = _way_of(text) if kind == "words" else _NUMBERS
+    if way != _NUMBERS:
+        grammar = grammar._replace(read=lambda rest: escaped_words(_unquoted(rest), way) or None)
     lines = text.splitlines()
     marked = [_split(line, grammar) if line.strip() else None for line in lines]
     if sum(one is not None for one in marked) == 0:
@@ -193,13 +246,29 @@ def traces(text: str) -> Log:
             pieces[-1] = pieces[-1]._replace(data=pieces[-1].data + more)
         elif _SURE.search(line) or kind == "python" and re.search(r"\bb['\"]", line):
             raise LogError(f"bytes without a direction: {line[:60]!r}", number)
+        elif _has_bytes(line):
+            raise LogError(f"bytes that can't be read: {line[:60]!r}", number)
         else:
             left.append(number)
-    remarks = ["lines without bytes were left out: " + ", ".join(map(str, left[:20]))] if left else []
+    remarks = left_out(left)
     if kind == "words":
         _no_text_around(pieces)
         pieces = _with_line_ends(pieces, remarks)
     return Log("trace-" + kind, pieces, remarks)
+
+
+#: What is in a row that holds bytes of a line: the beginning of a record, or pairs of digits.
+_BYTES = re.compile(r"(?<![A-Za-z])[HPORCQMSL]\|[\\\d]|(?<![0-9A-Za-z])(?:[0-9A-Fa-f]{2}[ ,:]){3}")
+
+
+def _has_bytes(line: str) -> bool:
+    """Whether a line with a direction holds what looks like bytes of a line behind it."""
+    for rank, (pattern, _) in enumerate(_MARKS):
+        if rank in _ARROWS and not any(one in line for one in _ARROWS[rank]):
+            continue
+        if any(_is_head(line[: found.start()]) and _BYTES.search(line, found.end()) for found in pattern.finditer(line)):
+            return True
+    return False
 
 
 def _of_html(text: str) -> str:
@@ -241,7 +310,7 @@ _DATA = ("data", "bytes", "payload", "hex", "raw", "message", "msg")
 
 def json_lines(text: str) -> Log:
     """A log of JSON objects, one a line: who sends and the bytes, as hex or as text with escapes."""
-    pieces = []
+    pieces, left = [], []
     for number, line in enumerate(text.splitlines(), 1):
         if not line.strip():
             continue
@@ -251,11 +320,14 @@ def json_lines(text: str) -> Log:
             raise LogError("no JSON object", number) from None
         side = next((str(row[key]) for key in _DIRECTIONS if row.get(key)), None)
         data = next((row[key] for key in _DATA if row.get(key)), None)
-        if side is None or not isinstance(data, str):
+        if data is not None and not isinstance(data, str):
+            raise LogError(f"bytes that can't be read: {line[:60]!r}", number)
+        if side is None or data is None:
+            left.append(number)
             continue
         read = _hex(data)
         pieces.append(Piece(find_time(line), side, read if read is not None else words(data)))
-    return Log("json-lines", pieces, [])
+    return Log("json-lines", pieces, left_out(left))
 
 
 def csv_table(text: str) -> Log:
@@ -263,8 +335,10 @@ def csv_table(text: str) -> Log:
     export)."""
     rows = list(csv.reader(text.splitlines(), delimiter=next(one for one in "\t;," if one in text.splitlines()[0])))
     names = [name.strip().lower() for name in rows.pop(0)]
-    rows = [row for row in rows if len(row) >= len(names)]
+    left = [number for number, row in enumerate(rows, 2) if row and len(row) < len(names)]
     data = next((names.index(one) for one in ("data", "bytes", "payload", "hex", "value") if one in names), None)
+    whole = [(number, row) for number, row in enumerate(rows, 2) if len(row) >= len(names)]
+    rows = [row for _, row in whole]
     if data is None or not rows:
         raise LogError("the table has no column of bytes")
     sides = [
@@ -276,7 +350,7 @@ def csv_table(text: str) -> Log:
     ]
     clock = next((place for place, name in enumerate(names) if name.startswith(("time", "start", "date"))), None)
     pieces = []
-    for number, row in enumerate(rows, 2):
+    for number, row in whole:
         read = _hex(row[data])
         if read is None and row[data].strip():
             raise LogError(f"no bytes in the column {names[data]}: {row[data][:40]!r}", number)
@@ -285,7 +359,7 @@ def csv_table(text: str) -> Log:
             seconds = re.match(r"\d+\.\d+$", stamp)
             time = int(float(stamp) * 1_000_000) * 1000 if seconds else find_time(stamp)
             pieces.append(Piece(time, row[sides[0]] if sides else "", read))
-    return Log("csv-table", pieces, [])
+    return Log("csv-table", pieces, left_out(left))
 
 
 def with_control_bytes(data: bytes) -> Optional[Log]:
@@ -394,7 +468,7 @@ def _named(read: List[Tuple[int, str]], grammar: Grammar) -> Optional[Log]:
             left.append(number)
     if grammar.name == "words":
         _no_text_around(pieces)
-    remarks = ["lines without bytes were left out: " + ", ".join(map(str, left[:20]))] if left else []
+    remarks = left_out(left)
     return Log("trace-" + grammar.name, pieces, remarks) if len({one.side for one in pieces}) == 2 else None
 
 
@@ -423,8 +497,7 @@ def _unmarked(lines: List[str], grammar: Grammar) -> Log:
     if is_words:
         _no_text_around(pieces)
     remarks = [f"no line has a direction: {how}"]
-    if left:
-        remarks.append("lines without bytes were left out: " + ", ".join(str(number) for number, _ in left[:20]))
+    remarks += left_out([number for number, _ in left])
     return Log("trace-" + grammar.name, pieces, remarks)
 
 
