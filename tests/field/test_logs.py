@@ -5,7 +5,9 @@ import itertools
 import json
 import os
 import random
+import re
 import stat
+import subprocess
 
 from lislink.capture import read_capture
 from tests import ROOT
@@ -288,6 +290,39 @@ class Logs(FieldTest):
         )
         self.has("two lines at once", lislab("capture", both).error, "--stream 2: ")
         self.same("two lines at once, the first", lislab("capture", both, "--stream", "1").text, wanted)
+
+    def test_packets_of_a_reconnection(self):
+        """A connection may begin before the last packets of the one before; where bytes overlap one is chosen."""
+        wanted = bytes_of(SESSION).decode()
+        plain = packets.segments(timed_session())
+        again = [(time + 0.4025, packet.replace(b"\xc8\x22", b"\xc8\x23")) for time, packet in plain]
+        close = (again[2][0] + 0.0004, plain[-1][1])
+        path = self.path("again.pcap", packets.pcap([*plain[:-1], *again[:3], close, *again[3:]]))
+        ran = lislab("capture", path)
+        self.same(f"a connection within a millisecond {ran.error}", ran.text, "capture 2\n" + wanted + "R\n" + wanted)
+        at_once = sorted([*plain, *((time - 0.2, packet) for time, packet in again)])
+        ran = lislab("capture", self.path("at-once.pcap", packets.pcap(at_once)))
+        self.has("connections whose bytes overlap", ran.error, "choose one: --stream 1: ")
+
+    def test_advice(self):
+        """The options that are named where neither side sends ENQ work when they are pasted into a shell."""
+        for name, log in (
+            ("socat", "".join(f"{mark} 2026/11/20 09:15:02.000012  length=1 from=0 to=0\n {byte}\n--\n"
+                              for mark, byte in ((">", "41"), ("<", "06")))),
+            ("arrows", "09:15:02 -> 41 42\n09:15:03 <- 06\n"),
+            ("names", "".join(json.dumps({"dir": side, "data": data}) + "\n"
+                              for side, data in (("XN 1 (left)", "41 42"), ("Lab's PC", "06")))),
+            ("a name within the other", "COM12: 41 42\nCOM1: 06\n"),
+        ):
+            path = self.path("log", log.encode())
+            error = lislab("capture", path).error
+            advice = re.search(r"name the analyzer's side by (.*) or (--.*)\n", error)
+            if not self.check(advice is not None, f"{name}: options are named", error):
+                continue
+            for option, mark in zip(advice.groups(), "><"):  # the first side is the first that the log has
+                words = subprocess.run(["sh", "-c", f"printf '%s\\n' {option}"], capture_output=True, text=True).stdout
+                ran = lislab("capture", path, *words.splitlines())
+                self.same(f"{name}: {option} {ran.error}", (ran.status, ran.text[:1]), (0, mark))
 
     def test_two_dumps(self):
         """Two raw dumps, one of each direction."""

@@ -4,7 +4,7 @@ import os
 import random
 import re
 
-from lislink import Note, Receiver, frame_bytes
+from lislink import LONG_FRAME_TEXT, Note, Receiver, frame_bytes
 from lislink.capture import read_capture
 from lislink.field.faults import code_of
 from lislink.field.ladder import Ladder
@@ -167,6 +167,85 @@ class Sessions(FieldTest):
         shown = lislab("ladder", "-", data=capture_of(*session(1)[:4], text, "15", *session(1, 2)[4:]))
         self.same("a frame out of turn", shown.status, 1)
         self.has("a frame out of turn, told", shown.text, "1 of 3 frames rejected: out of turn, 2 is due (line 5)")
+
+    def shown(self, *pieces, options=()):
+        """What looks wrong in a capture, and the status."""
+        ran = lislab("ladder", "-", *options, data=capture_of(*pieces))
+        return ran.status, ran.text[ran.text.index("summary: ") :]
+
+    def test_letters(self):
+        """Letters of one byte before a delimiter aren't text of two bytes a character; GBK, Big5 and Shift JIS are."""
+        names = {
+            "cp1251": ("Иван^Анна", "ОЛЬГА^ИЛЬЯ", "Ли^О"), "latin-1": ("André^Zoë", "Müller^É"), "cp1250": ("Aleš^Tomáš",),
+            "utf-8": ("病人^Иван",), "gb2312": ("病人^张三",),
+        }
+        for code, texts in names.items():
+            for text in texts:
+                record = f"P|1||4711||{text}|".encode(code)
+                pieces = [b"\x05", "06", frame_bytes(1, True, b"H|\\^&\r"), "06", frame_bytes(2, True, record + b"\r"), "06"]
+                self.check("two bytes" not in self.shown(*pieces)[1], f"{text} in {code} is no text of two bytes")
+        for code, text in (("big5", "許功蓋"), ("shift_jis", "表示能"), ("gbk", "張乗")):
+            record = b"P|1||4711||" + text.encode(code) + b"|"
+            told = any(byte in text.encode(code) for byte in b"|\\^~")
+            shown = self.shown(b"\x05", "06", frame_bytes(1, True, record + b"\r"), "06")[1]
+            self.same(f"{text} in {code} is split: {told}", "two bytes a character" in shown, told)
+        text = "Илья^Ольга".encode("cp1251") + b"^\xff|"
+        shown = self.shown(b"\x05", "06", frame_bytes(1, True, b"H|\\^&|||" + text + b"\r"), "06")[1]
+        self.has("the letter FF", shown, " is no text (in code page 1251 it is a letter")
+        self.check("GBK" not in shown, "the letter FF isn't called GBK", shown)
+
+    def test_echo(self):
+        """A loopback is no download of orders; a computer's own session is no echo."""
+        sent = [piece for piece in session(1, 2) if isinstance(piece, bytes)]
+        status, shown = self.shown(*(one for piece in sent for one in (piece, piece.hex())))
+        self.has("a loopback", shown, "4 times the bytes of the analyzer come back as they were sent: a loopback")
+        self.check(status == 1 and "order download" not in shown, "a loopback is no download of orders", shown)
+        both = [one for piece in session(1, 2) for one in ((piece, piece.hex()) if isinstance(piece, bytes) else (piece,))]
+        status, shown = self.shown(*both)
+        self.has("an echo with answers", shown, "a loopback or an echo")
+        self.check("otherwise than a receiver" not in shown, "an answer after its echo is right", shown)
+        own = [b"\x05", "05", b"\x04", "05", b"\x06", frame_bytes(1, True, b"H|\\^&\r").hex(), b"\x06", "04"]
+        status, shown = self.shown(*session(1, 2), *own)
+        self.check("echo" not in shown and "order download" in shown, "a download of orders is no echo", shown)
+
+    def test_telnet(self):
+        """CR NUL in place of CR is Telnet's, and not the sender's fault."""
+        for name, end in (("CR LF stays", b"\r\n"), ("CR NUL LF", b"\r\0\n")):
+            pieces = [one if isinstance(one, str) else one.replace(b"\r", b"\r\0").replace(b"\r\0\n", end)
+                      for one in session(1, 2)]
+            status, shown = self.shown(*pieces)
+            self.same(f"{name}: status", status, 1)
+            self.has(name, shown, "a terminal server speaks Telnet on this line")
+            self.check("the sender" not in shown, f"{name}: the sender isn't blamed", shown)
+        text = frame_bytes(1, True, b"H|\\^&\r\0P|1\rL|1\r")
+        self.check("Telnet" not in self.shown(b"\x05", "06", text, "06", b"\x04")[1], "one NUL after CR isn't Telnet's")
+
+    def test_damaged_digits(self):
+        """Noise in the digits of a checksum isn't the sender's fault; a sender that never writes them is."""
+        good = session(1, 2)
+        for name, damaged in (("no digit", good[4][:-4] + b"}" + good[4][-3:]), ("a digit lost", good[4][:-4] + good[4][-3:]),
+                              ("a wrong digit", good[4][:-4] + b"F" + good[4][-3:])):
+            status, shown = self.shown(*good[:4], damaged, "15", *good[4:])
+            self.same(f"{name}: status", status, 0)
+            self.has(f"{name}: it came again", shown, "each came again and was accepted: noise on the line")
+            shown = self.shown(*good[:4], damaged, "15")[1]
+            self.has(f"{name}: it didn't come again", shown, "other frames of the sender are right: bytes were damaged")
+            self.check("the sender is wrong" not in shown, f"{name}: the sender isn't blamed", shown)
+        none = frame_bytes(1, True, b"H|\\^&\r")[:-4] + b"\r\n"
+        self.has("no digits at all", self.shown(b"\x05", "06", none, "15", none, "15")[1], "another dialect of the link")
+
+    def test_long(self):
+        """`--long` takes long frames, in ladders and tables, as the program's --long does."""
+        text = b"H|\\^&\rP|1\rO|1|S7\rR|1|^^^GLU|5.4\rC|1|I|" + b"x" * 300 + b"\rL|1|N\r"
+        data = capture_of(b"\x05", "06", frame_bytes(1, True, text, frame_limit=LONG_FRAME_TEXT), "06", b"\x04")
+        short, long = lislab("ladder", "-", data=data), lislab("ladder", "--long", "-", data=data)
+        self.has("a long frame", short.text, f"frame too long: {len(text)} bytes of text, 240 are allowed (`--long` takes it)")
+        self.same("a long frame by --long", (long.status, "Nothing looks wrong." in long.text), (0, True))
+        program = self.lislink("replay", "--long", data=data).text
+        self.has("as the program takes it", program, f"text 3 {len(text)}")
+        path = self.path("long.capture", data)
+        rows = [lislab("table", *options, "--fields", "sample,test,value", path).lines for options in ([], ["--long"])]
+        self.same("a table of long frames", rows, [["sample,test,value"], ["sample,test,value", "S7,GLU,5.4"]])
 
     def test_marked_rows(self):
         """Where a row is marked X something looks wrong, over random captures and those of the samples."""

@@ -16,6 +16,7 @@ from .host import commands as host_commands
 from .host.deliver import WrongStore
 from .host.options import OptionError
 from .host.store import StoreError
+from .link import FRAME_TEXT, LONG_FRAME_TEXT
 
 #: Exit statuses: as those of lislink.
 GOOD, LOOKS_WRONG, USAGE, STOPPED = 0, 1, 2, 3
@@ -147,6 +148,14 @@ def run_capture(ask: argparse.Namespace) -> int:
     return GOOD
 
 
+def _frame_limit(ask: argparse.Namespace) -> int:
+    return LONG_FRAME_TEXT if ask.long else FRAME_TEXT
+
+
+def _add_long(parser: argparse.ArgumentParser) -> None:
+    parser.add_argument("--long", action="store_true", help="take frames of up to 63,993 bytes of text, as lislink does")
+
+
 def run_ladder(ask: argparse.Namespace) -> int:
     """Shows a capture or a log as a ladder."""
     from .field.ladder import Ladder
@@ -156,7 +165,7 @@ def run_ladder(ask: argparse.Namespace) -> int:
     capture, remarks = load(ask.capture, ask)
     for remark in remarks:
         say(remark)
-    ladder = Ladder(capture, ask.encoding)
+    ladder = Ladder(capture, ask.encoding, _frame_limit(ask))
     if ask.html:
         from .field.page import page_of
 
@@ -203,7 +212,7 @@ def records_of(path: str, ask: argparse.Namespace) -> bytes:
     capture, remarks = (read_capture(data), []) if looks_like_capture(data) else _imported(data, ask)
     for remark in remarks:
         say(remark)
-    return Ladder(capture).stream
+    return Ladder(capture, frame_limit=_frame_limit(ask)).stream
 
 
 def run_table(ask: argparse.Namespace) -> int:
@@ -239,6 +248,7 @@ def _encoding(name: str) -> str:
 def _add_ladder(one: argparse.ArgumentParser) -> None:
     one.add_argument("capture", help="a capture, or a log of a sniffer (pcap, socat, ..); - is standard input")
     one.add_argument("--html", metavar="FILE", help="write a page of HTML, for a browser without a network")
+    _add_long(one)
     one.add_argument("--wrong", action="store_true", help="only the rows that look wrong, and the summary")
     one.add_argument("--times", metavar="FILE", help="times of the capture's lines (CAPTURE.times if it is there)")
     one.add_argument("--encoding", type=_encoding, default="utf-8", help="of the records' text (utf-8)")
@@ -284,6 +294,7 @@ def _add_table(one: argparse.ArgumentParser) -> None:
     )
     one.add_argument("--encoding", type=_encoding, default="utf-8", help="of the records' text (utf-8)")
     one.add_argument("--no-header", action="store_true", help="no line of names")
+    _add_long(one)
     _import_options(one)
     one.set_defaults(run=run_table)
 

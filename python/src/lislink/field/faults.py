@@ -4,7 +4,7 @@ import functools
 import operator
 from typing import List, NamedTuple, Optional
 
-from ..link import FRAME_TEXT, FrameFault, LinkError, Status, frame_bytes
+from ..link import FRAME_TEXT, LONG_FRAME_TEXT, FrameFault, LinkError, Status, frame_bytes
 from ..records import MessageError, Reason
 from .endings import ending_at
 from .log import CONTROL
@@ -50,15 +50,12 @@ def checksum_of(body: bytes) -> Optional[Sum]:
         return Sum(f"{sum(body[:-3]) % 256:02X}", found)
 
 
-def cause_of_frame(body: bytes, fault: FrameFault, place: int) -> Cause:
-    """Why the bytes between STX and LF are no frame, as far as one can see."""
+def cause_of_frame(body: bytes, fault: FrameFault, place: int, limit: int = FRAME_TEXT) -> Cause:
+    """Why the bytes between STX and LF are no frame whose text has at most so many bytes, as far as one can see."""
     if fault is FrameFault.TOO_LONG:
         length = len(body) - 5
-        return Cause(
-            "long",
-            f"frame too long: {length} bytes of text, {FRAME_TEXT} are allowed "
-            "(`lislink replay --long` takes it)",
-        )
+        hint = " (`--long` takes it)" if limit < length <= LONG_FRAME_TEXT else ""
+        return Cause("long", f"frame too long: {length} bytes of text, {limit} are allowed{hint}")
     if fault is FrameFault.SHAPE:
         return _shape(body)
     if fault is FrameFault.NUMBER:
@@ -237,7 +234,10 @@ def _bad_record(status: Status, error: MessageError, record: bytes) -> RecordCau
     if status is Status.FORBIDDEN:
         byte = record[error.place : error.place + 1]
         options = {b"\0": ["--nul"], b"\x1a": ["--ctrl-z"], b"\n": ["--lf"]}.get(byte, [])
-        return RecordCause("byte", f"the byte {words(byte)} at place {error.place} is no text", options)
+        text = f"the byte {words(byte)} at place {error.place} is no text"
+        if byte == b"\xff":
+            text += " (in code page 1251 it is a letter, in Latin-1 another)"
+        return RecordCause("byte", text, options)
     if status is Status.TOO_LONG:
         return RecordCause("long", "a record of over 65,536 bytes", [])
     if in_words := _in_words(record):

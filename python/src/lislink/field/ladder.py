@@ -4,7 +4,7 @@ import itertools
 from typing import Dict, Iterator, List, NamedTuple, Optional, Tuple, Union
 
 from ..capture import Capture, Line
-from ..link import Kind, Note, Readiness, Receiver, Scanner, Signal, Step
+from ..link import FRAME_TEXT, Kind, Note, Readiness, Receiver, Scanner, Signal, Step
 from ..message import Fault, Found, read_all
 from .faults import Cause, Sum, cause_of_frame, checksum_of, words
 from .log import SECOND
@@ -50,10 +50,24 @@ class Look(NamedTuple):
     lines: List[int]
 
 
+def _has_echo(capture: Capture) -> bool:
+    """Whether frames of the analyzer come back from the computer's side, or ENQ again and again: a computer that wants
+    to send answers one ENQ by ENQ."""
+    sent = back = b""
+    for _, line in capture.lines:
+        if line.mark == ">":
+            sent += line.data
+        elif line.mark == "<":
+            is_same = sent.startswith(line.data)
+            back += line.data if is_same else b""
+            sent = sent[len(line.data) :] if is_same else b""
+    return STX in back or back.count(ENQ) > 2
+
+
 class Ladder:
     """The rows of a capture, the texts and messages in it, and what looks wrong."""
 
-    def __init__(self, capture: Capture, encoding: str = "latin-1") -> None:
+    def __init__(self, capture: Capture, encoding: str = "latin-1", frame_limit: int = FRAME_TEXT) -> None:
         self.rows: List[Row] = []
         self.texts: List[Text] = []
         self.differences: List[Tuple[int, bytes, bytes]] = []  # the line (0 for the end), wanted, got
@@ -68,7 +82,10 @@ class Ladder:
         self._busy = Readiness.READY
         self._heard: Optional[int] = None
         self._computer_sends = False
-        with Receiver() as receiver, Scanner() as scanner:
+        # Whether an echo is on the line, what it may still send back, and the answer that is due after it.
+        self._echoes, self._sent, self._echoed = _has_echo(capture), b"", b""
+        self.frame_limit = frame_limit
+        with Receiver(frame_limit=frame_limit) as receiver, Scanner(frame_limit=frame_limit) as scanner:
             for (number, line), time in zip(capture.lines, capture.times):
                 self._take(receiver, scanner, number, line, time)
             self._end(receiver, capture)
@@ -86,6 +103,7 @@ class Ladder:
     def _take(self, receiver: Receiver, scanner: Scanner, number: int, line: Line, time: Optional[int]) -> None:
         if line.mark == ">":
             self._silence(receiver, number, time)
+            self._sent += line.data
             self._units(receiver, scanner, number, line.data, time)
         elif line.mark == "<":
             self._reply(number, line.data, time)
@@ -277,7 +295,8 @@ class Ladder:
         self, receiver: Receiver, signal: Signal, step: Optional[Step], body: bytes, note: Note
     ) -> Tuple[str, str, Optional[Cause]]:
         due = (receiver.accepted + 1) % 8
-        cause = cause_of_frame(body, signal.fault, signal.place) if signal.kind is Kind.BAD_FRAME else None
+        bad = signal.kind is Kind.BAD_FRAME
+        cause = cause_of_frame(body, signal.fault, signal.place, self.frame_limit) if bad else None
         if cause and note is Note.REFUSED:
             return f"rejected: {cause.words}", "bad", cause
         if cause:
@@ -335,6 +354,15 @@ class Ladder:
             self.rows.append(Row(number, time, "<", "reply", title, "", "plain", data, b"", wanted))
             return
         self.differences.append((number, data, wanted))
+        if self._is_echo(data):
+            note = "the bytes of the analyzer come back: an echo"
+            self.rows.append(Row(number, time, "<", "echo", title, note, "bad", data, b"", wanted))
+            self._echoed = wanted or self._echoed
+            return
+        if data == self._echoed:
+            self._echoed = b""
+            self.rows.append(Row(number, time, "<", "reply", title, "the answer, after an echo", "plain", data))
+            return
         if STX in data or ENQ in data and wanted != b"\x05" or self._computer_sends and data == b"\x04":
             note, level = "the computer's own session: not part of what the analyzer sends", "plain"
             self._computer_sends = data != b"\x04"
@@ -350,6 +378,12 @@ class Ladder:
             elif data == b"\x04" and wanted == b"\x06":
                 note, level = "the computer acknowledges and asks to interrupt (EOT)", "warn"
         self.rows.append(Row(number, time, "<", "reply", title, note, level, data, b"", wanted))
+
+    def _is_echo(self, data: bytes) -> bool:
+        """Whether the computer sends what the analyzer has sent since the last answer, from its beginning on."""
+        is_same = self._sent.startswith(data)
+        self._sent = self._sent[len(data) :] if is_same else b""
+        return is_same and self._echoes
 
     def _nak(self) -> str:
         last = next((row for row in reversed(self.rows) if row.side == ">"), None)

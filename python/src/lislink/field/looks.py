@@ -16,6 +16,7 @@ def looks_of(ladder: Ladder) -> List[Look]:
     found: List[Look] = []
     for one in (
         _no_protocol,
+        _telnet,
         _no_text,
         _none_accepted,
         _same_number,
@@ -28,6 +29,7 @@ def looks_of(ladder: Ladder) -> List[Look]:
         _dropped,
         _outside,
         _answers,
+        _echo,
         _computer_session,
         _no_answer,
         _late,
@@ -135,6 +137,24 @@ def _no_frame(ladder: Ladder) -> Look:
     )
 
 
+def _telnet(ladder: Ladder) -> Iterator[Look]:
+    """CR NUL in place of CR: so Telnet sends a CR that no LF follows."""
+    count = len(re.findall(rb"\r\0", ladder.analyzer))
+    if count and not re.search(rb"\r[^\0\n]", ladder.analyzer):
+        rows = [row for row in ladder.rows if row.side == ">" and b"\r\0" in row.raw]
+        yield Look(
+            "telnet",
+            "bad",
+            f"{_times(count)} NUL follows CR, and no CR is without: a terminal server speaks Telnet on this line",
+            "set its port to raw TCP (no Telnet, or binary mode); the analyzer is not at fault",
+            _lines(rows)[:5],
+        )
+
+
+def _is_telnet(ladder: Ladder) -> bool:
+    return any(True for _ in _telnet(ladder))
+
+
 def _no_text(ladder: Ladder) -> Iterator[Look]:
     if ladder.texts or not any(row.kind in ("frame", "bad") for row in ladder.units()):
         return
@@ -163,20 +183,22 @@ def _sessions(ladder: Ladder) -> Iterator[List[Row]]:
 
 def _none_accepted(ladder: Ladder) -> Iterator[Look]:
     """Sessions with frames of which none was accepted, whatever the other sessions gave."""
-    count, rows, why = 0, [], Counter()  # type: int, List[Row], Counter[str]
+    count, rows, lost = 0, [], []  # type: int, List[Row], List[Row]
     for session in _sessions(ladder):
         count += 1
         frames = [row for row in session if row.kind == "dropped" or row.heard is not Note.QUIET and _is_frame(row)]
         if frames and not any(row.heard is Note.ACCEPTED for row in frames):
             rows.append(session[0])
-            why.update(row.cause.words if row.cause else "no LF ended it" for row in frames)
+            lost += frames
     if rows:
-        reasons = "; ".join(f"{_many(times, 'frame')}: {words}" for words, times in why.most_common(3))
+        why = {row.cause.name if row.cause else "": row.cause.words if row.cause else "no LF ended it" for row in lost[::-1]}
+        times = Counter(row.cause.name if row.cause else "" for row in lost)
+        reasons = "; ".join(f"{_many(times[name], 'frame')}: {why[name]}" for name, _ in times.most_common(3))
         where = "no frame of the session" if count == 1 else f"in {len(rows)} of {count} sessions no frame"
         yield Look(
             "none-accepted",
             "bad",
-            f"{where} was accepted ({reasons}" + ("; and others)" if len(why) > 3 else ")"),
+            f"{where} was accepted ({reasons}{'; and others' if len(times) > 3 else ''})",
             "all that was sent in it is lost, unless the analyzer sends it again in a later session",
             _lines(rows)[:5],
         )
@@ -245,12 +267,13 @@ def _never_ended(ladder: Ladder) -> Iterator[Look]:
 
 
 _ADVICE = {
-    "long": "`lislink replay --long` takes frames of up to 63,993 bytes; this ladder has 240",
+    "long": "`lislab ladder --long` takes frames of up to 63,993 bytes, as `lislink replay --long` does",
     "lf-in-text": "the sender must put CR alone after a record; no receiver can take LF inside a frame",
     "no-sum": "another dialect of the link: frames without a checksum aren't taken",
     "flow-control": "turn XON/XOFF off at both ends",
     "number": "another dialect of the link: frames need a number",
     "no-cr": "the sender must end a frame in CR and LF",
+    "number-over-7": "the sender must count modulo 8: after 7 comes 0",
     "out-of-turn": "the sender must begin with 1 after each ENQ, and count on by one after each ACK",
 }
 
@@ -265,16 +288,39 @@ def _bad_frames(ladder: Ladder) -> Iterator[Look]:
         cause = mine[0].cause
         assert cause is not None
         share = f"all {count} frames" if count == len(frames) > 1 else f"{count} of {_many(len(frames), 'frame')}"
-        if name == "sum":
-            yield _sums(ladder, mine, share, good)
-        else:
+        noise = _noise(ladder, mine, share) if name not in _KEPT else None
+        if noise is not None:
+            yield noise
+        elif name == "sum":
+            yield _sums(mine, share, good)
+        elif not (name == "no-cr" and _is_telnet(ladder)):
+            advice = _DAMAGED if good and name in _BY_DAMAGE else "the sender is wrong: a receiver must not take such a frame"
             yield Look(
-                name,
-                "bad",
-                f"{share} rejected: {cause.words}",
-                _ADVICE.get(name, "the sender is wrong: a receiver must not take such a frame"),
-                _lines(mine)[:5],
+                name, "bad", f"{share} rejected: {cause.words}", _ADVICE.get(name, advice), _lines(mine)[:5]
             )
+
+
+#: Causes that noise doesn't have: the frame is right when it comes again, and what is wrong stays.
+_KEPT = ("flow-control", "out-of-turn", "no-room", "memory")
+#: Causes that damage has, next to frames that are right.
+_BY_DAMAGE = ("sum", "sum-no-digits", "sum-digits", "forbidden", "shape", "short", "number", "no-cr", "no-sum")
+_DAMAGED = "other frames of the sender are right: bytes were damaged on the way; look at cable, shield and speed"
+
+
+def _noise(ladder: Ladder, rows: List[Row], share: str) -> Optional[Look]:
+    """What looks wrong if each of these frames came again and was accepted."""
+    frames = [row for row in ladder.units() if _is_frame(row)]
+    again = [row for row, after in zip(frames, frames[1:]) if row in rows and after.heard is Note.ACCEPTED]
+    if len(again) < len(rows):
+        return None
+    why = rows[0].cause.words if rows[0].cause else ""
+    return Look(
+        "noise",
+        "warn",
+        f"{share} rejected: {why}; each came again and was accepted: noise on the line",
+        "look at cable, shield and speed if there are many",
+        _lines(rows)[:5],
+    )
 
 
 def _kind(row: Row) -> str:
@@ -282,8 +328,8 @@ def _kind(row: Row) -> str:
     return "sum" if name.startswith("sum-") and row.checksum is not None and row.cause and row.cause.way else name
 
 
-def _sums(ladder: Ladder, rows: List[Row], share: str, good: int) -> Look:
-    """Wrong checksums: another way to sum where no frame at all is right, noise where the frame comes again."""
+def _sums(rows: List[Row], share: str, good: int) -> Look:
+    """Wrong checksums: another way to sum where no frame at all is right."""
     ways = {row.cause.way for row in rows if row.cause}
     first = rows[0].cause.words if rows[0].cause else ""
     if good == 0 and len(ways) == 1 and "" not in ways:
@@ -295,27 +341,8 @@ def _sums(ladder: Ladder, rows: List[Row], share: str, good: int) -> Look:
             "mend the sender: a receiver must not take such a checksum",
             _lines(rows)[:5],
         )
-    frames = [row for row in ladder.units() if row.kind in ("frame", "bad")]
-    again = [
-        row
-        for row, after in zip(frames, frames[1:])
-        if row in rows and after.kind == "frame" and after.level == "good"
-    ]
-    if len(again) == len(rows):
-        return Look(
-            "noise",
-            "warn",
-            f"{share} rejected: {first}; each came again and was accepted: noise on the line",
-            "look at cable, shield and speed if there are many",
-            _lines(rows)[:5],
-        )
-    return Look(
-        "sum",
-        "bad",
-        f"{share} rejected: {first}",
-        "the sender sums otherwise, or bytes were damaged on the way",
-        _lines(rows)[:5],
-    )
+    advice = _DAMAGED if good else "the sender sums otherwise, or bytes were damaged on the way"
+    return Look("sum", "bad", f"{share} rejected: {first}", advice, _lines(rows)[:5])
 
 
 def _gives_up(ladder: Ladder) -> Iterator[Look]:
@@ -430,7 +457,7 @@ _ANSWERS = (
 def _answers(ladder: Ladder) -> Iterator[Look]:
     for tail, name, text, advice in _ANSWERS:
         rows = [row for row in ladder.rows if row.side == "<" and row.note.endswith(tail)]
-        if rows:
+        if rows and not (name == "takes-bad" and _is_telnet(ladder)):  # a host that speaks Telnet drops these NUL bytes
             yield Look(
                 name,
                 "plain" if name == "interrupt" else "warn" if name == "busy" else "bad",
@@ -438,13 +465,25 @@ def _answers(ladder: Ladder) -> Iterator[Look]:
                 advice,
                 _lines(rows)[:5],
             )
-    rows = [row for row in ladder.rows if row.side == "<" and row.level == "bad" and ": " not in row.note]
+    rows = [row for row in ladder.rows if row.kind == "reply" and row.level == "bad" and ": " not in row.note]
     if rows:
         yield Look(
             "other-answer",
             "bad",
             f"{_times(len(rows))} the computer answers otherwise than a receiver would",
             "",
+            _lines(rows)[:5],
+        )
+
+
+def _echo(ladder: Ladder) -> Iterator[Look]:
+    rows = [row for row in ladder.rows if row.kind == "echo"]
+    if rows:
+        yield Look(
+            "echo",
+            "bad",
+            f"{_times(len(rows))} the bytes of the analyzer come back as they were sent: a loopback or an echo",
+            "look for a loopback plug, a wire between both data pins, or an echo that is switched on; no host answers",
             _lines(rows)[:5],
         )
 
@@ -521,8 +560,19 @@ def _late(ladder: Ladder) -> Iterator[Look]:
         )
 
 
+#: Two or more characters of two bytes in a row, as GBK, Big5 and Shift JIS have them.
+_PAIRS = re.compile(rb"(?:[\x81-\xfe][\x40-\x7e\x80-\xfe]){2,}")
+
+
+def _is_split(text: bytes) -> bool:
+    """Whether text of two bytes a character has a delimiter as a second byte. A first byte from C0 on is a letter of the
+    code pages of one byte, as 1251 and Latin-1 are, with a delimiter after it."""
+    runs = (found.group() for found in _PAIRS.finditer(text))
+    return any(run[at] < 0xC0 and run[at + 1] in b"|\\^~" for run in runs for at in range(0, len(run), 2))
+
+
 def _charset(ladder: Ladder) -> Iterator[Look]:
-    rows = [row for row in ladder.units() if re.search(rb"[\x81-\xfe][\x5c\x5e\x7c\x7e]", row.text)]
+    rows = [row for row in ladder.units() if _is_split(row.text)]
     if rows:
         yield Look(
             "two-bytes",
@@ -540,6 +590,8 @@ def _unfinished(ladder: Ladder) -> Iterator[Look]:
 
 
 def _records(ladder: Ladder) -> Iterator[Look]:
+    if _is_telnet(ladder):
+        return
     faults = [one for one in ladder.messages if isinstance(one, Fault)]
     if len(ladder.texts) > 1 and not any(text.data.endswith(b"\r") for text in ladder.texts):
         yield Look(

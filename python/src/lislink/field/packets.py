@@ -360,10 +360,15 @@ def _one_after_another(found: List[Connection]) -> bool:
     """Whether connections are between the same two machines, at one port of one of them, each behind the one before."""
     common = frozenset.intersection(*(one.ports for one in found))
     same = len({one.addresses for one in found}) == 1 and bool(common)
-    return same and all(
-        before.ended is None or after.begun is None or before.ended <= after.begun
-        for before, after in zip(found, found[1:])
-    )
+    return same and all(_is_behind(after, before) for before, after in zip(found, found[1:]))
+
+
+def _is_behind(after: Connection, before: Connection) -> bool:
+    """Whether the bytes of a connection come behind those of another. The packets that end that one may come later."""
+    if not before.pieces or not after.pieces:
+        return True
+    last, first = before.pieces[-1].time, after.pieces[0].time
+    return last is None or first is None or last <= first
 
 
 def _joined(found: List[Connection], form: str) -> Log:
@@ -378,7 +383,7 @@ def _joined(found: List[Connection], form: str) -> Log:
                 "(--skip-missing goes on without them)"
             )
         if number:
-            pieces.append(Piece(one.begun, NEW, b""))
+            pieces.append(Piece(one.pieces[0].time if one.pieces else one.begun, NEW, b""))
         for piece in one.pieces:
             # The ends of several connections are two names: the one that they share, and the other.
             side = piece.side if shared is None else ("server" if piece.side == shared else "client")

@@ -1,6 +1,7 @@
 """Captures out of sniffers' logs: which form a log has, which side is the analyzer, and the lines of the capture."""
 import gzip
 import re
+import shlex
 import struct
 import zlib
 from typing import Callable, Dict, List, NamedTuple, Optional, Tuple
@@ -267,7 +268,8 @@ def _analyzer(pieces: List[Piece], sides: List[str], ask: Options, remarks: List
     """The side that is the analyzer: the one that is named; the only one that sends ENQ, or frames; the one that sends
     results or queries; the first that sends ENQ."""
     if ask.analyzer is not None:
-        wanted = [one for one in sides if ask.analyzer.lower() in one.lower()]
+        name = ask.analyzer.lower()
+        wanted = [one for one in sides if ask.analyzer == one] or [one for one in sides if name in one.lower()]
         if len(wanted) != 1:
             raise LogError(f"{ask.analyzer} isn't one of the two sides: " + ", ".join(sides))
         return wanted[0]
@@ -292,9 +294,8 @@ def _analyzer(pieces: List[Piece], sides: List[str], ask: Options, remarks: List
                 f"both sides send ENQ; the first, {first!r}, is taken for the analyzer (--swap turns it round)"
             )
             return first
-    raise LogError(
-        "neither side sends ENQ or STX: name the analyzer's side by --analyzer " + " or --analyzer ".join(sides)
-    )
+    options = " or ".join(f"--analyzer-side={shlex.quote(one)}" for one in sides)
+    raise LogError(f"neither side sends ENQ or STX: name the analyzer's side by {options}")
 
 
 def _grouped(pieces: List[Piece]) -> List[Piece]:

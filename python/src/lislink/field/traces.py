@@ -421,6 +421,8 @@ def _split(line: str, grammar: Grammar) -> Optional[Tuple[str, str, bytes]]:
         for found in pattern.finditer(line):
             if found.start() >= limit or not _is_head(line[: found.start()]):
                 continue
+            if rank in _ARROWS and find_time(side(found)) is not None:
+                continue  # a time before an arrow is no name
             rest = line[found.end() :]
             separator = _SEPARATOR.match(rest)
             body = rest[separator.end() :] if separator else rest
