@@ -3,6 +3,8 @@ import csv
 import io
 import json
 import os
+import random
+import re
 
 from lislink import Message, messages, read_all
 from lislink.field.normalize import CHANGES
@@ -38,7 +40,77 @@ def framed(number, record):
     return frame_bytes(number % 8, True, record + b"\r")
 
 
+def component(chance, four):
+    """A random component: how it is written under these delimiters, and what it means, marks of highlighting apart."""
+    mark, letters = four[3:4], dict(zip(four, "FRSE"))
+    written, meant = b"", []
+    for _ in range(chance.randrange(4)):
+        piece = chance.choice(("^", "\\", "&", "|", "S", "E", "H", "&S&", "&H&", "high", "~", "é", "<H>", "<N>"))
+        if piece in ("<H>", "<N>"):
+            written += mark + piece[1:2].encode() + mark
+            meant.append(piece)
+            continue
+        for one in piece.encode("latin-1"):
+            escape = f"X{one:02X}" if chance.random() < 0.2 else letters.get(one, "")
+            written += mark + escape.encode() + mark if escape else bytes([one])
+        meant += piece
+    return written, meant
+
+
+def meaning_of(text):
+    """What a component of a table's cell means, by the rules of the page."""
+    names = {"&S&": "^", "&R&": "\\", "&E&": "&", "&H&": "<H>", "&N&": "<N>"}
+    pieces = [one for one in re.split(r"(&[SREHN]&)", text) if one]
+    return [mean for one in pieces for mean in ([names[one]] if one in names else one)]
+
+
 class Records(FieldTest):
+    def test_nothing_is_lost(self):
+        """A cell of a table, and a list of JSON, has what the field means: an escaped delimiter is none."""
+        chance, lost = random.Random(5), []
+        for _ in range(1500):
+            four = chance.choice((b"|\\^&", b"|~^\\", b"|^\\&", b"|@*#"))
+            field = [[component(chance, four) for _ in range(chance.choice((1, 1, 2)))] for _ in range(chance.choice((1, 1, 2)))]
+            body = four[1:2].join(four[2:3].join(written for written, _ in some) for some in field)
+            data = b"H" + four + b"\rP|1\rO|1|S\rR|1|t|" + body + b"\rL|1\r"
+            wanted = [[meant for _, meant in some] for some in field]
+            (message,) = [one.message for one in read_all(data)]
+            result = next(message.results())[2]
+            cell = [[meaning_of(one) for one in some.split("^")] for some in result.whole(4).split("\\")]
+            parts = result.parts(4)
+            nested = [[parts]] if isinstance(parts, str) else [parts] if isinstance(parts[0], str) else parts
+            # In a list ^ and a backslash are what they are: only & has its name where it must.
+            lists = [[[one for text in re.split(r"(&[EHN]&)", part) if text
+                       for one in (meaning_of(text) if re.fullmatch(r"&[EHN]&", text) else text)]
+                      for part in some] for some in nested]
+            if cell != wanted or lists != wanted:
+                lost.append((data, result.whole(4), parts))
+        self.same("nothing is lost", lost[:3], [])
+
+    def test_escaped_delimiters(self):
+        """A value with an escaped delimiter reads otherwise than one with two components or repeats."""
+        values = (b"a&S&b", b"a^b", b"a&R&b", b"a\\b", b"&H&a&N&", b"&E&H&E&a&E&N&E&", b"a & b", b"&X5E&")
+        data = GOOD.replace(b"R|1|^^^GLU|5.4", b"\r".join(b"R|1|^^^GLU|" + value for value in values))
+        for options in (["--format", "csv"], ["--format", "tsv"], ["--format", "jsonl"], ["--format", "jsonl", "--nested"]):
+            lines = lislab("table", "--no-header", "--fields", "value", *options, data=data).lines
+            self.same(f"{options}: values are told apart", len(set(lines)), len(values))
+        flat = ["a&S&b", "a^b", "a&R&b", "a\\b", "&H&a&N&", "&E&H&E&a&E&N&E&", "a & b", "&S&"]
+        cells = [row[0] for row in table(data, "--no-header", "--fields", "value")[1]]
+        self.same("CSV", cells, flat)
+        for options, wanted in (([], flat), (["--nested"], ["a^b", ["a", "b"], "a\\b", [["a"], ["b"]], *flat[4:7], "^"])):
+            ran = lislab("table", "--format", "jsonl", "--fields", "value", *options, data=data)
+            self.same(f"JSON lines {options}", [json.loads(line)["value"] for line in ran.lines], wanted)
+        self.same("--nested is for JSON", lislab("table", "--nested", data=data).status, 2)
+        code = GOOD.replace(b"R|1|^^^GLU", b"R|1|^^^a&S&b")
+        both = [table(one, "--no-header", "--fields", "test,R.3.4")[1][0] for one in (code, GOOD)]
+        self.same("a component", both, [["a&S&b", "a&S&b"], ["GLU", "GLU"]])
+        (rows,) = messages([GOOD.replace(b"5.4", b"a&S&b\\c^d")])
+        message = Message(rows)
+        for nested, wanted in ((False, "a&S&b\\c^d"), (True, [["a^b"], ["c", "d"]])):
+            plain = message.to_dict(nested)["patients"][0]["orders"][0]["results"][0]
+            self.same(f"as data, nested {nested}", plain["value"], wanted)
+            self.same(f"as JSON, nested {nested}", json.loads(message.to_json(nested)), message.to_dict(nested))
+
     def test_normalize(self):
         for path in ("panel", "query", "escapes"):
             with open(os.path.join(SAMPLES, path + ".records"), "rb") as file:

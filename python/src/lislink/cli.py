@@ -218,7 +218,9 @@ def records_of(path: str, ask: argparse.Namespace) -> bytes:
 def run_table(ask: argparse.Namespace) -> int:
     """Writes results as a table."""
     names = [name.strip() for name in ask.fields.split(",")] if ask.fields else list(table.USUAL)
-    columns = table.columns_of(names, ask.sample_from)
+    if ask.nested and ask.format != "jsonl":
+        raise table.TableError("--nested is for --format jsonl")
+    columns = table.columns_of(names, ask.sample_from, ask.nested)
     line = table.line_writer(ask.format, columns)
     out: List[str] = [] if ask.no_header else [line(None)]
     status, odd = GOOD, 0
@@ -229,7 +231,7 @@ def run_table(ask: argparse.Namespace) -> int:
                 say(where + why)
                 status = LOOKS_WRONG
             else:
-                odd += any("\ufffd" in cell for cell in row)
+                odd += any("\ufffd" in str(cell) for cell in row)
                 out.append(line(row))
     write_output(ask.output, "".join(out).encode("utf-8"))
     if odd:
@@ -294,6 +296,7 @@ def _add_table(one: argparse.ArgumentParser) -> None:
     )
     one.add_argument("--encoding", type=_encoding, default="utf-8", help="of the records' text (utf-8)")
     one.add_argument("--no-header", action="store_true", help="no line of names")
+    one.add_argument("--nested", action="store_true", help="in JSON lines: lists where a field has components or repeats")
     _add_long(one)
     _import_options(one)
     one.set_defaults(run=run_table)

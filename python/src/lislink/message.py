@@ -6,6 +6,7 @@ from typing import Any, Dict, Generator, Iterable, Iterator, List, NamedTuple, O
 from ._checks import as_bytes
 from .records import MessageError, Reader
 from .rows import Row
+from .shown import Parts, as_parts, as_text
 
 #: The names of the fields behind a record's letter, by the standard's numbers (a header's delimiters are field 2).
 NAMES: Dict[str, Dict[int, str]] = {
@@ -105,9 +106,13 @@ class Entry:
         return (self.part(field, repeat, component) or b"").decode(self.encoding, "replace")
 
     def whole(self, field: int) -> str:
-        """A field as text, its components joined by ^ and its repeats by a backslash, escapes undone."""
-        repeats = self.row.field(field)
-        return "\\".join("^".join(one.decode(self.encoding, "replace") for one in parts) for parts in repeats)
+        """A field as text, its components joined by ^ and its repeats by a backslash. Escapes are undone but for what
+        would be read as these: `&S&`, `&R&`, and `&E&` where & would be read as an escape."""
+        return as_text(self.row, field, self.encoding)
+
+    def parts(self, field: int) -> Parts:
+        """A field as text; as a list if it has components, as a list of lists if it has repeats."""
+        return as_parts(self.row, field, self.encoding)
 
     def __getattr__(self, name: str) -> str:
         numbers = _NUMBERS.get(self.__dict__["row"].letter, {}) if "row" in self.__dict__ else {}
@@ -117,19 +122,20 @@ class Entry:
             f"a record {self.__dict__['row'].letter if 'row' in self.__dict__ else ''} has no {name}"
         )
 
-    def to_dict(self) -> Dict[str, Any]:
-        """The record, its notes and what is below it, as plain data; fields that are empty are left out."""
+    def to_dict(self, nested: bool = False) -> Dict[str, Any]:
+        """The record, its notes and what is below it, as plain data; fields that are empty are left out. Fields are texts
+        (`whole`), or lists where they have components or repeats (`parts`)."""
         names = NAMES.get(self.letter, {})
         told: Dict[str, Any] = {"record": self.letter}
         for number in range(self.row.first, self.row.first + self.row.count):
-            text = self.whole(number)
+            text = self.parts(number) if nested else self.whole(number)
             if text:
                 told[names.get(number, f"field_{number}")] = text
         if self.notes:
-            told["notes"] = [one.to_dict() for one in self.notes]
+            told["notes"] = [one.to_dict(nested) for one in self.notes]
         for name, below in (("orders", self.orders), ("results", self.results)):
             if below:
-                told[name] = [one.to_dict() for one in below]
+                told[name] = [one.to_dict(nested) for one in below]
         return told
 
 
@@ -209,18 +215,21 @@ class Message:
                 found.append(Finding(entry.number, letter, 1 if letter == "L" else position))
         return found
 
-    def to_dict(self) -> Dict[str, Any]:
-        """The message as plain data."""
-        told = {"header": self.header.to_dict(), "patients": [one.to_dict() for one in self.patients]}
+    def to_dict(self, nested: bool = False) -> Dict[str, Any]:
+        """The message as plain data; fields are texts, or lists where they have components or repeats."""
+        told = {
+            "header": self.header.to_dict(nested),
+            "patients": [one.to_dict(nested) for one in self.patients],
+        }
         if self.queries:
-            told["queries"] = [one.to_dict() for one in self.queries]
+            told["queries"] = [one.to_dict(nested) for one in self.queries]
         if self.terminator:
-            told["terminator"] = self.terminator.to_dict()
+            told["terminator"] = self.terminator.to_dict(nested)
         return told
 
-    def to_json(self, **words: Any) -> str:
+    def to_json(self, nested: bool = False, **words: Any) -> str:
         """The message as JSON."""
-        return json.dumps(self.to_dict(), ensure_ascii=False, **words)
+        return json.dumps(self.to_dict(nested), ensure_ascii=False, **words)
 
 
 def _is_number(row: Row, position: int) -> bool:

@@ -93,6 +93,15 @@ class Row:
             one = some[component]
         return self._meant(one) if escape in one else one
 
+    def written(self, number: int) -> bytes:
+        """A field as it came; empty if there is none. The letter is field 1, a header's delimiters are field 2."""
+        found = self._split or self._cut()
+        return found[number - 1] if self.first <= number <= len(found) else b""
+
+    def meaning(self, data: bytes) -> bytes:
+        """What the bytes of a component mean: its escapes undone."""
+        return self._meant(data) if self._marks[5] in data else data
+
     def field(self, number: int) -> List[List[bytes]]:
         """A field as its repeats, these as lists of components; nothing if there is no such field."""
         found = self._split or self._cut()

@@ -3,9 +3,10 @@ import csv
 import io
 import json
 import re
-from typing import Callable, Dict, Iterator, List, NamedTuple, Optional, Tuple
+from typing import Any, Callable, Dict, Iterator, List, NamedTuple, Optional, Tuple
 
 from ..message import NAMES, Entry, Fault, Message, read_all
+from ..shown import as_parts, as_text, component_text
 from .faults import cause_of_record, code_of
 from .looks import record_at
 
@@ -19,32 +20,50 @@ class TableError(Exception):
 
 
 class Column(NamedTuple):
-    """A column: its name, and its text for a result in its message."""
+    """A column: its name, and its cell for a result in its message: a text, or a list of its parts."""
 
     name: str
-    text: Callable[[Where], str]
+    text: Callable[[Where], Any]
 
 
-def _test(where: Where) -> str:
-    """The maker's code (component 4 of the test), else the whole field."""
-    result = where[3]
-    return result.text(3, 0, 3) or result.whole(3)
+#: What makes a cell of a field, and of a component of one.
+Field = Callable[[Entry, int], Any]
+Component = Callable[[Entry, int, int], str]
 
 
-def columns_of(names: List[str], sample_from: int = 3) -> List[Column]:
+def _flat(entry: Entry, number: int) -> str:
+    return as_text(entry.row, number, entry.encoding)
+
+
+def _nested(entry: Entry, number: int) -> Any:
+    return as_parts(entry.row, number, entry.encoding)
+
+
+def _flat_component(entry: Entry, number: int, component: int) -> str:
+    return component_text(entry.row, number, component, entry.encoding, True)
+
+
+def _nested_component(entry: Entry, number: int, component: int) -> str:
+    return component_text(entry.row, number, component, entry.encoding, False)
+
+
+def columns_of(names: List[str], sample_from: int = 3, nested: bool = False) -> List[Column]:
     """Columns by their names: those of USUAL, `R.4`, `O.3`, `P.6`, `H.5`, `R.3.4` (a component, from 1), the standard's
-    names such as `result.operator`, and each with a heading of its own before `=`."""
-    usual: Dict[str, Callable[[Where], str]] = {
-        "sample": lambda where: where[2].whole(sample_from),
-        "patient": lambda where: next((text for text in (where[1].whole(one) for one in (3, 4, 5)) if text), ""),
-        "test": _test,
-        "value": lambda where: where[3].whole(4),
-        "unit": lambda where: where[3].whole(5),
-        "range": lambda where: where[3].whole(6),
-        "flag": lambda where: where[3].whole(7),
-        "status": lambda where: where[3].whole(9),
-        "date": lambda where: where[3].whole(13) or where[3].whole(12),
-        "instrument": lambda where: where[3].whole(14) or where[0].header.whole(5),
+    names such as `result.operator`, and each with a heading of its own before `=`. Nested ones have lists where a field
+    has components or repeats."""
+    field: Field = _nested if nested else _flat
+    part: Component = _nested_component if nested else _flat_component
+    usual: Dict[str, Callable[[Where], Any]] = {
+        "sample": lambda where: field(where[2], sample_from),
+        "patient": lambda where: next((text for text in (field(where[1], one) for one in (3, 4, 5)) if text), ""),
+        "test": lambda where: part(where[3], 3, 3) or field(where[3], 3),  # the maker's code, else the whole field
+        "value": lambda where: field(where[3], 4),
+        "unit": lambda where: field(where[3], 5),
+        "range": lambda where: field(where[3], 6),
+        "flag": lambda where: field(where[3], 7),
+        "status": lambda where: field(where[3], 9),
+        "date": lambda where: field(where[3], 13) or field(where[3], 12),
+        "instrument": lambda where: field(where[3], 14) or field(where[0].header, 5),
     }
     told = []
     for name in names:
@@ -52,11 +71,11 @@ def columns_of(names: List[str], sample_from: int = 3) -> List[Column]:
         if source in usual:
             told.append(Column(heading or source, usual[source]))
         else:
-            told.append(Column(heading or source, _of_field(source)))
+            told.append(Column(heading or source, _of_field(source, field, part)))
     return told
 
 
-def _of_field(source: str) -> Callable[[Where], str]:
+def _of_field(source: str, field: Field, component: Component) -> Callable[[Where], Any]:
     places = {"H": 0, "P": 1, "O": 2, "R": 3}
     numbered = re.match(r"([HPOR])\.(\d+)(?:\.(\d+))?$", source)
     named = re.match(r"(header|patient|order|result)\.(\w+)$", source)
@@ -71,22 +90,15 @@ def _of_field(source: str) -> Callable[[Where], str]:
     else:
         raise TableError(f"there is no column {source}: {', '.join(USUAL)}, R.4, R.3.4 or result.value")
 
-    def text(where: Where) -> str:
+    def text(where: Where) -> Any:
         entry = where[0].header if letter == "H" else where[places[letter]]
         assert isinstance(entry, Entry)
-        return entry.text(number, 0, part - 1) if part else entry.whole(number)
+        return component(entry, number, part - 1) if part else field(entry, number)
 
     return text
 
 
-class Table(NamedTuple):
-    """The rows of a table, and a line for each message that can't be read."""
-
-    rows: List[List[str]]
-    rejected: List[str]
-
-
-def rows_of(stream: bytes, columns: List[Column], encoding: str) -> Iterator["Tuple[Optional[List[str]], str]"]:
+def rows_of(stream: bytes, columns: List[Column], encoding: str) -> Iterator["Tuple[Optional[List[Any]], str]"]:
     """A row for each result, or None and why for a message that can't be read: none of its results is told."""
     number = 0
     for one in read_all(stream, encoding):
@@ -104,23 +116,23 @@ def rows_of(stream: bytes, columns: List[Column], encoding: str) -> Iterator["Tu
             yield [column.text((one.message, patient, order, result)) for column in columns], ""
 
 
-def line_writer(form: str, columns: List[Column]) -> Callable[[Optional[List[str]]], str]:
+def line_writer(form: str, columns: List[Column]) -> Callable[[Optional[List[Any]]], str]:
     """What makes a line of a row, in CSV, TSV or JSON lines; None is the line with the names."""
     names = [column.name for column in columns]
 
-    def as_csv(row: Optional[List[str]]) -> str:
+    def as_csv(row: Optional[List[Any]]) -> str:
         out = io.StringIO()
         csv.writer(out, lineterminator="\n").writerow(names if row is None else row)
         return out.getvalue()
 
-    def as_tsv(row: Optional[List[str]]) -> str:
+    def as_tsv(row: Optional[List[Any]]) -> str:
         cells = (
             cell.replace("\\", "\\\\").replace("\t", "\\t").replace("\n", "\\n").replace("\r", "\\r")
             for cell in (names if row is None else row)
         )
         return "\t".join(cells) + "\n"
 
-    def as_json(row: Optional[List[str]]) -> str:
+    def as_json(row: Optional[List[Any]]) -> str:
         return "" if row is None else json.dumps(dict(zip(names, row)), ensure_ascii=False) + "\n"
 
     return {"csv": as_csv, "tsv": as_tsv, "jsonl": as_json}[form]
