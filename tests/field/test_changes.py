@@ -17,7 +17,7 @@ WORDS = (b"<CR>", b"[CR]", b"{CR}", b"<cr>", b"\\r", b"^M", b"<0D>", b"<CR><LF>"
 ENDS = (b"", b"\n", b"\r\n", b"\r")
 #: Values as they mean, some of which look like what a dialect writes around them.
 VALUES = (b"5.4", b"139", b"<0.5", b"", b"positive", b"a|b", b"AT&T", b"x\\y", b"1^2", b"<CR>", b"[CR] seen", b"A\xe9",
-          b"8F", b"M", b"\\r", b"R", b"3R", b"7.2 ")
+          b"8F", b"M", b"\\r", b"R", b"3R", b"7.2 ", b"\xff", b"&S\x1d&")
 
 
 def written(value, four):
@@ -146,6 +146,7 @@ class Changes(FieldTest):
             ("Ctrl-Z in a value", GOOD.replace(b"5.4", b"5\x1a4"), "--ctrl-z", "line 4: a result is changed"),
             ("an escape that wasn't", GOOD.replace(b"\\^&", b"\\^").replace(b"5.4", b"a&F&b"), "--header-3",
              "line 4: a result is changed"),
+            ("GS that an escape would swallow", GOOD.replace(b"5.4", b"&S\x1d&"), "--escape", "line 4: a result is changed"),
             ("NUL in a sample's number", GOOD.replace(b"S7", b"S\x007"), "--nul",
              "a result has another order above it"),
         ):
@@ -158,6 +159,8 @@ class Changes(FieldTest):
             ("a comment after L", GOOD + b"C|1|I|made by a tool\r", "--behind-l"),
             ("NUL at the end of a record", GOOD.replace(b"mmol/L", b"mmol/L\0\0"), "--nul"),
             ("no escape is in a value", GOOD.replace(b"\\^&", b"\\^").replace(b"5.4", b"AT&T"), "--header-3"),
+            ("FF is escaped", GOOD.replace(b"5.4", b"5\xff4"), "--escape"),
+            ("GS is escaped, next to the escape's byte", GOOD.replace(b"5.4", b"&\x1d&4"), "--escape"),
             ("an order is put in", b"H|\\^&\rP|1\rR|1|^^^GLU|5.4\rL|1|N\r", "--orders"),
         ):
             ran = lislab("normalize", option, data=data)

@@ -233,7 +233,7 @@ def _bad_record(status: Status, error: MessageError, record: bytes) -> RecordCau
         return _in_words(record) or _bad_delimiters(record)
     if status is Status.FORBIDDEN:
         byte = record[error.place : error.place + 1]
-        options = {b"\0": ["--nul"], b"\x1a": ["--ctrl-z"], b"\n": ["--lf"]}.get(byte, [])
+        options = {b"\0": ["--nul"], b"\x1a": ["--ctrl-z"], b"\n": ["--lf"]}.get(byte, ["--escape"])
         text = f"the byte {words(byte)} at place {error.place} is no text"
         if byte == b"\xff":
             text += " (in code page 1251 it is a letter, in Latin-1 another)"

@@ -21,6 +21,7 @@ CHANGES: Dict[str, str] = {
     "blank": "empty records and blanks around a record are left out",
     "header-3": "a header with three delimiters gets '&' as the fourth",
     "header-5": "the fifth byte of a header's delimiters is left out (HL7's H|^~\\& becomes H|~^\\, which means the same)",
+    "escape": "a byte that no record holds becomes its escape, as &XFF& (FF, GS and others; not those of the link)",
     "behind-l": "records between L and the next header are left out",
     "last-cr": "the last record gets its CR",
     "last-l": "a message without an end gets L|1|N",
@@ -69,7 +70,7 @@ def normalize(data: bytes, asked: Set[str]) -> "Tuple[bytes, List[Told], Dict[st
     work = Work(data, asked)
     _bytes(work)
     records = list(_split(work))
-    for change in (_unframed, _blank, _headers, _behind, _parents, _ends):
+    for change in (_unframed, _blank, _headers, _escaped, _behind, _parents, _ends):
         records = list(change(work, records))
     out = b"".join(record + end for _, record, end in records)
     return out, sorted(work.told, key=lambda one: one.line), work.needed
@@ -207,6 +208,24 @@ def _headers(work: Work, records: List[Record]) -> Iterator[Record]:
                 if work.wants("header-5", number):
                     work.tell(number, f"the header's fifth delimiter byte '{words(record[5:6])}' was left out")
                     record = record[:5] + record[6:]
+        yield number, record, end
+
+
+#: Bytes that no record holds, but for NUL, Ctrl-Z, LF and those of the link.
+_NO_TEXT = re.compile(rb"[\x01\x08\x0e-\x14\x16\x18\x19\x1b-\x1f\x7f\xff]")
+
+
+def _escaped(work: Work, records: List[Record]) -> Iterator[Record]:
+    """Records whose bytes that none may hold are written as escapes, which mean the same bytes."""
+    escape = b"&"
+    for number, record, end in records:
+        if record[:1] in (b"H", b"h") and len(record) > 4:
+            escape = record[4:5]
+        found = _NO_TEXT.findall(record[1:])
+        if found and record[:1].isalpha() and work.wants("escape", number):
+            shown = ", ".join(f"{words(one)} as {words(escape)}X{one.hex().upper()}{words(escape)}" for one in set(found))
+            work.tell(number, f"bytes that no record holds were escaped: {shown}")
+            record = _NO_TEXT.sub(lambda one: escape + b"X%02X" % one[0][0] + escape, record)
         yield number, record, end
 
 
