@@ -65,10 +65,21 @@ def without_library(**more):
 class Test(unittest.TestCase):
     """A test whose checks count one by one: after one that failed the next ones are made too."""
 
+    #: How many checks the test has made, and whether one failed.
+    made, is_wrong = 0, False
+
+    def needs(self, tool, is_here, checks, what):
+        """The rest of the test needs a tool, and makes so many checks by it, which are left out where it isn't here."""
+        if not is_here:
+            self.skipTest(f"{tool}: {checks} checks: {what}")
+        before = self.made
+        self.addCleanup(lambda: self.is_wrong or self.assertEqual(self.made - before, checks, f"checks by {tool}"))
+
     def check(self, holds, what, why=""):
         """One check, with its name, or what makes the name if it fails."""
         if isinstance(holds, str):
             raise TypeError("what holds comes first, the name second")
+        self.made, self.is_wrong = self.made + 1, self.is_wrong or not holds
         if holds:
             with self.subTest():
                 return True
@@ -183,3 +194,17 @@ class Result(unittest.TestResult):
 def name_of(test):
     """A test's name: folder, file, test, and the row or the check in brackets."""
     return test.id().removeprefix("tests.").replace(".test_", "/", 1)
+
+
+def left_out(lines):
+    """What lines 'skipped: TOOL: N checks: WHAT' leave out, a line for each tool. Of a line without a number the checks
+    aren't known."""
+    tools = {}
+    for line in lines:
+        tool, count, what = re.fullmatch(r"skipped: (?:(.*?): (\d+|some) checks: )?(.*)\n?", line).groups()
+        tools.setdefault(tool or what, []).append((count, what))
+    for tool, rows in tools.items():
+        numbers = [int(count) for count, _ in rows if count and count.isdigit()]
+        told = " and ".join([str(sum(numbers))] * bool(numbers) + ["some"] * (len(numbers) < len(rows)))
+        whats = ", ".join(dict.fromkeys(what for count, what in rows if count))
+        yield f"left out, {tool}: {told} checks" + (f" ({whats})" if whats else "")

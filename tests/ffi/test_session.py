@@ -54,8 +54,7 @@ class Session(kit.Test):
         """The session by each compiler that is here."""
         compilers, standard, file = LANGUAGES[language]
         work, here = kit.folder_of(self), [it for it in compilers if shutil.which(it)]
-        if not here:
-            self.skipTest(f"the session in {language}, since there is no {compilers[0]}")
+        self.needs(compilers[0], here, 4 * max(len(here), 1), f"the session in {language}")
         for compiler in here:
             words = [compiler, *standard, *WARNINGS, os.path.join(HERE, file), "-o", f"{work}/session"]
             if self.runs([*words, *SANITIZERS, os.path.join(self.build, "liblislink.a")]):
@@ -65,8 +64,7 @@ class Session(kit.Test):
 
     def test_status(self):
         """lislink.hpp without exceptions: a call answers its status."""
-        if not shutil.which("g++"):
-            self.skipTest("lislink.hpp without exceptions, since there is no g++")
+        self.needs("g++", shutil.which("g++"), 2, "lislink.hpp without exceptions")
         work = kit.folder_of(self)
         words = ["g++", "-std=c++17", "-fno-exceptions", *WARNINGS, os.path.join(HERE, "status.cpp"),
                  os.path.join(self.build, "liblislink.a"), "-o", f"{work}/status"]

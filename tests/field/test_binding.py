@@ -323,8 +323,7 @@ class Binding(FieldTest):
 
     def test_package(self):
         """The wheel is built without a network, installed in a folder of its own, and found from anywhere."""
-        if importlib.util.find_spec("pip") is None:
-            self.skipTest("the wheel, since there is no pip")
+        self.needs("pip", importlib.util.find_spec("pip") is not None, 5, "the wheel")
         python = self.installed()
         if not python:
             return
@@ -357,7 +356,6 @@ class Binding(FieldTest):
 
     def test_mypy(self):
         """The type hints, where mypy is."""
-        if shutil.which("mypy") is None:
-            self.skipTest("the type hints, since there is no mypy")
+        self.needs("mypy", shutil.which("mypy") is not None, 1, "the type hints")
         done = subprocess.run(["mypy", "--no-incremental"], cwd=PYTHON, capture_output=True, text=True, check=False)
         self.check(done.returncode == 0, "mypy", done.stdout[-2000:])

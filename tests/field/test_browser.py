@@ -149,10 +149,9 @@ def pictures(test, told):
 
 class Browser(FieldTest):
     def test_pages(self):
-        if not browser():
-            self.skipTest("the pages in a browser, since there is no chromium")
         os.chdir(ROOT)
         told = pages(self)
+        self.needs("chromium", browser(), 8 * len(told) + 3 + 2 * bool(PICTURES), "the pages in a browser")
         seen = look_at(self, told)
         for name, (_, ladder) in told.items():
             compare(self, name, ladder, seen.get(name, {}))

@@ -41,7 +41,7 @@ def has(*tools):
     """Whether tools are here; what is missing is skipped."""
     missing = [it for it in tools if not shutil.which(it)]
     if missing:
-        print(f"skipped: what needs {missing[0]}, which is not here")
+        print(f"skipped: {missing[0]}: some checks: what is installed")
     return not missing
 
 
