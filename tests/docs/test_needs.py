@@ -43,7 +43,8 @@ class Needs(kit.Test):
 
     def test_needs(self):
         """tests/needs installs each tool whose lack leaves checks out."""
-        installed = {line.split()[0] for line in re.search(r"tools='(.*?)'", kit.read("tests/needs"), re.S)[1].split("\n")}
+        listed = re.search(r"tools='(.*?)'", kit.read("tests/needs"), re.S)[1]
+        installed = {line.split()[0] for line in listed.split("\n")}
         for path in glob.glob("tests/*/test_*.py", root_dir=ROOT):
             text = kit.read(path)
             for tool in set(USES.findall(text)) - {"tool"}:

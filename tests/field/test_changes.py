@@ -146,7 +146,8 @@ class Changes(FieldTest):
             ("Ctrl-Z in a value", GOOD.replace(b"5.4", b"5\x1a4"), "--ctrl-z", "line 4: a result is changed"),
             ("an escape that wasn't", GOOD.replace(b"\\^&", b"\\^").replace(b"5.4", b"a&F&b"), "--header-3",
              "line 4: a result is changed"),
-            ("GS that an escape would swallow", GOOD.replace(b"5.4", b"&S\x1d&"), "--escape", "line 4: a result is changed"),
+            ("GS that an escape would swallow", GOOD.replace(b"5.4", b"&S\x1d&"), "--escape",
+             "line 4: a result is changed"),
             ("NUL in a sample's number", GOOD.replace(b"S7", b"S\x007"), "--nul",
              "a result has another order above it"),
         ):

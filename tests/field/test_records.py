@@ -70,7 +70,8 @@ class Records(FieldTest):
         chance, lost = random.Random(5), []
         for _ in range(1500):
             four = chance.choice((b"|\\^&", b"|~^\\", b"|^\\&", b"|@*#"))
-            field = [[component(chance, four) for _ in range(chance.choice((1, 1, 2)))] for _ in range(chance.choice((1, 1, 2)))]
+            sizes = chance.choices((1, 1, 2), k=chance.choice((1, 1, 2)))
+            field = [[component(chance, four) for _ in range(size)] for size in sizes]
             body = four[1:2].join(four[2:3].join(written for written, _ in some) for some in field)
             data = b"H" + four + b"\rP|1\rO|1|S\rR|1|t|" + body + b"\rL|1\r"
             wanted = [[meant for _, meant in some] for some in field]
@@ -91,13 +92,14 @@ class Records(FieldTest):
         """A value with an escaped delimiter reads otherwise than one with two components or repeats."""
         values = (b"a&S&b", b"a^b", b"a&R&b", b"a\\b", b"&H&a&N&", b"&E&H&E&a&E&N&E&", b"a & b", b"&X5E&")
         data = GOOD.replace(b"R|1|^^^GLU|5.4", b"\r".join(b"R|1|^^^GLU|" + value for value in values))
-        for options in (["--format", "csv"], ["--format", "tsv"], ["--format", "jsonl"], ["--format", "jsonl", "--nested"]):
-            lines = lislab("table", "--no-header", "--fields", "value", *options, data=data).lines
+        for options in (["csv"], ["tsv"], ["jsonl"], ["jsonl", "--nested"]):
+            lines = lislab("table", "--no-header", "--fields", "value", "--format", *options, data=data).lines
             self.same(f"{options}: values are told apart", len(set(lines)), len(values))
         flat = ["a&S&b", "a^b", "a&R&b", "a\\b", "&H&a&N&", "&E&H&E&a&E&N&E&", "a & b", "&S&"]
         cells = [row[0] for row in table(data, "--no-header", "--fields", "value")[1]]
         self.same("CSV", cells, flat)
-        for options, wanted in (([], flat), (["--nested"], ["a^b", ["a", "b"], "a\\b", [["a"], ["b"]], *flat[4:7], "^"])):
+        nested = ["a^b", ["a", "b"], "a\\b", [["a"], ["b"]], *flat[4:7], "^"]
+        for options, wanted in (([], flat), (["--nested"], nested)):
             ran = lislab("table", "--format", "jsonl", "--fields", "value", *options, data=data)
             self.same(f"JSON lines {options}", [json.loads(line)["value"] for line in ran.lines], wanted)
         self.same("--nested is for JSON", lislab("table", "--nested", data=data).status, 2)

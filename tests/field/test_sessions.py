@@ -156,7 +156,8 @@ class Sessions(FieldTest):
             self.has(f"why: {name}", shown.text, "in 1 of 2 sessions no frame was accepted")
             self.has(f"why: {name}", shown.text, "frames: out of turn, 1 is due)")
         shown = lislab("ladder", "-", data=capture_of(*session(3, 3, reply="15")))
-        self.has("one session alone", shown.text, "no frame of the session was accepted (2 frames: out of turn, 1 is due)")
+        why = "no frame of the session was accepted (2 frames: out of turn, 1 is due)"
+        self.has("one session alone", shown.text, why)
         text = frame_bytes(1, True, b"H|\\^&\r").replace(b"\x03", b"\x03f", 1)
         shown = lislab("ladder", "-", data=capture_of(*good, b"\x05", "06", text, "15", b"\x04"))
         self.has("no frame of a session is whole", shown.text, "in 1 of 2 sessions no frame was accepted (1 frame: ")
@@ -176,14 +177,15 @@ class Sessions(FieldTest):
     def test_letters(self):
         """Letters of one byte before a delimiter aren't text of two bytes a character; GBK, Big5 and Shift JIS are."""
         names = {
-            "cp1251": ("Иван^Анна", "ОЛЬГА^ИЛЬЯ", "Ли^О"), "latin-1": ("André^Zoë", "Müller^É"), "cp1250": ("Aleš^Tomáš",),
+            "cp1251": ("Иван^Анна", "ОЛЬГА^ИЛЬЯ", "Ли^О"), "latin-1": ("André^Zoë", "Müller^É"),
+            "cp1250": ("Aleš^Tomáš",),
             "utf-8": ("病人^Иван",), "gb2312": ("病人^张三",),
         }
         for code, texts in names.items():
             for text in texts:
                 record = f"P|1||4711||{text}|".encode(code)
-                pieces = [b"\x05", "06", frame_bytes(1, True, b"H|\\^&\r"), "06", frame_bytes(2, True, record + b"\r"), "06"]
-                self.check("two bytes" not in self.shown(*pieces)[1], f"{text} in {code} is no text of two bytes")
+                shown = self.shown(b"\x05", "06", frame_bytes(1, True, record + b"\r"), "06")[1]
+                self.check("two bytes" not in shown, f"{text} in {code} is no text of two bytes", shown)
         for code, text in (("big5", "許功蓋"), ("shift_jis", "表示能"), ("gbk", "張乗")):
             record = b"P|1||4711||" + text.encode(code) + b"|"
             told = any(byte in text.encode(code) for byte in b"|\\^~")
@@ -200,7 +202,9 @@ class Sessions(FieldTest):
         status, shown = self.shown(*(one for piece in sent for one in (piece, piece.hex())))
         self.has("a loopback", shown, "4 times the bytes of the analyzer come back as they were sent: a loopback")
         self.check(status == 1 and "order download" not in shown, "a loopback is no download of orders", shown)
-        both = [one for piece in session(1, 2) for one in ((piece, piece.hex()) if isinstance(piece, bytes) else (piece,))]
+        both = []
+        for piece in session(1, 2):
+            both += [piece, piece.hex()] if isinstance(piece, bytes) else [piece]
         status, shown = self.shown(*both)
         self.has("an echo with answers", shown, "a loopback or an echo")
         self.check("otherwise than a receiver" not in shown, "an answer after its echo is right", shown)
@@ -223,8 +227,9 @@ class Sessions(FieldTest):
     def test_damaged_digits(self):
         """Noise in the digits of a checksum isn't the sender's fault; a sender that never writes them is."""
         good = session(1, 2)
-        for name, damaged in (("no digit", good[4][:-4] + b"}" + good[4][-3:]), ("a digit lost", good[4][:-4] + good[4][-3:]),
-                              ("a wrong digit", good[4][:-4] + b"F" + good[4][-3:])):
+        front, rest = good[4][:-4], good[4][-3:]
+        for name, damaged in (("no digit", front + b"}" + rest), ("a digit lost", front + rest),
+                              ("a wrong digit", front + b"F" + rest)):
             status, shown = self.shown(*good[:4], damaged, "15", *good[4:])
             self.same(f"{name}: status", status, 0)
             self.has(f"{name}: it came again", shown, "each came again and was accepted: noise on the line")
@@ -232,14 +237,16 @@ class Sessions(FieldTest):
             self.has(f"{name}: it didn't come again", shown, "other frames of the sender are right: bytes were damaged")
             self.check("the sender is wrong" not in shown, f"{name}: the sender isn't blamed", shown)
         none = frame_bytes(1, True, b"H|\\^&\r")[:-4] + b"\r\n"
-        self.has("no digits at all", self.shown(b"\x05", "06", none, "15", none, "15")[1], "another dialect of the link")
+        shown = self.shown(b"\x05", "06", none, "15", none, "15")[1]
+        self.has("no digits at all", shown, "another dialect of the link")
 
     def test_long(self):
         """`--long` takes long frames, in ladders and tables, as the program's --long does."""
         text = b"H|\\^&\rP|1\rO|1|S7\rR|1|^^^GLU|5.4\rC|1|I|" + b"x" * 300 + b"\rL|1|N\r"
         data = capture_of(b"\x05", "06", frame_bytes(1, True, text, frame_limit=LONG_FRAME_TEXT), "06", b"\x04")
         short, long = lislab("ladder", "-", data=data), lislab("ladder", "--long", "-", data=data)
-        self.has("a long frame", short.text, f"frame too long: {len(text)} bytes of text, 240 are allowed (`--long` takes it)")
+        why = f"frame too long: {len(text)} bytes of text, 240 are allowed (`--long` takes it)"
+        self.has("a long frame", short.text, why)
         self.same("a long frame by --long", (long.status, "Nothing looks wrong." in long.text), (0, True))
         program = self.lislink("replay", "--long", data=data).text
         self.has("as the program takes it", program, f"text 3 {len(text)}")

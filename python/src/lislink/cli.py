@@ -153,7 +153,7 @@ def _frame_limit(ask: argparse.Namespace) -> int:
 
 
 def _add_long(parser: argparse.ArgumentParser) -> None:
-    parser.add_argument("--long", action="store_true", help="take frames of up to 63,993 bytes of text, as lislink does")
+    parser.add_argument("--long", action="store_true", help="take frames of up to 63,993 bytes of text")
 
 
 def run_ladder(ask: argparse.Namespace) -> int:
@@ -296,7 +296,8 @@ def _add_table(one: argparse.ArgumentParser) -> None:
     )
     one.add_argument("--encoding", type=_encoding, default="utf-8", help="of the records' text (utf-8)")
     one.add_argument("--no-header", action="store_true", help="no line of names")
-    one.add_argument("--nested", action="store_true", help="in JSON lines: lists where a field has components or repeats")
+    nested = "in JSON lines: lists where a field has components or repeats"
+    one.add_argument("--nested", action="store_true", help=nested)
     _add_long(one)
     _import_options(one)
     one.set_defaults(run=run_table)

@@ -123,8 +123,8 @@ class Entry:
         )
 
     def to_dict(self, nested: bool = False) -> Dict[str, Any]:
-        """The record, its notes and what is below it, as plain data; fields that are empty are left out. Fields are texts
-        (`whole`), or lists where they have components or repeats (`parts`)."""
+        """The record, its notes and what is below it, as plain data; fields that are empty are left out. Fields are
+        texts (`whole`), or lists where they have components or repeats (`parts`)."""
         names = NAMES.get(self.letter, {})
         told: Dict[str, Any] = {"record": self.letter}
         for number in range(self.row.first, self.row.first + self.row.count):

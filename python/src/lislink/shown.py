@@ -65,7 +65,7 @@ def as_parts(row: Row, number: int, encoding: str) -> Parts:
 
 
 def component_text(row: Row, number: int, component: int, encoding: str, in_text: bool) -> str:
-    """A component of a field's first repeat, counted from 0, as it is in the field's text or in its parts; empty if there
-    is none."""
+    """A component of a field's first repeat, counted from 0, as it is in the field's text or in its parts; empty if
+    there is none."""
     some = _repeats(row, number)[0]
     return _text(row, some[component], encoding, _NAMES if in_text else {}) if component < len(some) else ""

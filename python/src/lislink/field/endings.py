@@ -7,7 +7,7 @@ _LINE_END = rb"(?=[ \t]*(?:[\r\n]|\Z))"
 
 
 class Word(NamedTuple):
-    """A word for CR: how it is shown, the bytes of it and of the word for LF that may follow, and whether the same bytes
+    """A word for CR: how it is shown, its bytes and those of the word for LF that may follow, and whether the same bytes
     may be part of a value (the repeat delimiter and r, the component delimiter and M)."""
 
     shown: str
@@ -39,7 +39,7 @@ class Ending(NamedTuple):
 
 def ending_of(data: bytes) -> Optional[Ending]:
     """The word that ends records of these bytes; None if none does. At the end of a line it is one if each header ends
-    in it, since a value may be such a word; before a record's letter on the same line it is one if it is in no doubt."""
+    in it, since a value may be such a word; before a record's letter on the same line if it is in no doubt."""
     headers = re.findall(rb"(?:\A|[\r\n])[ \t]*([Hh][!-/:-@\[-`{-~]{2}[^\r\n]*)", data)
     mark = re.escape(headers[0][1:2]) if headers else rb"\|"
     record, has_lines = _RECORD % mark, re.search(rb"[\r\n][ \t]*[PORCQMSLporcqmsl]" + mark, data)

@@ -6,7 +6,7 @@ from typing import Iterator, List, Optional
 from ..link import Note
 from ..message import Fault, Found
 from ..records import Reason
-from .faults import cause_of_record, code_of
+from .faults import Cause, cause_of_record, code_of
 from .ladder import Ladder, Look, Row
 from .log import SECOND
 
@@ -191,8 +191,8 @@ def _none_accepted(ladder: Ladder) -> Iterator[Look]:
             rows.append(session[0])
             lost += frames
     if rows:
-        why = {row.cause.name if row.cause else "": row.cause.words if row.cause else "no LF ended it" for row in lost[::-1]}
-        times = Counter(row.cause.name if row.cause else "" for row in lost)
+        causes = [row.cause or Cause("", "no LF ended it") for row in lost]
+        why, times = {cause.name: cause.words for cause in causes[::-1]}, Counter(cause.name for cause in causes)
         reasons = "; ".join(f"{_many(times[name], 'frame')}: {why[name]}" for name, _ in times.most_common(3))
         where = "no frame of the session" if count == 1 else f"in {len(rows)} of {count} sessions no frame"
         yield Look(
@@ -294,7 +294,7 @@ def _bad_frames(ladder: Ladder) -> Iterator[Look]:
         elif name == "sum":
             yield _sums(mine, share, good)
         elif not (name == "no-cr" and _is_telnet(ladder)):
-            advice = _DAMAGED if good and name in _BY_DAMAGE else "the sender is wrong: a receiver must not take such a frame"
+            advice = _DAMAGED if good and name in _BY_DAMAGE else _WRONG
             yield Look(
                 name, "bad", f"{share} rejected: {cause.words}", _ADVICE.get(name, advice), _lines(mine)[:5]
             )
@@ -304,6 +304,7 @@ def _bad_frames(ladder: Ladder) -> Iterator[Look]:
 _KEPT = ("flow-control", "out-of-turn", "no-room", "memory")
 #: Causes that damage has, next to frames that are right.
 _BY_DAMAGE = ("sum", "sum-no-digits", "sum-digits", "forbidden", "shape", "short", "number", "no-cr", "no-sum")
+_WRONG = "the sender is wrong: a receiver must not take such a frame"
 _DAMAGED = "other frames of the sender are right: bytes were damaged on the way; look at cable, shield and speed"
 
 
@@ -565,8 +566,8 @@ _PAIRS = re.compile(rb"(?:[\x81-\xfe][\x40-\x7e\x80-\xfe]){2,}")
 
 
 def _is_split(text: bytes) -> bool:
-    """Whether text of two bytes a character has a delimiter as a second byte. A first byte from C0 on is a letter of the
-    code pages of one byte, as 1251 and Latin-1 are, with a delimiter after it."""
+    """Whether text of two bytes a character has a delimiter as a second byte. A first byte from C0 on is a letter of
+    the code pages of one byte, as 1251 and Latin-1 are, with a delimiter after it."""
     runs = (found.group() for found in _PAIRS.finditer(text))
     return any(run[at] < 0xC0 and run[at + 1] in b"|\\^~" for run in runs for at in range(0, len(run), 2))
 

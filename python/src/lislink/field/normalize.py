@@ -108,7 +108,8 @@ def _bytes(work: Work) -> None:
     if ending is not None and ending.is_sure and work.wants("cr-words", _line_at(work.data, _first(ending, work.data))):
         for line in sorted(_lines_of(ending, work.data)):
             work.tell(line, f"{ending.shown} became a CR")
-        work.data = re.sub(ending.places.pattern + rb"[ \t]*(?:\r\n|\r|\n)?", b"\r", work.data, flags=ending.places.flags)
+        places = re.compile(ending.places.pattern + rb"[ \t]*(?:\r\n|\r|\n)?", ending.places.flags)
+        work.data = places.sub(b"\r", work.data)
 
 
 def _first(ending: Ending, data: bytes) -> int:
@@ -223,8 +224,8 @@ def _escaped(work: Work, records: List[Record]) -> Iterator[Record]:
             escape = record[4:5]
         found = _NO_TEXT.findall(record[1:])
         if found and record[:1].isalpha() and work.wants("escape", number):
-            shown = ", ".join(f"{words(one)} as {words(escape)}X{one.hex().upper()}{words(escape)}" for one in set(found))
-            work.tell(number, f"bytes that no record holds were escaped: {shown}")
+            shown = ", ".join(words(one) for one in sorted(set(found)))
+            work.tell(number, f"bytes that no record holds were escaped: {shown}, {len(found)} times")
             record = _NO_TEXT.sub(lambda one: escape + b"X%02X" % one[0][0] + escape, record)
         yield number, record, end
 

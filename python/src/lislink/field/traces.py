@@ -134,8 +134,8 @@ def words(text: str) -> bytes:
     return told + encode(text[at:])
 
 
-#: How escapes with a backslash are written: with a doubled backslash for one, as in C, Java and JSON; with a backslash as
-#: it is; or for the control bytes by their numbers alone.
+#: How escapes with a backslash are written: with a doubled backslash for one, as in C, Java and JSON; with a backslash
+#: as it is; or for the control bytes by their numbers alone.
 _DOUBLED, _ALONE, _NUMBERS = "doubled", "alone", "numbers"
 _ESCAPE = re.compile(r"\\(?:[xX](?P<x>[0-9A-Fa-f]{2})|u00(?P<u>[0-9A-Fa-f]{2})|(?P<letter>[rntabfve0\\\"'/]))")
 _LETTERS = {"r": 13, "n": 10, "t": 9, "a": 7, "b": 8, "f": 12, "v": 11, "e": 27, "0": 0}
@@ -266,7 +266,8 @@ def _has_bytes(line: str) -> bool:
     for rank, (pattern, _) in enumerate(_MARKS):
         if rank in _ARROWS and not any(one in line for one in _ARROWS[rank]):
             continue
-        if any(_is_head(line[: found.start()]) and _BYTES.search(line, found.end()) for found in pattern.finditer(line)):
+        found = (one for one in pattern.finditer(line) if _is_head(line[: one.start()]))
+        if any(_BYTES.search(line, one.end()) for one in found):
             return True
     return False
 
