@@ -7,25 +7,26 @@ _LINE_END = rb"(?=[ \t]*(?:[\r\n]|\Z))"
 
 
 class Word(NamedTuple):
-    """A word for CR: how it is shown, its bytes and those of the word for LF that may follow, and whether the same bytes
-    may be part of a value (the repeat delimiter and r, the component delimiter and M)."""
+    """A word for CR: how it is shown, a part of it in lower case, its bytes and those of the word for LF that may follow,
+    and whether the same bytes may be part of a value (the repeat delimiter and r, the component delimiter and M)."""
 
     shown: str
+    part: bytes
     cr: bytes
     lf: bytes
     is_doubtful: bool = False
 
 
 WORDS = (
-    Word("<CR>", rb"<CR>", rb"<LF>"),
-    Word("[CR]", rb"\[CR\]", rb"\[LF\]"),
-    Word("{CR}", rb"\{CR\}", rb"\{LF\}"),
-    Word("<0D>", rb"<(?:0x)?0D>", rb"<(?:0x)?0A>"),
-    Word("\u240d", "\u240d".encode(), "\u240a".encode()),
-    Word("\\r", rb"\\r", rb"\\n", True),
-    Word("\\x0d", rb"\\x0D", rb"\\x0A", True),
-    Word("\\u000d", rb"\\u000D", rb"\\u000A", True),
-    Word("^M", rb"\^M", rb"\^J", True),
+    Word("<CR>", b"<cr>", rb"<CR>", rb"<LF>"),
+    Word("[CR]", b"[cr]", rb"\[CR\]", rb"\[LF\]"),
+    Word("{CR}", b"{cr}", rb"\{CR\}", rb"\{LF\}"),
+    Word("<0D>", b"0d>", rb"<(?:0x)?0D>", rb"<(?:0x)?0A>"),
+    Word("\u240d", "\u240d".encode(), "\u240d".encode(), "\u240a".encode()),
+    Word("\\r", b"\\r", rb"\\r", rb"\\n", True),
+    Word("\\x0d", b"\\x0d", rb"\\x0D", rb"\\x0A", True),
+    Word("\\u000d", b"\\u000d", rb"\\u000D", rb"\\u000A", True),
+    Word("^M", b"^m", rb"\^M", rb"\^J", True),
 )
 
 
@@ -40,10 +41,14 @@ class Ending(NamedTuple):
 def ending_of(data: bytes) -> Optional[Ending]:
     """The word that ends records of these bytes; None if none does. At the end of a line it is one if each header ends
     in it, since a value may be such a word; before a record's letter on the same line if it is in no doubt."""
+    small = data.lower()
+    words = [word for word in WORDS if word.part in small]
+    if not words:
+        return None
     headers = re.findall(rb"(?:\A|[\r\n])[ \t]*([Hh][!-/:-@\[-`{-~]{2}[^\r\n]*)", data)
     mark = re.escape(headers[0][1:2]) if headers else rb"\|"
     record, has_lines = _RECORD % mark, re.search(rb"[\r\n][ \t]*[PORCQMSLporcqmsl]" + mark, data)
-    for word in WORDS:
+    for word in words:
         # `\R` is an escape of HL7, and no CR.
         flags = 0 if word.shown in ("\\r", "^M") else re.I
         found = rb"%s(?:%s)?" % (word.cr, word.lf)
