@@ -11,15 +11,15 @@ from .faults import words
 _JOINT = re.compile(rb"\x17(?:[0-9A-Fa-f]{2})?(?:\r\n|\r|\n)?\x06?\x02[0-7]?")
 #: Bytes that fill a record up, or a file: they are no part of a value.
 _FILL = b"\0\x1a"
-Parts = Tuple[Tuple[Tuple[bytes, ...], ...], ...]
 
 
 class Result(NamedTuple):
-    """What a result means: its fields, those of its order and of its patient, each as repeats and components."""
+    """What a result means: its fields, those of its order and of its patient from the third on. The bytes are those of a
+    record without escapes, with the first three delimiters before them; a delimiter that a value has is after NUL."""
 
-    fields: Parts
-    order: Parts
-    patient: Parts
+    fields: bytes
+    order: bytes
+    patient: bytes
 
 
 class Placed(NamedTuple):
@@ -30,19 +30,20 @@ class Placed(NamedTuple):
     text: bytes
 
 
-def _escape_of(text: bytes, four: bytes) -> bytes:
-    """The four delimiters; of a header with three the escape is a byte that the text doesn't have."""
-    return four if len(four) == 4 else four + bytes([next((one for one in range(1, 256) if one not in text + four), 0)])
-
-
-def _meaning(text: bytes, four: bytes, first: int) -> Parts:
-    """The fields of a record from a number on, without empty ones at the end."""
-    count = text.count(four[:1])
-    row = Row(chr(text[0]), text, marks_of(_escape_of(text, four)), count, None)
-    told = [tuple(tuple(one) for one in row.field(number)) for number in range(first, count + 2)]
-    while told and told[-1] == ((b"",),):
-        told.pop()
-    return tuple(told)
+def _meaning(text: bytes, four: bytes, skip: int) -> bytes:
+    """What a record means, without so many fields at its beginning, and without empty ones at its end."""
+    escape = four[3:4]
+    if escape and escape in text:
+        row = Row(chr(text[0]), text, marks_of(four), text.count(four[:1]), None)
+        protect = re.compile(b"[\0" + re.escape(four[:3]) + b"]")
+        fields = (row.field(number) for number in range(2, row.count + 2))
+        parts = ([[protect.sub(b"\0\\g<0>", one) for one in some] for some in field] for field in fields)
+        told = (four[1:2].join(four[2:3].join(some) for some in field) for field in parts)
+        text = four[:1].join([text[:1], *told])
+    elif b"\0" in text:
+        text = text.replace(b"\0", b"\0\0")
+    bare = text.split(four[:1], skip)
+    return four[:3] + bare[skip].rstrip(four[:1]) if len(bare) > skip else four[:3]
 
 
 def _delimiters(header: bytes) -> Optional[bytes]:
@@ -80,19 +81,19 @@ def _plain(data: bytes) -> bytes:
 
 def _results(records: Iterator[Tuple[int, bytes]]) -> Iterator[Placed]:
     four: bytes = b"|\\^&"
-    order: Parts = ()
-    patient: Parts = ()
+    order = patient = four[:3]
     for place, text in records:
         letter = text[:1].upper()
         if letter == b"H" and len(text) > 3 and not text[1:2].isalnum():
-            four, order, patient = _delimiters(text) or four, (), ()
+            four = _delimiters(text) or four
+            order = patient = four[:3]
         elif letter in (b"P", b"O", b"R") and text[1:2] == four[:1]:
             if letter == b"P":
-                patient, order = _meaning(text, four, 3), ()
+                patient, order = _meaning(text, four, 2), four[:3]
             elif letter == b"O":
-                order = _meaning(text, four, 3)
+                order = _meaning(text, four, 2)
             else:
-                yield Placed(Result(_meaning(text, four, 2), order, patient), place, text)
+                yield Placed(Result(_meaning(text, four, 1), order, patient), place, text)
 
 
 def results_before(data: bytes) -> List[Placed]:
