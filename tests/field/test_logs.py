@@ -16,6 +16,7 @@ from tests.field.lab import FieldTest, lislab
 
 LOGS = os.path.join(ROOT, "samples", "logs")
 SESSION = os.path.join(ROOT, "samples", "session.capture")
+NAMES = {2: "STX", 3: "ETX", 4: "EOT", 5: "ENQ", 6: "ACK", 21: "NAK"}
 #: Logs that know no pieces: a byte a line, or a whole frame.
 BY_BYTES = ("interceptty", "interceptty-t", "saleae", "nolf")
 
@@ -156,6 +157,7 @@ def notations():
         "Java": (lambda byte: letters.get(byte, f"\\u{byte:04x}"), True),
         "Java, all by number": (lambda byte: f"\\u{byte:04X}", True),
         "C": (lambda byte: letters.get(byte, f"\\x{byte:02x}"), True),
+        "words, and escapes": (lambda byte: letters.get(byte, f"<{NAMES.get(byte, '')}>"), True),
         "=02": (lambda byte: f"={byte:02X}", False),
         "%02": (lambda byte: f"%{byte:02X}", False),
         "^B": (lambda byte: f"^{chr(byte + 64)}", False),
@@ -360,7 +362,8 @@ class Logs(FieldTest):
         wanted = bytes_of(SESSION).decode()
         session = [(mark, data) for mark, _, data in timed_session()]
         for name, (write, is_read) in notations().items():
-            ways = [("\\", ""), ("\\\\", ""), ("\\\\", '"')] if name in ("Java", "C") else [("\\", "")]
+            is_escaped = name in ("Java", "C", "words, and escapes")
+            ways = [("\\", ""), ("\\\\", ""), ("\\\\", '"')] if is_escaped else [("\\", "")]
             for (backslash, quote), head in itertools.product(ways, range(3)):
                 shown = lambda byte: backslash if byte == 92 else chr(byte) if 32 <= byte < 127 else write(byte)
                 text = "".join(
@@ -384,6 +387,9 @@ class Logs(FieldTest):
             ran = lislab("capture", self.path("log", hexed.encode() + row.encode() + b"\n"))
             self.same(f"a row that can't be read: {row}", (ran.status, ran.text), (3, ""))
             self.has(f"a row that can't be read: {row}", ran.error, "line 11: bytes that can't be read")
+        for row in ("#021H|\\^&#0D", "RX 1H|\\^&"):
+            ran = lislab("capture", self.path("log", b"05\n06\n" + row.encode() + b"\n06\n04\n"))
+            self.same(f"a row that can't be read, without directions: {row}", (ran.status, ran.text), (3, ""))
         rows = [{"dir": "rx", "data": "05"}, {"dir": "tx", "data": "06"}, {"event": "closed"}]
         ran = lislab("capture", self.path("log", "".join(json.dumps(row) + "\n" for row in rows).encode()))
         self.has("JSON without bytes, told", ran.error, "lines without bytes were left out, 1 of them: 3")

@@ -156,10 +156,14 @@ def escaped_words(text: str, way: str) -> bytes:
 
 def _way_of(text: str) -> str:
     """How a log writes its escapes: so that most of its frames have the right checksum."""
-    rows = re.findall(r"\\(?:[xX]|u00)02.*", text)
+    rows = re.findall(r"(?:\\(?:[xX]|u00)02|[<\[{(](?:STX|0x02|02)[>\]})]|\u2402).*", text)
     if not rows or not re.search(r"\\[rn\\]", text):
         return _NUMBERS
-    ways = (_DOUBLED, _ALONE, _NUMBERS)
+    # A tie goes to what the log shows: a backslash alone, as in H|\^&, and a \r where a frame has its CR.
+    is_alone = re.search(r"(?<!\\)(?:\\\\)*\\[^\\rntabfve0xXu\"'/]", text)
+    ways = [_ALONE, _DOUBLED, _NUMBERS] if is_alone else [_DOUBLED, _ALONE, _NUMBERS]
+    if not re.search(r"\\r(?:\\|[<\[{(]|\u2403|[\"']?\s*$)", text, re.M):
+        ways.reverse()
     return max(ways, key=lambda way: sum(_good_frames(escaped_words(row, way)) for row in rows))
 
 
@@ -493,6 +497,9 @@ def _unmarked(lines: List[str], grammar: Grammar) -> Log:
         raise LogError("no line holds ENQ, a frame or a reply")
     numbers = {number for number, _ in read}
     left = [(number, line) for number, line in full if number not in numbers]
+    bad = next((one for one in left if _BYTES.search(one[1])), None)
+    if bad is not None:
+        raise LogError(f"bytes that can't be read: {bad[1][:60]!r}", bad[0])
     heads = [number for number, line in left if re.search(r"\b(?:%s|%s)\b" % (_OUT, _IN), line, re.I)]
     if len(heads) > 1:
         raise LogError(f"directions and bytes don't go together here: {lines[heads[0] - 1][:60]!r}", heads[0])
