@@ -13,7 +13,8 @@ from tests.field.lab import FieldTest, lislab
 FILES = 10_000
 RECORDS = [b"H|\\^&|||A", b"P|1||4711||Doe^Jane", b"O|1|S7||^^^GLU", b"R|1|^^^GLU|5.4|mmol/L", b"R|2|^^^MC|7", b"L|1|N"]
 GOOD = b"".join(record + b"\r" for record in RECORDS)
-WORDS = (b"<CR>", b"[CR]", b"{CR}", b"<cr>", b"\\r", b"^M", b"<0D>", b"<CR><LF>", b"\\r\\n")
+WORDS = (b"<CR>", b"[CR]", b"{CR}", b"<cr>", b"\\r", b"^M", b"<0D>", b"[0x0D]", b"&#13;", b"%0D%0A", b"\\x0d", b"<LF>",
+         b"<CR><LF>", b"\\r\\n")
 ENDS = (b"", b"\n", b"\r\n", b"\r")
 #: Values as they mean, some of which look like what a dialect writes around them.
 VALUES = (b"5.4", b"139", b"<0.5", b"", b"positive", b"a|b", b"AT&T", b"x\\y", b"1^2", b"<CR>", b"[CR] seen", b"A\xe9",

@@ -1,32 +1,34 @@
-"""Words for CR at the end of records: `<CR>`, `[CR]`, `\\r`, `^M` and others, as programs print a record."""
+"""Words for CR and LF at the end of records: `<CR>`, `[0D]`, `\\r`, `^M` and others, as programs print a record."""
 import re
-from typing import NamedTuple, Optional
+from typing import NamedTuple, Optional, Tuple
 
 _RECORD = rb"(?=[ \t]*[HPORCQMSLhporcqmsl]%s)"
 _LINE_END = rb"(?=[ \t]*(?:[\r\n]|\Z))"
 
 
 class Word(NamedTuple):
-    """A word for CR: how it is shown, a part of it in lower case, its bytes and those of the word for LF that may follow,
-    and whether the same bytes may be part of a value (the repeat delimiter and r, the component delimiter and M)."""
+    """How a word for CR and the one for LF are written, parts of them in lower case, and whether the same bytes may be
+    part of a value (the repeat delimiter and r, the component delimiter and M)."""
 
-    shown: str
-    part: bytes
+    parts: Tuple[bytes, ...]
     cr: bytes
     lf: bytes
     is_doubtful: bool = False
+    flags: "re.RegexFlag" = re.I
+
+    def ends(self) -> bytes:
+        """The words of one end: for CR, for CR and LF, or for LF."""
+        return rb"(?:%s(?:%s)?|%s)" % (self.cr, self.lf, self.lf)
 
 
 WORDS = (
-    Word("<CR>", b"<cr>", rb"<CR>", rb"<LF>"),
-    Word("[CR]", b"[cr]", rb"\[CR\]", rb"\[LF\]"),
-    Word("{CR}", b"{cr}", rb"\{CR\}", rb"\{LF\}"),
-    Word("<0D>", b"0d>", rb"<(?:0x)?0D>", rb"<(?:0x)?0A>"),
-    Word("\u240d", "\u240d".encode(), "\u240d".encode(), "\u240a".encode()),
-    Word("\\r", b"\\r", rb"\\r", rb"\\n", True),
-    Word("\\x0d", b"\\x0d", rb"\\x0D", rb"\\x0A", True),
-    Word("\\u000d", b"\\u000d", rb"\\u000D", rb"\\u000A", True),
-    Word("^M", b"^m", rb"\^M", rb"\^J", True),
+    Word((b"cr", b"lf"), rb"[<\[{(]CR[>\]})]", rb"[<\[{(]LF[>\]})]"),
+    Word((b"0d", b"0a"), rb"(?:[<\[{(](?:0x|\$)?0D[>\]})]|[=%]0D)", rb"(?:[<\[{(](?:0x|\$)?0A[>\]})]|[=%]0A)"),
+    Word((b"&#",), rb"&#(?:13|x0?D);", rb"&#(?:10|x0?A);"),
+    Word(("\u240d".encode(), "\u240a".encode()), "\u240d".encode(), "\u240a".encode()),
+    Word((b"\\r", b"\\n"), rb"\\r", rb"\\n", True, re.RegexFlag(0)),  # `\R` is an escape of HL7
+    Word((b"\\x0", b"\\u000", b"\\01"), rb"\\(?:x0D|u000D|015)", rb"\\(?:x0A|u000A|012)", True),
+    Word((b"^m", b"^j"), rb"\^M", rb"\^J", True, re.RegexFlag(0)),
 )
 
 
@@ -42,32 +44,40 @@ def ending_of(data: bytes) -> Optional[Ending]:
     """The word that ends records of these bytes; None if none does. At the end of a line it is one if each header ends
     in it, since a value may be such a word; before a record's letter on the same line if it is in no doubt."""
     small = data.lower()
-    words = [word for word in WORDS if word.part in small]
+    words = [word for word in WORDS if any(part in small for part in word.parts)]
     if not words:
         return None
     headers = re.findall(rb"(?:\A|[\r\n])[ \t]*([Hh][!-/:-@\[-`{-~]{2}[^\r\n]*)", data)
     mark = re.escape(headers[0][1:2]) if headers else rb"\|"
     record, has_lines = _RECORD % mark, re.search(rb"[\r\n][ \t]*[PORCQMSLporcqmsl]" + mark, data)
     for word in words:
-        # `\R` is an escape of HL7, and no CR.
-        flags = 0 if word.shown in ("\\r", "^M") else re.I
-        found = rb"%s(?:%s)?" % (word.cr, word.lf)
-        at_line_end, at_record = re.compile(found + _LINE_END, flags), re.compile(found + record, flags)
-        either = re.compile(rb"%s(?:%s|%s)" % (found, _LINE_END, record), flags)
-        if word.is_doubtful and has_lines:
-            if headers and all(at_line_end.search(one) for one in headers):
-                return Ending(word.shown, at_line_end, True)
-        elif headers and all(either.search(one) for one in headers):
-            return Ending(word.shown, either, word.shown != "^M")
-        elif not word.is_doubtful and at_record.search(data):
-            return Ending(word.shown, at_record, True)
+        is_at_end = word.is_doubtful and has_lines is not None
+        places = _places(word.ends(), record, is_at_end, word.flags)
+        ends = [places.search(one) for one in headers]
+        if headers and all(ends):
+            # As the headers end, so do the others: a value may be another of these words.
+            same = b"|".join(re.escape(one) for one in sorted({end.group() for end in ends if end}, key=len)[::-1])
+            is_sure = is_at_end or word.cr != rb"\^M"
+            return _ending(data, _places(rb"(?:%s)" % same, record, is_at_end, word.flags), is_sure)
+        if not word.is_doubtful and re.search(word.ends() + record, data, word.flags):
+            return _ending(data, re.compile(word.ends() + record, word.flags), True)
     return None
+
+
+def _places(found: bytes, record: bytes, is_at_end: bool, flags: "re.RegexFlag") -> "re.Pattern[bytes]":
+    """Where a word is at the end of a line, or also before a record on the same line."""
+    return re.compile(found + (_LINE_END if is_at_end else rb"(?:%s|%s)" % (_LINE_END, record)), flags)
+
+
+def _ending(data: bytes, places: "re.Pattern[bytes]", is_sure: bool) -> Optional[Ending]:
+    found = places.search(data)
+    return Ending(found.group().decode("utf-8", "replace"), places, is_sure) if found else None
 
 
 def ending_at(record: bytes) -> Optional[Ending]:
     """The same for one record, which may have no header; a word that is in no doubt may be at its end."""
     for word in WORDS:
-        at_end = re.compile(word.cr + rb"(?:%s)?[ \t]*\Z" % word.lf, re.I)
+        at_end = re.compile(word.ends() + rb"[ \t]*\Z", word.flags)
         if not word.is_doubtful and at_end.search(record):
-            return Ending(word.shown, at_end, True)
+            return _ending(record.rstrip(b" \t"), at_end, True)
     return ending_of(record)
