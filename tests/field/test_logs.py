@@ -373,6 +373,13 @@ class Logs(FieldTest):
                 ran = lislab("capture", self.path("log", text.encode()))
                 where = f"{name}, {backslash}, {quote}, head {head}: {ran.error}"
                 self.same(where, (ran.status, ran.text), (0, wanted) if is_read else (3, ""))
+        for name, write in notations().items():
+            rows = [
+                {"dir": mark, "data": "".join(chr(one) if 32 <= one < 127 else write[0](one) for one in data)}
+                for mark, data in session
+            ]
+            ran = lislab("capture", self.path("log", "".join(json.dumps(row) + "\n" for row in rows).encode()))
+            self.same(f"{name} in JSON lines {ran.error}", (ran.status, ran.text), (0, wanted) if write[1] else (3, ""))
         for name, write in (("JSON", json.dumps), ("JSON, bare", lambda text: json.dumps(text)[1:-1])):
             text = "".join(f"{'in' if mark == '>' else 'out'}: {write(data.decode())}\n" for mark, data in session)
             self.same(name, lislab("capture", self.path("log", text.encode())).text, wanted)

@@ -173,15 +173,18 @@ def _good_frames(data: bytes) -> int:
     return sum(sum(body) % 256 == int(digits, 16) for body, digits in frames)
 
 
-def _plain_brackets(text: str) -> str:
-    """A log in which brackets that may also be a counter's are around control bytes (`[02]1H|`, `(02)`), with these as
-    `<0x02>`."""
+def _brackets_of(text: str) -> "Optional[re.Pattern[str]]":
+    """What finds control bytes in brackets that may also be a counter's (`[02]1H|`, `(02)`), if a log has such ones."""
     found = re.search(r"([\[{(])(?:0x|\$)?02[\])}](?=[0-7][A-Za-z])", text, re.I)
     if found is None:
-        return text
+        return None
     end = {"[": "]", "{": "}", "(": ")"}[found[1]]
-    pair = re.escape(found[1]) + r"(?:0x|\$)?([0-9A-Fa-f]{2})" + re.escape(end)
-    return re.sub(pair, r"<0x\1>", text, flags=re.I)
+    return re.compile(re.escape(found[1]) + r"(?:0x|\$)?([0-9A-Fa-f]{2})" + re.escape(end), re.I)
+
+
+def _plain_brackets(text: str, brackets: "Optional[re.Pattern[str]]") -> str:
+    """A text with those bytes as `<0x02>`."""
+    return text if brackets is None else brackets.sub(r"<0x\1>", text)
 
 
 def _worded(text: str) -> Optional[bytes]:
@@ -223,7 +226,7 @@ def traces(text: str) -> Log:
     """A log with a line for each piece."""
     if re.match(r"\s*<(?:!doctype|html)", text, re.I):
         text = _of_html(text)
-    text = _plain_brackets(text)
+    text = _plain_brackets(text, _brackets_of(text))
     kind = _kind(text)
     grammar = next(one for one in GRAMMARS if one.name == kind)
     way = _way_of(text) if kind == "words" else _NUMBERS
@@ -315,7 +318,8 @@ _DATA = ("data", "bytes", "payload", "hex", "raw", "message", "msg")
 
 def json_lines(text: str) -> Log:
     """A log of JSON objects, one a line: who sends and the bytes, as hex or as text with escapes."""
-    pieces, left = [], []
+    found: List[Tuple[Optional[int], str, str]] = []
+    left = []
     for number, line in enumerate(text.splitlines(), 1):
         if not line.strip():
             continue
@@ -330,8 +334,11 @@ def json_lines(text: str) -> Log:
         if side is None or data is None:
             left.append(number)
             continue
-        read = _hex(data)
-        pieces.append(Piece(find_time(line), side, read if read is not None else words(data)))
+        found.append((find_time(line), side, data))
+    brackets = _brackets_of("\n".join(data for _, _, data in found))
+    found = [(time, side, _plain_brackets(data, brackets)) for time, side, data in found]
+    way = _way_of("\n".join(data for _, _, data in found))
+    pieces = [Piece(time, side, _hex(data) or escaped_words(data, way)) for time, side, data in found]
     return Log("json-lines", pieces, left_out(left))
 
 
