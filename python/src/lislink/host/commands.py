@@ -1,15 +1,17 @@
 """The commands of the host: `lislab serve`, `send`, `status`, `export` and `deliver`."""
 import argparse
 import asyncio
+import contextlib
 import functools
 import math
 import os
 import socket
 import sys
-from typing import Any, Callable, Iterator, List, Optional
+from typing import Any, Callable, ContextManager, Iterator, List, Optional
 
 from .._library import calls
 from . import deliver, export, options, send, serve, status
+from .files import Output, writing
 from .options import Limits, OptionError
 from .store import UNFINISHED, UNREADABLE, WHOLE, Store, open_store
 
@@ -249,18 +251,15 @@ def run_export(ask: argparse.Namespace) -> int:
             out.write(write(None))
             for one in export.wanted_of(store, wanted):
                 out.write(write(one))
-            out.flush()
     finally:
         store.close()
     return GOOD
 
 
-def _output(path: Optional[str]) -> Any:
+def _output(path: Optional[str]) -> ContextManager[Output]:
     if path is None or path == "-":
-        return os.fdopen(os.dup(sys.stdout.fileno()), "wb")
-    descriptor = os.open(path, os.O_WRONLY | os.O_CREAT | os.O_TRUNC | os.O_CLOEXEC, 0o600)
-    os.fchmod(descriptor, 0o600)
-    return os.fdopen(descriptor, "wb")
+        return contextlib.nullcontext(Output(sys.stdout.fileno()))
+    return writing(path)
 
 
 def _add_deliver(one: argparse.ArgumentParser) -> None:

@@ -1,6 +1,5 @@
 """`lislab deliver`: whole messages out of a store to a command or a directory: in order, each at least once. What was
 delivered last is kept in a small file, so that a delivery that was stopped goes on where it was."""
-import fcntl
 import json
 import os
 import subprocess
@@ -8,6 +7,7 @@ import time
 from typing import Any, Callable, Dict, List, NamedTuple, Optional
 
 from .export import writer_of
+from .files import take_lock, write_synced
 from .store import Store, StoreError, Stored
 
 #: How long a store without new messages is left alone, and how long a delivery that failed waits: at first, at most.
@@ -27,11 +27,10 @@ class Cursor:
 
     def __init__(self, path: str) -> None:
         self.path = path
-        try:
-            self._lock = os.open(path + ".lock", os.O_RDWR | os.O_CREAT | os.O_CLOEXEC, 0o600)
-            fcntl.flock(self._lock, fcntl.LOCK_EX | fcntl.LOCK_NB)
-        except BlockingIOError:
-            raise StoreError(f"{path}: another delivery has this cursor") from None
+        lock = take_lock(path + ".lock")
+        if lock is None:
+            raise StoreError(f"{path}: another delivery has this cursor")
+        self._lock = lock
         self.number, self.key = read_cursor(path)
 
     def check(self, store: Store) -> None:
@@ -64,23 +63,6 @@ def read_cursor(path: str) -> "tuple[int, str]":
         return 0, ""
     except (OSError, ValueError, KeyError) as error:
         raise StoreError(f"{path}: {error}") from None
-
-
-def write_synced(path: str, data: bytes) -> None:
-    """Writes a file that is on the disk, whole, when this returns."""
-    folder, name = os.path.split(os.path.abspath(path))
-    made = os.path.join(folder, f".{name}.new")
-    descriptor = os.open(made, os.O_WRONLY | os.O_CREAT | os.O_TRUNC | os.O_CLOEXEC, 0o600)
-    with os.fdopen(descriptor, "wb") as file:
-        file.write(data)
-        file.flush()
-        os.fsync(descriptor)
-    os.replace(made, path)
-    descriptor = os.open(folder, os.O_RDONLY | os.O_DIRECTORY | os.O_CLOEXEC)
-    try:
-        os.fsync(descriptor)
-    finally:
-        os.close(descriptor)
 
 
 def to_directory(folder: str, form: str) -> Callable[[Stored], None]:

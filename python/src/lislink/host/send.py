@@ -10,13 +10,14 @@ import struct
 import sys
 import time
 from collections import Counter
-from typing import Callable, Deque, IO, Iterator, List, NamedTuple, Optional, Sequence, Tuple, Union
+from typing import Callable, Deque, Iterator, List, NamedTuple, Optional, Sequence, Tuple, Union
 
 from collections import deque
 
 from ..link import REPLY, Outcome, Phase, Sender
 from ..message import Fault, read_all
 from ..records import Writer
+from .files import Appended
 from .options import Serial
 from .tty import open_serial
 
@@ -307,7 +308,7 @@ async def send_all(plan: Plan, report: Callable[[str, int, Sent], None]) -> Summ
     """Lets all analyzers send, for some time or to their ends; `report` gets each message."""
     begun, log = time.monotonic(), None
     if plan.log is not None:
-        log = os.fdopen(os.open(plan.log, os.O_WRONLY | os.O_CREAT | os.O_APPEND, 0o600), "w", encoding="utf-8")
+        log = Appended(plan.log, os.O_APPEND)
     analyzers = [
         Analyzer(plan.target, plan.trouble, plan.scale, plan.tries, plan.seed + place)
         for place in range(len(plan.names))
@@ -333,7 +334,7 @@ async def send_all(plan: Plan, report: Callable[[str, int, Sent], None]) -> Summ
 
 
 async def _send_of(
-    plan: Plan, name: str, analyzer: Analyzer, log: Optional[IO[str]], report: Callable[[str, int, Sent], None]
+    plan: Plan, name: str, analyzer: Analyzer, log: Optional[Appended], report: Callable[[str, int, Sent], None]
 ) -> None:
     next_at = time.monotonic()
     try:
@@ -343,8 +344,8 @@ async def _send_of(
                 next_at = max(next_at + 1 / plan.rate, time.monotonic() - 1 / plan.rate)
             sent = await analyzer.send(texts)
             if sent.done and log is not None:
-                log.write(json.dumps([name, number, hashlib.sha256(b"".join(texts)).hexdigest()]) + "\n")
-                log.flush()
+                row = [name, number, hashlib.sha256(b"".join(texts)).hexdigest()]
+                log.add(json.dumps(row).encode() + b"\n")
             report(name, number, sent)
     finally:
         analyzer.close()

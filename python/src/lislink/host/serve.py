@@ -12,6 +12,7 @@ from collections import Counter
 from typing import Any, Dict, List, NamedTuple, Optional, Sequence, Set
 
 from .commits import Committer
+from .files import write_whole
 from .intake import Intake
 from .line import Line, Ticks, Wire
 from .options import Limits, Listen, Network, OptionError, Serial, is_allowed
@@ -170,10 +171,7 @@ class Host:
 def write_state(path: str, state: Dict[str, Any]) -> None:
     """Writes the state so that a reader finds it whole. If the disk takes no more, the host goes on without."""
     try:
-        descriptor = os.open(path + ".new", os.O_WRONLY | os.O_CREAT | os.O_TRUNC | os.O_CLOEXEC, 0o600)
-        with os.fdopen(descriptor, "w", encoding="utf-8") as file:
-            json.dump(state, file)
-        os.replace(path + ".new", path)
+        write_whole(path, json.dumps(state).encode() + b"\n")
     except OSError:
         pass
 

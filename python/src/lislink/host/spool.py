@@ -8,7 +8,6 @@ acknowledgement, and moved to its place when its message is whole.
     digests/DIGEST            which whole message has these bytes first
 """
 import contextlib
-import fcntl
 import hashlib
 import json
 import os
@@ -16,6 +15,7 @@ import time
 from concurrent.futures import ThreadPoolExecutor
 from typing import Any, Dict, Iterator, List, Optional, Sequence, Set, Tuple
 
+from .files import Appended, sync_folder, take_lock, write_whole
 from .store import (
     OPEN,
     UNFINISHED,
@@ -48,15 +48,14 @@ class SpoolStore(Store):
     def start(self, host: str) -> int:
         try:
             os.makedirs(self.folder, 0o700, exist_ok=True)
-            self._lock = os.open(os.path.join(self.folder, "host"), os.O_RDWR | os.O_CREAT | os.O_CLOEXEC, 0o600)
-            fcntl.flock(self._lock, fcntl.LOCK_EX | fcntl.LOCK_NB)
+            self._lock = take_lock(self._path("host"))
+            if self._lock is None:
+                raise StoreError(f"{self.folder}: another host has this spool")
             for name in _FOLDERS:
                 os.makedirs(os.path.join(self.folder, name), 0o700, exist_ok=True)
-            _sync_folder(self.folder)
+            sync_folder(self.folder)
             self._number = max((int(name.split("-")[0]) for name in self._names(WHOLE)), default=0)
             return self._end_open()
-        except BlockingIOError:
-            raise StoreError(f"{self.folder}: another host has this spool") from None
         except OSError as error:
             raise StoreError(f"{self.folder}: {error}") from None
 
@@ -102,7 +101,7 @@ class SpoolStore(Store):
             self._sync_folders(folders)
         except OSError as error:
             for key in changed & set(self._open):
-                self._open[key].undo()
+                self._open[key].cut(self._open[key].good)
             raise StoreError(f"{self.folder}: {error}") from None
         for key in changed & set(self._open):
             self._open[key].good = self._open[key].size
@@ -111,7 +110,7 @@ class SpoolStore(Store):
         if isinstance(change, Begin):
             folders.add(OPEN)
             about = {"line": change.line, "peer": change.peer, "encoding": change.encoding, "began": change.at}
-            _write_whole(self._path(OPEN, change.key + ".about"), about)
+            _write_about(self._path(OPEN, change.key + ".about"), about)
             self._open[change.key] = _Open(self._path(OPEN, change.key), about)
         elif isinstance(change, Add):
             if change.key not in self._open:
@@ -143,14 +142,14 @@ class SpoolStore(Store):
             name = f"{self._number:016}-{end.key}"
             first = marked if marked != end.key else None
             if marked is None:
-                _write_whole(mark, {"key": end.key})
-                _sync_folder(self._path("digests"))
+                _write_about(mark, {"key": end.key})
+                sync_folder(self._path("digests"))
         elif marked == end.key:  # it was to be whole, and could not be kept
             os.unlink(mark)
-            _sync_folder(self._path("digests"))
+            sync_folder(self._path("digests"))
         data = {**about, "key": end.key, "ended": end.at, "reason": end.reason, "again_of": first}
-        _write_whole(self._path(end.state, name + ".about"), data)
-        _sync_folder(self._path(end.state))
+        _write_about(self._path(end.state, name + ".about"), data)
+        sync_folder(self._path(end.state))
         os.rename(self._path(OPEN, end.key), self._path(end.state, name + ".records"))
         with contextlib.suppress(OSError):
             os.unlink(self._path(OPEN, end.key + ".about"))
@@ -167,7 +166,7 @@ class SpoolStore(Store):
 
     def _sync_folders(self, names: Set[str]) -> None:
         for name in sorted(names):
-            _sync_folder(self._path(name))
+            sync_folder(self._path(name))
 
     def messages(self, after: int = 0, limit: Optional[int] = None) -> Iterator[Stored]:
         names = [name for name in self._listed(WHOLE) if int(name.split("-")[0]) > after]
@@ -187,13 +186,18 @@ class SpoolStore(Store):
             raise StoreError(f"{self.folder}: {error}") from None
 
     def _stored(self, state: str, name: str, number: Optional[int], key: str) -> Stored:
-        about = _read_about(self._path(state, name + ".about"))
-        with open(self._path(state, name + ".records"), "rb") as file:
-            body = file.read()
-        words = (str(about.get(one, "")) for one in ("line", "peer", "encoding"))
-        line, peer, encoding = words
-        times = float(about.get("began", 0)), about.get("ended")
-        return Stored(number, key, line, peer, encoding, *times, state, about["reason"], about["again_of"], body)
+        path = self._path(state, name)
+        try:
+            with open(path + ".about", encoding="utf-8") as file:
+                about = json.load(file)
+            with open(path + ".records", "rb") as records:
+                body = records.read()
+            line, peer, encoding = (str(about[one]) for one in ("line", "peer", "encoding"))
+            times = float(about["began"]), float(about["ended"])
+            return Stored(number, key, line, peer, encoding, *times, state, about["reason"], about["again_of"], body)
+        except (OSError, ValueError, KeyError, TypeError) as error:
+            why = str(error) if isinstance(error, OSError) else f"{path}.about is damaged"
+            raise StoreError(why) from None
 
     def counts(self) -> List[LineCount]:
         found: Dict[str, List[Tuple[str, Dict[str, Any]]]] = {}
@@ -222,34 +226,13 @@ def _count(line: str, rows: List[Tuple[str, Dict[str, Any]]]) -> LineCount:
     return LineCount._make([line, states.count(WHOLE), again, *some, last])
 
 
-class _Open:
+class _Open(Appended):
     """The file of a message that isn't whole."""
 
     def __init__(self, path: str, about: Dict[str, Any]) -> None:
-        self.about = about
-        self.descriptor = os.open(path, os.O_WRONLY | os.O_CREAT | os.O_EXCL | os.O_CLOEXEC, 0o600)
-        #: How long it is, and how long it was at the last commit.
-        self.size = self.good = 0
-
-    def add(self, body: bytes) -> None:
-        """Appends bytes."""
-        at = 0
-        while at < len(body):
-            at += os.write(self.descriptor, body[at:])
-        self.size += len(body)
-
-    def undo(self) -> None:
-        """Takes back what came since the last commit."""
-        try:
-            os.ftruncate(self.descriptor, self.good)
-            os.lseek(self.descriptor, self.good, os.SEEK_SET)
-            self.size = self.good
-        except OSError:
-            pass
-
-    def close(self) -> None:
-        """Closes the file."""
-        os.close(self.descriptor)
+        super().__init__(path)
+        #: Its line; and how long it was at the last commit.
+        self.about, self.good = about, 0
 
 
 def _mark_name(line: str, digest: str) -> str:
@@ -264,22 +247,5 @@ def _read_about(path: str) -> Dict[str, Any]:
         return {}
 
 
-def _write_whole(path: str, data: Dict[str, Any]) -> None:
-    """Writes a small file so that it is there whole or not at all; its directory is the caller's to sync."""
-    folder, name = os.path.split(path)
-    made = os.path.join(folder, f".{name}")
-    descriptor = os.open(made, os.O_WRONLY | os.O_CREAT | os.O_TRUNC | os.O_CLOEXEC, 0o600)
-    try:
-        os.write(descriptor, json.dumps(data, ensure_ascii=False).encode() + b"\n")
-        os.fsync(descriptor)
-    finally:
-        os.close(descriptor)
-    os.rename(made, path)
-
-
-def _sync_folder(path: str) -> None:
-    descriptor = os.open(path, os.O_RDONLY | os.O_DIRECTORY | os.O_CLOEXEC)
-    try:
-        os.fsync(descriptor)
-    finally:
-        os.close(descriptor)
+def _write_about(path: str, data: Dict[str, Any]) -> None:
+    write_whole(path, json.dumps(data, ensure_ascii=False).encode() + b"\n")

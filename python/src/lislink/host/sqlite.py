@@ -1,9 +1,9 @@
 """The store in an SQLite file: one host, on a local disk. A write-ahead log, and a sync at every commit."""
-import fcntl
 import os
 import sqlite3
 from typing import Any, List, Optional, Sequence, Tuple
 
+from .files import take_lock
 from .sql import SqlStore
 from .store import StoreError, Unit
 
@@ -43,12 +43,11 @@ class SqliteStore(SqlStore):
     def _take(self) -> None:
         """Takes the host's lock: it goes with the process, however that ends."""
         try:
-            self._lock = os.open(self.path + "-host", os.O_RDWR | os.O_CREAT | os.O_CLOEXEC, 0o600)
-            fcntl.flock(self._lock, fcntl.LOCK_EX | fcntl.LOCK_NB)
-        except BlockingIOError:
-            raise StoreError(f"{self.path}: another host has this store") from None
+            self._lock = take_lock(self.path + "-host")
         except OSError as error:
             raise StoreError(f"{self.path}: {error}") from None
+        if self._lock is None:
+            raise StoreError(f"{self.path}: another host has this store")
 
     def _connect(self) -> sqlite3.Connection:
         return sqlite3.connect(self.path, timeout=PATIENCE, isolation_level=None, check_same_thread=False)

@@ -1,10 +1,11 @@
 """What went over a line, written as it goes: a capture of version 2, and a file with the times of its lines."""
 import os
 import time
-from typing import BinaryIO, List
+from typing import List
 
 from ..capture import LINE_BYTES
 from ..field.log import time_text
+from .files import Appended
 
 #: The most bytes of one capture; what comes after them isn't written.
 MOST = 100 << 20
@@ -15,11 +16,10 @@ class Tape:
 
     def __init__(self, path: str) -> None:
         self.path, self._left = path, MOST
-        self._files: List[BinaryIO] = []
+        self._files: List[Appended] = []
         try:
             for name in (path, path + ".times"):
-                descriptor = os.open(name, os.O_WRONLY | os.O_CREAT | os.O_TRUNC | os.O_CLOEXEC, 0o600)
-                self._files.append(os.fdopen(descriptor, "wb"))
+                self._files.append(Appended(name, os.O_TRUNC))
         except OSError:
             self.close()
         self._line("capture 2", "")
@@ -39,8 +39,7 @@ class Tape:
             return
         try:
             for file, text in zip(self._files, (row, at)):
-                file.write(text.encode() + b"\n")
-                file.flush()
+                file.add(text.encode() + b"\n")
         except OSError:
             self.close()
 
