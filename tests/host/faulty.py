@@ -1,6 +1,7 @@
 """A wrong host, for the tests of the host: faulty.py FAULT serve ..
 
     commit        one commit of ten fails
+    full          each commit fails
     slow          a commit takes up to a twentieth of a second longer
     early         a text is acknowledged before it is kept (and commits are slow)
     careless      three commits of ten fail, and its texts are acknowledged all the same
@@ -131,6 +132,7 @@ def is_open():
 
 FAULTS = {
     "commit": lambda: failing_commits(0.1),
+    "full": lambda: failing_commits(1.0),
     "slow": lambda: slow_commits(0.05),
     "early": early,
     "careless": careless,

@@ -101,9 +101,9 @@ def process(words, **how):
 class Host:
     """`lislab serve` as a process; with a fault, a wrong one."""
 
-    def __init__(self, store, *words, fault=None, scale=SCALE, listen=True, **how):
+    def __init__(self, store, *words, fault=None, scale=SCALE, listen=True, errors=None, **how):
         self.store, self.words, self.fault, self.scale = store, words, fault, scale
-        self.port, self.listen, self.how = 0, listen, how
+        self.port, self.listen, self.how, self.errors_to = 0, listen, how, errors
         self.errors = []
         self.start()
 
@@ -114,7 +114,8 @@ class Host:
         if self.listen:
             words += ["--listen", f"127.0.0.1:{self.port},name=fire"]
         self.said = tempfile.TemporaryFile("w+", encoding="utf-8")
-        self.process = process([*words, *self.words], stdout=subprocess.PIPE, stderr=self.said, **self.how)
+        errors = self.said if self.errors_to is None else self.errors_to
+        self.process = process([*words, *self.words], stdout=subprocess.PIPE, stderr=errors, **self.how)
         self.rows = []
         for row in self.process.stdout:
             self.rows.append(row)

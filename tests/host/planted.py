@@ -191,6 +191,13 @@ FAULTS = {
     "test_postgres.Postgres.test_start_while_another_commits": Edit(
         "host/postgresql.py", "fetchone()[0] is not None", "fetchone()[0] == 0"
     ),
+    "test_said.Said.test_a_line_goes_on": Edit("host/commits.py", "one.set_exception(fault)", "one.cancel()"),
+    "test_said.Said.test_saying": Edit("host/said.py", "if poll.poll(0):", "if poll:"),
+    "test_said.Said.test_who_waits_is_answered_first": Edit(
+        "host/commits.py",
+        "    for one in done:\n        if one.done():",
+        '    if fault is not None:\n        say("")\n    for one in done:\n        if one.done():',
+    ),
     "test_serial.Serial.test_a_device_that_is_gone_at_once": Edit(
         "host/serve.py", "if time.monotonic() < opened + REOPEN:", "if time.monotonic() < opened:"
     ),
@@ -222,6 +229,7 @@ HARMLESS = (
         "        one.digest.update(body)\n        one.size += len(body)\n        one.places += 1\n",
     ),
     Edit("host/serve.py", "            host.refused += 1\n", "            host.refused = 1 + host.refused\n"),
+    Edit("host/said.py", "    except (OSError, ValueError, AttributeError):", "    except (AttributeError, OSError, ValueError):"),
     Edit("host/send.py", "            tried += 1\n", "            tried = 1 + tried\n"),
     Edit("host/tty.py", "VMIN], letters[termios.VTIME] = 1, 0", "VTIME], letters[termios.VMIN] = 0, 1"),
     Edit(

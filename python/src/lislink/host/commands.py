@@ -13,6 +13,7 @@ from .._library import calls
 from . import deliver, export, options, send, serve, status
 from .files import Output, writing
 from .options import Limits, OptionError
+from .said import say
 from .store import UNFINISHED, UNREADABLE, WHOLE, Store, open_store
 
 #: Exit statuses, as those of the other commands.
@@ -126,7 +127,7 @@ def run_serve(ask: argparse.Namespace) -> int:
     try:
         left = store.start(ask.host_name)
         if left:
-            serve.say(f"{left} messages were open when the host stopped: they are unfinished")
+            say(f"{left} messages were open when the host stopped: they are unfinished")
         state = _state_file(ask.store, ask.status)
         asyncio.run(serve.serve(serve.Asked(listens, serials, networks, limits, ask.capture, state), store))
     finally:
@@ -184,7 +185,7 @@ def run_send(ask: argparse.Namespace) -> int:
     bad: List[str] = []
     texts = _texts_of(ask, bad)
     for why in bad:
-        serve.say(why)
+        say(why)
     many = ask.analyzers > 1 or ask.made is not None
     names = [f"{ask.name}{number}" if many else "" for number in range(1, ask.analyzers + 1)]
     trouble = send.Trouble(ask.noise, ask.late, ask.reset, ask.cut)
@@ -286,8 +287,8 @@ def run_deliver(ask: argparse.Namespace) -> int:
     store: Store = open_store(ask.store)
     cursor = deliver.Cursor(ask.cursor)
     try:
-        count = deliver.run(deliver.Delivery(store, cursor, one, serve.say), ask.once)
-        serve.say(f"{count} messages delivered")
+        count = deliver.run(deliver.Delivery(store, cursor, one, say), ask.once)
+        say(f"{count} messages delivered")
         return GOOD
     except deliver.Refused:
         return WRONG

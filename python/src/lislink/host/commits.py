@@ -96,8 +96,6 @@ class Committer:
 
 
 def _settle(done: "List[asyncio.Future[None]]", fault: Optional[Exception], say: Callable[[str], None]) -> None:
-    if fault is not None:
-        say(f"not kept: {fault}")
     for one in done:
         if one.done():
             continue
@@ -105,3 +103,5 @@ def _settle(done: "List[asyncio.Future[None]]", fault: Optional[Exception], say:
             one.set_result(None)
         else:
             one.set_exception(fault)
+    if fault is not None:
+        say(f"not kept: {fault}")

@@ -6,7 +6,6 @@ import os
 import re
 import signal
 import socket
-import sys
 import time
 from collections import Counter
 from typing import Any, Dict, List, NamedTuple, Optional, Sequence, Set
@@ -16,6 +15,7 @@ from .files import write_whole
 from .intake import Intake
 from .line import Line, Ticks, Wire
 from .options import Limits, Listen, Network, OptionError, Serial, is_allowed
+from .said import announce, say
 from .store import Store
 from .tape import Tape
 from .tty import SerialWire, open_serial
@@ -33,11 +33,6 @@ class Asked(NamedTuple):
     limits: Limits
     capture: Optional[str]
     status: Optional[str]
-
-
-def say(text: str) -> None:
-    """A line on standard error."""
-    print(f"lislab: {text}", file=sys.stderr, flush=True)
 
 
 class Host:
@@ -94,12 +89,12 @@ class Host:
             )
             self._servers.append(server)
             for one in server.sockets or ():
-                print(f"listening {one.getsockname()[0]}:{one.getsockname()[1]} {place.name}", flush=True)
+                announce(f"listening {one.getsockname()[0]}:{one.getsockname()[1]} {place.name}")
         for serial in self.asked.serials:
             self._task(self._serve_serial(serial))
         if self.asked.status is not None:
             self._task(self._write_status(self.asked.status))
-        print("ready", flush=True)
+        announce("ready")
 
     def _task(self, work: Any) -> None:
         task: "asyncio.Task[None]" = asyncio.ensure_future(work)
