@@ -188,8 +188,29 @@ FAULTS = {
     "test_postgres.Postgres.test_names": Edit(
         "host/postgresql.py", 'raise StoreError(f"another host has the name {self.host}")', "break"
     ),
+    "test_postgres.RepeatsOfPostgres.test_each_write": Edit(
+        "host/sql.py",
+        "AND again_of IS NULL AND state = ?\",\n                (end.line, end.digest, WHOLE),",
+        "AND again_of IS NULL\",\n                (end.line, end.digest),",
+    ),
     "test_postgres.Postgres.test_start_while_another_commits": Edit(
         "host/postgresql.py", "fetchone()[0] is not None", "fetchone()[0] == 0"
+    ),
+    "test_repeats.RepeatsOfSpool.test_each_write": Edit(
+        "host/spool.py",
+        "            self._move(end, one.about, first)\n            if first is None:\n",
+        '            if first is None:\n                _write_about(mark, {"key": end.key})\n'
+        "            self._move(end, one.about, first)\n            if first is None:\n",
+    ),
+    "test_repeats.RepeatsOfSpool.test_no_mark": Edit(
+        "host/spool.py",
+        "if one.again_of is None and not _read_about(mark):",
+        "if one.again_of is None and _read_about(mark):",
+    ),
+    "test_repeats.RepeatsOfSqlite.test_each_write": Edit(
+        "host/sql.py",
+        "AND again_of IS NULL AND state = ?\",\n                (end.line, end.digest, WHOLE),",
+        "AND again_of IS NULL\",\n                (end.line, end.digest),",
     ),
     "test_said.Said.test_a_line_goes_on": Edit("host/commits.py", "one.set_exception(fault)", "one.cancel()"),
     "test_said.Said.test_saying": Edit("host/said.py", "if poll.poll(0):", "if poll:"),

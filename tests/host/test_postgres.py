@@ -12,11 +12,13 @@ import tempfile
 import time
 import unittest
 
+from lislink.host.store import open_store
 from tests.host import hosts
 from tests.host.hosts import ENV, Found, Host, HostTest, acknowledged, lislab, sending
 from tests.host.test_kills import TROUBLE
 from tests.host.test_lines import keeps_each_text
 from tests.host.test_out import OutOf
+from tests.host.test_repeats import EachWrite
 
 #: Where Debian's packages for Python are.
 DEBIAN = "/usr/lib/python3/dist-packages"
@@ -127,6 +129,26 @@ class OutOfPostgres(OutOf, HostTest):
     def where(cls):
         """The store."""
         return the_server().address("out")
+
+
+class RepeatsOfPostgres(EachWrite, HostTest):
+    """In a database, whose tables are emptied for each fault."""
+
+    ways = (("full", True), ("after", False), ("killed", False))
+
+    @classmethod
+    def setUpClass(cls):
+        super().setUpClass()
+        cls.address = the_server().address("repeats")
+
+    def where(self):
+        """The store."""
+        store = open_store(self.address)
+        store.start("h")
+        store.commit([])
+        store.run("TRUNCATE text, message")
+        store.close()
+        return self.address
 
 
 class Postgres(HostTest):

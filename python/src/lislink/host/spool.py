@@ -43,6 +43,8 @@ class SpoolStore(Store):
         self._lock: Optional[int] = None
         self._open: Dict[str, "_Open"] = {}
         self._number = 0
+        #: The mark that the last whole message still needs, and its key.
+        self._unmarked: Optional[Tuple[str, str]] = None
         self._syncing: Optional[ThreadPoolExecutor] = None
 
     def start(self, host: str) -> int:
@@ -54,7 +56,7 @@ class SpoolStore(Store):
             for name in _FOLDERS:
                 os.makedirs(os.path.join(self.folder, name), 0o700, exist_ok=True)
             sync_folder(self.folder)
-            self._number = max((int(name.split("-")[0]) for name in self._names(WHOLE)), default=0)
+            self._take_last()
             return self._end_open()
         except OSError as error:
             raise StoreError(f"{self.folder}: {error}") from None
@@ -70,6 +72,24 @@ class SpoolStore(Store):
         ]
         return sorted(name[: len(name) - len(end)] for name in names if not name.startswith("."))
 
+    def _take_last(self) -> None:
+        """Goes on after the last whole message, which a host that died may have left without its mark."""
+        last = max(self._names(WHOLE), default=None)
+        if last is None:
+            return
+        number, key = last.split("-")
+        self._number = int(number)
+        with contextlib.suppress(StoreError):
+            one = self._stored(WHOLE, last, self._number, key)
+            mark = self._mark(one.line, hashlib.sha256(one.body).hexdigest())
+            if one.again_of is None and not _read_about(mark):
+                self._unmarked = mark, key
+                self._write_mark()
+
+    def _mark(self, line: str, digest: str) -> str:
+        """The file that names the first whole message of a line with these bytes."""
+        return self._path("digests", hashlib.sha256(line.encode() + b"\0" + digest.encode()).hexdigest())
+
     def _end_open(self) -> int:
         left = self._names(OPEN)
         for key in left:
@@ -77,8 +97,11 @@ class SpoolStore(Store):
                 body = file.read()
             about = _read_about(self._path(OPEN, key + ".about"))
             digest, line = hashlib.sha256(body).hexdigest(), str(about.get("line", ""))
+            mark = self._mark(line, digest)
+            if _read_about(mark).get("key") == key:  # an earlier program marked a message before it kept it
+                os.unlink(mark)
             reason = "the host was stopped"
-            self._move(End(key, line, UNFINISHED, reason, digest, len(body), float(about.get("began", 0))), about)
+            self._move(End(key, line, UNFINISHED, reason, digest, len(body), float(about.get("began", 0))), about, None)
         for name in os.listdir(self._path(OPEN)):
             os.unlink(self._path(OPEN, name))
         self._sync_folders({OPEN, UNFINISHED, "digests"})
@@ -124,33 +147,48 @@ class SpoolStore(Store):
             if end.state == WHOLE:
                 raise OSError(f"message {end.key} isn't open")
             return
-        if one.size:
-            self._move(end, one.about)
-        else:  # nothing of it was kept
+        if not one.size:  # nothing of it was kept
             os.unlink(self._path(OPEN, end.key))
             os.unlink(self._path(OPEN, end.key + ".about"))
+        elif end.state == WHOLE:
+            self._write_mark()
+            mark = self._mark(end.line, end.digest)
+            first = _read_about(mark).get("key")
+            self._move(end, one.about, first)
+            if first is None:
+                self._unmarked = mark, end.key
+        else:
+            self._move(end, one.about, None)
         del self._open[end.key]
         one.close()
+        self._write_mark()
 
-    def _move(self, end: End, about: Dict[str, Any]) -> None:
+    def _write_mark(self) -> None:
+        """Marks a message as the first of its bytes, once it is kept: a repeat never names one that isn't. Until its
+        mark is written no other message becomes whole, so at most the last one has none."""
+        if self._unmarked is not None:
+            mark, key = self._unmarked
+            sync_folder(self._path(WHOLE))
+            _write_about(mark, {"key": key})
+            sync_folder(self._path("digests"))
+            self._unmarked = None
+
+    def _move(self, end: End, about: Dict[str, Any], first: Optional[str]) -> None:
         """Puts a message in its place; it is there when its file of records is."""
-        name, first = end.key, None
-        mark = self._path("digests", _mark_name(end.line, end.digest))
-        marked = _read_about(mark).get("key")
+        name = end.key
         if end.state == WHOLE:
             self._number = max(self._number + 1, time.time_ns() // 1000)
             name = f"{self._number:016}-{end.key}"
-            first = marked if marked != end.key else None
-            if marked is None:
-                _write_about(mark, {"key": end.key})
-                sync_folder(self._path("digests"))
-        elif marked == end.key:  # it was to be whole, and could not be kept
-            os.unlink(mark)
-            sync_folder(self._path("digests"))
+        path = self._path(end.state, name)
         data = {**about, "key": end.key, "ended": end.at, "reason": end.reason, "again_of": first}
-        _write_about(self._path(end.state, name + ".about"), data)
-        sync_folder(self._path(end.state))
-        os.rename(self._path(OPEN, end.key), self._path(end.state, name + ".records"))
+        try:
+            _write_about(path + ".about", data)
+            sync_folder(self._path(end.state))
+            os.rename(self._path(OPEN, end.key), path + ".records")
+        except OSError:
+            with contextlib.suppress(OSError):
+                os.unlink(path + ".about")
+            raise
         with contextlib.suppress(OSError):
             os.unlink(self._path(OPEN, end.key + ".about"))
 
@@ -201,10 +239,13 @@ class SpoolStore(Store):
 
     def counts(self) -> List[LineCount]:
         found: Dict[str, List[Tuple[str, Dict[str, Any]]]] = {}
-        for state in (OPEN, WHOLE, UNFINISHED, UNREADABLE):
-            for name in self._listed(state):
-                about = _read_about(self._path(state, name + ".about"))
-                found.setdefault(str(about.get("line", "")), []).append((state, about))
+        try:
+            for state in (OPEN, WHOLE, UNFINISHED, UNREADABLE):
+                for name in self._names(state):
+                    about = _read_about(self._path(state, name + ".about"))
+                    found.setdefault(str(about.get("line", "")), []).append((state, about))
+        except OSError as error:
+            raise StoreError(f"{self.folder}: {error}") from None
         return [_count(line, found[line]) for line in sorted(found)]
 
     def close(self) -> None:
@@ -235,15 +276,11 @@ class _Open(Appended):
         self.about, self.good = about, 0
 
 
-def _mark_name(line: str, digest: str) -> str:
-    return hashlib.sha256(line.encode() + b"\0" + digest.encode()).hexdigest()
-
-
 def _read_about(path: str) -> Dict[str, Any]:
     try:
         with open(path, encoding="utf-8") as file:
             return dict(json.load(file))
-    except (OSError, ValueError):
+    except (FileNotFoundError, ValueError):
         return {}
 
 

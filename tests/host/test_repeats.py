@@ -1,0 +1,180 @@
+"""A message may be named as the first of its repeats once it is kept, and not before: by a fault at each write of the
+commit that makes it whole. No test here needs the library."""
+import contextlib
+import errno
+import hashlib
+import itertools
+import os
+import tempfile
+import unittest.mock
+
+from lislink.host.store import UNFINISHED, WHOLE, Add, Begin, End, StoreError, open_store
+from tests.host.hosts import HostTest
+
+BODY = b"H|\\^&|||A\rP|1\rL|1|N\r"
+DIGEST = hashlib.sha256(BODY).hexdigest()
+#: Where a sync takes no time; None if there is no such place.
+MEMORY = "/dev/shm" if os.access("/dev/shm", os.W_OK) else None
+#: What a spool does to its files.
+CALLS = ("open", "write", "fsync", "rename", "replace", "unlink")
+
+
+class Killed(BaseException):
+    """The process is gone."""
+
+
+class Fault:
+    """The call of this number fails: `once`, `full` (and all that follow), `after` it was done, or the process is
+    `killed` there."""
+
+    def __init__(self, number, how):
+        self.number, self.how, self.count, self.dead = number, how, 0, False
+
+    def call(self, done, name):
+        """Does a call, or fails."""
+        self.count += 1
+        if self.dead:
+            raise Killed
+        if self.count < self.number or (self.count > self.number and self.how != "full"):
+            return done()
+        if self.how == "killed":
+            self.dead = True
+            raise Killed
+        if self.how == "after" and name != "rename":
+            done()
+        raise OSError(errno.ENOSPC, os.strerror(errno.ENOSPC))
+
+
+def begun(key):
+    """The first text of a message."""
+    return [Begin(key, "fire", "192.0.2.7", "latin-1", 1.0), Add(key, 0, 1.0, BODY[:10])]
+
+
+def ended(key, state=WHOLE):
+    """Its second text, and its end."""
+    end = End(key, "fire", state, "", DIGEST, len(BODY), 2.0)
+    return [Add(key, 1, 2.0, BODY[10:]), end] if state == WHOLE else [end]
+
+
+class EachWrite:
+    """A message becomes whole, a write fails, and the message comes again."""
+
+    #: How a write fails, and whether the message is undone before it comes again.
+    ways = tuple(itertools.product(("once", "full", "after", "killed"), (True, False)))
+
+    @classmethod
+    def setUpClass(cls):
+        cls.folder = tempfile.TemporaryDirectory(prefix="lis-host-", dir=MEMORY)
+        cls.addClassCleanup(cls.folder.cleanup)
+
+    def test_each_write(self):
+        """Whatever write fails: what is acknowledged is whole, and each repeat names a first one that is whole."""
+        counted = Fault(1 << 30, "once")
+        self.found(counted, True)
+        self.true("there are writes", counted.count >= 5, str(counted.count))
+        for how, undo_first in self.ways:
+            for number in range(1, counted.count + 1):
+                whole = self.found(Fault(number, how), undo_first)
+                named = {one.again_of for one in whole} - {None}
+                firsts = [one.key for one in whole if one.again_of is None]
+                good = len(firsts) == 1 and named == set(firsts) and {"2", "3"} <= {one.key for one in whole}
+                good = good and {one.body for one in whole} == {BODY}
+                self.true(f"write {number} fails, {how}, undone first: {undo_first}", good, self.shown(whole))
+
+    def shown(self, whole):
+        """Messages, for a reader."""
+        return repr([(one.key, one.again_of, one.body == BODY) for one in whole])
+
+    def found(self, fault, undo_first):
+        """The whole messages after a commit with a fault, and two repeats."""
+        where = self.where()
+        store = open_store(where)
+        store.start("h")
+        store.commit([begun("1")])
+        later = [ended("1", UNFINISHED)]
+        try:
+            with self.failing(store, fault):
+                store.commit([ended("1")])
+        except StoreError:
+            pass
+        except Killed:
+            store.close()
+            store, later = open_store(where), []
+            store.start("h")
+        else:
+            later = []
+        if undo_first:
+            store.commit(later)
+        store.commit([[*begun("2"), *ended("2")]])
+        store.commit(later)
+        store.commit([[*begun("3"), *ended("3")]])
+        whole = list(store.messages())
+        store.close()
+        return whole
+
+    @contextlib.contextmanager
+    def failing(self, store, fault):
+        """The statements of a store in a database go through the fault."""
+        run = store.run
+        store.run = lambda statement, values=(): fault.call(lambda: run(statement, values), statement)
+        try:
+            yield
+        finally:
+            del store.run
+
+
+class RepeatsOfSqlite(EachWrite, HostTest):
+    """In an SQLite file."""
+
+    places = itertools.count()
+
+    def where(self):
+        """A new store."""
+        return self.path(f"{next(self.places)}.db")
+
+
+class RepeatsOfSpool(EachWrite, HostTest):
+    """In a spool."""
+
+    places = itertools.count()
+
+    def where(self):
+        """A new store."""
+        return "spool:" + self.path(f"{next(self.places)}.spool")
+
+    @contextlib.contextmanager
+    def failing(self, store, fault):
+        """What is done to files goes through the fault."""
+        with contextlib.ExitStack() as stack:
+            for name in CALLS:
+                stack.enter_context(unittest.mock.patch.object(os, name, self.faulty(name, fault)))
+            yield
+
+    def faulty(self, name, fault):
+        """A call of the system, with a fault."""
+        right = getattr(os, name)
+
+        def call(*words, **more):
+            return fault.call(lambda: right(*words, **more), name)
+
+        return call
+
+    def test_no_mark(self):
+        """A host that died before it marked its last message, and one that marked a message before it kept it."""
+        for marks, killed in ((1, False), (0, True)):
+            where = self.where()
+            store = open_store(where)
+            store.start("h")
+            store.commit([[*begun("1"), *(ended("1") if not killed else [])]])
+            store.close()
+            digests = os.path.join(where[len("spool:") :], "digests")
+            names = os.listdir(digests)
+            self.same("marks", len(names), marks)
+            for name in names:
+                os.unlink(os.path.join(digests, name))
+            store = open_store(where)
+            store.start("h")
+            store.commit([[*begun("2"), *ended("2")]])
+            first = None if killed else store.messages().__next__().key
+            self.same("the repeat", [one.again_of for one in store.messages() if one.key == "2"], [first])
+            store.close()
