@@ -151,7 +151,7 @@ FAULTS = {
     "test_out.OutOfSqlite.test_sending": Edit(
         "host/commands.py", "return WRONG if bad or summary.failed", "return WRONG if summary.failed"
     ),
-    "test_out.OutOfSqlite.test_status": Edit("host/status.py", 'not state.get("stopped") and ', ""),
+    "test_out.OutOfSqlite.test_status": Edit("host/status.py", "if store.is_held(", "if state or store.is_held("),
     "test_out.OutOfSqlite.test_wanted": Edit("host/export.py", "at < wanted.since", "at > wanted.since"),
     "test_postgres.OutOfPostgres.test_delivery_to_a_command": Edit(
         "host/deliver.py", '"LISLAB_NUMBER": str(one.number)', '"LISLAB_NUMBER": str(one.number + 1)'
@@ -188,6 +188,9 @@ FAULTS = {
     "test_postgres.Postgres.test_names": Edit(
         "host/postgresql.py", 'raise StoreError(f"another host has the name {self.host}")', "break"
     ),
+    "test_postgres.Postgres.test_who_has_it": Edit(
+        "host/postgresql.py", "classid = {_HOSTS}", "classid = {_NUMBERS}"
+    ),
     "test_postgres.RepeatsOfPostgres.test_each_write": Edit(
         "host/sql.py",
         "AND again_of IS NULL AND state = ?\",\n                (end.line, end.digest, WHOLE),",
@@ -219,6 +222,12 @@ FAULTS = {
         "    for one in done:\n        if one.done():",
         '    if fault is not None:\n        say("")\n    for one in done:\n        if one.done():',
     ),
+    "test_serial.Serial.test_a_device_that_is_no_terminal": Edit(
+        "host/serve.py", "if self._ready is False and not self._unusable:", "if self._ready is False:"
+    ),
+    "test_serial.Serial.test_a_speed_that_is_not_taken": Edit(
+        "host/tty.py", "            _check_speed(descriptor, serial)\n", ""
+    ),
     "test_serial.Serial.test_a_device_that_is_gone_at_once": Edit(
         "host/serve.py", "if time.monotonic() < opened + REOPEN:", "if time.monotonic() < opened:"
     ),
@@ -230,6 +239,12 @@ FAULTS = {
     ),
     "test_serial.Serial.test_termios": Edit(
         "host/tty.py", "[taken, 0, control, 0,", "[taken, 0, control, termios.ICANON,"
+    ),
+    "test_status.Status.test_a_state_that_cannot_be_written": Edit(
+        "host/serve.py", "if why and self._said.get(path) != why:", "if why:"
+    ),
+    "test_status.Status.test_running": Edit(
+        "host/status.py", "return not store.held_to_the_end and ", "return "
     ),
 }
 #: Changes that mean nothing.

@@ -12,6 +12,7 @@ import tempfile
 import time
 import unittest
 
+from lislink.host import status
 from lislink.host.store import open_store
 from tests.host import hosts
 from tests.host.hosts import ENV, Found, Host, HostTest, acknowledged, lislab, sending
@@ -218,6 +219,19 @@ class Postgres(HostTest):
         sending(host.port, "--made", "3", scale=1.0).communicate()
         self.same("the first goes on", len(Found(store).whole), 3)
         self.same("the host's status", host.stop(), 0)
+
+    def test_who_has_it(self):
+        """Whether a host has the database, by its name, and whether one runs that lost its connection."""
+        address = self.server.address("held")
+        one, other = open_store(address), open_store(address)
+        one.start("h")
+        self.same("a host, by its name", [other.is_held(name) for name in ("h", "", "another")], [True, True, False])
+        one.close()
+        self.same("none", [other.is_held(name) for name in ("h", "")], [False, False])
+        for age, stopped, wanted in ((1, False, True), (60, False, False), (-60, False, False), (1, True, False)):
+            state = {"at": time.time() - age, "host": "h", "stopped": stopped}
+            self.same(f"it wrote its state {age} s ago, stopped: {stopped}", status.runs(other, state), wanted)
+        other.close()
 
     def test_name_of_a_killed_host(self):
         """A host that was killed has its name for another moment: the next one waits for it."""

@@ -1,5 +1,7 @@
 """Serial lines, on pseudo terminals: by termios, and by pyserial where it is installed."""
 import asyncio
+import contextlib
+import fcntl
 import importlib.util
 import os
 import pty
@@ -82,6 +84,18 @@ print(flags[0], flags[1], flags[2] & ~0o10017, flags[3], flags[6], speeds, "seri
 """
 
 
+IOCTL = fcntl.ioctl
+
+
+def waiting(wire, *_):
+    """A line that does nothing."""
+
+    async def run():
+        await asyncio.sleep(10)
+
+    return unittest.mock.Mock(run=run, last=None, stop=wire.close)
+
+
 class Serial(HostTest):
     """A host and an analyzer on a serial line."""
 
@@ -133,6 +147,59 @@ class Serial(HostTest):
         with unittest.mock.patch.object(serve, "open_serial", end_of_a_pipe):
             asyncio.run(serve_it())
         self.same("it is opened twice in a second and a half", len(opened), 2)
+
+    def test_a_device_that_is_no_terminal(self):
+        """It is said once, and the host isn't ready; of one that isn't there it is said, and the host is ready."""
+        for device, said, ready in (
+            ("/dev/null", "/dev/null isn't a terminal", []),
+            (self.folder.name, f"{self.folder.name} isn't a terminal", []),
+            (self.path("none"), "No such file", ["ready"]),
+        ):
+            found, announced = self.after_a_start(f"{device}:9600,name=A")
+            self.same(f"{device}: said once", [said in one for one in found], [True])
+            self.same(f"{device}: ready", announced, ready)
+        found, announced = self.after_a_start(f"{self.folder.name}:9600,name=A", os.ttyname(pty.openpty()[1]))
+        self.same("one that takes its place: said once, and then ready", (len(found), announced), (1, ["ready"]))
+
+    def test_a_speed_that_is_not_taken(self):
+        """A driver that takes another speed than the one it is asked for."""
+        name = os.ttyname(pty.openpty()[1])
+        os.close(serial.open_serial(options.serial_of(f"{name}:9600")))
+        for numbers in (True, False):
+            ioctl = fcntl.ioctl if numbers else self.no_numbers
+            with unittest.mock.patch.object(fcntl, "ioctl", ioctl):
+                os.close(serial.open_serial(options.serial_of(f"{name}:9600")))
+                with unittest.mock.patch.object(termios, "tcsetattr"):
+                    found, announced = self.after_a_start(f"{name}:19200,name=A")
+            self.same(f"speeds as numbers: {numbers}", found, [f"A: {name} can't have a speed of 19200"])
+            self.same("ready", announced, [])
+
+    def no_numbers(self, descriptor, request, *words):
+        """A kernel that gives no speed as a number."""
+        if request == 0x802C542A:
+            raise OSError("there is no such call")
+        return IOCTL(descriptor, request, *words)
+
+    def after_a_start(self, words, then=None):
+        """What a host with this serial line says within three tries, and what it announces."""
+        asked = serve.Asked([], [options.serial_of(words)], [], options.Limits(), None, None)
+
+        async def serve_it():
+            host = serve.Host(asked, open_store(self.path("devices.db")))
+            await host.start()
+            await asyncio.sleep(0.15)
+            if then is not None:
+                opened.side_effect = lambda _: serial.open_serial(options.serial_of(then + ":9600"))
+                await asyncio.sleep(0.1)
+            await host.stop()
+
+        with contextlib.ExitStack() as stack:
+            named = {"REOPEN": 0.05, "say": unittest.mock.Mock(), "announce": unittest.mock.Mock()}
+            opened = unittest.mock.Mock(side_effect=serial.open_serial)
+            for name, one in {**named, "open_serial": opened, "Line": unittest.mock.Mock(side_effect=waiting)}.items():
+                stack.enter_context(unittest.mock.patch.object(serve, name, one, create=True))
+            asyncio.run(serve_it())
+        return [[str(call.args[0]) for call in named[name].call_args_list] for name in ("say", "announce")]
 
     def test_a_reply_that_is_held_up(self):
         """A reply that flow control holds up until it is late, or until the next one, is dropped."""

@@ -129,7 +129,8 @@ def run_serve(ask: argparse.Namespace) -> int:
         if left:
             say(f"{left} messages were open when the host stopped: they are unfinished")
         state = _state_file(ask.store, ask.status)
-        asyncio.run(serve.serve(serve.Asked(listens, serials, networks, limits, ask.capture, state), store))
+        asked = serve.Asked(listens, serials, networks, limits, ask.capture, state, ask.host_name)
+        asyncio.run(serve.serve(asked, store))
     finally:
         store.close()
     return GOOD
@@ -211,7 +212,7 @@ def _add_status(one: argparse.ArgumentParser) -> None:
 
 
 def run_status(ask: argparse.Namespace) -> int:
-    """Shows a host and its store; status 1 if the host isn't running."""
+    """Shows a host and its store; status 1 if the host isn't running, or its state is old."""
     import json
 
     store = open_store(ask.store)
@@ -220,7 +221,7 @@ def run_status(ask: argparse.Namespace) -> int:
     finally:
         store.close()
     sys.stdout.write(json.dumps(data, ensure_ascii=False) + "\n" if ask.json else status.text_of(data))
-    return GOOD if data["running"] else WRONG
+    return GOOD if data["running"] and status.is_fresh(data["state_age"]) else WRONG
 
 
 def _add_export(one: argparse.ArgumentParser) -> None:

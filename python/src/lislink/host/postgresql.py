@@ -38,7 +38,7 @@ def _driver() -> Any:
 class PostgresStore(SqlStore):
     """A store in a database. A connection that fails is given up, and the next commit makes a new one."""
 
-    blob = "BYTEA"
+    blob, held_to_the_end = "BYTEA", False
 
     def __init__(self, address: str) -> None:
         super().__init__()
@@ -78,6 +78,12 @@ class PostgresStore(SqlStore):
             if time.monotonic() >= until:
                 raise StoreError(f"another host has the name {self.host}")
             time.sleep(0.1)
+
+    def is_held(self, host: str = "") -> bool:
+        names, values = (" AND objid = (hashtext(?)::bigint & 4294967295)::oid", [host]) if host else ("", [])
+        database = "(SELECT oid FROM pg_database WHERE datname = current_database())"
+        where = f"locktype = 'advisory' AND granted AND objsubid = 2 AND classid = {_HOSTS} AND database = {database}"
+        return int(self.read(f"SELECT count(*) FROM pg_locks WHERE {where}{names}", values)[0][0]) > 0
 
     def run(self, statement: str, values: Sequence[Any] = ()) -> Any:
         if self._db is None:

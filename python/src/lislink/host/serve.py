@@ -8,6 +8,7 @@ import signal
 import socket
 import time
 from collections import Counter
+from concurrent.futures import ThreadPoolExecutor
 from typing import Any, Dict, List, NamedTuple, Optional, Sequence, Set
 
 from .commits import Committer
@@ -18,7 +19,7 @@ from .options import Limits, Listen, Network, OptionError, Serial, is_allowed
 from .said import announce, say
 from .store import Store
 from .tape import Tape
-from .tty import SerialWire, open_serial
+from .tty import SerialWire, Unusable, open_serial
 
 #: How often the state is written for `lislab status`, and a serial device that is gone is looked for, in seconds.
 STATUS, REOPEN = 2.0, 1.0
@@ -33,6 +34,7 @@ class Asked(NamedTuple):
     limits: Limits
     capture: Optional[str]
     status: Optional[str]
+    name: str = ""
 
 
 class Host:
@@ -48,6 +50,12 @@ class Host:
         self._names: Dict[Line, str] = {}
         self.refused, self.captures, self.begun = 0, 0, time.time()
         self.stopping = False
+        #: The serial lines whose devices can't be what is asked for, and whether it was said that the host is ready.
+        self._unusable: Set[str] = set()
+        #: What was said last of a device or a file, so that it is said once.
+        self._said: Dict[str, str] = {}
+        self._ready: Optional[bool] = None
+        self._writer = ThreadPoolExecutor(1, "state")
         self._servers: List[asyncio.AbstractServer] = []
         self._others: "Set[asyncio.Task[None]]" = set()
 
@@ -91,32 +99,57 @@ class Host:
             for one in server.sockets or ():
                 announce(f"listening {one.getsockname()[0]}:{one.getsockname()[1]} {place.name}")
         for serial in self.asked.serials:
-            self._task(self._serve_serial(serial))
+            self._task(self._serve_serial(serial, self._open(serial)))
         if self.asked.status is not None:
             self._task(self._write_status(self.asked.status))
-        announce("ready")
+        self._ready = False
+        self._say_ready()
+
+    def _say_ready(self) -> None:
+        """Says once that all lines can be heard. It waits for no device that isn't there."""
+        if self._ready is False and not self._unusable:
+            self._ready = True
+            announce("ready")
 
     def _task(self, work: Any) -> None:
         task: "asyncio.Task[None]" = asyncio.ensure_future(work)
         self._others.add(task)
-        task.add_done_callback(self._others.discard)
+        task.add_done_callback(self._other_over)
 
-    async def _serve_serial(self, serial: Serial) -> None:
-        said = ""
+    def _other_over(self, done: "asyncio.Task[None]") -> None:
+        self._others.discard(done)
+        if not done.cancelled() and done.exception() is not None:
+            say(f"given up: {type(done.exception()).__name__}: {done.exception()}")
+
+    def _open(self, serial: Serial) -> Optional[SerialWire]:
+        """The wire of a serial line; if its device can't be opened, that is said once."""
+        try:
+            late = self.limits.reply * self.limits.scale
+            wire = SerialWire(open_serial(serial), lambda: self.ticks.before, late)
+        except (OSError, OptionError) as error:
+            if isinstance(error, Unusable):
+                self._unusable.add(serial.name)
+            if self._said.get(serial.name) != str(error):
+                self._said[serial.name] = str(error)
+                say(f"{serial.name}: {error}")
+            return None
+        self._said.pop(serial.name, None)
+        self._unusable.discard(serial.name)
+        self._say_ready()
+        return wire
+
+    async def _serve_serial(self, serial: Serial, first: Optional[SerialWire] = None) -> None:
+        wire = first
         while not self.stopping:
-            try:
-                late = self.limits.reply * self.limits.scale
-                wire = SerialWire(open_serial(serial), lambda: self.ticks.before, late)
-            except (OSError, OptionError) as error:
-                if str(error) != said:
-                    said = str(error)
-                    say(f"{serial.name}: {said}")
+            wire = wire or self._open(serial)
+            if wire is None:
                 await asyncio.sleep(REOPEN)
                 continue
-            said, opened = "", time.monotonic()
+            opened = time.monotonic()
             line = self.add(wire, serial, serial.device)
             wire.begin(line)
             await asyncio.wait([self.lines[line]])
+            wire = None
             if time.monotonic() < opened + REOPEN:  # a device that opens and is gone at once
                 await asyncio.sleep(REOPEN)
 
@@ -135,7 +168,8 @@ class Host:
         self.ticks.stop()
         await self.committer.stop()
         if self.asked.status is not None:
-            write_state(self.asked.status, self.state())
+            await self._write_state(self.asked.status)
+        self._writer.shutdown()
 
     def state(self) -> Dict[str, Any]:
         """What `lislab status` shows of a host that runs."""
@@ -149,6 +183,7 @@ class Host:
         return {
             "at": time.time(),
             "begun": self.begun,
+            "host": self.asked.name,
             "process": os.getpid(),
             "stopped": self.stopping,
             "refused_connections": self.refused,
@@ -159,16 +194,25 @@ class Host:
 
     async def _write_status(self, path: str) -> None:
         while True:
-            write_state(path, self.state())
+            await self._write_state(path)
             await asyncio.sleep(STATUS)
 
+    async def _write_state(self, path: str) -> None:
+        """Writes the state, and says once if that can't be done. A slow disk delays no line."""
+        work = functools.partial(write_state, path, self.state())
+        why = await asyncio.get_running_loop().run_in_executor(self._writer, work)
+        if why and self._said.get(path) != why:
+            say(f"the state can't be written: {why}")
+        self._said[path] = why
 
-def write_state(path: str, state: Dict[str, Any]) -> None:
-    """Writes the state so that a reader finds it whole. If the disk takes no more, the host goes on without."""
+
+def write_state(path: str, state: Dict[str, Any]) -> str:
+    """Writes the state so that a reader finds it whole; why, if it can't be written."""
     try:
         write_whole(path, json.dumps(state).encode() + b"\n")
-    except OSError:
-        pass
+        return ""
+    except OSError as error:
+        return str(error)
 
 
 class TcpWire(asyncio.BufferedProtocol, Wire):

@@ -15,7 +15,7 @@ import time
 from concurrent.futures import ThreadPoolExecutor
 from typing import Any, Dict, Iterator, List, Optional, Sequence, Set, Tuple
 
-from .files import Appended, sync_folder, take_lock, write_whole
+from .files import Appended, is_locked, sync_folder, take_lock, write_whole
 from .store import (
     OPEN,
     UNFINISHED,
@@ -247,6 +247,12 @@ class SpoolStore(Store):
         except OSError as error:
             raise StoreError(f"{self.folder}: {error}") from None
         return [_count(line, found[line]) for line in sorted(found)]
+
+    def is_held(self, host: str = "") -> bool:
+        try:
+            return is_locked(self._path("host"))
+        except OSError as error:
+            raise StoreError(f"{self.folder}: {error}") from None
 
     def close(self) -> None:
         for one in self._open.values():

@@ -3,7 +3,7 @@ import os
 import sqlite3
 from typing import Any, List, Optional, Sequence, Tuple
 
-from .files import take_lock
+from .files import is_locked, take_lock
 from .sql import SqlStore
 from .store import StoreError, Unit
 
@@ -88,6 +88,12 @@ class SqliteStore(SqlStore):
             self._db = self._connect()
             self._db.execute("PRAGMA synchronous=FULL")
             self._db.execute("PRAGMA foreign_keys=ON")
+
+    def is_held(self, host: str = "") -> bool:
+        try:
+            return is_locked(self.path + "-host")
+        except OSError as error:
+            raise StoreError(f"{self.path}: {error}") from None
 
     def close(self) -> None:
         if self._db is not None:

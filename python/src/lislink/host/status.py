@@ -7,7 +7,7 @@ from .deliver import read_cursor
 from .export import time_text
 from .store import Store
 
-#: A host that wrote its state longer ago than this, in seconds, isn't running.
+#: A state that was written longer ago than this, in seconds, is old.
 OLD = 10.0
 _COLUMNS = (
     "line",
@@ -40,9 +40,22 @@ def read_state(path: Optional[str]) -> Dict[str, Any]:
         return {}
 
 
-def runs(state: Dict[str, Any]) -> bool:
-    """Whether the host is running."""
-    return bool(state) and not state.get("stopped") and time.time() - float(state["at"]) < OLD
+def age_of(state: Dict[str, Any]) -> Optional[float]:
+    """How many seconds ago the host wrote its state; below 0 if the clock was set back since, None if there is none."""
+    return round(time.time() - float(state["at"]), 1) if state else None
+
+
+def is_fresh(age: Optional[float]) -> bool:
+    """Whether a state of this age is that of now."""
+    return age is not None and -OLD < age < OLD
+
+
+def runs(store: Store, state: Dict[str, Any]) -> bool:
+    """Whether the host is running: it has its store. One that lost its connection may not have it for a while, and
+    writes its state all the same."""
+    if store.is_held(str(state.get("host", ""))):
+        return True
+    return not store.held_to_the_end and not state.get("stopped") and is_fresh(age_of(state))
 
 
 def waiting_of(store: Store, path: str, most: int = 1000) -> Waiting:
@@ -83,7 +96,8 @@ def data_of(store: Store, state: Dict[str, Any], cursors: List[str]) -> Dict[str
     """All of it as data."""
     waiting = [waiting_of(store, path) for path in cursors]
     return {
-        "running": runs(state),
+        "running": runs(store, state),
+        "state_age": age_of(state),
         "since": time_text(state.get("begun")),
         "process": state.get("process"),
         "commits": state.get("commits", 0),
@@ -94,6 +108,13 @@ def data_of(store: Store, state: Dict[str, Any], cursors: List[str]) -> Dict[str
     }
 
 
+def _old(age: Optional[float]) -> str:
+    """What is said of a state that isn't that of now."""
+    if age is None:
+        return "; there is no state that it wrote"
+    return f"; its state is {age:.0f} seconds old" if age > 0 else f"; its state is {-age:.0f} seconds ahead of the clock"
+
+
 def text_of(data: Dict[str, Any]) -> str:
     """The same for a reader."""
     if data["running"]:
@@ -101,6 +122,7 @@ def text_of(data: Dict[str, Any]) -> str:
             f"the host is running since {data['since']}, process {data['process']}: {data['commits']} commits, "
             f"{data['failed_commits']} failed; {data['refused_connections']} connections refused"
         )
+        head = head if is_fresh(data["state_age"]) else f"the host is running{_old(data['state_age'])}"
     else:
         head = "the host is not running"
     cells = [list(_COLUMNS)] + [[str(row[one]) for one in _COLUMNS] for row in data["lines"]]

@@ -81,6 +81,9 @@ class Store(abc.ABC):
     A repeated message (of the same line, with the same bytes) is kept, with the key of the first one.
     """
 
+    #: Whether a host has the store as long as it runs, and not only as long as it is connected.
+    held_to_the_end = True
+
     @abc.abstractmethod
     def start(self, host: str) -> int:
         """Takes the store for this host, and makes what an earlier run left open unfinished: how many messages.
@@ -102,6 +105,10 @@ class Store(abc.ABC):
     @abc.abstractmethod
     def counts(self) -> List[LineCount]:
         """What is kept, line by line."""
+
+    @abc.abstractmethod
+    def is_held(self, host: str = "") -> bool:
+        """Whether a host of this name, or any, has the store now."""
 
     @abc.abstractmethod
     def close(self) -> None:

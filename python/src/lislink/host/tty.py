@@ -3,6 +3,7 @@ import asyncio
 import fcntl
 import importlib
 import os
+import stat
 import struct
 import termios
 from typing import Callable, Optional, Tuple
@@ -10,21 +11,62 @@ from typing import Callable, Optional, Tuple
 from .line import Line, Wire
 from .options import OptionError, Serial
 
+#: What asks Linux for the speeds of a terminal as numbers, and where they are in its answer; how far a speed may be from
+#: the one that is asked for, since a clock is divided by whole numbers.
+_TCGETS2, _SPEEDS, _NEAR = 0x802C542A, struct.Struct("=36x2I"), 0.03
 _SIZES = {"5": termios.CS5, "6": termios.CS6, "7": termios.CS7, "8": termios.CS8}
+
+
+class Unusable(OptionError):
+    """A device is there, and can't be the serial line that is asked for."""
 
 
 def open_serial(serial: Serial) -> int:
     """Opens a device: raw, for this program alone, with nothing of what came before. If pyserial is installed it opens
-    the device, which may then have any speed that its driver takes."""
-    descriptor, speed = _by_pyserial(serial), None
-    if descriptor is None:
-        descriptor, speed = _by_termios(serial)
+    the device, which may then have any speed that its driver takes. Unusable if it isn't a terminal, or can't have the
+    speed; OSError if it can't be opened."""
     try:
-        _set_up(descriptor, serial, speed)
+        descriptor, speed = _by_pyserial(serial), None
+        if descriptor is None:
+            descriptor, speed = _by_termios(serial)
+        try:
+            _set_up(descriptor, serial, speed)
+            _check_speed(descriptor, serial)
+        except BaseException:
+            os.close(descriptor)
+            raise
+        return descriptor
     except (OSError, termios.error) as error:
+        if _is_no_terminal(serial.device):
+            raise Unusable(f"{serial.device} isn't a terminal") from None
+        raise OSError(str(error) if serial.device in str(error) else f"{serial.device}: {error}") from None
+
+
+def _is_no_terminal(device: str) -> bool:
+    """Whether a device that failed is there, and isn't a terminal."""
+    try:
+        if not stat.S_ISCHR(os.stat(device).st_mode):
+            return True
+        descriptor = os.open(device, os.O_RDWR | os.O_NOCTTY | os.O_NONBLOCK | os.O_CLOEXEC)
+    except OSError:
+        return False
+    try:
+        return not os.isatty(descriptor)
+    finally:
         os.close(descriptor)
-        raise OSError(f"{serial.device}: {error}") from None
-    return descriptor
+
+
+def _check_speed(descriptor: int, serial: Serial) -> None:
+    """Unusable if the driver took another speed than the one that is asked for: it says so by no error."""
+    try:
+        into, out = _SPEEDS.unpack(fcntl.ioctl(descriptor, _TCGETS2, bytes(_SPEEDS.size)))
+    except OSError:  # a kernel that has no such call, or another number for it
+        known = getattr(termios, f"B{serial.speed}", None)
+        good = known is None or termios.tcgetattr(descriptor)[4:6] == [known, known]
+    else:
+        good = max(abs(into - serial.speed), abs(out - serial.speed)) <= serial.speed * _NEAR
+    if not good:
+        raise Unusable(f"{serial.device} can't have a speed of {serial.speed}")
 
 
 def _by_pyserial(serial: Serial) -> Optional[int]:
@@ -36,7 +78,7 @@ def _by_pyserial(serial: Serial) -> Optional[int]:
     try:
         port = opened(serial.device, serial.speed, timeout=0, exclusive=True)
     except ValueError as error:
-        raise OptionError(f"{serial.device}: {error}") from None
+        raise Unusable(f"{serial.device}: {error}") from None
     descriptor = os.dup(port.fileno())
     port.close()
     os.set_blocking(descriptor, False)
@@ -47,7 +89,7 @@ def _by_termios(serial: Serial) -> Tuple[int, int]:
     """The open device, and its speed as termios has it."""
     speed = getattr(termios, f"B{serial.speed}", None)
     if speed is None:
-        raise OptionError(f"{serial.device}: without pyserial there is no speed of {serial.speed}")
+        raise Unusable(f"{serial.device}: without pyserial there is no speed of {serial.speed}")
     return os.open(serial.device, os.O_RDWR | os.O_NOCTTY | os.O_NONBLOCK | os.O_CLOEXEC), speed
 
 
